@@ -1,0 +1,22 @@
+-- What the tests on names tell.
+use Rattle.std.proofs.Common.{◌≡◌, ◌==◌, true, refl, eqb-true, eq-eqb}
+use Rattle.std.proofs.lemmas.Bool.{and_parts, and_from}
+use Rattle.am_names.specs.declared.EndpointId.{EndpointId}
+use Rattle.am_names.specs.declared.Serial.{Serial}
+use Rattle.am_names.specs.Names.{same_end, same_serial}
+
+pub same_end-is : (a b : EndpointId) → same_end a b ≡ true → a ≡ b
+same_end-is a b h = let e : a.0 ≡ b.0 = eqb-true a.0 b.0 h in λ i. record { 0 = e i }
+
+pub same_end-refl : (e : EndpointId) → same_end e e ≡ true
+same_end-refl e = eq-eqb e.0 e.0 refl
+
+pub same_serial-is : (s t : Serial) → same_serial s t ≡ true → s ≡ t
+same_serial-is s t h =
+    let parts = and_parts (same_end s.source t.source) (s.count == t.count) h in
+    let e : s.source ≡ t.source = same_end-is s.source t.source parts.0 in
+    let c : s.count ≡ t.count = eqb-true s.count t.count parts.1 in
+    λ i. record { source = e i; count = c i }
+
+pub same_serial-refl : (s : Serial) → same_serial s s ≡ true
+same_serial-refl s = and_from (same_end s.source s.source) (s.count == s.count) (same_end-refl s.source) (eq-eqb s.count s.count refl)

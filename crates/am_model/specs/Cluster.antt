@@ -1,0 +1,224 @@
+-- What holds of a cluster of the packet network after every entry: the channels, the endpoints and where they lie.
+use Rattle.std.specs.Prelude.{◌≡◌, ◌≢◌, ◌⊎◌, ℕ, ◌+◌, ◌≤◌, ◌<◌, ◌==◌, Bool, true, false, ◌&&◌, nat_le, Option, Some, None, List, count_by}
+use Rattle.std.specs.List.{list_any}
+use Rattle.am_names.specs.Rules.{matches}
+use Rattle.am_names.specs.declared.EndpointId.{EndpointId}
+use Rattle.am_names.specs.declared.Serial.{Serial}
+use Rattle.am_names.specs.declared.Cause.TheVariants.{NoRequest}
+use Rattle.am_names.specs.declared.Verdict.{Verdict}
+use Rattle.am_names.specs.declared.Verdict.TheVariants as Verdicts
+use Rattle.am_names.specs.declared.Message.{Message}
+use Rattle.am_names.specs.declared.Parcel.{Parcel}
+use Rattle.am_names.specs.declared.AnswerPacket.{AnswerPacket}
+use Rattle.am_names.specs.declared.Packet.TheVariants as Packets
+use Rattle.am_office.specs.declared.Event.{Event}
+use Rattle.am_office.specs.declared.Event.TheVariants as Events
+use Rattle.am_office.specs.declared.Received.{Received}
+use Rattle.am_office.specs.declared.Received.TheVariants as Got
+use Rattle.am_office.specs.declared.Outcome.{Outcome}
+use Rattle.am_office.specs.declared.Outcome.TheVariants as Out
+use Rattle.am_office.specs.declared.Entry.{Entry}
+use Rattle.am_names.specs.Names.{same_serial, has_serial, is_request}
+use Rattle.am_model.specs.declared.Awaited.{Awaited}
+use Rattle.am_model.specs.declared.Queued.{Queued}
+use Rattle.am_model.specs.declared.Flying.{Flying}
+use Rattle.am_model.specs.declared.Notice.{Notice}
+use Rattle.am_model.specs.declared.Mapping.{Mapping}
+use Rattle.am_model.specs.Calls.{awaited_at}
+use Rattle.am_model.specs.Endpoint.{Body, IsWithin, is_resident, entry_at}
+use Rattle.am_office.specs.Entries.{put_of, run_of, returned_of, unknown_of, requeue_of, emitted_of}
+use Rattle.am_model.specs.Layout.{Layout, AllAre, home}
+use Rattle.am_model.specs.Channels.{Channel, Mark, same_channel, sequence, bound_message, attempt, mark, sent_message}
+use Rattle.am_model.specs.History.{state_of, channel_to}
+use Rattle.am_model.specs.PostOffice.{Gave, WasAccepted, times, times_serial, is_about}
+
+abbrev pub in_flight : Layout → List Entry → EndpointId → List Flying
+in_flight layout past e = (state_of layout past e).body.in_flight
+
+-- a message in flight is held by just one bound channel of its node
+pub record IsHeldOnce (layout : Layout) (past : List Entry) (e : EndpointId) (m : Message) : Type 0 where
+  pub channel : Channel
+  pub bound : bound_message channel past ≡ Some m
+  pub node : home layout e ≡ Some channel.node
+  pub only : (c : Channel) → bound_message c past ≡ Some m → c ≡ channel
+
+-- a bound message is the one of its serial in flight, at an endpoint of the node that is in a frame and open
+pub record IsFlying (layout : Layout) (past : List Entry) (c : Channel) (m : Message) : Type 0 where
+  pub one : count_by (λ (f : Flying). has_serial m.serial f.message) (in_flight layout past m.serial.source) ≡ 1
+  pub message : AllAre (λ (f : Flying). f.message.serial ≡ m.serial → f.message ≡ m) (in_flight layout past m.serial.source)
+  pub node : home layout m.serial.source ≡ Some c.node
+  pub frame : is_resident (state_of layout past m.serial.source).head.place ≡ true
+  pub opened : (state_of layout past m.serial.source).head.closed ≡ false
+
+pub record InFlightIsBound (layout : Layout) (past : List Entry) : Type 0 where
+  pub held : (e : EndpointId) → AllAre (λ (f : Flying). IsHeldOnce layout past e f.message) (in_flight layout past e)
+  pub flies : (c : Channel) (m : Message) → bound_message c past ≡ Some m → IsFlying layout past c m
+
+-- the channel of a parcel, as its sender has it, and that of an answer, as the receiving end has it
+abbrev pub parcel_channel : Parcel → Channel
+parcel_channel q = channel_to q.from q.to q.channel
+
+abbrev pub answer_channel : AnswerPacket → Channel
+answer_channel a = channel_to a.from a.to a.channel
+
+-- the same channel from its other end
+abbrev pub other_end : Channel → Channel
+other_end c = channel_to c.peer c.node c.number
+
+abbrev pub WasSent : List Entry → Parcel → Type 0
+WasSent past q = Gave emitted_of past (Packets.Parcel q)
+
+abbrev pub AreOfOneSequence : Parcel → Parcel → Type 0
+AreOfOneSequence p q = (parcel_channel p ≡ parcel_channel q) × (p.seq ≡ q.seq)
+
+-- a parcel has a sequence at most the sender's; those of one sequence carry one message, and their attempts are
+-- distinct and at most the last that was sent
+pub record ParcelsFitSender (past : List Entry) : Type 0 where
+  pub seq : (q : Parcel) → WasSent past q → q.seq ≤ sequence (parcel_channel q) past
+  pub message : (p q : Parcel) → WasSent past p → WasSent past q → AreOfOneSequence p q → p.message ≡ q.message
+  pub distinct : (p q : Parcel) → WasSent past p → WasSent past q → AreOfOneSequence p q → p.attempt ≡ q.attempt → p.number ≡ q.number
+  pub attempt : (q : Parcel) → WasSent past q → q.seq ≡ sequence (parcel_channel q) past → q.attempt ≤ attempt (parcel_channel q) past
+
+pub record IsMarkOfParcel (past : List Entry) (c : Channel) : Type 0 where
+  pub parcel : Parcel
+  pub sent : WasSent past parcel
+  pub on : parcel_channel parcel ≡ other_end c
+  pub seq : (mark c past).seq ≡ parcel.seq
+  pub attempt : (mark c past).attempt ≡ parcel.attempt
+
+-- a mark other than the opening one is that of a parcel that was sent
+abbrev pub MarkIsOfParcel : List Entry → Type 0
+MarkIsOfParcel past = (c : Channel) → mark c past ≢ record { seq = 0; attempt = 0; verdict = Verdicts.Refused NoRequest } → IsMarkOfParcel past c
+
+abbrev pub takes_by : Received → Bool
+takes_by (Got.Accepted m answer) = true
+takes_by result = false
+
+abbrev pub takes_in : Channel → ℕ → ℕ → Event → Outcome → Bool
+takes_in c k most (Events.Receive node peer number) (Out.Received channel seq attempt result) =
+    takes_by result && same_channel c node peer channel && (k == seq) && nat_le attempt most
+takes_in c k most event outcome = false
+
+-- the receiving end put a message in this sequence, on an attempt up to this one
+abbrev pub took : Channel → ℕ → ℕ → List Entry → Bool
+took c k most past = list_any (λ (x : Entry). takes_in c k most x.event x.outcome) past
+
+-- a mark is past this sequence, or at it and at this attempt or a later one
+abbrev pub HasComeTo : Mark → ℕ → ℕ → Type 0
+HasComeTo m seq attempt = (seq < m.seq) ⊎ ((seq ≡ m.seq) × (attempt ≤ m.attempt))
+
+abbrev pub AnswerSays : List Entry → AnswerPacket → Verdict → Type 0
+AnswerSays past a Verdicts.Accepted =
+    (took (answer_channel a) a.seq a.attempt past ≡ true)
+    × ((a.seq < (mark (answer_channel a) past).seq) ⊎ ((a.seq ≡ (mark (answer_channel a) past).seq) × ((mark (answer_channel a) past).verdict ≡ Verdicts.Accepted)))
+AnswerSays past a (Verdicts.Refused cause) = HasComeTo (mark (answer_channel a) past) a.seq a.attempt × (took (answer_channel a) a.seq a.attempt past ≡ false)
+
+pub record IsTrue (past : List Entry) (a : AnswerPacket) : Type 0 where
+  pub parcel : Parcel
+  pub sent : WasSent past parcel
+  pub on : parcel_channel parcel ≡ other_end (answer_channel a)
+  pub seq : parcel.seq ≡ a.seq
+  pub attempt : parcel.attempt ≡ a.attempt
+  pub says : AnswerSays past a a.verdict
+
+-- every answer is to a parcel that was sent, and says what its end did
+abbrev pub AnswersAreTrue : List Entry → Type 0
+AnswersAreTrue past = (a : AnswerPacket) → Gave emitted_of past (Packets.Answer a) → IsTrue past a
+
+abbrev pub comes_back_by : Received → Bool
+comes_back_by (Got.Requeued serial cause bounces) = true
+comes_back_by (Got.Returned serial cause) = true
+comes_back_by result = false
+
+-- whether a sequence of the channel ends here, on this attempt, in a requeue or a return
+abbrev pub comes_back : Channel → ℕ → ℕ → Event → Outcome → Bool
+comes_back c k last (Events.Receive node peer number) (Out.Received channel seq attempt result) =
+    comes_back_by result && same_channel c node peer channel && (k == seq) && (last == attempt)
+comes_back c k last event outcome = false
+
+pub record IsOver (past : List Entry) (c : Channel) (k last : ℕ) : Type 0 where
+  pub mark : HasComeTo (mark (other_end c) past) k last
+  pub attempts : (q : Parcel) → WasSent past q → parcel_channel q ≡ c → q.seq ≡ k → q.attempt ≤ last
+  pub nothing : (most : ℕ) → took (other_end c) k most past ≡ false
+
+-- a sequence that ended in a requeue or a return has a mark at or past its last attempt, and put nothing
+abbrev pub EndedSequencePutNothing : List Entry → Type 0
+EndedSequencePutNothing past = (c : Channel) (k last : ℕ) → list_any (λ (x : Entry). comes_back c k last x.event x.outcome) past ≡ true → IsOver past c k last
+
+abbrev pub bound_in : Event → Outcome → Option Message
+bound_in (Events.Bind node end) outcome = sent_message outcome
+bound_in event outcome = None
+
+abbrev pub count_queued : Serial → Body → ℕ
+count_queued s b = count_by (λ (q : Queued). has_serial s q.message) b.requests + count_by (λ (q : Queued). has_serial s q.message) b.replies
+
+abbrev pub count_flying : Serial → Body → ℕ
+count_flying s b = count_by (λ (f : Flying). has_serial s f.message) b.in_flight
+
+-- a message has at most one sequence that did not end in a requeue; one that was put is received or has run; one that
+-- was neither put nor returned nor unknown is in one queue or in flight
+pub record OneLiveSequence (layout : Layout) (past : List Entry) : Type 0 where
+  pub live : (s : Serial) → times (λ x. bound_in x.event x.outcome) (has_serial s) past ≤ times_serial requeue_of s past + 1
+  pub put : (m : Message) → Gave put_of past m → count_by (has_serial m.serial) (state_of layout past m.dest).body.received + times run_of (has_serial m.serial) past ≡ 1
+  pub waits : (m : Message) → WasAccepted past m → times put_of (has_serial m.serial) past ≡ 0 → times_serial returned_of m.serial past ≡ 0 → times_serial unknown_of m.serial past ≡ 0 → count_queued m.serial (state_of layout past m.serial.source).body + count_flying m.serial (state_of layout past m.serial.source).body ≡ 1
+
+-- the request of a waiting record
+pub record IsOpenFor (layout : Layout) (past : List Entry) (e : EndpointId) (a : Awaited) : Type 0 where
+  pub request : Message
+  pub accepted : WasAccepted past request
+  pub kind : is_request request ≡ true
+  pub serial : request.serial ≡ a.serial
+  pub returned : times_serial returned_of a.serial past ≡ 0
+  pub unknown : times_serial unknown_of a.serial past ≡ 0
+  pub reply : times put_of (is_about a.serial) past ≡ 0
+  pub opened : (state_of layout past e).head.closed ≡ false
+  pub tag : (state_of layout past e).body.tag ≡ request.reply_tag
+  pub some : (state_of layout past e).body.tag.0 ≢ 0
+
+abbrev pub WaitingIsOpen : Layout → List Entry → Type 0
+WaitingIsOpen layout past = (e : EndpointId) → AllAre (λ (a : Awaited). a.arrived ≡ false → IsOpenFor layout past e a) (state_of layout past e).body.awaited
+
+-- arrived records and received replies correspond one to one; a request that is marked answered has a reply that was put
+pub record ArrivedMatchesReceived (layout : Layout) (past : List Entry) : Type 0 where
+  pub one : (e : EndpointId) (s : Serial) → count_by (λ (a : Awaited). a.arrived && same_serial s a.serial) (state_of layout past e).body.awaited ≡ count_by (is_about s) (state_of layout past e).body.received
+  pub once : (e : EndpointId) (s : Serial) → count_by (λ (a : Awaited). same_serial s a.serial) (state_of layout past e).body.awaited ≤ 1
+  pub answered : (e : EndpointId) → AllAre (λ (f : Flying). f.answered ≡ true → times put_of (is_about f.message.serial) past ≡ 1) (in_flight layout past e)
+
+abbrev pub ReceivedTagMatches : Layout → List Entry → Type 0
+ReceivedTagMatches layout past = (e : EndpointId) → AllAre (λ (m : Message). matches (state_of layout past e).body.tag m.tag ≡ true) (state_of layout past e).body.received
+
+abbrev pub PoolsAreBounded : Layout → List Entry → Type 0
+PoolsAreBounded layout past = (e : EndpointId) → IsWithin (state_of layout past e).body
+
+abbrev pub HasBounced : Layout → List Entry → Message → ℕ → Type 0
+HasBounced layout past m bounces = (bounces ≡ times_serial requeue_of m.serial past) × (bounces ≤ layout.bounces)
+
+-- the bounces of a message are its requeues, and at most the limit
+pub record BouncesAreRequeues (layout : Layout) (past : List Entry) : Type 0 where
+  pub requests : (e : EndpointId) → AllAre (λ (q : Queued). HasBounced layout past q.message q.bounces) (state_of layout past e).body.requests
+  pub replies : (e : EndpointId) → AllAre (λ (q : Queued). HasBounced layout past q.message q.bounces) (state_of layout past e).body.replies
+  pub flights : (e : EndpointId) → AllAre (λ (f : Flying). HasBounced layout past f.message f.bounces) (in_flight layout past e)
+  pub notices : (e : EndpointId) → AllAre (λ (n : Notice). HasBounced layout past n.message n.bounces) (state_of layout past e).body.notices
+
+-- so many records of an index that is mapped so are within its credits
+abbrev pub AreCredited : Option Mapping → ℕ → Type 0
+AreCredited None records = records ≡ 0
+AreCredited (Some mapping) records = records ≤ mapping.credits
+
+-- without a pool, the records of each index are at most its credits, and an index that is not mapped has none
+abbrev pub RecordsAreCredited : Body → Type 0
+RecordsAreCredited b = (index : ℕ) → AreCredited (entry_at b.mapped index) (awaited_at b index)
+
+-- the invariant of the cluster on the packet network
+pub record ClusterInvariant (layout : Layout) (past : List Entry) : Type 0 where
+  pub flights : InFlightIsBound layout past
+  pub parcels : ParcelsFitSender past
+  pub marks : MarkIsOfParcel past
+  pub answers : AnswersAreTrue past
+  pub ended : EndedSequencePutNothing past
+  pub live : OneLiveSequence layout past
+  pub waiting : WaitingIsOpen layout past
+  pub arrived : ArrivedMatchesReceived layout past
+  pub tags : ReceivedTagMatches layout past
+  pub pools : PoolsAreBounded layout past
+  pub bounces : BouncesAreRequeues layout past

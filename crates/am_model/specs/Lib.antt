@@ -1,0 +1,14 @@
+pub mod Choice
+pub mod Endpoint
+pub mod Calls
+pub mod Changes
+pub mod Layout
+pub mod Channels
+pub mod History
+pub mod ThinPath
+pub mod DelayedTry
+pub mod PostOffice
+pub mod Steps
+pub mod Merge
+pub mod FullQueue
+pub mod Cluster

@@ -1,0 +1,33 @@
+-- Tests on names and messages.
+use Rattle.std.specs.Prelude.{Bool, true, false, ◌==◌, ◌&&◌, if◌then◌else◌}
+use Rattle.am_names.specs.declared.EndpointId.{EndpointId}
+use Rattle.am_names.specs.declared.NodeId.{NodeId}
+use Rattle.am_names.specs.declared.Serial.{Serial}
+use Rattle.am_names.specs.declared.MsgKind.{MsgKind}
+use Rattle.am_names.specs.declared.MsgKind.TheVariants as Kind
+use Rattle.am_names.specs.declared.Message.{Message}
+
+abbrev pub same_end : EndpointId → EndpointId → Bool
+same_end a b = a.0 == b.0
+
+abbrev pub same_node : NodeId → NodeId → Bool
+same_node a b = a.0 == b.0
+
+abbrev pub same_serial : Serial → Serial → Bool
+same_serial a b = same_end a.source b.source && (a.count == b.count)
+
+-- whether the message has this serial
+abbrev pub has_serial : Serial → Message → Bool
+has_serial s m = same_serial s m.serial
+
+abbrev pub is_request_kind : MsgKind → Bool
+is_request_kind Kind.Request = true
+is_request_kind Kind.Reply = false
+is_request_kind Kind.Empty = false
+
+abbrev pub is_request : Message → Bool
+is_request m = is_request_kind m.kind
+
+-- whether the message is a reply or an empty reply
+abbrev pub is_answer : Message → Bool
+is_answer m = if is_request m then false else true

@@ -1,0 +1,51 @@
+-- What became of each message.
+use Rattle.std.specs.Prelude.{◌≡◌, ℕ, ◌+◌, Bool, true, false, ◌==◌, ◌&&◌, ◌||◌, nat_lt, Option, Some, None, List, [], ◌∷◌, map, length, filter, filter_map, if◌then◌else◌}
+use Rattle.std.specs.List.{list_any, list_all, range_with_len}
+use Rattle.am_names.specs.declared.EndpointId.{EndpointId}
+use Rattle.am_names.specs.declared.NodeId.{NodeId}
+use Rattle.am_names.specs.declared.Serial.{Serial}
+use Rattle.am_names.specs.declared.Cause.{Cause}
+use Rattle.am_office.specs.declared.Event.{Event}
+use Rattle.am_office.specs.declared.Event.TheVariants as Events
+use Rattle.am_office.specs.declared.Received.{Received}
+use Rattle.am_office.specs.declared.Received.TheVariants as Got
+use Rattle.am_office.specs.declared.Outcome.{Outcome}
+use Rattle.am_office.specs.declared.Outcome.TheVariants as Out
+use Rattle.am_office.specs.declared.Entry.{Entry}
+use Rattle.am_office.specs.declared.Fate.{Fate}
+use Rattle.am_office.specs.declared.Fate.TheVariants as Fates
+use Rattle.am_names.specs.Names.{same_serial, has_serial}
+use Rattle.am_office.specs.Entries.{accepted_of, run_of, unknown_of, touches, touches_node, ends_touched, node_touched, passes, is_serial}
+
+abbrev pub cause_if : Bool → Cause → Option Cause
+cause_if true cause = Some cause
+cause_if false cause = None
+
+abbrev pub cause_by : Serial → Received → Option Cause
+cause_by s (Got.Returned serial cause) = cause_if (same_serial s serial) cause
+cause_by s result = None
+
+-- the cause for which an entry returns the serial
+abbrev pub cause_of : Serial → Event → Outcome → Option Cause
+cause_of s (Events.Carry end) (Out.Returned m cause) = cause_if (same_serial s m.serial) cause
+cause_of s (Events.Receive node peer number) (Out.Received channel seq attempt result) = cause_by s result
+cause_of s event outcome = None
+
+abbrev pub fate_by : List Cause → Bool → Bool → Fate
+fate_by (cause ∷ causes) unknown ran = Fates.Returned cause
+fate_by [] true true = Fates.UnknownButRan
+fate_by [] true false = Fates.Unknown
+fate_by [] false true = Fates.Ran
+fate_by [] false false = Fates.Pending
+
+-- what became of a serial, if it was accepted
+abbrev pub fate : List Entry → Serial → Option Fate
+fate journal s =
+    if list_any (λ (x : Entry). passes (has_serial s) (accepted_of x)) journal
+    then
+    Some
+    (fate_by
+    (filter_map (λ (x : Entry). cause_of s x.event x.outcome) journal)
+    (list_any (λ (x : Entry). is_serial s (unknown_of x)) journal)
+    (list_any (λ (x : Entry). passes (has_serial s) (run_of x)) journal))
+    else None

@@ -1,0 +1,76 @@
+-- A reply that comes first tells that its request was delivered.
+use Rattle.std.specs.Prelude.{false, Some, None, List, [], ◌∷◌}
+use Rattle.am_names.specs.declared.MsgKind.TheVariants as Kind
+use Rattle.am_names.specs.declared.Message.{Message}
+use Rattle.am_office.specs.declared.HandlerKind.TheVariants.{Note}
+use Rattle.am_office.specs.declared.Actor.TheVariants.{Outside}
+use Rattle.am_office.specs.declared.Call.TheVariants as Calls
+use Rattle.am_office.specs.declared.Event.TheVariants as Events
+use Rattle.am_office.specs.declared.Received.TheVariants as Got
+use Rattle.am_office.specs.declared.Outcome.TheVariants as Out
+use Rattle.am_office.specs.declared.Entry.{Entry}
+use Rattle.am_model.specs.Layout.{Layout}
+
+abbrev pub layout : Layout
+layout =
+    record {
+      direct = false;
+      nodes = 2;
+      frames = 16;
+      channels = 1;
+      tries = 2;
+      bounces = 1;
+      pool = None;
+      log = 65536;
+      ends =
+          record { id = (record { 0 = 0 }); node = (record { 0 = 0 }); tag = (record { 0 = 5 }); disk = false } ∷ record { id = (record { 0 = 1 }); node = (record { 0 = 1 }); tag = (record { 0 = 7 }); disk = false } ∷ [];
+      faults = [];
+    }
+
+abbrev pub m1 : Message
+m1 =
+    record {
+      serial = record { source = (record { 0 = 0 }); count = 1 };
+      kind = Kind.Request;
+      dest = (record { 0 = 1 });
+      tag = (record { 0 = 7 });
+      reply_tag = (record { 0 = 5 });
+      handler = 1;
+      words = record { a = 9; b = 0; c = 0; d = 0 };
+      about = None;
+    }
+
+abbrev pub m2 : Message
+m2 =
+    record {
+      serial = record { source = (record { 0 = 1 }); count = 1 };
+      kind = Kind.Empty;
+      dest = (record { 0 = 0 });
+      tag = (record { 0 = 5 });
+      reply_tag = (record { 0 = 0 });
+      handler = 0;
+      words = record { a = 0; b = 0; c = 0; d = 0 };
+      about = Some m1.serial;
+    }
+
+abbrev pub journal : List Entry
+journal =
+    record { stamp = 1; event = Events.Call Outside (record { 0 = 1 }) (Calls.SetHandler 1 Note); outcome = Out.Done }
+    ∷ record { stamp = 2; event = Events.Call Outside (record { 0 = 0 }) (Calls.Map 0 (record { 0 = 1 }) (record { 0 = 7 }) 4); outcome = Out.Done }
+    ∷ record { stamp = 3; event = Events.Load (record { 0 = 0 }) (record { 0 = 0 }) 0; outcome = Out.Silent }
+    ∷ record { stamp = 4; event = Events.Load (record { 0 = 1 }) (record { 0 = 1 }) 0; outcome = Out.Silent }
+    ∷ record { stamp = 5; event = Events.Call Outside (record { 0 = 0 }) (Calls.Request 0 1 (record { a = 9; b = 0; c = 0; d = 0 })); outcome = Out.Requested m1 }
+    ∷ record { stamp = 6; event = Events.Bind (record { 0 = 0 }) (record { 0 = 0 }); outcome = Out.Sent m1 (record { 0 = 1 }) 0 1 0 1 }
+    ∷ record { stamp = 7; event = Events.Expire (record { 0 = 0 }) (record { 0 = 1 }) 0; outcome = Out.Sent m1 (record { 0 = 1 }) 0 1 1 2 }
+    ∷ record { stamp = 8; event = Events.Receive (record { 0 = 1 }) (record { 0 = 0 }) 1; outcome = Out.Received 0 1 0 (Got.Accepted m1 1) }
+    ∷ record { stamp = 9; event = Events.Call Outside (record { 0 = 1 }) Calls.Poll; outcome = Out.Ran m1 (Some 1) (Some m2) }
+    ∷ record { stamp = 10; event = Events.Bind (record { 0 = 1 }) (record { 0 = 1 }); outcome = Out.Sent m2 (record { 0 = 0 }) 0 1 0 2 }
+    ∷ record { stamp = 11; event = Events.Receive (record { 0 = 0 }) (record { 0 = 1 }) 2; outcome = Out.Received 0 1 0 (Got.Accepted m2 3) }
+    ∷ record { stamp = 12; event = Events.Expire (record { 0 = 0 }) (record { 0 = 1 }) 0; outcome = Out.Delivered m1.serial }
+    ∷ record { stamp = 13; event = Events.Receive (record { 0 = 1 }) (record { 0 = 0 }) 3; outcome = Out.Received 0 1 0 (Got.Delivered m2.serial) }
+    ∷ record { stamp = 14; event = Events.Call Outside (record { 0 = 0 }) Calls.Poll; outcome = Out.Ran m2 None None }
+    ∷ record { stamp = 15; event = Events.Receive (record { 0 = 0 }) (record { 0 = 1 }) 1; outcome = Out.Received 0 1 0 Got.Nothing }
+    ∷ record { stamp = 16; event = Events.Drain (record { 0 = 0 }) (record { 0 = 0 }); outcome = Out.Silent }
+    ∷ record { stamp = 17; event = Events.Unload (record { 0 = 0 }) (record { 0 = 0 }); outcome = Out.Silent }
+    ∷ record { stamp = 18; event = Events.PageOut (record { 0 = 0 }) (record { 0 = 0 }); outcome = Out.Done }
+    ∷ []

@@ -1,0 +1,51 @@
+-- An endpoint is drained with a message in flight.
+use Rattle.std.specs.Prelude.{false, None, List, [], ◌∷◌}
+use Rattle.am_names.specs.declared.MsgKind.TheVariants as Kind
+use Rattle.am_names.specs.declared.Message.{Message}
+use Rattle.am_office.specs.declared.HandlerKind.TheVariants.{Note}
+use Rattle.am_office.specs.declared.Actor.TheVariants.{Outside}
+use Rattle.am_office.specs.declared.Call.TheVariants as Calls
+use Rattle.am_office.specs.declared.Event.TheVariants as Events
+use Rattle.am_office.specs.declared.Outcome.TheVariants as Out
+use Rattle.am_office.specs.declared.Entry.{Entry}
+use Rattle.am_model.specs.Layout.{Layout}
+
+abbrev pub layout : Layout
+layout =
+    record {
+      direct = false;
+      nodes = 2;
+      frames = 16;
+      channels = 1;
+      tries = 3;
+      bounces = 2;
+      pool = None;
+      log = 65536;
+      ends =
+          record { id = (record { 0 = 0 }); node = (record { 0 = 0 }); tag = (record { 0 = 5 }); disk = false } ∷ record { id = (record { 0 = 1 }); node = (record { 0 = 1 }); tag = (record { 0 = 7 }); disk = false } ∷ [];
+      faults = [];
+    }
+
+abbrev pub m1 : Message
+m1 =
+    record {
+      serial = record { source = (record { 0 = 0 }); count = 1 };
+      kind = Kind.Request;
+      dest = (record { 0 = 1 });
+      tag = (record { 0 = 7 });
+      reply_tag = (record { 0 = 5 });
+      handler = 1;
+      words = record { a = 9; b = 0; c = 0; d = 0 };
+      about = None;
+    }
+
+abbrev pub journal : List Entry
+journal =
+    record { stamp = 1; event = Events.Call Outside (record { 0 = 1 }) (Calls.SetHandler 1 Note); outcome = Out.Done }
+    ∷ record { stamp = 2; event = Events.Call Outside (record { 0 = 0 }) (Calls.Map 0 (record { 0 = 1 }) (record { 0 = 7 }) 4); outcome = Out.Done }
+    ∷ record { stamp = 3; event = Events.Load (record { 0 = 0 }) (record { 0 = 0 }) 0; outcome = Out.Silent }
+    ∷ record { stamp = 4; event = Events.Load (record { 0 = 1 }) (record { 0 = 1 }) 0; outcome = Out.Silent }
+    ∷ record { stamp = 5; event = Events.Call Outside (record { 0 = 0 }) (Calls.Request 0 1 (record { a = 9; b = 0; c = 0; d = 0 })); outcome = Out.Requested m1 }
+    ∷ record { stamp = 6; event = Events.Bind (record { 0 = 0 }) (record { 0 = 0 }); outcome = Out.Sent m1 (record { 0 = 1 }) 0 1 0 1 }
+    ∷ record { stamp = 7; event = Events.Drain (record { 0 = 0 }) (record { 0 = 0 }); outcome = Out.Silent }
+    ∷ []

@@ -1,0 +1,53 @@
+-- Which indexes and handlers there are.
+use Rattle.std.specs.Prelude.{true, false, None, List, [], ◌∷◌}
+use Rattle.am_names.specs.declared.Cause.TheVariants.{BadHandler}
+use Rattle.am_names.specs.declared.MsgKind.TheVariants as Kind
+use Rattle.am_names.specs.declared.Message.{Message}
+use Rattle.am_office.specs.declared.HandlerKind.TheVariants.{Note}
+use Rattle.am_office.specs.declared.Actor.TheVariants.{Outside}
+use Rattle.am_office.specs.declared.Call.TheVariants as Calls
+use Rattle.am_office.specs.declared.Event.TheVariants as Events
+use Rattle.am_office.specs.declared.Refusal.TheVariants as No
+use Rattle.am_office.specs.declared.Outcome.TheVariants as Out
+use Rattle.am_office.specs.declared.Entry.{Entry}
+use Rattle.am_model.specs.Layout.{Layout}
+
+abbrev pub layout : Layout
+layout =
+    record {
+      direct = true;
+      nodes = 1;
+      frames = 16;
+      channels = 1;
+      tries = 4;
+      bounces = 3;
+      pool = None;
+      log = 65536;
+      ends =
+          record { id = (record { 0 = 0 }); node = (record { 0 = 0 }); tag = (record { 0 = 5 }); disk = false } ∷ record { id = (record { 0 = 1 }); node = (record { 0 = 0 }); tag = (record { 0 = 7 }); disk = false } ∷ [];
+      faults = [];
+    }
+
+abbrev pub m1 : Message
+m1 =
+    record {
+      serial = record { source = (record { 0 = 0 }); count = 1 };
+      kind = Kind.Request;
+      dest = (record { 0 = 1 });
+      tag = (record { 0 = 7 });
+      reply_tag = (record { 0 = 5 });
+      handler = 15;
+      words = record { a = 0; b = 0; c = 0; d = 0 };
+      about = None;
+    }
+
+abbrev pub journal : List Entry
+journal =
+    record { stamp = 1; event = Events.Call Outside (record { 0 = 1 }) (Calls.SetHandler 16 Note); outcome = Out.Refused No.BadIndex }
+    ∷ record { stamp = 2; event = Events.Call Outside (record { 0 = 1 }) (Calls.SetHandler 0 Note); outcome = Out.Refused No.Reserved }
+    ∷ record { stamp = 3; event = Events.Call Outside (record { 0 = 0 }) (Calls.Map 0 (record { 0 = 1 }) (record { 0 = 7 }) 1); outcome = Out.Done }
+    ∷ record { stamp = 4; event = Events.Call Outside (record { 0 = 0 }) (Calls.Request 16 1 (record { a = 0; b = 0; c = 0; d = 0 })); outcome = Out.Refused No.BadIndex }
+    ∷ record { stamp = 5; event = Events.Call Outside (record { 0 = 0 }) (Calls.Request 15 1 (record { a = 0; b = 0; c = 0; d = 0 })); outcome = Out.Refused No.NotMapped }
+    ∷ record { stamp = 6; event = Events.Call Outside (record { 0 = 0 }) (Calls.Request 0 15 (record { a = 0; b = 0; c = 0; d = 0 })); outcome = Out.Requested m1 }
+    ∷ record { stamp = 7; event = Events.Carry (record { 0 = 0 }); outcome = Out.Returned m1 BadHandler }
+    ∷ []
