@@ -22,11 +22,7 @@ use Rattle.am_model.specs.History.{MayFollow, EachAfter, IsHistory, is_in_range,
 use Rattle.am_model.specs.Steps.{FollowsSteps, Made, Stop, stop, stop_by, full_log, step_entry, made, made_by, made_from}
 use Rattle.am_model.proofs.Each.{each_push}
 use Rattle.am_model.proofs.Ends.{EmittedIn, was_emitted}
-use Rattle.am_laws_steps.specs.Laws.{AreInRange, StopsAt, IsMade}
-
--- each stamp is below this number
-abbrev pub AreBelow : ℕ → List Entry → Type 0
-AreBelow n xs = AllAre (λ (x : Entry). x.stamp < n) xs
+use Rattle.am_laws_steps.specs.Laws.{AreBelow, Walked, AreInRange, StopsAt, IsMade}
 
 below_more : (n k : ℕ) (xs : List Entry) → n ≤ k → AreBelow n xs → AreBelow k xs
 below_more n k [] le h = tt
@@ -81,11 +77,6 @@ taken_before n past (Events.Receive node peer number) below = by_packet (slice_g
 taken_before n past event below = refl
 
 -- ---- one step more
-
-pub record Walked (layout : Layout) (past : List Entry) : Type 0 where
-  pub history : IsHistory layout past
-  pub stamped : map (λ (x : Entry). x.stamp) past ≡ range_with_len 1 (length past)
-  pub below : AreBelow (length past + 1) past
 
 pub may_step : (layout : Layout) (past : List Entry) (event : Event) → Walked layout past → is_in_range layout event ≡ true → failing layout past event ≡ None → MayFollow layout past (step_entry layout past event)
 may_step layout past event w range enabled =

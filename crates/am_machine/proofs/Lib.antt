@@ -1,0 +1,3 @@
+pub mod Direct
+pub mod Events
+pub mod Tied
