@@ -1,5 +1,5 @@
 -- An endpoint as its callers see it: what it began with, its log, and whether it has room for one more entry.
-use Rattle.std.specs.Prelude.{ℕ, Bool, ◌==◌, Option, None, Some, List, length, slice_get, ◌-◌}
+use Rattle.std.specs.Prelude.{ℕ, ◌-◌, Bool, Option, None, Some, List, length, slice_get}
 use Rattle.am_office.specs.declared.Entry.{Entry}
 use Rattle.am_model.specs.Endpoint.{State, fresh}
 use Rattle.am_model.specs.Changes.{replay}
@@ -25,7 +25,3 @@ stamp_by (Some x) = x.stamp
 -- the stamp of the last entry, and 0 where there is none
 abbrev pub last_stamp : List Entry → ℕ
 last_stamp log = stamp_by (slice_get log (length log - 1))
-
--- whether the log has as many entries as it may
-abbrev pub is_full : EndpointView → Bool
-is_full v = length v.log == v.settings.log

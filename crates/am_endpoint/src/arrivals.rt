@@ -74,10 +74,11 @@ impl Fields {
         }
     }
 
-    fn is_queue_full(&self) -> bool
-        ensures { result ≡ nat_le 16 (count_by is_request self.now.received.items) }
+    /// How many requests are received and not polled.
+    pub fn received_requests(&self) -> usize
+        ensures { result ≡ count_by is_request self.now.received.items }
     {
-        self.received.iter().filter(|m| is_request(m)).count() >= 16
+        self.received.iter().filter(|m| is_request(m)).count()
     }
 
     fn is_about_awaited(&self, about: Option<Serial>) -> bool
@@ -105,7 +106,7 @@ impl Fields {
         if is_request(m) && self.handler_at(m.handler).is_none() {
             return Verdict::Refused(Cause::BadHandler);
         }
-        if is_request(m) && self.is_queue_full() {
+        if is_request(m) && self.received_requests() >= 16 {
             return Verdict::Refused(Cause::QueueFull);
         }
         if is_answer(m) && !self.is_about_awaited(m.about) {

@@ -14,7 +14,7 @@ impl Fields {
         !self.requests.is_empty() || !self.replies.is_empty()
     }
 
-    fn has_arrivals(&self) -> bool
+    pub fn has_arrivals(&self) -> bool
         ensures { result ≡ has_arrivals (state_in self.now).body }
     {
         !self.notices.is_empty() || !self.received.is_empty()

@@ -44,7 +44,7 @@ fn drop_flight(flying: &mut Vec<Flying>, serial: Serial)
 
 impl Fields {
     /// The message in flight with this serial, if any.
-    fn flight(&self, serial: Serial) -> Option<Flying>
+    pub fn flight(&self, serial: Serial) -> Option<Flying>
         ensures { result ≡ flying_of serial self.now.in_flight.items }
     {
         flight_of(self.in_flight.as_slice(), serial)
