@@ -44,7 +44,9 @@ use Rattle.am_model.specs.Calls.{outcome_of_call, answer, poll, poll_received, p
 use Rattle.am_model.specs.Changes.{appended, kind_run, arrived, called, left, marked, put, queued, reached, with_arrived, with_marked, without_front, requests_left, noticed, bounces_of, not_awaited, flying_of, landed, requeued_flight, returned_flight, flight_appended, notice_of, received, expired, bound, carried, changed, after}
 use Rattle.am_model.specs.History.{are_credits_in_range, judged}
 use Rattle.am_model.specs.Allowed.{IsSound, MayArrive, MayCarry, is_well_formed, is_queued_request, is_queued_answer, is_flight_formed, is_mapping_in_range, are_numbers_in_range, arrived_message, arrival_verdict, is_carry_from}
+use Rattle.am_model.proofs.Counts.{call_counts_one}
 use Rattle.am_model.proofs.Names.{same_end-refl}
+use Rattle.am_model.proofs.Own.{Own, own_kept, is_call}
 use Rattle.am_model.proofs.Received.{bit, find_counts}
 use Rattle.am_model.proofs.Sizes.{within_called, count_le, length_appended, waiting_kept}
 
@@ -440,3 +442,11 @@ arrival_sound pool e s m event o is judged here other sound = absurd (cc)
 -- an arrival keeps the body sound
 pub sound_arrived : (pool : Option ℕ) (e : EndpointId) (s : State) (x : Entry) → MayArrive e s x → IsSound pool s.body → IsSound pool (after e s x).body
 sound_arrived pool e s x may sound = arrival_sound pool e s may.message x.event x.outcome may.is_message may.judged may.here may.elsewhere sound
+
+-- an entry accepts one message at most
+pub accepted_after : (e : EndpointId) (s : State) (x : Entry) → (after e s x).body.accepted ≤ s.body.accepted + 1
+accepted_after e s x = by_event x.event refl
+  where
+    by_event : (event : Event) → x.event ≡ event → (changed e s x.event x.outcome).body.accepted ≤ s.body.accepted + 1
+    by_event (Events.Call actor end call) is = rw is (call_counts_one s call x.outcome)
+    by_event event is = omega (arith, ap (λ (w : Own). w.accepted) (own_kept e s x.event x.outcome (ap is_call is)))

@@ -1,0 +1,229 @@
+//! Endpoints: what each entry makes of their state, and their log.
+#![tactic(auto)]
+
+ghost use Rattle.am_endpoint.specs.Settings.{AreLawful};
+ghost use Rattle.am_endpoint.specs.View.{EndpointView, last_stamp, state_after};
+ghost use Rattle.am_model.specs.Allowed.{IsSound, MayArrive, MayCarry, are_numbers_in_range, is_well_formed};
+ghost use Rattle.am_model.specs.Calls.{outcome_of_call};
+ghost use Rattle.am_model.specs.Changes.{after, flying_of, has_arrivals};
+ghost use Rattle.am_model.specs.Endpoint.{front, is_on_disk, verdict};
+ghost use Rattle.am_names.specs.Names.{is_request};
+ghost use Rattle.std.specs.Prelude.{◌≡◌, ◌+◌, ◌<◌, ◌≤◌, ◌^◌, [], ◌∷◌, ◌++◌, length, count_by, IfOk, OnErr, OnOk, IfSome, Err, is_some, max, true, false, ◌↔◌};
+
+mod arrivals;
+mod changes;
+mod departures;
+mod entries;
+mod fields;
+mod flights;
+mod settings;
+
+use crate::fields::Fields;
+pub use crate::settings::{EndFault, EndSettings, NoMemory};
+use am_model::Queued;
+use am_names::{EndpointId, Message, NodeId, Serial, Verdict};
+use am_office::{Actor, Call, Entry, Event, Place};
+use std::alloc::{AllocError, Global};
+use std::marker::Model;
+
+/// An endpoint with its log. Contracts see what it began with, its log, and whether it is ready
+/// for one more entry; its state is the replay of the log.
+#[derive(Drop)]
+pub struct Endpoint {
+    settings: EndSettings,
+    fields: Fields,
+    log: Vec<Entry>,
+}
+
+impl Model for Endpoint {
+    ghost use Rattle.am_endpoint.specs.View.{EndpointView};
+
+    ghost Value = { EndpointView };
+
+    ghost use Rattle.am_endpoint.specs.Kept.{view_of, IsReplay};
+
+    ghost view = { view_of };
+
+    ghost invariant = { IsReplay };
+}
+
+impl Endpoint {
+    /// A fresh endpoint with an empty log.
+    pub fn new(alloc: Global, set: EndSettings) -> Result<Endpoint, NoMemory>
+        requires { AreLawful set }
+        ensures settings { IfOk result (λ end. end.settings ≡ set) }
+        ensures log { IfOk result (λ end. end.log ≡ []) }
+    {
+        Ok(Endpoint {
+            settings: set,
+            fields: Fields::fresh(alloc, set.tag, set.place),
+            log: Vec::new(alloc),
+        })
+    }
+}
+
+impl Endpoint {
+    /// Whose it is.
+    pub fn id(&self) -> EndpointId
+        ensures { result ≡ self.now.settings.id }
+    {
+        self.settings.id
+    }
+
+    /// Its node.
+    pub fn node(&self) -> NodeId
+        ensures { result ≡ self.now.settings.node }
+    {
+        self.settings.node
+    }
+
+    /// How often a message of its may bounce.
+    pub fn bounces(&self) -> u8
+        ensures { result ≡ self.now.settings.bounces }
+    {
+        self.settings.bounces
+    }
+
+    /// The credits that its indexes share, if they share any.
+    pub fn pool(&self) -> Option<u8>
+        ensures { result ≡ self.now.settings.pool }
+    {
+        self.settings.pool
+    }
+
+    /// The entries in order.
+    pub fn log(&self) -> &[Entry]
+        ensures { result.now ≡ self.now.log }
+    {
+        self.log.as_slice()
+    }
+
+    /// The stamp of the last entry, and 0 where there is none.
+    pub fn last_stamp(&self) -> u64
+        ensures { result ≡ last_stamp self.now.log }
+    {
+        match self.log.as_slice().last().copied() {
+            None => 0,
+            Some(entry) => entry.stamp,
+        }
+    }
+
+    /// Where it lies.
+    pub fn place(&self) -> Place
+        ensures { result ≡ (state_after self.now).head.place }
+    {
+        self.fields.head.place
+    }
+
+    /// Whether it is wanted.
+    pub fn wanted(&self) -> bool
+        ensures { result ≡ (state_after self.now).head.wanted }
+    {
+        self.fields.head.wanted
+    }
+
+    /// Whether it is draining.
+    pub fn draining(&self) -> bool
+        ensures { result ≡ (state_after self.now).head.draining }
+    {
+        self.fields.head.draining
+    }
+
+    /// Whether it is closed.
+    pub fn closed(&self) -> bool
+        ensures { result ≡ (state_after self.now).head.closed }
+    {
+        self.fields.head.closed
+    }
+}
+
+impl Endpoint {
+    /// The front message, and how often it bounced: the front of replies, and where there is none the front of requests.
+    pub fn front(&self) -> Option<Queued>
+        requires { is_on_disk (state_after self.now).head.place ≡ false }
+        ensures value { result ≡ front (state_after self.now) }
+        ensures formed { IfSome result (λ queued. is_well_formed queued.message ≡ true) }
+    {
+        self.fields.front()
+    }
+
+    /// The verdict on a message that arrives.
+    pub fn verdict(&self, message: &Message) -> Verdict
+        ensures { result ≡ verdict (state_after self.now) message.now }
+    {
+        self.fields.verdict(message)
+    }
+
+    /// Whether a notice or a received message is there.
+    pub fn pollable(&self) -> bool
+        requires { is_on_disk (state_after self.now).head.place ≡ false }
+        ensures { result ≡ has_arrivals (state_after self.now).body }
+    {
+        self.fields.has_arrivals()
+    }
+
+    /// How many requests are received and not polled.
+    pub fn received_requests(&self) -> u8
+        requires { is_on_disk (state_after self.now).head.place ≡ false }
+        ensures { result ≡ count_by is_request (state_after self.now).body.received }
+    {
+        self.fields.received_requests() as u8
+    }
+
+    /// Whether a message with this serial is in flight.
+    pub fn in_flight(&self, serial: Serial) -> bool
+        requires { is_on_disk (state_after self.now).head.place ≡ false }
+        ensures { result ≡ is_some (flying_of serial (state_after self.now).body.in_flight) }
+    {
+        self.fields.flight(serial).is_some()
+    }
+
+    /// How many messages are in flight.
+    pub fn in_flight_len(&self) -> u8
+        ensures { result ≡ length (state_after self.now).body.in_flight }
+    {
+        self.fields.in_flight.len() as u8
+    }
+}
+
+impl Endpoint {
+    fn make_room(&mut self) -> Result<(), AllocError>
+        ensures settings { self.new.settings ≡ self.old.settings }
+        ensures log { self.new.log ≡ self.old.log }
+        ensures ok { OnOk result (self.new.ready ≡ true) }
+    {
+        self.log.reserve(1)?;
+        self.fields.make_room()?;
+        Ok(())
+    }
+
+    /// Makes room for one more entry, so that the next logged change takes no memory.
+    ///
+    /// A want of memory may also leave room for some of it; contracts don't speak of that.
+    pub fn room(&mut self) -> Result<(), EndFault>
+        ensures ok { OnOk result (self.new.ready ≡ true) }
+        ensures full { (result ≡ Err EndFault.LogFull) ↔ (length self.old.log ≡ self.old.settings.log) }
+        ensures settings { self.new.settings ≡ self.old.settings }
+        ensures log { self.new.log ≡ self.old.log }
+    {
+        if self.log.len() >= self.settings.log as usize {
+            return Err(EndFault::LogFull);
+        }
+        match self.make_room() {
+            Ok(()) => Ok(()),
+            Err(_) => Err(EndFault::NoMemory),
+        }
+    }
+
+    /// Does what the entry makes of the endpoint, and logs it.
+    fn enter(&mut self, entry: Entry)
+        requires ready { self.old.ready ≡ true }
+        requires room { length self.old.log < self.old.settings.log }
+        requires sound { IsSound self.old.settings.pool (after self.old.settings.id (state_after self.old) entry).body }
+        ensures settings { self.new.settings ≡ self.old.settings }
+        ensures log { self.new.log ≡ self.old.log ++ entry ∷ [] }
+    {
+        self.fields.apply(self.settings.id, entry);
+        self.log.push(entry).unwrap();
+    }
+}
