@@ -25,7 +25,7 @@ use Rattle.am_model.specs.Endpoint.{State, front, is_on_disk}
 use Rattle.am_model.specs.Layout.{Layout}
 use Rattle.am_model.specs.History.{state_of, failing, outcome_of, carry, judged}
 use Rattle.am_model.specs.Steps.{Stop, NotEnabled, LogFull, stop, stop_by, full_log, full_by, least_such, lesser, is_end_full, step_entry}
-use Rattle.am_machine.proofs.Direct.{NoneOnDisk}
+use Rattle.am_machine.specs.Carries.{least_full}
 
 -- ---- calls
 
@@ -71,11 +71,6 @@ judged_touches limit end m bounces (Verdicts.Refused cause) = by_test _
 
 pub carry_touches : (layout : Layout) (past : List Entry) (end : EndpointId) (q : Queued) → front (state_of layout past end) ≡ Some q → ends_touched (Events.Carry end) (outcome_of layout past (Events.Carry end)) ≡ end ∷ q.message.dest ∷ []
 carry_touches layout past end q at = ap (λ (f : Option Queued). ends_touched (Events.Carry end) (carry layout past f)) at ∙ judged_touches layout.bounces end q.message q.bounces _
-
--- the least of two endpoints that are full
-abbrev pub least_full : EndpointId → Bool → EndpointId → Bool → Option EndpointId
-least_full first is_first second is_second =
-    if is_first then Some (lesser first (if is_second then Some (lesser second None) else None)) else (if is_second then Some (lesser second None) else None)
 
 abbrev pub stop_of : Option EndpointId → Option Stop
 stop_of None = None

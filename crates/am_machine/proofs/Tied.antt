@@ -18,6 +18,7 @@ use Rattle.am_endpoint.specs.View.{EndpointView}
 use Rattle.am_laws_steps.proofs.Steps.{walked_more}
 use Rattle.am_machine.specs.declared.settings.Settings.{Settings}
 use Rattle.am_machine.specs.Ends.{EndLog, kept, state_in, setting_in, with_entry, grown, logged_at}
+use Rattle.am_machine.specs.Carries.{is_place}
 use Rattle.am_machine.specs.Kept.{IsOwn, IsTied, layout_in}
 
 -- the state of an endpoint by its own log is the one by the journal
@@ -78,13 +79,6 @@ pub own_at : (layout : Layout) (es : List EndLog) (journal : List Entry) (k : �
 own_at layout [] journal k e h at = absurd (cc)
 own_at layout (d ∷ es) journal zero e h at = let same : d ≡ e = cc in subst (IsOwn layout journal) same h.0
 own_at layout (d ∷ es) journal (suc k) e h at = own_at layout es journal k e h.1 at
-
--- whether two places are the same
-abbrev pub is_place : ℕ → ℕ → Bool
-is_place zero zero = true
-is_place zero (suc j) = false
-is_place (suc k) zero = false
-is_place (suc k) (suc j) = is_place k j
 
 -- the places of the endpoints that an entry touches
 abbrev pub TouchesAt : Entry → List EndLog → (ℕ → Bool) → Type 0

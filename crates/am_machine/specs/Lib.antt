@@ -1,3 +1,4 @@
+pub mod Carries
 pub mod Ends
 pub mod Kept
 pub mod View

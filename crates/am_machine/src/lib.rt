@@ -1,12 +1,21 @@
 //! The cluster: endpoints whose logs are the parts of one journal, and the events that may happen to them.
 #![tactic(auto)]
 
+ghost use Rattle.am_follow.specs.Layout.{layout_of};
+ghost use Rattle.am_machine.specs.View.{Applies};
+ghost use Rattle.am_model.specs.History.{IsHistory, is_in_range};
+ghost use Rattle.am_office.specs.declared.Event.TheVariants as Events;
+ghost use Rattle.std.specs.Prelude.{◌≡◌, true, []};
+
+mod ends;
 mod settings;
 
 pub use crate::settings::{ApplyFault, Settings};
 
+use crate::ends::{carry_between, is_full, judged, least_full, place_of, room_for_both};
 use am_endpoint::Endpoint;
-use am_office::Entry;
+use am_names::EndpointId;
+use am_office::{Actor, Call, Condition, Entry, Event, Part};
 use am_scenario_types::FaultLine;
 use std::marker::Model;
 
@@ -29,4 +38,75 @@ impl Model for Cluster {
     ghost view = { cluster_in };
 
     ghost invariant = { IsCluster };
+}
+
+impl Cluster {
+    /// The entries in order.
+    pub fn entries(&self) -> &[Entry]
+        ensures entries { result.now ≡ self.now.journal }
+        ensures history { IsHistory self.now.layout result.now }
+    {
+        &self.journal
+    }
+
+    /// Makes a call of an application.
+    fn call(&mut self, actor: Actor, end: EndpointId, call: Call) -> Result<Entry, ApplyFault>
+        requires direct { self.old.layout.direct ≡ true }
+        requires in_range { is_in_range self.old.layout (Events.Call actor end call) ≡ true }
+        ensures { Applies self.old self.new (Events.Call actor end call) result }
+    {
+        let Some(place) = place_of(&self.ends, end) else {
+            unreachable!()
+        };
+        let one = &mut self.ends[place];
+        if is_full(one, self.settings.log) {
+            return Err(ApplyFault::LogFull(Part::Endpoint(end)));
+        }
+        if self.journal.reserve(1).is_err() {
+            return Err(ApplyFault::NoMemory);
+        }
+        match one.call(self.journal.len() as u64, actor, call) {
+            Ok(entry) => {
+                self.journal.push(entry).unwrap();
+                Ok(entry)
+            }
+            Err(_) => Err(ApplyFault::NoMemory),
+        }
+    }
+
+    /// Carries the front message of an endpoint to its destination.
+    fn carry(&mut self, end: EndpointId) -> Result<Entry, ApplyFault>
+        requires direct { self.old.layout.direct ≡ true }
+        requires in_range { is_in_range self.old.layout (Events.Carry end) ≡ true }
+        ensures { Applies self.old self.new (Events.Carry end) result }
+    {
+        let Some(source) = place_of(&self.ends, end) else {
+            unreachable!()
+        };
+        let Some(front) = self.ends[source].front() else {
+            return Err(ApplyFault::NotEnabled(Condition::NoMessage));
+        };
+        let message = front.message;
+        let Some(dest) = place_of(&self.ends, message.dest) else {
+            unreachable!()
+        };
+        let verdict = self.ends[dest].verdict(&message);
+        let limit = self.settings.log;
+        let is_source_full = is_full(&self.ends[source], limit);
+        let is_dest_full = is_full(&self.ends[dest], limit);
+        if let Some(full) = least_full(end, is_source_full, message.dest, is_dest_full) {
+            return Err(ApplyFault::LogFull(Part::Endpoint(full)));
+        }
+        if self.journal.reserve(1).is_err() || room_for_both(&mut self.ends, source, dest).is_err() {
+            return Err(ApplyFault::NoMemory);
+        }
+        let entry = Entry {
+            stamp: self.journal.len() as u64 + 1,
+            event: Event::Carry { end },
+            outcome: judged(self.settings.bounces, message, front.bounces, verdict),
+        };
+        carry_between(&mut self.ends, source, dest, entry);
+        self.journal.push(entry).unwrap();
+        Ok(entry)
+    }
 }
