@@ -3,9 +3,9 @@
 
 ghost use Rattle.am_endpoint.specs.Settings.{AreLawful};
 ghost use Rattle.am_endpoint.specs.View.{EndpointView, last_stamp, state_after};
-ghost use Rattle.am_model.specs.Allowed.{IsSound, MayArrive, MayCarry, are_numbers_in_range, is_well_formed};
+ghost use Rattle.am_model.specs.Allowed.{KeepsSound, MayArrive, MayCarry, are_numbers_in_range, is_well_formed};
 ghost use Rattle.am_model.specs.Calls.{outcome_of_call};
-ghost use Rattle.am_model.specs.Changes.{after, flying_of, has_arrivals};
+ghost use Rattle.am_model.specs.Changes.{flying_of, has_arrivals};
 ghost use Rattle.am_model.specs.Endpoint.{front, is_on_disk, verdict};
 ghost use Rattle.am_names.specs.Names.{is_request};
 ghost use Rattle.std.specs.Prelude.{◌≡◌, ◌+◌, ◌<◌, ◌≤◌, ◌^◌, [], ◌∷◌, ◌++◌, length, count_by, IfOk, OnErr, OnOk, IfSome, Err, is_some, max, true, false, ◌↔◌};
@@ -22,7 +22,7 @@ use crate::fields::Fields;
 pub use crate::settings::{EndFault, EndSettings, NoMemory};
 use am_model::Queued;
 use am_names::{EndpointId, Message, NodeId, Serial, Verdict};
-use am_office::{Actor, Call, Entry, Event, Place};
+use am_office::{Actor, Call, Entry, Event, Outcome, Place};
 use std::alloc::{AllocError, Global};
 use std::marker::Model;
 
@@ -219,11 +219,82 @@ impl Endpoint {
     fn enter(&mut self, entry: Entry)
         requires ready { self.old.ready ≡ true }
         requires room { length self.old.log < self.old.settings.log }
-        requires sound { IsSound self.old.settings.pool (after self.old.settings.id (state_after self.old) entry).body }
+        requires keeps { KeepsSound self.old.settings.pool self.old.settings.id (state_after self.old) entry }
         ensures settings { self.new.settings ≡ self.old.settings }
         ensures log { self.new.log ≡ self.old.log ++ entry ∷ [] }
     {
         self.fields.apply(self.settings.id, entry);
         self.log.push(entry).unwrap();
+    }
+}
+
+impl Endpoint {
+    /// The stamp of an entry that is made now: above the floor and above the last entry.
+    fn next_stamp(&self, floor: u64) -> u64
+        requires floor { floor + 1 < 2 ^ 64 }
+        requires last { last_stamp self.now.log + 1 < 2 ^ 64 }
+        ensures { result ≡ 1 + max floor (last_stamp self.now.log) }
+    {
+        1 + floor.max(self.last_stamp())
+    }
+
+    /// The outcome of a call at the present state.
+    fn outcome(&self, call: Call) -> Outcome
+        ensures { result ≡ outcome_of_call self.now.settings.pool self.now.settings.id (state_after self.now) call }
+    {
+        self.fields
+            .outcome(self.settings.pool, self.settings.id, call)
+    }
+
+    /// Makes an application's call, and logs it with its outcome, a refusal included.
+    pub fn call(&mut self, floor: u64, actor: Actor, call: Call) -> Result<Entry, EndFault>
+        requires place { is_on_disk (state_after self.old).head.place ≡ false }
+        requires numbers { are_numbers_in_range self.old.settings.pool call ≡ true }
+        requires floor { floor + 1 < 2 ^ 64 }
+        requires last { last_stamp self.old.log + 1 < 2 ^ 64 }
+        ensures event { IfOk result (λ x. x.event ≡ Event.Call actor self.old.settings.id call) }
+        ensures outcome { IfOk result (λ x. x.outcome ≡ outcome_of_call self.old.settings.pool self.old.settings.id (state_after self.old) call) }
+        ensures stamp { IfOk result (λ x. x.stamp ≡ 1 + max floor (last_stamp self.old.log)) }
+        ensures logged { IfOk result (λ x. self.new.log ≡ self.old.log ++ x ∷ []) }
+        ensures settings { self.new.settings ≡ self.old.settings }
+        ensures full { (result ≡ Err EndFault.LogFull) ↔ (length self.old.log ≡ self.old.settings.log) }
+        ensures err { OnErr result (self.new.log ≡ self.old.log) }
+    {
+        self.room()?;
+        let entry = Entry {
+            stamp: self.next_stamp(floor),
+            event: Event::Call {
+                actor,
+                end: self.settings.id,
+                call,
+            },
+            outcome: self.outcome(call),
+        };
+        self.enter(entry);
+        Ok(entry)
+    }
+
+    /// What a message that arrives from elsewhere makes of it, by a carry or a receipt that gives
+    /// it a verdict.
+    pub fn put(&mut self, entry: Entry)
+        requires ready { self.old.ready ≡ true }
+        requires room { length self.old.log < self.old.settings.log }
+        requires arrival { MayArrive self.old.settings.id (state_after self.old) entry }
+        ensures settings { self.new.settings ≡ self.old.settings }
+        ensures log { self.new.log ≡ self.old.log ++ entry ∷ [] }
+    {
+        self.enter(entry);
+    }
+
+    /// What a carry of its front message makes of it: the source's change, and where it is the
+    /// destination too both changes, in one entry.
+    pub fn carry_out(&mut self, entry: Entry)
+        requires ready { self.old.ready ≡ true }
+        requires room { length self.old.log < self.old.settings.log }
+        requires carry { MayCarry self.old.settings.bounces self.old.settings.id (state_after self.old) entry }
+        ensures settings { self.new.settings ≡ self.old.settings }
+        ensures log { self.new.log ≡ self.old.log ++ entry ∷ [] }
+    {
+        self.enter(entry);
     }
 }

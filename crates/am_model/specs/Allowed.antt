@@ -22,6 +22,7 @@ use Rattle.am_model.specs.declared.Flying.{Flying}
 use Rattle.am_model.specs.declared.Mapping.{Mapping}
 use Rattle.am_model.specs.declared.Queued.{Queued}
 use Rattle.am_model.specs.Endpoint.{Body, State, IsWithin, front, verdict}
+use Rattle.am_model.specs.Changes.{after}
 use Rattle.am_model.specs.History.{are_credits_in_range, is_kind_in_range, judged}
 
 abbrev pub are_zero : Words → Bool
@@ -114,3 +115,7 @@ pub record IsSound (pool : Option ℕ) (b : Body) : Type 0 where
   pub requests : list_all is_queued_request b.requests ≡ true
   pub replies : list_all is_queued_answer b.replies ≡ true
   pub in_flight : list_all is_flight_formed b.in_flight ≡ true
+
+-- the entry leaves a body sound that is sound
+abbrev pub KeepsSound : Option ℕ → EndpointId → State → Entry → Type 0
+KeepsSound pool e s x = IsSound pool s.body → IsSound pool (after e s x).body
