@@ -61,7 +61,7 @@ pub carry_enabled : (layout : Layout) (past : List Entry) (end : EndpointId) (q 
 carry_enabled layout past end q direct at = carry_failing layout past end (Some q) direct at
 
 -- the endpoints that a carry touches: where the message is, and where it goes
-judged_touches : (limit : ℕ) (end : EndpointId) (m : Message) (bounces : ℕ) (v : Verdict) → ends_touched (Events.Carry end) (judged limit m bounces v) ≡ end ∷ m.dest ∷ []
+pub judged_touches : (limit : ℕ) (end : EndpointId) (m : Message) (bounces : ℕ) (v : Verdict) → ends_touched (Events.Carry end) (judged limit m bounces v) ≡ end ∷ m.dest ∷ []
 judged_touches limit end m bounces Verdicts.Accepted = refl
 judged_touches limit end m bounces (Verdicts.Refused cause) = by_test _
   where

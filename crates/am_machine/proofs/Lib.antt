@@ -1,3 +1,6 @@
+pub mod Applied
+pub mod Carriages
 pub mod Direct
 pub mod Events
+pub mod Places
 pub mod Tied

@@ -8,11 +8,13 @@ ghost use Rattle.am_office.specs.declared.Event.TheVariants as Events;
 ghost use Rattle.std.specs.Prelude.{◌≡◌, true, []};
 
 mod ends;
+mod journal;
 mod settings;
 
 pub use crate::settings::{ApplyFault, Settings};
 
 use crate::ends::{carry_between, is_full, judged, least_full, place_of, room_for_both};
+use crate::journal::{last_stamp, log_entry};
 use am_endpoint::Endpoint;
 use am_names::EndpointId;
 use am_office::{Actor, Call, Condition, Entry, Event, Part};
@@ -65,9 +67,9 @@ impl Cluster {
         if self.journal.reserve(1).is_err() {
             return Err(ApplyFault::NoMemory);
         }
-        match one.call(self.journal.len() as u64, actor, call) {
+        match one.call(last_stamp(&self.journal), actor, call) {
             Ok(entry) => {
-                self.journal.push(entry).unwrap();
+                log_entry(&mut self.journal, entry);
                 Ok(entry)
             }
             Err(_) => Err(ApplyFault::NoMemory),
@@ -97,16 +99,19 @@ impl Cluster {
         if let Some(full) = least_full(end, is_source_full, message.dest, is_dest_full) {
             return Err(ApplyFault::LogFull(Part::Endpoint(full)));
         }
-        if self.journal.reserve(1).is_err() || room_for_both(&mut self.ends, source, dest).is_err() {
+        if self.journal.reserve(1).is_err() {
             return Err(ApplyFault::NoMemory);
         }
+        let Ok(()) = room_for_both(&mut self.ends, source, dest) else {
+            return Err(ApplyFault::NoMemory);
+        };
         let entry = Entry {
-            stamp: self.journal.len() as u64 + 1,
+            stamp: last_stamp(&self.journal) + 1,
             event: Event::Carry { end },
             outcome: judged(self.settings.bounces, message, front.bounces, verdict),
         };
         carry_between(&mut self.ends, source, dest, entry);
-        self.journal.push(entry).unwrap();
+        log_entry(&mut self.journal, entry);
         Ok(entry)
     }
 }
