@@ -1,6 +1,6 @@
 -- Places in a line: a number below a limit, a node, an endpoint, a bundle, a tag, a serial.
-use Rattle.std.specs.Prelude.{ℕ, ◌+◌, Bool, true, ◌==◌, ◌&&◌, nat_lt, nat_le, List, take, drop, codes, if◌then◌else◌, Option, Some, None, Result, Ok, Err}
-use Rattle.std.specs.List.{list_any, list_all, position}
+use Rattle.std.specs.Prelude.{ℕ, ◌+◌, Bool, true, false, ◌==◌, ◌&&◌, nat_lt, nat_le, List, take, drop, codes, if◌then◌else◌, Option, Some, None, Result, Ok, Err}
+use Rattle.std.specs.List.{list_all, position}
 use Rattle.std.specs.Str.{bytes_eq}
 use Rattle.am_lexer.specs.declared.what.What.{What}
 use Rattle.am_lexer.specs.declared.what.What.TheVariants.{BadNumber, OutOfRange, Undeclared}
@@ -45,9 +45,13 @@ end_at said wanted words = do
   end ← end_word said wanted word.0
   Ok (end.id, word.1)
 
--- whether an endpoint is on a node
+-- whether a declared endpoint is on a node
+abbrev pub is_there : NodeId → Option EndLine → Bool
+is_there node None = false
+is_there node (Some end) = end.node.0 == node.0
+
 abbrev pub is_on : Said → NodeId → EndpointId → Bool
-is_on said node member = list_any (λ end. (end.id.0 == member.0) && (end.node.0 == node.0)) said.ends
+is_on said node member = is_there node (end_of said member.0)
 
 -- whether all members are on a node
 abbrev pub are_on : Said → NodeId → List EndpointId → Bool

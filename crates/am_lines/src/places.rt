@@ -65,10 +65,10 @@ pub fn take_end_of<'a>(
 fn is_on(draft: &Draft, node: NodeId, member: EndpointId) -> bool
     ensures { result ≡ is_on (said draft.now) node member }
 {
-    draft
-        .ends
-        .iter()
-        .any(|end| end.id.0 == member.0 && end.node.0 == node.0)
+    match draft.end_of(u64::from(member.0)) {
+        Some(end) => end.node.0 == node.0,
+        None => false,
+    }
 }
 
 fn are_on(draft: &Draft, node: NodeId, members: &[EndpointId]) -> bool
