@@ -3,9 +3,9 @@ use Rattle.std.specs.Prelude.{◌≡◌, ℕ, ◌+◌, Bool, false, ◌==◌, �
 use Rattle.am_names.specs.declared.NodeId.{NodeId}
 use Rattle.am_names.specs.declared.Packet.{Packet}
 use Rattle.am_names.specs.declared.Packet.TheVariants as Packets
-use Rattle.am_plan.specs.declared.LinkFault.{LinkFault}
-use Rattle.am_plan.specs.declared.LinkFault.TheVariants.{Lose, Repeat, Late}
-use Rattle.am_plan.specs.declared.PlanLine.{PlanLine}
+use Rattle.am_plan.specs.declared.plan.LinkFault.{LinkFault}
+use Rattle.am_plan.specs.declared.plan.LinkFault.TheVariants.{Lose, Repeat, Late}
+use Rattle.am_plan.specs.declared.plan.PlanLine.{PlanLine}
 
 abbrev pub is_line_of : NodeId → NodeId → ℕ → PlanLine → Bool
 is_line_of from to place line = (from.0 == line.from.0) && (to.0 == line.to.0) && (place == line.number)
