@@ -225,3 +225,6 @@ call_next s faults vs journal actor end c k one w x longer floor tied direct ran
 
 pub carry_declared : (layout : Layout) (end : EndpointId) → is_in_range layout (Events.Carry end) ≡ true → declared layout end ≡ true
 carry_declared layout end h = h
+
+pub want_declared : (layout : Layout) (actor : Actor) (end : EndpointId) → is_in_range layout (Events.Want actor end) ≡ true → declared layout end ≡ true
+want_declared layout actor end h = (and_parts _ (declared layout end) h).1

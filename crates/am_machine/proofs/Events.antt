@@ -86,3 +86,8 @@ carry_stop layout past end q a b direct at first second =
     by_least : (e : Option EndpointId) → stop_by None (full_by layout past e None) ≡ stop_of e
     by_least None = refl
     by_least (Some e) = refl
+
+-- ---- wants
+
+pub want_refused : (layout : Layout) (past : List Entry) (actor : Actor) (end : EndpointId) → is_on_disk (state_of layout past end).head.place ≡ false → stop layout past (Events.Want actor end) ≡ Some (NotEnabled Needs.NotOnDisk)
+want_refused layout past actor end off = ap (λ (b : Bool). stop_by (first_holding ((not b, Needs.NotOnDisk) ∷ [])) (full_log layout past (Events.Want actor end))) off

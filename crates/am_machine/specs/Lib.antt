@@ -1,4 +1,5 @@
 pub mod Carries
 pub mod Ends
 pub mod Kept
+pub mod Beginnings
 pub mod View

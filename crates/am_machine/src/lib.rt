@@ -5,20 +5,24 @@ ghost use Rattle.am_follow.specs.Layout.{layout_of};
 ghost use Rattle.am_machine.specs.View.{Applies};
 ghost use Rattle.am_model.specs.History.{IsHistory, is_in_range};
 ghost use Rattle.am_office.specs.declared.Event.TheVariants as Events;
-ghost use Rattle.std.specs.Prelude.{◌≡◌, true, []};
+ghost use Rattle.am_scenario_types.specs.Lawful.{IsLawful};
+ghost use Rattle.std.specs.Prelude.{◌≡◌, true, [], IfOk};
 
 mod ends;
 mod journal;
+mod opening;
 mod settings;
 
-pub use crate::settings::{ApplyFault, Settings};
+pub use crate::settings::{ApplyFault, NoMemory, Settings};
 
 use crate::ends::{carry_between, is_full, judged, least_full, place_of, room_for_both};
 use crate::journal::{last_stamp, log_entry};
+use crate::opening::open_ends;
 use am_endpoint::Endpoint;
 use am_names::EndpointId;
-use am_office::{Actor, Call, Condition, Entry, Event, Part};
-use am_scenario_types::FaultLine;
+use am_office::{Actor, Call, Condition, Entry, Event, Part, Place};
+use am_scenario_types::{FaultLine, Scenario};
+use std::alloc::Global;
 use std::marker::Model;
 
 /// A cluster. Contracts see it as the layout in which it began and its journal, which is a history of that layout.
@@ -43,12 +47,77 @@ impl Model for Cluster {
 }
 
 impl Cluster {
+    /// The cluster of a lawful scenario, with an empty journal.
+    pub fn new(alloc: Global, scenario: &Scenario) -> Result<Cluster, NoMemory>
+        requires { IsLawful scenario.now }
+        ensures layout { IfOk result (λ cluster. cluster.layout ≡ layout_of scenario.now) }
+        ensures journal { IfOk result (λ cluster. cluster.journal ≡ []) }
+    {
+        let settings = Settings {
+            network: scenario.network,
+            nodes: scenario.nodes,
+            frames: scenario.frames,
+            channels: scenario.channels,
+            tries: scenario.tries,
+            bounces: scenario.bounces,
+            pool: scenario.pool,
+            log: scenario.log,
+        };
+        let ends = open_ends(alloc, &settings, &scenario.ends)?;
+        let Ok(faults) = Vec::from_slice(alloc, &scenario.faults) else {
+            return Err(NoMemory);
+        };
+        Ok(Cluster {
+            settings,
+            faults,
+            ends,
+            journal: Vec::new(alloc),
+        })
+    }
+
+    /// Applies an event of the direct network: Ok is the one entry that the definitions give, and a refusal names the
+    /// first condition that doesn't hold, or the log that is full. A refusal changes nothing.
+    pub fn apply(&mut self, event: &Event) -> Result<Entry, ApplyFault>
+        requires direct { self.old.layout.direct ≡ true }
+        requires in_range { is_in_range self.old.layout event.now ≡ true }
+        ensures { Applies self.old self.new event.now result }
+    {
+        match *event {
+            Event::Call { actor, end, call } => self.call(actor, end, call),
+            Event::Carry { end } => self.carry(end),
+            Event::Want { actor, end } => self.want(actor, end),
+            Event::Bind { .. }
+            | Event::Expire { .. }
+            | Event::Receive { .. }
+            | Event::Drain { .. }
+            | Event::Unload { .. }
+            | Event::Load { .. }
+            | Event::PageOut { .. }
+            | Event::PageIn { .. } => Err(ApplyFault::NotEnabled(Condition::NotPacket)),
+        }
+    }
+
     /// The entries in order.
     pub fn entries(&self) -> &[Entry]
         ensures entries { result.now ≡ self.now.journal }
         ensures history { IsHistory self.now.layout result.now }
     {
         &self.journal
+    }
+
+    /// Wants an endpoint, which in the direct network is never on disk.
+    fn want(&self, _actor: Actor, end: EndpointId) -> Result<Entry, ApplyFault>
+        requires direct { self.now.layout.direct ≡ true }
+        requires in_range { is_in_range self.now.layout (Events.Want _actor end) ≡ true }
+        ensures { Applies self.now self.now (Events.Want _actor end) result }
+    {
+        let Some(place) = place_of(&self.ends, end) else {
+            unreachable!()
+        };
+        match self.ends[place].place() {
+            Place::Disk => unreachable!(),
+            Place::Host | Place::Frame(_) | Place::Direct => Err(ApplyFault::NotEnabled(Condition::NotOnDisk)),
+        }
     }
 
     /// Makes a call of an application.

@@ -26,3 +26,7 @@ pub enum ApplyFault {
     /// There is no memory for one more entry.
     NoMemory,
 }
+
+/// There is no memory.
+#[derive(Clone, Copy, PartialEq, Eq, Debug)]
+pub struct NoMemory;
