@@ -1,8 +1,6 @@
 -- What became of each message.
-use Rattle.std.specs.Prelude.{◌≡◌, ℕ, ◌+◌, Bool, true, false, ◌==◌, ◌&&◌, ◌||◌, nat_lt, Option, Some, None, List, [], ◌∷◌, map, length, filter, filter_map, if◌then◌else◌}
-use Rattle.std.specs.List.{list_any, list_all, range_with_len}
-use Rattle.am_names.specs.declared.EndpointId.{EndpointId}
-use Rattle.am_names.specs.declared.NodeId.{NodeId}
+use Rattle.std.specs.Prelude.{Bool, true, false, Option, Some, None, List, [], ◌∷◌, filter_map, if◌then◌else◌}
+use Rattle.std.specs.List.{list_any}
 use Rattle.am_names.specs.declared.Serial.{Serial}
 use Rattle.am_names.specs.declared.Cause.{Cause}
 use Rattle.am_office.specs.declared.Event.{Event}
@@ -15,7 +13,7 @@ use Rattle.am_office.specs.declared.Entry.{Entry}
 use Rattle.am_office.specs.declared.Fate.{Fate}
 use Rattle.am_office.specs.declared.Fate.TheVariants as Fates
 use Rattle.am_names.specs.Names.{same_serial, has_serial}
-use Rattle.am_office.specs.Entries.{accepted_of, run_of, unknown_of, touches, touches_node, ends_touched, node_touched, passes, is_serial}
+use Rattle.am_office.specs.Entries.{accepted_of, run_of, unknown_of, passes, is_serial}
 
 abbrev pub cause_if : Bool → Cause → Option Cause
 cause_if true cause = Some cause

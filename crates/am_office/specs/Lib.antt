@@ -1,2 +1,5 @@
 pub mod Entries
 pub mod Fates
+pub mod Lines
+pub mod Pieces
+pub mod Words

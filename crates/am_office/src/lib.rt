@@ -1,7 +1,12 @@
-// The entries of a journal.
+//! The entries of a journal as plain data, the fates of its messages, and their printed texts.
 #![tactic(auto)]
 
+mod lines;
+mod pieces;
+mod words;
+
 use am_names::{Cause, EndpointId, Message, NodeId, Serial, Tag, Verdict, Why, Words};
+pub use lines::entry_line;
 
 /// What a handler does when a message runs it.
 #[derive(Clone, Copy, PartialEq, Eq, Debug)]
@@ -265,3 +270,7 @@ pub enum Fate {
     UnknownButRan,
     Pending,
 }
+
+/// There is no memory for what was asked.
+#[derive(Clone, Copy, PartialEq, Eq, Debug)]
+pub struct NoMemory;
