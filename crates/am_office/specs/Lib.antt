@@ -2,4 +2,5 @@ pub mod Entries
 pub mod Fates
 pub mod Lines
 pub mod Pieces
+pub mod Report
 pub mod Words

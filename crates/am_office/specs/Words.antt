@@ -1,5 +1,5 @@
 -- The words of the printed texts. A number is printed in decimal without leading zeros.
-use Rattle.std.specs.Prelude.{ℕ, List, ◌++◌, codes, if◌then◌else◌, ◌==◌}
+use Rattle.std.specs.Prelude.{ℕ, List, [], ◌∷◌, ◌++◌, codes, if◌then◌else◌, ◌==◌}
 use Rattle.std.specs.Fmt.{decimal}
 use Rattle.std.specs.List.{flat_map}
 use Rattle.am_names.specs.declared.Serial.{Serial}
@@ -12,6 +12,8 @@ use Rattle.am_names.specs.declared.Verdict.{Verdict}
 use Rattle.am_names.specs.declared.Verdict.TheVariants as Verdicts
 use Rattle.am_names.specs.declared.Why.{Why}
 use Rattle.am_names.specs.declared.Why.TheVariants as Whys
+use Rattle.am_office.specs.declared.endings.Fate.{Fate}
+use Rattle.am_office.specs.declared.endings.Fate.TheVariants as Fates
 use Rattle.am_office.specs.declared.Mask.{Mask}
 use Rattle.am_office.specs.declared.Mask.TheVariants as Masks
 
@@ -59,3 +61,10 @@ kind Kinds.Empty = codes "empty"
 unfoldable pub mask : Mask → Word
 mask Masks.NoEvents = codes "noevents"
 mask Masks.NotEmpty = codes "notempty"
+
+unfoldable pub fate : Fate → List Word
+fate Fates.Ran = codes "ran" ∷ []
+fate (Fates.Returned c) = codes "returned" ∷ cause c ∷ []
+fate Fates.Unknown = codes "unknown" ∷ []
+fate Fates.UnknownButRan = codes "unknown-but-ran" ∷ []
+fate Fates.Pending = codes "pending" ∷ []
