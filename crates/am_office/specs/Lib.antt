@@ -3,4 +3,5 @@ pub mod Fates
 pub mod Lines
 pub mod Pieces
 pub mod Report
+pub mod Tables
 pub mod Words

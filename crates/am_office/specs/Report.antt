@@ -25,19 +25,24 @@ use Rattle.am_office.specs.Lines.{line_of}
 use Rattle.am_office.specs.Words as words
 use Rattle.am_office.specs.Words.{line, serial}
 
+-- what a poll ran, and at which endpoint: a handler for a message, or handler 0 for a notice; a poll that ran none has no run
+abbrev pub run_in : Event → Outcome → Option (EndpointId × Run)
+run_in (Events.Call by end Calls.Poll) (Out.Ran m (Some h) r) = Some (end, Runs.Handled m.serial h m.words)
+run_in (Events.Call by end Calls.Poll) (Out.Zero s w) = Some (end, Runs.Zero s w)
+run_in event outcome = None
+
 abbrev pub run_if : Bool → Run → Option Run
 run_if true run = Some run
 run_if false run = None
 
--- what a poll ran at endpoint `e`: a handler for a message, or handler 0 for a notice; a poll that ran none has no run
-abbrev pub run_at : EndpointId → Event → Outcome → Option Run
-run_at e (Events.Call by end Calls.Poll) (Out.Ran m (Some h) r) = run_if (same_end e end) (Runs.Handled m.serial h m.words)
-run_at e (Events.Call by end Calls.Poll) (Out.Zero s w) = run_if (same_end e end) (Runs.Zero s w)
-run_at e event outcome = None
+-- the run, if it was at endpoint `e`
+abbrev pub run_at : EndpointId → Option (EndpointId × Run) → Option Run
+run_at e None = None
+run_at e (Some (end, run)) = run_if (same_end e end) run
 
 -- the runs at an endpoint, in the order of the journal
 abbrev pub runs_at : List Entry → EndpointId → List Run
-runs_at journal e = filter_map (λ (x : Entry). run_at e x.event x.outcome) journal
+runs_at journal e = filter_map (λ (x : Entry). run_at e (run_in x.event x.outcome)) journal
 
 -- the line of a run
 unfoldable pub run_line : Run → List ℕ
