@@ -3,6 +3,7 @@
 
 mod endings;
 mod fates;
+mod known;
 mod lines;
 mod messages;
 mod pieces;
