@@ -1,5 +1,5 @@
 -- The causes for which a serial is returned.
-use Rattle.std.proofs.Common.{◌≡◌, ℕ, suc, zero, ◌<◌, Bool, List, [], ◌∷◌, Option, Some, None, refl, sym, ap, ◌∙◌, option_to_list, length, take, get_or, filter_map, arith}
+use Rattle.std.proofs.Common.{◌≡◌, ℕ, suc, zero, ◌<◌, Bool, List, [], ◌∷◌, Option, Some, None, refl, option_to_list, length, take, get_or, filter_map, arith}
 use Rattle.std.specs.List.{cons_option}
 use Rattle.std.specs.List.{slice_get}
 use Rattle.am_names.specs.declared.Serial.{Serial}

@@ -1,8 +1,8 @@
 -- What is known of a message after one entry more.
-use Rattle.std.proofs.Common.{◌≡◌, ℕ, ◌<◌, ◌+◌, Bool, true, false, ◌||◌, ◌&&◌, ◌==◌, cond, Option, Some, None, unwrap_or, List, [], ◌∷◌, ◌++◌, refl, sym, ap, ◌∙◌, inl, inr, length, take, get_or, slice_get, filter_map, arith, add-one}
+use Rattle.std.proofs.Common.{◌≡◌, ℕ, ◌<◌, ◌+◌, Bool, true, false, ◌||◌, ◌&&◌, ◌==◌, cond, Option, Some, None, List, [], ◌∷◌, ◌++◌, refl, sym, ap, ◌∙◌, inl, inr, length, take, get_or, slice_get, arith, add-one}
 use Rattle.std.specs.Option.{option_or}
 use Rattle.std.specs.List.{cons_option, list_any}
-use Rattle.std.specs.Ordering.{is_eq, nat_cmp, ordering_then}
+use Rattle.std.specs.Ordering.{is_eq, nat_cmp}
 use Rattle.std.specs.declared.cmp.Ordering.TheVariants.{Equal, Greater}
 use Rattle.std.specs.Cmp.{tied_then}
 use Rattle.std.specs.BTreeMap.{BTreeMap, get, Updates}
@@ -12,7 +12,6 @@ use Rattle.std.proofs.lemmas.List.Elements.{filter_map-append}
 use Rattle.std.proofs.lemmas.List.Folds.{list_any-append}
 use Rattle.std.proofs.Math.Seq.{take-suc}
 use Rattle.am_names.specs.declared.Serial.{Serial}
-use Rattle.am_names.specs.declared.EndpointId.{EndpointId}
 use Rattle.am_names.specs.declared.Cause.{Cause}
 use Rattle.am_names.specs.Names.{same_serial, has_serial, serial_order}
 use Rattle.am_office.specs.declared.Call.TheVariants as Calls
@@ -36,13 +35,13 @@ eq_or_greater false = refl
 
 eqb_turned : (x y : ℕ) → (x == y) ≡ (y == x)
 eqb_turned x y = elim (eqb_tells x y) [
-  | inl (found, same) ↦ elim (eqb_tells y x) [ | inl (f, s) ↦ rw (found, f) refl | inr (m, other) ↦ absurd (other (sym same)) ]
-  | inr (missed, other) ↦ elim (eqb_tells y x) [ | inl (f, s) ↦ absurd (other (sym s)) | inr (m, o) ↦ rw (missed, m) refl ]
+  | inl (found, same) ↦ elim (eqb_tells y x) [ inl (f, s) ↦ rw (found, f) refl | inr (m, other) ↦ absurd (other (sym same)) ]
+  | inr (missed, other) ↦ elim (eqb_tells y x) [ inl (f, s) ↦ absurd (other (sym s)) | inr (m, o) ↦ rw (missed, m) refl ]
 ]
 
 nat_cmp_same : (x y : ℕ) → is_eq (nat_cmp x y) ≡ (y == x)
 nat_cmp_same x y = elim (cases_lt x y) [
-  | inl less ↦ rw (lt-ltb x y less) (elim (eqb_tells y x) [ | inl (f, s) ↦ absurd (omega arith) | inr (m, o) ↦ rw m refl ])
+  | inl less ↦ rw (lt-ltb x y less) (elim (eqb_tells y x) [ inl (f, s) ↦ absurd (omega arith) | inr (m, o) ↦ rw m refl ])
   | inr more ↦ rw (le-ltb x y more) (eq_or_greater (x == y) ∙ eqb_turned x y)
 ]
 
@@ -132,8 +131,8 @@ any_append p xs x = list_any-append p xs (x ∷ []) ∙ ap (λ (b : Bool). list_
 known_append : (s : Serial) (past : List Entry) (x : Entry) → known_of (past ++ x ∷ []) s ≡ known_after s (known_of past s) (news_in x.event x.outcome)
 known_append s past x =
     let cause : slice_get (causes_of (past ++ x ∷ []) s) 0 ≡ option_or (slice_get (causes_of past s) 0) (cause_of s x.event x.outcome) =
-      ap (λ (causes : List Cause). slice_get causes 0) (filter_map-append (λ (y : Entry). cause_of s y.event y.outcome) past (x ∷ []))
-      ∙ first_append (causes_of past s) (cause_of s x.event x.outcome)
+    ap (λ (causes : List Cause). slice_get causes 0) (filter_map-append (λ (y : Entry). cause_of s y.event y.outcome) past (x ∷ []))
+    ∙ first_append (causes_of past s) (cause_of s x.event x.outcome)
     in
     let unknown : is_unknown (past ++ x ∷ []) s ≡ (is_unknown past s || is_serial s (unknown_of x)) = any_append (λ (y : Entry). is_serial s (unknown_of y)) past x in
     let ran : is_run (past ++ x ∷ []) s ≡ (is_run past s || passes (has_serial s) (run_of x)) = any_append (λ (y : Entry). passes (has_serial s) (run_of y)) past x in
@@ -145,10 +144,10 @@ known_next old new xs i d below are step =
     let taken : take (i + 1) xs ≡ take i xs ++ get_or xs i d ∷ [] = rw add-one (take-suc xs i d below) in
     record {
       each = λ (s : Serial).
-        step s
-        ∙ ap (λ (k : Known). known_after s k (news_in (get_or xs i d).event (get_or xs i d).outcome)) (are.each s)
-        ∙ sym (known_append s (take i xs) (get_or xs i d))
-        ∙ ap (λ (past : List Entry). known_of past s) (sym taken)
+          step s
+          ∙ ap (λ (k : Known). known_after s k (news_in (get_or xs i d).event (get_or xs i d).outcome)) (are.each s)
+          ∙ sym (known_append s (take i xs) (get_or xs i d))
+          ∙ ap (λ (past : List Entry). known_of past s) (sym taken);
     }
 
 pub known_none : (s : Serial) → known_of [] s ≡ nothing_known

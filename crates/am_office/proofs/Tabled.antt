@@ -1,5 +1,5 @@
 -- The runs of one entry more.
-use Rattle.std.proofs.Common.{◌≡◌, ℕ, suc, ◌<◌, ◌+◌, Bool, true, false, Option, Some, None, List, [], ◌∷◌, ◌++◌, refl, sym, ap, ◌∙◌, length, take, map, get_or, slice_set, slice_index_or, filter_map, arith, add-one, length-set, inl, inr, replicate}
+use Rattle.std.proofs.Common.{◌≡◌, ℕ, ◌<◌, ◌+◌, Option, Some, None, List, [], ◌∷◌, ◌++◌, refl, sym, ap, ◌∙◌, length, take, get_or, slice_set, slice_index_or, filter_map, arith, add-one, length-set, inl, inr, replicate}
 use Rattle.std.specs.List.{cons_option}
 use Rattle.std.proofs.lemmas.List.{get_or-set_other, get_or-replicate, length-replicate, append-nil}
 use Rattle.std.proofs.lemmas.Grind.{get_or-set_at}
@@ -10,7 +10,7 @@ use Rattle.std.proofs.Math.Seq.{take-suc}
 use Rattle.am_names.specs.declared.EndpointId.{EndpointId}
 use Rattle.am_office.specs.declared.Entry.{Entry}
 use Rattle.am_office.specs.declared.runs.Run.{Run}
-use Rattle.am_office.specs.Report.{runs_at, run_at, run_if, run_in}
+use Rattle.am_office.specs.Report.{run_at, run_if, run_in}
 use Rattle.am_office.specs.Tables.{with_run, AreRuns}
 
 -- what one item more gives
@@ -37,13 +37,13 @@ runs_next lists xs i d below are =
     record {
       size = kept lists run ∙ are.size;
       each = λ (e : EndpointId) (small : e.0 < 256).
-        with_run_at lists e run (rw are.size small)
-        ∙ ap (λ (runs : List Run). runs ++ cons_option (run_at e run) []) (are.each e small)
-        ∙ sym (filter_map_next (λ (x : Entry). run_at e (run_in x.event x.outcome)) xs i d below)
+          with_run_at lists e run (rw are.size small)
+          ∙ ap (λ (runs : List Run). runs ++ cons_option (run_at e run) []) (are.each e small)
+          ∙ sym (filter_map_next (λ (x : Entry). run_at e (run_in x.event x.outcome)) xs i d below);
     }
 
 pub no_runs : AreRuns (replicate 256 []) []
 no_runs = record {
   size = length-replicate {A = List Run} 256 [];
-  each = λ (e : EndpointId) (small : e.0 < 256). get_or-replicate {A = List Run} 256 e.0 [] [] small
+  each = λ (e : EndpointId) (small : e.0 < 256). get_or-replicate {A = List Run} 256 e.0 [] [] small;
 }

@@ -1,5 +1,5 @@
 -- The fates that a table gives are those of the journal.
-use Rattle.std.proofs.Common.{◌≡◌, ℕ, ◌+◌, ◌<◌, List, [], ◌∷◌, ◌++◌, refl, sym, ap, ◌∙◌, map, length, take, get_or, option_to_list, slice_get, add-one, Option}
+use Rattle.std.proofs.Common.{◌≡◌, ℕ, ◌+◌, ◌<◌, List, [], ◌∷◌, ◌++◌, refl, ap, ◌∙◌, map, length, take, get_or, option_to_list, add-one}
 use Rattle.std.specs.List.{fold}
 use Rattle.std.specs.BTreeMap.{BTreeMap}
 use Rattle.std.proofs.Math.Seq.{take-suc}
@@ -7,7 +7,6 @@ use Rattle.am_names.specs.declared.Serial.{Serial}
 use Rattle.am_names.specs.declared.MsgKind.{MsgKind}
 use Rattle.am_office.specs.declared.Entry.{Entry}
 use Rattle.am_office.specs.declared.known.Known.{Known}
-use Rattle.am_office.specs.declared.messages.MessageFate.{MessageFate}
 use Rattle.am_office.specs.Entries.{accepted_of}
 use Rattle.am_office.specs.Fates.{fate_by, causes_of, is_unknown, is_run, fate_of_accepted}
 use Rattle.am_office.specs.Report.{told, listed, listed_with}

@@ -1,5 +1,5 @@
 -- The tables from which a report is made.
-use Rattle.std.specs.Prelude.{ℕ, ◌≡◌, ◌<◌, Bool, true, false, if◌then◌else◌, Option, Some, None, unwrap_or, option_to_list, List, [], ◌∷◌, ◌++◌, length, slice_set, slice_get, slice_index_or}
+use Rattle.std.specs.Prelude.{◌≡◌, ◌<◌, true, false, if◌then◌else◌, Option, Some, None, unwrap_or, option_to_list, List, [], ◌∷◌, ◌++◌, length, slice_set, slice_get, slice_index_or}
 use Rattle.std.specs.Option.{option_or}
 use Rattle.std.specs.BTreeMap.{BTreeMap, get}
 use Rattle.am_names.specs.declared.EndpointId.{EndpointId}
@@ -71,7 +71,7 @@ abbrev pub told_by : BTreeMap Serial Known → Serial × MsgKind → MessageFate
 told_by table m = record {
   serial = m.0;
   kind = m.1;
-  fate = fate_by (option_to_list (known_in table m.0).cause) (known_in table m.0).unknown (known_in table m.0).ran
+  fate = fate_by (option_to_list (known_in table m.0).cause) (known_in table m.0).unknown (known_in table m.0).ran;
 }
 
 -- what is known of a message after news of some message

@@ -36,7 +36,11 @@ impl Known {
     fn nothing() -> Self
         ensures { result ≡ nothing_known }
     {
-        Known { cause: None, unknown: false, ran: false }
+        Known {
+            cause: None,
+            unknown: false,
+            ran: false,
+        }
     }
 
     fn with(self, news: News) -> Self
@@ -44,8 +48,14 @@ impl Known {
     {
         match news {
             News::Ran => Known { ran: true, ..self },
-            News::Unknown => Known { unknown: true, ..self },
-            News::Returned(cause) => Known { cause: self.cause.or(Some(cause)), ..self },
+            News::Unknown => Known {
+                unknown: true,
+                ..self
+            },
+            News::Returned(cause) => Known {
+                cause: self.cause.or(Some(cause)),
+                ..self
+            },
         }
     }
 
@@ -101,7 +111,10 @@ fn learn_from(table: &mut BTreeMap<Serial, Known>, entry: &Entry) -> Result<(), 
 }
 
 /// What the journal's entries say of each message's fate.
-pub(crate) fn known_of(alloc: Global, entries: &[Entry]) -> Result<BTreeMap<Serial, Known>, AllocError>
+pub(crate) fn known_of(
+    alloc: Global,
+    entries: &[Entry],
+) -> Result<BTreeMap<Serial, Known>, AllocError>
     ensures { IfOk result (λ table. AreKnown table entries.now) }
 {
     let mut table = BTreeMap::new(alloc);

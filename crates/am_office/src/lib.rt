@@ -7,6 +7,7 @@ mod known;
 mod lines;
 mod messages;
 mod pieces;
+mod reports;
 mod roles;
 mod runs;
 mod words;
@@ -15,6 +16,7 @@ use am_names::{Cause, EndpointId, Message, NodeId, Serial, Tag, Verdict, Why, Wo
 pub use endings::Fate;
 pub use fates::fate;
 pub use lines::entry_line;
+pub use reports::report;
 use std::marker::Model;
 
 /// What a handler does when a message runs it.

@@ -384,7 +384,7 @@ fn put_outcome(out: &mut Vec<u8>, outcome: Outcome) -> Result<(), AllocError>
 
 /// Appends the entry's line. What was there stays, also after an error.
 #[tactic(auto, using(crate::proofs::Extended::extension), unfolding(crate::specs::Lines::line_of))]
-pub(crate) fn put_line(out: &mut Vec<u8>, entry: &Entry) -> Result<(), AllocError>
+pub(crate) fn put_entry(out: &mut Vec<u8>, entry: &Entry) -> Result<(), AllocError>
     ensures ok { OnOk result (out.new.items ≡ out.old.items ++ text.line_of entry.now) }
     ensures kept { Extends out.old.items out.new.items }
 {
@@ -402,7 +402,7 @@ pub fn entry_line(entry: &Entry, out: &mut Vec<u8>) -> Result<(), NoMemory>
     ensures no_memory { OnErr result (out.new.items ≡ out.old.items) }
 {
     let before = out.len();
-    if put_line(out, entry).is_ok() {
+    if put_entry(out, entry).is_ok() {
         return Ok(());
     }
     out.truncate(before);

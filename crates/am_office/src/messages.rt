@@ -19,7 +19,10 @@ pub(crate) struct MessageFate {
     pub(crate) fate: Fate,
 }
 
-fn list(messages: &mut BTreeMap<Serial, MsgKind>, accepted: Option<Message>) -> Result<(), AllocError>
+fn list(
+    messages: &mut BTreeMap<Serial, MsgKind>,
+    accepted: Option<Message>,
+) -> Result<(), AllocError>
     ensures { OnOk result (messages.new.entries ≡ report.listed_with messages.old.entries accepted) }
 {
     if let Some(message) = accepted {
@@ -40,7 +43,11 @@ fn listed(alloc: Global, entries: &[Entry]) -> Result<BTreeMap<Serial, MsgKind>,
 }
 
 // The messages of one table with the fates that the other gives.
-fn told_by(alloc: Global, messages: &BTreeMap<Serial, MsgKind>, known: &BTreeMap<Serial, Known>) -> Result<Vec<MessageFate>, AllocError>
+fn told_by(
+    alloc: Global,
+    messages: &BTreeMap<Serial, MsgKind>,
+    known: &BTreeMap<Serial, Known>,
+) -> Result<Vec<MessageFate>, AllocError>
     ensures { IfOk result (λ told. told.items ≡ map (tables.told_by known.now) messages.now.entries) }
 {
     let mut told = Vec::new(alloc);

@@ -114,3 +114,17 @@ pub(crate) fn put_end(out: &mut Vec<u8>) -> Result<(), AllocError>
 {
     put_bytes(out, b"\n")
 }
+
+/// Appends a line: its words with one space between them, and its end.
+#[tactic(auto, using(crate::proofs::Extended::extension))]
+pub(crate) fn put_line(
+    out: &mut Vec<u8>,
+    first: &'static str,
+    rest: &[Piece],
+) -> Result<(), AllocError>
+    ensures { OnOk result (out.new.items ≡ out.old.items ++ text.line first.now (map word_of rest.now)) }
+{
+    put_word(out, Piece::Text(first))?;
+    put_spaced(out, rest)?;
+    put_end(out)
+}

@@ -18,20 +18,39 @@ pub(crate) enum Run {
         words: Words,
     },
     /// Handler 0, for a notice.
-    Zero { serial: Serial, why: Why },
+    Zero {
+        serial: Serial,
+        why: Why,
+    },
 }
 
 /// What a poll ran, and at which endpoint.
 fn run_in(entry: &Entry) -> Option<(EndpointId, Run)>
     ensures { result ≡ run_in entry.now.event entry.now.outcome }
 {
-    let Event::Call { end, call: Call::Poll, .. } = entry.event else {
+    let Event::Call {
+        end,
+        call: Call::Poll,
+        ..
+    } = entry.event
+    else {
         return None;
     };
     match entry.outcome {
-        Outcome::Ran { message, handler: Some(handler), .. } => {
+        Outcome::Ran {
+            message,
+            handler: Some(handler),
+            ..
+        } => {
             let (serial, words) = (message.serial, message.words);
-            Some((end, Run::Handled { serial, handler, words }))
+            Some((
+                end,
+                Run::Handled {
+                    serial,
+                    handler,
+                    words,
+                },
+            ))
         }
         Outcome::Zero { serial, why } => Some((end, Run::Zero { serial, why })),
         _ => None,
@@ -59,7 +78,9 @@ impl RunList {
     fn new(alloc: Global) -> Self
         ensures { result ≡ [] }
     {
-        RunList { runs: Vec::new(alloc) }
+        RunList {
+            runs: Vec::new(alloc),
+        }
     }
 
     fn push(&mut self, run: Run) -> Result<(), AllocError>
@@ -102,8 +123,9 @@ fn empty_lists(alloc: Global) -> Result<Vec<RunList>, AllocError>
 }
 
 impl RunTable {
-    ghost use Rattle.std.specs.Prelude.{◌≡◌, ◌<◌, [], OnOk, IfOk, replicate, slice_index_or};
-    ghost use Rattle.am_office.specs.Report.{run_in};
+    ghost use Rattle.std.specs.Prelude.{◌≡◌, List, [], OnOk, IfOk, replicate};
+    ghost use Rattle.am_office.specs.declared.Entry.{Entry};
+    ghost use Rattle.am_office.specs.Report.{run_in, runs_at};
     ghost use Rattle.am_office.specs.Tables.{with_run, AreRuns};
 
     fn new(alloc: Global) -> Result<Self, AllocError>
@@ -135,7 +157,7 @@ impl RunTable {
 
     /// The runs at an endpoint.
     pub(crate) fn at(&self, end: EndpointId) -> &[Run]
-        ensures { result.now ≡ slice_index_or self.now end.0 [] }
+        ensures { (journal : List Entry) → AreRuns self.now journal → result.now ≡ runs_at journal end }
     {
         self.lists[usize::from(end.0)].runs.as_slice()
     }

@@ -1,4 +1,4 @@
-use Rattle.std.proofs.Common.{◌≡◌, sym, ◌∙◌, add-one}
+use Rattle.std.proofs.Common.{sym, ◌∙◌, add-one}
 use Rattle.am_office.specs.declared.Entry.{Entry}
 use Rattle.am_office.specs.Fates.{cause_of}
 use Rattle.am_office.proofs.Causes.{none_so_far, first_found}
