@@ -1,0 +1,5 @@
+pub mod Causes
+pub mod Extended
+pub mod Knowing
+pub mod Tabled
+pub mod Telling
