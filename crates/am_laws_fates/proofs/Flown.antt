@@ -135,7 +135,7 @@ abbrev pub IsFlown : Layout → List Entry → Type 0
 IsFlown layout past = (c : Channel) (m : Message) → bound_message c past ≡ Some m → 1 ≤ flown layout past m.serial
 
 -- no two channels have messages of one serial
-one_channel : (s : Serial) (past : List Entry) (w n : ℕ) (c d : Channel) (m l : Message) → Situation s past w n → bound_message c past ≡ Some m → m.serial ≡ s → bound_message d past ≡ Some l → l.serial ≡ s → c ≡ d
+pub one_channel : (s : Serial) (past : List Entry) (w n : ℕ) (c d : Channel) (m l : Message) → Situation s past w n → bound_message c past ≡ Some m → m.serial ≡ s → bound_message d past ≡ Some l → l.serial ≡ s → c ≡ d
 one_channel s past w n c d m l (Waits none fresh unbound h) at is there also = absurd (unbound c m at is)
 one_channel s past w n c d m l (Flies k f held of only on put w' n') at is there also = only c m at is ∙ sym (only d l there also)
 one_channel s past w n c d m l (Ended k j unbound on put w' n') at is there also = absurd (unbound c m at is)

@@ -138,7 +138,7 @@ answers_no_request m h = by_test (is_request m) h
     by_test true e = absurd (true≢false (sym e))
     by_test false e = refl
 
-no_about : (layout : Layout) (past : List Entry) (e : EndpointId) (index handler : ℕ) (words : Words) (m : Message) → IsRequestOf layout past e index handler words m → m.about ≡ None
+pub no_about : (layout : Layout) (past : List Entry) (e : EndpointId) (index handler : ℕ) (words : Words) (m : Message) → IsRequestOf layout past e index handler words m → m.about ≡ None
 no_about layout past e index handler words m h = by_mapping (mapping_of past e index) h
   where
     by_mapping : (w : Option Mapping) → MatchOption w ⊥ (λ mapping. m ≡ record {
@@ -187,7 +187,7 @@ pub record IsUnder (past : List Entry) (own : Tag) (a : Awaited) : Type 0 where
   pub some : (own.0 == 0) ≡ false
 
 -- no change but a request adds a record, and none changes a record's serial
-called_records : (R : Awaited → Type 0) (st : State) (c : Call) (o : Outcome) → AllAre R st.body.awaited → ((index handler : ℕ) (words : Words) (m : Message) → c ≡ Calls.Request index handler words → o ≡ Out.Requested m → R (record { index = index; serial = m.serial; arrived = false })) → AllAre R (called st c o).body.awaited
+pub called_records : (R : Awaited → Type 0) (st : State) (c : Call) (o : Outcome) → AllAre R st.body.awaited → ((index handler : ℕ) (words : Words) (m : Message) → c ≡ Calls.Request index handler words → o ≡ Out.Requested m → R (record { index = index; serial = m.serial; arrived = false })) → AllAre R (called st c o).body.awaited
 called_records R st (Calls.Request index handler words) (Out.Requested m) h new = all_push R st.body.awaited (record { index = index; serial = m.serial; arrived = false }) h (new index handler words m refl refl)
 called_records R st Calls.Poll (Out.Zero serial why) h new = h
 called_records R st Calls.Poll (Out.Ran m handler None) h new = by_about m.about
@@ -209,7 +209,7 @@ arrived_records R f None xs h = h
 arrived_records R f (Some t) [] h = h
 arrived_records R f (Some t) (a ∷ xs) h = (f t a h.0, arrived_records R f (Some t) xs h.1)
 
-left_records : (R : Awaited → Type 0) (st : State) (o : Outcome) (t : Bool) → AllAre R st.body.awaited → AllAre R (if t then left st o else st).body.awaited
+pub left_records : (R : Awaited → Type 0) (st : State) (o : Outcome) (t : Bool) → AllAre R st.body.awaited → AllAre R (if t then left st o else st).body.awaited
 left_records R st (Out.Accepted m) true h = h
 left_records R st (Out.Requeued m cause bounces) true h = h
 left_records R st (Out.Returned m cause) true h = all_without R (waits_for m.serial) st.body.awaited h
@@ -232,20 +232,20 @@ received_records R f e st (Got.Requeued t cause bounces) h = h
 received_records R f e st (Got.Returned t cause) h = all_without R (waits_for t) st.body.awaited h
 received_records R f e st r h = h
 
-expired_records : (R : Awaited → Type 0) (st : State) (o : Outcome) → AllAre R st.body.awaited → AllAre R (expired st o).body.awaited
+pub expired_records : (R : Awaited → Type 0) (st : State) (o : Outcome) → AllAre R st.body.awaited → AllAre R (expired st o).body.awaited
 expired_records R st (Out.Delivered t) h = h
 expired_records R st (Out.Unknown t) h = all_without R (waits_for t) st.body.awaited h
 expired_records R st o h = h
 
-bound_records : (R : Awaited → Type 0) (st : State) (o : Outcome) → AllAre R st.body.awaited → AllAre R (bound st o).body.awaited
+pub bound_records : (R : Awaited → Type 0) (st : State) (o : Outcome) → AllAre R st.body.awaited → AllAre R (bound st o).body.awaited
 bound_records R st (Out.Sent m peer channel seq attempt number) h = h
 bound_records R st o h = h
 
-out_records : (R : Awaited → Type 0) (st : State) (o : Outcome) → AllAre R st.body.awaited → AllAre R (paged_out st o).body.awaited
+pub out_records : (R : Awaited → Type 0) (st : State) (o : Outcome) → AllAre R st.body.awaited → AllAre R (paged_out st o).body.awaited
 out_records R st Out.Done h = h
 out_records R st o h = h
 
-in_records : (R : Awaited → Type 0) (st : State) (o : Outcome) → AllAre R st.body.awaited → AllAre R (paged_in st o).body.awaited
+pub in_records : (R : Awaited → Type 0) (st : State) (o : Outcome) → AllAre R st.body.awaited → AllAre R (paged_in st o).body.awaited
 in_records R st Out.Done h = h
 in_records R st o h = h
 
@@ -264,7 +264,7 @@ two_fail true b x y rest h = absurd (cc)
 two_fail false true x y rest h = absurd (cc)
 two_fail false false x y rest h = (refl, refl)
 
-made : (pool : Option ℕ) (end : EndpointId) (st : State) (index handler : ℕ) (words : Words) (m : Message) → Out.Requested m ≡ outcome_of_call pool end st (Calls.Request index handler words) → IsMade st m
+pub made : (pool : Option ℕ) (end : EndpointId) (st : State) (index handler : ℕ) (words : Words) (m : Message) → Out.Requested m ≡ outcome_of_call pool end st (Calls.Request index handler words) → IsMade st m
 made pool end st index handler words m fits = by_parts (request_refusal pool st index) (entry_at st.body.mapped index) refl fits
   where
     by_parts : (r : Option Refusal) (mapping : Option Mapping) → request_refusal pool st index ≡ r → Out.Requested m ≡ unless r (new_request end st mapping handler words) → IsMade st m
@@ -275,7 +275,7 @@ made pool end st index handler words m fits = by_parts (request_refusal pool st 
         let two = two_fail st.head.closed (st.body.tag.0 == 0) No.Closed No.OwnTagNone _ is in
         record { opened = two.0; some = two.1; reply = ap (λ (w : Message). w.reply_tag) same }
 
-records_kept : (pool : Option ℕ) (R : Awaited → Type 0) → ((t : Serial) (a : Awaited) → R a → R (arrived t a)) → (e : EndpointId) (st : State) (event : Event) (o : Outcome) → FitsCall pool st event o → AllAre R st.body.awaited → ((index : ℕ) (m : Message) → IsMade st m → accepted_in event o ≡ Some m → R (record { index = index; serial = m.serial; arrived = false })) → AllAre R (changed e st event o).body.awaited
+pub records_kept : (pool : Option ℕ) (R : Awaited → Type 0) → ((t : Serial) (a : Awaited) → R a → R (arrived t a)) → (e : EndpointId) (st : State) (event : Event) (o : Outcome) → FitsCall pool st event o → AllAre R st.body.awaited → ((index : ℕ) (m : Message) → IsMade st m → accepted_in event o ≡ Some m → R (record { index = index; serial = m.serial; arrived = false })) → AllAre R (changed e st event o).body.awaited
 records_kept pool R f e st (Events.Call actor end call) o fits h new =
     called_records R st call o h (λ index handler words m c is. new index m (made pool end st index handler words m (sym is ∙ fits ∙ ap (outcome_of_call pool end st) c)) ((λ i. accepted_in (Events.Call actor end (c i)) (is i))))
 records_kept pool R f e st (Events.Want actor end) o fits h new = h
@@ -405,12 +405,12 @@ under_more layout past x k may e = by_test (touches e x) refl
     by_test true at = rw (state_of_push layout past x e true at) (new at)
     by_test false at = rw (state_of_push layout past x e false at) (record { under = later; closed = (k e).closed })
 
-record Credits (layout : Layout) (past : List Entry) : Type 0 where
+pub record Credits (layout : Layout) (past : List Entry) : Type 0 where
   pub history : IsHistory layout past
   pub replies : KnowsReplies past
   pub under : (e : EndpointId) → AreUnder past (state_of layout past e)
 
-credits : (layout : Layout) (past : List Entry) → IsHistory layout past → Credits layout past
+pub credits : (layout : Layout) (past : List Entry) → IsHistory layout past → Credits layout past
 credits layout past h =
     over_each (MayFollow layout) (λ xs. Credits layout xs)
     (λ xs x k may. record { history = each_push (MayFollow layout) [] xs x k.history may; replies = replies_more layout xs x k.history k.replies may; under = under_more layout xs x k.under may })
@@ -421,7 +421,7 @@ credits layout past h =
     none (Some setting) = record { under = tt; closed = λ c. tt }
 
 -- a record that waits is there
-waiting_is : (P : Awaited → Type 0) (s : Serial) (xs : List Awaited) → waits s xs ≡ true → AllAre P xs → (a : Awaited) × (a.serial ≡ s) × P a
+pub waiting_is : (P : Awaited → Type 0) (s : Serial) (xs : List Awaited) → waits s xs ≡ true → AllAre P xs → (a : Awaited) × (a.serial ≡ s) × P a
 waiting_is P s [] h all = absurd (true≢false (sym h))
 waiting_is P s (a ∷ xs) h all = by_test (λ e. waiting_is P s xs e all.1) (waits_for s a) refl h
   where
