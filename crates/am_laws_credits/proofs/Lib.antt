@@ -2,3 +2,4 @@ pub mod Given
 pub mod Puts
 pub mod Tables
 pub mod Marked
+pub mod Records
