@@ -3,3 +3,4 @@ pub mod Puts
 pub mod Tables
 pub mod Marked
 pub mod Records
+pub mod Held

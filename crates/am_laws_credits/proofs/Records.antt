@@ -205,7 +205,7 @@ news p event o = 0
 pub record CanEnd (e : EndpointId) (event : Event) (o : Outcome) (xs : List Awaited) : Type 0 where
   pub few : (t : Serial) → records_of t xs ≤ 1
   pub waits : (t : Serial) → stops event o ≡ Some t → AllAre (λ (a : Awaited). same_serial t a.serial ≡ true → a.arrived ≡ false) xs
-  pub request : (m reply : Message) (handler : Option ℕ) → o ≡ Out.Ran m handler (Some reply) → m.about ≡ None
+  pub request : (actor : Actor) (end : EndpointId) (m reply : Message) (handler : Option ℕ) → event ≡ Events.Call actor end Calls.Poll → o ≡ Out.Ran m handler (Some reply) → m.about ≡ None
   pub away : (end : EndpointId) (m : Message) (cause : Cause) → event ≡ Events.Carry end → o ≡ Out.Returned m cause → same_end e end ≡ false → records_of m.serial xs ≡ 0
 
 not_awaited_where : (p : ℕ → Serial → Bool) (t : Serial) (xs : List Awaited) → AllAre (λ (a : Awaited). same_serial t a.serial ≡ true → a.arrived ≡ false) xs → records_of t xs ≤ 1 → records_where p (not_awaited t xs) ≡ records_where (but p (Some t)) xs
@@ -229,7 +229,7 @@ called_where p e st actor end (Calls.Request index handler words) (Out.Requested
     omega (arith, sum_by_push (λ (y : Awaited). bit (p y.index y.serial)) st.body.awaited (record { index = index; serial = m.serial; arrived = false }), but_none p st.body.awaited)
 called_where p e st actor end Calls.Poll (Out.Zero serial why) k = omega (arith, but_none p st.body.awaited)
 called_where p e st actor end Calls.Poll (Out.Ran m handler None) k = omega (arith, settled_where p m.about st.body.awaited k.few)
-called_where p e st actor end Calls.Poll (Out.Ran m handler (Some reply)) k = omega (arith, but_none p st.body.awaited, ap (λ (w : Option Serial). records_where (but p w) st.body.awaited) (k.request m reply handler refl))
+called_where p e st actor end Calls.Poll (Out.Ran m handler (Some reply)) k = omega (arith, but_none p st.body.awaited, ap (λ (w : Option Serial). records_where (but p w) st.body.awaited) (k.request actor end m reply handler refl refl))
 called_where p e st actor end (Calls.SetTag tag) Out.Done k = omega (arith, but_none p st.body.awaited)
 called_where p e st actor end (Calls.Map index name tag credits) Out.Done k = omega (arith, but_none p st.body.awaited)
 called_where p e st actor end (Calls.Unmap index) Out.Done k = omega (arith, but_none p st.body.awaited)

@@ -259,7 +259,7 @@ abbrev pub NewRecords : (Awaited → Type 0) → State → Event → Outcome →
 NewRecords R st (Events.Call actor end (Calls.Request index handler words)) (Out.Requested m) = IsMade st m → R (record { index = index; serial = m.serial; arrived = false })
 NewRecords R st event o = Unit {0}
 
-two_fail : (a b : Bool) (x y : Refusal) (rest : Option Refusal) → cond a (Some x) (cond b (Some y) rest) ≡ None → (a ≡ false) × (b ≡ false)
+pub two_fail : (a b : Bool) (x y : Refusal) (rest : Option Refusal) → cond a (Some x) (cond b (Some y) rest) ≡ None → (a ≡ false) × (b ≡ false)
 two_fail true b x y rest h = absurd (cc)
 two_fail false true x y rest h = absurd (cc)
 two_fail false false x y rest h = (refl, refl)
