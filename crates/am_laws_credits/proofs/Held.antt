@@ -333,7 +333,7 @@ pub record Holds (layout : Layout) (past : List Entry) : Type 0 where
 pub records_once : (layout : Layout) (past : List Entry) → Holds layout past → (e : EndpointId) (t : Serial) → records_of t (state_of layout past e).body.awaited ≤ 1
 records_once layout past k e t = omega (arith, k.held e (λ index s. same_serial t s), held_le past e t, (each_once layout past k.history).accepted t)
 
-can_end : (layout : Layout) (past : List Entry) (x : Entry) → Holds layout past → MayFollow layout past x → (e : EndpointId) → CanEnd e x.event x.outcome (state_of layout past e).body.awaited
+pub can_end : (layout : Layout) (past : List Entry) (x : Entry) → Holds layout past → MayFollow layout past x → (e : EndpointId) → CanEnd e x.event x.outcome (state_of layout past e).body.awaited
 can_end layout past x k may e =
     record {
       few = records_once layout past k e;

@@ -4,3 +4,6 @@ pub mod Tables
 pub mod Marked
 pub mod Records
 pub mod Held
+pub mod Sums
+pub mod Shares
+pub mod Law
