@@ -84,7 +84,7 @@ bounces_there layout past s = aloft (often s) (state_of layout past s.source).bo
 
 pub record Balanced (layout : Layout) (past : List Entry) : Type 0 where
   pub serials : SerialsOnce layout past
-  pub balance : (s : Serial) → there layout past s + times_serial end_of_entry s past ≤ times accepted_of (has_serial s) past
+  pub balance : (s : Serial) → there layout past s + times_serial end_of_entry s past ≡ times accepted_of (has_serial s) past
   pub bounces : (s : Serial) → 1 ≤ there layout past s → bounces_there layout past s ≡ times_serial requeue_of s past
   pub most : (s : Serial) → times_serial requeue_of s past ≤ layout.bounces
   pub none : (s : Serial) → times accepted_of (has_serial s) past ≡ 0 → times_serial requeue_of s past ≡ 0
