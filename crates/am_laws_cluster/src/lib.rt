@@ -1,0 +1,19 @@
+//! The invariant of the cluster over every history, part by part and as a whole.
+#![tactic(auto)]
+
+ghost use Rattle.am_model.specs.Cluster.{MarkIsOfParcel, ParcelsFitSender};
+ghost use Rattle.am_model.specs.History.{IsHistory};
+ghost use Rattle.am_model.specs.Layout.{IsLawful, Layout};
+ghost use Rattle.am_office.specs.declared.Entry.{Entry};
+ghost use Rattle.std.specs.Prelude.{List};
+
+/// In each history a parcel has a sequence at most the sender's; those of one sequence carry one
+/// message, and their attempts are distinct and at most the last that was sent.
+pub fn parcels_fit_sender()
+    ensures { (layout : Layout) (past : List Entry) → IsHistory layout past → ParcelsFitSender past }
+{}
+
+/// In each history a mark other than the opening one is that of a parcel that was sent.
+pub fn mark_is_of_parcel()
+    ensures { (layout : Layout) (past : List Entry) → IsHistory layout past → MarkIsOfParcel past }
+{}
