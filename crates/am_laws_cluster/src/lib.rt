@@ -1,7 +1,8 @@
 //! The invariant of the cluster over every history, part by part and as a whole.
 #![tactic(auto)]
 
-ghost use Rattle.am_model.specs.Cluster.{MarkIsOfParcel, ParcelsFitSender};
+ghost use Rattle.am_laws_cluster.specs.Truth.{AnswersSayTrue};
+ghost use Rattle.am_model.specs.Cluster.{EndedSequencePutNothing, MarkIsOfParcel, ParcelsFitSender};
 ghost use Rattle.am_model.specs.History.{IsHistory};
 ghost use Rattle.am_model.specs.Layout.{IsLawful, Layout};
 ghost use Rattle.am_office.specs.declared.Entry.{Entry};
@@ -16,4 +17,17 @@ pub fn parcels_fit_sender()
 /// In each history a mark other than the opening one is that of a parcel that was sent.
 pub fn mark_is_of_parcel()
     ensures { (layout : Layout) (past : List Entry) → IsHistory layout past → MarkIsOfParcel past }
+{}
+
+/// In each history every answer is to a parcel that was sent. If it accepts, the message of its
+/// sequence was put, and the mark is past the sequence, or at it and accepted. If it refuses, the
+/// mark has come to its attempt, and no attempt up to that one was put.
+pub fn answers_say_true()
+    ensures { (layout : Layout) (past : List Entry) → IsHistory layout past → AnswersSayTrue past }
+{}
+
+/// In each history a sequence that ended in a requeue or a return has a mark at or past its last
+/// attempt, and put nothing.
+pub fn ended_sequence_put_nothing()
+    ensures { (layout : Layout) (past : List Entry) → IsHistory layout past → EndedSequencePutNothing past }
 {}
