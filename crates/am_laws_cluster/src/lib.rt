@@ -2,7 +2,7 @@
 #![tactic(auto)]
 
 ghost use Rattle.am_laws_cluster.specs.Truth.{AnswersSayTrue};
-ghost use Rattle.am_model.specs.Cluster.{EndedSequencePutNothing, MarkIsOfParcel, ParcelsFitSender};
+ghost use Rattle.am_model.specs.Cluster.{ArrivedMatchesReceived, EndedSequencePutNothing, MarkIsOfParcel, ParcelsFitSender, ReceivedTagMatches};
 ghost use Rattle.am_model.specs.History.{IsHistory};
 ghost use Rattle.am_model.specs.Layout.{IsLawful, Layout};
 ghost use Rattle.am_office.specs.declared.Entry.{Entry};
@@ -30,4 +30,15 @@ pub fn answers_say_true()
 /// attempt, and put nothing.
 pub fn ended_sequence_put_nothing()
     ensures { (layout : Layout) (past : List Entry) → IsHistory layout past → EndedSequencePutNothing past }
+{}
+
+/// In each history arrived records and received replies correspond one to one, no request has two
+/// records, and one that is marked answered has a reply that was put.
+pub fn arrived_matches_received()
+    ensures { (layout : Layout) (past : List Entry) → IsHistory layout past → ArrivedMatchesReceived layout past }
+{}
+
+/// In each history every received message's tag matches the own tag.
+pub fn received_tag_matches()
+    ensures { (layout : Layout) (past : List Entry) → IsHistory layout past → ReceivedTagMatches layout past }
 {}

@@ -185,6 +185,7 @@ pub record IsUnder (past : List Entry) (own : Tag) (a : Awaited) : Type 0 where
   pub serial : request.serial ≡ a.serial
   pub reply : request.reply_tag ≡ own
   pub some : (own.0 == 0) ≡ false
+  pub kind : is_request request ≡ true
 
 -- no change but a request adds a record, and none changes a record's serial
 pub called_records : (R : Awaited → Type 0) (st : State) (c : Call) (o : Outcome) → AllAre R st.body.awaited → ((index handler : ℕ) (words : Words) (m : Message) → c ≡ Calls.Request index handler words → o ≡ Out.Requested m → R (record { index = index; serial = m.serial; arrived = false })) → AllAre R (called st c o).body.awaited
@@ -254,6 +255,7 @@ pub record IsMade (st : State) (m : Message) : Type 0 where
   pub opened : st.head.closed ≡ false
   pub some : (st.body.tag.0 == 0) ≡ false
   pub reply : m.reply_tag ≡ st.body.tag
+  pub kind : is_request m ≡ true
 
 abbrev pub NewRecords : (Awaited → Type 0) → State → Event → Outcome → Type 0
 NewRecords R st (Events.Call actor end (Calls.Request index handler words)) (Out.Requested m) = IsMade st m → R (record { index = index; serial = m.serial; arrived = false })
@@ -273,7 +275,7 @@ made pool end st index handler words m fits = by_parts (request_refusal pool st 
     by_parts None (Some mapping) is e =
         let same : m ≡ request_message end st mapping handler words = cc in
         let two = two_fail st.head.closed (st.body.tag.0 == 0) No.Closed No.OwnTagNone _ is in
-        record { opened = two.0; some = two.1; reply = ap (λ (w : Message). w.reply_tag) same }
+        record { opened = two.0; some = two.1; reply = ap (λ (w : Message). w.reply_tag) same; kind = ap is_request same }
 
 pub records_kept : (pool : Option ℕ) (R : Awaited → Type 0) → ((t : Serial) (a : Awaited) → R a → R (arrived t a)) → (e : EndpointId) (st : State) (event : Event) (o : Outcome) → FitsCall pool st event o → AllAre R st.body.awaited → ((index : ℕ) (m : Message) → IsMade st m → accepted_in event o ≡ Some m → R (record { index = index; serial = m.serial; arrived = false })) → AllAre R (changed e st event o).body.awaited
 records_kept pool R f e st (Events.Call actor end call) o fits h new =
@@ -370,7 +372,7 @@ pub record AreUnder (past : List Entry) (st : State) : Type 0 where
   pub closed : st.head.closed ≡ true → AllAre (λ a. ⊥) st.body.awaited
 
 under_later : (past : List Entry) (x : Entry) (own : Tag) (a : Awaited) → IsUnder past own a → IsUnder (past ++ x ∷ []) own a
-under_later past x own a u = record { request = u.request; accepted = gave_more accepted_of past x u.request u.accepted; serial = u.serial; reply = u.reply; some = u.some }
+under_later past x own a u = record { request = u.request; accepted = gave_more accepted_of past x u.request u.accepted; serial = u.serial; reply = u.reply; some = u.some; kind = u.kind }
 
 under_more : (layout : Layout) (past : List Entry) (x : Entry) → ((e : EndpointId) → AreUnder past (state_of layout past e)) → MayFollow layout past x → (e : EndpointId) → AreUnder (past ++ x ∷ []) (state_of layout (past ++ x ∷ []) e)
 under_more layout past x k may e = by_test (touches e x) refl
@@ -382,7 +384,7 @@ under_more layout past x k may e = by_test (touches e x) refl
     later = all_map (IsUnder past (state_of layout past e).body.tag) (IsUnder (past ++ x ∷ []) (state_of layout past e).body.tag) (state_of layout past e).body.awaited (under_later past x (state_of layout past e).body.tag) (k e).under
 
     again : (t : Serial) (a : Awaited) → IsUnder (past ++ x ∷ []) (state_of layout past e).body.tag a → IsUnder (past ++ x ∷ []) (state_of layout past e).body.tag (arrived t a)
-    again t a u = record { request = u.request; accepted = u.accepted; serial = u.serial; reply = u.reply; some = u.some }
+    again t a u = record { request = u.request; accepted = u.accepted; serial = u.serial; reply = u.reply; some = u.some; kind = u.kind }
 
     new : touches e x ≡ true → AreUnder (past ++ x ∷ []) (changed e (state_of layout past e) x.event x.outcome)
     new at =
@@ -391,7 +393,7 @@ under_more layout past x k may e = by_test (touches e x) refl
         record {
           under = subst (λ (own : Tag). AllAre (IsUnder (past ++ x ∷ []) own) (changed e (state_of layout past e) x.event x.outcome).body.awaited) (sym s.0)
               (records_kept layout.pool (IsUnder (past ++ x ∷ []) (state_of layout past e).body.tag) again e (state_of layout past e) x.event x.outcome (fits_call layout past e x may at) later
-              (λ index m is acc. record { request = m; accepted = gave_now accepted_of past x m acc; serial = refl; reply = is.reply; some = is.some }));
+              (λ index m is acc. record { request = m; accepted = gave_now accepted_of past x m acc; serial = refl; reply = is.reply; some = is.some; kind = is.kind }));
           closed = λ c. records_kept layout.pool (λ a. ⊥) (λ t a n. n) e (state_of layout past e) x.event x.outcome (fits_call layout past e x may at) ((k e).closed (sym s.1 ∙ c)) (λ index m is acc. true≢false (sym (sym s.1 ∙ c) ∙ is.opened));
         })
         (λ (none : (changed e (state_of layout past e) x.event x.outcome).body.awaited ≡ []).
