@@ -2,7 +2,7 @@
 #![tactic(auto)]
 
 ghost use Rattle.am_laws_cluster.specs.Truth.{AnswersSayTrue};
-ghost use Rattle.am_model.specs.Cluster.{ArrivedMatchesReceived, EndedSequencePutNothing, MarkIsOfParcel, ParcelsFitSender, ReceivedTagMatches};
+ghost use Rattle.am_model.specs.Cluster.{ArrivedMatchesReceived, EndedSequencePutNothing, MarkIsOfParcel, ParcelsFitSender, ReceivedTagMatches, WaitingIsOpen};
 ghost use Rattle.am_model.specs.History.{IsHistory};
 ghost use Rattle.am_model.specs.Layout.{IsLawful, Layout};
 ghost use Rattle.am_office.specs.declared.Entry.{Entry};
@@ -41,4 +41,11 @@ pub fn arrived_matches_received()
 /// In each history every received message's tag matches the own tag.
 pub fn received_tag_matches()
     ensures { (layout : Layout) (past : List Entry) → IsHistory layout past → ReceivedTagMatches layout past }
+{}
+
+/// In each history the request of a waiting record was accepted and isn't returned or unknown, its
+/// reply isn't put, its endpoint is open, and the own tag is the one that the request carries as
+/// reply tag and isn't `none`.
+pub fn waiting_is_open()
+    ensures { (layout : Layout) (past : List Entry) → IsHistory layout past → WaitingIsOpen layout past }
 {}
