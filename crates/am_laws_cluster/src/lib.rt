@@ -2,7 +2,7 @@
 #![tactic(auto)]
 
 ghost use Rattle.am_laws_cluster.specs.Truth.{AnswersSayTrue};
-ghost use Rattle.am_model.specs.Cluster.{ArrivedMatchesReceived, EndedSequencePutNothing, MarkIsOfParcel, ParcelsFitSender, ReceivedTagMatches, WaitingIsOpen};
+ghost use Rattle.am_model.specs.Cluster.{ArrivedMatchesReceived, EndedSequencePutNothing, MarkIsOfParcel, OneLiveSequence, ParcelsFitSender, ReceivedTagMatches, WaitingIsOpen};
 ghost use Rattle.am_model.specs.History.{IsHistory};
 ghost use Rattle.am_model.specs.Layout.{IsLawful, Layout};
 ghost use Rattle.am_office.specs.declared.Entry.{Entry};
@@ -48,4 +48,11 @@ pub fn received_tag_matches()
 /// reply tag and isn't `none`.
 pub fn waiting_is_open()
     ensures { (layout : Layout) (past : List Entry) → IsHistory layout past → WaitingIsOpen layout past }
+{}
+
+/// In each history a message has at most one sequence that did not end in a requeue. One that was
+/// put is received or has run. One that was neither put nor returned nor unknown is in one queue or
+/// in flight.
+pub fn one_live_sequence()
+    ensures { (layout : Layout) (past : List Entry) → IsHistory layout past → OneLiveSequence layout past }
 {}
