@@ -2,7 +2,7 @@
 #![tactic(auto)]
 
 ghost use Rattle.am_laws_cluster.specs.Truth.{AnswersSayTrue};
-ghost use Rattle.am_model.specs.Cluster.{ArrivedMatchesReceived, EndedSequencePutNothing, MarkIsOfParcel, OneLiveSequence, ParcelsFitSender, ReceivedTagMatches, WaitingIsOpen};
+ghost use Rattle.am_model.specs.Cluster.{ArrivedMatchesReceived, BouncesAreRequeues, EndedSequencePutNothing, MarkIsOfParcel, OneLiveSequence, ParcelsFitSender, ReceivedTagMatches, WaitingIsOpen};
 ghost use Rattle.am_model.specs.History.{IsHistory};
 ghost use Rattle.am_model.specs.Layout.{IsLawful, Layout};
 ghost use Rattle.am_office.specs.declared.Entry.{Entry};
@@ -55,4 +55,10 @@ pub fn waiting_is_open()
 /// in flight.
 pub fn one_live_sequence()
     ensures { (layout : Layout) (past : List Entry) → IsHistory layout past → OneLiveSequence layout past }
+{}
+
+/// In each history the bounces of a message, wherever it lies at its source, are the number of its
+/// requeues, and at most the limit.
+pub fn bounces_are_requeues()
+    ensures { (layout : Layout) (past : List Entry) → IsHistory layout past → BouncesAreRequeues layout past }
 {}
