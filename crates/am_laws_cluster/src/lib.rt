@@ -2,7 +2,7 @@
 #![tactic(auto)]
 
 ghost use Rattle.am_laws_cluster.specs.Truth.{AnswersSayTrue};
-ghost use Rattle.am_model.specs.Cluster.{ArrivedMatchesReceived, BouncesAreRequeues, EndedSequencePutNothing, MarkIsOfParcel, OneLiveSequence, ParcelsFitSender, ReceivedTagMatches, WaitingIsOpen};
+ghost use Rattle.am_model.specs.Cluster.{ArrivedMatchesReceived, BouncesAreRequeues, EndedSequencePutNothing, MarkIsOfParcel, OneLiveSequence, ParcelsFitSender, PoolsAreBounded, ReceivedTagMatches, WaitingIsOpen};
 ghost use Rattle.am_model.specs.History.{IsHistory};
 ghost use Rattle.am_model.specs.Layout.{IsLawful, Layout};
 ghost use Rattle.am_office.specs.declared.Entry.{Entry};
@@ -61,4 +61,10 @@ pub fn one_live_sequence()
 /// requeues, and at most the limit.
 pub fn bounces_are_requeues()
     ensures { (layout : Layout) (past : List Entry) → IsHistory layout past → BouncesAreRequeues layout past }
+{}
+
+/// In each history an endpoint holds at most 16 request slots and 16 reply slots, has at most 16
+/// requests received and 32 records, and no more replies received than arrived records.
+pub fn pools_are_bounded()
+    ensures { (layout : Layout) (past : List Entry) → IsHistory layout past → PoolsAreBounded layout past }
 {}
