@@ -82,13 +82,13 @@ use Rattle.am_laws_credits.proofs.Shares.{TableHolds, table_holds}
 use Rattle.am_laws_cluster.proofs.Arrived.{put_waits}
 
 -- the messages that pass, of all that an endpoint is to send, has in flight or has back
-abbrev passing : (Message → Bool) → Weight
+abbrev pub passing : (Message → Bool) → Weight
 passing p m bounces = bit (p m)
 
-abbrev back_of : (Message → Bool) → List Notice → ℕ
+abbrev pub back_of : (Message → Bool) → List Notice → ℕ
 back_of p notices = count_by (λ (n : Notice). p n.message) notices
 
-abbrev all_of : (Message → Bool) → Body → ℕ
+abbrev pub all_of : (Message → Bool) → Body → ℕ
 all_of p b = aloft (passing p) b + back_of p b.notices
 
 -- the queues have messages of their kinds
@@ -286,7 +286,7 @@ entry_room p e s (Events.Load node end frame) o fits h = omega arith
 entry_room p e s (Events.PageOut node end) o fits h = omega (arith, out_room p s o)
 entry_room p e s (Events.PageIn node end) o fits h = omega (arith, in_room p s o)
 
-no_more : (p : Message → Bool) (e : EndpointId) (s : State) (event : Event) (o : Outcome) → FitsSend e s event o → is_call event ≡ false → all_of p (changed e s event o).body ≤ all_of p s.body
+pub no_more : (p : Message → Bool) (e : EndpointId) (s : State) (event : Event) (o : Outcome) → FitsSend e s event o → is_call event ≡ false → all_of p (changed e s event o).body ≤ all_of p s.body
 no_more p e s event o fits h =
     let m = entry_moves e s event o fits in
     omega (arith, m.leaves (passing p), m.comes (passing p), entry_room p e s event o fits h)
