@@ -360,7 +360,7 @@ bound_place s (Out.Sent m peer channel seq attempt number) = refl
 bound_place s o = refl
 
 -- what a list of conditions says where none of them holds
-third_none : (a b c : Bool) (u v w : Condition) (rest : Option Condition) → cond a (Some u) (cond b (Some v) (cond c (Some w) rest)) ≡ None → (b ≡ false) × (c ≡ false) × (rest ≡ None)
+pub third_none : (a b c : Bool) (u v w : Condition) (rest : Option Condition) → cond a (Some u) (cond b (Some v) (cond c (Some w) rest)) ≡ None → (b ≡ false) × (c ≡ false) × (rest ≡ None)
 third_none true b c u v w rest h = absurd (cc)
 third_none false true c u v w rest h = absurd (cc)
 third_none false false true u v w rest h = absurd (cc)
@@ -371,7 +371,7 @@ second_none true b u v h = absurd (cc)
 second_none false true u v h = absurd (cc)
 second_none false false u v h = refl
 
-not_false : (b : Bool) → not b ≡ false → b ≡ true
+pub not_false : (b : Bool) → not b ≡ false → b ≡ true
 not_false true h = refl
 not_false false h = absurd (true≢false h)
 

@@ -2,7 +2,7 @@
 #![tactic(auto)]
 
 ghost use Rattle.am_laws_cluster.specs.Truth.{AnswersSayTrue};
-ghost use Rattle.am_model.specs.Cluster.{ArrivedMatchesReceived, BouncesAreRequeues, EndedSequencePutNothing, MarkIsOfParcel, OneLiveSequence, ParcelsFitSender, PoolsAreBounded, ReceivedTagMatches, WaitingIsOpen};
+ghost use Rattle.am_model.specs.Cluster.{ArrivedMatchesReceived, BouncesAreRequeues, EndedSequencePutNothing, InFlightIsBound, MarkIsOfParcel, OneLiveSequence, ParcelsFitSender, PoolsAreBounded, ReceivedTagMatches, WaitingIsOpen};
 ghost use Rattle.am_model.specs.History.{IsHistory};
 ghost use Rattle.am_model.specs.Layout.{IsLawful, Layout};
 ghost use Rattle.am_office.specs.declared.Entry.{Entry};
@@ -67,4 +67,11 @@ pub fn bounces_are_requeues()
 /// requests received and 32 records, and no more replies received than arrived records.
 pub fn pools_are_bounded()
     ensures { (layout : Layout) (past : List Entry) → IsHistory layout past → PoolsAreBounded layout past }
+{}
+
+/// In each history of a lawful layout a message in flight is held by exactly one bound channel of
+/// its node, and a bound message is in flight once, at an endpoint of the node that is in a frame
+/// and open.
+pub fn in_flight_is_bound()
+    ensures { (layout : Layout) (past : List Entry) → IsLawful layout → IsHistory layout past → InFlightIsBound layout past }
 {}
