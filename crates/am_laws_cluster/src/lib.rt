@@ -1,7 +1,7 @@
 //! The invariant of the cluster over every history, part by part and as a whole.
 #![tactic(auto)]
 
-ghost use Rattle.am_laws_cluster.specs.Truth.{AnswersSayTrue};
+ghost use Rattle.am_laws_cluster.specs.Truth.{AnswersSayTrue, ClusterHolds};
 ghost use Rattle.am_model.specs.Cluster.{ArrivedMatchesReceived, BouncesAreRequeues, EndedSequencePutNothing, InFlightIsBound, MarkIsOfParcel, OneLiveSequence, ParcelsFitSender, PoolsAreBounded, ReceivedTagMatches, WaitingIsOpen};
 ghost use Rattle.am_model.specs.History.{IsHistory};
 ghost use Rattle.am_model.specs.Layout.{IsLawful, Layout};
@@ -74,4 +74,9 @@ pub fn pools_are_bounded()
 /// and open.
 pub fn in_flight_is_bound()
     ensures { (layout : Layout) (past : List Entry) → IsLawful layout → IsHistory layout past → InFlightIsBound layout past }
+{}
+
+/// In each history of a lawful layout, on either network, all eleven parts hold together.
+pub fn cluster_holds()
+    ensures { (layout : Layout) (past : List Entry) → IsLawful layout → IsHistory layout past → ClusterHolds layout past }
 {}
