@@ -135,7 +135,7 @@ front_weighs v [] [] q e = absurd (cc)
 front_leaves : (v : Weight) (s : State) (q : Queued) → front s ≡ Some q → aloft v (without_front s.body) + v q.message q.bounces ≡ aloft v s.body
 front_leaves v s q e = omega (arith, front_weighs v s.body.replies s.body.requests q e)
 
-front_bounces : (replies requests : List Queued) (q : Queued) → front_of replies requests ≡ Some q → bounces_of replies requests ≡ q.bounces
+pub front_bounces : (replies requests : List Queued) (q : Queued) → front_of replies requests ≡ Some q → bounces_of replies requests ≡ q.bounces
 front_bounces (r ∷ replies) requests q e = let same : r ≡ q = cc in ap (λ (w : Queued). w.bounces) same
 front_bounces [] (r ∷ requests) q e = let same : r ≡ q = cc in ap (λ (w : Queued). w.bounces) same
 front_bounces [] [] q e = absurd (cc)

@@ -44,7 +44,7 @@ never : (b : Bool) (n : ℕ) → bit b ≡ 0 → cond b n 0 ≡ 0
 never true n h = absurd (omega (arith, h))
 never false n h = refl
 
-queue_never : (s : Serial) (queue : List Queued) → queue_weight (one s) queue ≡ 0 → queue_weight (often s) queue ≡ 0
+pub queue_never : (s : Serial) (queue : List Queued) → queue_weight (one s) queue ≡ 0 → queue_weight (often s) queue ≡ 0
 queue_never s [] h = refl
 queue_never s (q ∷ queue) h =
     let c : queue_weight (one s) (q ∷ queue) ≡ bit (has_serial s q.message) + queue_weight (one s) queue = sum_by-cons (λ (y : Queued). one s y.message y.bounces) q queue in
@@ -52,7 +52,7 @@ queue_never s (q ∷ queue) h =
     let e : cond (has_serial s q.message) q.bounces 0 ≡ 0 = never (has_serial s q.message) q.bounces (omega (arith, h, c)) in
     omega (arith, d, e, queue_never s queue (omega (arith, h, c)))
 
-flights_never : (s : Serial) (flying : List Flying) → flight_weight (one s) flying ≡ 0 → flight_weight (often s) flying ≡ 0
+pub flights_never : (s : Serial) (flying : List Flying) → flight_weight (one s) flying ≡ 0 → flight_weight (often s) flying ≡ 0
 flights_never s [] h = refl
 flights_never s (f ∷ flying) h =
     let c : flight_weight (one s) (f ∷ flying) ≡ bit (has_serial s f.message) + flight_weight (one s) flying = sum_by-cons (λ (y : Flying). one s y.message y.bounces) f flying in
@@ -60,14 +60,14 @@ flights_never s (f ∷ flying) h =
     let e : cond (has_serial s f.message) f.bounces 0 ≡ 0 = never (has_serial s f.message) f.bounces (omega (arith, h, c)) in
     omega (arith, d, e, flights_never s flying (omega (arith, h, c)))
 
-never_aloft : (s : Serial) (b : Body) → aloft (one s) b ≡ 0 → aloft (often s) b ≡ 0
+pub never_aloft : (s : Serial) (b : Body) → aloft (one s) b ≡ 0 → aloft (often s) b ≡ 0
 never_aloft s b h = omega (arith, queue_never s b.requests (omega (arith, h)), queue_never s b.replies (omega (arith, h)), flights_never s b.in_flight (omega (arith, h)))
 
-never_gone : (s : Serial) (g : Option Queued) → one_weight (one s) g ≡ 0 → one_weight (often s) g ≡ 0
+pub never_gone : (s : Serial) (g : Option Queued) → one_weight (one s) g ≡ 0 → one_weight (often s) g ≡ 0
 never_gone s None h = refl
 never_gone s (Some q) h = never (has_serial s q.message) q.bounces h
 
-weight_one : (s : Serial) (t : Option Serial) → weight_serial s t ≤ 1
+pub weight_one : (s : Serial) (t : Option Serial) → weight_serial s t ≤ 1
 weight_one s None = omega arith
 weight_one s (Some t) = by_test (same_serial s t)
   where
@@ -84,7 +84,7 @@ bounces_there layout past s = aloft (often s) (state_of layout past s.source).bo
 
 pub record Balanced (layout : Layout) (past : List Entry) : Type 0 where
   pub serials : SerialsOnce layout past
-  pub balance : (s : Serial) → there layout past s + times_serial end_of_entry s past ≤ times accepted_of (has_serial s) past
+  pub balance : (s : Serial) → there layout past s + times_serial end_of_entry s past ≡ times accepted_of (has_serial s) past
   pub bounces : (s : Serial) → 1 ≤ there layout past s → bounces_there layout past s ≡ times_serial requeue_of s past
   pub most : (s : Serial) → times_serial requeue_of s past ≤ layout.bounces
   pub none : (s : Serial) → times accepted_of (has_serial s) past ≡ 0 → times_serial requeue_of s past ≡ 0

@@ -56,7 +56,7 @@ found_le s t flying = by_flight (flying_of t flying) refl
 landing : (s t : Serial) (b : Body) → flight_weight (one s) b.in_flight ≤ flight_weight (one s) (landed t b).in_flight + bit (same_serial s t)
 landing s t b = omega (arith, landed_weighs (one s) t b.in_flight, found_le s t b.in_flight)
 
-called_flown : (v : Weight) (s : State) (c : Call) (o : Outcome) → flight_weight v (called s c o).body.in_flight ≡ flight_weight v s.body.in_flight
+pub called_flown : (v : Weight) (s : State) (c : Call) (o : Outcome) → flight_weight v (called s c o).body.in_flight ≡ flight_weight v s.body.in_flight
 called_flown v s (Calls.Request index handler words) (Out.Requested m) = refl
 called_flown v s Calls.Poll (Out.Zero serial why) = refl
 called_flown v s Calls.Poll (Out.Ran m handler None) = refl
@@ -69,14 +69,14 @@ called_flown v s (Calls.GiveUp serial) Out.Done = refl
 called_flown v s Calls.Close Out.Done = refl
 called_flown v s c o = refl
 
-left_flown : (v : Weight) (s : State) (o : Outcome) (at : Bool) → flight_weight v (if at then left s o else s).body.in_flight ≡ flight_weight v s.body.in_flight
+pub left_flown : (v : Weight) (s : State) (o : Outcome) (at : Bool) → flight_weight v (if at then left s o else s).body.in_flight ≡ flight_weight v s.body.in_flight
 left_flown v s (Out.Accepted m) true = refl
 left_flown v s (Out.Requeued m cause bounces) true = refl
 left_flown v s (Out.Returned m cause) true = refl
 left_flown v s o true = refl
 left_flown v s o false = refl
 
-reached_flown : (v : Weight) (e : EndpointId) (s : State) (o : Outcome) → flight_weight v (reached e s o).body.in_flight ≡ flight_weight v s.body.in_flight
+pub reached_flown : (v : Weight) (e : EndpointId) (s : State) (o : Outcome) → flight_weight v (reached e s o).body.in_flight ≡ flight_weight v s.body.in_flight
 reached_flown v e s (Out.Accepted m) = by_test (same_end e m.dest)
   where
     by_test : (b : Bool) → flight_weight v (if b then put m s else s).body.in_flight ≡ flight_weight v s.body.in_flight
@@ -101,11 +101,11 @@ bound_flown : (s : Serial) (st : State) (o : Outcome) → flight_weight (one s) 
 bound_flown s st (Out.Sent m peer channel seq attempt number) = omega (arith, sum_by_push (λ (g : Flying). one s g.message g.bounces) st.body.in_flight (record { message = m; bounces = bounces_of st.body.replies st.body.requests; answered = false }))
 bound_flown s st o = omega arith
 
-out_flown : (v : Weight) (s : State) (o : Outcome) → flight_weight v (paged_out s o).body.in_flight ≡ flight_weight v s.body.in_flight
+pub out_flown : (v : Weight) (s : State) (o : Outcome) → flight_weight v (paged_out s o).body.in_flight ≡ flight_weight v s.body.in_flight
 out_flown v s Out.Done = refl
 out_flown v s o = refl
 
-in_flown : (v : Weight) (s : State) (o : Outcome) → flight_weight v (paged_in s o).body.in_flight ≡ flight_weight v s.body.in_flight
+pub in_flown : (v : Weight) (s : State) (o : Outcome) → flight_weight v (paged_in s o).body.in_flight ≡ flight_weight v s.body.in_flight
 in_flown v s Out.Done = refl
 in_flown v s o = refl
 
@@ -135,7 +135,7 @@ abbrev pub IsFlown : Layout → List Entry → Type 0
 IsFlown layout past = (c : Channel) (m : Message) → bound_message c past ≡ Some m → 1 ≤ flown layout past m.serial
 
 -- no two channels have messages of one serial
-one_channel : (s : Serial) (past : List Entry) (w n : ℕ) (c d : Channel) (m l : Message) → Situation s past w n → bound_message c past ≡ Some m → m.serial ≡ s → bound_message d past ≡ Some l → l.serial ≡ s → c ≡ d
+pub one_channel : (s : Serial) (past : List Entry) (w n : ℕ) (c d : Channel) (m l : Message) → Situation s past w n → bound_message c past ≡ Some m → m.serial ≡ s → bound_message d past ≡ Some l → l.serial ≡ s → c ≡ d
 one_channel s past w n c d m l (Waits none fresh unbound h) at is there also = absurd (unbound c m at is)
 one_channel s past w n c d m l (Flies k f held of only on put w' n') at is there also = only c m at is ∙ sym (only d l there also)
 one_channel s past w n c d m l (Ended k j unbound on put w' n') at is there also = absurd (unbound c m at is)

@@ -138,7 +138,7 @@ in_notices_kept : (P : Notice → Type 0) (st : State) (o : Outcome) → AllAre 
 in_notices_kept P st Out.Done h = h
 in_notices_kept P st o h = h
 
-notices_kept : (P : Notice → Type 0) (e : EndpointId) (st : State) (event : Event) (o : Outcome) → AllAre P st.body.notices → NewAre P e st event o → AllAre P (changed e st event o).body.notices
+pub notices_kept : (P : Notice → Type 0) (e : EndpointId) (st : State) (event : Event) (o : Outcome) → AllAre P st.body.notices → NewAre P e st event o → AllAre P (changed e st event o).body.notices
 notices_kept P e st (Events.Call actor end call) o h new = called_notices P st call o h
 notices_kept P e st (Events.Want actor end) o h new = h
 notices_kept P e st (Events.Carry end) o h new = reached_notices P e (if same_end e end then left st o else st) o (left_notices P e end st o (same_end e end) refl h new)
@@ -304,7 +304,7 @@ notice_own past e st s why all t =
     let first = subst (AllAre (IsNoticed past e)) t.at all in
     (ap (λ (w : Serial). w.source) (sym t.serial') ∙ first.0.own, subst (λ (w : Why). CameBack past s w) t.why' (subst (λ (w : Serial). CameBack past w t.notice.why) t.serial' first.0.back))
 
-record Zeroed (layout : Layout) (past : List Entry) : Type 0 where
+pub record Zeroed (layout : Layout) (past : List Entry) : Type 0 where
   pub history : IsHistory layout past
   pub noticed : AreNoticed layout past
   pub count : (s : Serial) → in_notices s (state_of layout past s.source).body.notices + times_serial zero_of s past ≤ times_serial returned_of s past + times_serial unknown_of s past
@@ -342,7 +342,7 @@ zeroed_more layout past x z may =
         rw (state_of_push layout past x s.source false at)
         (omega (arith, z.count s, none_away s at, serial_push zero_of s past x, serial_push returned_of s past x, serial_push unknown_of s past x))
 
-zeroed : (layout : Layout) (past : List Entry) → IsHistory layout past → Zeroed layout past
+pub zeroed : (layout : Layout) (past : List Entry) → IsHistory layout past → Zeroed layout past
 zeroed layout past h =
     over_each (MayFollow layout) (λ xs. Zeroed layout xs) (λ xs x k may. zeroed_more layout xs x k may) []
     past (record { history = tt; noticed = λ e. none e (find (has_id e) layout.ends); count = λ s. nothing s (find (has_id s.source) layout.ends) }) h

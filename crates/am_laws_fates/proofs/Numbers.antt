@@ -67,7 +67,7 @@ some_pair s t cause other h =
 
 pub record Numbers (limit : ℕ) (s : Serial) (a n r : ℕ) (back : Option (Serial × Cause)) (gone come : Option Queued) : Type 0 where
   pub arrives : one_weight (one s) come ≡ a + r
-  pub departs : n + r ≤ one_weight (one s) gone
+  pub departs : one_weight (one s) gone ≡ n + r
   pub fresh : r ≡ 0 → one_weight (often s) come ≡ 0
   pub again : 1 ≤ r → (one_weight (often s) come ≡ one_weight (often s) gone + 1) × (one_weight (often s) come ≤ limit)
   pub last : (cause : Cause) → back ≡ Some (s, cause) → is_transient cause ≡ true → limit ≤ one_weight (often s) gone
@@ -128,7 +128,7 @@ go_back limit s t q bounces is more low = by_test (same_serial s t) refl (ap (sa
         rw h
         (record {
           arrives = omega (arith, ap bit other);
-          departs = omega arith;
+          departs = omega (arith, ap bit other);
           fresh = λ z. rw other refl;
           again = λ z. absurd (omega (arith, z));
           last = λ cause z. absurd (cc);

@@ -125,7 +125,7 @@ expire_effect layout past node peer channel (Some m) is = by_tries (nat_lt (atte
     by_tries false = given_up (is_answered (flying_of m.serial (state_of layout past m.serial.source).body.in_flight))
 
 -- an answer whose packet is on this link comes to the end that it is for
-link_of_answer : (peer node : NodeId) (a : AnswerPacket) → is_on_link peer node (Packets.Answer a) ≡ true → back (end_of a) ≡ channel_to node peer a.channel
+pub link_of_answer : (peer node : NodeId) (a : AnswerPacket) → is_on_link peer node (Packets.Answer a) ≡ true → back (end_of a) ≡ channel_to node peer a.channel
 link_of_answer peer node a h =
     let parts = and_parts (same_node peer a.from) (same_node node a.to) h in
     let from : a.from ≡ peer = sym (same_node-is peer a.from parts.0) in

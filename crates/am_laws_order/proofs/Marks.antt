@@ -199,7 +199,7 @@ answer_lasts past d old new a moves is =
 abbrev pub end_of : AnswerPacket → Channel
 end_of a = channel_to a.from a.to a.channel
 
-again_at : (m : Mark) (seq attempt : ℕ) (v w : Verdict) → m.verdict ≡ v → arrival_at m v seq attempt ≡ Again w → (seq ≡ m.seq) × Agrees w attempt m
+pub again_at : (m : Mark) (seq attempt : ℕ) (v w : Verdict) → m.verdict ≡ v → arrival_at m v seq attempt ≡ Again w → (seq ≡ m.seq) × Agrees w attempt m
 again_at m seq attempt Verdicts.Accepted w is e = by_tests (nat_lt seq m.seq) (seq == m.seq) refl e
   where
     by_tests : (a b : Bool) → (seq == m.seq) ≡ b → (if a then Stale else (if b then Again Verdicts.Accepted else Fresh)) ≡ Again w → (seq ≡ m.seq) × Agrees w attempt m
@@ -242,7 +242,7 @@ arrive_answers layout past stamp node peer number p reply Fresh is q e = by_verd
         subst (λ (u : AnswerPacket). IsAnswered (mark_after (end_of u) (mark (end_of u) past) (Events.Receive node peer number) (Out.Received p.channel p.seq p.attempt (Got.Refused p.message cause reply))) u) same
         (at (Verdicts.Refused cause) _ refl (same_channel (channel_to node peer p.channel) node peer p.channel) (same_channel-refl (channel_to node peer p.channel)))
 
-settle_answers : (layout : Layout) (c : Channel) (past : List Entry) (a : AnswerPacket) (m : Option Message) → answer_by (settle layout c past a m) ≡ None
+pub settle_answers : (layout : Layout) (c : Channel) (past : List Entry) (a : AnswerPacket) (m : Option Message) → answer_by (settle layout c past a m) ≡ None
 settle_answers layout c past a None = refl
 settle_answers layout c past a (Some m) = by_test ((a.seq == sequence c past) && counts a.verdict (a.attempt == attempt c past))
   where
@@ -258,7 +258,7 @@ settle_answers layout c past a (Some m) = by_test ((a.seq == sequence c past) &&
     by_test true = by_verdict a.verdict (bounced (flying_of m.serial (state_of layout past m.serial.source).body.in_flight))
     by_test false = refl
 
-no_answer : (node peer : NodeId) (channel seq attempt stamp : ℕ) (a : Option (ℕ × Verdict)) → a ≡ None → (q : AnswerPacket) → answer_packet node peer channel seq attempt stamp a ≡ Some (Packets.Answer q) → ⊥
+pub no_answer : (node peer : NodeId) (channel seq attempt stamp : ℕ) (a : Option (ℕ × Verdict)) → a ≡ None → (q : AnswerPacket) → answer_packet node peer channel seq attempt stamp a ≡ Some (Packets.Answer q) → ⊥
 no_answer node peer channel seq attempt stamp None is q e = cc
 no_answer node peer channel seq attempt stamp (Some a) is q e = cc
 
@@ -269,7 +269,7 @@ receive_answers layout past stamp node peer number (Some (Packets.Parcel p)) q e
 receive_answers layout past stamp node peer number (Some (Packets.Answer p)) q e =
     absurd (no_answer node peer p.channel p.seq p.attempt stamp _ (settle_answers layout (channel_to node peer p.channel) past p (bound_message (channel_to node peer p.channel) past)) q e)
 
-parcel_no_answer : (node : NodeId) (stamp : ℕ) (o : Outcome) (q : AnswerPacket) → parcel node stamp o ≡ Some (Packets.Answer q) → ⊥
+pub parcel_no_answer : (node : NodeId) (stamp : ℕ) (o : Outcome) (q : AnswerPacket) → parcel node stamp o ≡ Some (Packets.Answer q) → ⊥
 parcel_no_answer node stamp (Out.Sent m peer channel seq attempt number) q e = cc
 parcel_no_answer node stamp o q e = cc
 

@@ -43,7 +43,7 @@ same_serial-is s t h =
 pub role_le : (r q : Event → Outcome → Option Message) (p : Message → Bool) (xs : List Entry) → ((event : Event) (o : Outcome) → weight p (r event o) ≤ weight p (q event o)) → count_role r p xs ≤ count_role q p xs
 role_le r q p xs h = sum_by-le-sum_by (λ (x : Entry). cond (passes p (r x.event x.outcome)) 1 0) (λ (x : Entry). cond (passes p (q x.event x.outcome)) 1 0) xs (λ x. h x.event x.outcome)
 
-only_le : (p test : Message → Bool) (m : Option Message) → weight p (only_if test m) ≤ weight p m
+pub only_le : (p test : Message → Bool) (m : Option Message) → weight p (only_if test m) ≤ weight p m
 only_le p test None = omega arith
 only_le p test (Some m) = by_test (test m)
   where
@@ -51,7 +51,7 @@ only_le p test (Some m) = by_test (test m)
     by_test true = omega arith
     by_test false = omega arith
 
-if_le : (p : Message → Bool) (b : Bool) (m : Option Message) → weight p (if b then m else None) ≤ weight p m
+pub if_le : (p : Message → Bool) (b : Bool) (m : Option Message) → weight p (if b then m else None) ≤ weight p m
 if_le p true m = omega arith
 if_le p false m = omega arith
 
@@ -182,7 +182,7 @@ put_event layout past (Events.Receive node peer number) o s k fits = absurd (fit
 put_event layout past event o s k fits = omega arith
 
 -- where no endpoint ran it, it did not run
-runs_somewhere : (p : Message → Bool) (xs : List Entry) → ((e : EndpointId) → count_role (run_at e) p xs ≡ 0) → count_role run_in p xs ≡ 0
+pub runs_somewhere : (p : Message → Bool) (xs : List Entry) → ((e : EndpointId) → count_role (run_at e) p xs ≡ 0) → count_role run_in p xs ≡ 0
 runs_somewhere p [] h = refl
 runs_somewhere p (x ∷ xs) h =
     omega (arith, here x.event x.outcome (λ e. omega (arith, h e, cons (run_at e))), runs_somewhere p xs (λ e. omega (arith, h e, cons (run_at e))), cons run_in)
@@ -210,14 +210,14 @@ put_apart p d e apart event o = by_message (put_in event o)
     by_message None = omega arith
     by_message (Some m) = by_tests m (same_end d m.dest) (same_end e m.dest) refl refl
 
-put_apart_all : (p : Message → Bool) (d e : EndpointId) → same_end d e ≡ false → (xs : List Entry) → count_role (put_at d) p xs + count_role (put_at e) p xs ≤ count_role put_in p xs
+pub put_apart_all : (p : Message → Bool) (d e : EndpointId) → same_end d e ≡ false → (xs : List Entry) → count_role (put_at d) p xs + count_role (put_at e) p xs ≤ count_role put_in p xs
 put_apart_all p d e apart [] = omega arith
 put_apart_all p d e apart (x ∷ xs) = omega (arith, put_apart_all p d e apart xs, put_apart p d e apart x.event x.outcome, cons (put_at d), cons (put_at e), cons put_in)
   where
     cons : (role : Event → Outcome → Option Message) → count_role role p (x ∷ xs) ≡ weight p (role x.event x.outcome) + count_role role p xs
     cons role = sum_by-cons (λ (y : Entry). bit (passes p (role y.event y.outcome))) x xs
 
-put_at_le : (p : Message → Bool) (e : EndpointId) (xs : List Entry) → count_role (put_at e) p xs ≤ count_role put_in p xs
+pub put_at_le : (p : Message → Bool) (e : EndpointId) (xs : List Entry) → count_role (put_at e) p xs ≤ count_role put_in p xs
 put_at_le p e xs = role_le (put_at e) put_in p xs (λ event o. only_le p (λ (m : Message). same_end e m.dest) (put_in event o))
 
 -- a serial is put at most once

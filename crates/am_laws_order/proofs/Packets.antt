@@ -171,7 +171,7 @@ bound_own layout packet past x none may s off = by_event x.event x.outcome off (
 abbrev pub waiting : Layout → List Entry → Serial → ℕ
 waiting layout past s = to_send (has_serial s) (state_of layout past s.source).body
 
-waiting_more : (layout : Layout) → layout.direct ≡ false → (past : List Entry) (x : Entry) → NoneForeign layout past → MayFollow layout past x → (s : Serial) → waiting layout (past ++ x ∷ []) s + bit (passes (has_serial s) (bound_at x.event x.outcome)) ≤ waiting layout past s + bit (passes (has_serial s) (accepted_of x)) + weight_serial s (requeued_in x.event x.outcome)
+pub waiting_more : (layout : Layout) → layout.direct ≡ false → (past : List Entry) (x : Entry) → NoneForeign layout past → MayFollow layout past x → (s : Serial) → waiting layout (past ++ x ∷ []) s + bit (passes (has_serial s) (bound_at x.event x.outcome)) ≤ waiting layout past s + bit (passes (has_serial s) (accepted_of x)) + weight_serial s (requeued_in x.event x.outcome)
 waiting_more layout packet past x none may s = by_test (touches s.source x) refl
   where
     by_test : (t : Bool) → touches s.source x ≡ t → waiting layout (past ++ x ∷ []) s + bit (passes (has_serial s) (bound_at x.event x.outcome)) ≤ waiting layout past s + bit (passes (has_serial s) (accepted_of x)) + weight_serial s (requeued_in x.event x.outcome)

@@ -80,11 +80,11 @@ expire_emits layout past stamp node peer channel (Some m) is q e = by_tries (nat
         (at (same_channel (channel_to node peer channel) node peer channel) (same_channel-refl (channel_to node peer channel)))
     by_tries false f = absurd (given_up (is_answered (flying_of m.serial (state_of layout past m.serial.source).body.in_flight)) f)
 
-answer_no_parcel : (node peer : NodeId) (channel seq attempt stamp : ℕ) (a : Option (ℕ × Verdict)) (q : Parcel) → answer_packet node peer channel seq attempt stamp a ≡ Some (Packets.Parcel q) → ⊥
+pub answer_no_parcel : (node peer : NodeId) (channel seq attempt stamp : ℕ) (a : Option (ℕ × Verdict)) (q : Parcel) → answer_packet node peer channel seq attempt stamp a ≡ Some (Packets.Parcel q) → ⊥
 answer_no_parcel node peer channel seq attempt stamp None q e = cc
 answer_no_parcel node peer channel seq attempt stamp (Some a) q e = cc
 
-receive_no_parcel : (layout : Layout) (past : List Entry) (stamp : ℕ) (node peer : NodeId) (number : ℕ) (p : Option Packet) (q : Parcel) → emitted_in stamp (Events.Receive node peer number) (receive layout node peer past p) ≡ Some (Packets.Parcel q) → ⊥
+pub receive_no_parcel : (layout : Layout) (past : List Entry) (stamp : ℕ) (node peer : NodeId) (number : ℕ) (p : Option Packet) (q : Parcel) → emitted_in stamp (Events.Receive node peer number) (receive layout node peer past p) ≡ Some (Packets.Parcel q) → ⊥
 receive_no_parcel layout past stamp node peer number None q e = cc
 receive_no_parcel layout past stamp node peer number (Some (Packets.Parcel p)) q e = answer_no_parcel node peer p.channel p.seq p.attempt stamp (answer_by (arrive layout past p.message (next_number node peer past) (arrival (mark (channel_to node peer p.channel) past) p.seq p.attempt))) q e
 receive_no_parcel layout past stamp node peer number (Some (Packets.Answer p)) q e = answer_no_parcel node peer p.channel p.seq p.attempt stamp (answer_by (settle layout (channel_to node peer p.channel) past p (bound_message (channel_to node peer p.channel) past))) q e

@@ -138,7 +138,7 @@ answers_no_request m h = by_test (is_request m) h
     by_test true e = absurd (true≢false (sym e))
     by_test false e = refl
 
-no_about : (layout : Layout) (past : List Entry) (e : EndpointId) (index handler : ℕ) (words : Words) (m : Message) → IsRequestOf layout past e index handler words m → m.about ≡ None
+pub no_about : (layout : Layout) (past : List Entry) (e : EndpointId) (index handler : ℕ) (words : Words) (m : Message) → IsRequestOf layout past e index handler words m → m.about ≡ None
 no_about layout past e index handler words m h = by_mapping (mapping_of past e index) h
   where
     by_mapping : (w : Option Mapping) → MatchOption w ⊥ (λ mapping. m ≡ record {
@@ -185,9 +185,10 @@ pub record IsUnder (past : List Entry) (own : Tag) (a : Awaited) : Type 0 where
   pub serial : request.serial ≡ a.serial
   pub reply : request.reply_tag ≡ own
   pub some : (own.0 == 0) ≡ false
+  pub kind : is_request request ≡ true
 
 -- no change but a request adds a record, and none changes a record's serial
-called_records : (R : Awaited → Type 0) (st : State) (c : Call) (o : Outcome) → AllAre R st.body.awaited → ((index handler : ℕ) (words : Words) (m : Message) → c ≡ Calls.Request index handler words → o ≡ Out.Requested m → R (record { index = index; serial = m.serial; arrived = false })) → AllAre R (called st c o).body.awaited
+pub called_records : (R : Awaited → Type 0) (st : State) (c : Call) (o : Outcome) → AllAre R st.body.awaited → ((index handler : ℕ) (words : Words) (m : Message) → c ≡ Calls.Request index handler words → o ≡ Out.Requested m → R (record { index = index; serial = m.serial; arrived = false })) → AllAre R (called st c o).body.awaited
 called_records R st (Calls.Request index handler words) (Out.Requested m) h new = all_push R st.body.awaited (record { index = index; serial = m.serial; arrived = false }) h (new index handler words m refl refl)
 called_records R st Calls.Poll (Out.Zero serial why) h new = h
 called_records R st Calls.Poll (Out.Ran m handler None) h new = by_about m.about
@@ -209,7 +210,7 @@ arrived_records R f None xs h = h
 arrived_records R f (Some t) [] h = h
 arrived_records R f (Some t) (a ∷ xs) h = (f t a h.0, arrived_records R f (Some t) xs h.1)
 
-left_records : (R : Awaited → Type 0) (st : State) (o : Outcome) (t : Bool) → AllAre R st.body.awaited → AllAre R (if t then left st o else st).body.awaited
+pub left_records : (R : Awaited → Type 0) (st : State) (o : Outcome) (t : Bool) → AllAre R st.body.awaited → AllAre R (if t then left st o else st).body.awaited
 left_records R st (Out.Accepted m) true h = h
 left_records R st (Out.Requeued m cause bounces) true h = h
 left_records R st (Out.Returned m cause) true h = all_without R (waits_for m.serial) st.body.awaited h
@@ -232,20 +233,20 @@ received_records R f e st (Got.Requeued t cause bounces) h = h
 received_records R f e st (Got.Returned t cause) h = all_without R (waits_for t) st.body.awaited h
 received_records R f e st r h = h
 
-expired_records : (R : Awaited → Type 0) (st : State) (o : Outcome) → AllAre R st.body.awaited → AllAre R (expired st o).body.awaited
+pub expired_records : (R : Awaited → Type 0) (st : State) (o : Outcome) → AllAre R st.body.awaited → AllAre R (expired st o).body.awaited
 expired_records R st (Out.Delivered t) h = h
 expired_records R st (Out.Unknown t) h = all_without R (waits_for t) st.body.awaited h
 expired_records R st o h = h
 
-bound_records : (R : Awaited → Type 0) (st : State) (o : Outcome) → AllAre R st.body.awaited → AllAre R (bound st o).body.awaited
+pub bound_records : (R : Awaited → Type 0) (st : State) (o : Outcome) → AllAre R st.body.awaited → AllAre R (bound st o).body.awaited
 bound_records R st (Out.Sent m peer channel seq attempt number) h = h
 bound_records R st o h = h
 
-out_records : (R : Awaited → Type 0) (st : State) (o : Outcome) → AllAre R st.body.awaited → AllAre R (paged_out st o).body.awaited
+pub out_records : (R : Awaited → Type 0) (st : State) (o : Outcome) → AllAre R st.body.awaited → AllAre R (paged_out st o).body.awaited
 out_records R st Out.Done h = h
 out_records R st o h = h
 
-in_records : (R : Awaited → Type 0) (st : State) (o : Outcome) → AllAre R st.body.awaited → AllAre R (paged_in st o).body.awaited
+pub in_records : (R : Awaited → Type 0) (st : State) (o : Outcome) → AllAre R st.body.awaited → AllAre R (paged_in st o).body.awaited
 in_records R st Out.Done h = h
 in_records R st o h = h
 
@@ -254,17 +255,18 @@ pub record IsMade (st : State) (m : Message) : Type 0 where
   pub opened : st.head.closed ≡ false
   pub some : (st.body.tag.0 == 0) ≡ false
   pub reply : m.reply_tag ≡ st.body.tag
+  pub kind : is_request m ≡ true
 
 abbrev pub NewRecords : (Awaited → Type 0) → State → Event → Outcome → Type 0
 NewRecords R st (Events.Call actor end (Calls.Request index handler words)) (Out.Requested m) = IsMade st m → R (record { index = index; serial = m.serial; arrived = false })
 NewRecords R st event o = Unit {0}
 
-two_fail : (a b : Bool) (x y : Refusal) (rest : Option Refusal) → cond a (Some x) (cond b (Some y) rest) ≡ None → (a ≡ false) × (b ≡ false)
+pub two_fail : (a b : Bool) (x y : Refusal) (rest : Option Refusal) → cond a (Some x) (cond b (Some y) rest) ≡ None → (a ≡ false) × (b ≡ false)
 two_fail true b x y rest h = absurd (cc)
 two_fail false true x y rest h = absurd (cc)
 two_fail false false x y rest h = (refl, refl)
 
-made : (pool : Option ℕ) (end : EndpointId) (st : State) (index handler : ℕ) (words : Words) (m : Message) → Out.Requested m ≡ outcome_of_call pool end st (Calls.Request index handler words) → IsMade st m
+pub made : (pool : Option ℕ) (end : EndpointId) (st : State) (index handler : ℕ) (words : Words) (m : Message) → Out.Requested m ≡ outcome_of_call pool end st (Calls.Request index handler words) → IsMade st m
 made pool end st index handler words m fits = by_parts (request_refusal pool st index) (entry_at st.body.mapped index) refl fits
   where
     by_parts : (r : Option Refusal) (mapping : Option Mapping) → request_refusal pool st index ≡ r → Out.Requested m ≡ unless r (new_request end st mapping handler words) → IsMade st m
@@ -273,9 +275,9 @@ made pool end st index handler words m fits = by_parts (request_refusal pool st 
     by_parts None (Some mapping) is e =
         let same : m ≡ request_message end st mapping handler words = cc in
         let two = two_fail st.head.closed (st.body.tag.0 == 0) No.Closed No.OwnTagNone _ is in
-        record { opened = two.0; some = two.1; reply = ap (λ (w : Message). w.reply_tag) same }
+        record { opened = two.0; some = two.1; reply = ap (λ (w : Message). w.reply_tag) same; kind = ap is_request same }
 
-records_kept : (pool : Option ℕ) (R : Awaited → Type 0) → ((t : Serial) (a : Awaited) → R a → R (arrived t a)) → (e : EndpointId) (st : State) (event : Event) (o : Outcome) → FitsCall pool st event o → AllAre R st.body.awaited → ((index : ℕ) (m : Message) → IsMade st m → accepted_in event o ≡ Some m → R (record { index = index; serial = m.serial; arrived = false })) → AllAre R (changed e st event o).body.awaited
+pub records_kept : (pool : Option ℕ) (R : Awaited → Type 0) → ((t : Serial) (a : Awaited) → R a → R (arrived t a)) → (e : EndpointId) (st : State) (event : Event) (o : Outcome) → FitsCall pool st event o → AllAre R st.body.awaited → ((index : ℕ) (m : Message) → IsMade st m → accepted_in event o ≡ Some m → R (record { index = index; serial = m.serial; arrived = false })) → AllAre R (changed e st event o).body.awaited
 records_kept pool R f e st (Events.Call actor end call) o fits h new =
     called_records R st call o h (λ index handler words m c is. new index m (made pool end st index handler words m (sym is ∙ fits ∙ ap (outcome_of_call pool end st) c)) ((λ i. accepted_in (Events.Call actor end (c i)) (is i))))
 records_kept pool R f e st (Events.Want actor end) o fits h new = h
@@ -370,7 +372,7 @@ pub record AreUnder (past : List Entry) (st : State) : Type 0 where
   pub closed : st.head.closed ≡ true → AllAre (λ a. ⊥) st.body.awaited
 
 under_later : (past : List Entry) (x : Entry) (own : Tag) (a : Awaited) → IsUnder past own a → IsUnder (past ++ x ∷ []) own a
-under_later past x own a u = record { request = u.request; accepted = gave_more accepted_of past x u.request u.accepted; serial = u.serial; reply = u.reply; some = u.some }
+under_later past x own a u = record { request = u.request; accepted = gave_more accepted_of past x u.request u.accepted; serial = u.serial; reply = u.reply; some = u.some; kind = u.kind }
 
 under_more : (layout : Layout) (past : List Entry) (x : Entry) → ((e : EndpointId) → AreUnder past (state_of layout past e)) → MayFollow layout past x → (e : EndpointId) → AreUnder (past ++ x ∷ []) (state_of layout (past ++ x ∷ []) e)
 under_more layout past x k may e = by_test (touches e x) refl
@@ -382,7 +384,7 @@ under_more layout past x k may e = by_test (touches e x) refl
     later = all_map (IsUnder past (state_of layout past e).body.tag) (IsUnder (past ++ x ∷ []) (state_of layout past e).body.tag) (state_of layout past e).body.awaited (under_later past x (state_of layout past e).body.tag) (k e).under
 
     again : (t : Serial) (a : Awaited) → IsUnder (past ++ x ∷ []) (state_of layout past e).body.tag a → IsUnder (past ++ x ∷ []) (state_of layout past e).body.tag (arrived t a)
-    again t a u = record { request = u.request; accepted = u.accepted; serial = u.serial; reply = u.reply; some = u.some }
+    again t a u = record { request = u.request; accepted = u.accepted; serial = u.serial; reply = u.reply; some = u.some; kind = u.kind }
 
     new : touches e x ≡ true → AreUnder (past ++ x ∷ []) (changed e (state_of layout past e) x.event x.outcome)
     new at =
@@ -391,7 +393,7 @@ under_more layout past x k may e = by_test (touches e x) refl
         record {
           under = subst (λ (own : Tag). AllAre (IsUnder (past ++ x ∷ []) own) (changed e (state_of layout past e) x.event x.outcome).body.awaited) (sym s.0)
               (records_kept layout.pool (IsUnder (past ++ x ∷ []) (state_of layout past e).body.tag) again e (state_of layout past e) x.event x.outcome (fits_call layout past e x may at) later
-              (λ index m is acc. record { request = m; accepted = gave_now accepted_of past x m acc; serial = refl; reply = is.reply; some = is.some }));
+              (λ index m is acc. record { request = m; accepted = gave_now accepted_of past x m acc; serial = refl; reply = is.reply; some = is.some; kind = is.kind }));
           closed = λ c. records_kept layout.pool (λ a. ⊥) (λ t a n. n) e (state_of layout past e) x.event x.outcome (fits_call layout past e x may at) ((k e).closed (sym s.1 ∙ c)) (λ index m is acc. true≢false (sym (sym s.1 ∙ c) ∙ is.opened));
         })
         (λ (none : (changed e (state_of layout past e) x.event x.outcome).body.awaited ≡ []).
@@ -405,12 +407,12 @@ under_more layout past x k may e = by_test (touches e x) refl
     by_test true at = rw (state_of_push layout past x e true at) (new at)
     by_test false at = rw (state_of_push layout past x e false at) (record { under = later; closed = (k e).closed })
 
-record Credits (layout : Layout) (past : List Entry) : Type 0 where
+pub record Credits (layout : Layout) (past : List Entry) : Type 0 where
   pub history : IsHistory layout past
   pub replies : KnowsReplies past
   pub under : (e : EndpointId) → AreUnder past (state_of layout past e)
 
-credits : (layout : Layout) (past : List Entry) → IsHistory layout past → Credits layout past
+pub credits : (layout : Layout) (past : List Entry) → IsHistory layout past → Credits layout past
 credits layout past h =
     over_each (MayFollow layout) (λ xs. Credits layout xs)
     (λ xs x k may. record { history = each_push (MayFollow layout) [] xs x k.history may; replies = replies_more layout xs x k.history k.replies may; under = under_more layout xs x k.under may })
@@ -421,7 +423,7 @@ credits layout past h =
     none (Some setting) = record { under = tt; closed = λ c. tt }
 
 -- a record that waits is there
-waiting_is : (P : Awaited → Type 0) (s : Serial) (xs : List Awaited) → waits s xs ≡ true → AllAre P xs → (a : Awaited) × (a.serial ≡ s) × P a
+pub waiting_is : (P : Awaited → Type 0) (s : Serial) (xs : List Awaited) → waits s xs ≡ true → AllAre P xs → (a : Awaited) × (a.serial ≡ s) × P a
 waiting_is P s [] h all = absurd (true≢false (sym h))
 waiting_is P s (a ∷ xs) h all = by_test (λ e. waiting_is P s xs e all.1) (waits_for s a) refl h
   where

@@ -48,7 +48,7 @@ arrived_count index None xs = refl
 arrived_count index (Some t) [] = refl
 arrived_count index (Some t) (a ∷ xs) = omega (arith, arrived_count index (Some t) xs, sum_by-cons (λ (y : Awaited). bit (is_at index y)) a xs, sum_by-cons (λ (y : Awaited). bit (is_at index y)) (arrived t a) (with_arrived (Some t) xs))
 
-settled_count : (index : ℕ) (about : Option Serial) (xs : List Awaited) → records_of index (settled about xs) ≤ records_of index xs
+pub settled_count : (index : ℕ) (about : Option Serial) (xs : List Awaited) → records_of index (settled about xs) ≤ records_of index xs
 settled_count index None xs = omega arith
 settled_count index (Some t) xs = (count_le (is_at index) (is_of t) xs).0
 
@@ -92,7 +92,7 @@ in_count : (index : ℕ) (st : State) (o : Outcome) → records_of index (paged_
 in_count index st Out.Done = refl
 in_count index st o = refl
 
-other_count : (index : ℕ) (e : EndpointId) (st : State) (event : Event) (o : Outcome) → is_call event ≡ false → records_of index (changed e st event o).body.awaited ≤ records_of index st.body.awaited
+pub other_count : (index : ℕ) (e : EndpointId) (st : State) (event : Event) (o : Outcome) → is_call event ≡ false → records_of index (changed e st event o).body.awaited ≤ records_of index st.body.awaited
 other_count index e st (Events.Call actor end call) o h = absurd (true≢false h)
 other_count index e st (Events.Want actor end) o h = omega arith
 other_count index e st (Events.Carry end) o h = omega (arith, reached_count index e (if same_end e end then left st o else st) o, left_count index st o (same_end e end))
@@ -106,7 +106,7 @@ other_count index e st (Events.Load node end frame) o h = omega arith
 other_count index e st (Events.PageOut node end) o h = omega (arith, out_count index st o)
 other_count index e st (Events.PageIn node end) o h = omega (arith, in_count index st o)
 
-five_fail : (a b c d e : Bool) (u v w x y : Refusal) (rest : Option Refusal) → cond a (Some u) (cond b (Some v) (cond c (Some w) (cond d (Some x) (cond e (Some y) rest)))) ≡ None → e ≡ false
+pub five_fail : (a b c d e : Bool) (u v w x y : Refusal) (rest : Option Refusal) → cond a (Some u) (cond b (Some v) (cond c (Some w) (cond d (Some x) (cond e (Some y) rest)))) ≡ None → e ≡ false
 five_fail true b c d e u v w x y rest h = absurd (cc)
 five_fail false true c d e u v w x y rest h = absurd (cc)
 five_fail false false true d e u v w x y rest h = absurd (cc)
@@ -114,7 +114,7 @@ five_fail false false false true e u v w x y rest h = absurd (cc)
 five_fail false false false false true u v w x y rest h = absurd (cc)
 five_fail false false false false false u v w x y rest h = refl
 
-third_fails : (a b c : Bool) (x y z : Refusal) (rest : Option Refusal) → cond a (Some x) (cond b (Some y) (cond c (Some z) rest)) ≡ None → c ≡ false
+pub third_fails : (a b c : Bool) (x y z : Refusal) (rest : Option Refusal) → cond a (Some x) (cond b (Some y) (cond c (Some z) rest)) ≡ None → c ≡ false
 third_fails true b c x y z rest h = absurd (cc)
 third_fails false true c x y z rest h = absurd (cc)
 third_fails false false true x y z rest h = absurd (cc)
@@ -162,18 +162,18 @@ mapped_anew st at index v low none h = subst (λ (w : Option Mapping). AreCredit
     by_test true e = nothing v (awaited_at st.body index) (ap (awaited_at st.body) (eqb-true index at e) ∙ none)
     by_test false e = h
 
-unless_done : (r : Option Refusal) → Out.Done ≡ unless r Out.Done → r ≡ None
+pub unless_done : (r : Option Refusal) → Out.Done ≡ unless r Out.Done → r ≡ None
 unless_done None h = refl
 unless_done (Some r) h = absurd (cc)
 
-fourth_fails : (a b c d : Bool) (x y z w : Refusal) (rest : Option Refusal) → cond a (Some x) (cond b (Some y) (cond c (Some z) (cond d (Some w) rest))) ≡ None → d ≡ false
+pub fourth_fails : (a b c d : Bool) (x y z w : Refusal) (rest : Option Refusal) → cond a (Some x) (cond b (Some y) (cond c (Some z) (cond d (Some w) rest))) ≡ None → d ≡ false
 fourth_fails true b c d x y z w rest h = absurd (cc)
 fourth_fails false true c d x y z w rest h = absurd (cc)
 fourth_fails false false true d x y z w rest h = absurd (cc)
 fourth_fails false false false true x y z w rest h = absurd (cc)
 fourth_fails false false false false x y z w rest h = refl
 
-not_zero : (n : ℕ) → not (n == 0) ≡ false → n ≡ 0
+pub not_zero : (n : ℕ) → not (n == 0) ≡ false → n ≡ 0
 not_zero n h = by_test (n == 0) refl h
   where
     by_test : (b : Bool) → (n == 0) ≡ b → not b ≡ false → n ≡ 0
