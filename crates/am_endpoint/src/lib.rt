@@ -298,3 +298,6 @@ impl Endpoint {
         self.enter(entry);
     }
 }
+
+#[cfg(test)]
+mod tests;

@@ -264,6 +264,7 @@ arrived_more r (a ∷ xs) h = by_test r a xs a.arrived (same_serial r a.serial) 
       where
         rest : (b : Bool) → ((false && not b) || list_any (waits_for r) xs) ≡ true → list_any (waits_for r) xs ≡ true
         rest b h = h
+
         one : (b c : Bool) → bit b ≤ bit (b || c)
         one true c = omega arith
         one false true = omega arith

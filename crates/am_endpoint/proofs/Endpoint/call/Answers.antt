@@ -12,7 +12,7 @@ pub enter-requires-clause-keeps : goal.enter-requires-clause-keeps
 enter-requires-clause-keeps c sound =
     let v = c.room.new.self in
     let range : are_numbers_in_range v.settings.pool c.args.call ≡ true =
-            subst (λ (set : EndSettings). are_numbers_in_range set.pool c.args.call ≡ true) (sym c.in_ok-room.ensures.settings) c.requires.numbers in
+    subst (λ (set : EndSettings). are_numbers_in_range set.pool c.args.call ≡ true) (sym c.in_ok-room.ensures.settings) c.requires.numbers in
     subst (λ (o : Outcome). IsSound v.settings.pool (called (state_after v) c.args.call o).body) (sym c.outcome.ensures)
     (sound_called v.settings.pool v.settings.id (state_after v) c.args.call range sound)
 

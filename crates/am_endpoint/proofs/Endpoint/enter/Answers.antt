@@ -16,9 +16,9 @@ invariant_of-self c =
     let items : c.push.new.self.items ≡ c.self.inside.log.items ++ c.args.entry ∷ [] = grind (arith, common_steps) in
     let room : length c.self.inside.log.items < set.log = subst (λ (v : EndpointView). length v.log < v.settings.log) (sym c.self.view_is) c.requires.room in
     let after_it : after set.id (state_by set c.self.inside.log.items) c.args.entry ≡ state_in c.apply.new.self =
-            ap (λ (s : State). after set.id s c.args.entry) c.self.invariant.replayed ∙ sym c.apply.ensures in
+    ap (λ (s : State). after set.id s c.args.entry) c.self.invariant.replayed ∙ sym c.apply.ensures in
     let keeps : KeepsSound set.pool set.id (state_by set c.self.inside.log.items) c.args.entry =
-            subst (λ (v : EndpointView). KeepsSound v.settings.pool v.settings.id (state_after v) c.args.entry) (sym c.self.view_is) c.requires.keeps in
+    subst (λ (v : EndpointView). KeepsSound v.settings.pool v.settings.id (state_after v) c.args.entry) (sym c.self.view_is) c.requires.keeps in
     record {
       replayed = rw items (replay_push set.id (fresh set.tag set.place) c.self.inside.log.items c.args.entry ∙ after_it);
       sound =
