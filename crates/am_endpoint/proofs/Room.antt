@@ -20,7 +20,7 @@ six_parts true true true true true false h = absurd (cc)
 pub room_told : (c : Fields) → has_room c ≡ true → HasRoom c
 room_told c is =
     let (a, b, d, e, f, g) =
-        six_parts (nat_lt (vec_len c.requests) (vec_capacity c.requests)) (nat_lt (vec_len c.replies) (vec_capacity c.replies)) (nat_lt (vec_len c.awaited) (vec_capacity c.awaited)) (nat_lt (vec_len c.received) (vec_capacity c.received)) (nat_lt (vec_len c.in_flight) (vec_capacity c.in_flight)) (nat_lt (vec_len c.notices) (vec_capacity c.notices)) is in
+    six_parts (nat_lt (vec_len c.requests) (vec_capacity c.requests)) (nat_lt (vec_len c.replies) (vec_capacity c.replies)) (nat_lt (vec_len c.awaited) (vec_capacity c.awaited)) (nat_lt (vec_len c.received) (vec_capacity c.received)) (nat_lt (vec_len c.in_flight) (vec_capacity c.in_flight)) (nat_lt (vec_len c.notices) (vec_capacity c.notices)) is in
     record {
       requests = leb-true _ _ a;
       replies = leb-true _ _ b;

@@ -57,18 +57,11 @@ impl Fields {
     {
         match outcome {
             Outcome::Accepted(_) => self.drop_front(),
-            Outcome::Requeued {
-                message,
-                used,
-                ..
-            } => {
+            Outcome::Requeued { message, used, .. } => {
                 self.drop_front();
                 self.queue(message, used);
             }
-            Outcome::Returned {
-                message,
-                cause,
-            } => {
+            Outcome::Returned { message, cause } => {
                 let bounces = self.front_bounces();
                 self.drop_front();
                 self.notice(message, bounces, Why::Refused(cause));

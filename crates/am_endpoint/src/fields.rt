@@ -172,7 +172,9 @@ impl Fields {
     {
         match self.mapped[index as usize] {
             None => 0,
-            Some(mapping) => self.awaited_at(index).saturating_sub(mapping.credits as usize),
+            Some(mapping) => self
+                .awaited_at(index)
+                .saturating_sub(mapping.credits as usize),
         }
     }
 
@@ -260,7 +262,14 @@ impl Fields {
         }
     }
 
-    pub fn request(&self, pool: Option<u8>, e: EndpointId, index: u8, handler: u8, words: Words) -> Outcome
+    pub fn request(
+        &self,
+        pool: Option<u8>,
+        e: EndpointId,
+        index: u8,
+        handler: u8,
+        words: Words,
+    ) -> Outcome
         requires count { self.now.accepted + 1 < 2 ^ 32 }
         requires small { IsSmall (state_in self.now).body }
         ensures { result ≡ outcome_of_call pool e (state_in self.now) (Call.Request index handler words) }

@@ -78,7 +78,8 @@ impl Fields {
         drop_waiting(&mut self.awaited, serial);
         match flight {
             None => {}
-            Some(f) => self.notices
+            Some(f) => self
+                .notices
                 .push(Notice {
                     message: f.message,
                     bounces: f.bounces,

@@ -3,9 +3,10 @@
 
 ghost use Rattle.am_endpoint.specs.Settings.{AreLawful};
 ghost use Rattle.am_endpoint.specs.View.{EndpointView, last_stamp, state_after};
-ghost use Rattle.am_model.specs.Allowed.{KeepsSound, MayArrive, MayCarry, are_numbers_in_range, is_well_formed};
+ghost use Rattle.am_model.specs.Allowed.{KeepsOrder, MayArrive, MayBind, MayCarry, MayDrain, MayLoad, MayPageIn, MayPageOut, MaySettle, MayUnload, are_numbers_in_range, is_well_formed};
 ghost use Rattle.am_model.specs.Calls.{outcome_of_call};
 ghost use Rattle.am_model.specs.Changes.{flying_of, has_arrivals};
+ghost use Rattle.am_model.specs.History.{judged};
 ghost use Rattle.am_model.specs.Endpoint.{front, is_on_disk, verdict};
 ghost use Rattle.am_names.specs.Names.{is_request};
 ghost use Rattle.std.specs.Prelude.{◌≡◌, ◌+◌, ◌<◌, ◌≤◌, ◌^◌, [], ◌∷◌, ◌++◌, length, count_by, IfOk, OnErr, OnOk, IfSome, Err, is_some, max, true, false, ◌↔◌};
@@ -219,7 +220,7 @@ impl Endpoint {
     fn enter(&mut self, entry: Entry)
         requires ready { self.old.ready ≡ true }
         requires room { length self.old.log < self.old.settings.log }
-        requires keeps { KeepsSound self.old.settings.pool self.old.settings.id (state_after self.old) entry }
+        requires keeps { KeepsOrder self.old.settings.pool self.old.settings.id (state_after self.old) entry }
         ensures settings { self.new.settings ≡ self.old.settings }
         ensures log { self.new.log ≡ self.old.log ++ entry ∷ [] }
     {
@@ -279,11 +280,34 @@ impl Endpoint {
     pub fn put(&mut self, entry: Entry)
         requires ready { self.old.ready ≡ true }
         requires room { length self.old.log < self.old.settings.log }
-        requires arrival { MayArrive self.old.settings.id (state_after self.old) entry }
+        requires allowed { MayArrive self.old.settings.id (state_after self.old) entry }
         ensures settings { self.new.settings ≡ self.old.settings }
         ensures log { self.new.log ≡ self.old.log ++ entry ∷ [] }
     {
         self.enter(entry);
+    }
+
+    /// What comes of a carry of a message of its own that the destination judged.
+    pub fn carry_outcome(&self, queued: Queued, verdict: Verdict) -> Outcome
+        ensures { result ≡ judged self.now.settings.bounces queued.message queued.bounces verdict }
+    {
+        match verdict {
+            Verdict::Accepted => Outcome::Accepted(queued.message),
+            Verdict::Refused(cause) => if cause.transient()
+                && queued.bounces < self.settings.bounces
+            {
+                Outcome::Requeued {
+                    message: queued.message,
+                    cause,
+                    used: queued.bounces + 1,
+                }
+            } else {
+                Outcome::Returned {
+                    message: queued.message,
+                    cause,
+                }
+            },
+        }
     }
 
     /// What a carry of its front message makes of it: the source's change, and where it is the
@@ -291,10 +315,130 @@ impl Endpoint {
     pub fn carry_out(&mut self, entry: Entry)
         requires ready { self.old.ready ≡ true }
         requires room { length self.old.log < self.old.settings.log }
-        requires carry { MayCarry self.old.settings.bounces self.old.settings.id (state_after self.old) entry }
+        requires allowed { MayCarry self.old.settings.bounces self.old.settings.id (state_after self.old) entry }
         ensures settings { self.new.settings ≡ self.old.settings }
         ensures log { self.new.log ≡ self.old.log ++ entry ∷ [] }
     {
         self.enter(entry);
     }
 }
+
+impl Endpoint {
+    /// Marks an endpoint on disk as wanted, and logs it.
+    pub fn want(&mut self, floor: u64, actor: Actor) -> Result<Entry, EndFault>
+        requires place { is_on_disk (state_after self.old).head.place ≡ true }
+        requires floor { floor + 1 < 2 ^ 64 }
+        requires last { last_stamp self.old.log + 1 < 2 ^ 64 }
+        ensures event { IfOk result (λ x. x.event ≡ Event.Want actor self.old.settings.id) }
+        ensures outcome { IfOk result (λ x. x.outcome ≡ Outcome.Silent) }
+        ensures stamp { IfOk result (λ x. x.stamp ≡ 1 + max floor (last_stamp self.old.log)) }
+        ensures logged { IfOk result (λ x. self.new.log ≡ self.old.log ++ x ∷ []) }
+        ensures settings { self.new.settings ≡ self.old.settings }
+        ensures full { (result ≡ Err EndFault.LogFull) ↔ (length self.old.log ≡ self.old.settings.log) }
+        ensures err { OnErr result (self.new.log ≡ self.old.log) }
+    {
+        self.room()?;
+        let entry = Entry {
+            stamp: self.next_stamp(floor),
+            event: Event::Want {
+                actor,
+                end: self.settings.id,
+            },
+            outcome: Outcome::Silent,
+        };
+        self.enter(entry);
+        Ok(entry)
+    }
+
+    /// Its front message is bound to a channel, and is in flight.
+    pub fn take(&mut self, entry: Entry)
+        requires ready { self.old.ready ≡ true }
+        requires room { length self.old.log < self.old.settings.log }
+        requires allowed { MayBind self.old.settings.node self.old.settings.id (state_after self.old) entry }
+        ensures settings { self.new.settings ≡ self.old.settings }
+        ensures log { self.new.log ≡ self.old.log ++ entry ∷ [] }
+    {
+        self.enter(entry);
+    }
+
+    /// A message that it has in flight is delivered, requeued, returned or unknown, by an answer
+    /// that counts or a time-out that gives up.
+    pub fn settle(&mut self, entry: Entry)
+        requires ready { self.old.ready ≡ true }
+        requires room { length self.old.log < self.old.settings.log }
+        requires allowed { MaySettle self.old.settings.bounces self.old.settings.id (state_after self.old) entry }
+        ensures settings { self.new.settings ≡ self.old.settings }
+        ensures log { self.new.log ≡ self.old.log ++ entry ∷ [] }
+    {
+        self.enter(entry);
+    }
+
+    /// It binds no more messages, and still receives.
+    pub fn begin_drain(&mut self, entry: Entry)
+        requires ready { self.old.ready ≡ true }
+        requires room { length self.old.log < self.old.settings.log }
+        requires allowed { MayDrain self.old.settings.node self.old.settings.id (state_after self.old) entry }
+        ensures settings { self.new.settings ≡ self.old.settings }
+        ensures log { self.new.log ≡ self.old.log ++ entry ∷ [] }
+    {
+        self.enter(entry);
+    }
+
+    /// It leaves its frame for the host.
+    pub fn unload(&mut self, entry: Entry)
+        requires ready { self.old.ready ≡ true }
+        requires room { length self.old.log < self.old.settings.log }
+        requires allowed { MayUnload self.old.settings.node self.old.settings.id (state_after self.old) entry }
+        ensures settings { self.new.settings ≡ self.old.settings }
+        ensures log { self.new.log ≡ self.old.log ++ entry ∷ [] }
+    {
+        self.enter(entry);
+    }
+
+    /// It comes from the host into a frame, neither wanted nor draining.
+    pub fn load(&mut self, entry: Entry)
+        requires ready { self.old.ready ≡ true }
+        requires room { length self.old.log < self.old.settings.log }
+        requires allowed { MayLoad self.old.settings.node self.old.settings.id (state_after self.old) entry }
+        ensures settings { self.new.settings ≡ self.old.settings }
+        ensures log { self.new.log ≡ self.old.log ++ entry ∷ [] }
+    {
+        self.enter(entry);
+    }
+
+    /// It goes from the host to disk, unless the entry's outcome is failed.
+    pub fn page_out(&mut self, entry: Entry)
+        requires ready { self.old.ready ≡ true }
+        requires room { length self.old.log < self.old.settings.log }
+        requires allowed { MayPageOut self.old.settings.node self.old.settings.id (state_after self.old) entry }
+        ensures settings { self.new.settings ≡ self.old.settings }
+        ensures log { self.new.log ≡ self.old.log ++ entry ∷ [] }
+    {
+        self.enter(entry);
+    }
+
+    /// It comes from disk to the host.
+    pub fn page_in(&mut self, entry: Entry)
+        requires ready { self.old.ready ≡ true }
+        requires room { length self.old.log < self.old.settings.log }
+        requires allowed { MayPageIn Outcome.Done self.old.settings.node self.old.settings.id (state_after self.old) entry }
+        ensures settings { self.new.settings ≡ self.old.settings }
+        ensures log { self.new.log ≡ self.old.log ++ entry ∷ [] }
+    {
+        self.enter(entry);
+    }
+
+    /// Logs that it was not paged in.
+    pub fn page_failed(&mut self, entry: Entry)
+        requires ready { self.old.ready ≡ true }
+        requires room { length self.old.log < self.old.settings.log }
+        requires allowed { MayPageIn Outcome.Failed self.old.settings.node self.old.settings.id (state_after self.old) entry }
+        ensures settings { self.new.settings ≡ self.old.settings }
+        ensures log { self.new.log ≡ self.old.log ++ entry ∷ [] }
+    {
+        self.enter(entry);
+    }
+}
+
+#[cfg(test)]
+mod tests;

@@ -4,15 +4,16 @@ use Rattle.std.proofs.Common.{◌≡◌, ℕ, zero, suc, ◌+◌, ◌≤◌, ◌
 use Rattle.std.specs.List.{count_by, find, list_all, list_any}
 use Rattle.std.specs.Prelude.{slice_set}
 use Rattle.std.proofs.lemmas.Bool.{and_parts, and_from}
-use Rattle.std.proofs.lemmas.List.{length_push, length-set}
+use Rattle.std.proofs.lemmas.List.{append-nil, length_push, length-set}
 use Rattle.std.proofs.lemmas.List.Folds.{list_all-append, list_all-map}
 use Rattle.std.proofs.lemmas.List.Sums.{sum_by_push, sum_by-cons}
-use Rattle.am_names.specs.Names.{same_serial, same_end, is_answer, is_request}
+use Rattle.am_names.specs.Names.{has_serial, same_serial, same_end, is_answer, is_request}
 use Rattle.am_names.specs.Rules.{matches, is_transient}
 use Rattle.am_names.specs.declared.EndpointId.{EndpointId}
 use Rattle.am_names.specs.declared.Cause.{Cause}
 use Rattle.am_names.specs.declared.Cause.TheVariants as Causes
 use Rattle.am_names.specs.declared.Message.{Message}
+use Rattle.am_names.specs.declared.NodeId.{NodeId}
 use Rattle.am_names.specs.declared.Serial.{Serial}
 use Rattle.am_names.specs.declared.Verdict.{Verdict}
 use Rattle.am_names.specs.declared.Verdict.TheVariants as Verdicts
@@ -42,8 +43,8 @@ use Rattle.am_model.specs.Choice.{first_holding, without_first}
 use Rattle.am_model.specs.Endpoint.{State, Body, IsWithin, fresh, front, front_of, is_arrived, is_awaited, is_resident, entry_at, requests_held, replies_held, verdict, verdict_of, waits_for}
 use Rattle.am_model.specs.Calls.{outcome_of_call, answer, poll, poll_received, poll_requests, request_refusal, map_refusal, unless, new_request, request_message, sum_after}
 use Rattle.am_model.specs.Changes.{appended, kind_run, arrived, called, left, marked, put, queued, reached, with_arrived, with_marked, without_front, requests_left, noticed, bounces_of, not_awaited, flying_of, landed, requeued_flight, returned_flight, flight_appended, notice_of, received, expired, bound, carried, changed, after}
-use Rattle.am_model.specs.History.{are_credits_in_range, judged}
-use Rattle.am_model.specs.Allowed.{IsSound, MayArrive, MayCarry, is_well_formed, is_queued_request, is_queued_answer, is_flight_formed, is_mapping_in_range, are_numbers_in_range, arrived_message, arrival_verdict, is_carry_from}
+use Rattle.am_model.specs.History.{are_credits_in_range, judged, settle_by}
+use Rattle.am_model.specs.Allowed.{EndsFlight, IsInOrder, IsSound, KeepsOrder, MayBind, MaySettle, MayDrain, MayUnload, MayLoad, MayPageOut, MayPageIn, given_up, MayArrive, MayCarry, is_well_formed, is_queued_request, is_queued_answer, is_flight_formed, is_mapping_in_range, are_numbers_in_range, arrived_message, arrival_verdict, is_carry_from}
 use Rattle.am_model.proofs.Counts.{call_counts_one}
 use Rattle.am_model.proofs.Names.{same_end-refl}
 use Rattle.am_model.proofs.Own.{Own, own_kept, is_call}
@@ -264,6 +265,7 @@ arrived_more r (a ∷ xs) h = by_test r a xs a.arrived (same_serial r a.serial) 
       where
         rest : (b : Bool) → ((false && not b) || list_any (waits_for r) xs) ≡ true → list_any (waits_for r) xs ≡ true
         rest b h = h
+
         one : (b c : Bool) → bit b ≤ bit (b || c)
         one true c = omega arith
         one false true = omega arith
@@ -442,6 +444,125 @@ arrival_sound pool e s m event o is judged here other sound = absurd (cc)
 -- an arrival keeps the body sound
 pub sound_arrived : (pool : Option ℕ) (e : EndpointId) (s : State) (x : Entry) → MayArrive e s x → IsSound pool s.body → IsSound pool (after e s x).body
 sound_arrived pool e s x may sound = arrival_sound pool e s may.message x.event x.outcome may.is_message may.judged may.here may.elsewhere sound
+
+-- flights end
+
+sound_landed : (pool : Option ℕ) (serial : Serial) (b : Body) → IsSound pool b → IsSound pool (landed serial b)
+sound_landed pool serial b sound =
+    let w = sound.within in
+    sound_by pool (landed serial b)
+    (record {
+      requests = omega (arith, w.requests, (count_le (λ (f : Flying). is_request f.message) (λ (f : Flying). has_serial serial f.message) b.in_flight).0);
+      replies = omega (arith, w.replies, (count_le (λ (f : Flying). is_answer f.message) (λ (f : Flying). has_serial serial f.message) b.in_flight).0);
+      awaited = w.awaited;
+      received = w.received;
+      answers = w.answers;
+    })
+    (record { requests = sound.requests; replies = sound.replies })
+    (record {
+      indexes = sound.indexes;
+      credits = sound.credits;
+      in_flight = all_without is_flight_formed (λ (f : Flying). has_serial serial f.message) b.in_flight sound.in_flight;
+    })
+
+-- what lands leaves a slot of its kind
+landed_counts : (p : Message → Bool) (serial : Serial) (fs : List Flying) (f : Flying) → flying_of serial fs ≡ Some f → count_by (λ (g : Flying). p g.message) (without_first (λ (g : Flying). has_serial serial g.message) fs) + bit (p f.message) ≡ count_by (λ (g : Flying). p g.message) fs
+landed_counts p serial [] f e = absurd (cc)
+landed_counts p serial (g ∷ fs) f e = by_test p serial g fs f (has_serial serial g.message) e (landed_counts p serial fs f)
+  where
+    by_test : (p : Message → Bool) (serial : Serial) (g : Flying) (fs : List Flying) (f : Flying) (b : Bool) → (if b then Some g else flying_of serial fs) ≡ Some f → (flying_of serial fs ≡ Some f → count_by (λ (h : Flying). p h.message) (without_first (λ (h : Flying). has_serial serial h.message) fs) + bit (p f.message) ≡ count_by (λ (h : Flying). p h.message) fs) → count_by (λ (h : Flying). p h.message) (if b then fs else g ∷ without_first (λ (h : Flying). has_serial serial h.message) fs) + bit (p f.message) ≡ count_by (λ (h : Flying). p h.message) (g ∷ fs)
+    by_test p serial g fs f true is more = let same : g ≡ f = cc in omega (arith, sum_by-cons (λ (h : Flying). cond (p h.message) 1 0) g fs, ap (λ (h : Flying). bit (p h.message)) same)
+    by_test p serial g fs f false is more =
+        omega (arith, more is, sum_by-cons (λ (h : Flying). cond (p h.message) 1 0) g fs, sum_by-cons (λ (h : Flying). cond (p h.message) 1 0) g (without_first (λ (h : Flying). has_serial serial h.message) fs))
+
+-- a flight goes back to its queue
+sound_flight_requeued : (pool : Option ℕ) (serial : Serial) (n : ℕ) (b : Body) (flight : Option Flying) → flying_of serial b.in_flight ≡ flight → IsSound pool b → IsSound pool (requeued_flight flight n (landed serial b))
+sound_flight_requeued pool serial n b None is sound = sound_landed pool serial b sound
+sound_flight_requeued pool serial n b (Some f) is sound =
+    let w = sound.within in
+    let lands = sound_landed pool serial b sound in
+    sound_by pool (requeued_flight (Some f) n (landed serial b))
+    (record {
+      requests = omega (arith, w.requests, landed_counts is_request serial b.in_flight f is, length_appended (is_request f.message) f.message n b.requests);
+      replies = omega (arith, w.replies, landed_counts is_answer serial b.in_flight f is, length_appended (is_answer f.message) f.message n b.replies);
+      awaited = w.awaited;
+      received = w.received;
+      answers = w.answers;
+    })
+    (queues_queued f.message n (landed serial b) (all_found is_flight_formed (λ (g : Flying). has_serial serial g.message) b.in_flight f sound.in_flight is) (queues_of pool (landed serial b) lands))
+    (record { indexes = lands.indexes; credits = lands.credits; in_flight = lands.in_flight })
+
+-- a flight comes back
+sound_flight_returned : (pool : Option ℕ) (serial : Serial) (why : Why) (b : Body) (flight : Option Flying) → flying_of serial b.in_flight ≡ flight → IsSound pool b → IsSound pool (returned_flight serial flight why (landed serial b))
+sound_flight_returned pool serial why b None is sound =
+    let lands = sound_landed pool serial b sound in
+    let w = lands.within in
+    let same : b.notices ++ [] ≡ b.notices = append-nil b.notices in
+    sound_by pool (returned_flight serial None why (landed serial b))
+    (record {
+      requests = rw same w.requests;
+      replies = rw same w.replies;
+      awaited = omega (arith, w.awaited, (count_le is_arrived (waits_for serial) b.awaited).2);
+      received = w.received;
+      answers = omega (arith, w.answers, waiting_kept serial b.awaited);
+    })
+    (record { requests = lands.requests; replies = lands.replies })
+    (record { indexes = lands.indexes; credits = lands.credits; in_flight = lands.in_flight })
+sound_flight_returned pool serial why b (Some f) is sound =
+    let lands = sound_landed pool serial b sound in
+    let w = sound.within in
+    let back : Notice = record { message = f.message; bounces = f.bounces; why = why } in
+    sound_by pool (returned_flight serial (Some f) why (landed serial b))
+    (record {
+      requests = omega (arith, w.requests, landed_counts is_request serial b.in_flight f is, sum_by_push (λ (x : Notice). cond (is_request x.message) 1 0) b.notices back);
+      replies = omega (arith, w.replies, landed_counts is_answer serial b.in_flight f is, sum_by_push (λ (x : Notice). cond (is_answer x.message) 1 0) b.notices back);
+      awaited = omega (arith, w.awaited, (count_le is_arrived (waits_for serial) b.awaited).2);
+      received = w.received;
+      answers = omega (arith, w.answers, waiting_kept serial b.awaited);
+    })
+    (record { requests = lands.requests; replies = lands.replies })
+    (record { indexes = lands.indexes; credits = lands.credits; in_flight = lands.in_flight })
+
+-- an answer that counts keeps the body sound
+sound_settled : (pool : Option ℕ) (limit : ℕ) (e : EndpointId) (s : State) (m : Message) (bounces : ℕ) (v : Verdict) → IsSound pool s.body → IsSound pool (received e s (settle_by limit m bounces v)).body
+sound_settled pool limit e s m bounces Verdicts.Accepted sound = sound_landed pool m.serial s.body sound
+sound_settled pool limit e s m bounces (Verdicts.Refused cause) sound = by_again (is_transient cause && nat_lt bounces limit)
+  where
+    by_again : (b : Bool) → IsSound pool (received e s (if b then Got.Requeued m.serial cause (bounces + 1) else Got.Returned m.serial cause)).body
+    by_again true = sound_flight_requeued pool m.serial (bounces + 1) s.body (flying_of m.serial s.body.in_flight) refl sound
+    by_again false = sound_flight_returned pool m.serial (Whys.Refused cause) s.body (flying_of m.serial s.body.in_flight) refl sound
+
+sound_given_up : (pool : Option ℕ) (s : State) (f : Flying) → IsSound pool s.body → IsSound pool (expired s (given_up f)).body
+sound_given_up pool s f sound = by_test f.answered
+  where
+    by_test : (b : Bool) → IsSound pool (expired s (if b then Out.Delivered f.message.serial else Out.Unknown f.message.serial)).body
+    by_test true = sound_landed pool f.message.serial s.body sound
+    by_test false = sound_flight_returned pool f.message.serial Whys.Unknown s.body (flying_of f.message.serial s.body.in_flight) refl sound
+
+-- what ends a flight keeps the body sound
+pub flight_sound : (pool : Option ℕ) (limit : ℕ) (e : EndpointId) (s : State) (f : Flying) (event : Event) (o : Outcome) → EndsFlight limit f event o → IsSound pool s.body → IsSound pool (changed e s event o).body
+flight_sound pool limit e s f (Events.Receive node peer number) (Out.Received channel seq attempt result) ends sound =
+    subst (λ (r : Received). IsSound pool (received e s r).body) (sym ends.1) (sound_settled pool limit e s f.message f.bounces ends.0 sound)
+flight_sound pool limit e s f (Events.Expire node peer channel) o ends sound = subst (λ (w : Outcome). IsSound pool (expired s w).body) (sym ends) (sound_given_up pool s f sound)
+flight_sound pool limit e s f event o ends sound = absurd ends
+
+-- the front message is bound to a channel
+pub sound_bound : (pool : Option ℕ) (s : State) (q : Queued) (peer : NodeId) (channel seq attempt number : ℕ) → front s ≡ Some q → IsSound pool s.body → IsSound pool (bound s (Out.Sent q.message peer channel seq attempt number)).body
+sound_bound pool s q peer channel seq attempt number is sound =
+    let b = s.body in
+    let leaves = front_leaves b q is (queues_of pool b sound) in
+    let w = sound.within in
+    let flight : Flying = record { message = q.message; bounces = bounces_of b.replies b.requests; answered = false } in
+    sound_by pool (bound s (Out.Sent q.message peer channel seq attempt number)).body
+    (record {
+      requests = omega (arith, w.requests, leaves.requests, sum_by_push (λ (x : Flying). cond (is_request x.message) 1 0) b.in_flight flight);
+      replies = omega (arith, w.replies, leaves.replies, sum_by_push (λ (x : Flying). cond (is_answer x.message) 1 0) b.in_flight flight);
+      awaited = w.awaited;
+      received = w.received;
+      answers = w.answers;
+    })
+    (record { requests = leaves.queues.requests; replies = leaves.queues.replies })
+    (record { indexes = sound.indexes; credits = sound.credits; in_flight = all_push is_flight_formed b.in_flight flight sound.in_flight leaves.formed })
 
 -- an entry accepts one message at most
 pub accepted_after : (e : EndpointId) (s : State) (x : Entry) → (after e s x).body.accepted ≤ s.body.accepted + 1

@@ -1,7 +1,8 @@
 -- What an endpoint may be given at a state, and what its body keeps.
-use Rattle.std.specs.Prelude.{◌≡◌, ℕ, Bool, true, false, ◌==◌, ◌&&◌, Option, Some, None, is_none, is_some, List, length}
+use Rattle.std.specs.Prelude.{◌≡◌, ℕ, Bool, true, false, ◌==◌, ◌&&◌, Option, Some, None, is_none, is_some, List, [], length, ◌⊎◌, if◌then◌else◌}
 use Rattle.std.specs.List.{list_all}
 use Rattle.am_names.specs.declared.EndpointId.{EndpointId}
+use Rattle.am_names.specs.declared.NodeId.{NodeId}
 use Rattle.am_names.specs.declared.Words.{Words}
 use Rattle.am_names.specs.declared.MsgKind.{MsgKind}
 use Rattle.am_names.specs.declared.MsgKind.TheVariants as Kind
@@ -21,9 +22,9 @@ use Rattle.am_office.specs.declared.Entry.{Entry}
 use Rattle.am_model.specs.declared.Flying.{Flying}
 use Rattle.am_model.specs.declared.Mapping.{Mapping}
 use Rattle.am_model.specs.declared.Queued.{Queued}
-use Rattle.am_model.specs.Endpoint.{Body, State, IsWithin, front, verdict}
-use Rattle.am_model.specs.Changes.{after}
-use Rattle.am_model.specs.History.{are_credits_in_range, is_kind_in_range, judged}
+use Rattle.am_model.specs.Endpoint.{Body, State, IsWithin, front, is_on_disk, is_on_host, is_resident, verdict}
+use Rattle.am_model.specs.Changes.{after, flying_of}
+use Rattle.am_model.specs.History.{are_credits_in_range, is_kind_in_range, judged, settle_by}
 
 abbrev pub are_zero : Words → Bool
 are_zero w = (w.a == 0) && (w.b == 0) && (w.c == 0) && (w.d == 0)
@@ -116,6 +117,77 @@ pub record IsSound (pool : Option ℕ) (b : Body) : Type 0 where
   pub replies : list_all is_queued_answer b.replies ≡ true
   pub in_flight : list_all is_flight_formed b.in_flight ≡ true
 
--- the entry leaves a body sound that is sound
-abbrev pub KeepsSound : Option ℕ → EndpointId → State → Entry → Type 0
-KeepsSound pool e s x = IsSound pool s.body → IsSound pool (after e s x).body
+-- what an endpoint keeps: its body is sound, and nothing is in flight unless it is resident
+pub record IsInOrder (pool : Option ℕ) (s : State) : Type 0 where
+  pub body : IsSound pool s.body
+  pub grounded : is_resident s.head.place ≡ false → s.body.in_flight ≡ []
+
+-- the entry leaves an endpoint in order that is in order
+abbrev pub KeepsOrder : Option ℕ → EndpointId → State → Entry → Type 0
+KeepsOrder pool e s x = IsInOrder pool s → IsInOrder pool (after e s x)
+
+-- the entry binds the front message of the endpoint e of the node to a channel, at its first attempt
+pub record MayBind (node : NodeId) (e : EndpointId) (s : State) (x : Entry) : Type 0 where
+  pub queued : Queued
+  pub peer : NodeId
+  pub channel : ℕ
+  pub seq : ℕ
+  pub number : ℕ
+  pub event : x.event ≡ Events.Bind node e
+  pub resident : is_resident s.head.place ≡ true
+  pub undrained : s.head.draining ≡ false
+  pub is_front : front s ≡ Some queued
+  pub outcome : x.outcome ≡ Out.Sent queued.message peer channel seq 0 number
+
+-- what comes of a flight that no answer ended, when its tries are used up
+abbrev pub given_up : Flying → Outcome
+given_up f = if f.answered then Out.Delivered f.message.serial else Out.Unknown f.message.serial
+
+-- the flight ends here, by an answer that counts or by giving up, where a message may bounce up to the limit
+abbrev pub EndsFlight : ℕ → Flying → Event → Outcome → Type 0
+EndsFlight limit f (Events.Receive node peer number) (Out.Received channel seq attempt result) = (v : Verdict) × (result ≡ settle_by limit f.message f.bounces v)
+EndsFlight limit f (Events.Expire node peer channel) outcome = outcome ≡ given_up f
+EndsFlight limit f event outcome = ⊥
+
+-- the entry settles a message that the endpoint e has in flight
+pub record MaySettle (limit : ℕ) (e : EndpointId) (s : State) (x : Entry) : Type 0 where
+  pub flight : Flying
+  pub own : same_end e flight.message.serial.source ≡ true
+  pub in_flight : flying_of flight.message.serial s.body.in_flight ≡ Some flight
+  pub ends : EndsFlight limit flight x.event x.outcome
+
+-- the entry begins to drain the endpoint e of the node
+pub record MayDrain (node : NodeId) (e : EndpointId) (s : State) (x : Entry) : Type 0 where
+  pub event : x.event ≡ Events.Drain node e
+  pub outcome : x.outcome ≡ Out.Silent
+  pub resident : is_resident s.head.place ≡ true
+  pub undrained : s.head.draining ≡ false
+
+-- the entry takes the endpoint e of the node out of its frame
+pub record MayUnload (node : NodeId) (e : EndpointId) (s : State) (x : Entry) : Type 0 where
+  pub event : x.event ≡ Events.Unload node e
+  pub outcome : x.outcome ≡ Out.Silent
+  pub resident : is_resident s.head.place ≡ true
+  pub draining : s.head.draining ≡ true
+  pub landed : length s.body.in_flight ≡ 0
+
+-- the entry loads the endpoint e of the node into a frame
+pub record MayLoad (node : NodeId) (e : EndpointId) (s : State) (x : Entry) : Type 0 where
+  pub frame : ℕ
+  pub event : x.event ≡ Events.Load node e frame
+  pub outcome : x.outcome ≡ Out.Silent
+  pub on_host : is_on_host s.head.place ≡ true
+  pub unclosed : s.head.closed ≡ false
+
+-- the entry pages the endpoint e of the node out with this outcome
+pub record MayPageOut (node : NodeId) (e : EndpointId) (s : State) (x : Entry) : Type 0 where
+  pub event : x.event ≡ Events.PageOut node e
+  pub outcome : (x.outcome ≡ Out.Done) ⊎ (x.outcome ≡ Out.Failed)
+  pub on_host : is_on_host s.head.place ≡ true
+  pub unclosed : s.head.closed ≡ false
+
+-- the entry pages the endpoint e of the node in with this outcome
+pub record MayPageIn (outcome : Outcome) (node : NodeId) (e : EndpointId) (s : State) (x : Entry) : Type 0 where
+  pub event : x.event ≡ Events.PageIn node e
+  pub is_outcome : x.outcome ≡ outcome
+  pub on_disk : is_on_disk s.head.place ≡ true

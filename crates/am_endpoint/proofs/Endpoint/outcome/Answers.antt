@@ -6,7 +6,7 @@ use Rattle.am_endpoint.proofs.Small.{small_sound}
 use Rattle.am_endpoint.proofs.Endpoint.outcome.Goals as goal
 
 pub outcome-requires-clause-small : goal.outcome-requires-clause-small
-outcome-requires-clause-small c = small_sound c.self.inside.settings.pool (state_in c.self.inside.fields).body c.self.invariant.sound
+outcome-requires-clause-small c = small_sound c.self.inside.settings.pool (state_in c.self.inside.fields).body c.self.invariant.order.body
 
 pub returns : goal.returns
 returns c =
