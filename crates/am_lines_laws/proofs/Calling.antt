@@ -20,6 +20,7 @@ use Rattle.am_office.specs.declared.Event.TheVariants as event
 use Rattle.am_bundle.specs.Calls.{poll_calls, test_calls}
 use Rattle.am_bundle.specs.Lists.{BundleLists}
 use Rattle.am_scenario_types.specs.declared.parts.Form.{Form}
+use Rattle.am_scenario_types.specs.declared.parts.Form.TheVariants.{Step, Run}
 use Rattle.am_scenario_types.specs.declared.parts.EndLine.{EndLine}
 use Rattle.am_scenario_types.specs.declared.parts.ThreadLine.{ThreadLine}
 use Rattle.am_scenario_types.specs.Lawful.{IsWithin, IsOn, IsDeclared, IsLawfulKind, IsLawfulCall, IsLawfulScriptCall, IsLawfulEvent, thread_node}
@@ -28,7 +29,7 @@ use Rattle.am_draft.specs.declared.line.Line.TheVariants as line
 use Rattle.am_draft.specs.Said.{Said, node_count, frame_count, channel_count, thread_of, script_call}
 use Rattle.am_lines.specs.declared.head.Head.{Head}
 use Rattle.am_lines.specs.declared.head.Head.TheVariants as head
-use Rattle.am_lines.specs.Heads.{section_of}
+use Rattle.am_lines.specs.Heads.{section_of, is_of_form}
 use Rattle.am_lines.specs.Places.{below, node_at, end_at, tag_at, serial_at, bundle_at}
 use Rattle.am_lines.specs.Declarations.{mask_at}
 use Rattle.am_lines.specs.Calls.{least_share, request_at, poll_at, set_tag_at, map_at, unmap_at, kind_at, set_handler_at, give_up_at, close_at, test_at, call_at}
@@ -36,7 +37,7 @@ use Rattle.am_lines.specs.Script.{bundled, poll_bundle_line, test_bundle_line, t
 use Rattle.am_lines.specs.Steps.{step, outside_line, head_node, bind_line, expire_line, receive_line, interface_line, load_line, drive_line, driver_line}
 use Rattle.am_lines.specs.Settings.{setting_line}
 use Rattle.am_lines.specs.Lines.{words_say}
-use Rattle.am_lines_laws.specs.LineLaws.{section_said, IsLawfulSetting, IsLawfulLine, LinesAreLawful}
+use Rattle.am_lines_laws.specs.LineLaws.{section_said, fits_form, Kind, OfSetting, OfScript, OfStep, kind_said, kind_of, section_of_kind, is_kind_of_form, IsLawfulSetting, IsLawfulLine, LinesAreLawful}
 use Rattle.am_lines_laws.proofs.Meets.{Meets, refuses, gives, bind, test, anything, found, weaker}
 use Rattle.am_lines_laws.proofs.Words.{a_number, is_within, is_below, a_node, a_tag, a_serial, an_end, a_bundle, eq_true, find_passes, IsEndFor, on_is_declared}
 use Rattle.am_lines_laws.proofs.Declaring.{Says, is_less, is_at_most, a_version, a_setting, an_endpoint, a_bundle_line, a_thread, a_plan_line, a_swap_fault}
@@ -163,15 +164,15 @@ all_calls said thread call (member ∷ members) there lawful on =
       (all_calls said thread call members there lawful (All-tail (IsOn said.ends thread.node) member members on))
 
 some_bundled : (form : Form) (said : Said) (thread : ℕ) (calls : List (EndpointId × Call))
-    → All (IsLawfulScriptCall said.ends said.threads (least_share said.version)) (map (script_call thread) calls) → Meets (Says form said 4) (bundled said thread calls)
+    → All (IsLawfulScriptCall said.ends said.threads (least_share said.version)) (map (script_call thread) calls) → Meets (Says form said OfScript) (bundled said thread calls)
 unfolding bundled
 some_bundled form said thread calls h =
     test (nat_le (length said.script + length calls) 16_384) _ _
-      (λ room. gives (Says form said 4) (line.Calls thread calls) (refl, (h, is_at_most _ _ room)))
-      (λ full. refuses (Says form said 4) TooMany)
+      (λ room. gives (Says form said OfScript) (line.Calls thread calls) (refl, (h, is_at_most _ _ room)))
+      (λ full. refuses (Says form said OfScript) TooMany)
 
 a_poll_bundle : (form : Form) (said : Said) (thread : ThreadLine) (words : List (List ℕ)) → thread_node said.threads thread.id ≡ Some thread.node
-    → Meets (Says form said 4) (poll_bundle_line said thread words)
+    → Meets (Says form said OfScript) (poll_bundle_line said thread words)
 unfolding poll_bundle_line
 a_poll_bundle form said thread words there =
     bind (bundle_at said thread.node words) _ (a_bundle said thread.node words) (λ bundle on.
@@ -179,7 +180,7 @@ a_poll_bundle form said thread words there =
     some_bundled form said thread.id (poll_calls bundle.0) (all_calls said thread Poll bundle.0.members there tt on)))
 
 a_test_bundle : (form : Form) (said : Said) (thread : ThreadLine) (words : List (List ℕ)) → thread_node said.threads thread.id ≡ Some thread.node
-    → Meets (Says form said 4) (test_bundle_line said thread words)
+    → Meets (Says form said OfScript) (test_bundle_line said thread words)
 unfolding test_bundle_line
 a_test_bundle form said thread words there =
     bind (bundle_at said thread.node words) _ (a_bundle said thread.node words) (λ bundle on.
@@ -187,17 +188,17 @@ a_test_bundle form said thread words there =
     some_bundled form said thread.id (test_calls bundle.0) (all_calls said thread (Test bundle.0.mask) bundle.0.members there tt on)))
 
 a_thread_call : (form : Form) (said : Said) (thread : ThreadLine) (verb : List ℕ) (words : List (List ℕ)) → thread_node said.threads thread.id ≡ Some thread.node
-    → Meets (Says form said 4) (thread_call_line said thread verb words)
+    → Meets (Says form said OfScript) (thread_call_line said thread verb words)
 unfolding thread_call_line
 a_thread_call form said thread verb words there =
     bind (call_at said (Some thread.node) verb words) _ (a_call said (Some thread.node) verb words) (λ call h.
     bind (ended call.1) _ (anything (ended call.1)) (λ _ _.
     test (nat_lt (length said.script) 16_384) _ _
-      (λ room. gives (Says form said 4) (line.Call (record { thread = thread.id; endpoint = call.0.0; call = call.0.1 }))
+      (λ room. gives (Says form said OfScript) (line.Call (record { thread = thread.id; endpoint = call.0.0; call = call.0.1 }))
         (refl, (record { placed = (thread.node, (there, h.0)); call = h.1 }, is_less _ _ room)))
-      (λ full. refuses (Says form said 4) TooMany)))
+      (λ full. refuses (Says form said OfScript) TooMany)))
 
-a_script_line : (form : Form) (said : Said) (number : ℕ) (words : List (List ℕ)) → Meets (Says form said 4) (script_line said number words)
+a_script_line : (form : Form) (said : Said) (number : ℕ) (words : List (List ℕ)) → Meets (Says form said OfScript) (script_line said number words)
 unfolding script_line
 a_script_line form said number words =
     bind (or_else Undeclared (thread_of said number)) _ (found Undeclared (thread_of said number)) (λ thread e.
@@ -212,15 +213,15 @@ a_script_line form said number words =
 abbrev pub IsEvent : Said → Event → Type 0
 IsEvent said e = IsLawfulEvent said.ends (node_count said.settings) (frame_count said.settings) (channel_count said.settings) (least_share said.version) e
 
-a_step : (form : Form) (said : Said) (e : Event) (words : List (List ℕ)) → IsEvent said e → Meets (Says form said 4) (step said e words)
+a_step : (form : Form) (said : Said) (e : Event) (words : List (List ℕ)) → IsEvent said e → Meets (Says form said OfStep) (step said e words)
 unfolding step
 a_step form said e words h =
     bind (ended words) _ (anything (ended words)) (λ _ _.
     test (nat_lt (length said.steps) 65_536) _ _
-      (λ room. gives (Says form said 4) (line.Step e) (refl, (h, is_less _ _ room)))
-      (λ full. refuses (Says form said 4) TooMany))
+      (λ room. gives (Says form said OfStep) (line.Step e) (refl, (h, is_less _ _ room)))
+      (λ full. refuses (Says form said OfStep) TooMany))
 
-an_outside_line : (form : Form) (said : Said) (words : List (List ℕ)) → Meets (Says form said 4) (outside_line said words)
+an_outside_line : (form : Form) (said : Said) (words : List (List ℕ)) → Meets (Says form said OfStep) (outside_line said words)
 unfolding outside_line
 an_outside_line form said words =
     bind (word_at words) _ (anything (word_at words)) (λ verb _.
@@ -237,25 +238,25 @@ a_head_node said number =
       (λ e. gives (λ (node : NodeId). node.0 < node_count said.settings) (record { 0 = number }) (is_less _ _ e))
       (λ e. refuses (λ (node : NodeId). node.0 < node_count said.settings) OutOfRange)
 
-a_bind : (form : Form) (said : Said) (node : NodeId) (words : List (List ℕ)) → node.0 < node_count said.settings → Meets (Says form said 4) (bind_line said node words)
+a_bind : (form : Form) (said : Said) (node : NodeId) (words : List (List ℕ)) → node.0 < node_count said.settings → Meets (Says form said OfStep) (bind_line said node words)
 unfolding bind_line
 a_bind form said node words here = bind (end_at said None words) _ (an_end said None words) (λ end on. a_step form said (event.Bind node end.0) end.1 (here, on))
 
-an_expire : (form : Form) (said : Said) (node : NodeId) (words : List (List ℕ)) → node.0 < node_count said.settings → Meets (Says form said 4) (expire_line said node words)
+an_expire : (form : Form) (said : Said) (node : NodeId) (words : List (List ℕ)) → node.0 < node_count said.settings → Meets (Says form said OfStep) (expire_line said node words)
 unfolding expire_line
 an_expire form said node words here =
     bind (node_at said.settings words) _ (a_node said.settings words) (λ peer peer_in.
     bind (below (channel_count said.settings) peer.1) _ (is_below (channel_count said.settings) peer.1) (λ channel channel_in.
     a_step form said (event.Expire node peer.0 channel.0) channel.1 (here, peer_in, channel_in)))
 
-a_receive : (form : Form) (said : Said) (node : NodeId) (words : List (List ℕ)) → node.0 < node_count said.settings → Meets (Says form said 4) (receive_line said node words)
+a_receive : (form : Form) (said : Said) (node : NodeId) (words : List (List ℕ)) → node.0 < node_count said.settings → Meets (Says form said OfStep) (receive_line said node words)
 unfolding receive_line
 a_receive form said node words here =
     bind (node_at said.settings words) _ (a_node said.settings words) (λ peer peer_in.
     bind (within 1 0xffff_ffff peer.1) _ (is_within 1 0xffff_ffff peer.1) (λ number number_in.
     a_step form said (event.Receive node peer.0 number.0) number.1 (here, peer_in, number_in)))
 
-an_interface_line : (form : Form) (said : Said) (number : ℕ) (words : List (List ℕ)) → Meets (Says form said 4) (interface_line said number words)
+an_interface_line : (form : Form) (said : Said) (number : ℕ) (words : List (List ℕ)) → Meets (Says form said OfStep) (interface_line said number words)
 unfolding interface_line
 an_interface_line form said number words =
     bind (head_node said number) _ (a_head_node said number) (λ node here.
@@ -263,16 +264,16 @@ an_interface_line form said number words =
     test (bytes_eq verb.0 (codes "bind")) _ _ (λ e. a_bind form said node verb.1 here) (λ e1.
     test (bytes_eq verb.0 (codes "expire")) _ _ (λ e. an_expire form said node verb.1 here) (λ e2.
     test (bytes_eq verb.0 (codes "receive")) _ _ (λ e. a_receive form said node verb.1 here) (λ e3.
-    refuses (Says form said 4) UnknownWord)))))
+    refuses (Says form said OfStep) UnknownWord)))))
 
-a_load : (form : Form) (said : Said) (node : NodeId) (words : List (List ℕ)) → node.0 < node_count said.settings → Meets (Says form said 4) (load_line said node words)
+a_load : (form : Form) (said : Said) (node : NodeId) (words : List (List ℕ)) → node.0 < node_count said.settings → Meets (Says form said OfStep) (load_line said node words)
 unfolding load_line
 a_load form said node words here =
     bind (end_at said None words) _ (an_end said None words) (λ end on.
     bind (below (frame_count said.settings) end.1) _ (is_below (frame_count said.settings) end.1) (λ frame frame_in.
     a_step form said (event.Load node end.0 frame.0) frame.1 (here, on, frame_in)))
 
-a_drive : (form : Form) (said : Said) (node : NodeId) (verb : List ℕ) (words : List (List ℕ)) → node.0 < node_count said.settings → Meets (Says form said 4) (drive_line said node verb words)
+a_drive : (form : Form) (said : Said) (node : NodeId) (verb : List ℕ) (words : List (List ℕ)) → node.0 < node_count said.settings → Meets (Says form said OfStep) (drive_line said node verb words)
 unfolding drive_line
 a_drive form said node verb words here =
     test (bytes_eq verb (codes "drain")) _ _ (λ e. bind (end_at said None words) _ (an_end said None words) (λ end on. a_step form said (event.Drain node end.0) end.1 (here, on))) (λ e1.
@@ -280,9 +281,9 @@ a_drive form said node verb words here =
     test (bytes_eq verb (codes "load")) _ _ (λ e. a_load form said node words here) (λ e3.
     test (bytes_eq verb (codes "pageout")) _ _ (λ e. bind (end_at said None words) _ (an_end said None words) (λ end on. a_step form said (event.PageOut node end.0) end.1 (here, on))) (λ e4.
     test (bytes_eq verb (codes "pagein")) _ _ (λ e. bind (end_at said None words) _ (an_end said None words) (λ end on. a_step form said (event.PageIn node end.0) end.1 (here, on))) (λ e5.
-    refuses (Says form said 4) UnknownWord)))))
+    refuses (Says form said OfStep) UnknownWord)))))
 
-a_driver_line : (form : Form) (said : Said) (number : ℕ) (words : List (List ℕ)) → Meets (Says form said 4) (driver_line said number words)
+a_driver_line : (form : Form) (said : Said) (number : ℕ) (words : List (List ℕ)) → Meets (Says form said OfStep) (driver_line said number words)
 unfolding driver_line
 a_driver_line form said number words =
     bind (head_node said number) _ (a_head_node said number) (λ node here.
@@ -290,11 +291,11 @@ a_driver_line form said number words =
 
 -- ---- all kinds
 
-pub all_kinds : (form : Form) (said : Said) (first : Head) (words : List (List ℕ)) → Meets (Says form said (section_of first)) (words_say form said first words)
+pub all_kinds : (form : Form) (said : Said) (first : Head) (words : List (List ℕ)) → Meets (Says form said (kind_of first)) (words_say form said first words)
 unfolding words_say
 all_kinds form said head.Version words = a_version form said words
 all_kinds form said (head.Setting name) words =
-    bind (setting_line form said.settings name words) _ (a_setting form said.settings name words) (λ setting h. gives (Says form said 2) (line.Setting setting) (refl, h))
+    bind (setting_line form said.settings name words) _ (a_setting form said.settings name words) (λ setting h. gives (Says form said OfSetting) (line.Setting setting) (refl, h))
 all_kinds form said head.Endpoint words = an_endpoint form said words
 all_kinds form said head.Bundle words = a_bundle_line form said words
 all_kinds form said head.Thread words = a_thread form said words
@@ -305,5 +306,80 @@ all_kinds form said (head.OfThread number) words = a_script_line form said numbe
 all_kinds form said (head.OfInterface number) words = an_interface_line form said number words
 all_kinds form said (head.OfDriver number) words = a_driver_line form said number words
 
+section_by_kind : (says : Line) → section_said says ≡ section_of_kind (kind_said says)
+section_by_kind (line.Version version) = refl
+section_by_kind (line.Setting setting) = refl
+section_by_kind (line.End end) = refl
+section_by_kind (line.Bundle bundle) = refl
+section_by_kind (line.Thread thread) = refl
+section_by_kind (line.Plan planned) = refl
+section_by_kind (line.Fault fault) = refl
+section_by_kind (line.Call call) = refl
+section_by_kind (line.Calls thread calls) = refl
+section_by_kind (line.Step event) = refl
+
+section_by_head : (first : Head) → section_of first ≡ section_of_kind (kind_of first)
+section_by_head head.Version = refl
+section_by_head (head.Setting name) = refl
+section_by_head head.Endpoint = refl
+section_by_head head.Bundle = refl
+section_by_head head.Thread = refl
+section_by_head head.Plan = refl
+section_by_head head.SwapFault = refl
+section_by_head head.Outside = refl
+section_by_head (head.OfThread number) = refl
+section_by_head (head.OfInterface number) = refl
+section_by_head (head.OfDriver number) = refl
+
+form_by_kind : (form : Form) (says : Line) → fits_form form says ≡ is_kind_of_form form (kind_said says)
+form_by_kind Step (line.Version version) = refl
+form_by_kind Step (line.Setting setting) = refl
+form_by_kind Step (line.End end) = refl
+form_by_kind Step (line.Bundle bundle) = refl
+form_by_kind Step (line.Thread thread) = refl
+form_by_kind Step (line.Plan planned) = refl
+form_by_kind Step (line.Fault fault) = refl
+form_by_kind Step (line.Call call) = refl
+form_by_kind Step (line.Calls thread calls) = refl
+form_by_kind Step (line.Step event) = refl
+form_by_kind Run (line.Version version) = refl
+form_by_kind Run (line.Setting setting) = refl
+form_by_kind Run (line.End end) = refl
+form_by_kind Run (line.Bundle bundle) = refl
+form_by_kind Run (line.Thread thread) = refl
+form_by_kind Run (line.Plan planned) = refl
+form_by_kind Run (line.Fault fault) = refl
+form_by_kind Run (line.Call call) = refl
+form_by_kind Run (line.Calls thread calls) = refl
+form_by_kind Run (line.Step event) = refl
+
+form_by_head : (form : Form) (first : Head) → is_of_form form first ≡ is_kind_of_form form (kind_of first)
+form_by_head Step head.Version = refl
+form_by_head Step (head.Setting name) = refl
+form_by_head Step head.Endpoint = refl
+form_by_head Step head.Bundle = refl
+form_by_head Step head.Thread = refl
+form_by_head Step head.Plan = refl
+form_by_head Step head.SwapFault = refl
+form_by_head Step head.Outside = refl
+form_by_head Step (head.OfThread number) = refl
+form_by_head Step (head.OfInterface number) = refl
+form_by_head Step (head.OfDriver number) = refl
+form_by_head Run head.Version = refl
+form_by_head Run (head.Setting name) = refl
+form_by_head Run head.Endpoint = refl
+form_by_head Run head.Bundle = refl
+form_by_head Run head.Thread = refl
+form_by_head Run head.Plan = refl
+form_by_head Run head.SwapFault = refl
+form_by_head Run head.Outside = refl
+form_by_head Run (head.OfThread number) = refl
+form_by_head Run (head.OfInterface number) = refl
+form_by_head Run (head.OfDriver number) = refl
+
 pub lines_are_lawful : LinesAreLawful
-lines_are_lawful form said first words says e = (all_kinds form said first words).holds says e
+lines_are_lawful form said first words says e =
+    let known = (all_kinds form said first words).holds says e in
+    (section_by_kind says ∙ (ap (λ (k : Kind). section_of_kind k) known.0 ∙ sym (section_by_head first)),
+    form_by_kind form says ∙ (ap (λ (k : Kind). is_kind_of_form form k) known.0 ∙ sym (form_by_head form first)),
+    known.1)

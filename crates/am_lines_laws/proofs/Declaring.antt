@@ -31,13 +31,13 @@ use Rattle.am_lines.specs.declared.head.SettingName.TheVariants.{Network as Netw
 use Rattle.am_lines.specs.Places.{node_at, end_word, tag_at}
 use Rattle.am_lines.specs.Settings.{version_of, version_line, once_within, network_of as network_word, network_setting, setting_line}
 use Rattle.am_lines.specs.Declarations.{disk_at, endpoint_line, thread_line, link_fault_at, plan_line, swap_fault_line, mask_at, members, has_twice, bundle_line}
-use Rattle.am_lines_laws.specs.LineLaws.{network_of, section_said, IsNetworkOf, IsLawfulSetting, IsLawfulLine}
+use Rattle.am_lines_laws.specs.LineLaws.{network_of, Kind, OfVersion, OfDeclaration, OfPlan, kind_said, IsNetworkOf, IsLawfulSetting, IsLawfulLine}
 use Rattle.am_lines_laws.proofs.Meets.{Meets, refuses, gives, bind, test, anything, found}
 use Rattle.am_lines_laws.proofs.Words.{is_within, a_node, a_tag, an_end_word, eq_true}
 
--- lawful, and of this section
-abbrev pub Says : Form → Said → ℕ → Line → Type 0
-Says form said section says = (section_said says ≡ section) × IsLawfulLine form said says
+-- lawful, and of this kind
+abbrev pub Says : Form → Said → Kind → Line → Type 0
+Says form said kind says = (kind_said says ≡ kind) × IsLawfulLine form said says
 
 -- ---- tests
 
@@ -65,12 +65,12 @@ differ a b e = grind (arith, nat_tests)
 
 -- ---- sections 1 and 2
 
-pub a_version : (form : Form) (said : Said) (words : List (List ℕ)) → Meets (Says form said 1) (version_line said words)
+pub a_version : (form : Form) (said : Said) (words : List (List ℕ)) → Meets (Says form said OfVersion) (version_line said words)
 unfolding version_line
 a_version form said words =
     bind (within 1 2 words) _ (anything (within 1 2 words)) (λ version _.
     bind (ended version.1) _ (anything (ended version.1)) (λ _ _.
-    test (is_some said.version) _ _ (λ e. refuses (Says form said 1) Twice) (λ e. gives (Says form said 1) (line.Version (version_of version.0)) (refl, tt))))
+    test (is_some said.version) _ _ (λ e. refuses (Says form said OfVersion) Twice) (λ e. gives (Says form said OfVersion) (line.Version (version_of version.0)) (refl, tt))))
 
 once : (low high : ℕ) (stood : Option ℕ) (words : List (List ℕ)) → Meets (λ n. IsWithin low high n) (once_within low high stood words)
 unfolding once_within
@@ -121,7 +121,7 @@ a_disk settings [] = gives (λ (disk : Bool × List (List ℕ)). IsTrue disk.0 �
 a_disk settings (word ∷ words) =
     test (bytes_eq word (codes "disk")) _ _ (λ e. on_packets words settings.network) (λ e. refuses (λ (disk : Bool × List (List ℕ)). IsTrue disk.0 → network_of settings ≡ Packet) UnknownWord)
 
-pub an_endpoint : (form : Form) (said : Said) (words : List (List ℕ)) → Meets (Says form said 3) (endpoint_line said words)
+pub an_endpoint : (form : Form) (said : Said) (words : List (List ℕ)) → Meets (Says form said OfDeclaration) (endpoint_line said words)
 unfolding endpoint_line
 an_endpoint form said words =
     bind (within 0 255 words) _ (is_within 0 255 words) (λ id id_in.
@@ -129,23 +129,23 @@ an_endpoint form said words =
     bind (tag_at node.1) _ (a_tag node.1) (λ tag tag_in.
     bind (disk_at said.settings tag.1) _ (a_disk said.settings tag.1) (λ disk disk_in.
     bind (ended disk.1) _ (anything (ended disk.1)) (λ _ _.
-    test (is_some (end_of said id.0)) _ _ (λ e. refuses (Says form said 3) Twice) (λ new.
+    test (is_some (end_of said id.0)) _ _ (λ e. refuses (Says form said OfDeclaration) Twice) (λ new.
     test (nat_lt (count_by (λ end. end.node.0 == node.0.0) said.ends) 64) _ _
-      (λ room. gives (Says form said 3) (line.End (record { id = record { 0 = id.0 }; node = node.0; tag = tag.0; disk = disk.0 }))
+      (λ room. gives (Says form said OfDeclaration) (line.End (record { id = record { 0 = id.0 }; node = node.0; tag = tag.0; disk = disk.0 }))
         (refl, (record { id = id_in.1; node = node_in; tag = tag_in; disk = disk_in }, is_none (end_of said id.0) new, is_less _ _ room)))
-      (λ full. refuses (Says form said 3) TooMany)))))))
+      (λ full. refuses (Says form said OfDeclaration) TooMany)))))))
 
-pub a_thread : (form : Form) (said : Said) (words : List (List ℕ)) → Meets (Says form said 3) (thread_line said words)
+pub a_thread : (form : Form) (said : Said) (words : List (List ℕ)) → Meets (Says form said OfDeclaration) (thread_line said words)
 unfolding thread_line
 a_thread form said words =
     bind (within 0 63 words) _ (is_within 0 63 words) (λ id id_in.
     bind (node_at said.settings id.1) _ (a_node said.settings id.1) (λ node node_in.
     bind (ended node.1) _ (anything (ended node.1)) (λ _ _.
-    test (is_some (thread_of said id.0)) _ _ (λ e. refuses (Says form said 3) Twice) (λ new.
+    test (is_some (thread_of said id.0)) _ _ (λ e. refuses (Says form said OfDeclaration) Twice) (λ new.
     test (nat_lt (count_by (λ thread. thread.node.0 == node.0.0) said.threads) 4) _ _
-      (λ room. gives (Says form said 3) (line.Thread (record { id = id.0; node = node.0 }))
+      (λ room. gives (Says form said OfDeclaration) (line.Thread (record { id = id.0; node = node.0 }))
         (refl, (record { id = id_in.1; node = node_in }, is_none (thread_of said id.0) new, is_less _ _ room)))
-      (λ full. refuses (Says form said 3) TooMany)))))
+      (λ full. refuses (Says form said OfDeclaration) TooMany)))))
 
 a_link_fault : (words : List (List ℕ)) → Meets (λ (fault : LinkFault × List (List ℕ)). IsLawfulFault fault.0) (link_fault_at words)
 unfolding link_fault_at
@@ -157,7 +157,7 @@ a_link_fault words =
     test (bytes_eq word.0 (codes "late")) _ _ (λ e.
       bind (within 1 16 word.1) _ (is_within 1 16 word.1) (λ by h. gives Good (Late by.0, by.1) h)) (λ e3. refuses Good UnknownWord))))
 
-pub a_plan_line : (form : Form) (said : Said) (words : List (List ℕ)) → Meets (Says form said 3) (plan_line said words)
+pub a_plan_line : (form : Form) (said : Said) (words : List (List ℕ)) → Meets (Says form said OfPlan) (plan_line said words)
 unfolding plan_line
 a_plan_line form said words =
     bind (node_at said.settings words) _ (a_node said.settings words) (λ from from_in.
@@ -165,23 +165,23 @@ a_plan_line form said words =
     bind (within 1 65_536 to.1) _ (is_within 1 65_536 to.1) (λ number number_in.
     bind (link_fault_at number.1) _ (a_link_fault number.1) (λ fault fault_in.
     bind (ended fault.1) _ (anything (ended fault.1)) (λ _ _.
-    test (is_planned said.plan from.0 to.0 number.0) _ _ (λ e. refuses (Says form said 3) Twice) (λ new.
+    test (is_planned said.plan from.0 to.0 number.0) _ _ (λ e. refuses (Says form said OfPlan) Twice) (λ new.
     test (nat_lt (length said.plan) 4096) _ _
-      (λ room. gives (Says form said 3) (line.Plan (record { from = from.0; to = to.0; number = number.0; fault = fault.0 }))
+      (λ room. gives (Says form said OfPlan) (line.Plan (record { from = from.0; to = to.0; number = number.0; fault = fault.0 }))
         (refl, (record { from = from_in; to = to_in; number = number_in; fault = fault_in }, new, is_less _ _ room)))
-      (λ full. refuses (Says form said 3) TooMany)))))))
+      (λ full. refuses (Says form said OfPlan) TooMany)))))))
 
-pub a_swap_fault : (form : Form) (said : Said) (words : List (List ℕ)) → Meets (Says form said 3) (swap_fault_line said words)
+pub a_swap_fault : (form : Form) (said : Said) (words : List (List ℕ)) → Meets (Says form said OfDeclaration) (swap_fault_line said words)
 unfolding swap_fault_line
 a_swap_fault form said words =
     bind (node_at said.settings words) _ (a_node said.settings words) (λ node node_in.
     bind (within 1 65_536 node.1) _ (is_within 1 65_536 node.1) (λ number number_in.
     bind (ended number.1) _ (anything (ended number.1)) (λ _ _.
-    test (is_faulty said.faults node.0 number.0) _ _ (λ e. refuses (Says form said 3) Twice) (λ new.
+    test (is_faulty said.faults node.0 number.0) _ _ (λ e. refuses (Says form said OfDeclaration) Twice) (λ new.
     test (nat_lt (length said.faults) 64) _ _
-      (λ room. gives (Says form said 3) (line.Fault (record { node = node.0; number = number.0 }))
+      (λ room. gives (Says form said OfDeclaration) (line.Fault (record { node = node.0; number = number.0 }))
         (refl, (record { node = node_in; number = number_in }, new, is_less _ _ room)))
-      (λ full. refuses (Says form said 3) TooMany)))))
+      (λ full. refuses (Says form said OfDeclaration) TooMany)))))
 
 -- ---- bundles
 
@@ -202,7 +202,7 @@ all_once (id ∷ ids) e =
       (All-weaker (λ other. (other.0 == id.0) ≡ false) (λ other. id.0 ≢ other.0) (λ other h. differ other.0 id.0 h) ids (none_passes (λ other. other.0 == id.0) ids parts.0))
       (all_once ids parts.1)
 
-pub a_bundle_line : (form : Form) (said : Said) (words : List (List ℕ)) → Meets (Says form said 3) (bundle_line said words)
+pub a_bundle_line : (form : Form) (said : Said) (words : List (List ℕ)) → Meets (Says form said OfDeclaration) (bundle_line said words)
 unfolding bundle_line
 a_bundle_line form said words =
     bind (within 0 63 words) _ (is_within 0 63 words) (λ id id_in.
@@ -210,9 +210,9 @@ a_bundle_line form said words =
     bind (word_at mask.1) _ (anything (word_at mask.1)) (λ word _.
     bind (end_word said None word.0) _ (an_end_word said None word.0) (λ first first_in.
     bind (members said first.node word.1) _ (all_members said first.node word.1) (λ others others_in.
-    test (is_some (bundle_of said id.0) || has_twice (first.id ∷ others)) _ _ (λ e. refuses (Says form said 3) Twice) (λ new.
+    test (is_some (bundle_of said id.0) || has_twice (first.id ∷ others)) _ _ (λ e. refuses (Says form said OfDeclaration) Twice) (λ new.
       let parts = neither (is_some (bundle_of said id.0)) (has_twice (first.id ∷ others)) new in
-      gives (Says form said 3) (line.Bundle (record { id = id.0; mask = mask.0; members = first.id ∷ others }))
+      gives (Says form said OfDeclaration) (line.Bundle (record { id = id.0; mask = mask.0; members = first.id ∷ others }))
         (refl, (record {
           id = id_in.1;
           members = (first.node, All-cons (IsOn said.ends first.node) first.id others first_in.0 others_in);

@@ -29,9 +29,9 @@ use Rattle.am_draft.specs.declared.line.Line.{Line}
 use Rattle.am_draft.specs.declared.line.Line.TheVariants as line
 use Rattle.am_draft.specs.Said.{Said, with_line, with_setting, nothing, node_count, frame_count, channel_count, end_of, thread_of, bundle_of, is_planned, is_faulty, script_call}
 use Rattle.am_lines.specs.Calls.{least_share}
-use Rattle.am_lines_laws.specs.LineLaws.{network_of, section_said, IsNetworkOf, IsLawfulSetting, IsLawfulLine}
+use Rattle.am_lines_laws.specs.LineLaws.{network_of, section_said, fits_form, IsNetworkOf, IsLawfulSetting, IsLawfulLine}
 use Rattle.am_lines_laws.specs.Sound.{SettingsAreSound, EndsAreSound, BundlesAreSound, ThreadsAreSound, PlanIsSound, FaultsAreSound, ScriptIsSound, StepsAreSound, DeclaresNothing, DoesNothing, HasForm, IsSound}
-use Rattle.am_lines_laws.specs.Growth.{fits_form, StaysSound, BeginsSound}
+use Rattle.am_lines_laws.specs.Growth.{StaysSound, BeginsSound}
 use Rattle.am_lines_laws.proofs.Declaring.{none_passes, neither}
 
 -- ---- nothing

@@ -1,5 +1,5 @@
 -- What a line says is lawful, after what the lines before it have said.
-use Rattle.std.specs.Prelude.{◌≡◌, ◌≢◌, ℕ, ◌+◌, ◌<◌, ◌≤◌, ◌==◌, false, Bool, List, length, map, count_by, Option, Some, None, Result, Ok}
+use Rattle.std.specs.Prelude.{◌≡◌, ◌≢◌, ℕ, ◌+◌, ◌<◌, ◌≤◌, ◌==◌, true, false, Bool, List, length, map, count_by, Option, Some, None, Result, Ok}
 use Rattle.std.specs.List.{All, AllPairs}
 use Rattle.std.specs.Option.{unwrap_or}
 use Rattle.am_lexer.specs.declared.what.What.{What}
@@ -21,7 +21,8 @@ use Rattle.am_draft.specs.declared.line.Line.{Line}
 use Rattle.am_draft.specs.declared.line.Line.TheVariants as line
 use Rattle.am_draft.specs.Said.{Said, node_count, frame_count, channel_count, end_of, thread_of, bundle_of, is_planned, is_faulty, script_call}
 use Rattle.am_lines.specs.declared.head.Head.{Head}
-use Rattle.am_lines.specs.Heads.{section_of}
+use Rattle.am_lines.specs.declared.head.Head.TheVariants as head
+use Rattle.am_lines.specs.Heads.{section_of, is_of_form}
 use Rattle.am_lines.specs.Calls.{least_share}
 use Rattle.am_lines.specs.Lines.{words_say}
 
@@ -40,6 +41,62 @@ section_said (line.Fault fault) = 3
 section_said (line.Call call) = 4
 section_said (line.Calls thread calls) = 4
 section_said (line.Step event) = 4
+
+-- whether what a line says may stand in a text of this form
+abbrev pub fits_form : Form → Line → Bool
+fits_form Step (line.Plan planned) = false
+fits_form Step (line.Call call) = false
+fits_form Step (line.Calls thread calls) = false
+fits_form Run (line.Step event) = false
+fits_form form says = true
+
+-- the kinds of line, by section and form
+pub data Kind : Type 0 where
+  OfVersion : Kind
+  OfSetting : Kind
+  OfDeclaration : Kind
+  OfPlan : Kind
+  OfScript : Kind
+  OfStep : Kind
+
+abbrev pub kind_said : Line → Kind
+kind_said (line.Version version) = OfVersion
+kind_said (line.Setting setting) = OfSetting
+kind_said (line.End end) = OfDeclaration
+kind_said (line.Bundle bundle) = OfDeclaration
+kind_said (line.Thread thread) = OfDeclaration
+kind_said (line.Plan planned) = OfPlan
+kind_said (line.Fault fault) = OfDeclaration
+kind_said (line.Call call) = OfScript
+kind_said (line.Calls thread calls) = OfScript
+kind_said (line.Step event) = OfStep
+
+abbrev pub kind_of : Head → Kind
+kind_of head.Version = OfVersion
+kind_of (head.Setting name) = OfSetting
+kind_of head.Endpoint = OfDeclaration
+kind_of head.Bundle = OfDeclaration
+kind_of head.Thread = OfDeclaration
+kind_of head.Plan = OfPlan
+kind_of head.SwapFault = OfDeclaration
+kind_of head.Outside = OfStep
+kind_of (head.OfThread number) = OfScript
+kind_of (head.OfInterface number) = OfStep
+kind_of (head.OfDriver number) = OfStep
+
+abbrev pub section_of_kind : Kind → ℕ
+section_of_kind OfVersion = 1
+section_of_kind OfSetting = 2
+section_of_kind OfDeclaration = 3
+section_of_kind OfPlan = 3
+section_of_kind OfScript = 4
+section_of_kind OfStep = 4
+
+abbrev pub is_kind_of_form : Form → Kind → Bool
+is_kind_of_form Step OfPlan = false
+is_kind_of_form Step OfScript = false
+is_kind_of_form Run OfStep = false
+is_kind_of_form form kind = true
 
 -- a run goes over packets
 abbrev pub IsNetworkOf : Form → Network → Type 0
@@ -87,4 +144,4 @@ IsLawfulLine form said (line.Calls thread calls) = All (IsLawfulScriptCall said.
 IsLawfulLine form said (line.Step event) = IsLawfulEvent said.ends (node_count said.settings) (frame_count said.settings) (channel_count said.settings) (least_share said.version) event × (length said.steps < 65_536)
 
 abbrev pub LinesAreLawful : Type 0
-LinesAreLawful = (form : Form) (said : Said) (head : Head) (words : List (List ℕ)) (says : Line) → words_say form said head words ≡ Ok says → (section_said says ≡ section_of head) × IsLawfulLine form said says
+LinesAreLawful = (form : Form) (said : Said) (first : Head) (words : List (List ℕ)) (says : Line) → words_say form said first words ≡ Ok says → (section_said says ≡ section_of first) × (fits_form form says ≡ is_of_form form first) × IsLawfulLine form said says
