@@ -6,16 +6,11 @@ use Rattle.am_names.specs.declared.NodeId.{NodeId}
 use Rattle.am_office.specs.declared.Condition.{Condition}
 use Rattle.am_office.specs.declared.Event.{Event}
 use Rattle.am_office.specs.declared.Entry.{Entry}
-<<<<<<< HEAD
 use Rattle.am_office.specs.declared.Part.{Part}
 use Rattle.am_office.specs.declared.Part.TheVariants as Parts
 use Rattle.am_office.specs.Entries.{touches, touches_node, ends_touched, node_touched}
 use Rattle.am_model.specs.Layout.{Layout}
 use Rattle.am_model.specs.History.{failing, outcome_of}
-=======
-use Rattle.am_names.specs.Names.{same_serial, has_serial}
-use Rattle.am_office.specs.Entries.{accepted_of, run_of, unknown_of, touches, touches_node, ends_touched, node_touched, passes, is_serial}
->>>>>>> 751be1aebeee753d005c4cbeb9af3b14047dab41
 
 -- a journal follows the events of a script, with one stamp after the other
 pub record FollowsSteps (events : List Event) (journal : List Entry) : Type 0 where
