@@ -284,3 +284,6 @@ impl Model for Journal {
 /// There is no memory for what was asked.
 #[derive(Clone, Copy, PartialEq, Eq, Debug)]
 pub struct NoMemory;
+
+#[cfg(test)]
+mod tests;

@@ -1,6 +1,8 @@
 //! The line of an entry in a printed journal.
 
-ghost use Rattle.std.specs.Prelude.{◌≡◌, ◌++◌, OnOk, OnErr};
+ghost use Rattle.std.specs.Prelude.{◌≡◌, ◌++◌, ◌∷◌, [], OnOk, OnErr, codes};
+ghost use Rattle.std.specs.Fmt.{decimal};
+ghost use Rattle.am_office.specs.Words as words;
 ghost use Rattle.am_office.specs.Lines as text;
 ghost use Rattle.am_office.specs.Words.{spaced};
 ghost use Rattle.am_office.specs.Pieces.{Extends, word_of};
@@ -9,7 +11,7 @@ use crate::pieces::Piece::{Number, Tag, Text};
 use crate::pieces::{Piece, count, put_end, put_numbered, put_spaced, put_word, small};
 use crate::words::{cause_word, mask_word, verdict_word, why_word};
 use crate::{Actor, Call, Entry, Event, HandlerKind, NoMemory, Outcome, Received, Refusal};
-use am_names::{EndpointId, Message};
+use am_names::{EndpointId, Message, NodeId, Serial};
 use std::alloc::AllocError;
 
 #[tactic(auto, unfolding(crate::specs::Lines::actor))]
@@ -170,20 +172,68 @@ fn put_refusal(out: &mut Vec<u8>, refusal: Refusal) -> Result<(), AllocError>
     }
 }
 
+// The arrow, a word and a message.
+fn put_message(out: &mut Vec<u8>, word: &'static str, serial: Serial) -> Result<(), AllocError>
+    ensures ok { OnOk result (out.new.items ≡ out.old.items ++ spaced (codes "->" ∷ word.now ∷ words.serial serial ∷ [])) }
+    ensures kept { Extends out.old.items out.new.items }
+{
+    put_spaced(out, &[Text("->"), Text(word), Piece::Serial(serial)])
+}
+
+// The arrow, a word, a message and a second word.
+fn put_message_with(
+    out: &mut Vec<u8>,
+    word: &'static str,
+    serial: Serial,
+    second: &'static str,
+) -> Result<(), AllocError>
+    ensures ok { OnOk result (out.new.items ≡ out.old.items ++ spaced (codes "->" ∷ word.now ∷ words.serial serial ∷ second.now ∷ [])) }
+    ensures kept { Extends out.old.items out.new.items }
+{
+    put_spaced(
+        out,
+        &[Text("->"), Text(word), Piece::Serial(serial), Text(second)],
+    )
+}
+
+// The arrow, a word, a message, a second word, and the number of the answer that goes back.
+fn put_answered(
+    out: &mut Vec<u8>,
+    word: &'static str,
+    serial: Serial,
+    second: &'static str,
+    answer: u32,
+) -> Result<(), AllocError>
+    ensures ok { OnOk result (out.new.items ≡ out.old.items ++ spaced (codes "->" ∷ word.now ∷ words.serial serial ∷ second.now ∷ codes "answer" ∷ decimal answer ∷ [])) }
+    ensures kept { Extends out.old.items out.new.items }
+{
+    let (word, serial, second) = (Text(word), Piece::Serial(serial), Text(second));
+    put_spaced(
+        out,
+        &[
+            Text("->"),
+            word,
+            serial,
+            second,
+            Text("answer"),
+            count(answer),
+        ],
+    )
+}
+
 // The arrow and what came of the receipt of a packet.
 #[tactic(auto, unfolding(crate::specs::Lines::received))]
 fn put_received(out: &mut Vec<u8>, received: Received) -> Result<(), AllocError>
     ensures ok { OnOk result (out.new.items ≡ out.old.items ++ spaced (text.after_arrow (text.received received))) }
     ensures kept { Extends out.old.items out.new.items }
 {
-    let arrow = Text("->");
     match received {
         Received::Accepted { message, answer } => {
             let serial = Piece::Serial(message.serial);
             put_spaced(
                 out,
                 &[
-                    arrow,
+                    Text("->"),
                     Text("accepted"),
                     serial,
                     Text("answer"),
@@ -195,57 +245,21 @@ fn put_received(out: &mut Vec<u8>, received: Received) -> Result<(), AllocError>
             message,
             cause,
             answer,
-        } => {
-            let (serial, cause) = (Piece::Serial(message.serial), Text(cause_word(cause)));
-            put_spaced(
-                out,
-                &[
-                    arrow,
-                    Text("refused"),
-                    serial,
-                    cause,
-                    Text("answer"),
-                    count(answer),
-                ],
-            )
-        }
+        } => { put_answered(out, "refused", message.serial, cause_word(cause), answer) }
         Received::Again {
             serial,
             verdict,
             answer,
-        } => {
-            let (serial, verdict) = (Piece::Serial(serial), Text(verdict_word(verdict)));
-            put_spaced(
-                out,
-                &[
-                    arrow,
-                    Text("again"),
-                    serial,
-                    verdict,
-                    Text("answer"),
-                    count(answer),
-                ],
-            )
-        }
-        Received::Stale => put_spaced(out, &[arrow, Text("stale")]),
-        Received::Delivered(serial) => {
-            put_spaced(out, &[arrow, Text("delivered"), Piece::Serial(serial)])
-        }
+        } => { put_answered(out, "again", serial, verdict_word(verdict), answer) }
+        Received::Stale => put_spaced(out, &[Text("->"), Text("stale")]),
+        Received::Delivered(serial) => put_message(out, "delivered", serial),
         Received::Requeued { serial, cause, .. } => {
-            let cause = Text(cause_word(cause));
-            put_spaced(
-                out,
-                &[arrow, Text("requeued"), Piece::Serial(serial), cause],
-            )
+            put_message_with(out, "requeued", serial, cause_word(cause))
         }
         Received::Returned { serial, cause } => {
-            let cause = Text(cause_word(cause));
-            put_spaced(
-                out,
-                &[arrow, Text("returned"), Piece::Serial(serial), cause],
-            )
+            put_message_with(out, "returned", serial, cause_word(cause))
         }
-        Received::Nothing => put_spaced(out, &[arrow, Text("nothing")]),
+        Received::Nothing => put_spaced(out, &[Text("->"), Text("nothing")]),
     }
 }
 
@@ -270,77 +284,71 @@ fn handler_word(handler: Option<u8>) -> Piece
     }
 }
 
+// The arrow and the emission of a parcel.
+fn put_sent(
+    out: &mut Vec<u8>,
+    serial: Serial,
+    peer: NodeId,
+    channel: u8,
+    seq: u32,
+    attempt: u8,
+    number: u32,
+) -> Result<(), AllocError>
+    ensures ok { OnOk result (out.new.items ≡ out.old.items ++ spaced (codes "->" ∷ codes "sent" ∷ words.serial serial ∷ decimal peer.0 ∷ decimal channel ∷ decimal seq ∷ decimal attempt ∷ decimal number ∷ [])) }
+    ensures kept { Extends out.old.items out.new.items }
+{
+    let (serial, peer, channel) = (Piece::Serial(serial), small(peer.0), small(channel));
+    let (seq, attempt, number) = (count(seq), small(attempt), count(number));
+    put_spaced(
+        out,
+        &[
+            Text("->"),
+            Text("sent"),
+            serial,
+            peer,
+            channel,
+            seq,
+            attempt,
+            number,
+        ],
+    )
+}
+
 // The arrow and what came of an event, if it has an outcome.
 #[tactic(auto, using(crate::proofs::Extended::extension), unfolding(crate::specs::Lines::outcome))]
 fn put_outcome(out: &mut Vec<u8>, outcome: Outcome) -> Result<(), AllocError>
     ensures ok { OnOk result (out.new.items ≡ out.old.items ++ spaced (text.after_arrow (text.outcome outcome))) }
     ensures kept { Extends out.old.items out.new.items }
 {
-    let arrow = Text("->");
     match outcome {
         Outcome::Silent => put_spaced(out, &[]),
-        Outcome::Done => put_spaced(out, &[arrow, Text("ok")]),
-        Outcome::Requested(message) => {
-            put_spaced(out, &[arrow, Text("ok"), Piece::Serial(message.serial)])
-        }
+        Outcome::Done => put_spaced(out, &[Text("->"), Text("ok")]),
+        Outcome::Requested(message) => put_message(out, "ok", message.serial),
         Outcome::Refused(refusal) => {
-            put_spaced(out, &[arrow, Text("refused")])?;
+            put_spaced(out, &[Text("->"), Text("refused")])?;
             put_refusal(out, refusal)
         }
-        Outcome::Zero { serial, why } => {
-            put_spaced(
-                out,
-                &[
-                    arrow,
-                    Text("zero"),
-                    Piece::Serial(serial),
-                    Text(why_word(why)),
-                ],
-            )
-        }
+        Outcome::Zero { serial, why } => put_message_with(out, "zero", serial, why_word(why)),
         Outcome::Ran {
             message,
             handler,
             sends,
         } => {
             let (serial, handler) = (Piece::Serial(message.serial), handler_word(handler));
-            put_spaced(out, &[arrow, Text("ran"), serial, handler])?;
+            put_spaced(out, &[Text("->"), Text("ran"), serial, handler])?;
             put_sends(out, sends)
         }
-        Outcome::Blocked => put_spaced(out, &[arrow, Text("blocked")]),
-        Outcome::Empty => put_spaced(out, &[arrow, Text("empty")]),
-        Outcome::Ready => put_spaced(out, &[arrow, Text("ready")]),
-        Outcome::Quiet => put_spaced(out, &[arrow, Text("quiet")]),
-        Outcome::Failed => put_spaced(out, &[arrow, Text("failed")]),
-        Outcome::Accepted(message) => {
-            put_spaced(
-                out,
-                &[arrow, Text("accepted"), Piece::Serial(message.serial)],
-            )
-        }
+        Outcome::Blocked => put_spaced(out, &[Text("->"), Text("blocked")]),
+        Outcome::Empty => put_spaced(out, &[Text("->"), Text("empty")]),
+        Outcome::Ready => put_spaced(out, &[Text("->"), Text("ready")]),
+        Outcome::Quiet => put_spaced(out, &[Text("->"), Text("quiet")]),
+        Outcome::Failed => put_spaced(out, &[Text("->"), Text("failed")]),
+        Outcome::Accepted(message) => put_message(out, "accepted", message.serial),
         Outcome::Requeued { message, cause, .. } => {
-            let cause = Text(cause_word(cause));
-            put_spaced(
-                out,
-                &[
-                    arrow,
-                    Text("requeued"),
-                    Piece::Serial(message.serial),
-                    cause,
-                ],
-            )
+            put_message_with(out, "requeued", message.serial, cause_word(cause))
         }
         Outcome::Returned { message, cause } => {
-            let cause = Text(cause_word(cause));
-            put_spaced(
-                out,
-                &[
-                    arrow,
-                    Text("returned"),
-                    Piece::Serial(message.serial),
-                    cause,
-                ],
-            )
+            put_message_with(out, "returned", message.serial, cause_word(cause))
         }
         Outcome::Sent {
             message,
@@ -349,32 +357,9 @@ fn put_outcome(out: &mut Vec<u8>, outcome: Outcome) -> Result<(), AllocError>
             seq,
             attempt,
             number,
-        } => {
-            let (serial, peer, channel) = (
-                Piece::Serial(message.serial),
-                small(peer.0),
-                small(channel),
-            );
-            put_spaced(
-                out,
-                &[
-                    arrow,
-                    Text("sent"),
-                    serial,
-                    peer,
-                    channel,
-                    count(seq),
-                    small(attempt),
-                    count(number),
-                ],
-            )
-        }
-        Outcome::Delivered(serial) => {
-            put_spaced(out, &[arrow, Text("delivered"), Piece::Serial(serial)])
-        }
-        Outcome::Unknown(serial) => {
-            put_spaced(out, &[arrow, Text("unknown"), Piece::Serial(serial)])
-        }
+        } => { put_sent(out, message.serial, peer, channel, seq, attempt, number) }
+        Outcome::Delivered(serial) => put_message(out, "delivered", serial),
+        Outcome::Unknown(serial) => put_message(out, "unknown", serial),
         Outcome::Received {
             result: received,
             ..
