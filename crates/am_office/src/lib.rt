@@ -12,8 +12,8 @@ pub use endings::Fate;
 pub use fates::fate;
 pub use lines::entry_line;
 pub use roles::{accepted_of, return_of, run_of, unknown_of};
-pub use touched::{node_touched, touches};
 use std::marker::Model;
+pub use touched::{node_touched, touches};
 
 /// What a handler does when a message runs it.
 #[derive(Clone, Copy, PartialEq, Eq, Debug)]

@@ -10,7 +10,10 @@ ghost use Rattle.am_text.specs.Pieces.{Extends, word_of};
 use crate::{Actor, Call, Entry, Event, HandlerKind, Mask, NoMemory, Outcome, Received, Refusal};
 use am_names::{EndpointId, Message, NodeId, Serial};
 use am_text::Piece::{Number, Tag, Text};
-use am_text::{Piece, cause_word, count, put_end, put_numbered, put_spaced, put_word, small, verdict_word, why_word};
+use am_text::{
+    Piece, cause_word, count, put_end, put_numbered, put_spaced, put_word, small, verdict_word,
+    why_word,
+};
 use std::alloc::AllocError;
 
 #[tactic(auto, unfolding(crate::specs::Lines::actor))]

@@ -56,7 +56,10 @@ pub fn touches(entry: &Entry, end: EndpointId) -> bool
         Event::Bind { end: own, .. } => end == own,
         Event::Expire { .. } => touched_by_expiry(entry.outcome) == Some(end),
         Event::Receive { .. } => match entry.outcome {
-            Outcome::Received { result: received, .. } => touched_by_result(received) == Some(end),
+            Outcome::Received {
+                result: received,
+                ..
+            } => touched_by_result(received) == Some(end),
             _ => false,
         },
         Event::Drain { end: own, .. } => end == own,

@@ -16,5 +16,4 @@ ghost use Rattle.am_report.specs.Report.{listed};
 pub fn messages_are_in_order()
     ensures ascending { (journal : List Entry) → IsStrictlySortedBy serial_order (keys_of (listed journal)) }
     ensures accepted { (journal : List Entry) (s : Serial) → list_any (same_serial s) (keys_of (listed journal)) ≡ is_accepted journal s }
-{
-}
+{}
