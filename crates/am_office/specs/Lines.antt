@@ -9,6 +9,8 @@ use Rattle.am_office.specs.declared.Actor.{Actor}
 use Rattle.am_office.specs.declared.Actor.TheVariants as Actors
 use Rattle.am_office.specs.declared.HandlerKind.{HandlerKind}
 use Rattle.am_office.specs.declared.HandlerKind.TheVariants as HandlerKinds
+use Rattle.am_office.specs.declared.Mask.{Mask}
+use Rattle.am_office.specs.declared.Mask.TheVariants as Masks
 use Rattle.am_office.specs.declared.Call.{Call}
 use Rattle.am_office.specs.declared.Call.TheVariants as Calls
 use Rattle.am_office.specs.declared.Event.{Event}
@@ -20,8 +22,8 @@ use Rattle.am_office.specs.declared.Received.TheVariants as Got
 use Rattle.am_office.specs.declared.Outcome.{Outcome}
 use Rattle.am_office.specs.declared.Outcome.TheVariants as Out
 use Rattle.am_office.specs.declared.Entry.{Entry}
-use Rattle.am_office.specs.Words as words
-use Rattle.am_office.specs.Words.{Word, serial, tag, line}
+use Rattle.am_text.specs.Words as words
+use Rattle.am_text.specs.Words.{Word, serial, tag, line}
 
 -- `tT` for a script call of thread T, `x` for any other
 unfoldable pub actor : Actor → Word
@@ -56,6 +58,10 @@ handler_kind HandlerKinds.Note = codes "note" ∷ []
 handler_kind (HandlerKinds.Echo r) = codes "echo" ∷ decimal r ∷ []
 handler_kind (HandlerKinds.Add r) = codes "add" ∷ decimal r ∷ []
 
+unfoldable pub mask : Mask → Word
+mask Masks.NoEvents = codes "noevents"
+mask Masks.NotEmpty = codes "notempty"
+
 -- a call on endpoint `e`
 unfoldable pub call : EndpointId → Call → List Word
 call e (Calls.Request i h w) =
@@ -67,7 +73,7 @@ call e (Calls.Unmap i) = codes "unmap" ∷ decimal e.0 ∷ decimal i ∷ []
 call e (Calls.SetHandler h k) = codes "handler" ∷ decimal e.0 ∷ decimal h ∷ handler_kind k
 call e (Calls.GiveUp s) = codes "giveup" ∷ decimal e.0 ∷ serial s ∷ []
 call e Calls.Close = codes "close" ∷ decimal e.0 ∷ []
-call e (Calls.Test m) = codes "event" ∷ decimal e.0 ∷ words.mask m ∷ []
+call e (Calls.Test m) = codes "event" ∷ decimal e.0 ∷ mask m ∷ []
 
 -- what happens
 unfoldable pub what : Event → List Word

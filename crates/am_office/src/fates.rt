@@ -59,8 +59,8 @@ fn first_cause(entries: &[Entry], serial: Serial) -> Option<Cause>
     None
 }
 
-/// What became of an accepted message, by what its entries were.
-pub(crate) fn fate_by(cause: Option<Cause>, unknown: bool, ran: bool) -> Fate
+// What became of an accepted message, by what its entries were.
+fn fate_by(cause: Option<Cause>, unknown: bool, ran: bool) -> Fate
     ensures { result ≡ fates.fate_by (option_to_list cause) unknown ran }
 {
     match (cause, unknown, ran) {

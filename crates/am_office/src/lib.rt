@@ -3,21 +3,17 @@
 
 mod endings;
 mod fates;
-mod known;
 mod lines;
-mod messages;
-mod pieces;
-mod reports;
 mod roles;
-mod runs;
-mod words;
+mod touched;
 
 use am_names::{Cause, EndpointId, Message, NodeId, Serial, Tag, Verdict, Why, Words};
 pub use endings::Fate;
 pub use fates::fate;
 pub use lines::entry_line;
-pub use reports::report;
+pub use roles::{accepted_of, return_of, run_of, unknown_of};
 use std::marker::Model;
+pub use touched::{node_touched, touches};
 
 /// What a handler does when a message runs it.
 #[derive(Clone, Copy, PartialEq, Eq, Debug)]

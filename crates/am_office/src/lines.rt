@@ -2,16 +2,18 @@
 
 ghost use Rattle.std.specs.Prelude.{◌≡◌, ◌++◌, ◌∷◌, [], OnOk, OnErr, codes};
 ghost use Rattle.std.specs.Fmt.{decimal};
-ghost use Rattle.am_office.specs.Words as words;
+ghost use Rattle.am_text.specs.Words as words;
 ghost use Rattle.am_office.specs.Lines as text;
-ghost use Rattle.am_office.specs.Words.{spaced};
-ghost use Rattle.am_office.specs.Pieces.{Extends, word_of};
+ghost use Rattle.am_text.specs.Words.{spaced};
+ghost use Rattle.am_text.specs.Pieces.{Extends, word_of};
 
-use crate::pieces::Piece::{Number, Tag, Text};
-use crate::pieces::{Piece, count, put_end, put_numbered, put_spaced, put_word, small};
-use crate::words::{cause_word, mask_word, verdict_word, why_word};
-use crate::{Actor, Call, Entry, Event, HandlerKind, NoMemory, Outcome, Received, Refusal};
+use crate::{Actor, Call, Entry, Event, HandlerKind, Mask, NoMemory, Outcome, Received, Refusal};
 use am_names::{EndpointId, Message, NodeId, Serial};
+use am_text::Piece::{Number, Tag, Text};
+use am_text::{
+    Piece, cause_word, count, put_end, put_numbered, put_spaced, put_word, small, verdict_word,
+    why_word,
+};
 use std::alloc::AllocError;
 
 #[tactic(auto, unfolding(crate::specs::Lines::actor))]
@@ -57,7 +59,17 @@ fn put_handler_kind(out: &mut Vec<u8>, kind: HandlerKind) -> Result<(), AllocErr
     }
 }
 
-#[tactic(auto, using(crate::proofs::Extended::extension), unfolding(crate::specs::Lines::call))]
+#[tactic(auto, unfolding(crate::specs::Lines::mask))]
+fn mask_word(mask: Mask) -> &'static str
+    ensures { result.now ≡ text.mask mask }
+{
+    match mask {
+        Mask::NoEvents => "noevents",
+        Mask::NotEmpty => "notempty",
+    }
+}
+
+#[tactic(auto, using(am_text::proofs::Extended::extension), unfolding(crate::specs::Lines::call))]
 fn put_call(out: &mut Vec<u8>, end: EndpointId, call: Call) -> Result<(), AllocError>
     ensures ok { OnOk result (out.new.items ≡ out.old.items ++ spaced (text.call end call)) }
     ensures kept { Extends out.old.items out.new.items }
@@ -315,7 +327,7 @@ fn put_sent(
 }
 
 // The arrow and what came of an event, if it has an outcome.
-#[tactic(auto, using(crate::proofs::Extended::extension), unfolding(crate::specs::Lines::outcome))]
+#[tactic(auto, using(am_text::proofs::Extended::extension), unfolding(crate::specs::Lines::outcome))]
 fn put_outcome(out: &mut Vec<u8>, outcome: Outcome) -> Result<(), AllocError>
     ensures ok { OnOk result (out.new.items ≡ out.old.items ++ spaced (text.after_arrow (text.outcome outcome))) }
     ensures kept { Extends out.old.items out.new.items }
@@ -368,8 +380,8 @@ fn put_outcome(out: &mut Vec<u8>, outcome: Outcome) -> Result<(), AllocError>
 }
 
 /// Appends the entry's line. What was there stays, also after an error.
-#[tactic(auto, using(crate::proofs::Extended::extension), unfolding(crate::specs::Lines::line_of))]
-pub(crate) fn put_entry(out: &mut Vec<u8>, entry: &Entry) -> Result<(), AllocError>
+#[tactic(auto, using(am_text::proofs::Extended::extension), unfolding(crate::specs::Lines::line_of))]
+fn put_entry(out: &mut Vec<u8>, entry: &Entry) -> Result<(), AllocError>
     ensures ok { OnOk result (out.new.items ≡ out.old.items ++ text.line_of entry.now) }
     ensures kept { Extends out.old.items out.new.items }
 {
@@ -381,7 +393,7 @@ pub(crate) fn put_entry(out: &mut Vec<u8>, entry: &Entry) -> Result<(), AllocErr
 
 /// Appends the line of an entry in a printed journal: who acts, what happens, where the event has an outcome `->` and
 /// that outcome, and a newline. Where there is no memory for it, `out` is left as it was.
-#[tactic(auto, using(crate::proofs::Extended::extension))]
+#[tactic(auto, using(am_text::proofs::Extended::extension))]
 pub fn entry_line(entry: &Entry, out: &mut Vec<u8>) -> Result<(), NoMemory>
     ensures ok { OnOk result (out.new.items ≡ out.old.items ++ text.line_of entry.now) }
     ensures no_memory { OnErr result (out.new.items ≡ out.old.items) }

@@ -7,7 +7,7 @@ use crate::{Call, Entry, Event, Outcome, Received};
 use am_names::{Cause, Message, Serial};
 
 /// The message that an entry accepts.
-pub(crate) fn accepted_of(entry: &Entry) -> Option<Message>
+pub fn accepted_of(entry: &Entry) -> Option<Message>
     ensures { result ≡ does.accepted_of entry.now }
 {
     match (entry.event, entry.outcome) {
@@ -30,7 +30,7 @@ pub(crate) fn accepted_of(entry: &Entry) -> Option<Message>
 }
 
 /// The message that an entry runs.
-pub(crate) fn run_of(entry: &Entry) -> Option<Message>
+pub fn run_of(entry: &Entry) -> Option<Message>
     ensures { result ≡ does.run_of entry.now }
 {
     match (entry.event, entry.outcome) {
@@ -46,7 +46,7 @@ pub(crate) fn run_of(entry: &Entry) -> Option<Message>
 }
 
 /// The serial that an entry leaves unknown.
-pub(crate) fn unknown_of(entry: &Entry) -> Option<Serial>
+pub fn unknown_of(entry: &Entry) -> Option<Serial>
     ensures { result ≡ does.unknown_of entry.now }
 {
     match (entry.event, entry.outcome) {
@@ -56,7 +56,7 @@ pub(crate) fn unknown_of(entry: &Entry) -> Option<Serial>
 }
 
 /// The serial that an entry returns, and its cause.
-pub(crate) fn return_of(entry: &Entry) -> Option<(Serial, Cause)>
+pub fn return_of(entry: &Entry) -> Option<(Serial, Cause)>
     ensures { result ≡ does.return_of entry.now }
 {
     match (entry.event, entry.outcome) {

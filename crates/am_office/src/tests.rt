@@ -1,6 +1,5 @@
 mod fates;
 mod lines;
-mod reports;
 
 use super::*;
 use am_names::{MsgKind, Serial};

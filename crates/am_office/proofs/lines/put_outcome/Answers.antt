@@ -1,5 +1,5 @@
 use Rattle.am_office.specs.Lines.{outcome}
-use Rattle.am_office.proofs.Extended.{appended_words}
+use Rattle.am_text.proofs.Extended.{appended_words}
 use Rattle.am_office.proofs.lines.put_outcome.Goals as goal
 
 pub returns-in_ok-put_spaced-in-Refused-clause-ok :

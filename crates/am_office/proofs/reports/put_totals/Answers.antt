@@ -1,7 +1,0 @@
-use Rattle.am_office.specs.Report.{totals}
-use Rattle.am_office.proofs.reports.put_totals.Goals as goal
-
-pub returns : goal.returns
-unfolding totals
-returns c =
-    rw (c.number_run.ensures, c.number_returned.ensures, c.number_unknown.ensures, c.number_unknown_but_ran.ensures, c.number_pending.ensures) at c.put_line.ensures
