@@ -13,14 +13,15 @@ mod journal;
 mod opening;
 mod settings;
 
-pub use crate::settings::{ApplyFault, NoMemory, Settings};
+pub use crate::settings::{ApplyFault, Settings};
+pub use am_office::NoMemory;
 
 use crate::ends::{carry_between, is_full, judged, least_full, place_of, room_for_both};
 use crate::journal::{last_stamp, log_entry};
 use crate::opening::open_ends;
 use am_endpoint::Endpoint;
 use am_names::EndpointId;
-use am_office::{Actor, Call, Condition, Entry, Event, Part, Place};
+use am_office::{Actor, Call, Condition, Entry, Event, Journal, Part, Place};
 use am_scenario_types::{FaultLine, Scenario};
 use std::alloc::Global;
 use std::marker::Model;
@@ -97,12 +98,15 @@ impl Cluster {
         }
     }
 
-    /// The entries in order.
-    pub fn entries(&self) -> &[Entry]
-        ensures entries { result.now ≡ self.now.journal }
-        ensures history { IsHistory self.now.layout result.now }
+    /// The entries in order, which are a history.
+    pub fn journal(&self, alloc: Global) -> Result<Journal, NoMemory>
+        ensures journal { IfOk result (λ journal. journal ≡ self.now.journal) }
+        ensures history { IfOk result (λ journal. IsHistory self.now.layout journal) }
     {
-        &self.journal
+        match Vec::from_slice(alloc, &self.journal) {
+            Ok(entries) => Ok(Journal { entries }),
+            Err(_) => Err(NoMemory),
+        }
     }
 
     /// Wants an endpoint, which in the direct network is never on disk.

@@ -5,9 +5,9 @@ ghost use Rattle.am_model.specs.Layout.{opening_place};
 ghost use Rattle.am_follow.specs.Layout.{is_direct};
 ghost use Rattle.std.specs.Prelude.{◌≡◌, IfOk, map};
 
-use crate::settings::{NoMemory, Settings};
+use crate::settings::Settings;
 use am_endpoint::{EndSettings, Endpoint};
-use am_office::Place;
+use am_office::{NoMemory, Place};
 use am_scenario_types::{EndLine, Network};
 use std::alloc::Global;
 

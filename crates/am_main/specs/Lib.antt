@@ -1,0 +1,4 @@
+pub mod Answer
+pub mod Meaning
+pub mod Offers
+pub mod Words

@@ -1,0 +1,57 @@
+-- What each answer of `step` says of the machine.
+use Rattle.std.specs.Prelude.{◌≡◌, ℕ, List, length, take, Option, Some, None, Result, Ok, Err, slice_get}
+use Rattle.std.specs.Global.{Vec}
+use Rattle.am_names.specs.declared.Serial.{Serial}
+use Rattle.am_office.specs.declared.Condition.{Condition}
+use Rattle.am_office.specs.declared.Event.{Event}
+use Rattle.am_office.specs.declared.Entry.{Entry}
+use Rattle.am_office.specs.declared.Part.{Part}
+use Rattle.am_report.specs.Report.{report}
+use Rattle.am_scenario_types.specs.declared.faults.ScenarioFault.{ScenarioFault}
+use Rattle.am_scenario_types.specs.Lists.{ScenarioLists}
+use Rattle.am_follow.specs.Layout.{layout_of, events_of}
+use Rattle.am_laws.specs.Fates.{HasOneFate}
+use Rattle.am_laws_steps.specs.Laws.{StopsAt}
+use Rattle.am_model.specs.History.{IsHistory}
+use Rattle.am_model.specs.PostOffice.{PostOffice}
+use Rattle.am_model.specs.Steps.{FollowsSteps, Stop, NotEnabled, LogFull}
+use Rattle.am_main.specs.declared.faults.StepFault.{StepFault}
+use Rattle.am_main.specs.declared.faults.StepFault.TheVariants as Faults
+use Rattle.am_main.specs.Answer.{ids_of, line_at}
+
+-- THE HEADLINE, for the command `step` on the direct network: the text is the report of a journal that is a history of
+-- the machine which the scenario describes, follows its lines, and obeys all the laws of the post office; and each
+-- message has its one fate.
+pub record PrintsHistory (scenario : ScenarioLists) (text : List ℕ) : Type 0 where
+  pub journal : List Entry
+  pub history : IsHistory (layout_of scenario) journal
+  pub follows : FollowsSteps (events_of scenario.steps) journal
+  pub laws : PostOffice (layout_of scenario) journal
+  pub fates : (s : Serial) → HasOneFate journal s
+  pub text' : text ≡ report (ids_of scenario.ends) journal
+
+-- the steps before one step make a history that follows them, and there this step is stopped
+pub record IsStopped (scenario : ScenarioLists) (why : Stop) : Type 0 where
+  pub journal : List Entry
+  pub history : IsHistory (layout_of scenario) journal
+  pub follows : FollowsSteps (take (length journal) (events_of scenario.steps)) journal
+  pub stops : StopsAt (layout_of scenario) journal (slice_get (events_of scenario.steps) (length journal)) why
+
+-- the same, where the step stands in this line
+pub record IsNotEnabled (scenario : ScenarioLists) (line : ℕ) (condition : Condition) : Type 0 where
+  pub stopped : IsStopped scenario (NotEnabled condition)
+  pub line' : line ≡ line_at scenario.steps (length stopped.journal)
+
+abbrev pub TextMeansOf : Result (List ℕ) StepFault → Result ScenarioLists ScenarioFault → Type 0
+TextMeansOf (Ok text) (Ok scenario) = PrintsHistory scenario text
+TextMeansOf (Err (Faults.NotEnabled line condition)) (Ok scenario) = IsNotEnabled scenario line condition
+TextMeansOf (Err (Faults.LogFull part)) (Ok scenario) = IsStopped scenario (LogFull part)
+TextMeansOf (Err Faults.NotBuilt) (Ok scenario) = Unit {0}
+TextMeansOf (Err Faults.NoMemory) read = Unit {0}
+TextMeansOf (Err (Faults.Scenario fault)) (Err first) = fault ≡ first
+TextMeansOf answer read = ⊥
+
+-- what the answer means for what the text spells
+abbrev pub TextMeans : Result (Vec ℕ) StepFault → Result ScenarioLists ScenarioFault → Type 0
+TextMeans (Ok text) read = TextMeansOf (Ok text.items) read
+TextMeans (Err fault) read = TextMeansOf (Err fault) read

@@ -1,0 +1,50 @@
+-- What the top call leaves in the sink.
+use Rattle.std.specs.Prelude.{◌≡◌, ◌⊎◌, ℕ, ◌≤◌, List, [], ◌∷◌, ◌++◌, codes, length, Option, Some, None, Result, Ok, Err, if◌then◌else◌}
+use Rattle.std.specs.Str.{bytes_eq}
+use Rattle.std.specs.Io.KnownBytes.{Appends}
+use Rattle.am_scenario.specs.Grammar.{grammar}
+use Rattle.am_scenario_types.specs.declared.parts.Form.TheVariants as Forms
+use Rattle.am_io.specs.Causes.{Rose}
+use Rattle.am_io.specs.Whole.{IsAll}
+use Rattle.am_main.specs.Answer.{Answer, answer_of}
+use Rattle.am_main.specs.Meaning.{PrintsHistory}
+use Rattle.am_scenario_types.specs.Lists.{ScenarioLists}
+use Rattle.std.specs.Prelude.{Bool, true, false}
+
+-- the words are those of the command `step`
+unfoldable pub is_step : List (List ℕ) → Bool
+is_step [] = false
+is_step (word ∷ []) = bytes_eq word (codes "step")
+is_step (word ∷ other ∷ words) = false
+
+-- a front of the text was appended
+pub record IsFront (old new : Option (List ℕ)) (text : List ℕ) : Type 0 where
+  pub front : List ℕ
+  pub rest : List ℕ
+  pub split : text ≡ front ++ rest
+  pub given : Appends old new front
+
+-- the status is this one, or that of a fault of the sink or of want of memory
+abbrev pub IsOr : ℕ → ℕ → Type 0
+IsOr number status = (status ≡ number) ⊎ ((status ≡ 5) ⊎ (status ≡ 8))
+
+-- P holds of the bytes that a source had left, which are at most so many; what it doesn't tell may be any bytes
+pub record Finds (most : ℕ) (left : Option (List ℕ)) (P : List ℕ → Type 0) : Type 0 where
+  pub bytes : List ℕ
+  pub all : IsAll left bytes
+  pub few : length bytes ≤ most
+  pub holds : P bytes
+
+-- The answer was given: its text was appended under its status; or a front of it with status 5, where the sink failed, or with
+-- status 8, where the sink or the program found no memory.
+pub record IsGiven (answer : Answer) (status : ℕ) (old new : Option (List ℕ)) : Type 0 where
+  pub status' : IsOr answer.status status
+  pub whole : status ≡ answer.status → Appends old new answer.text
+
+-- the bytes spell a scenario of whose history the report was appended
+pub record Reports (old new : Option (List ℕ)) (bytes : List ℕ) : Type 0 where
+  pub scenario : ScenarioLists
+  pub text : List ℕ
+  pub spells : grammar Forms.Step bytes ≡ Ok scenario
+  pub prints : PrintsHistory scenario text
+  pub given : Appends old new text

@@ -1,0 +1,97 @@
+// The steps of a scenario, one after the other.
+ghost use Rattle.std.specs.Prelude.{◌≡◌, ◌<◌, ◌-◌, ◌^◌, IfOk, [], true, map, length};
+ghost use Rattle.am_follow.specs.Layout.{events_of};
+ghost use Rattle.am_laws_steps.specs.Laws.{AreInRange};
+ghost use Rattle.am_main.specs.Answer.{GivesText, Makes, answer_of, answer_on, ids_of};
+ghost use Rattle.am_main.specs.Meaning.{TextMeans};
+ghost use Rattle.am_model.specs.Steps.{made};
+ghost use Rattle.am_scenario.specs.Grammar.{grammar};
+ghost use Rattle.am_scenario_types.specs.declared.parts.Form.TheVariants as Forms;
+ghost use Rattle.am_scenario_types.specs.declared.parts.Network.TheVariants as Networks;
+ghost use Rattle.am_scenario_types.specs.Lawful.{IsLawful};
+
+use crate::faults::StepFault;
+use am_machine::{ApplyFault, Cluster};
+use am_names::EndpointId;
+use am_report::report;
+use am_scenario::{EndLine, Form, Network, ReadFault, Scenario, StepLine, read};
+use std::alloc::{AllocError, Global};
+
+/// Applies the events of the steps in order, up to the first that can't be made.
+fn make_steps(cluster: &mut Cluster, steps: &[StepLine]) -> Result<(), StepFault>
+    requires direct { cluster.old.layout.direct ≡ true }
+    requires fresh { cluster.old.journal ≡ [] }
+    requires in_range { AreInRange cluster.old.layout (events_of steps.now) }
+    ensures layout { cluster.new.layout ≡ cluster.old.layout }
+    ensures makes { Makes steps.now cluster.new.journal (made cluster.old.layout (events_of steps.now)) result }
+{
+    for step in steps {
+        match cluster.apply(&step.event) {
+            Ok(_) => {}
+            Err(ApplyFault::NotEnabled(condition)) => {
+                return Err(StepFault::NotEnabled {
+                    line: step.line,
+                    condition,
+                });
+            }
+            Err(ApplyFault::LogFull(part)) => return Err(StepFault::LogFull(part)),
+            Err(ApplyFault::NoMemory) => return Err(StepFault::NoMemory),
+        }
+    }
+    Ok(())
+}
+
+/// The endpoints of a scenario, in ascending order.
+fn ids_of(alloc: Global, ends: &[EndLine]) -> Result<Vec<EndpointId>, AllocError>
+    ensures { IfOk result (λ ids. ids.items ≡ ids_of ends.now) }
+{
+    let mut ids = Vec::with_capacity(alloc, ends.len())?;
+    for end in ends {
+        ids.push(end.id)?;
+    }
+    Ok(ids)
+}
+
+/// The report of a scenario of the direct network.
+fn direct_text(alloc: Global, scenario: &Scenario) -> Result<Vec<u8>, StepFault>
+    requires lawful { IsLawful scenario.now }
+    requires direct { scenario.now.network ≡ Networks.Direct }
+    ensures { GivesText result (answer_on Networks.Direct scenario.now) }
+{
+    let Ok(mut cluster) = Cluster::new(alloc, scenario) else {
+        return Err(StepFault::NoMemory);
+    };
+    match make_steps(&mut cluster, &scenario.steps) {
+        Ok(()) => {}
+        Err(fault) => return Err(fault),
+    }
+    let Ok(ids) = ids_of(alloc, &scenario.ends) else {
+        return Err(StepFault::NoMemory);
+    };
+    let Ok(journal) = cluster.journal(alloc) else {
+        return Err(StepFault::NoMemory);
+    };
+    match report(alloc, &ids, &journal) {
+        Ok(text) => Ok(text),
+        Err(_) => Err(StepFault::NoMemory),
+    }
+}
+
+/// The text that a step script makes: the report of the one history that follows its lines.
+///
+/// It is refused with the first fault of the text; with the line and the condition of the first step that isn't enabled;
+/// with the log that is full where one more entry is due; for want of memory; and, for now, for the packet network.
+pub fn step_text(alloc: Global, bytes: &[u8]) -> Result<Vec<u8>, StepFault>
+    requires { length bytes.now < 2 ^ 32 - 1 }
+    ensures answer { GivesText result (answer_of (grammar Forms.Step bytes.now)) }
+    ensures meaning { TextMeans result (grammar Forms.Step bytes.now) }
+{
+    match read(alloc, Form::Step, bytes) {
+        Ok(scenario) => match scenario.network {
+            Network::Direct => direct_text(alloc, &scenario),
+            Network::Packet => Err(StepFault::NotBuilt),
+        },
+        Err(ReadFault::Refused(fault)) => Err(StepFault::Scenario(fault)),
+        Err(ReadFault::NoMemory) => Err(StepFault::NoMemory),
+    }
+}
