@@ -83,13 +83,13 @@ setting_kept form settings (setting.Turns value) h l = record { network = h.netw
 
 -- ---- one element more
 
-eq_yes : (a b : ℕ) → a ≡ b → (a == b) ≡ true
+pub eq_yes : (a b : ℕ) → a ≡ b → (a == b) ≡ true
 eq_yes a b e = grind (arith, nat_tests)
 
 equal_if : (a b : ℕ) → (a == b) ≡ true → a ≡ b
 equal_if a b e = grind (arith, nat_tests)
 
-apart : (a b : ℕ) → (a == b) ≡ false → a ≢ b
+pub apart : (a b : ℕ) → (a == b) ≡ false → a ≢ b
 apart a b e = grind (arith, nat_tests)
 
 none_if : (b : Bool) → b ≡ false → (if b then 1 else 0) ≤ 0
@@ -138,7 +138,7 @@ not_found : {A : Type 0} (p : A → Bool) (xs : List A) → find p xs ≡ None �
 not_found p [] e = All-nil (λ x. p x ≡ false)
 not_found p (x ∷ xs) e = not_found_at p x xs (p x) refl (not_found p xs) e
 
-pairs_more : {A : Type 0} (R : A → A → Type 0) (xs : List A) (x : A) → AllPairs R xs → All (λ y. R y x) xs → AllPairs R (xs ++ x ∷ [])
+pub pairs_more : {A : Type 0} (R : A → A → Type 0) (xs : List A) (x : A) → AllPairs R xs → All (λ y. R y x) xs → AllPairs R (xs ++ x ∷ [])
 pairs_more R xs x pairs all = all_pairs_push R xs x pairs (λ k d below. all k d below)
 
 -- ---- one endpoint more
