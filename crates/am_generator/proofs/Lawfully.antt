@@ -78,7 +78,7 @@ unfolding ends_below
 ends_all zero small = All-nil (IsLawfulEnd Packet 4)
 ends_all (suc n) small =
     All-push (IsLawfulEnd Packet 4) (ends_below n) (end_line n) (ends_all n (omega arith))
-      (record { id = omega arith; node = omega arith; tag = omega arith; disk = λ h. absurd (cc) })
+    (record { id = omega arith; node = omega arith; tag = omega arith; disk = λ h. absurd (cc) })
 
 ends_keys : (n : ℕ) → All (λ end. end.id.0 < n) (ends_below n)
 unfolding ends_below
@@ -143,9 +143,9 @@ the_end : (id : EndpointId) (n : ℕ) → id.0 ≡ n → node_of (ends_below n +
 the_end id n e =
     let same : (n == id.0) ≡ true = eq_yes n id.0 (sym e) in
     ap (λ (o : Option EndLine). option_map (λ end. end.node) o)
-      (find-append (λ end. end.id.0 == id.0) (ends_below n) (end_line n ∷ [])
-      ∙ (ap (λ (o : Option EndLine). option_or o (find (λ end. end.id.0 == id.0) (end_line n ∷ []))) (no_end id n (omega arith))
-      ∙ ap (λ (b : Bool). if b then Some (end_line n) else None) same))
+    (find-append (λ end. end.id.0 == id.0) (ends_below n) (end_line n ∷ [])
+    ∙ (ap (λ (o : Option EndLine). option_or o (find (λ end. end.id.0 == id.0) (end_line n ∷ []))) (no_end id n (omega arith))
+    ∙ ap (λ (b : Bool). if b then Some (end_line n) else None) same))
 
 end_before : (id : EndpointId) (n : ℕ) (node : NodeId) → node_of (ends_below n) id ≡ Some node → node_of (ends_below n ++ end_line n ∷ []) id ≡ Some node
 end_before id n node h =
@@ -158,8 +158,8 @@ unfolding ends_below
 end_there id zero less = absurd (omega arith)
 end_there id (suc n) less =
     ⊎_elim (λ (l : id.0 < n). end_before id n (record { 0 = id.0 % 4 }) (end_there id n l))
-      (λ (l : n ≤ id.0). let e : id.0 ≡ n = omega arith in subst (λ (k : ℕ). node_of (ends_below n ++ end_line n ∷ []) id ≡ Some (record { 0 = k % 4 })) (sym e) (the_end id n e))
-      (cases_lt id.0 n)
+    (λ (l : n ≤ id.0). let e : id.0 ≡ n = omega arith in subst (λ (k : ℕ). node_of (ends_below n ++ end_line n ∷ []) id ≡ Some (record { 0 = k % 4 })) (sym e) (the_end id n e))
+    (cases_lt id.0 n)
 
 thread_or_some : (o other : Option ThreadLine) (node : NodeId) → option_map (λ thread. thread.node) o ≡ Some node → option_map (λ thread. thread.node) (option_or o other) ≡ Some node
 thread_or_some (Some thread) other node h = h
@@ -178,9 +178,9 @@ the_thread : (id n : ℕ) → id ≡ n → thread_node (threads_below n ++ threa
 the_thread id n e =
     let same : (n == id) ≡ true = eq_yes n id (sym e) in
     ap (λ (o : Option ThreadLine). option_map (λ thread. thread.node) o)
-      (find-append (λ thread. thread.id == id) (threads_below n) (thread_line n ∷ [])
-      ∙ (ap (λ (o : Option ThreadLine). option_or o (find (λ thread. thread.id == id) (thread_line n ∷ []))) (no_thread id n (omega arith))
-      ∙ ap (λ (b : Bool). if b then Some (thread_line n) else None) same))
+    (find-append (λ thread. thread.id == id) (threads_below n) (thread_line n ∷ [])
+    ∙ (ap (λ (o : Option ThreadLine). option_or o (find (λ thread. thread.id == id) (thread_line n ∷ []))) (no_thread id n (omega arith))
+    ∙ ap (λ (b : Bool). if b then Some (thread_line n) else None) same))
 
 thread_before : (id n : ℕ) (node : NodeId) → thread_node (threads_below n) id ≡ Some node → thread_node (threads_below n ++ thread_line n ∷ []) id ≡ Some node
 thread_before id n node h =
@@ -192,8 +192,8 @@ unfolding threads_below
 thread_there id zero less = absurd (omega arith)
 thread_there id (suc n) less =
     ⊎_elim (λ (l : id < n). thread_before id n (record { 0 = id % 4 }) (thread_there id n l))
-      (λ (l : n ≤ id). let e : id ≡ n = omega arith in subst (λ (k : ℕ). thread_node (threads_below n ++ thread_line n ∷ []) id ≡ Some (record { 0 = k % 4 })) (sym e) (the_thread id n e))
-      (cases_lt id n)
+    (λ (l : n ≤ id). let e : id ≡ n = omega arith in subst (λ (k : ℕ). thread_node (threads_below n ++ thread_line n ∷ []) id ≡ Some (record { 0 = k % 4 })) (sym e) (the_thread id n e))
+    (cases_lt id n)
 
 -- ---- calls
 
@@ -240,9 +240,9 @@ some_polls thread end (suc n) t e same = All-push IsGenerated (polls thread end 
 all_greetings : (thread : ℕ) → thread < 4 → All IsGenerated (greetings thread)
 all_greetings thread t =
     All-append IsGenerated (greeting thread thread ++ greeting thread (thread + 4)) (greeting thread (thread + 8))
-      (All-append IsGenerated (greeting thread thread) (greeting thread (thread + 4))
-        (a_greeting thread thread (omega arith) (omega arith) refl) (a_greeting thread (thread + 4) (omega arith) (omega arith) (omega arith)))
-      (a_greeting thread (thread + 8) (omega arith) (omega arith) (omega arith))
+    (All-append IsGenerated (greeting thread thread) (greeting thread (thread + 4))
+    (a_greeting thread thread (omega arith) (omega arith) refl) (a_greeting thread (thread + 4) (omega arith) (omega arith) (omega arith)))
+    (a_greeting thread (thread + 8) (omega arith) (omega arith) (omega arith))
 
 lt_true : (a b : ℕ) → nat_lt a b ≡ true → a < b
 lt_true a b e = grind (arith, nat_tests)
@@ -268,7 +268,7 @@ a_drawn_at : (thread place w : ℕ) (b : Bool) → thread < 8 → place < 200 �
     → IsGenerated (if b then call_on thread (drawn_end thread w) (Request (w / 16 % 2) (1 + w / 32 % 3) (record { a = w; b = thread; c = place; d = 0 })) else call_on thread (drawn_end thread w) Poll)
 a_drawn_at thread place w true t p small =
     a_call thread (drawn_end thread w) (Request (w / 16 % 2) (1 + w / 32 % 3) (record { a = w; b = thread; c = place; d = 0 })) t (drawn_small thread w) (drawn_same thread w)
-      (omega arith, omega arith, (omega arith, omega arith, omega arith, omega arith))
+    (omega arith, omega arith, (omega arith, omega arith, omega arith, omega arith))
 a_drawn_at thread place w false t p small = a_call thread (drawn_end thread w) Poll t (drawn_small thread w) (drawn_same thread w) tt
 
 a_drawn : (thread place w : ℕ) → thread < 8 → place < 200 → w < 2 ^ 32 → IsGenerated (drawn_call thread place w)
@@ -303,8 +303,14 @@ greeting_length thread end = refl
 
 opening_length_at : (thread : ℕ) (b : Bool) → length (if b then greetings thread else polls thread (thread - 4) 18) ≡ 18
 opening_length_at thread true =
-    omega (arith, length-append (greeting thread thread ++ greeting thread (thread + 4)) (greeting thread (thread + 8)), length-append (greeting thread thread) (greeting thread (thread + 4)),
-      greeting_length thread thread, greeting_length thread (thread + 4), greeting_length thread (thread + 8))
+    omega (
+      arith,
+      length-append (greeting thread thread ++ greeting thread (thread + 4)) (greeting thread (thread + 8)),
+      length-append (greeting thread thread) (greeting thread (thread + 4)),
+      greeting_length thread thread,
+      greeting_length thread (thread + 4),
+      greeting_length thread (thread + 8),
+    )
 opening_length_at thread false = polls_length thread (thread - 4) 18
 
 opening_length : (thread : ℕ) → length (opening thread) ≡ 18
@@ -351,7 +357,7 @@ line_more most plan line true e l h = record { each = h.each; once = h.once; lin
 line_more most plan line false e l h = record {
   each = All-push (IsLawfulPlanLine 4) plan line h.each l;
   once = pairs_more (λ a b. ¬ IsSamePlace a b) plan line h.once
-    (All-weaker (λ other. ((other.from.0 == line.from.0) && (other.to.0 == line.to.0) && (other.number == line.number)) ≡ false) (λ other. ¬ IsSamePlace other line) (λ other e. elsewhere other line e) plan
+      (All-weaker (λ other. ((other.from.0 == line.from.0) && (other.to.0 == line.to.0) && (other.number == line.number)) ≡ false) (λ other. ¬ IsSamePlace other line) (λ other e. elsewhere other line e) plan
       (none_passes (λ other. (other.from.0 == line.from.0) && (other.to.0 == line.to.0) && (other.number == line.number)) plan e));
   lines = omega (arith, h.lines, length_push plan line);
 }
@@ -361,7 +367,7 @@ unfolding plan_after
 a_plan g zero = record { each = All-nil (IsLawfulPlanLine 4); once = no_pairs (λ a b. ¬ IsSamePlace a b); lines = omega arith }
 a_plan g (suc n) =
     let more : IsPlan (n + 1) (with_line (plan_after g n) (line_of (word (steps g n)))) =
-        line_more n (plan_after g n) (line_of (word (steps g n))) (stands (plan_after g n) (line_of (word (steps g n)))) refl (a_line (word (steps g n))) (a_plan g n) in
+    line_more n (plan_after g n) (line_of (word (steps g n))) (stands (plan_after g n) (line_of (word (steps g n)))) refl (a_line (word (steps g n))) (a_plan g n) in
     subst (λ (k : ℕ). IsPlan k (with_line (plan_after g n) (line_of (word (steps g n))))) (omega arith) more
 
 -- ---- the whole

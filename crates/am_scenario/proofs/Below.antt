@@ -35,7 +35,7 @@ pub all_below : {A : Type 0} (P : A → Type 0) (key : A → ℕ) (xs : List A) 
 all_below P key xs zero all = All-nil P
 all_below P key xs (suc n) all =
     All-append P (below key xs n) (option_to_list (find (has_key key n) xs)) (all_below P key xs n all)
-      (optional P (find (has_key key n) xs) (λ x e. found_holds P (has_key key n) xs x all e))
+    (optional P (find (has_key key n) xs) (λ x e. found_holds P (has_key key n) xs x all e))
 
 -- ---- ascending
 
@@ -46,8 +46,8 @@ keys_below : {A : Type 0} (key : A → ℕ) (xs : List A) (n : ℕ) → All (λ 
 keys_below key xs zero = All-nil (λ a. key a < 0)
 keys_below key xs (suc n) =
     All-append (λ a. key a < suc n) (below key xs n) (option_to_list (find (has_key key n) xs))
-      (All-weaker (λ a. key a < n) (λ a. key a < suc n) (λ a less. omega arith) (below key xs n) (keys_below key xs n))
-      (optional (λ a. key a < suc n) (find (has_key key n) xs) (λ x e. omega (arith, key_of_found key xs n x e)))
+    (All-weaker (λ a. key a < n) (λ a. key a < suc n) (λ a less. omega arith) (below key xs n) (keys_below key xs n))
+    (optional (λ a. key a < suc n) (find (has_key key n) xs) (λ x e. omega (arith, key_of_found key xs n x e)))
 
 rising_more : {A : Type 0} (key : A → ℕ) (n : ℕ) (xs : List A) (o : Option A) → AllPairs (λ a b. key a < key b) xs → All (λ a. key a < n) xs → ((x : A) → o ≡ Some x → key x ≡ n)
     → AllPairs (λ a b. key a < key b) (xs ++ option_to_list o)
@@ -88,9 +88,9 @@ not_below key xs k (suc n) le =
 found_here : {A : Type 0} (key : A → ℕ) (xs : List A) (k n : ℕ) → k ≡ n → find (has_key key k) (below key xs n ++ option_to_list (find (has_key key n) xs)) ≡ find (has_key key k) xs
 found_here key xs k n e =
     let at_n : find (has_key key n) (below key xs n ++ option_to_list (find (has_key key n) xs)) ≡ find (has_key key n) xs =
-        find-append (has_key key n) (below key xs n) (option_to_list (find (has_key key n) xs))
-        ∙ (ap (λ (o : Option _). option_or o (find (has_key key n) (option_to_list (find (has_key key n) xs)))) (not_below key xs n n (omega arith))
-        ∙ find_same key n (find (has_key key n) xs) (λ x e. key_of_found key xs n x e)) in
+    find-append (has_key key n) (below key xs n) (option_to_list (find (has_key key n) xs))
+    ∙ (ap (λ (o : Option _). option_or o (find (has_key key n) (option_to_list (find (has_key key n) xs)))) (not_below key xs n n (omega arith))
+    ∙ find_same key n (find (has_key key n) xs) (λ x e. key_of_found key xs n x e)) in
     subst (λ (m : ℕ). find (has_key key m) (below key xs n ++ option_to_list (find (has_key key n) xs)) ≡ find (has_key key m) xs) (sym e) at_n
 
 found_before : {A : Type 0} (key : A → ℕ) (xs : List A) (k n : ℕ) → k ≢ n → find (has_key key k) (below key xs n) ≡ find (has_key key k) xs

@@ -83,7 +83,7 @@ words_sound form number said (first ∷ words) h =
     bind (placed form said named) _ (is_placed form said named) (λ first_word here.
     bind (words_say form said first_word words) _ (says_lawful form said first_word words) (λ says l.
     gives (IsSound form) (with_line number (record said { section = section_of first_word }) says)
-      (stays_sound form said number (section_of first_word) says h here.0 l.0 (l.1 ∙ here.1) l.2)))))
+    (stays_sound form said number (section_of first_word) says h here.0 l.0 (l.1 ∙ here.1) l.2)))))
 
 line_sound : (form : Form) (number : ℕ) (said : Said) (line : List ℕ) → IsSound form said → Meets (IsSound form) (after_line form number said line)
 unfolding after_line
@@ -262,18 +262,18 @@ ends_lawful : (said : Said) (network : Network) (nodes : ℕ) → network_of sai
     → EndsAreSound (network_of said.settings) (node_count said.settings) said.ends → All (IsLawfulEnd network nodes) said.ends
 ends_lawful said network nodes net at h =
     subst (λ (n : Network). All (IsLawfulEnd n nodes) said.ends) net
-      (subst (λ (k : ℕ). All (IsLawfulEnd (network_of said.settings) k) said.ends) at h.each)
+    (subst (λ (k : ℕ). All (IsLawfulEnd (network_of said.settings) k) said.ends) at h.each)
 
 few_ends : (said : Said) (network : Network) (nodes node : ℕ) → EndsAreSound network nodes said.ends → count_by (λ end. end.node.0 == node) (ends_below said 256) ≤ 64
 few_ends said network nodes node h =
     let is : count_by (λ end. end.node.0 == node) (ends_below said 256) ≡ count_by (λ end. end.node.0 == node) (below (λ end. end.id.0) said.ends 256) =
-        ap (λ (l : List EndLine). count_by (λ end. end.node.0 == node) l) (ends_are_below said 256) in
+    ap (λ (l : List EndLine). count_by (λ end. end.node.0 == node) l) (ends_are_below said 256) in
     omega (arith, is, count_below (λ end. end.node.0 == node) (λ end. end.id.0) said.ends 256, h.of_a_node node)
 
 few_threads : (said : Said) (nodes node : ℕ) → ThreadsAreSound nodes said.threads → count_by (λ thread. thread.node.0 == node) (threads_below said 64) ≤ 4
 few_threads said nodes node h =
     let is : count_by (λ thread. thread.node.0 == node) (threads_below said 64) ≡ count_by (λ thread. thread.node.0 == node) (below (λ thread. thread.id) said.threads 64) =
-        ap (λ (l : List ThreadLine). count_by (λ thread. thread.node.0 == node) l) (threads_are_below said 64) in
+    ap (λ (l : List ThreadLine). count_by (λ thread. thread.node.0 == node) l) (threads_are_below said 64) in
     omega (arith, is, count_below (λ thread. thread.node.0 == node) (λ thread. thread.id) said.threads 64, h.of_a_node node)
 
 finished_lawful : (form : Form) (said : Said) (network : Network) (nodes : ℕ) → IsSound form said → said.settings.network ≡ Some network → said.settings.nodes ≡ Some nodes
@@ -290,37 +290,38 @@ finished_lawful form said network nodes h net at =
     let least : ℕ = least_share said.version in
     let is_least : least ≡ least_credits (pool_of said.version said.settings) = least_is said.version said.settings in
     let calls : All (IsLawfulScriptCall ends threads least) said.script =
-        All-weaker (IsLawfulScriptCall said.ends said.threads least) (IsLawfulScriptCall ends threads least)
-          (λ made l. script_below network nodes said.ends ends said.threads threads least made is all_ends ranked all_threads l) said.script h.script.each in
+    All-weaker (IsLawfulScriptCall said.ends said.threads least) (IsLawfulScriptCall ends threads least)
+    (λ made l. script_below network nodes said.ends ends said.threads threads least made is all_ends ranked all_threads l) said.script h.script.each in
     let events : All (λ step. IsLawfulEvent ends (node_count said.settings) (frame_count said.settings) (channel_count said.settings) least step.event) said.steps =
-        All-weaker (λ step. IsLawfulEvent said.ends (node_count said.settings) (frame_count said.settings) (channel_count said.settings) least step.event)
-          (λ step. IsLawfulEvent ends (node_count said.settings) (frame_count said.settings) (channel_count said.settings) least step.event)
-          (λ step l. event_below network nodes said.ends ends (node_count said.settings) (frame_count said.settings) (channel_count said.settings) least step.event
-            (λ id d. declared_below network nodes said.ends ends id is all_ends d) (λ call c. call_below network nodes said.ends ends least call is all_ends c) l)
-          said.steps h.steps.each in
-    (record {
-      settings = settings_lawful form said network nodes h.settings at;
-      ends = subst (λ (l : List EndLine). All (IsLawfulEnd network nodes) l) (sym is) (all_below (IsLawfulEnd network nodes) (λ end. end.id.0) said.ends 256 all_ends);
-      ends_rise = subst (λ (l : List EndLine). AllPairs (λ a b. a.id.0 < b.id.0) l) (sym is) (rising (λ end. end.id.0) said.ends 256);
-      ends_of_a_node = λ node. few_ends said (network_of said.settings) (node_count said.settings) node h.ends;
-      bundles = All-weaker (IsLawfulBundle said.ends) (IsLawfulBundle ends) (λ bundle l. bundle_below network nodes said.ends ends bundle is all_ends l) said.bundles h.bundles.each;
-      bundles_once = h.bundles.once;
-      threads = subst (λ (l : List ThreadLine). All (IsLawfulThread nodes) l) (sym ranked) (all_below (IsLawfulThread nodes) (λ thread. thread.id) said.threads 64 all_threads);
-      threads_rise = subst (λ (l : List ThreadLine). AllPairs (λ a b. a.id < b.id) l) (sym ranked) (rising (λ thread. thread.id) said.threads 64);
-      threads_of_a_node = λ node. few_threads said (node_count said.settings) node h.threads;
-      plan = subst (λ (k : ℕ). All (IsLawfulPlanLine k) said.plan) is_nodes h.plan.each;
-      plan_once = h.plan.once;
-      plan_lines = h.plan.lines;
-      faults = subst (λ (k : ℕ). All (IsLawfulFaultLine k) said.faults) is_nodes h.faults.each;
-      faults_once = h.faults.once;
-      fault_lines = h.faults.lines;
-      script = subst (λ (k : ℕ). All (IsLawfulScriptCall ends threads k) said.script) is_least calls;
-      script_calls = h.script.calls;
-      steps = subst (λ (k : ℕ). All (λ step. IsLawfulEvent ends nodes (frame_count said.settings) (channel_count said.settings) k step.event) said.steps) is_least
-        (subst (λ (k : ℕ). All (λ step. IsLawfulEvent ends k (frame_count said.settings) (channel_count said.settings) least step.event) said.steps) is_nodes events);
-      step_lines = h.steps.lines;
-    },
-    form_is form said (finished said network nodes) refl refl refl (network_is form said.settings network 0 0 0 net h.settings.network) h.of_form)
+    All-weaker (λ step. IsLawfulEvent said.ends (node_count said.settings) (frame_count said.settings) (channel_count said.settings) least step.event)
+    (λ step. IsLawfulEvent ends (node_count said.settings) (frame_count said.settings) (channel_count said.settings) least step.event)
+    (λ step l. event_below network nodes said.ends ends (node_count said.settings) (frame_count said.settings) (channel_count said.settings) least step.event
+    (λ id d. declared_below network nodes said.ends ends id is all_ends d) (λ call c. call_below network nodes said.ends ends least call is all_ends c) l)
+    said.steps h.steps.each in (
+      record {
+        settings = settings_lawful form said network nodes h.settings at;
+        ends = subst (λ (l : List EndLine). All (IsLawfulEnd network nodes) l) (sym is) (all_below (IsLawfulEnd network nodes) (λ end. end.id.0) said.ends 256 all_ends);
+        ends_rise = subst (λ (l : List EndLine). AllPairs (λ a b. a.id.0 < b.id.0) l) (sym is) (rising (λ end. end.id.0) said.ends 256);
+        ends_of_a_node = λ node. few_ends said (network_of said.settings) (node_count said.settings) node h.ends;
+        bundles = All-weaker (IsLawfulBundle said.ends) (IsLawfulBundle ends) (λ bundle l. bundle_below network nodes said.ends ends bundle is all_ends l) said.bundles h.bundles.each;
+        bundles_once = h.bundles.once;
+        threads = subst (λ (l : List ThreadLine). All (IsLawfulThread nodes) l) (sym ranked) (all_below (IsLawfulThread nodes) (λ thread. thread.id) said.threads 64 all_threads);
+        threads_rise = subst (λ (l : List ThreadLine). AllPairs (λ a b. a.id < b.id) l) (sym ranked) (rising (λ thread. thread.id) said.threads 64);
+        threads_of_a_node = λ node. few_threads said (node_count said.settings) node h.threads;
+        plan = subst (λ (k : ℕ). All (IsLawfulPlanLine k) said.plan) is_nodes h.plan.each;
+        plan_once = h.plan.once;
+        plan_lines = h.plan.lines;
+        faults = subst (λ (k : ℕ). All (IsLawfulFaultLine k) said.faults) is_nodes h.faults.each;
+        faults_once = h.faults.once;
+        fault_lines = h.faults.lines;
+        script = subst (λ (k : ℕ). All (IsLawfulScriptCall ends threads k) said.script) is_least calls;
+        script_calls = h.script.calls;
+        steps = subst (λ (k : ℕ). All (λ step. IsLawfulEvent ends nodes (frame_count said.settings) (channel_count said.settings) k step.event) said.steps) is_least
+            (subst (λ (k : ℕ). All (λ step. IsLawfulEvent ends k (frame_count said.settings) (channel_count said.settings) least step.event) said.steps) is_nodes events);
+        step_lines = h.steps.lines;
+      },
+      form_is form said (finished said network nodes) refl refl refl (network_is form said.settings network 0 0 0 net h.settings.network) h.of_form,
+    )
 
 whole_good : (form : Form) (said : Said) → IsSound form said → Meets (IsGood form) (whole said)
 unfolding whole
@@ -346,7 +347,7 @@ unfolding read_from
 read_good form number said [] scenario h e = read_good_end form number (whole said) scenario (whole_good form said h) e
 read_good form number said (line ∷ lines) scenario h e =
     read_good_line form number (after_line form number said line) (λ next. read_from form (number + 1) next lines) scenario (line_sound form number said line h)
-      (λ next k r. read_good form (number + 1) next lines scenario k r) e
+    (λ next k r. read_good form (number + 1) next lines scenario k r) e
 
 pub spells_lawful : SpellsLawful
 spells_lawful form bytes scenario e = read_good form 1 nothing (lines_of bytes) scenario (begins_sound form) e
