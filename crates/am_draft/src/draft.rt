@@ -7,9 +7,7 @@ use crate::line::Line;
 use crate::settings::{Settings, Version};
 use am_names::{EndpointId, NodeId};
 use am_office::Call;
-use am_scenario_types::{
-    Bundle, EndLine, FaultLine, PlanLine, ScriptCall, StepLine, ThreadLine,
-};
+use am_scenario_types::{Bundle, EndLine, FaultLine, PlanLine, ScriptCall, StepLine, ThreadLine};
 use std::alloc::{AllocError, Global};
 
 /// What the lines so far have said.
@@ -108,9 +106,9 @@ impl Draft {
     pub fn is_planned(&self, from: NodeId, to: NodeId, number: u32) -> bool
         ensures { result ≡ is_planned (said self.now).plan from to number }
     {
-        self.plan
-            .iter()
-            .any(|line| line.from.0 == from.0 && line.to.0 == to.0 && line.number == number)
+        self.plan.iter().any(|line| line.from.0 == from.0
+            && line.to.0 == to.0
+            && line.number == number)
     }
 
     /// Whether a node's page call has a fault line.

@@ -4,9 +4,7 @@ ghost use Rattle.am_draft.specs.declared.line.LineFault.TheVariants as faults;
 use crate::settings::{Setting, Version};
 use am_names::EndpointId;
 use am_office::{Call, Event};
-use am_scenario_types::{
-    Bundle, EndLine, FaultLine, PlanLine, ScriptCall, ThreadLine, What,
-};
+use am_scenario_types::{Bundle, EndLine, FaultLine, PlanLine, ScriptCall, ThreadLine, What};
 use std::alloc::{AllocError, AllocFailed};
 use std::marker::Model;
 

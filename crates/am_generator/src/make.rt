@@ -1,6 +1,8 @@
 //! The generated scenario.
 
-ghost use Rattle.std.specs.Prelude.{◌≡◌, ◌≤◌, IfOk};
+ghost use Rattle.std.specs.Prelude.{◌≡◌, ◌≤◌, IfOk, length};
+ghost use Rattle.am_scenario_types.specs.declared.parts.Form.TheVariants.{Run};
+ghost use Rattle.am_scenario_types.specs.Lawful.{IsLawful, IsOfForm};
 ghost use Rattle.am_generator.specs.Scenarios.{ends_below, threads_below, generated};
 
 use crate::calls::make_script;
@@ -43,7 +45,11 @@ fn make_threads(alloc: Global, count: u8) -> Result<Vec<ThreadLine>, AllocError>
 /// The scenario of a number: twelve endpoints and eight threads on four nodes, 1,744 calls, and up to 32 packets that
 /// are lost, repeated or late, all by random words.
 pub fn generate(alloc: Global, n: u64) -> Result<Scenario, AllocError>
-    ensures { IfOk result (λ scenario. scenario ≡ generated n) }
+    ensures exact { IfOk result (λ scenario. scenario ≡ generated n) }
+    ensures lawful { IfOk result IsLawful }
+    ensures of_form { IfOk result (IsOfForm Run) }
+    ensures calls { IfOk result (λ scenario. length scenario.script ≡ 1744) }
+    ensures plan { IfOk result (λ scenario. length scenario.plan ≤ 32) }
 {
     let mut rng = Lcg64Xsh32::new(n, 54);
     let ends = make_ends(alloc, 12)?;

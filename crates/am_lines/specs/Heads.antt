@@ -62,7 +62,7 @@ or_next (Some x) next = Some x
 unfoldable pub head_of : Option Version → List ℕ → Option Head
 head_of version word =
     if bytes_eq word (codes "am2") then Some head.Version else
-        or_next (option_map head.Setting (setting_name_of version word)) (or_next (declaration_of word) (actor_of word))
+    or_next (option_map head.Setting (setting_name_of version word)) (or_next (declaration_of word) (actor_of word))
 
 abbrev pub section_of : Head → ℕ
 section_of head.Version = 1

@@ -30,8 +30,8 @@ outside_line said words = do
       if bytes_eq verb.0 (codes "want") then (do
         end ← end_at said None verb.1
         step said (event.Want Outside end.0) end.1) else (do
-        call ← call_at said None verb.0 verb.1
-        step said (event.Call Outside call.0.0 call.0.1) call.1)
+          call ← call_at said None verb.0 verb.1
+          step said (event.Call Outside call.0.0 call.0.1) call.1)
 
 -- the node that a first word names
 unfoldable pub head_node : Said → ℕ → Result NodeId What

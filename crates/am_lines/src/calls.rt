@@ -87,11 +87,7 @@ fn take_map<'a>(draft: &Draft, wanted: Option<NodeId>, rest: &'a [u8]) -> Result
 }
 
 #[tactic(auto, unfolding(crate::specs::Calls::unmap_at))]
-fn take_unmap<'a>(
-    draft: &Draft,
-    wanted: Option<NodeId>,
-    rest: &'a [u8],
-) -> Result<Called<'a>, What>
+fn take_unmap<'a>(draft: &Draft, wanted: Option<NodeId>, rest: &'a [u8]) -> Result<Called<'a>, What>
     ensures { Gives (λ found. (found.0, words_of found.1.now)) result (unmap_at (said draft.now) wanted (words_of rest.now)) }
 {
     let (end, rest) = take_end_of(draft, wanted, rest)?;
@@ -145,11 +141,7 @@ fn take_give_up<'a>(
 }
 
 #[tactic(auto, unfolding(crate::specs::Calls::close_at))]
-fn take_close<'a>(
-    draft: &Draft,
-    wanted: Option<NodeId>,
-    rest: &'a [u8],
-) -> Result<Called<'a>, What>
+fn take_close<'a>(draft: &Draft, wanted: Option<NodeId>, rest: &'a [u8]) -> Result<Called<'a>, What>
     ensures { Gives (λ found. (found.0, words_of found.1.now)) result (close_at (said draft.now) wanted (words_of rest.now)) }
 {
     let (end, rest) = take_end_of(draft, wanted, rest)?;

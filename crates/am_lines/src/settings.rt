@@ -14,7 +14,11 @@ use am_scenario_types::{Form, Network};
 fn version_of(number: u8) -> Version
     ensures { result ≡ version_of number }
 {
-    if number == 1 { Version::One } else { Version::Two }
+    if number == 1 {
+        Version::One
+    } else {
+        Version::Two
+    }
 }
 
 #[tactic(auto, unfolding(crate::specs::Settings::version_line))]

@@ -29,12 +29,7 @@ pub fn words_say(
 {
     match head {
         Head::Version => Ok(version_line(draft, rest)?),
-        Head::Setting(name) => Ok(Line::Setting(setting_line(
-            form,
-            &draft.settings,
-            name,
-            rest,
-        )?)),
+        Head::Setting(name) => Ok(Line::Setting(setting_line(form, &draft.settings, name, rest)?)),
         Head::Endpoint => Ok(endpoint_line(draft, rest)?),
         Head::Bundle => bundle_line(alloc, draft, rest),
         Head::Thread => Ok(thread_line(draft, rest)?),

@@ -59,7 +59,7 @@ a_request said wanted words =
     bind (number_at b.1) _ (a_number b.1) (λ c c_in.
     bind (number_at c.1) _ (a_number c.1) (λ d d_in.
     gives (IsCallFor said wanted) ((end.0, Request index.0 handler.0 (record { a = a.0; b = b.0; c = c.0; d = d.0 })), d.1)
-      (on, (index_in.1, handler_in.1, (a_in, b_in, c_in, d_in))))))))))
+    (on, (index_in.1, handler_in.1, (a_in, b_in, c_in, d_in))))))))))
 
 a_poll : (said : Said) (wanted : Option NodeId) (words : List (List ℕ)) → Meets (IsCallFor said wanted) (poll_at said wanted words)
 unfolding poll_at
@@ -83,7 +83,7 @@ a_map said wanted words =
     bind (tag_at name.1) _ (a_tag name.1) (λ tag tag_in.
     bind (within (least_share said.version) 8 tag.1) _ (is_within (least_share said.version) 8 tag.1) (λ credits credits_in.
     gives (IsCallFor said wanted) ((end.0, Map index.0 name.0 tag.0 credits.0), credits.1)
-      (on, (index_in.1, named, tag_in, credits_in)))))))
+    (on, (index_in.1, named, tag_in, credits_in)))))))
 
 an_unmap : (said : Said) (wanted : Option NodeId) (words : List (List ℕ)) → Meets (IsCallFor said wanted) (unmap_at said wanted words)
 unfolding unmap_at
@@ -160,16 +160,16 @@ all_calls said thread call [] there lawful on = All-nil (IsLawfulScriptCall said
 all_calls said thread call (member ∷ members) there lawful on =
     let here : IsOn said.ends thread.node member = on 0 member (omega arith) in
     All-cons (IsLawfulScriptCall said.ends said.threads (least_share said.version)) (script_call thread.id (member, call)) _
-      (record { placed = (thread.node, (there, here)); call = lawful })
-      (all_calls said thread call members there lawful (All-tail (IsOn said.ends thread.node) member members on))
+    (record { placed = (thread.node, (there, here)); call = lawful })
+    (all_calls said thread call members there lawful (All-tail (IsOn said.ends thread.node) member members on))
 
 some_bundled : (form : Form) (said : Said) (thread : ℕ) (calls : List (EndpointId × Call))
     → All (IsLawfulScriptCall said.ends said.threads (least_share said.version)) (map (script_call thread) calls) → Meets (Says form said OfScript) (bundled said thread calls)
 unfolding bundled
 some_bundled form said thread calls h =
     test (nat_le (length said.script + length calls) 16_384) _ _
-      (λ room. gives (Says form said OfScript) (line.Calls thread calls) (refl, (h, is_at_most _ _ room)))
-      (λ full. refuses (Says form said OfScript) TooMany)
+    (λ room. gives (Says form said OfScript) (line.Calls thread calls) (refl, (h, is_at_most _ _ room)))
+    (λ full. refuses (Says form said OfScript) TooMany)
 
 a_poll_bundle : (form : Form) (said : Said) (thread : ThreadLine) (words : List (List ℕ)) → thread_node said.threads thread.id ≡ Some thread.node
     → Meets (Says form said OfScript) (poll_bundle_line said thread words)
@@ -194,9 +194,9 @@ a_thread_call form said thread verb words there =
     bind (call_at said (Some thread.node) verb words) _ (a_call said (Some thread.node) verb words) (λ call h.
     bind (ended call.1) _ (anything (ended call.1)) (λ _ _.
     test (nat_lt (length said.script) 16_384) _ _
-      (λ room. gives (Says form said OfScript) (line.Call (record { thread = thread.id; endpoint = call.0.0; call = call.0.1 }))
-        (refl, (record { placed = (thread.node, (there, h.0)); call = h.1 }, is_less _ _ room)))
-      (λ full. refuses (Says form said OfScript) TooMany)))
+    (λ room. gives (Says form said OfScript) (line.Call (record { thread = thread.id; endpoint = call.0.0; call = call.0.1 }))
+    (refl, (record { placed = (thread.node, (there, h.0)); call = h.1 }, is_less _ _ room)))
+    (λ full. refuses (Says form said OfScript) TooMany)))
 
 a_script_line : (form : Form) (said : Said) (number : ℕ) (words : List (List ℕ)) → Meets (Says form said OfScript) (script_line said number words)
 unfolding script_line
@@ -218,25 +218,25 @@ unfolding step
 a_step form said e words h =
     bind (ended words) _ (anything (ended words)) (λ _ _.
     test (nat_lt (length said.steps) 65_536) _ _
-      (λ room. gives (Says form said OfStep) (line.Step e) (refl, (h, is_less _ _ room)))
-      (λ full. refuses (Says form said OfStep) TooMany))
+    (λ room. gives (Says form said OfStep) (line.Step e) (refl, (h, is_less _ _ room)))
+    (λ full. refuses (Says form said OfStep) TooMany))
 
 an_outside_line : (form : Form) (said : Said) (words : List (List ℕ)) → Meets (Says form said OfStep) (outside_line said words)
 unfolding outside_line
 an_outside_line form said words =
     bind (word_at words) _ (anything (word_at words)) (λ verb _.
     test (bytes_eq verb.0 (codes "carry")) _ _
-      (λ e. bind (end_at said None verb.1) _ (an_end said None verb.1) (λ end on. a_step form said (event.Carry end.0) end.1 on)) (λ e1.
+    (λ e. bind (end_at said None verb.1) _ (an_end said None verb.1) (λ end on. a_step form said (event.Carry end.0) end.1 on)) (λ e1.
     test (bytes_eq verb.0 (codes "want")) _ _
-      (λ e. bind (end_at said None verb.1) _ (an_end said None verb.1) (λ end on. a_step form said (event.Want Outside end.0) end.1 (refl, on))) (λ e2.
+    (λ e. bind (end_at said None verb.1) _ (an_end said None verb.1) (λ end on. a_step form said (event.Want Outside end.0) end.1 (refl, on))) (λ e2.
     bind (call_at said None verb.0 verb.1) _ (a_call said None verb.0 verb.1) (λ call h. a_step form said (event.Call Outside call.0.0 call.0.1) call.1 (refl, h.0, h.1)))))
 
 a_head_node : (said : Said) (number : ℕ) → Meets (λ (node : NodeId). node.0 < node_count said.settings) (head_node said number)
 unfolding head_node
 a_head_node said number =
     test (nat_lt number (node_count said.settings)) _ _
-      (λ e. gives (λ (node : NodeId). node.0 < node_count said.settings) (record { 0 = number }) (is_less _ _ e))
-      (λ e. refuses (λ (node : NodeId). node.0 < node_count said.settings) OutOfRange)
+    (λ e. gives (λ (node : NodeId). node.0 < node_count said.settings) (record { 0 = number }) (is_less _ _ e))
+    (λ e. refuses (λ (node : NodeId). node.0 < node_count said.settings) OutOfRange)
 
 a_bind : (form : Form) (said : Said) (node : NodeId) (words : List (List ℕ)) → node.0 < node_count said.settings → Meets (Says form said OfStep) (bind_line said node words)
 unfolding bind_line
@@ -379,7 +379,8 @@ form_by_head Run (head.OfDriver number) = refl
 
 pub lines_are_lawful : LinesAreLawful
 lines_are_lawful form said first words says e =
-    let known = (all_kinds form said first words).holds says e in
-    (section_by_kind says ∙ (ap (λ (k : Kind). section_of_kind k) known.0 ∙ sym (section_by_head first)),
-    form_by_kind form says ∙ (ap (λ (k : Kind). is_kind_of_form form k) known.0 ∙ sym (form_by_head form first)),
-    known.1)
+    let known = (all_kinds form said first words).holds says e in (
+      section_by_kind says ∙ (ap (λ (k : Kind). section_of_kind k) known.0 ∙ sym (section_by_head first)),
+      form_by_kind form says ∙ (ap (λ (k : Kind). is_kind_of_form form k) known.0 ∙ sym (form_by_head form first)),
+      known.1,
+    )

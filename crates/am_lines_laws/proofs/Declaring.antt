@@ -131,9 +131,9 @@ an_endpoint form said words =
     bind (ended disk.1) _ (anything (ended disk.1)) (λ _ _.
     test (is_some (end_of said id.0)) _ _ (λ e. refuses (Says form said OfDeclaration) Twice) (λ new.
     test (nat_lt (count_by (λ end. end.node.0 == node.0.0) said.ends) 64) _ _
-      (λ room. gives (Says form said OfDeclaration) (line.End (record { id = record { 0 = id.0 }; node = node.0; tag = tag.0; disk = disk.0 }))
-        (refl, (record { id = id_in.1; node = node_in; tag = tag_in; disk = disk_in }, is_none (end_of said id.0) new, is_less _ _ room)))
-      (λ full. refuses (Says form said OfDeclaration) TooMany)))))))
+    (λ room. gives (Says form said OfDeclaration) (line.End (record { id = record { 0 = id.0 }; node = node.0; tag = tag.0; disk = disk.0 }))
+    (refl, (record { id = id_in.1; node = node_in; tag = tag_in; disk = disk_in }, is_none (end_of said id.0) new, is_less _ _ room)))
+    (λ full. refuses (Says form said OfDeclaration) TooMany)))))))
 
 pub a_thread : (form : Form) (said : Said) (words : List (List ℕ)) → Meets (Says form said OfDeclaration) (thread_line said words)
 unfolding thread_line
@@ -143,9 +143,9 @@ a_thread form said words =
     bind (ended node.1) _ (anything (ended node.1)) (λ _ _.
     test (is_some (thread_of said id.0)) _ _ (λ e. refuses (Says form said OfDeclaration) Twice) (λ new.
     test (nat_lt (count_by (λ thread. thread.node.0 == node.0.0) said.threads) 4) _ _
-      (λ room. gives (Says form said OfDeclaration) (line.Thread (record { id = id.0; node = node.0 }))
-        (refl, (record { id = id_in.1; node = node_in }, is_none (thread_of said id.0) new, is_less _ _ room)))
-      (λ full. refuses (Says form said OfDeclaration) TooMany)))))
+    (λ room. gives (Says form said OfDeclaration) (line.Thread (record { id = id.0; node = node.0 }))
+    (refl, (record { id = id_in.1; node = node_in }, is_none (thread_of said id.0) new, is_less _ _ room)))
+    (λ full. refuses (Says form said OfDeclaration) TooMany)))))
 
 a_link_fault : (words : List (List ℕ)) → Meets (λ (fault : LinkFault × List (List ℕ)). IsLawfulFault fault.0) (link_fault_at words)
 unfolding link_fault_at
@@ -155,7 +155,7 @@ a_link_fault words =
     test (bytes_eq word.0 (codes "lose")) _ _ (λ e. gives Good (Lose, word.1) tt) (λ e1.
     test (bytes_eq word.0 (codes "repeat")) _ _ (λ e. gives Good (Repeat, word.1) tt) (λ e2.
     test (bytes_eq word.0 (codes "late")) _ _ (λ e.
-      bind (within 1 16 word.1) _ (is_within 1 16 word.1) (λ by h. gives Good (Late by.0, by.1) h)) (λ e3. refuses Good UnknownWord))))
+    bind (within 1 16 word.1) _ (is_within 1 16 word.1) (λ by h. gives Good (Late by.0, by.1) h)) (λ e3. refuses Good UnknownWord))))
 
 pub a_plan_line : (form : Form) (said : Said) (words : List (List ℕ)) → Meets (Says form said OfPlan) (plan_line said words)
 unfolding plan_line
@@ -167,9 +167,9 @@ a_plan_line form said words =
     bind (ended fault.1) _ (anything (ended fault.1)) (λ _ _.
     test (is_planned said.plan from.0 to.0 number.0) _ _ (λ e. refuses (Says form said OfPlan) Twice) (λ new.
     test (nat_lt (length said.plan) 4096) _ _
-      (λ room. gives (Says form said OfPlan) (line.Plan (record { from = from.0; to = to.0; number = number.0; fault = fault.0 }))
-        (refl, (record { from = from_in; to = to_in; number = number_in; fault = fault_in }, new, is_less _ _ room)))
-      (λ full. refuses (Says form said OfPlan) TooMany)))))))
+    (λ room. gives (Says form said OfPlan) (line.Plan (record { from = from.0; to = to.0; number = number.0; fault = fault.0 }))
+    (refl, (record { from = from_in; to = to_in; number = number_in; fault = fault_in }, new, is_less _ _ room)))
+    (λ full. refuses (Says form said OfPlan) TooMany)))))))
 
 pub a_swap_fault : (form : Form) (said : Said) (words : List (List ℕ)) → Meets (Says form said OfDeclaration) (swap_fault_line said words)
 unfolding swap_fault_line
@@ -179,9 +179,9 @@ a_swap_fault form said words =
     bind (ended number.1) _ (anything (ended number.1)) (λ _ _.
     test (is_faulty said.faults node.0 number.0) _ _ (λ e. refuses (Says form said OfDeclaration) Twice) (λ new.
     test (nat_lt (length said.faults) 64) _ _
-      (λ room. gives (Says form said OfDeclaration) (line.Fault (record { node = node.0; number = number.0 }))
-        (refl, (record { node = node_in; number = number_in }, new, is_less _ _ room)))
-      (λ full. refuses (Says form said OfDeclaration) TooMany)))))
+    (λ room. gives (Says form said OfDeclaration) (line.Fault (record { node = node.0; number = number.0 }))
+    (refl, (record { node = node_in; number = number_in }, new, is_less _ _ room)))
+    (λ full. refuses (Says form said OfDeclaration) TooMany)))))
 
 -- ---- bundles
 
@@ -199,8 +199,8 @@ all_once [] e = λ i j d below within. absurd (omega arith)
 all_once (id ∷ ids) e =
     let parts = neither (list_any (λ other. other.0 == id.0) ids) (has_twice ids) e in
     AllPairs-cons (λ a b. a.0 ≢ b.0) id ids
-      (All-weaker (λ other. (other.0 == id.0) ≡ false) (λ other. id.0 ≢ other.0) (λ other h. differ other.0 id.0 h) ids (none_passes (λ other. other.0 == id.0) ids parts.0))
-      (all_once ids parts.1)
+    (All-weaker (λ other. (other.0 == id.0) ≡ false) (λ other. id.0 ≢ other.0) (λ other h. differ other.0 id.0 h) ids (none_passes (λ other. other.0 == id.0) ids parts.0))
+    (all_once ids parts.1)
 
 pub a_bundle_line : (form : Form) (said : Said) (words : List (List ℕ)) → Meets (Says form said OfDeclaration) (bundle_line said words)
 unfolding bundle_line
@@ -211,11 +211,16 @@ a_bundle_line form said words =
     bind (end_word said None word.0) _ (an_end_word said None word.0) (λ first first_in.
     bind (members said first.node word.1) _ (all_members said first.node word.1) (λ others others_in.
     test (is_some (bundle_of said id.0) || has_twice (first.id ∷ others)) _ _ (λ e. refuses (Says form said OfDeclaration) Twice) (λ new.
-      let parts = neither (is_some (bundle_of said id.0)) (has_twice (first.id ∷ others)) new in
-      gives (Says form said OfDeclaration) (line.Bundle (record { id = id.0; mask = mask.0; members = first.id ∷ others }))
-        (refl, (record {
+    let parts = neither (is_some (bundle_of said id.0)) (has_twice (first.id ∷ others)) new in
+    gives (Says form said OfDeclaration) (line.Bundle (record { id = id.0; mask = mask.0; members = first.id ∷ others })) (
+      refl,
+      (
+        record {
           id = id_in.1;
           members = (first.node, All-cons (IsOn said.ends first.node) first.id others first_in.0 others_in);
           some_member = omega arith;
           once = all_once (first.id ∷ others) parts.1;
-        }, is_none (bundle_of said id.0) parts.0))))))))
+        },
+        is_none (bundle_of said id.0) parts.0,
+      ),
+    )))))))

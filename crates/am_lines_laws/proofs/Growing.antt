@@ -70,26 +70,26 @@ no_steps ends nodes frames channels least steps e = subst (λ (l : List StepLine
 -- ---- one setting more
 
 pub setting_kept : (form : Form) (settings : Settings) (one : Setting) → SettingsAreSound form settings → IsLawfulSetting form one → SettingsAreSound form (with_setting settings one)
-setting_kept form settings (setting.Network value) h l = record { network = l; nodes = h.nodes; frames = h.frames; channels = h.channels; tries = h.tries; bounces = h.bounces; pool = h.pool; keep = h.keep; log = h.log; turns = h.turns; }
-setting_kept form settings (setting.Nodes value) h l = record { network = h.network; nodes = l; frames = h.frames; channels = h.channels; tries = h.tries; bounces = h.bounces; pool = h.pool; keep = h.keep; log = h.log; turns = h.turns; }
-setting_kept form settings (setting.Frames value) h l = record { network = h.network; nodes = h.nodes; frames = l; channels = h.channels; tries = h.tries; bounces = h.bounces; pool = h.pool; keep = h.keep; log = h.log; turns = h.turns; }
-setting_kept form settings (setting.Channels value) h l = record { network = h.network; nodes = h.nodes; frames = h.frames; channels = l; tries = h.tries; bounces = h.bounces; pool = h.pool; keep = h.keep; log = h.log; turns = h.turns; }
-setting_kept form settings (setting.Tries value) h l = record { network = h.network; nodes = h.nodes; frames = h.frames; channels = h.channels; tries = l; bounces = h.bounces; pool = h.pool; keep = h.keep; log = h.log; turns = h.turns; }
-setting_kept form settings (setting.Bounces value) h l = record { network = h.network; nodes = h.nodes; frames = h.frames; channels = h.channels; tries = h.tries; bounces = l; pool = h.pool; keep = h.keep; log = h.log; turns = h.turns; }
-setting_kept form settings (setting.Pool value) h l = record { network = h.network; nodes = h.nodes; frames = h.frames; channels = h.channels; tries = h.tries; bounces = h.bounces; pool = l; keep = h.keep; log = h.log; turns = h.turns; }
-setting_kept form settings (setting.Keep value) h l = record { network = h.network; nodes = h.nodes; frames = h.frames; channels = h.channels; tries = h.tries; bounces = h.bounces; pool = h.pool; keep = l; log = h.log; turns = h.turns; }
-setting_kept form settings (setting.Log value) h l = record { network = h.network; nodes = h.nodes; frames = h.frames; channels = h.channels; tries = h.tries; bounces = h.bounces; pool = h.pool; keep = h.keep; log = l; turns = h.turns; }
-setting_kept form settings (setting.Turns value) h l = record { network = h.network; nodes = h.nodes; frames = h.frames; channels = h.channels; tries = h.tries; bounces = h.bounces; pool = h.pool; keep = h.keep; log = h.log; turns = l; }
+setting_kept form settings (setting.Network value) h l = record { network = l; nodes = h.nodes; frames = h.frames; channels = h.channels; tries = h.tries; bounces = h.bounces; pool = h.pool; keep = h.keep; log = h.log; turns = h.turns }
+setting_kept form settings (setting.Nodes value) h l = record { network = h.network; nodes = l; frames = h.frames; channels = h.channels; tries = h.tries; bounces = h.bounces; pool = h.pool; keep = h.keep; log = h.log; turns = h.turns }
+setting_kept form settings (setting.Frames value) h l = record { network = h.network; nodes = h.nodes; frames = l; channels = h.channels; tries = h.tries; bounces = h.bounces; pool = h.pool; keep = h.keep; log = h.log; turns = h.turns }
+setting_kept form settings (setting.Channels value) h l = record { network = h.network; nodes = h.nodes; frames = h.frames; channels = l; tries = h.tries; bounces = h.bounces; pool = h.pool; keep = h.keep; log = h.log; turns = h.turns }
+setting_kept form settings (setting.Tries value) h l = record { network = h.network; nodes = h.nodes; frames = h.frames; channels = h.channels; tries = l; bounces = h.bounces; pool = h.pool; keep = h.keep; log = h.log; turns = h.turns }
+setting_kept form settings (setting.Bounces value) h l = record { network = h.network; nodes = h.nodes; frames = h.frames; channels = h.channels; tries = h.tries; bounces = l; pool = h.pool; keep = h.keep; log = h.log; turns = h.turns }
+setting_kept form settings (setting.Pool value) h l = record { network = h.network; nodes = h.nodes; frames = h.frames; channels = h.channels; tries = h.tries; bounces = h.bounces; pool = l; keep = h.keep; log = h.log; turns = h.turns }
+setting_kept form settings (setting.Keep value) h l = record { network = h.network; nodes = h.nodes; frames = h.frames; channels = h.channels; tries = h.tries; bounces = h.bounces; pool = h.pool; keep = l; log = h.log; turns = h.turns }
+setting_kept form settings (setting.Log value) h l = record { network = h.network; nodes = h.nodes; frames = h.frames; channels = h.channels; tries = h.tries; bounces = h.bounces; pool = h.pool; keep = h.keep; log = l; turns = h.turns }
+setting_kept form settings (setting.Turns value) h l = record { network = h.network; nodes = h.nodes; frames = h.frames; channels = h.channels; tries = h.tries; bounces = h.bounces; pool = h.pool; keep = h.keep; log = h.log; turns = l }
 
 -- ---- one element more
 
-eq_yes : (a b : ℕ) → a ≡ b → (a == b) ≡ true
+pub eq_yes : (a b : ℕ) → a ≡ b → (a == b) ≡ true
 eq_yes a b e = grind (arith, nat_tests)
 
 equal_if : (a b : ℕ) → (a == b) ≡ true → a ≡ b
 equal_if a b e = grind (arith, nat_tests)
 
-apart : (a b : ℕ) → (a == b) ≡ false → a ≢ b
+pub apart : (a b : ℕ) → (a == b) ≡ false → a ≢ b
 apart a b e = grind (arith, nat_tests)
 
 none_if : (b : Bool) → b ≡ false → (if b then 1 else 0) ≤ 0
@@ -138,7 +138,7 @@ not_found : {A : Type 0} (p : A → Bool) (xs : List A) → find p xs ≡ None �
 not_found p [] e = All-nil (λ x. p x ≡ false)
 not_found p (x ∷ xs) e = not_found_at p x xs (p x) refl (not_found p xs) e
 
-pairs_more : {A : Type 0} (R : A → A → Type 0) (xs : List A) (x : A) → AllPairs R xs → All (λ y. R y x) xs → AllPairs R (xs ++ x ∷ [])
+pub pairs_more : {A : Type 0} (R : A → A → Type 0) (xs : List A) (x : A) → AllPairs R xs → All (λ y. R y x) xs → AllPairs R (xs ++ x ∷ [])
 pairs_more R xs x pairs all = all_pairs_push R xs x pairs (λ k d below. all k d below)
 
 -- ---- one endpoint more
@@ -166,7 +166,7 @@ ends_more : (said : Said) (end : EndLine) (network : Network) (nodes : ℕ) → 
 ends_more said end network nodes h lawful new room = record {
   each = All-push (IsLawfulEnd network nodes) said.ends end h.each lawful;
   once = pairs_more (λ a b. a.id.0 ≢ b.id.0) said.ends end h.once
-    (All-weaker (λ other. (other.id.0 == end.id.0) ≡ false) (λ other. other.id.0 ≢ end.id.0) (λ other e. apart other.id.0 end.id.0 e) said.ends (not_found (λ other. other.id.0 == end.id.0) said.ends new));
+      (All-weaker (λ other. (other.id.0 == end.id.0) ≡ false) (λ other. other.id.0 ≢ end.id.0) (λ other e. apart other.id.0 end.id.0 e) said.ends (not_found (λ other. other.id.0 == end.id.0) said.ends new));
   of_a_node = still_few (λ other. other.node.0) 64 said.ends end h.of_a_node room;
 }
 
@@ -180,7 +180,7 @@ bundles_more : (said : Said) (bundle : BundleLists) → BundlesAreSound said.end
 bundles_more said bundle h lawful new = record {
   each = All-push (IsLawfulBundle said.ends) said.bundles bundle h.each lawful;
   once = pairs_more (λ a b. a.id ≢ b.id) said.bundles bundle h.once
-    (All-weaker (λ other. (other.id == bundle.id) ≡ false) (λ other. other.id ≢ bundle.id) (λ other e. apart other.id bundle.id e) said.bundles (not_found (λ other. other.id == bundle.id) said.bundles new));
+      (All-weaker (λ other. (other.id == bundle.id) ≡ false) (λ other. other.id ≢ bundle.id) (λ other e. apart other.id bundle.id e) said.bundles (not_found (λ other. other.id == bundle.id) said.bundles new));
 }
 
 threads_more : (said : Said) (thread : ThreadLine) (nodes : ℕ) → ThreadsAreSound nodes said.threads → IsLawfulThread nodes thread → thread_of said thread.id ≡ None
@@ -188,7 +188,7 @@ threads_more : (said : Said) (thread : ThreadLine) (nodes : ℕ) → ThreadsAreS
 threads_more said thread nodes h lawful new room = record {
   each = All-push (IsLawfulThread nodes) said.threads thread h.each lawful;
   once = pairs_more (λ a b. a.id ≢ b.id) said.threads thread h.once
-    (All-weaker (λ other. (other.id == thread.id) ≡ false) (λ other. other.id ≢ thread.id) (λ other e. apart other.id thread.id e) said.threads (not_found (λ other. other.id == thread.id) said.threads new));
+      (All-weaker (λ other. (other.id == thread.id) ≡ false) (λ other. other.id ≢ thread.id) (λ other e. apart other.id thread.id e) said.threads (not_found (λ other. other.id == thread.id) said.threads new));
   of_a_node = still_few (λ other. other.node.0) 4 said.threads thread h.of_a_node room;
 }
 
@@ -202,7 +202,7 @@ plan_more : (said : Said) (planned : PlanLine) (nodes : ℕ) → PlanIsSound nod
 plan_more said planned nodes h lawful new room = record {
   each = All-push (IsLawfulPlanLine nodes) said.plan planned h.each lawful;
   once = pairs_more (λ a b. ¬ IsSamePlace a b) said.plan planned h.once
-    (All-weaker (λ other. ((other.from.0 == planned.from.0) && (other.to.0 == planned.to.0) && (other.number == planned.number)) ≡ false) (λ other. ¬ IsSamePlace other planned) (λ other e. elsewhere other planned e) said.plan
+      (All-weaker (λ other. ((other.from.0 == planned.from.0) && (other.to.0 == planned.to.0) && (other.number == planned.number)) ≡ false) (λ other. ¬ IsSamePlace other planned) (λ other e. elsewhere other planned e) said.plan
       (none_passes (λ other. (other.from.0 == planned.from.0) && (other.to.0 == planned.to.0) && (other.number == planned.number)) said.plan new));
   lines = omega (arith, length_push said.plan planned);
 }
@@ -217,7 +217,7 @@ faults_more : (said : Said) (fault : FaultLine) (nodes : ℕ) → FaultsAreSound
 faults_more said fault nodes h lawful new room = record {
   each = All-push (IsLawfulFaultLine nodes) said.faults fault h.each lawful;
   once = pairs_more (λ a b. ¬ IsSamePageCall a b) said.faults fault h.once
-    (All-weaker (λ other. ((other.node.0 == fault.node.0) && (other.number == fault.number)) ≡ false) (λ other. ¬ IsSamePageCall other fault) (λ other e. another_call other fault e) said.faults
+      (All-weaker (λ other. ((other.node.0 == fault.node.0) && (other.number == fault.number)) ≡ false) (λ other. ¬ IsSamePageCall other fault) (λ other e. another_call other fault e) said.faults
       (none_passes (λ other. (other.node.0 == fault.node.0) && (other.number == fault.number)) said.faults new));
   lines = omega (arith, length_push said.faults fault);
 }

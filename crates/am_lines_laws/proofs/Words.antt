@@ -61,16 +61,16 @@ unfolding within
 is_within low high words =
     bind (number_at words) _ (anything (number_at words)) (λ n _.
     test (nat_le low n.0 && nat_le n.0 high) _ _
-      (λ e. let ranges = both (nat_le low n.0) (nat_le n.0 high) e in gives (λ (n : ℕ × List (List ℕ)). IsWithin low high n.0) n (le_true low n.0 ranges.0, le_true n.0 high ranges.1))
-      (λ e. refuses (λ (n : ℕ × List (List ℕ)). IsWithin low high n.0) OutOfRange))
+    (λ e. let ranges = both (nat_le low n.0) (nat_le n.0 high) e in gives (λ (n : ℕ × List (List ℕ)). IsWithin low high n.0) n (le_true low n.0 ranges.0, le_true n.0 high ranges.1))
+    (λ e. refuses (λ (n : ℕ × List (List ℕ)). IsWithin low high n.0) OutOfRange))
 
 pub is_below : (limit : ℕ) (words : List (List ℕ)) → Meets (λ (n : ℕ × List (List ℕ)). n.0 < limit) (below limit words)
 unfolding below
 is_below limit words =
     bind (number_at words) _ (anything (number_at words)) (λ n _.
     test (nat_lt n.0 limit) _ _
-      (λ e. gives (λ (n : ℕ × List (List ℕ)). n.0 < limit) n (lt_true n.0 limit e))
-      (λ e. refuses (λ (n : ℕ × List (List ℕ)). n.0 < limit) OutOfRange))
+    (λ e. gives (λ (n : ℕ × List (List ℕ)). n.0 < limit) n (lt_true n.0 limit e))
+    (λ e. refuses (λ (n : ℕ × List (List ℕ)). n.0 < limit) OutOfRange))
 
 pub a_node : (settings : Settings) (words : List (List ℕ)) → Meets (λ (n : NodeId × List (List ℕ)). n.0.0 < node_count settings) (node_at settings words)
 unfolding node_at
@@ -154,8 +154,8 @@ an_end_word said wanted word =
     bind (or_else BadNumber (number_of word)) _ (anything (or_else BadNumber (number_of word))) (λ id _.
     bind (or_else Undeclared (end_of said id)) _ (found Undeclared (end_of said id)) (λ end e.
     test (is_wanted wanted end.node) _ _
-      (λ same. let on = found_is_on said id end e in gives Good end (on, wanted_is_end said wanted end same on))
-      (λ other. refuses Good OutOfRange)))
+    (λ same. let on = found_is_on said id end e in gives Good end (on, wanted_is_end said wanted end same on))
+    (λ other. refuses Good OutOfRange)))
 
 pub an_end : (said : Said) (wanted : Option NodeId) (words : List (List ℕ)) → Meets (λ (end : EndpointId × List (List ℕ)). IsEndFor said wanted end.0) (end_at said wanted words)
 unfolding end_at
@@ -183,5 +183,5 @@ a_bundle said node words =
     bind (number_at words) _ (anything (number_at words)) (λ number _.
     bind (or_else Undeclared (bundle_of said number.0)) _ (found Undeclared (bundle_of said number.0)) (λ bundle e.
     test (are_on said node bundle.members) _ _
-      (λ on. gives Good (bundle, number.1) (all_are_on said node bundle.members on))
-      (λ off. refuses Good OutOfRange)))
+    (λ on. gives Good (bundle, number.1) (all_are_on said node bundle.members on))
+    (λ off. refuses Good OutOfRange)))

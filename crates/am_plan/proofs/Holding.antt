@@ -61,13 +61,13 @@ shape_more plan from to emitted i number stamp d fault was mid new held below co
     let place : length front + 1 ≡ number = omega (arith, length-taken emitted i below) in
     let due : flat_map (falls_due number (stamp_of p)) (all_held faults 1 front) ≡ map (stamped (stamp_of p)) (late_from faults number 1 front) = sym (due_is_late faults number (stamp_of p) 1 front) in
     let more : shape plan from to (take (i + 1) emitted) ≡ shape plan from to front ++ released_by faults front p =
-        ap (λ (l : List Packet). shape plan from to l) (take_more emitted i d below) ∙ one_packet_more plan from to front p in
+    ap (λ (l : List Packet). shape plan from to l) (take_more emitted i d below) ∙ one_packet_more plan from to front p in
     let by_place : released_by faults front p ≡ at_once (faults number) p ++ map (stamped (stamp_of p)) (late_from faults number 1 front) =
-        ap (λ (n : ℕ). at_once (faults n) p ++ map (stamped (stamp_of p)) (late_from faults n 1 front)) place in
+    ap (λ (n : ℕ). at_once (faults n) p ++ map (stamped (stamp_of p)) (late_from faults n 1 front)) place in
     let first : mid ≡ shape plan from to front ++ at_once (faults number) p =
-        at_first ∙ (ap (λ (l : List Packet). l ++ at_once fault p) before ∙ ap (λ (f : Option LinkFault). shape plan from to front ++ at_once f p) at) in
+    at_first ∙ (ap (λ (l : List Packet). l ++ at_once fault p) before ∙ ap (λ (f : Option LinkFault). shape plan from to front ++ at_once f p) at) in
     let last : flat_map (falls_due number stamp) held ≡ map (stamped (stamp_of p)) (late_from faults number 1 front) =
-        ap (λ (l : List Held). flat_map (falls_due number stamp) l) held_so ∙ (ap (λ (s : ℕ). flat_map (falls_due number s) (all_held faults 1 front)) stamped_by ∙ due) in
+    ap (λ (l : List Held). flat_map (falls_due number stamp) l) held_so ∙ (ap (λ (s : ℕ). flat_map (falls_due number s) (all_held faults 1 front)) stamped_by ∙ due) in
     then_due
     ∙ (ap (λ (l : List Packet). l ++ flat_map (falls_due number stamp) held) first
     ∙ (ap (λ (l : List Packet). (shape plan from to front ++ at_once (faults number) p) ++ l) last
@@ -82,7 +82,7 @@ held_more plan from to emitted i number d fault held new below counted at before
     let front : List Packet = take i emitted in
     let faults : ℕ → Option LinkFault = fault_at plan from to in
     let more : all_held faults 1 (take (i + 1) emitted) ≡ all_held faults 1 front ++ held_back (faults number) number (get_or emitted i d) =
-        ap (λ (l : List Packet). all_held faults 1 l) (take_more emitted i d below) ∙ all_held-push faults 1 front (get_or emitted i d) number (omega (arith, length-taken emitted i below)) in
+    ap (λ (l : List Packet). all_held faults 1 l) (take_more emitted i d below) ∙ all_held-push faults 1 front (get_or emitted i d) number (omega (arith, length-taken emitted i below)) in
     then_held
     ∙ (ap (λ (l : List Held). l ++ held_back fault number (get_or emitted i d)) before
     ∙ (ap (λ (f : Option LinkFault). all_held faults 1 front ++ held_back f number (get_or emitted i d)) at ∙ sym more))

@@ -1,2 +1,4 @@
 pub mod Declared
 pub mod Steps
+pub mod Below
+pub mod Lawfully

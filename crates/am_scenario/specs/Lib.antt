@@ -1,3 +1,4 @@
 pub mod Order
 pub mod Grammar
 pub mod Answers
+pub mod Laws

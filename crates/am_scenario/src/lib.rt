@@ -13,4 +13,4 @@ pub use am_scenario_types::{
     EndLine, FaultLine, Form, Network, ReadFault, Scenario, ScenarioFault, ScriptCall, StepLine,
     ThreadLine,
 };
-pub use reader::read;
+pub use reader::{one_scenario_or_fault, read};

@@ -1,8 +1,10 @@
 //! The scenario that a text spells.
 
-ghost use Rattle.std.specs.Prelude.{◌≡◌, ◌<◌, ◌-◌, ◌^◌, length};
+ghost use Rattle.std.specs.Prelude.{◌≡◌, ◌<◌, ◌-◌, ◌^◌, IfOk, length};
 ghost use Rattle.am_scenario.specs.Grammar.{grammar};
 ghost use Rattle.am_scenario.specs.Answers.{Answers, at_line};
+ghost use Rattle.am_scenario.specs.Laws.{ExactlyOne, SpellsLawful};
+ghost use Rattle.am_scenario_types.specs.Lawful.{IsLawful, IsOfForm};
 
 use crate::finish::finish;
 use crate::order::take_line;
@@ -23,7 +25,9 @@ fn refused(line: u32, fault: LineFault) -> ReadFault
 /// The scenario that the bytes spell, or their first fault.
 pub fn read(alloc: Global, form: Form, bytes: &[u8]) -> Result<Scenario, ReadFault>
     requires { length bytes.now < 2 ^ 32 - 1 }
-    ensures { Answers result (grammar form bytes.now) }
+    ensures exact { Answers result (grammar form bytes.now) }
+    ensures lawful { IfOk result IsLawful }
+    ensures of_form { IfOk result (IsOfForm form) }
 {
     let mut draft = Draft::new(alloc);
     let mut number: u32 = 1;
@@ -40,3 +44,9 @@ pub fn read(alloc: Global, form: Form, bytes: &[u8]) -> Result<Scenario, ReadFau
         Err(fault) => Err(refused(number, fault)),
     }
 }
+
+/// Each text spells one scenario or has one first fault, and never both; and a scenario that is spelled is lawful.
+pub fn one_scenario_or_fault()
+    ensures one { ExactlyOne }
+    ensures lawful { SpellsLawful }
+{}

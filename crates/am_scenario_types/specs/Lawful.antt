@@ -155,29 +155,22 @@ IsLawfulEvent ends nodes frames channels least (event.PageIn node end) = (node.0
 
 pub record IsLawful (s : ScenarioLists) : Type 0 where
   pub settings : HasLawfulSettings s
-
   pub ends : All (IsLawfulEnd s.network s.nodes) s.ends
   pub ends_rise : AllPairs (λ a b. a.id.0 < b.id.0) s.ends
   pub ends_of_a_node : (node : ℕ) → count_by (λ end. end.node.0 == node) s.ends ≤ 64
-
   pub bundles : All (IsLawfulBundle s.ends) s.bundles
   pub bundles_once : AllPairs (λ a b. a.id ≢ b.id) s.bundles
-
   pub threads : All (IsLawfulThread s.nodes) s.threads
   pub threads_rise : AllPairs (λ a b. a.id < b.id) s.threads
   pub threads_of_a_node : (node : ℕ) → count_by (λ thread. thread.node.0 == node) s.threads ≤ 4
-
   pub plan : All (IsLawfulPlanLine s.nodes) s.plan
   pub plan_once : AllPairs (λ a b. ¬ IsSamePlace a b) s.plan
   pub plan_lines : length s.plan ≤ 4096
-
   pub faults : All (IsLawfulFaultLine s.nodes) s.faults
   pub faults_once : AllPairs (λ a b. ¬ IsSamePageCall a b) s.faults
   pub fault_lines : length s.faults ≤ 64
-
   pub script : All (IsLawfulScriptCall s.ends s.threads (least_credits s.pool)) s.script
   pub script_calls : length s.script ≤ 16_384
-
   pub steps : All (λ step. IsLawfulEvent s.ends s.nodes s.frames s.channels (least_credits s.pool) step.event) s.steps
   pub step_lines : length s.steps ≤ 65_536
 

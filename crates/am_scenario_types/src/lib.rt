@@ -9,7 +9,6 @@ pub use am_lexer::What;
 pub use am_plan::{LinkFault, PlanLine};
 pub use faults::{ReadFault, ScenarioFault};
 pub use parts::{EndLine, FaultLine, Form, Network, ScriptCall, StepLine, ThreadLine};
-
 use std::marker::Model;
 
 /// What a run begins with and what it is to do.

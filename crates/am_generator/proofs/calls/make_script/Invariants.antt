@@ -6,5 +6,5 @@ use Rattle.am_generator.proofs.calls.make_script.Given as goal
 abbrev pub invariant-loop-thread : goal.invariant-loop-thread
 invariant-loop-thread l = record {
   calls : l.script.items ≡ script_below l.fn.rng l.thread;
-  words : l.rng ≡ after_threads l.fn.rng l.thread
+  words : l.rng ≡ after_threads l.fn.rng l.thread;
 }

@@ -6,5 +6,5 @@ use Rattle.am_generator.proofs.plan.make_plan.Given as goal
 abbrev pub invariant-loop-line : goal.invariant-loop-line
 invariant-loop-line l = record {
   lines : l.plan.items ≡ plan_after l.fn.rng l._line;
-  words : l.rng ≡ steps l.fn.rng l._line
+  words : l.rng ≡ steps l.fn.rng l._line;
 }

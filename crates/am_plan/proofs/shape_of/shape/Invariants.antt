@@ -7,5 +7,5 @@ abbrev pub invariant-loop-packet : goal.invariant-loop-packet
 invariant-loop-packet l = record {
   counted : l.number ≡ l.packet-index + 1;
   released : l.released.items ≡ shape l.plan l.from l.to (take l.packet-index l.emitted);
-  held : l.held.items ≡ all_held (fault_at l.plan l.from l.to) 1 (take l.packet-index l.emitted)
+  held : l.held.items ≡ all_held (fault_at l.plan l.from l.to) 1 (take l.packet-index l.emitted);
 }
