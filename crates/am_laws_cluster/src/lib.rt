@@ -1,12 +1,16 @@
 //! The invariant of the cluster over every history, part by part and as a whole.
 #![tactic(auto)]
 
+ghost use Rattle.am_laws_cluster.specs.LateAttempt as late;
 ghost use Rattle.am_laws_cluster.specs.Truth.{AnswersSayTrue, ClusterHolds};
-ghost use Rattle.am_model.specs.Cluster.{ArrivedMatchesReceived, BouncesAreRequeues, EndedSequencePutNothing, InFlightIsBound, MarkIsOfParcel, OneLiveSequence, ParcelsFitSender, PoolsAreBounded, ReceivedTagMatches, WaitingIsOpen};
+ghost use Rattle.am_model.specs.Cluster.{answer_channel, ArrivedMatchesReceived, BouncesAreRequeues, EndedSequencePutNothing, InFlightIsBound, MarkIsOfParcel, OneLiveSequence, ParcelsFitSender, PoolsAreBounded, ReceivedTagMatches, WaitingIsOpen, took};
 ghost use Rattle.am_model.specs.History.{IsHistory};
 ghost use Rattle.am_model.specs.Layout.{IsLawful, Layout};
+ghost use Rattle.am_model.specs.PostOffice.{Gave};
+ghost use Rattle.am_names.specs.declared.Packet.TheVariants as Packets;
+ghost use Rattle.am_office.specs.Entries.{emitted_of};
 ghost use Rattle.am_office.specs.declared.Entry.{Entry};
-ghost use Rattle.std.specs.Prelude.{List};
+ghost use Rattle.std.specs.Prelude.{◌≡◌, List, false, true};
 
 /// In each history a parcel has a sequence at most the sender's; those of one sequence carry one
 /// message, and their attempts are distinct and at most the last that was sent.
@@ -79,4 +83,13 @@ pub fn in_flight_is_bound()
 /// In each history of a lawful layout, on either network, all eleven parts hold together.
 pub fn cluster_holds()
     ensures { (layout : Layout) (past : List Entry) → IsLawful layout → IsHistory layout past → ClusterHolds layout past }
+{}
+
+/// Why an answer that accepts doesn't say which attempt was taken: where a first attempt comes after
+/// the second was taken, it is answered as taken, though no attempt up to it was.
+pub fn a_late_first_attempt()
+    ensures history { IsHistory late.layout late.journal }
+    ensures answered { Gave emitted_of late.journal (Packets.Answer late.answer) }
+    ensures untaken { took (answer_channel late.answer) 1 0 late.journal ≡ false }
+    ensures taken { took (answer_channel late.answer) 1 1 late.journal ≡ true }
 {}
