@@ -336,7 +336,7 @@ flies layout packet past h k c m is =
     low : 1 ≤ flown layout past m.serial
     low = (kept_flights layout packet past h).flown c m is
 
-    fewer : (xs : List Flying) → flight_weight (one m.serial) xs ≤ flight_weight (Rattle.am_laws_cluster.proofs.Pools.passing any_message) xs
+    fewer : (xs : List Flying) → flight_weight (one m.serial) xs ≤ flight_weight (Rattle.am_laws_endpoints.proofs.Pools.passing any_message) xs
     fewer [] = omega arith
     fewer (f ∷ xs) = omega (arith, fewer xs, most (has_serial m.serial f.message), sum_by-cons (λ (y : Flying). one m.serial y.message y.bounces) f xs, sum_by-cons (λ (y : Flying). 1) f xs)
       where

@@ -47,7 +47,7 @@ use Rattle.am_laws_messages.proofs.Held.{unless_busy, IsWelcome}
 use Rattle.am_laws_replies.proofs.Credited.{made}
 use Rattle.am_laws_fates.proofs.Aloft.{queue_weight, flight_weight, one_weight, newly, entry_moves, marked_weighs, landed_weighs}
 use Rattle.am_laws_fates.proofs.Flown.{called_flown, left_flown, reached_flown, out_flown, in_flown}
-use Rattle.am_laws_cluster.proofs.Pools.{all_of, back_of, passing, no_more}
+use Rattle.am_laws_endpoints.proofs.Pools.{all_of, back_of, passing, no_more}
 
 -- A closed endpoint has no messages.
 

@@ -59,9 +59,9 @@ use Rattle.am_laws_fates.proofs.Ledger.{found_serial}
 use Rattle.am_laws_credits.proofs.Given.{gave_times}
 use Rattle.am_laws_credits.proofs.Marked.{replied, flags}
 use Rattle.am_laws_credits.proofs.Puts.{put_reply}
-use Rattle.am_laws_cluster.proofs.Sent.{sendings}
-use Rattle.am_laws_cluster.proofs.Taken.{takings}
-use Rattle.am_laws_cluster.proofs.Answers.{replies}
+use Rattle.am_laws_channels.proofs.Sent.{sendings}
+use Rattle.am_laws_channels.proofs.Taken.{takings}
+use Rattle.am_laws_channels.proofs.Answers.{replies}
 
 -- a message is bound once more than it was requeued, at most
 abbrev pub bound_times : Serial → List Entry → ℕ

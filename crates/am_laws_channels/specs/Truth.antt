@@ -1,4 +1,4 @@
--- What the answers of the packet network say, and the whole invariant of the cluster.
+-- What the answers of the packet network say.
 use Rattle.std.specs.Prelude.{◌≡◌, ◌⊎◌, ℕ, ◌<◌, true, false, List}
 use Rattle.am_names.specs.declared.Verdict.{Verdict}
 use Rattle.am_names.specs.declared.Verdict.TheVariants as Verdicts
@@ -6,18 +6,17 @@ use Rattle.am_names.specs.declared.Parcel.{Parcel}
 use Rattle.am_names.specs.declared.AnswerPacket.{AnswerPacket}
 use Rattle.am_names.specs.declared.Packet.TheVariants as Packets
 use Rattle.am_office.specs.declared.Entry.{Entry}
-use Rattle.am_office.specs.Entries.{emitted_of}
-use Rattle.am_model.specs.Layout.{Layout}
+use Rattle.am_office.specs.Entries.{emitted_of, put_of}
 use Rattle.am_model.specs.Channels.{mark}
 use Rattle.am_model.specs.PostOffice.{Gave}
-use Rattle.am_model.specs.Cluster.{InFlightIsBound, ParcelsFitSender, MarkIsOfParcel, EndedSequencePutNothing, OneLiveSequence, WaitingIsOpen, ArrivedMatchesReceived, ReceivedTagMatches, PoolsAreBounded, BouncesAreRequeues, WasSent, parcel_channel, answer_channel, other_end, took, HasComeTo}
+use Rattle.am_model.specs.Cluster.{WasSent, parcel_channel, answer_channel, other_end, took, HasComeTo}
 
 -- the receiving end put a message in this sequence, on some attempt: an answer that accepts may be to an earlier
 -- attempt than the one that was taken, which came late
 abbrev pub TookOnSome : List Entry → AnswerPacket → Type 0
 TookOnSome past a = (most : ℕ) × (took (answer_channel a) a.seq most past ≡ true)
 
--- an answer that accepts: its message was put, and the mark is past its sequence, or at it and accepted. One that refuses:
+-- an answer that accepts: its sequence was put, and the mark is past its sequence, or at it and accepted. One that refuses:
 -- the mark has come to its attempt, and no attempt up to that one was put.
 abbrev pub SaysTrue : List Entry → AnswerPacket → Verdict → Type 0
 SaysTrue past a Verdicts.Accepted =
@@ -31,22 +30,9 @@ pub record IsTrueAnswer (past : List Entry) (a : AnswerPacket) : Type 0 where
   pub on : parcel_channel parcel ≡ other_end (answer_channel a)
   pub seq : parcel.seq ≡ a.seq
   pub attempt : parcel.attempt ≡ a.attempt
+  pub puts : a.verdict ≡ Verdicts.Accepted → Gave put_of past parcel.message
   pub says : SaysTrue past a a.verdict
 
--- every answer is to a parcel that was sent, and says what its end did
+-- every answer is to a parcel that was sent, whose message was put where it accepts, and says what its end did
 abbrev pub AnswersSayTrue : List Entry → Type 0
 AnswersSayTrue past = (a : AnswerPacket) → Gave emitted_of past (Packets.Answer a) → IsTrueAnswer past a
-
--- what holds of a cluster after every entry
-pub record ClusterHolds (layout : Layout) (past : List Entry) : Type 0 where
-  pub flights : InFlightIsBound layout past
-  pub parcels : ParcelsFitSender past
-  pub marks : MarkIsOfParcel past
-  pub answers : AnswersSayTrue past
-  pub ended : EndedSequencePutNothing past
-  pub live : OneLiveSequence layout past
-  pub waiting : WaitingIsOpen layout past
-  pub arrived : ArrivedMatchesReceived layout past
-  pub tags : ReceivedTagMatches layout past
-  pub pools : PoolsAreBounded layout past
-  pub bounces : BouncesAreRequeues layout past

@@ -37,7 +37,7 @@ use Rattle.am_model.proofs.Ends.{EmittedIn, was_emitted, mark_push}
 use Rattle.am_laws_order.proofs.Senders.{same_channel-is}
 use Rattle.am_laws_order.proofs.Parcels.{channel_of}
 use Rattle.am_laws_order.proofs.Marks.{IsPast, Decides, MarkMoves, mark_moves, mark_after, back, link_of, fresh_means, settle_decides}
-use Rattle.am_laws_cluster.proofs.Sent.{emitted_later}
+use Rattle.am_laws_channels.proofs.Sent.{emitted_later}
 
 -- a receiving end takes a message
 pub record IsTaking (past : List Entry) (d : Channel) (k most : ℕ) (event : Event) (o : Outcome) : Type 0 where

@@ -36,9 +36,18 @@ use Rattle.am_laws_order.proofs.Senders.{SenderMoves, sender, sender_moves, same
 use Rattle.am_laws_order.proofs.Parcels.{IsOf, IsCurrent, channel_of, new_parcel, same_channel-refl}
 use Rattle.am_laws_order.proofs.Marks.{IsPast, mark_moves, mark_after, back, end_of, link_of, again_at, Agrees, IsAnswered, ChannelsKept, refusal_marks, no_answer, settle_answers, parcel_no_answer}
 use Rattle.am_laws_order.proofs.Effects.{IsRefusal, link_of_answer}
-use Rattle.am_laws_cluster.specs.Truth.{TookOnSome, SaysTrue, AnswersSayTrue}
-use Rattle.am_laws_cluster.proofs.Sent.{gave_emitted, emitted_gave, emitted_later, sendings}
-use Rattle.am_laws_cluster.proofs.Taken.{takes_is, took_push, took_later, mark_then, Takings, takings, come_past, come_on}
+use Rattle.am_laws_channels.specs.Truth.{TookOnSome, SaysTrue, AnswersSayTrue}
+use Rattle.am_laws_channels.proofs.Sent.{gave_emitted, emitted_gave, emitted_later, sendings}
+use Rattle.am_laws_channels.proofs.Taken.{takes_is, took_push, took_later, mark_then, Takings, takings, come_past, come_on}
+use Rattle.am_model.proofs.Names.{same_serial-is}
+use Rattle.am_names.specs.Names.{has_serial}
+use Rattle.am_office.specs.Entries.{put_of}
+use Rattle.am_laws_order.proofs.Everywhere.{each_once}
+use Rattle.am_model.specs.PostOffice.{Gave}
+use Rattle.am_laws_messages.proofs.Delivered.{delivers}
+use Rattle.am_laws_replies.proofs.Gave.{accepted_one}
+use Rattle.am_laws_credits.proofs.Given.{times_gave}
+use Rattle.am_laws_credits.proofs.Puts.{put_was_accepted}
 
 -- an answer as it is sent
 record IsAnswerTo (node peer : NodeId) (channel seq attempt : ℕ) (q : AnswerPacket) : Type 0 where
@@ -219,7 +228,7 @@ replies layout past h =
 -- the fourth part: answers say what their ends did
 pub answers_true : (layout : Layout) (past : List Entry) → IsHistory layout past → AnswersSayTrue past
 answers_true layout past h a g =
-    record { parcel = k.by; sent = emitted_gave (Packets.Parcel k.by) past k.emitted; on = k.on; seq = k.seq; attempt = k.attempt; says = by_verdict a.verdict refl }
+    record { parcel = k.by; sent = emitted_gave (Packets.Parcel k.by) past k.emitted; on = k.on; seq = k.seq; attempt = k.attempt; puts = puts; says = by_verdict a.verdict refl }
   where
     there : EmittedIn (Packets.Answer a) past
     there = gave_emitted (Packets.Answer a) past g
@@ -229,6 +238,16 @@ answers_true layout past h a g =
 
     said : IsAnswered (mark (end_of a) past) a
     said = (sendings layout past h).channels.answers a there
+
+    puts : a.verdict ≡ Verdicts.Accepted → Gave put_of past k.by.message
+    puts is =
+        let t = k.accepts is in
+        let p = (takings layout past h).parcel (end_of a) a.seq t.0 t.1 in
+        let same : p.0.message ≡ k.by.message = ((sendings layout past h).alike p.0 k.by p.1 k.emitted (p.2 ∙ sym k.on) (p.3 ∙ sym k.seq)).message in
+        let g = times_gave put_of (has_serial p.0.message.serial) past p.4 in
+        let serial : p.0.message.serial ≡ g.0.serial = same_serial-is p.0.message.serial g.0.serial g.2 in
+        let one' : g.0 ≡ p.0.message = accepted_one past p.0.message.serial g.0 p.0.message ((each_once layout past h).accepted p.0.message.serial) (put_was_accepted layout past h g.0 g.1) ((delivers layout past h).parcels p.0 p.1).accepted (sym serial) refl in
+        subst (Gave put_of past) (one' ∙ same) g.1
 
     by_verdict : (v : Verdict) → a.verdict ≡ v → SaysTrue past a v
     by_verdict Verdicts.Accepted is = (k.accepts is, accepted_past (mark (end_of a) past) a is said)
