@@ -20,8 +20,8 @@ use Rattle.am_model.specs.PostOffice.{times, times_serial, Gave}
 use Rattle.am_model.proofs.Names.{same_serial-is, same_serial-refl}
 use Rattle.am_model.proofs.Received.{bit}
 use Rattle.am_laws_order.proofs.Everywhere.{each_once}
-use Rattle.am_office.specs.declared.Fate.{Fate}
-use Rattle.am_office.specs.declared.Fate.TheVariants as Fates
+use Rattle.am_office.specs.declared.endings.Fate.{Fate}
+use Rattle.am_office.specs.declared.endings.Fate.TheVariants as Fates
 use Rattle.am_office.specs.Fates.{fate_by, cause_of, cause_if}
 use Rattle.am_office.specs.Entries.{return_of, return_in}
 use Rattle.am_model.specs.PostOffice.{StaysReturned}

@@ -41,7 +41,7 @@ count_le p t (x ∷ xs) = by_test p t x xs (t x) (p x) (count_le p t xs)
     by_test p t x xs false c more = (omega (arith, more.0, sum_by-cons (λ y. cond (p y) 1 0) x xs, sum_by-cons (λ y. cond (p y) 1 0) x (without_first t xs)), omega (arith, more.1, sum_by-cons (λ y. cond (p y) 1 0) x xs, sum_by-cons (λ y. cond (p y) 1 0) x (without_first t xs)), omega (arith, more.2))
 
 -- a waiting record is not arrived
-waiting_kept : (s : Serial) (xs : List Awaited) → count_by is_arrived (not_awaited s xs) ≡ count_by is_arrived xs
+pub waiting_kept : (s : Serial) (xs : List Awaited) → count_by is_arrived (not_awaited s xs) ≡ count_by is_arrived xs
 waiting_kept s [] = refl
 waiting_kept s (a ∷ xs) = by_test (same_serial s a.serial) a.arrived refl (waiting_kept s xs)
   where
@@ -62,7 +62,7 @@ settled_le : (about : Option Serial) (xs : List Awaited) → (count_by is_arrive
 settled_le None xs = (omega arith, omega arith)
 settled_le (Some s) xs = let l = count_le is_arrived (is_of s) xs in (l.1, l.2)
 
-length_appended : (b : Bool) (m : Message) (used : ℕ) (xs : List Queued) → length (appended b m used xs) ≡ length xs + bit b
+pub length_appended : (b : Bool) (m : Message) (used : ℕ) (xs : List Queued) → length (appended b m used xs) ≡ length xs + bit b
 length_appended true m used xs = length_push xs (record { message = m; bounces = used })
 length_appended false m used xs = omega arith
 

@@ -12,3 +12,4 @@ pub mod Steps
 pub mod Merge
 pub mod FullQueue
 pub mod Cluster
+pub mod Allowed

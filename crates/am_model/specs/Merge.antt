@@ -12,8 +12,6 @@ use Rattle.am_office.specs.declared.Received.TheVariants as Got
 use Rattle.am_office.specs.declared.Outcome.{Outcome}
 use Rattle.am_office.specs.declared.Outcome.TheVariants as Out
 use Rattle.am_office.specs.declared.Entry.{Entry}
-use Rattle.am_office.specs.declared.Fate.{Fate}
-use Rattle.am_office.specs.declared.Fate.TheVariants as Fates
 use Rattle.am_names.specs.Names.{same_serial, has_serial}
 use Rattle.am_office.specs.Entries.{accepted_of, run_of, unknown_of, touches, touches_node, ends_touched, node_touched, passes, is_serial}
 

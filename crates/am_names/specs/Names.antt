@@ -1,5 +1,7 @@
 -- Tests on names and messages.
 use Rattle.std.specs.Prelude.{Bool, true, false, ◌==◌, ◌&&◌, if◌then◌else◌}
+use Rattle.std.specs.declared.cmp.Ordering.{Ordering}
+use Rattle.std.specs.Ordering.{nat_cmp, ordering_then}
 use Rattle.am_names.specs.declared.EndpointId.{EndpointId}
 use Rattle.am_names.specs.declared.NodeId.{NodeId}
 use Rattle.am_names.specs.declared.Serial.{Serial}
@@ -15,6 +17,10 @@ same_node a b = a.0 == b.0
 
 abbrev pub same_serial : Serial → Serial → Bool
 same_serial a b = same_end a.source b.source && (a.count == b.count)
+
+-- by source, and those of one source by count
+abbrev pub serial_order : Serial → Serial → Ordering
+serial_order a b = ordering_then (nat_cmp a.source.0 b.source.0) (nat_cmp a.count b.count)
 
 -- whether the message has this serial
 abbrev pub has_serial : Serial → Message → Bool

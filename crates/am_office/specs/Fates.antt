@@ -1,8 +1,6 @@
 -- What became of each message.
-use Rattle.std.specs.Prelude.{◌≡◌, ℕ, ◌+◌, Bool, true, false, ◌==◌, ◌&&◌, ◌||◌, nat_lt, Option, Some, None, List, [], ◌∷◌, map, length, filter, filter_map, if◌then◌else◌}
-use Rattle.std.specs.List.{list_any, list_all, range_with_len}
-use Rattle.am_names.specs.declared.EndpointId.{EndpointId}
-use Rattle.am_names.specs.declared.NodeId.{NodeId}
+use Rattle.std.specs.Prelude.{Bool, true, false, Option, Some, None, List, [], ◌∷◌, filter_map, if◌then◌else◌}
+use Rattle.std.specs.List.{list_any}
 use Rattle.am_names.specs.declared.Serial.{Serial}
 use Rattle.am_names.specs.declared.Cause.{Cause}
 use Rattle.am_office.specs.declared.Event.{Event}
@@ -12,10 +10,10 @@ use Rattle.am_office.specs.declared.Received.TheVariants as Got
 use Rattle.am_office.specs.declared.Outcome.{Outcome}
 use Rattle.am_office.specs.declared.Outcome.TheVariants as Out
 use Rattle.am_office.specs.declared.Entry.{Entry}
-use Rattle.am_office.specs.declared.Fate.{Fate}
-use Rattle.am_office.specs.declared.Fate.TheVariants as Fates
+use Rattle.am_office.specs.declared.endings.Fate.{Fate}
+use Rattle.am_office.specs.declared.endings.Fate.TheVariants as Fates
 use Rattle.am_names.specs.Names.{same_serial, has_serial}
-use Rattle.am_office.specs.Entries.{accepted_of, run_of, unknown_of, touches, touches_node, ends_touched, node_touched, passes, is_serial}
+use Rattle.am_office.specs.Entries.{accepted_of, run_of, unknown_of, passes, is_serial}
 
 abbrev pub cause_if : Bool → Cause → Option Cause
 cause_if true cause = Some cause
@@ -38,14 +36,26 @@ fate_by [] true false = Fates.Unknown
 fate_by [] false true = Fates.Ran
 fate_by [] false false = Fates.Pending
 
+-- the causes for which a journal's entries return the serial
+abbrev pub causes_of : List Entry → Serial → List Cause
+causes_of journal s = filter_map (λ (x : Entry). cause_of s x.event x.outcome) journal
+
+-- whether an entry leaves the serial unknown
+abbrev pub is_unknown : List Entry → Serial → Bool
+is_unknown journal s = list_any (λ (x : Entry). is_serial s (unknown_of x)) journal
+
+-- whether a poll ran the serial
+abbrev pub is_run : List Entry → Serial → Bool
+is_run journal s = list_any (λ (x : Entry). passes (has_serial s) (run_of x)) journal
+
+-- whether an entry accepts the serial
+abbrev pub is_accepted : List Entry → Serial → Bool
+is_accepted journal s = list_any (λ (x : Entry). passes (has_serial s) (accepted_of x)) journal
+
+-- what became of an accepted serial
+abbrev pub fate_of_accepted : List Entry → Serial → Fate
+fate_of_accepted journal s = fate_by (causes_of journal s) (is_unknown journal s) (is_run journal s)
+
 -- what became of a serial, if it was accepted
 abbrev pub fate : List Entry → Serial → Option Fate
-fate journal s =
-    if list_any (λ (x : Entry). passes (has_serial s) (accepted_of x)) journal
-    then
-    Some
-    (fate_by
-    (filter_map (λ (x : Entry). cause_of s x.event x.outcome) journal)
-    (list_any (λ (x : Entry). is_serial s (unknown_of x)) journal)
-    (list_any (λ (x : Entry). passes (has_serial s) (run_of x)) journal))
-    else None
+fate journal s = if is_accepted journal s then Some (fate_of_accepted journal s) else None

@@ -1,7 +1,19 @@
-// The entries of a journal.
+//! The entries of a journal as plain data, the fates of its messages, and their printed texts.
 #![tactic(auto)]
 
+mod endings;
+mod fates;
+mod lines;
+mod roles;
+mod touched;
+
 use am_names::{Cause, EndpointId, Message, NodeId, Serial, Tag, Verdict, Why, Words};
+pub use endings::Fate;
+pub use fates::fate;
+pub use lines::entry_line;
+pub use roles::{accepted_of, return_of, run_of, unknown_of};
+use std::marker::Model;
+pub use touched::{node_touched, touches};
 
 /// What a handler does when a message runs it.
 #[derive(Clone, Copy, PartialEq, Eq, Debug)]
@@ -250,18 +262,24 @@ pub struct Entry {
     pub outcome: Outcome,
 }
 
-/// Entries in order.
+/// Entries in order. Contracts see the list of the entries.
 #[derive(Drop, Debug)]
 pub struct Journal {
     pub entries: Vec<Entry>,
 }
 
-/// What became of a message.
-#[derive(Clone, Copy, PartialEq, Eq, Debug)]
-pub enum Fate {
-    Ran,
-    Returned(Cause),
-    Unknown,
-    UnknownButRan,
-    Pending,
+impl Model for Journal {
+    ghost use Rattle.std.specs.Prelude.{List};
+    ghost use Rattle.am_office.specs.declared.Entry.{Entry};
+
+    ghost Value = { List Entry };
+
+    ghost view = { λ journal. journal.entries.items };
 }
+
+/// There is no memory for what was asked.
+#[derive(Clone, Copy, PartialEq, Eq, Debug)]
+pub struct NoMemory;
+
+#[cfg(test)]
+mod tests;

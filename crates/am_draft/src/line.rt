@@ -1,0 +1,75 @@
+ghost use Rattle.std.specs.Prelude.{◌≡◌};
+ghost use Rattle.am_draft.specs.declared.line.LineFault.TheVariants as faults;
+
+use crate::settings::{Setting, Version};
+use am_names::EndpointId;
+use am_office::{Call, Event};
+use am_scenario_types::{
+    Bundle, EndLine, FaultLine, PlanLine, ScriptCall, ThreadLine, What,
+};
+use std::alloc::{AllocError, AllocFailed};
+use std::marker::Model;
+
+/// Calls on endpoints, in order.
+#[derive(Debug, Drop)]
+pub struct Calls {
+    pub list: Vec<(EndpointId, Call)>,
+}
+
+impl Model for Calls {
+    ghost use Rattle.std.specs.Prelude.{List};
+    ghost use Rattle.am_names.specs.declared.EndpointId.{EndpointId};
+    ghost use Rattle.am_office.specs.declared.Call.{Call};
+
+    ghost Value = { List (EndpointId × Call) };
+
+    ghost view = { λ c. c.list.items };
+}
+
+/// What a line says.
+#[derive(Debug, Drop)]
+pub enum Line {
+    Version(Version),
+    Setting(Setting),
+    End(EndLine),
+    Bundle(Bundle),
+    Thread(ThreadLine),
+    Plan(PlanLine),
+    Fault(FaultLine),
+    /// A thread makes a call.
+    Call(ScriptCall),
+    /// A thread makes a bundle's calls.
+    Calls { thread: u8, calls: Calls },
+    Step(Event),
+}
+
+/// Why a line was not taken.
+#[derive(Clone, Copy, Debug, PartialEq, Eq)]
+pub enum LineFault {
+    What(What),
+    NoMemory,
+}
+
+impl From<What> for LineFault {
+    ghost from_gives = { λ what e. e ≡ faults.What what };
+
+    fn from(what: What) -> LineFault {
+        LineFault::What(what)
+    }
+}
+
+impl From<AllocError> for LineFault {
+    ghost from_gives = { λ _ e. e ≡ faults.NoMemory };
+
+    fn from(_e: AllocError) -> LineFault {
+        LineFault::NoMemory
+    }
+}
+
+impl<T: Drop> From<AllocFailed<T>> for LineFault {
+    ghost from_gives = { λ _ e. e ≡ faults.NoMemory };
+
+    fn from(_e: AllocFailed<T>) -> LineFault {
+        LineFault::NoMemory
+    }
+}

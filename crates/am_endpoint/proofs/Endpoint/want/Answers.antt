@@ -1,0 +1,6 @@
+use Rattle.am_model.proofs.Order.{order_wanted}
+use Rattle.am_endpoint.specs.View.{state_after}
+use Rattle.am_endpoint.proofs.Endpoint.want.Goals as goal
+
+pub enter-requires-clause-keeps : goal.enter-requires-clause-keeps
+enter-requires-clause-keeps c = order_wanted c.room.new.self.settings.pool (state_after c.room.new.self)

@@ -1,0 +1,4 @@
+pub mod Settings
+pub mod View
+pub mod Seen
+pub mod Kept

@@ -1,0 +1,444 @@
+//! Endpoints: what each entry makes of their state, and their log.
+#![tactic(auto)]
+
+ghost use Rattle.am_endpoint.specs.Settings.{AreLawful};
+ghost use Rattle.am_endpoint.specs.View.{EndpointView, last_stamp, state_after};
+ghost use Rattle.am_model.specs.Allowed.{KeepsOrder, MayArrive, MayBind, MayCarry, MayDrain, MayLoad, MayPageIn, MayPageOut, MaySettle, MayUnload, are_numbers_in_range, is_well_formed};
+ghost use Rattle.am_model.specs.Calls.{outcome_of_call};
+ghost use Rattle.am_model.specs.Changes.{flying_of, has_arrivals};
+ghost use Rattle.am_model.specs.History.{judged};
+ghost use Rattle.am_model.specs.Endpoint.{front, is_on_disk, verdict};
+ghost use Rattle.am_names.specs.Names.{is_request};
+ghost use Rattle.std.specs.Prelude.{◌≡◌, ◌+◌, ◌<◌, ◌≤◌, ◌^◌, [], ◌∷◌, ◌++◌, length, count_by, IfOk, OnErr, OnOk, IfSome, Err, is_some, max, true, false, ◌↔◌};
+
+mod arrivals;
+mod changes;
+mod departures;
+mod entries;
+mod fields;
+mod flights;
+mod settings;
+
+use crate::fields::Fields;
+pub use crate::settings::{EndFault, EndSettings, NoMemory};
+use am_model::Queued;
+use am_names::{EndpointId, Message, NodeId, Serial, Verdict};
+use am_office::{Actor, Call, Entry, Event, Outcome, Place};
+use std::alloc::{AllocError, Global};
+use std::marker::Model;
+
+/// An endpoint with its log. Contracts see what it began with, its log, and whether it is ready
+/// for one more entry; its state is the replay of the log.
+#[derive(Drop)]
+pub struct Endpoint {
+    settings: EndSettings,
+    fields: Fields,
+    log: Vec<Entry>,
+}
+
+impl Model for Endpoint {
+    ghost use Rattle.am_endpoint.specs.View.{EndpointView};
+
+    ghost Value = { EndpointView };
+
+    ghost use Rattle.am_endpoint.specs.Kept.{view_of, IsReplay};
+
+    ghost view = { view_of };
+
+    ghost invariant = { IsReplay };
+}
+
+impl Endpoint {
+    /// A fresh endpoint with an empty log.
+    pub fn new(alloc: Global, set: EndSettings) -> Result<Endpoint, NoMemory>
+        requires { AreLawful set }
+        ensures settings { IfOk result (λ end. end.settings ≡ set) }
+        ensures log { IfOk result (λ end. end.log ≡ []) }
+    {
+        Ok(Endpoint {
+            settings: set,
+            fields: Fields::fresh(alloc, set.tag, set.place),
+            log: Vec::new(alloc),
+        })
+    }
+}
+
+impl Endpoint {
+    /// Whose it is.
+    pub fn id(&self) -> EndpointId
+        ensures { result ≡ self.now.settings.id }
+    {
+        self.settings.id
+    }
+
+    /// Its node.
+    pub fn node(&self) -> NodeId
+        ensures { result ≡ self.now.settings.node }
+    {
+        self.settings.node
+    }
+
+    /// How often a message of its may bounce.
+    pub fn bounces(&self) -> u8
+        ensures { result ≡ self.now.settings.bounces }
+    {
+        self.settings.bounces
+    }
+
+    /// The credits that its indexes share, if they share any.
+    pub fn pool(&self) -> Option<u8>
+        ensures { result ≡ self.now.settings.pool }
+    {
+        self.settings.pool
+    }
+
+    /// The entries in order.
+    pub fn log(&self) -> &[Entry]
+        ensures { result.now ≡ self.now.log }
+    {
+        self.log.as_slice()
+    }
+
+    /// The stamp of the last entry, and 0 where there is none.
+    pub fn last_stamp(&self) -> u64
+        ensures { result ≡ last_stamp self.now.log }
+    {
+        match self.log.as_slice().last().copied() {
+            None => 0,
+            Some(entry) => entry.stamp,
+        }
+    }
+
+    /// Where it lies.
+    pub fn place(&self) -> Place
+        ensures { result ≡ (state_after self.now).head.place }
+    {
+        self.fields.head.place
+    }
+
+    /// Whether it is wanted.
+    pub fn wanted(&self) -> bool
+        ensures { result ≡ (state_after self.now).head.wanted }
+    {
+        self.fields.head.wanted
+    }
+
+    /// Whether it is draining.
+    pub fn draining(&self) -> bool
+        ensures { result ≡ (state_after self.now).head.draining }
+    {
+        self.fields.head.draining
+    }
+
+    /// Whether it is closed.
+    pub fn closed(&self) -> bool
+        ensures { result ≡ (state_after self.now).head.closed }
+    {
+        self.fields.head.closed
+    }
+}
+
+impl Endpoint {
+    /// The front message, and how often it bounced: the front of replies, and where there is none the front of requests.
+    pub fn front(&self) -> Option<Queued>
+        requires { is_on_disk (state_after self.now).head.place ≡ false }
+        ensures value { result ≡ front (state_after self.now) }
+        ensures formed { IfSome result (λ queued. is_well_formed queued.message ≡ true) }
+    {
+        self.fields.front()
+    }
+
+    /// The verdict on a message that arrives.
+    pub fn verdict(&self, message: &Message) -> Verdict
+        ensures { result ≡ verdict (state_after self.now) message.now }
+    {
+        self.fields.verdict(message)
+    }
+
+    /// Whether a notice or a received message is there.
+    pub fn pollable(&self) -> bool
+        requires { is_on_disk (state_after self.now).head.place ≡ false }
+        ensures { result ≡ has_arrivals (state_after self.now).body }
+    {
+        self.fields.has_arrivals()
+    }
+
+    /// How many requests are received and not polled.
+    pub fn received_requests(&self) -> u8
+        requires { is_on_disk (state_after self.now).head.place ≡ false }
+        ensures { result ≡ count_by is_request (state_after self.now).body.received }
+    {
+        self.fields.received_requests() as u8
+    }
+
+    /// Whether a message with this serial is in flight.
+    pub fn in_flight(&self, serial: Serial) -> bool
+        requires { is_on_disk (state_after self.now).head.place ≡ false }
+        ensures { result ≡ is_some (flying_of serial (state_after self.now).body.in_flight) }
+    {
+        self.fields.flight(serial).is_some()
+    }
+
+    /// How many messages are in flight.
+    pub fn in_flight_len(&self) -> u8
+        ensures { result ≡ length (state_after self.now).body.in_flight }
+    {
+        self.fields.in_flight.len() as u8
+    }
+}
+
+impl Endpoint {
+    fn make_room(&mut self) -> Result<(), AllocError>
+        ensures settings { self.new.settings ≡ self.old.settings }
+        ensures log { self.new.log ≡ self.old.log }
+        ensures ok { OnOk result (self.new.ready ≡ true) }
+    {
+        self.log.reserve(1)?;
+        self.fields.make_room()?;
+        Ok(())
+    }
+
+    /// Makes room for one more entry, so that the next logged change takes no memory.
+    ///
+    /// A want of memory may also leave room for some of it; contracts don't speak of that.
+    pub fn room(&mut self) -> Result<(), EndFault>
+        ensures ok { OnOk result (self.new.ready ≡ true) }
+        ensures full { (result ≡ Err EndFault.LogFull) ↔ (length self.old.log ≡ self.old.settings.log) }
+        ensures settings { self.new.settings ≡ self.old.settings }
+        ensures log { self.new.log ≡ self.old.log }
+    {
+        if self.log.len() >= self.settings.log as usize {
+            return Err(EndFault::LogFull);
+        }
+        match self.make_room() {
+            Ok(()) => Ok(()),
+            Err(_) => Err(EndFault::NoMemory),
+        }
+    }
+
+    /// Does what the entry makes of the endpoint, and logs it.
+    fn enter(&mut self, entry: Entry)
+        requires ready { self.old.ready ≡ true }
+        requires room { length self.old.log < self.old.settings.log }
+        requires keeps { KeepsOrder self.old.settings.pool self.old.settings.id (state_after self.old) entry }
+        ensures settings { self.new.settings ≡ self.old.settings }
+        ensures log { self.new.log ≡ self.old.log ++ entry ∷ [] }
+    {
+        self.fields.apply(self.settings.id, entry);
+        self.log.push(entry).unwrap();
+    }
+}
+
+impl Endpoint {
+    /// The stamp of an entry that is made now: above the floor and above the last entry.
+    fn next_stamp(&self, floor: u64) -> u64
+        requires floor { floor + 1 < 2 ^ 64 }
+        requires last { last_stamp self.now.log + 1 < 2 ^ 64 }
+        ensures { result ≡ 1 + max floor (last_stamp self.now.log) }
+    {
+        1 + floor.max(self.last_stamp())
+    }
+
+    /// The outcome of a call at the present state.
+    fn outcome(&self, call: Call) -> Outcome
+        ensures { result ≡ outcome_of_call self.now.settings.pool self.now.settings.id (state_after self.now) call }
+    {
+        self.fields
+            .outcome(self.settings.pool, self.settings.id, call)
+    }
+
+    /// Makes an application's call, and logs it with its outcome, a refusal included.
+    pub fn call(&mut self, floor: u64, actor: Actor, call: Call) -> Result<Entry, EndFault>
+        requires place { is_on_disk (state_after self.old).head.place ≡ false }
+        requires numbers { are_numbers_in_range self.old.settings.pool call ≡ true }
+        requires floor { floor + 1 < 2 ^ 64 }
+        requires last { last_stamp self.old.log + 1 < 2 ^ 64 }
+        ensures event { IfOk result (λ x. x.event ≡ Event.Call actor self.old.settings.id call) }
+        ensures outcome { IfOk result (λ x. x.outcome ≡ outcome_of_call self.old.settings.pool self.old.settings.id (state_after self.old) call) }
+        ensures stamp { IfOk result (λ x. x.stamp ≡ 1 + max floor (last_stamp self.old.log)) }
+        ensures logged { IfOk result (λ x. self.new.log ≡ self.old.log ++ x ∷ []) }
+        ensures settings { self.new.settings ≡ self.old.settings }
+        ensures full { (result ≡ Err EndFault.LogFull) ↔ (length self.old.log ≡ self.old.settings.log) }
+        ensures err { OnErr result (self.new.log ≡ self.old.log) }
+    {
+        self.room()?;
+        let entry = Entry {
+            stamp: self.next_stamp(floor),
+            event: Event::Call {
+                actor,
+                end: self.settings.id,
+                call,
+            },
+            outcome: self.outcome(call),
+        };
+        self.enter(entry);
+        Ok(entry)
+    }
+
+    /// What a message that arrives from elsewhere makes of it, by a carry or a receipt that gives
+    /// it a verdict.
+    pub fn put(&mut self, entry: Entry)
+        requires ready { self.old.ready ≡ true }
+        requires room { length self.old.log < self.old.settings.log }
+        requires allowed { MayArrive self.old.settings.id (state_after self.old) entry }
+        ensures settings { self.new.settings ≡ self.old.settings }
+        ensures log { self.new.log ≡ self.old.log ++ entry ∷ [] }
+    {
+        self.enter(entry);
+    }
+
+    /// What comes of a carry of a message of its own that the destination judged.
+    pub fn carry_outcome(&self, queued: Queued, verdict: Verdict) -> Outcome
+        ensures { result ≡ judged self.now.settings.bounces queued.message queued.bounces verdict }
+    {
+        match verdict {
+            Verdict::Accepted => Outcome::Accepted(queued.message),
+            Verdict::Refused(cause) => if cause.transient()
+                && queued.bounces < self.settings.bounces
+            {
+                Outcome::Requeued {
+                    message: queued.message,
+                    cause,
+                    used: queued.bounces + 1,
+                }
+            } else {
+                Outcome::Returned {
+                    message: queued.message,
+                    cause,
+                }
+            },
+        }
+    }
+
+    /// What a carry of its front message makes of it: the source's change, and where it is the
+    /// destination too both changes, in one entry.
+    pub fn carry_out(&mut self, entry: Entry)
+        requires ready { self.old.ready ≡ true }
+        requires room { length self.old.log < self.old.settings.log }
+        requires allowed { MayCarry self.old.settings.bounces self.old.settings.id (state_after self.old) entry }
+        ensures settings { self.new.settings ≡ self.old.settings }
+        ensures log { self.new.log ≡ self.old.log ++ entry ∷ [] }
+    {
+        self.enter(entry);
+    }
+}
+
+impl Endpoint {
+    /// Marks an endpoint on disk as wanted, and logs it.
+    pub fn want(&mut self, floor: u64, actor: Actor) -> Result<Entry, EndFault>
+        requires place { is_on_disk (state_after self.old).head.place ≡ true }
+        requires floor { floor + 1 < 2 ^ 64 }
+        requires last { last_stamp self.old.log + 1 < 2 ^ 64 }
+        ensures event { IfOk result (λ x. x.event ≡ Event.Want actor self.old.settings.id) }
+        ensures outcome { IfOk result (λ x. x.outcome ≡ Outcome.Silent) }
+        ensures stamp { IfOk result (λ x. x.stamp ≡ 1 + max floor (last_stamp self.old.log)) }
+        ensures logged { IfOk result (λ x. self.new.log ≡ self.old.log ++ x ∷ []) }
+        ensures settings { self.new.settings ≡ self.old.settings }
+        ensures full { (result ≡ Err EndFault.LogFull) ↔ (length self.old.log ≡ self.old.settings.log) }
+        ensures err { OnErr result (self.new.log ≡ self.old.log) }
+    {
+        self.room()?;
+        let entry = Entry {
+            stamp: self.next_stamp(floor),
+            event: Event::Want {
+                actor,
+                end: self.settings.id,
+            },
+            outcome: Outcome::Silent,
+        };
+        self.enter(entry);
+        Ok(entry)
+    }
+
+    /// Its front message is bound to a channel, and is in flight.
+    pub fn take(&mut self, entry: Entry)
+        requires ready { self.old.ready ≡ true }
+        requires room { length self.old.log < self.old.settings.log }
+        requires allowed { MayBind self.old.settings.node self.old.settings.id (state_after self.old) entry }
+        ensures settings { self.new.settings ≡ self.old.settings }
+        ensures log { self.new.log ≡ self.old.log ++ entry ∷ [] }
+    {
+        self.enter(entry);
+    }
+
+    /// A message that it has in flight is delivered, requeued, returned or unknown, by an answer
+    /// that counts or a time-out that gives up.
+    pub fn settle(&mut self, entry: Entry)
+        requires ready { self.old.ready ≡ true }
+        requires room { length self.old.log < self.old.settings.log }
+        requires allowed { MaySettle self.old.settings.bounces self.old.settings.id (state_after self.old) entry }
+        ensures settings { self.new.settings ≡ self.old.settings }
+        ensures log { self.new.log ≡ self.old.log ++ entry ∷ [] }
+    {
+        self.enter(entry);
+    }
+
+    /// It binds no more messages, and still receives.
+    pub fn begin_drain(&mut self, entry: Entry)
+        requires ready { self.old.ready ≡ true }
+        requires room { length self.old.log < self.old.settings.log }
+        requires allowed { MayDrain self.old.settings.node self.old.settings.id (state_after self.old) entry }
+        ensures settings { self.new.settings ≡ self.old.settings }
+        ensures log { self.new.log ≡ self.old.log ++ entry ∷ [] }
+    {
+        self.enter(entry);
+    }
+
+    /// It leaves its frame for the host.
+    pub fn unload(&mut self, entry: Entry)
+        requires ready { self.old.ready ≡ true }
+        requires room { length self.old.log < self.old.settings.log }
+        requires allowed { MayUnload self.old.settings.node self.old.settings.id (state_after self.old) entry }
+        ensures settings { self.new.settings ≡ self.old.settings }
+        ensures log { self.new.log ≡ self.old.log ++ entry ∷ [] }
+    {
+        self.enter(entry);
+    }
+
+    /// It comes from the host into a frame, neither wanted nor draining.
+    pub fn load(&mut self, entry: Entry)
+        requires ready { self.old.ready ≡ true }
+        requires room { length self.old.log < self.old.settings.log }
+        requires allowed { MayLoad self.old.settings.node self.old.settings.id (state_after self.old) entry }
+        ensures settings { self.new.settings ≡ self.old.settings }
+        ensures log { self.new.log ≡ self.old.log ++ entry ∷ [] }
+    {
+        self.enter(entry);
+    }
+
+    /// It goes from the host to disk, unless the entry's outcome is failed.
+    pub fn page_out(&mut self, entry: Entry)
+        requires ready { self.old.ready ≡ true }
+        requires room { length self.old.log < self.old.settings.log }
+        requires allowed { MayPageOut self.old.settings.node self.old.settings.id (state_after self.old) entry }
+        ensures settings { self.new.settings ≡ self.old.settings }
+        ensures log { self.new.log ≡ self.old.log ++ entry ∷ [] }
+    {
+        self.enter(entry);
+    }
+
+    /// It comes from disk to the host.
+    pub fn page_in(&mut self, entry: Entry)
+        requires ready { self.old.ready ≡ true }
+        requires room { length self.old.log < self.old.settings.log }
+        requires allowed { MayPageIn Outcome.Done self.old.settings.node self.old.settings.id (state_after self.old) entry }
+        ensures settings { self.new.settings ≡ self.old.settings }
+        ensures log { self.new.log ≡ self.old.log ++ entry ∷ [] }
+    {
+        self.enter(entry);
+    }
+
+    /// Logs that it was not paged in.
+    pub fn page_failed(&mut self, entry: Entry)
+        requires ready { self.old.ready ≡ true }
+        requires room { length self.old.log < self.old.settings.log }
+        requires allowed { MayPageIn Outcome.Failed self.old.settings.node self.old.settings.id (state_after self.old) entry }
+        ensures settings { self.new.settings ≡ self.old.settings }
+        ensures log { self.new.log ≡ self.old.log ++ entry ∷ [] }
+    {
+        self.enter(entry);
+    }
+}
+
+#[cfg(test)]
+mod tests;

@@ -1,0 +1,88 @@
+// A walk of one endpoint, with values that were worked out by hand.
+ghost use Rattle.am_model.specs.Allowed.{are_numbers_in_range};
+ghost use Rattle.std.specs.Prelude.{◌≡◌, true};
+
+use super::*;
+use am_names::{MsgKind, Tag, Words};
+use am_office::{HandlerKind, Refusal};
+use std::test::Fail;
+
+const SETTINGS: EndSettings = EndSettings {
+    id: EndpointId(0),
+    node: NodeId(0),
+    tag: Tag(5),
+    place: Place::Direct,
+    log: 5,
+    bounces: 8,
+    pool: None,
+};
+
+const WORDS: Words = Words {
+    a: 1,
+    b: 2,
+    c: 3,
+    d: 4,
+};
+
+const REQUEST: Call = Call::Request {
+    index: 0,
+    handler: 2,
+    words: WORDS,
+};
+
+/// The message of the first request.
+const FIRST: Message = Message {
+    serial: Serial {
+        source: EndpointId(0),
+        count: 1,
+    },
+    kind: MsgKind::Request,
+    dest: EndpointId(1),
+    tag: Tag(7),
+    reply_tag: Tag(5),
+    handler: 2,
+    words: WORDS,
+    about: None,
+};
+
+/// The outcome of a call, unless the endpoint can't make it.
+fn outcome_of(end: &mut Endpoint, call: Call) -> Option<Outcome>
+    requires { are_numbers_in_range end.old.settings.pool call ≡ true }
+    ensures { end.new.settings ≡ end.old.settings }
+{
+    if end.place() != Place::Direct || end.last_stamp() > 1000 {
+        return None;
+    }
+    match end.call(0, Actor::Outside, call) {
+        Ok(entry) => Some(entry.outcome),
+        Err(_) => None,
+    }
+}
+
+#[test]
+fn one_credit_takes_one_request(rt: HostRuntime) -> Result<(), Fail> {
+    let mut end = Endpoint::new(rt.alloc(), SETTINGS)?;
+    assert_eq!(rt; end.room(), Ok(()));
+    let map = Call::Map {
+        index: 0,
+        name: EndpointId(1),
+        tag: Tag(7),
+        credits: 1,
+    };
+    let handler = Call::SetHandler {
+        index: 3,
+        kind: HandlerKind::Note,
+    };
+    let unmapped = Outcome::Refused(Refusal::NotMapped);
+    assert_eq!(rt; outcome_of(&mut end, REQUEST), Some(unmapped));
+    assert_eq!(rt; outcome_of(&mut end, map), Some(Outcome::Done));
+    let requested = Outcome::Requested(FIRST);
+    assert_eq!(rt; outcome_of(&mut end, REQUEST), Some(requested));
+    let spent = Outcome::Refused(Refusal::NoCredit);
+    assert_eq!(rt; outcome_of(&mut end, REQUEST), Some(spent));
+    assert_eq!(rt; outcome_of(&mut end, handler), Some(Outcome::Done));
+    assert_eq!(rt; end.last_stamp(), 5);
+    assert_eq!(rt; end.log().len(), 5);
+    assert_eq!(rt; end.room(), Err(EndFault::LogFull));
+    Ok(())
+}

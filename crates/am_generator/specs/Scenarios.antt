@@ -1,0 +1,47 @@
+-- The generated scenario.
+use Rattle.std.specs.Prelude.{ℕ, zero, suc, ◌+◌, ◌%◌, false, List, [], ◌∷◌, ◌++◌, None}
+use Rattle.am_scenario_types.specs.declared.parts.Network.TheVariants.{Packet}
+use Rattle.am_scenario_types.specs.declared.parts.EndLine.{EndLine}
+use Rattle.am_scenario_types.specs.declared.parts.ThreadLine.{ThreadLine}
+use Rattle.am_scenario_types.specs.Lists.{ScenarioLists}
+use Rattle.am_generator.specs.Words.{seeded, after_threads}
+use Rattle.am_generator.specs.Calls.{script_below}
+use Rattle.am_generator.specs.Plan.{plan_after}
+
+-- endpoint e is on node e mod 4, with tag 100 + e
+abbrev pub end_line : ℕ → EndLine
+end_line e = record { id = record { 0 = e }; node = record { 0 = e % 4 }; tag = record { 0 = 100 + e }; disk = false }
+
+unfoldable pub ends_below : ℕ → List EndLine
+ends_below zero = []
+ends_below (suc e) = ends_below e ++ end_line e ∷ []
+
+-- thread t is on node t mod 4
+abbrev pub thread_line : ℕ → ThreadLine
+thread_line t = record { id = t; node = record { 0 = t % 4 } }
+
+unfoldable pub threads_below : ℕ → List ThreadLine
+threads_below zero = []
+threads_below (suc t) = threads_below t ++ thread_line t ∷ []
+
+-- the scenario of a number
+abbrev pub generated : ℕ → ScenarioLists
+generated n = record {
+  network = Packet;
+  nodes = 4;
+  frames = 2;
+  channels = 2;
+  tries = 4;
+  bounces = 3;
+  pool = None;
+  keep = 2;
+  log = 65_536;
+  turns = 0;
+  ends = ends_below 12;
+  bundles = [];
+  threads = threads_below 8;
+  plan = plan_after (after_threads (seeded n) 8) 32;
+  faults = [];
+  script = script_below (seeded n) 8;
+  steps = [];
+}

@@ -1,0 +1,72 @@
+//! The generated scenario.
+
+ghost use Rattle.std.specs.Prelude.{◌≡◌, ◌≤◌, IfOk};
+ghost use Rattle.am_generator.specs.Scenarios.{ends_below, threads_below, generated};
+
+use crate::calls::make_script;
+use crate::plan::make_plan;
+use am_names::{EndpointId, NodeId, Tag};
+use am_scenario_types::{EndLine, Network, Scenario, ThreadLine};
+use rand_pcg::Lcg64Xsh32;
+use std::alloc::{AllocError, Global};
+
+#[tactic(auto, using(crate::proofs::Drawn::ends_more, crate::proofs::Drawn::ends_none))]
+fn make_ends(alloc: Global, count: u8) -> Result<Vec<EndLine>, AllocError>
+    ensures { IfOk result (λ ends. ends.items ≡ ends_below count) }
+{
+    let mut ends = Vec::new(alloc);
+    for id in 0..count {
+        ends.push(EndLine {
+            id: EndpointId(id),
+            node: NodeId(id % 4),
+            tag: Tag(100 + u64::from(id)),
+            disk: false,
+        })?;
+    }
+    Ok(ends)
+}
+
+#[tactic(auto, using(crate::proofs::Drawn::declared_more, crate::proofs::Drawn::declared_none))]
+fn make_threads(alloc: Global, count: u8) -> Result<Vec<ThreadLine>, AllocError>
+    ensures { IfOk result (λ threads. threads.items ≡ threads_below count) }
+{
+    let mut threads = Vec::new(alloc);
+    for id in 0..count {
+        threads.push(ThreadLine {
+            id,
+            node: NodeId(id % 4),
+        })?;
+    }
+    Ok(threads)
+}
+
+/// The scenario of a number: twelve endpoints and eight threads on four nodes, 1,744 calls, and up to 32 packets that
+/// are lost, repeated or late, all by random words.
+pub fn generate(alloc: Global, n: u64) -> Result<Scenario, AllocError>
+    ensures { IfOk result (λ scenario. scenario ≡ generated n) }
+{
+    let mut rng = Lcg64Xsh32::new(n, 54);
+    let ends = make_ends(alloc, 12)?;
+    let threads = make_threads(alloc, 8)?;
+    let script = make_script(alloc, &mut rng)?;
+    let plan = make_plan(alloc, &mut rng, 32)?;
+    Ok(Scenario {
+        network: Network::Packet,
+        nodes: 4,
+        frames: 2,
+        channels: 2,
+        tries: 4,
+        bounces: 3,
+        pool: None,
+        keep: 2,
+        log: 65_536,
+        turns: 0,
+        ends,
+        bundles: Vec::new(alloc),
+        threads,
+        plan,
+        faults: Vec::new(alloc),
+        script,
+        steps: Vec::new(alloc),
+    })
+}

@@ -1,0 +1,102 @@
+-- What is left of known bytes, and what is held.
+use Rattle.std.proofs.Common.{◌≡◌, ℕ, suc, Bool, true, false, eqb, subst, ◌+◌, ◌-◌, ◌<◌, ◌≤◌, List, [], ◌∷◌, ◌++◌, length, take, drop, Option, Some, None, refl, sym, ap, ◌∙◌, append_assoc, length-drop, length-append, length-take, arith}
+use Rattle.std.specs.Io.KnownBytes.{Appends, Consumes, IsAtEnd, Keeps}
+use Rattle.std.proofs.lemmas.Bool.{eqb-true}
+use Rattle.std.proofs.lemmas.List.{append-nil, take-append-drop, drop-drop, drop_all, take_all, take_at}
+use Rattle.am_io.specs.Whole.{IsAll, IsLonger}
+
+pub rest_is : (i : ℕ) (xs : List ℕ) → take (length xs - i) (drop i xs) ≡ drop i xs
+rest_is i xs = take_all (length xs - i) (drop i xs) (omega (arith, length-drop i xs))
+
+pub front_read : (xs to : List ℕ) (at count : ℕ) → take count to ≡ take count (drop at xs) → drop at xs ≡ take count to ++ drop (at + count) xs
+front_read xs to at count e = sym (take-append-drop count (drop at xs)) ∙ rw (e, drop-drop count at xs) refl
+
+pub at_end : (xs : List ℕ) (at count : ℕ) → length (drop at xs) ≡ 0 → drop (at + count) xs ≡ []
+at_end xs at count none = drop_all (at + count) xs (omega (arith, length-drop at xs))
+
+pub consumes_none : (a : Option (List ℕ)) → Consumes a a []
+consumes_none None = tt
+consumes_none (Some xs) = refl
+
+pub consumes_then : (a b c : Option (List ℕ)) (p q : List ℕ) → Consumes a b p → Consumes b c q → Consumes a c (p ++ q)
+consumes_then None b c p q f g = tt
+consumes_then (Some xs) None c p q f g = absurd f
+consumes_then (Some xs) (Some ys) None p q f g = absurd g
+consumes_then (Some xs) (Some ys) (Some zs) p q f g = f ∙ ap (λ (l : List ℕ). p ++ l) g ∙ sym (append_assoc p q zs)
+
+pub appends_none : (a : Option (List ℕ)) → Appends a a []
+appends_none None = tt
+appends_none (Some xs) = sym (append-nil xs)
+
+pub appends_then : (a b c : Option (List ℕ)) (p q : List ℕ) → Appends a b p → Appends b c q → Appends a c (p ++ q)
+appends_then None b c p q f g = tt
+appends_then (Some xs) None c p q f g = absurd f
+appends_then (Some xs) (Some ys) None p q f g = absurd g
+appends_then (Some xs) (Some ys) (Some zs) p q f g = g ∙ ap (λ (l : List ℕ). l ++ q) f ∙ append_assoc xs p q
+
+pub appends_kept : (a b c : Option (List ℕ)) (p : List ℕ) → Appends a b p → Keeps b c → Appends a c p
+appends_kept None b c p f g = tt
+appends_kept (Some xs) None c p f g = absurd f
+appends_kept (Some xs) (Some ys) None p f g = absurd g
+appends_kept (Some xs) (Some ys) (Some zs) p f g = g ∙ f
+
+-- ---- taking
+
+pub taken_all : (a b : Option (List ℕ)) (bytes : List ℕ) → Consumes a b bytes → IsAtEnd b → IsAll a bytes
+taken_all None b bytes f e = tt
+taken_all (Some xs) None bytes f e = absurd f
+taken_all (Some xs) (Some ys) bytes f e = f ∙ ap (λ (l : List ℕ). bytes ++ l) e ∙ append-nil bytes
+
+pub taken_longer : (a b : Option (List ℕ)) (bytes : List ℕ) (most : ℕ) → Consumes a b bytes → most < length bytes → IsLonger a most
+taken_longer None b bytes most f lt = tt
+taken_longer (Some xs) None bytes most f lt = absurd f
+taken_longer (Some xs) (Some ys) bytes most f lt = omega (arith, ap length f, length-append bytes ys)
+
+-- ---- giving
+
+-- a front of the text was appended, and this is the rest
+pub record Gave (a b : Option (List ℕ)) (text rest : List ℕ) : Type 0 where
+  pub front : List ℕ
+  pub split : text ≡ front ++ rest
+  pub given : Appends a b front
+
+pub gave_none : (a : Option (List ℕ)) (text : List ℕ) → Gave a a text text
+gave_none a text = record { front = []; split = refl; given = appends_none a }
+
+pub gave_more : (a b c : Option (List ℕ)) (text rest : List ℕ) (count : ℕ) → Gave a b text rest → Appends b c (take count rest) → Gave a c text (drop count rest)
+gave_more a b c text rest count so_far more = record {
+  front = so_far.front ++ take count rest;
+  split = so_far.split ∙ ap (λ (l : List ℕ). so_far.front ++ l) (sym (take-append-drop count rest)) ∙ sym (append_assoc so_far.front (take count rest) (drop count rest));
+  given = appends_then a b c so_far.front (take count rest) so_far.given more;
+}
+
+pub gave_all : (a b : Option (List ℕ)) (text rest : List ℕ) → Gave a b text rest → rest ≡ [] → Appends a b text
+gave_all a b text rest so_far none =
+    let whole : so_far.front ≡ text = sym (so_far.split ∙ ap (λ (l : List ℕ). so_far.front ++ l) none ∙ append-nil so_far.front) in
+    subst (λ (l : List ℕ). Appends a b l) whole so_far.given
+
+pub gave_front : (a b c : Option (List ℕ)) (text rest : List ℕ) → Gave a b text rest → 0 < length rest → Keeps b c → (count : ℕ) × (count < length text) × Appends a c (take count text)
+gave_front a b c text rest so_far some kept =
+    let whole : take (length so_far.front) text ≡ so_far.front = ap (λ (l : List ℕ). take (length so_far.front) l) so_far.split ∙ take_at so_far.front rest (length so_far.front) refl in
+    (length so_far.front, omega (arith, ap length so_far.split, length-append so_far.front rest), rw whole (appends_kept a b c so_far.front so_far.given kept))
+
+pub some_is : (xs : List ℕ) (b : Bool) → b ≡ eqb (length xs) 0 → b ≡ false → 0 < length xs
+some_is [] b e f = absurd (cc (e, f))
+some_is (x ∷ xs) b e f = omega arith
+
+pub none_is : (xs : List ℕ) (b : Bool) → b ≡ eqb (length xs) 0 → b ≡ true → xs ≡ []
+none_is [] b e t = refl
+none_is (x ∷ xs) b e t = let n : suc (length xs) ≡ 0 = eqb-true _ _ (sym e ∙ t) in absurd (omega arith)
+
+-- ---- reading from memory
+
+-- the front of a buffer into which a front was copied
+pub copied_front : (xs buf to : List ℕ) (count : ℕ) → count ≤ length xs → to ≡ take count xs ++ drop count buf → take count to ≡ take count xs
+copied_front xs buf to count le e = ap (λ (l : List ℕ). take count l) e ∙ take_at (take count xs) (drop count buf) count (omega (arith, length-take count xs))
+
+pub copied_length : (xs buf to : List ℕ) (count : ℕ) → count ≤ length xs → count ≤ length buf → to ≡ take count xs ++ drop count buf → length to ≡ length buf
+copied_length xs buf to count le le2 e =
+    omega (arith, ap length e, length-append (take count xs) (drop count buf), length-take count xs, length-drop count buf)
+
+pub read_front : (xs buf to : List ℕ) (at count : ℕ) → count ≤ length (drop at xs) → to ≡ take count (drop at xs) ++ drop count buf → drop at xs ≡ take count to ++ drop (at + count) xs
+read_front xs buf to at count le e = front_read xs to at count (copied_front (drop at xs) buf to count le e)

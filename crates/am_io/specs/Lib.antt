@@ -1,0 +1,5 @@
+pub mod Causes
+pub mod Inside
+pub mod Memory
+pub mod Standard
+pub mod Whole

@@ -1,0 +1,24 @@
+//! Every message of a history comes from a declared endpoint and goes to one. Each law is the contract of a function with
+//! an empty body.
+#![tactic(auto)]
+
+ghost use Rattle.am_laws_homes.specs.Homes.{IsAddressed};
+ghost use Rattle.am_model.specs.Endpoint.{front};
+ghost use Rattle.am_model.specs.History.{IsHistory, state_of};
+ghost use Rattle.am_model.specs.Layout.{Layout};
+ghost use Rattle.am_model.specs.PostOffice.{WasAccepted};
+ghost use Rattle.am_model.specs.declared.Queued.{Queued};
+ghost use Rattle.am_names.specs.declared.EndpointId.{EndpointId};
+ghost use Rattle.am_names.specs.declared.Message.{Message};
+ghost use Rattle.am_office.specs.declared.Entry.{Entry};
+ghost use Rattle.std.specs.Prelude.{◌≡◌, List, Some};
+
+/// Every message that a history accepts comes from a declared endpoint and goes to one.
+pub fn messages_are_addressed()
+    ensures { (layout : Layout) (past : List Entry) → IsHistory layout past → (m : Message) → WasAccepted past m → IsAddressed layout m }
+{}
+
+/// So the front message of an endpoint has a destination.
+pub fn front_is_addressed()
+    ensures { (layout : Layout) (past : List Entry) → IsHistory layout past → (e : EndpointId) (q : Queued) → front (state_of layout past e) ≡ Some q → IsAddressed layout q.message }
+{}

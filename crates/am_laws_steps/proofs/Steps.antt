@@ -1,0 +1,210 @@
+-- The entries that steps make.
+use Rattle.std.specs.Prelude.{slice_get, nat_lt, not}
+use Rattle.std.proofs.Common.{◌≡◌, ◌⊎◌, ⊎_elim, ℕ, zero, suc, ◌+◌, ◌-◌, ◌<◌, ◌≤◌, Bool, true, false, ◌||◌, ◌&&◌, List, [], ◌∷◌, ◌++◌, map, length, take, Option, Some, None, refl, sym, ap, ◌∙◌, subst, arith, append_assoc, length-append, lt-ltb}
+use Rattle.std.specs.List.{list_all, range_with_len}
+use Rattle.std.proofs.lemmas.List.{append-nil}
+use Rattle.am_names.specs.declared.NodeId.{NodeId}
+use Rattle.am_names.specs.declared.Packet.{Packet}
+use Rattle.am_names.specs.declared.Packet.TheVariants as Packets
+use Rattle.am_names.specs.declared.Verdict.{Verdict}
+use Rattle.am_office.specs.declared.Event.{Event}
+use Rattle.am_office.specs.declared.Event.TheVariants as Events
+use Rattle.am_office.specs.declared.Outcome.{Outcome}
+use Rattle.am_office.specs.declared.Outcome.TheVariants as Out
+use Rattle.am_office.specs.declared.Received.{Received}
+use Rattle.am_office.specs.declared.Condition.{Condition}
+use Rattle.am_office.specs.declared.Part.{Part}
+use Rattle.am_office.specs.declared.Entry.{Entry}
+use Rattle.am_office.specs.Entries.{share_part, emitted_of, emitted_in, parcel, answer_packet, answer_by}
+use Rattle.am_model.specs.Layout.{Layout, AllAre}
+use Rattle.am_model.specs.Channels.{emitted}
+use Rattle.am_model.specs.History.{MayFollow, EachAfter, IsHistory, is_in_range, is_later, is_taken_before, is_packet_before, failing, outcome_of, stamp_of}
+use Rattle.am_model.specs.Steps.{FollowsSteps, Made, Stop, stop, stop_by, full_log, step_entry, made, made_by, made_from}
+use Rattle.am_model.proofs.Each.{each_push}
+use Rattle.am_model.proofs.Ends.{EmittedIn, was_emitted}
+use Rattle.am_laws_steps.specs.Laws.{AreBelow, Walked, AreInRange, StopsAt, IsMade}
+
+below_more : (n k : ℕ) (xs : List Entry) → n ≤ k → AreBelow n xs → AreBelow k xs
+below_more n k [] le h = tt
+below_more n k (x ∷ xs) le h = (omega (arith, h.0), below_more n k xs le h.1)
+
+below_push : (n : ℕ) (xs : List Entry) (x : Entry) → AreBelow n xs → x.stamp < n → AreBelow n (xs ++ x ∷ [])
+below_push n [] x h lt = (lt, tt)
+below_push n (y ∷ xs) x h lt = (h.0, below_push n xs x h.1 lt)
+
+either : (a b : Bool) → b ≡ true → (a || b) ≡ true
+either true b is = refl
+either false b is = is
+
+later_than_all : (x : Entry) (past : List Entry) → AreBelow x.stamp past → list_all (λ (y : Entry). not (share_part x y) || nat_lt y.stamp x.stamp) past ≡ true
+later_than_all x [] h = refl
+later_than_all x (y ∷ ys) h = λ i. either (not (share_part x y)) (nat_lt y.stamp x.stamp) (lt-ltb y.stamp x.stamp h.0) i && later_than_all x ys h.1 i
+
+-- ---- the stamp of a packet is that of the entry that emitted it
+
+parcel_stamp : (node : NodeId) (stamp : ℕ) (o : Outcome) (p : Packet) → parcel node stamp o ≡ Some p → stamp_of p ≡ stamp
+parcel_stamp node stamp (Out.Sent m peer channel seq attempt number) p h =
+    let same : Packets.Parcel (record { from = node; to = peer; channel = channel; seq = seq; attempt = attempt; number = number; stamp = stamp; message = m }) ≡ p = cc in
+    sym (ap stamp_of same)
+parcel_stamp node stamp o p h = absurd (cc)
+
+answer_stamp : (node peer : NodeId) (channel seq attempt stamp : ℕ) (a : Option (ℕ × Verdict)) (p : Packet) → answer_packet node peer channel seq attempt stamp a ≡ Some p → stamp_of p ≡ stamp
+answer_stamp node peer channel seq attempt stamp None p h = absurd (cc)
+answer_stamp node peer channel seq attempt stamp (Some a) p h =
+    let same : Packets.Answer (record { from = node; to = peer; channel = channel; seq = seq; attempt = attempt; number = a.0; stamp = stamp; verdict = a.1 }) ≡ p = cc in
+    sym (ap stamp_of same)
+
+packet_stamp : (stamp : ℕ) (event : Event) (o : Outcome) (p : Packet) → emitted_in stamp event o ≡ Some p → stamp_of p ≡ stamp
+packet_stamp stamp (Events.Bind node end) o p h = parcel_stamp node stamp o p h
+packet_stamp stamp (Events.Expire node peer channel) o p h = parcel_stamp node stamp o p h
+packet_stamp stamp (Events.Receive node peer number) (Out.Received channel seq attempt result) p h = answer_stamp node peer channel seq attempt stamp (answer_by result) p h
+packet_stamp stamp event o p h = absurd (cc)
+
+emitted_below : (n : ℕ) (p : Packet) (xs : List Entry) → AreBelow n xs → EmittedIn p xs → stamp_of p < n
+emitted_below n p [] below h = absurd h
+emitted_below n p (x ∷ xs) below h =
+    ⊎_elim
+    (λ (here : emitted_of x ≡ Some p). let is = packet_stamp x.stamp x.event x.outcome p here in omega (arith, is, below.0))
+    (λ (there : EmittedIn p xs). emitted_below n p xs below.1 there)
+    h
+
+taken_before : (n : ℕ) (past : List Entry) (event : Event) → AreBelow n past → is_taken_before n past event ≡ true
+taken_before n past (Events.Receive node peer number) below = by_packet (slice_get (emitted peer node past) (number - 1)) refl
+  where
+    by_packet : (p : Option Packet) → slice_get (emitted peer node past) (number - 1) ≡ p → is_packet_before n p ≡ true
+    by_packet None is = refl
+    by_packet (Some p) is = lt-ltb (stamp_of p) n (emitted_below n p past below (was_emitted peer node past (number - 1) p is).0)
+taken_before n past event below = refl
+
+-- ---- one step more
+
+pub may_step : (layout : Layout) (past : List Entry) (event : Event) → Walked layout past → is_in_range layout event ≡ true → failing layout past event ≡ None → MayFollow layout past (step_entry layout past event)
+may_step layout past event w range enabled =
+    record {
+      in_range = range;
+      enabled = enabled;
+      outcome = refl;
+      later = λ i. later_than_all (step_entry layout past event) past w.below i && taken_before (length past + 1) past event w.below i;
+    }
+
+range_push : (a n : ℕ) → range_with_len a (suc n) ≡ range_with_len a n ++ (a + n) ∷ []
+range_push a zero = let same : a ≡ a + 0 = omega arith in ap (λ (k : ℕ). k ∷ []) same
+range_push a (suc n) =
+    let same : a + 1 + n ≡ a + suc n = omega arith in
+    ap (λ (ks : List ℕ). a ∷ ks) (range_push (a + 1) n ∙ ap (λ (k : ℕ). range_with_len (a + 1) n ++ k ∷ []) same)
+
+map_push : {X : Type 0} (f : Entry → X) (xs : List Entry) (x : Entry) → map f (xs ++ x ∷ []) ≡ map f xs ++ f x ∷ []
+map_push f [] x = refl
+map_push f (y ∷ xs) x = ap (λ l. f y ∷ l) (map_push f xs x)
+
+length_push : (xs : List Entry) (x : Entry) → length (xs ++ x ∷ []) ≡ suc (length xs)
+length_push xs x = omega (arith, length-append xs (x ∷ []))
+
+pub walked_more : (layout : Layout) (past : List Entry) (event : Event) → Walked layout past → is_in_range layout event ≡ true → failing layout past event ≡ None → Walked layout (past ++ step_entry layout past event ∷ [])
+walked_more layout past event w range enabled =
+    let x = step_entry layout past event in
+    let next : length past + 1 ≡ 1 + length past = omega arith in
+    record {
+      history = each_push (MayFollow layout) [] past x w.history (may_step layout past event w range enabled);
+      stamped =
+          map_push (λ (y : Entry). y.stamp) past x
+          ∙ ap (λ (ks : List ℕ). ks ++ (length past + 1) ∷ []) w.stamped
+          ∙ ap (λ (k : ℕ). range_with_len 1 (length past) ++ k ∷ []) next
+          ∙ sym (range_push 1 (length past))
+          ∙ ap (range_with_len 1) (sym (length_push past x));
+      below =
+          let longer = length_push past x in
+          below_push (length (past ++ x ∷ []) + 1) past x (below_more (length past + 1) (length (past ++ x ∷ []) + 1) past (omega (arith, longer)) w.below) (omega (arith, longer));
+    }
+
+no_condition : (f : Option Condition) (g : Option Part) → stop_by f g ≡ None → f ≡ None
+no_condition None g h = refl
+no_condition (Some c) g h = absurd (cc)
+
+-- ---- all steps
+
+abbrev pub events_of : List Entry → List Event
+events_of xs = map (λ (x : Entry). x.event) xs
+
+-- so many steps were made after these entries, and then all were made or one is stopped
+pub record Reaches (layout : Layout) (past : List Entry) (events : List Event) (m : Made) : Type 0 where
+  pub count : ℕ
+  pub walked : Walked layout m.journal
+  pub longer : length m.journal ≡ length past + count
+  pub in_order : events_of m.journal ≡ events_of past ++ take count events
+  pub whole : m.stopped ≡ None → count ≡ length events
+  pub stopped : (why : Stop) → m.stopped ≡ Some why → StopsAt layout m.journal (slice_get events count) why
+
+pub reaches : (layout : Layout) (past : List Entry) (events : List Event) → Walked layout past → AreInRange layout events → Reaches layout past events (made_from layout past events)
+reaches layout past [] w range =
+    record { count = 0; walked = w; longer = omega arith; in_order = sym (append-nil (events_of past)); whole = λ h. refl; stopped = λ why h. absurd (cc) }
+reaches layout past (event ∷ events) w range = by_stop (stop layout past event) refl (λ more. reaches layout (past ++ step_entry layout past event ∷ []) events more range.1)
+  where
+    x : Entry
+    x = step_entry layout past event
+
+    rest : Made
+    rest = made_from layout (past ++ x ∷ []) events
+
+    by_stop : (s : Option Stop) → stop layout past event ≡ s → (Walked layout (past ++ x ∷ []) → Reaches layout (past ++ x ∷ []) events rest) → Reaches layout past (event ∷ events) (made_by s past rest)
+    by_stop (Some why) is further =
+        record {
+          count = 0;
+          walked = w;
+          longer = omega arith;
+          in_order = sym (append-nil (events_of past));
+          whole = λ h. absurd (cc);
+          stopped = λ other h. let same : why ≡ other = cc in is ∙ ap Some same;
+        }
+    by_stop None is further =
+        let enabled = no_condition (failing layout past event) (full_log layout past event) is in
+        let r = further (walked_more layout past event w range.0 enabled) in
+        record {
+          count = suc r.count;
+          walked = r.walked;
+          longer = omega (arith, r.longer, length_push past x);
+          in_order =
+              r.in_order
+              ∙ ap (λ (es : List Event). es ++ take r.count events) (map_push (λ (y : Entry). y.event) past x)
+              ∙ append_assoc (events_of past) (event ∷ []) (take r.count events);
+          whole = λ h. ap suc (r.whole h);
+          stopped = λ why h. r.stopped why h;
+        }
+
+pub is_made : (layout : Layout) (events : List Event) → AreInRange layout events → IsMade layout events (made layout events)
+is_made layout events range =
+    let r = reaches layout [] events (record { history = tt; stamped = refl; below = tt }) range in
+    let same : r.count ≡ length (made layout events).journal = omega (arith, r.longer) in
+    record {
+      history = r.walked.history;
+      follows = record { in_order = r.in_order ∙ ap (λ (k : ℕ). take k events) same; stamped = r.walked.stamped };
+      whole = λ h. sym same ∙ r.whole h;
+      stopped = λ why h. subst (λ (k : ℕ). StopsAt layout (made layout events).journal (slice_get events k) why) same (r.stopped why h);
+    }
+
+-- ---- one history
+
+agree : (layout : Layout) (past xs ys : List Entry) → EachAfter (MayFollow layout) past xs → EachAfter (MayFollow layout) past ys → events_of xs ≡ events_of ys → map (λ (x : Entry). x.stamp) xs ≡ map (λ (x : Entry). x.stamp) ys → xs ≡ ys
+agree layout past [] [] h k e s = refl
+agree layout past [] (y ∷ ys) h k e s = absurd (cc)
+agree layout past (x ∷ xs) [] h k e s = absurd (cc)
+agree layout past (x ∷ xs) (y ∷ ys) h k e s =
+    let event : x.event ≡ y.event = cc in
+    let events : events_of xs ≡ events_of ys = cc in
+    let stamp : x.stamp ≡ y.stamp = cc in
+    let stamps : map (λ (z : Entry). z.stamp) xs ≡ map (λ (z : Entry). z.stamp) ys = cc in
+    let outcome : x.outcome ≡ y.outcome = h.0.outcome ∙ ap (outcome_of layout past) event ∙ sym k.0.outcome in
+    let one : x ≡ y = λ i. record { stamp = stamp i; event = event i; outcome = outcome i } in
+    let others = subst (λ (z : Entry). EachAfter (MayFollow layout) (past ++ z ∷ []) ys) (sym one) k.1 in
+    λ i. one i ∷ agree layout (past ++ x ∷ []) xs ys h.1 others events stamps i
+
+pub histories_agree : (layout : Layout) (events : List Event) (one other : List Entry) → IsHistory layout one → FollowsSteps events one → IsHistory layout other → FollowsSteps events other → one ≡ other
+histories_agree layout events one other h f k g =
+    agree layout [] one other h k (f.in_order ∙ sym g.in_order)
+    (f.stamped ∙ ap (range_with_len 1) (same_length one other (f.in_order ∙ sym g.in_order)) ∙ sym g.stamped)
+  where
+    same_length : (xs ys : List Entry) → events_of xs ≡ events_of ys → length xs ≡ length ys
+    same_length [] [] e = refl
+    same_length [] (y ∷ ys) e = absurd (cc)
+    same_length (x ∷ xs) [] e = absurd (cc)
+    same_length (x ∷ xs) (y ∷ ys) e = let events : events_of xs ≡ events_of ys = cc in ap suc (same_length xs ys events)

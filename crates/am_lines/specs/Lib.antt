@@ -1,0 +1,9 @@
+pub mod Answers
+pub mod Heads
+pub mod Places
+pub mod Settings
+pub mod Declarations
+pub mod Calls
+pub mod Script
+pub mod Steps
+pub mod Lines

@@ -1,0 +1,230 @@
+-- What a cluster is after an event was applied or refused.
+use Rattle.std.specs.Prelude.{slice_get, slice_index_or, slice_set, max, nat_le}
+use Rattle.std.specs.List.{list_any, filter, position}
+use Rattle.std.proofs.Common.{◌≡◌, ◌≢◌, ℕ, zero, suc, ◌+◌, ◌-◌, ◌<◌, ◌≤◌, ◌^◌, Bool, true, false, cond, ◌||◌, ◌&&◌, List, [], ◌∷◌, ◌++◌, map, length, Option, Some, None, refl, sym, ap, ◌∙◌, subst, arith, if◌then◌else◌}
+use Rattle.std.proofs.lemmas.Bool.{and_parts}
+use Rattle.am_names.specs.declared.EndpointId.{EndpointId}
+use Rattle.am_names.specs.Names.{same_end}
+use Rattle.am_office.specs.declared.Actor.{Actor}
+use Rattle.am_office.specs.declared.Call.{Call}
+use Rattle.am_office.specs.declared.Call.TheVariants as Calls
+use Rattle.am_office.specs.declared.Condition.{Condition}
+use Rattle.am_office.specs.declared.Event.{Event}
+use Rattle.am_office.specs.declared.Event.TheVariants as Events
+use Rattle.am_office.specs.declared.Outcome.{Outcome}
+use Rattle.am_office.specs.declared.Entry.{Entry}
+use Rattle.am_office.specs.Entries.{ends_touched, touches}
+use Rattle.am_model.specs.Allowed.{are_numbers_in_range}
+use Rattle.am_model.specs.Endpoint.{State, is_on_disk}
+use Rattle.am_model.specs.Calls.{outcome_of_call}
+use Rattle.am_model.specs.Layout.{Layout, AllAre}
+use Rattle.am_model.specs.History.{is_in_range, is_call_in_range, is_byte, is_kind_in_range, is_long, are_credits_in_range, failing, outcome_of, state_of}
+use Rattle.am_model.specs.Layout.{declared}
+use Rattle.am_model.specs.Steps.{Stop, stop, stop_by, full_log, step_entry, is_end_full}
+use Rattle.am_model.proofs.Names.{same_end-is, same_end-refl}
+use Rattle.am_scenario_types.specs.declared.parts.FaultLine.{FaultLine}
+use Rattle.am_endpoint.specs.View.{EndpointView, last_stamp, stamp_by, state_after}
+use Rattle.am_laws_steps.specs.Laws.{AreBelow}
+use Rattle.am_machine.specs.declared.settings.Settings.{Settings}
+use Rattle.am_machine.specs.Carries.{is_place}
+use Rattle.am_machine.specs.Ends.{EndLog, is_of, kept, grown, logged_at}
+use Rattle.am_machine.specs.Kept.{IsOwn, IsTied, layout_in}
+use Rattle.am_machine.specs.View.{ClusterView}
+use Rattle.am_machine.proofs.Direct.{off_disk}
+use Rattle.am_machine.proofs.Events.{call_made}
+use Rattle.am_machine.proofs.Places.{IsFound, found, index_got, place_is, place_same}
+use Rattle.am_machine.proofs.Tied.{TouchesAt, kept_at, kept_set, layout_kept, one_grown, own_at, own_state, tied_push}
+
+-- ---- the whole cluster
+
+-- no condition fails where nothing stops
+pub enabled_of : (layout : Layout) (past : List Entry) (event : Event) → stop layout past event ≡ None → failing layout past event ≡ None
+enabled_of layout past event h = by_condition (failing layout past event) h
+  where
+    by_condition : (f : Option Condition) → stop_by f (full_log layout past event) ≡ None → f ≡ None
+    by_condition None k = refl
+    by_condition (Some c) k = absurd (cc)
+
+-- a cluster with these parts, as its callers see it
+abbrev pub seen : Settings → List FaultLine → List EndLog → List Entry → ClusterView
+seen s faults es journal = record { layout = layout_in s faults es; journal = journal }
+
+pub record IsNext (s : Settings) (faults : List FaultLine) (es : List EndLog) (journal : List Entry) (event : Event) (x : Entry) (new : List EndLog) (grown_journal : List Entry) : Type 0 where
+  pub tied : IsTied (layout_in s faults es) es journal
+  pub in_range : is_in_range (layout_in s faults es) event ≡ true
+  pub runs : stop (layout_in s faults es) journal event ≡ None
+  pub entry : x ≡ step_entry (layout_in s faults es) journal event
+  pub ends : new ≡ map (grown x) es
+  pub journal' : grown_journal ≡ journal ++ x ∷ []
+
+pub tied_next : (s : Settings) (faults : List FaultLine) (es : List EndLog) (journal : List Entry) (event : Event) (x : Entry) (new : List EndLog) (longer : List Entry) → IsNext s faults es journal event x new longer → IsTied (layout_in s faults new) new longer
+tied_next s faults es journal event x new longer n =
+    let layout = layout_in s faults es in
+    let y = step_entry layout journal event in
+    let at_y : IsTied layout (map (grown y) es) (journal ++ y ∷ []) = tied_push layout es journal event n.tied n.in_range (enabled_of layout journal event n.runs) in
+    let at_x : IsTied layout (map (grown x) es) (journal ++ x ∷ []) = subst (λ (z : Entry). IsTied layout (map (grown z) es) (journal ++ z ∷ [])) (sym n.entry) at_y in
+    let same : layout ≡ layout_in s faults (map (grown x) es) = sym (layout_kept s faults es x) in
+    let whole : IsTied (layout_in s faults (map (grown x) es)) (map (grown x) es) (journal ++ x ∷ []) = subst (λ (l : Layout). IsTied l (map (grown x) es) (journal ++ x ∷ [])) same at_x in
+    let ends : IsTied (layout_in s faults new) new (journal ++ x ∷ []) = subst (λ (ns : List EndLog). IsTied (layout_in s faults ns) ns (journal ++ x ∷ [])) (sym n.ends) whole in
+    subst (λ (j : List Entry). IsTied (layout_in s faults new) new j) (sym n.journal') ends
+
+pub seen_next : (s : Settings) (faults : List FaultLine) (es : List EndLog) (journal : List Entry) (event : Event) (x : Entry) (new : List EndLog) (longer : List Entry) (v : ClusterView) → seen s faults es journal ≡ v → IsNext s faults es journal event x new longer → (stop v.layout v.journal event ≡ None) × (x ≡ step_entry v.layout v.journal event) × (seen s faults new longer ≡ record v { journal = v.journal ++ x ∷ [] })
+seen_next s faults es journal event x new longer v is n =
+    (ap (λ (w : ClusterView). stop w.layout w.journal event) (sym is) ∙ n.runs,
+    n.entry ∙ ap (λ (w : ClusterView). step_entry w.layout w.journal event) is,
+    (λ i. record { layout = (ap (λ (ns : List EndLog). layout_in s faults ns) n.ends ∙ layout_kept s faults es x) i; journal = n.journal' i })
+    ∙ ap (λ (w : ClusterView). record w { journal = w.journal ++ x ∷ [] }) is)
+
+-- where neither settings nor logs changed
+pub tied_same : (s : Settings) (faults : List FaultLine) (es new : List EndLog) (journal other : List Entry) → new ≡ es → other ≡ journal → IsTied (layout_in s faults es) es journal → IsTied (layout_in s faults new) new other
+tied_same s faults es new journal other ends same tied =
+    subst (λ (ns : List EndLog). IsTied (layout_in s faults ns) ns other) (sym ends)
+    (subst (λ (j : List Entry). IsTied (layout_in s faults es) es j) (sym same) tied)
+
+pub seen_same : (s : Settings) (faults : List FaultLine) (es new : List EndLog) (journal other : List Entry) (v : ClusterView) → new ≡ es → other ≡ journal → seen s faults es journal ≡ v → seen s faults new other ≡ v
+seen_same s faults es new journal other v ends same is = (λ i. seen s faults (ends i) (same i)) ∙ is
+
+-- ---- one endpoint of it
+
+pub record IsHere (vs : List EndpointView) (e : EndpointId) (k : ℕ) (one : EndpointView) : Type 0 where
+  pub at : slice_get vs k ≡ Some one
+  pub id : one.settings.id ≡ e
+  pub within : k < length vs
+
+pub found_here : (vs : List EndpointView) (e : EndpointId) (k : ℕ) (one : EndpointView) → position (is_of e) vs ≡ Some k → one ≡ slice_index_or vs k one → IsHere vs e k one
+found_here vs e k one h value =
+    let f = found vs e k h in
+    let got : slice_get vs k ≡ Some one = index_got vs k one f.within ∙ ap Some (sym value) in
+    let same : f.view ≡ one = (let both : Some f.view ≡ Some one = sym f.at ∙ got in cc) in
+    record { at = got; id = ap (λ (v : EndpointView). v.settings.id) (sym same) ∙ f.id; within = f.within }
+
+pub own_here : (layout : Layout) (vs : List EndpointView) (journal : List Entry) (e : EndpointId) (k : ℕ) (one : EndpointView) → IsTied layout (map kept vs) journal → IsHere vs e k one → IsOwn layout journal (kept one)
+own_here layout vs journal e k one tied here = own_at layout (map kept vs) journal k (kept one) tied.own (kept_at vs k one here.at)
+
+-- its state is the one that the journal gives
+pub state_here : (layout : Layout) (vs : List EndpointView) (journal : List Entry) (e : EndpointId) (k : ℕ) (one : EndpointView) → IsTied layout (map kept vs) journal → IsHere vs e k one → state_after one ≡ state_of layout journal e
+state_here layout vs journal e k one tied here =
+    own_state layout journal (kept one) (own_here layout vs journal e k one tied here) ∙ ap (state_of layout journal) here.id
+
+pub off_disk_at : (layout : Layout) (journal : List Entry) (e : EndpointId) {es : List EndLog} → layout.direct ≡ true → IsTied layout es journal → is_on_disk (state_of layout journal e).head.place ≡ false
+off_disk_at layout journal e direct tied = off_disk layout direct journal tied.walked.history e
+
+pub off_disk_here : (layout : Layout) (vs : List EndpointView) (journal : List Entry) (e : EndpointId) (k : ℕ) (one : EndpointView) → layout.direct ≡ true → IsTied layout (map kept vs) journal → IsHere vs e k one → is_on_disk (state_after one).head.place ≡ false
+off_disk_here layout vs journal e k one direct tied here =
+    ap (λ (s : State). is_on_disk s.head.place) (state_here layout vs journal e k one tied here)
+    ∙ off_disk layout direct journal tied.walked.history e
+
+-- whether its log is full is told by the log
+pub full_here : (layout : Layout) (vs : List EndpointView) (journal : List Entry) (e : EndpointId) (k : ℕ) (one : EndpointView) (t : Bool) → IsTied layout (map kept vs) journal → IsHere vs e k one → nat_le layout.log (length one.log) ≡ t → is_end_full layout journal e ≡ t
+full_here layout vs journal e k one t tied here is =
+    ap (λ (d : EndpointId). nat_le layout.log (length (filter (touches d) journal))) (sym here.id)
+    ∙ ap (λ (xs : List Entry). nat_le layout.log (length xs)) (sym (own_here layout vs journal e k one tied here).log)
+    ∙ is
+
+-- the place of an endpoint tells it from others
+pub only_here : (layout : Layout) (vs : List EndpointView) (journal : List Entry) (e : EndpointId) (k : ℕ) (one : EndpointView) → IsTied layout (map kept vs) journal → IsHere vs e k one → (j : ℕ) (d : EndLog) → slice_get (map kept vs) j ≡ Some d → same_end d.settings.id e ≡ is_place k j
+only_here layout vs journal e k one tied here j d at = by_place (is_place k j) refl
+  where
+    there : slice_get (map kept vs) k ≡ Some (kept one)
+    there = kept_at vs k one here.at
+
+    by_end : (b : Bool) → same_end d.settings.id e ≡ b → is_place k j ≡ false → b ≡ false
+    by_end false is apart = refl
+    by_end true is apart =
+        let same : d.settings.id ≡ one.settings.id = same_end-is d.settings.id e is ∙ sym here.id in
+        let at_k : j ≡ k = tied.apart j k d (kept one) at there same in
+        let yes' : is_place k j ≡ true = subst (λ (i : ℕ). is_place i j ≡ true) at_k (place_same j) in
+        absurd (cc)
+
+    by_place : (b : Bool) → is_place k j ≡ b → same_end d.settings.id e ≡ b
+    by_place true is =
+        let at_k : k ≡ j = place_is k j is in
+        let both : Some (kept one) ≡ Some d = sym there ∙ ap (slice_get (map kept vs)) at_k ∙ at in
+        let same : kept one ≡ d = cc in
+        ap (λ (f : EndLog). same_end f.settings.id e) (sym same) ∙ ap (λ (w : EndpointId). same_end w e) here.id ∙ same_end-refl e
+    by_place false is = by_end (same_end d.settings.id e) refl is
+
+-- ---- stamps
+
+got_below : (n : ℕ) (xs : List Entry) (k : ℕ) (x : Entry) → AreBelow n xs → slice_get xs k ≡ Some x → x.stamp < n
+got_below n [] k x h at = absurd (cc)
+got_below n (y ∷ xs) zero x h at = let same : y ≡ x = cc in subst (λ (z : Entry). z.stamp < n) same h.0
+got_below n (y ∷ xs) (suc k) x h at = got_below n xs k x h.1 at
+
+last_below : (n : ℕ) (xs : List Entry) → AreBelow (n + 1) xs → last_stamp xs ≤ n
+last_below n xs h = by_entry (slice_get xs (length xs - 1)) refl
+  where
+    by_entry : (o : Option Entry) → slice_get xs (length xs - 1) ≡ o → stamp_by o ≤ n
+    by_entry None at = omega arith
+    by_entry (Some x) at = let below = got_below (n + 1) xs (length xs - 1) x h at in omega (arith, below)
+
+below_filter : (n : ℕ) (p : Entry → Bool) (xs : List Entry) → AreBelow n xs → AreBelow n (filter p xs)
+below_filter n p [] h = tt
+below_filter n p (x ∷ xs) h = by_test (p x) (below_filter n p xs h.1)
+  where
+    by_test : (b : Bool) → AreBelow n (filter p xs) → AreBelow n (cond b (x ∷ filter p xs) (filter p xs))
+    by_test true more = (h.0, more)
+    by_test false more = more
+
+pub last_here : (layout : Layout) (vs : List EndpointView) (journal : List Entry) (e : EndpointId) (k : ℕ) (one : EndpointView) → IsTied layout (map kept vs) journal → IsHere vs e k one → last_stamp one.log ≤ length journal
+last_here layout vs journal e k one tied here =
+    subst (λ (xs : List Entry). last_stamp xs ≤ length journal) (sym (own_here layout vs journal e k one tied here).log)
+    (last_below (length journal) (filter (touches one.settings.id) journal) (below_filter (length journal + 1) (touches one.settings.id) journal tied.walked.below))
+
+-- ---- calls
+
+pub numbers_in_range : (layout : Layout) (actor : Actor) (end : EndpointId) (c : Call) → is_in_range layout (Events.Call actor end c) ≡ true → are_numbers_in_range layout.pool c ≡ true
+numbers_in_range layout actor end c h = by_call c (and_parts _ (is_call_in_range layout c) h).1
+  where
+    by_call : (d : Call) → is_call_in_range layout d ≡ true → are_numbers_in_range layout.pool d ≡ true
+    by_call (Calls.Map index name tag credits) k = (and_parts _ (are_credits_in_range layout.pool credits) k).1
+    by_call (Calls.SetHandler index kind) k = (and_parts (is_byte index) (is_kind_in_range kind) k).1
+    by_call d k = refl
+
+pub end_declared : (layout : Layout) (actor : Actor) (end : EndpointId) (c : Call) → is_in_range layout (Events.Call actor end c) ≡ true → declared layout end ≡ true
+end_declared layout actor end c h = (and_parts _ (declared layout end) (and_parts _ (is_call_in_range layout c) h).0).1
+
+pub call_entry : (layout : Layout) (vs : List EndpointView) (journal : List Entry) (actor : Actor) (end : EndpointId) (c : Call) (k : ℕ) (one : EndpointView) (x : Entry) → IsTied layout (map kept vs) journal → IsHere vs end k one → x.event ≡ Events.Call actor one.settings.id c → x.outcome ≡ outcome_of_call one.settings.pool one.settings.id (state_after one) c → x.stamp ≡ length journal + 1 → x ≡ step_entry layout journal (Events.Call actor end c)
+call_entry layout vs journal actor end c k one x tied here event outcome stamp =
+    let own = own_here layout vs journal end k one tied here in
+    let state = state_here layout vs journal end k one tied here in
+    let at : x.event ≡ Events.Call actor end c = event ∙ ap (λ (e : EndpointId). Events.Call actor e c) here.id in
+    let came : x.outcome ≡ outcome_of_call layout.pool end (state_of layout journal end) c = outcome ∙ (λ i. outcome_of_call (own.pool i) (here.id i) (state i) c) in
+    λ i. record { stamp = stamp i; event = at i; outcome = came i }
+
+pub or_false : (b : Bool) → (b || false) ≡ b
+or_false true = refl
+or_false false = refl
+
+pub call_grows : (layout : Layout) (vs : List EndpointView) (journal : List Entry) (actor : Actor) (end : EndpointId) (c : Call) (k : ℕ) (one : EndpointView) (x : Entry) → IsTied layout (map kept vs) journal → IsHere vs end k one → x.event ≡ Events.Call actor end c → logged_at k x (map kept vs) ≡ map (grown x) (map kept vs)
+call_grows layout vs journal actor end c k one x tied here event =
+    sym (one_grown x (map kept vs) k (λ j d at.
+      ap (λ (e : Event). list_any (same_end d.settings.id) (ends_touched e x.outcome)) event
+      ∙ or_false (same_end d.settings.id end)
+      ∙ only_here layout vs journal end k one tied here j d at))
+
+max_left : (a b : ℕ) → b ≤ a → 1 + max a b ≡ a + 1
+max_left a b h = omega arith
+
+-- what a call makes of a cluster
+pub call_next : (s : Settings) (faults : List FaultLine) (vs : List EndpointView) (journal : List Entry) (actor : Actor) (end : EndpointId) (c : Call) (k : ℕ) (one w : EndpointView) (x : Entry) (longer : List Entry) (floor : ℕ) → IsTied (layout_in s faults (map kept vs)) (map kept vs) journal → (layout_in s faults (map kept vs)).direct ≡ true → is_in_range (layout_in s faults (map kept vs)) (Events.Call actor end c) ≡ true → IsHere vs end k one → nat_le s.log (length one.log) ≡ false → x.event ≡ Events.Call actor one.settings.id c → x.outcome ≡ outcome_of_call one.settings.pool one.settings.id (state_after one) c → x.stamp ≡ 1 + max floor (last_stamp one.log) → floor ≡ length journal → w.settings ≡ one.settings → w.log ≡ one.log ++ x ∷ [] → longer ≡ journal ++ x ∷ [] → IsNext s faults (map kept vs) journal (Events.Call actor end c) x (map kept (slice_set vs k w)) longer
+call_next s faults vs journal actor end c k one w x longer floor tied direct range here room event outcome stamp at settings log more =
+    let layout = layout_in s faults (map kept vs) in
+    let off = off_disk layout direct journal tied.walked.history end in
+    let late = last_here layout vs journal end k one tied here in
+    let next : x.stamp ≡ length journal + 1 = stamp ∙ ap (λ (n : ℕ). 1 + max n (last_stamp one.log)) at ∙ max_left (length journal) (last_stamp one.log) late in
+    let is : x.event ≡ Events.Call actor end c = event ∙ ap (λ (e : EndpointId). Events.Call actor e c) here.id in
+    record {
+      tied = tied;
+      in_range = range;
+      runs = call_made layout journal actor end c off (full_here layout vs journal end k one false tied here room);
+      entry = call_entry layout vs journal actor end c k one x tied here event outcome next;
+      ends = kept_set vs k one w x here.at settings log ∙ call_grows layout vs journal actor end c k one x tied here is;
+      journal' = more;
+    }
+
+pub carry_declared : (layout : Layout) (end : EndpointId) → is_in_range layout (Events.Carry end) ≡ true → declared layout end ≡ true
+carry_declared layout end h = h
+
+pub want_declared : (layout : Layout) (actor : Actor) (end : EndpointId) → is_in_range layout (Events.Want actor end) ≡ true → declared layout end ≡ true
+want_declared layout actor end h = (and_parts _ (declared layout end) h).1

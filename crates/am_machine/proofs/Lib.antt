@@ -1,0 +1,7 @@
+pub mod Applied
+pub mod Carriages
+pub mod Direct
+pub mod Events
+pub mod Beginnings
+pub mod Places
+pub mod Tied

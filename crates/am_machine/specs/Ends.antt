@@ -1,0 +1,43 @@
+-- The endpoints of a cluster, each by its settings and its log.
+use Rattle.std.specs.Prelude.{ℕ, zero, suc, Bool, true, false, ◌==◌, List, [], ◌∷◌, ◌++◌, map}
+use Rattle.am_names.specs.declared.EndpointId.{EndpointId}
+use Rattle.am_names.specs.Names.{same_end}
+use Rattle.am_office.specs.declared.Entry.{Entry}
+use Rattle.am_office.specs.Entries.{touches}
+use Rattle.am_model.specs.Endpoint.{State, is_on_disk}
+use Rattle.am_model.specs.Layout.{EndSetting}
+use Rattle.am_endpoint.specs.declared.settings.EndSettings.{EndSettings}
+use Rattle.am_endpoint.specs.View.{EndpointView, state_by}
+
+-- an endpoint's settings and its log
+pub record EndLog : Type 0 where
+  pub settings : EndSettings
+  pub log : List Entry
+
+abbrev pub kept : EndpointView → EndLog
+kept v = record { settings = v.settings; log = v.log }
+
+-- whether it is the endpoint with this number
+abbrev pub is_of : EndpointId → EndpointView → Bool
+is_of id v = same_end id v.settings.id
+
+abbrev pub state_in : EndLog → State
+state_in e = state_by e.settings e.log
+
+-- how an endpoint is declared that has these settings
+abbrev pub setting_in : EndLog → EndSetting
+setting_in e = record { id = e.settings.id; node = e.settings.node; tag = e.settings.tag; disk = is_on_disk e.settings.place }
+
+abbrev pub with_entry : Bool → Entry → List Entry → List Entry
+with_entry true x log = log ++ x ∷ []
+with_entry false x log = log
+
+-- an endpoint after an entry, which stands in its log where it touches it
+abbrev pub grown : Entry → EndLog → EndLog
+grown x e = record { settings = e.settings; log = with_entry (touches e.settings.id x) x e.log }
+
+-- an entry more in the log of one of them
+abbrev pub logged_at : ℕ → Entry → List EndLog → List EndLog
+logged_at k x [] = []
+logged_at zero x (e ∷ es) = record { settings = e.settings; log = e.log ++ x ∷ [] } ∷ es
+logged_at (suc k) x (e ∷ es) = e ∷ logged_at k x es

@@ -1,0 +1,52 @@
+-- What a cluster keeps: its journal is a history, and each log is its part of it.
+use Rattle.std.specs.Prelude.{◌≡◌, ℕ, List, Option, Some, map, slice_get}
+use Rattle.std.specs.List.{filter, range_with_len}
+use Rattle.am_office.specs.declared.Entry.{Entry}
+use Rattle.am_office.specs.Entries.{touches}
+use Rattle.am_model.specs.Endpoint.{fresh}
+use Rattle.am_model.specs.Layout.{Layout, Fault, AllAre, opening}
+use Rattle.am_scenario_types.specs.declared.parts.FaultLine.{FaultLine}
+use Rattle.am_follow.specs.Layout.{is_direct, fault_of}
+use Rattle.am_laws_steps.specs.Laws.{Walked}
+use Rattle.am_machine.specs.View.{ClusterView}
+use Rattle.am_machine.specs.Ends.{EndLog, kept, setting_in}
+use Rattle.am_machine.specs.declared.settings.Settings.{Settings}
+use Rattle.am_machine.specs.declared.Cluster.TheInside.{Inside}
+
+-- what a cluster with these settings, failing page calls and endpoints began with
+abbrev pub layout_in : Settings → List FaultLine → List EndLog → Layout
+layout_in s faults es =
+    record {
+      direct = is_direct s.network;
+      nodes = s.nodes;
+      frames = s.frames;
+      channels = s.channels;
+      tries = s.tries;
+      bounces = s.bounces;
+      pool = s.pool;
+      log = s.log;
+      ends = map setting_in es;
+      faults = map fault_of faults;
+    }
+
+-- the log of an endpoint is its part of the journal, and its settings are those of the layout
+pub record IsOwn (layout : Layout) (journal : List Entry) (e : EndLog) : Type 0 where
+  pub opening : opening layout e.settings.id ≡ fresh e.settings.tag e.settings.place
+  pub log : e.log ≡ filter (touches e.settings.id) journal
+  pub limit : e.settings.log ≡ layout.log
+  pub bounces : e.settings.bounces ≡ layout.bounces
+  pub pool : e.settings.pool ≡ layout.pool
+
+pub record IsTied (layout : Layout) (es : List EndLog) (journal : List Entry) : Type 0 where
+  pub walked : Walked layout journal
+  pub own : AllAre (IsOwn layout journal) es
+  pub apart : (j k : ℕ) (d e : EndLog) → slice_get es j ≡ Some d → slice_get es k ≡ Some e → d.settings.id ≡ e.settings.id → j ≡ k
+
+abbrev pub ends_in : Inside → List EndLog
+ends_in c = map kept c.ends.items
+
+abbrev pub cluster_in : Inside → ClusterView
+cluster_in c = record { layout = layout_in c.settings c.faults.items (ends_in c); journal = c.journal.items }
+
+abbrev pub IsCluster : Inside → Type 0
+IsCluster c = IsTied (layout_in c.settings c.faults.items (ends_in c)) (ends_in c) c.journal.items

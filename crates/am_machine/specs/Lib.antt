@@ -1,0 +1,5 @@
+pub mod Carries
+pub mod Ends
+pub mod Kept
+pub mod Beginnings
+pub mod View

@@ -1,0 +1,193 @@
+-- What an endpoint may be given at a state, and what its body keeps.
+use Rattle.std.specs.Prelude.{◌≡◌, ℕ, Bool, true, false, ◌==◌, ◌&&◌, Option, Some, None, is_none, is_some, List, [], length, ◌⊎◌, if◌then◌else◌}
+use Rattle.std.specs.List.{list_all}
+use Rattle.am_names.specs.declared.EndpointId.{EndpointId}
+use Rattle.am_names.specs.declared.NodeId.{NodeId}
+use Rattle.am_names.specs.declared.Words.{Words}
+use Rattle.am_names.specs.declared.MsgKind.{MsgKind}
+use Rattle.am_names.specs.declared.MsgKind.TheVariants as Kind
+use Rattle.am_names.specs.declared.Verdict.{Verdict}
+use Rattle.am_names.specs.declared.Verdict.TheVariants as Verdicts
+use Rattle.am_names.specs.declared.Message.{Message}
+use Rattle.am_names.specs.Names.{same_end, is_request, is_answer}
+use Rattle.am_office.specs.declared.Call.{Call}
+use Rattle.am_office.specs.declared.Call.TheVariants as Calls
+use Rattle.am_office.specs.declared.Event.{Event}
+use Rattle.am_office.specs.declared.Event.TheVariants as Events
+use Rattle.am_office.specs.declared.Received.{Received}
+use Rattle.am_office.specs.declared.Received.TheVariants as Got
+use Rattle.am_office.specs.declared.Outcome.{Outcome}
+use Rattle.am_office.specs.declared.Outcome.TheVariants as Out
+use Rattle.am_office.specs.declared.Entry.{Entry}
+use Rattle.am_model.specs.declared.Flying.{Flying}
+use Rattle.am_model.specs.declared.Mapping.{Mapping}
+use Rattle.am_model.specs.declared.Queued.{Queued}
+use Rattle.am_model.specs.Endpoint.{Body, State, IsWithin, front, is_on_disk, is_on_host, is_resident, verdict}
+use Rattle.am_model.specs.Changes.{after, flying_of}
+use Rattle.am_model.specs.History.{are_credits_in_range, is_kind_in_range, judged, settle_by}
+
+abbrev pub are_zero : Words → Bool
+are_zero w = (w.a == 0) && (w.b == 0) && (w.c == 0) && (w.d == 0)
+
+-- a request names no request; a reply or an empty reply names one and has no reply tag;
+-- an empty reply has handler 0 and words 0
+abbrev pub is_formed_as : MsgKind → Message → Bool
+is_formed_as Kind.Request m = is_none m.about
+is_formed_as Kind.Reply m = is_some m.about && (m.reply_tag.0 == 0)
+is_formed_as Kind.Empty m = is_some m.about && (m.reply_tag.0 == 0) && (m.handler == 0) && are_zero m.words
+
+-- whether the message has the form of its kind
+abbrev pub is_well_formed : Message → Bool
+is_well_formed m = is_formed_as m.kind m
+
+-- whether the credits of a map and the numbers of a handler's kind are in range
+abbrev pub are_numbers_in_range : Option ℕ → Call → Bool
+are_numbers_in_range pool (Calls.Map index name tag credits) = are_credits_in_range pool credits
+are_numbers_in_range pool (Calls.SetHandler index kind) = is_kind_in_range kind
+are_numbers_in_range pool call = true
+
+abbrev pub message_in : Received → Option Message
+message_in (Got.Accepted m answer) = Some m
+message_in (Got.Refused m cause answer) = Some m
+message_in result = None
+
+-- the message that arrived at its destination here, if one did
+abbrev pub arrived_message : Event → Outcome → Option Message
+arrived_message (Events.Carry from) (Out.Accepted m) = Some m
+arrived_message (Events.Carry from) (Out.Requeued m cause bounces) = Some m
+arrived_message (Events.Carry from) (Out.Returned m cause) = Some m
+arrived_message (Events.Receive node peer number) (Out.Received channel seq attempt result) = message_in result
+arrived_message event outcome = None
+
+abbrev pub verdict_in : Received → Option Verdict
+verdict_in (Got.Accepted m answer) = Some Verdicts.Accepted
+verdict_in (Got.Refused m cause answer) = Some (Verdicts.Refused cause)
+verdict_in result = None
+
+-- the verdict that it got
+abbrev pub arrival_verdict : Event → Outcome → Option Verdict
+arrival_verdict (Events.Carry from) (Out.Accepted m) = Some Verdicts.Accepted
+arrival_verdict (Events.Carry from) (Out.Requeued m cause bounces) = Some (Verdicts.Refused cause)
+arrival_verdict (Events.Carry from) (Out.Returned m cause) = Some (Verdicts.Refused cause)
+arrival_verdict (Events.Receive node peer number) (Out.Received channel seq attempt result) = verdict_in result
+arrival_verdict event outcome = None
+
+-- whether the event is a carry from this endpoint
+abbrev pub is_carry_from : EndpointId → Event → Bool
+is_carry_from e (Events.Carry from) = same_end e from
+is_carry_from e event = false
+
+-- the entry is an arrival from elsewhere at the endpoint e in this state
+pub record MayArrive (e : EndpointId) (s : State) (x : Entry) : Type 0 where
+  pub message : Message
+  pub is_message : arrived_message x.event x.outcome ≡ Some message
+  pub judged : arrival_verdict x.event x.outcome ≡ Some (verdict s message)
+  pub here : same_end e message.dest ≡ true
+  pub formed : is_well_formed message ≡ true
+  pub elsewhere : is_carry_from e x.event ≡ false
+
+-- the entry carries the front message of the endpoint e in this state, where a message may bounce up to the limit
+pub record MayCarry (limit : ℕ) (e : EndpointId) (s : State) (x : Entry) : Type 0 where
+  pub queued : Queued
+  pub verdict_there : Verdict
+  pub event : x.event ≡ Events.Carry e
+  pub is_front : front s ≡ Some queued
+  pub outcome : x.outcome ≡ judged limit queued.message queued.bounces verdict_there
+  pub here : same_end e queued.message.dest ≡ true → verdict_there ≡ verdict s queued.message
+
+abbrev pub is_mapping_in_range : Option ℕ → Option Mapping → Bool
+is_mapping_in_range pool None = true
+is_mapping_in_range pool (Some mapping) = are_credits_in_range pool mapping.credits
+
+abbrev pub is_queued_request : Queued → Bool
+is_queued_request q = is_request q.message && is_well_formed q.message
+
+abbrev pub is_queued_answer : Queued → Bool
+is_queued_answer q = is_answer q.message && is_well_formed q.message
+
+abbrev pub is_flight_formed : Flying → Bool
+is_flight_formed f = is_well_formed f.message
+
+-- what the body of an endpoint keeps, where there is this pool or none
+pub record IsSound (pool : Option ℕ) (b : Body) : Type 0 where
+  pub within : IsWithin b
+  pub indexes : length b.mapped ≡ 16
+  pub credits : list_all (is_mapping_in_range pool) b.mapped ≡ true
+  pub requests : list_all is_queued_request b.requests ≡ true
+  pub replies : list_all is_queued_answer b.replies ≡ true
+  pub in_flight : list_all is_flight_formed b.in_flight ≡ true
+
+-- what an endpoint keeps: its body is sound, and nothing is in flight unless it is resident
+pub record IsInOrder (pool : Option ℕ) (s : State) : Type 0 where
+  pub body : IsSound pool s.body
+  pub grounded : is_resident s.head.place ≡ false → s.body.in_flight ≡ []
+
+-- the entry leaves an endpoint in order that is in order
+abbrev pub KeepsOrder : Option ℕ → EndpointId → State → Entry → Type 0
+KeepsOrder pool e s x = IsInOrder pool s → IsInOrder pool (after e s x)
+
+-- the entry binds the front message of the endpoint e of the node to a channel, at its first attempt
+pub record MayBind (node : NodeId) (e : EndpointId) (s : State) (x : Entry) : Type 0 where
+  pub queued : Queued
+  pub peer : NodeId
+  pub channel : ℕ
+  pub seq : ℕ
+  pub number : ℕ
+  pub event : x.event ≡ Events.Bind node e
+  pub resident : is_resident s.head.place ≡ true
+  pub undrained : s.head.draining ≡ false
+  pub is_front : front s ≡ Some queued
+  pub outcome : x.outcome ≡ Out.Sent queued.message peer channel seq 0 number
+
+-- what comes of a flight that no answer ended, when its tries are used up
+abbrev pub given_up : Flying → Outcome
+given_up f = if f.answered then Out.Delivered f.message.serial else Out.Unknown f.message.serial
+
+-- the flight ends here, by an answer that counts or by giving up, where a message may bounce up to the limit
+abbrev pub EndsFlight : ℕ → Flying → Event → Outcome → Type 0
+EndsFlight limit f (Events.Receive node peer number) (Out.Received channel seq attempt result) = (v : Verdict) × (result ≡ settle_by limit f.message f.bounces v)
+EndsFlight limit f (Events.Expire node peer channel) outcome = outcome ≡ given_up f
+EndsFlight limit f event outcome = ⊥
+
+-- the entry settles a message that the endpoint e has in flight
+pub record MaySettle (limit : ℕ) (e : EndpointId) (s : State) (x : Entry) : Type 0 where
+  pub flight : Flying
+  pub own : same_end e flight.message.serial.source ≡ true
+  pub in_flight : flying_of flight.message.serial s.body.in_flight ≡ Some flight
+  pub ends : EndsFlight limit flight x.event x.outcome
+
+-- the entry begins to drain the endpoint e of the node
+pub record MayDrain (node : NodeId) (e : EndpointId) (s : State) (x : Entry) : Type 0 where
+  pub event : x.event ≡ Events.Drain node e
+  pub outcome : x.outcome ≡ Out.Silent
+  pub resident : is_resident s.head.place ≡ true
+  pub undrained : s.head.draining ≡ false
+
+-- the entry takes the endpoint e of the node out of its frame
+pub record MayUnload (node : NodeId) (e : EndpointId) (s : State) (x : Entry) : Type 0 where
+  pub event : x.event ≡ Events.Unload node e
+  pub outcome : x.outcome ≡ Out.Silent
+  pub resident : is_resident s.head.place ≡ true
+  pub draining : s.head.draining ≡ true
+  pub landed : length s.body.in_flight ≡ 0
+
+-- the entry loads the endpoint e of the node into a frame
+pub record MayLoad (node : NodeId) (e : EndpointId) (s : State) (x : Entry) : Type 0 where
+  pub frame : ℕ
+  pub event : x.event ≡ Events.Load node e frame
+  pub outcome : x.outcome ≡ Out.Silent
+  pub on_host : is_on_host s.head.place ≡ true
+  pub unclosed : s.head.closed ≡ false
+
+-- the entry pages the endpoint e of the node out with this outcome
+pub record MayPageOut (node : NodeId) (e : EndpointId) (s : State) (x : Entry) : Type 0 where
+  pub event : x.event ≡ Events.PageOut node e
+  pub outcome : (x.outcome ≡ Out.Done) ⊎ (x.outcome ≡ Out.Failed)
+  pub on_host : is_on_host s.head.place ≡ true
+  pub unclosed : s.head.closed ≡ false
+
+-- the entry pages the endpoint e of the node in with this outcome
+pub record MayPageIn (outcome : Outcome) (node : NodeId) (e : EndpointId) (s : State) (x : Entry) : Type 0 where
+  pub event : x.event ≡ Events.PageIn node e
+  pub is_outcome : x.outcome ≡ outcome
+  pub on_disk : is_on_disk s.head.place ≡ true

@@ -1,0 +1,10 @@
+use Rattle.am_office.specs.Lines.{call}
+use Rattle.am_text.proofs.Extended.{appended_words}
+use Rattle.am_office.proofs.lines.put_call.Goals as goal
+
+pub returns-in_ok-put_spaced-in-SetHandler-clause-ok :
+    goal.returns-in_ok-put_spaced-in-SetHandler-clause-ok
+unfolding call
+returns-in_ok-put_spaced-in-SetHandler-clause-ok c =
+    let words = rw (c.small-end.ensures, c.small-in-SetHandler.ensures) at c.in_ok-put_spaced-in-SetHandler.ensures.ok in
+    rw c.in-SetHandler.is (appended_words _ _ _ _ _ _ words c.put_handler_kind.ensures.ok)

@@ -1,0 +1,14 @@
+use Rattle.am_office.specs.Lines.{outcome}
+use Rattle.am_text.proofs.Extended.{appended_words}
+use Rattle.am_office.proofs.lines.put_outcome.Goals as goal
+
+pub returns-in_ok-put_spaced-in-Refused-clause-ok :
+    goal.returns-in_ok-put_spaced-in-Refused-clause-ok
+unfolding outcome
+returns-in_ok-put_spaced-in-Refused-clause-ok c =
+    rw c.in-Refused.is (appended_words _ _ _ _ _ _ c.in_ok-put_spaced-in-Refused.ensures.ok c.put_refusal.ensures.ok)
+
+pub returns-in_ok-put_spaced-in-Ran-clause-ok : goal.returns-in_ok-put_spaced-in-Ran-clause-ok
+unfolding outcome
+returns-in_ok-put_spaced-in-Ran-clause-ok c =
+    rw (c.in-Ran.is, ← c.handler_word-handler.ensures) (appended_words _ _ _ _ _ _ c.in_ok-put_spaced-in-Ran.ensures.ok c.put_sends.ensures.ok)

@@ -1,0 +1,407 @@
+//! The line of an entry in a printed journal.
+
+ghost use Rattle.std.specs.Prelude.{◌≡◌, ◌++◌, ◌∷◌, [], OnOk, OnErr, codes};
+ghost use Rattle.std.specs.Fmt.{decimal};
+ghost use Rattle.am_text.specs.Words as words;
+ghost use Rattle.am_office.specs.Lines as text;
+ghost use Rattle.am_text.specs.Words.{spaced};
+ghost use Rattle.am_text.specs.Pieces.{Extends, word_of};
+
+use crate::{Actor, Call, Entry, Event, HandlerKind, Mask, NoMemory, Outcome, Received, Refusal};
+use am_names::{EndpointId, Message, NodeId, Serial};
+use am_text::Piece::{Number, Tag, Text};
+use am_text::{
+    Piece, cause_word, count, put_end, put_numbered, put_spaced, put_word, small, verdict_word,
+    why_word,
+};
+use std::alloc::AllocError;
+
+#[tactic(auto, unfolding(crate::specs::Lines::actor))]
+fn put_actor(out: &mut Vec<u8>, actor: Actor) -> Result<(), AllocError>
+    ensures ok { OnOk result (out.new.items ≡ out.old.items ++ text.actor actor) }
+    ensures kept { Extends out.old.items out.new.items }
+{
+    match actor {
+        Actor::Thread(thread) => put_numbered(out, "t", thread),
+        Actor::Outside => put_word(out, Text("x")),
+    }
+}
+
+#[tactic(auto, unfolding(crate::specs::Lines::who, crate::specs::Lines::interface, crate::specs::Lines::driver))]
+fn put_who(out: &mut Vec<u8>, event: Event) -> Result<(), AllocError>
+    ensures ok { OnOk result (out.new.items ≡ out.old.items ++ text.who event) }
+    ensures kept { Extends out.old.items out.new.items }
+{
+    match event {
+        Event::Call { actor, .. } => put_actor(out, actor),
+        Event::Want { actor, .. } => put_actor(out, actor),
+        Event::Carry { .. } => put_word(out, Text("x")),
+        Event::Bind { node, .. } => put_numbered(out, "i", node.0),
+        Event::Expire { node, .. } => put_numbered(out, "i", node.0),
+        Event::Receive { node, .. } => put_numbered(out, "i", node.0),
+        Event::Drain { node, .. } => put_numbered(out, "d", node.0),
+        Event::Unload { node, .. } => put_numbered(out, "d", node.0),
+        Event::Load { node, .. } => put_numbered(out, "d", node.0),
+        Event::PageOut { node, .. } => put_numbered(out, "d", node.0),
+        Event::PageIn { node, .. } => put_numbered(out, "d", node.0),
+    }
+}
+
+#[tactic(auto, unfolding(crate::specs::Lines::handler_kind))]
+fn put_handler_kind(out: &mut Vec<u8>, kind: HandlerKind) -> Result<(), AllocError>
+    ensures ok { OnOk result (out.new.items ≡ out.old.items ++ spaced (text.handler_kind kind)) }
+    ensures kept { Extends out.old.items out.new.items }
+{
+    match kind {
+        HandlerKind::Note => put_spaced(out, &[Text("note")]),
+        HandlerKind::Echo(reply) => put_spaced(out, &[Text("echo"), small(reply)]),
+        HandlerKind::Add(reply) => put_spaced(out, &[Text("add"), small(reply)]),
+    }
+}
+
+#[tactic(auto, unfolding(crate::specs::Lines::mask))]
+fn mask_word(mask: Mask) -> &'static str
+    ensures { result.now ≡ text.mask mask }
+{
+    match mask {
+        Mask::NoEvents => "noevents",
+        Mask::NotEmpty => "notempty",
+    }
+}
+
+#[tactic(auto, using(am_text::proofs::Extended::extension), unfolding(crate::specs::Lines::call))]
+fn put_call(out: &mut Vec<u8>, end: EndpointId, call: Call) -> Result<(), AllocError>
+    ensures ok { OnOk result (out.new.items ≡ out.old.items ++ spaced (text.call end call)) }
+    ensures kept { Extends out.old.items out.new.items }
+{
+    let end = small(end.0);
+    match call {
+        Call::Request {
+            index,
+            handler,
+            words,
+        } => {
+            let (a, b, c, d) = (
+                Number(words.a),
+                Number(words.b),
+                Number(words.c),
+                Number(words.d),
+            );
+            put_spaced(
+                out,
+                &[
+                    Text("request"),
+                    end,
+                    small(index),
+                    small(handler),
+                    a,
+                    b,
+                    c,
+                    d,
+                ],
+            )
+        }
+        Call::Poll => put_spaced(out, &[Text("poll"), end]),
+        Call::SetTag(tag) => put_spaced(out, &[Text("tag"), end, Tag(tag)]),
+        Call::Map {
+            index,
+            name,
+            tag,
+            credits,
+        } => {
+            let (index, name) = (small(index), small(name.0));
+            put_spaced(
+                out,
+                &[Text("map"), end, index, name, Tag(tag), small(credits)],
+            )
+        }
+        Call::Unmap(index) => put_spaced(out, &[Text("unmap"), end, small(index)]),
+        Call::SetHandler { index, kind } => {
+            put_spaced(out, &[Text("handler"), end, small(index)])?;
+            put_handler_kind(out, kind)
+        }
+        Call::GiveUp(serial) => put_spaced(out, &[Text("giveup"), end, Piece::Serial(serial)]),
+        Call::Close => put_spaced(out, &[Text("close"), end]),
+        Call::Test(mask) => put_spaced(out, &[Text("event"), end, Text(mask_word(mask))]),
+    }
+}
+
+#[tactic(auto, unfolding(crate::specs::Lines::what))]
+fn put_what(out: &mut Vec<u8>, event: Event) -> Result<(), AllocError>
+    ensures ok { OnOk result (out.new.items ≡ out.old.items ++ spaced (text.what event)) }
+    ensures kept { Extends out.old.items out.new.items }
+{
+    match event {
+        Event::Call { end, call, .. } => put_call(out, end, call),
+        Event::Want { end, .. } => put_spaced(out, &[Text("want"), small(end.0)]),
+        Event::Carry { end } => put_spaced(out, &[Text("carry"), small(end.0)]),
+        Event::Bind { end, .. } => put_spaced(out, &[Text("bind"), small(end.0)]),
+        Event::Expire { peer, channel, .. } => {
+            put_spaced(out, &[Text("expire"), small(peer.0), small(channel)])
+        }
+        Event::Receive { peer, number, .. } => {
+            put_spaced(out, &[Text("receive"), small(peer.0), count(number)])
+        }
+        Event::Drain { end, .. } => put_spaced(out, &[Text("drain"), small(end.0)]),
+        Event::Unload { end, .. } => put_spaced(out, &[Text("unload"), small(end.0)]),
+        Event::Load { end, frame, .. } => {
+            put_spaced(out, &[Text("load"), small(end.0), small(frame)])
+        }
+        Event::PageOut { end, .. } => put_spaced(out, &[Text("pageout"), small(end.0)]),
+        Event::PageIn { end, .. } => put_spaced(out, &[Text("pagein"), small(end.0)]),
+    }
+}
+
+#[tactic(auto, unfolding(crate::specs::Lines::refusal))]
+fn put_refusal(out: &mut Vec<u8>, refusal: Refusal) -> Result<(), AllocError>
+    ensures ok { OnOk result (out.new.items ≡ out.old.items ++ spaced (text.refusal refusal)) }
+    ensures kept { Extends out.old.items out.new.items }
+{
+    match refusal {
+        Refusal::Closed => put_spaced(out, &[Text("closed")]),
+        Refusal::OwnTagNone => put_spaced(out, &[Text("own-tag-none")]),
+        Refusal::BadIndex => put_spaced(out, &[Text("bad-index")]),
+        Refusal::NotMapped => put_spaced(out, &[Text("not-mapped")]),
+        Refusal::NoCredit => put_spaced(out, &[Text("no-credit")]),
+        Refusal::TableFull => put_spaced(out, &[Text("table-full")]),
+        Refusal::SendFull => put_spaced(out, &[Text("send-full")]),
+        Refusal::InUse => put_spaced(out, &[Text("in-use")]),
+        Refusal::OverShare(over) => put_spaced(out, &[Text("over-share"), small(over)]),
+        Refusal::Held {
+            received,
+            messages,
+            outstanding,
+        } => {
+            let (received, messages) = (small(received), small(messages));
+            put_spaced(
+                out,
+                &[Text("in-use"), received, messages, small(outstanding)],
+            )
+        }
+        Refusal::Outstanding(records) => put_spaced(out, &[Text("outstanding"), small(records)]),
+        Refusal::Reserved => put_spaced(out, &[Text("reserved")]),
+        Refusal::NoRequest => put_spaced(out, &[Text("no-request")]),
+    }
+}
+
+// The arrow, a word and a message.
+fn put_message(out: &mut Vec<u8>, word: &'static str, serial: Serial) -> Result<(), AllocError>
+    ensures ok { OnOk result (out.new.items ≡ out.old.items ++ spaced (codes "->" ∷ word.now ∷ words.serial serial ∷ [])) }
+    ensures kept { Extends out.old.items out.new.items }
+{
+    put_spaced(out, &[Text("->"), Text(word), Piece::Serial(serial)])
+}
+
+// The arrow, a word, a message and a second word.
+fn put_message_with(
+    out: &mut Vec<u8>,
+    word: &'static str,
+    serial: Serial,
+    second: &'static str,
+) -> Result<(), AllocError>
+    ensures ok { OnOk result (out.new.items ≡ out.old.items ++ spaced (codes "->" ∷ word.now ∷ words.serial serial ∷ second.now ∷ [])) }
+    ensures kept { Extends out.old.items out.new.items }
+{
+    put_spaced(
+        out,
+        &[Text("->"), Text(word), Piece::Serial(serial), Text(second)],
+    )
+}
+
+// The arrow, a word, a message, a second word, and the number of the answer that goes back.
+fn put_answered(
+    out: &mut Vec<u8>,
+    word: &'static str,
+    serial: Serial,
+    second: &'static str,
+    answer: u32,
+) -> Result<(), AllocError>
+    ensures ok { OnOk result (out.new.items ≡ out.old.items ++ spaced (codes "->" ∷ word.now ∷ words.serial serial ∷ second.now ∷ codes "answer" ∷ decimal answer ∷ [])) }
+    ensures kept { Extends out.old.items out.new.items }
+{
+    let (word, serial, second) = (Text(word), Piece::Serial(serial), Text(second));
+    put_spaced(
+        out,
+        &[
+            Text("->"),
+            word,
+            serial,
+            second,
+            Text("answer"),
+            count(answer),
+        ],
+    )
+}
+
+// The arrow and what came of the receipt of a packet.
+#[tactic(auto, unfolding(crate::specs::Lines::received))]
+fn put_received(out: &mut Vec<u8>, received: Received) -> Result<(), AllocError>
+    ensures ok { OnOk result (out.new.items ≡ out.old.items ++ spaced (text.after_arrow (text.received received))) }
+    ensures kept { Extends out.old.items out.new.items }
+{
+    match received {
+        Received::Accepted { message, answer } => {
+            let serial = Piece::Serial(message.serial);
+            put_spaced(
+                out,
+                &[
+                    Text("->"),
+                    Text("accepted"),
+                    serial,
+                    Text("answer"),
+                    count(answer),
+                ],
+            )
+        }
+        Received::Refused {
+            message,
+            cause,
+            answer,
+        } => { put_answered(out, "refused", message.serial, cause_word(cause), answer) }
+        Received::Again {
+            serial,
+            verdict,
+            answer,
+        } => { put_answered(out, "again", serial, verdict_word(verdict), answer) }
+        Received::Stale => put_spaced(out, &[Text("->"), Text("stale")]),
+        Received::Delivered(serial) => put_message(out, "delivered", serial),
+        Received::Requeued { serial, cause, .. } => {
+            put_message_with(out, "requeued", serial, cause_word(cause))
+        }
+        Received::Returned { serial, cause } => {
+            put_message_with(out, "returned", serial, cause_word(cause))
+        }
+        Received::Nothing => put_spaced(out, &[Text("->"), Text("nothing")]),
+    }
+}
+
+#[tactic(auto, unfolding(crate::specs::Lines::sends))]
+fn put_sends(out: &mut Vec<u8>, sends: Option<Message>) -> Result<(), AllocError>
+    ensures ok { OnOk result (out.new.items ≡ out.old.items ++ spaced (text.sends sends)) }
+    ensures kept { Extends out.old.items out.new.items }
+{
+    match sends {
+        None => put_spaced(out, &[]),
+        Some(reply) => put_spaced(out, &[Text("sends"), Piece::Serial(reply.serial)]),
+    }
+}
+
+#[tactic(auto, unfolding(crate::specs::Lines::handler))]
+fn handler_word(handler: Option<u8>) -> Piece
+    ensures { word_of result ≡ text.handler handler }
+{
+    match handler {
+        None => Text("-"),
+        Some(handler) => small(handler),
+    }
+}
+
+// The arrow and the emission of a parcel.
+fn put_sent(
+    out: &mut Vec<u8>,
+    serial: Serial,
+    peer: NodeId,
+    channel: u8,
+    seq: u32,
+    attempt: u8,
+    number: u32,
+) -> Result<(), AllocError>
+    ensures ok { OnOk result (out.new.items ≡ out.old.items ++ spaced (codes "->" ∷ codes "sent" ∷ words.serial serial ∷ decimal peer.0 ∷ decimal channel ∷ decimal seq ∷ decimal attempt ∷ decimal number ∷ [])) }
+    ensures kept { Extends out.old.items out.new.items }
+{
+    let (serial, peer, channel) = (Piece::Serial(serial), small(peer.0), small(channel));
+    let (seq, attempt, number) = (count(seq), small(attempt), count(number));
+    put_spaced(
+        out,
+        &[
+            Text("->"),
+            Text("sent"),
+            serial,
+            peer,
+            channel,
+            seq,
+            attempt,
+            number,
+        ],
+    )
+}
+
+// The arrow and what came of an event, if it has an outcome.
+#[tactic(auto, using(am_text::proofs::Extended::extension), unfolding(crate::specs::Lines::outcome))]
+fn put_outcome(out: &mut Vec<u8>, outcome: Outcome) -> Result<(), AllocError>
+    ensures ok { OnOk result (out.new.items ≡ out.old.items ++ spaced (text.after_arrow (text.outcome outcome))) }
+    ensures kept { Extends out.old.items out.new.items }
+{
+    match outcome {
+        Outcome::Silent => put_spaced(out, &[]),
+        Outcome::Done => put_spaced(out, &[Text("->"), Text("ok")]),
+        Outcome::Requested(message) => put_message(out, "ok", message.serial),
+        Outcome::Refused(refusal) => {
+            put_spaced(out, &[Text("->"), Text("refused")])?;
+            put_refusal(out, refusal)
+        }
+        Outcome::Zero { serial, why } => put_message_with(out, "zero", serial, why_word(why)),
+        Outcome::Ran {
+            message,
+            handler,
+            sends,
+        } => {
+            let (serial, handler) = (Piece::Serial(message.serial), handler_word(handler));
+            put_spaced(out, &[Text("->"), Text("ran"), serial, handler])?;
+            put_sends(out, sends)
+        }
+        Outcome::Blocked => put_spaced(out, &[Text("->"), Text("blocked")]),
+        Outcome::Empty => put_spaced(out, &[Text("->"), Text("empty")]),
+        Outcome::Ready => put_spaced(out, &[Text("->"), Text("ready")]),
+        Outcome::Quiet => put_spaced(out, &[Text("->"), Text("quiet")]),
+        Outcome::Failed => put_spaced(out, &[Text("->"), Text("failed")]),
+        Outcome::Accepted(message) => put_message(out, "accepted", message.serial),
+        Outcome::Requeued { message, cause, .. } => {
+            put_message_with(out, "requeued", message.serial, cause_word(cause))
+        }
+        Outcome::Returned { message, cause } => {
+            put_message_with(out, "returned", message.serial, cause_word(cause))
+        }
+        Outcome::Sent {
+            message,
+            peer,
+            channel,
+            seq,
+            attempt,
+            number,
+        } => { put_sent(out, message.serial, peer, channel, seq, attempt, number) }
+        Outcome::Delivered(serial) => put_message(out, "delivered", serial),
+        Outcome::Unknown(serial) => put_message(out, "unknown", serial),
+        Outcome::Received {
+            result: received,
+            ..
+        } => put_received(out, received),
+    }
+}
+
+/// Appends the entry's line. What was there stays, also after an error.
+#[tactic(auto, using(am_text::proofs::Extended::extension), unfolding(crate::specs::Lines::line_of))]
+fn put_entry(out: &mut Vec<u8>, entry: &Entry) -> Result<(), AllocError>
+    ensures ok { OnOk result (out.new.items ≡ out.old.items ++ text.line_of entry.now) }
+    ensures kept { Extends out.old.items out.new.items }
+{
+    put_who(out, entry.event)?;
+    put_what(out, entry.event)?;
+    put_outcome(out, entry.outcome)?;
+    put_end(out)
+}
+
+/// Appends the line of an entry in a printed journal: who acts, what happens, where the event has an outcome `->` and
+/// that outcome, and a newline. Where there is no memory for it, `out` is left as it was.
+#[tactic(auto, using(am_text::proofs::Extended::extension))]
+pub fn entry_line(entry: &Entry, out: &mut Vec<u8>) -> Result<(), NoMemory>
+    ensures ok { OnOk result (out.new.items ≡ out.old.items ++ text.line_of entry.now) }
+    ensures no_memory { OnErr result (out.new.items ≡ out.old.items) }
+{
+    let before = out.len();
+    if put_entry(out, entry).is_ok() {
+        return Ok(());
+    }
+    out.truncate(before);
+    Err(NoMemory)
+}

@@ -1,0 +1,4 @@
+pub mod Knowing
+pub mod Ordered
+pub mod Tabled
+pub mod Telling

@@ -1,0 +1,256 @@
+//! The report of a journal.
+
+ghost use Rattle.std.specs.Prelude.{◌≡◌, List, ◌++◌, OnOk, IfOk, length, count_by};
+ghost use Rattle.std.specs.List.{flat_map};
+ghost use Rattle.am_office.specs.declared.Entry.{Entry};
+ghost use Rattle.am_office.specs.Lines.{line_of};
+ghost use Rattle.am_report.specs.Report as text;
+ghost use Rattle.am_report.specs.Tables.{AreRuns};
+
+use crate::messages::{MessageFate, told};
+use crate::runs::{Run, RunTable};
+use am_names::EndpointId;
+use am_office::{Entry, Fate, Journal, NoMemory, entry_line};
+use am_text::Piece::{Number, Text};
+use am_text::{Piece, cause_word, kind_word, put_line, small, why_word};
+use std::alloc::{AllocError, Global};
+
+fn put_entries(out: &mut Vec<u8>, entries: &[Entry]) -> Result<(), AllocError>
+    ensures { OnOk result (out.new.items ≡ out.old.items ++ flat_map line_of entries.now) }
+{
+    for entry in entries {
+        match entry_line(entry, out) {
+            Ok(()) => {}
+            Err(NoMemory) => return Err(AllocError),
+        }
+    }
+    Ok(())
+}
+
+#[tactic(auto, using(std::proofs::Common::append_assoc), unfolding(crate::specs::Report::journal_part))]
+fn put_journal(out: &mut Vec<u8>, entries: &[Entry]) -> Result<(), AllocError>
+    ensures { OnOk result (out.new.items ≡ out.old.items ++ text.journal_part entries.now) }
+{
+    put_line(out, "entries", &[Number(entries.len() as u64)])?;
+    put_entries(out, entries)
+}
+
+#[tactic(auto, unfolding(crate::specs::Report::run_line))]
+fn put_run(out: &mut Vec<u8>, run: Run) -> Result<(), AllocError>
+    ensures { OnOk result (out.new.items ≡ out.old.items ++ text.run_line run) }
+{
+    match run {
+        Run::Handled {
+            serial,
+            handler,
+            words,
+        } => {
+            let (serial, handler) = (Piece::Serial(serial), small(handler));
+            let (a, b, c, d) = (
+                Number(words.a),
+                Number(words.b),
+                Number(words.c),
+                Number(words.d),
+            );
+            put_line(out, "run", &[serial, handler, a, b, c, d])
+        }
+        Run::Zero { serial, why } => {
+            put_line(out, "zero", &[Piece::Serial(serial), Text(why_word(why))])
+        }
+    }
+}
+
+fn put_runs(out: &mut Vec<u8>, runs: &[Run]) -> Result<(), AllocError>
+    ensures { OnOk result (out.new.items ≡ out.old.items ++ flat_map text.run_line runs.now) }
+{
+    for run in runs {
+        put_run(out, *run)?;
+    }
+    Ok(())
+}
+
+#[tactic(auto, using(std::proofs::Common::append_assoc), unfolding(crate::specs::Report::end_part))]
+fn put_end_part(out: &mut Vec<u8>, table: &RunTable, end: EndpointId) -> Result<(), AllocError>
+    ensures { (journal : List Entry) → AreRuns table.now journal → OnOk result (out.new.items ≡ out.old.items ++ text.end_part journal end) }
+{
+    let runs = table.at(end);
+    let number = Number(runs.len() as u64);
+    put_line(out, "endpoint", &[small(end.0), Text("runs"), number])?;
+    put_runs(out, runs)
+}
+
+fn put_ends(out: &mut Vec<u8>, table: &RunTable, ends: &[EndpointId]) -> Result<(), AllocError>
+    ensures { (journal : List Entry) → AreRuns table.now journal → OnOk result (out.new.items ≡ out.old.items ++ flat_map (text.end_part journal) ends.now) }
+{
+    for end in ends {
+        put_end_part(out, table, *end)?;
+    }
+    Ok(())
+}
+
+#[tactic(auto, unfolding(crate::specs::Report::fate_line, crate::specs::Report::fate))]
+fn put_message(out: &mut Vec<u8>, message: MessageFate) -> Result<(), AllocError>
+    ensures { OnOk result (out.new.items ≡ out.old.items ++ text.fate_line message) }
+{
+    let (serial, kind) = (Piece::Serial(message.serial), Text(kind_word(message.kind)));
+    match message.fate {
+        Fate::Ran => put_line(out, "fate", &[serial, kind, Text("ran")]),
+        Fate::Returned(cause) => {
+            put_line(
+                out,
+                "fate",
+                &[serial, kind, Text("returned"), Text(cause_word(cause))],
+            )
+        }
+        Fate::Unknown => put_line(out, "fate", &[serial, kind, Text("unknown")]),
+        Fate::UnknownButRan => put_line(out, "fate", &[serial, kind, Text("unknown-but-ran")]),
+        Fate::Pending => put_line(out, "fate", &[serial, kind, Text("pending")]),
+    }
+}
+
+fn put_fates(out: &mut Vec<u8>, messages: &[MessageFate]) -> Result<(), AllocError>
+    ensures { OnOk result (out.new.items ≡ out.old.items ++ flat_map text.fate_line messages.now) }
+{
+    for message in messages {
+        put_message(out, *message)?;
+    }
+    Ok(())
+}
+
+fn has_run(fate: Fate) -> bool
+    ensures { result ≡ text.has_run fate }
+{
+    matches!(fate, Fate::Ran)
+}
+
+fn was_returned(fate: Fate) -> bool
+    ensures { result ≡ text.was_returned fate }
+{
+    matches!(fate, Fate::Returned(_))
+}
+
+fn is_unknown(fate: Fate) -> bool
+    ensures { result ≡ text.is_unknown fate }
+{
+    matches!(fate, Fate::Unknown)
+}
+
+fn is_unknown_but_ran(fate: Fate) -> bool
+    ensures { result ≡ text.is_unknown_but_ran fate }
+{
+    matches!(fate, Fate::UnknownButRan)
+}
+
+fn is_pending(fate: Fate) -> bool
+    ensures { result ≡ text.is_pending fate }
+{
+    matches!(fate, Fate::Pending)
+}
+
+fn number_run(messages: &[MessageFate]) -> usize
+    ensures { result ≡ text.number text.has_run messages.now }
+{
+    messages
+        .iter()
+        .filter(|message| has_run(message.fate))
+        .count()
+}
+
+fn number_returned(messages: &[MessageFate]) -> usize
+    ensures { result ≡ text.number text.was_returned messages.now }
+{
+    messages
+        .iter()
+        .filter(|message| was_returned(message.fate))
+        .count()
+}
+
+fn number_unknown(messages: &[MessageFate]) -> usize
+    ensures { result ≡ text.number text.is_unknown messages.now }
+{
+    messages
+        .iter()
+        .filter(|message| is_unknown(message.fate))
+        .count()
+}
+
+fn number_unknown_but_ran(messages: &[MessageFate]) -> usize
+    ensures { result ≡ text.number text.is_unknown_but_ran messages.now }
+{
+    messages
+        .iter()
+        .filter(|message| is_unknown_but_ran(message.fate))
+        .count()
+}
+
+fn number_pending(messages: &[MessageFate]) -> usize
+    ensures { result ≡ text.number text.is_pending messages.now }
+{
+    messages
+        .iter()
+        .filter(|message| is_pending(message.fate))
+        .count()
+}
+
+#[tactic(auto, unfolding(crate::specs::Report::totals))]
+fn put_totals(out: &mut Vec<u8>, messages: &[MessageFate]) -> Result<(), AllocError>
+    ensures { OnOk result (out.new.items ≡ out.old.items ++ text.totals messages.now) }
+{
+    let ran = Number(number_run(messages) as u64);
+    let returned = Number(number_returned(messages) as u64);
+    let unknown = Number(number_unknown(messages) as u64);
+    let unknown_but_ran = Number(number_unknown_but_ran(messages) as u64);
+    let pending = Number(number_pending(messages) as u64);
+    put_line(
+        out,
+        "totals",
+        &[
+            Text("ran"),
+            ran,
+            Text("returned"),
+            returned,
+            Text("unknown"),
+            unknown,
+            Text("unknown-but-ran"),
+            unknown_but_ran,
+            Text("pending"),
+            pending,
+        ],
+    )
+}
+
+#[tactic(auto, using(std::proofs::Common::append_assoc), unfolding(crate::specs::Report::messages_part))]
+fn put_messages(out: &mut Vec<u8>, messages: &[MessageFate]) -> Result<(), AllocError>
+    ensures { OnOk result (out.new.items ≡ out.old.items ++ text.messages_part messages.now) }
+{
+    put_line(out, "messages", &[Number(messages.len() as u64)])?;
+    put_fates(out, messages)?;
+    put_totals(out, messages)
+}
+
+#[tactic(auto, using(std::proofs::Common::append_assoc), unfolding(crate::specs::Report::report))]
+fn text(alloc: Global, ends: &[EndpointId], entries: &[Entry]) -> Result<Vec<u8>, AllocError>
+    ensures { IfOk result (λ bytes. bytes.items ≡ text.report ends.now entries.now) }
+{
+    let table = RunTable::of(alloc, entries)?;
+    let messages = told(alloc, entries)?;
+    let mut out = Vec::new(alloc);
+    put_line(&mut out, "am2", &[Text("report"), Text("1")])?;
+    put_journal(&mut out, entries)?;
+    put_ends(&mut out, &table, ends)?;
+    put_messages(&mut out, &messages)?;
+    Ok(out)
+}
+
+/// The report of a journal whose scenario declares these endpoints, which stand in ascending order: the journal's
+/// lines, the runs at each endpoint, each accepted message with its fate in ascending order of source and count, and
+/// how many messages have each fate. It is exact for every journal, also for one that is no history.
+/// It takes one pass over the entries, with a table from serials to what is known of them.
+pub fn report(alloc: Global, ends: &[EndpointId], journal: &Journal) -> Result<Vec<u8>, NoMemory>
+    ensures { IfOk result (λ bytes. bytes.items ≡ text.report ends.now journal.now) }
+{
+    match text(alloc, ends, &journal.entries) {
+        Ok(bytes) => Ok(bytes),
+        Err(_) => Err(NoMemory),
+    }
+}

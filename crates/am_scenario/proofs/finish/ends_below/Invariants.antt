@@ -1,0 +1,7 @@
+use Rattle.std.proofs.Common.{◌≡◌}
+use Rattle.am_draft.specs.Drafts.{said}
+use Rattle.am_scenario.specs.Grammar.{ends_below}
+use Rattle.am_scenario.proofs.finish.ends_below.Given as goal
+
+abbrev pub invariant-loop-id : goal.invariant-loop-id
+invariant-loop-id l = l.ends.items ≡ ends_below (said l.draft) l.id

@@ -1,0 +1,16 @@
+//! The text of a scenario: the scenario that it spells, or its first fault.
+#![tactic(auto)]
+
+mod finish;
+mod order;
+mod reader;
+
+pub use am_bundle::{Bundle, Readiness};
+pub use am_generator::generate;
+pub use am_lexer::What;
+pub use am_plan::{LinkFault, PlanLine, shape};
+pub use am_scenario_types::{
+    EndLine, FaultLine, Form, Network, ReadFault, Scenario, ScenarioFault, ScriptCall, StepLine,
+    ThreadLine,
+};
+pub use reader::read;

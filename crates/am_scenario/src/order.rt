@@ -1,0 +1,74 @@
+//! The order of refusals of one line.
+
+ghost use Rattle.std.specs.Prelude.{◌≡◌};
+ghost use Rattle.am_lexer.specs.Text.{words_of};
+ghost use Rattle.am_lexer.specs.Fields.{Gives};
+ghost use Rattle.am_draft.specs.Drafts.{said};
+ghost use Rattle.am_scenario.specs.Order.{placed, after_words, after_line};
+ghost use Rattle.am_scenario.specs.Answers.{Changes};
+
+use am_draft::{Draft, LineFault};
+use am_lexer::{What, is_text, next_word};
+use am_lines::{Head, head_of, words_say};
+use am_scenario_types::Form;
+use std::alloc::Global;
+
+#[tactic(auto, unfolding(crate::specs::Order::placed))]
+fn placed(form: Form, draft: &Draft, head: Head) -> Result<Head, What>
+    ensures { Gives (λ head. head) result (placed form (said draft.now) head) }
+{
+    let section = head.section();
+    if draft.section == 0 && section != 1 {
+        return Err(What::Missing);
+    }
+    if section < draft.section || !head.is_of_form(form) {
+        return Err(What::OutOfPlace);
+    }
+    if section > 2 && !(draft.settings.network.is_some() && draft.settings.nodes.is_some()) {
+        return Err(What::Missing);
+    }
+    Ok(head)
+}
+
+#[tactic(auto, unfolding(crate::specs::Order::after_words))]
+fn take_words(
+    alloc: Global,
+    form: Form,
+    number: u32,
+    draft: &mut Draft,
+    line: &[u8],
+) -> Result<(), LineFault>
+    ensures { Changes result (said draft.new) (after_words form number (said draft.old) (words_of line.now)) }
+{
+    let Some((first, rest)) = next_word(line) else {
+        return Ok(());
+    };
+    if first.first() == Some(&b'#') {
+        return Ok(());
+    }
+    let Some(named) = head_of(draft.version, first) else {
+        return Err(LineFault::What(What::UnknownWord));
+    };
+    let head = placed(form, draft, named)?;
+    let line = words_say(alloc, form, draft, head, rest)?;
+    draft.section = head.section();
+    draft.add(number, line)?;
+    Ok(())
+}
+
+/// Takes one line.
+#[tactic(auto, unfolding(crate::specs::Order::after_line))]
+pub fn take_line(
+    alloc: Global,
+    form: Form,
+    number: u32,
+    draft: &mut Draft,
+    line: &[u8],
+) -> Result<(), LineFault>
+    ensures { Changes result (said draft.new) (after_line form number (said draft.old) line.now) }
+{
+    if !is_text(line) {
+        return Err(LineFault::What(What::NotText));
+    }
+    take_words(alloc, form, number, draft, line)
+}

@@ -1,0 +1,126 @@
+//! The words that a line is put together from.
+
+ghost use Rattle.std.specs.Prelude.{◌≡◌, ◌++◌, OnOk, codes, map};
+ghost use Rattle.std.specs.Fmt.{decimal};
+ghost use Rattle.am_text.specs.declared.pieces.Piece.TheVariants as Pieces;
+ghost use Rattle.am_text.specs.Words as text;
+ghost use Rattle.am_text.specs.Pieces.{Extends, word_of};
+
+use am_names::{Serial, Tag};
+use itoa::Buffer;
+use std::alloc::AllocError;
+
+/// A word of a line.
+#[derive(Clone, Copy)]
+pub enum Piece {
+    Text(&'static str),
+    Number(u64),
+    Serial(Serial),
+    Tag(Tag),
+}
+
+/// A small number as a word.
+pub fn small(number: u8) -> Piece
+    ensures { result ≡ Pieces.Number number }
+{
+    Piece::Number(u64::from(number))
+}
+
+/// A number of 32 bits as a word.
+pub fn count(number: u32) -> Piece
+    ensures { result ≡ Pieces.Number number }
+{
+    Piece::Number(u64::from(number))
+}
+
+#[tactic(auto, using(crate::proofs::Extended::extension))]
+fn put_bytes(out: &mut Vec<u8>, bytes: &[u8]) -> Result<(), AllocError>
+    ensures ok { OnOk result (out.new.items ≡ out.old.items ++ bytes.now) }
+    ensures kept { Extends out.old.items out.new.items }
+{
+    out.extend_from_slice(bytes)
+}
+
+fn put_number(out: &mut Vec<u8>, number: u64) -> Result<(), AllocError>
+    ensures ok { OnOk result (out.new.items ≡ out.old.items ++ decimal number) }
+    ensures kept { Extends out.old.items out.new.items }
+{
+    let mut buffer = Buffer::new();
+    put_bytes(out, buffer.format(number).as_bytes())
+}
+
+#[tactic(auto, using(crate::proofs::Extended::extension), unfolding(crate::specs::Words::serial))]
+fn put_serial(out: &mut Vec<u8>, serial: Serial) -> Result<(), AllocError>
+    ensures ok { OnOk result (out.new.items ≡ out.old.items ++ text.serial serial) }
+    ensures kept { Extends out.old.items out.new.items }
+{
+    put_number(out, u64::from(serial.source.0))?;
+    put_bytes(out, b".")?;
+    put_number(out, u64::from(serial.count))
+}
+
+#[tactic(auto, unfolding(crate::specs::Words::tag))]
+fn put_tag(out: &mut Vec<u8>, tag: Tag) -> Result<(), AllocError>
+    ensures ok { OnOk result (out.new.items ≡ out.old.items ++ text.tag tag) }
+    ensures kept { Extends out.old.items out.new.items }
+{
+    match tag {
+        Tag::NONE => put_bytes(out, b"none"),
+        Tag::ALL => put_bytes(out, b"all"),
+        Tag(number) => put_number(out, number),
+    }
+}
+
+/// Appends a word.
+pub fn put_word(out: &mut Vec<u8>, word: Piece) -> Result<(), AllocError>
+    ensures ok { OnOk result (out.new.items ≡ out.old.items ++ word_of word) }
+    ensures kept { Extends out.old.items out.new.items }
+{
+    match word {
+        Piece::Text(text) => put_bytes(out, text.as_bytes()),
+        Piece::Number(number) => put_number(out, number),
+        Piece::Serial(serial) => put_serial(out, serial),
+        Piece::Tag(tag) => put_tag(out, tag),
+    }
+}
+
+/// Appends a letter and a number.
+#[tactic(auto, using(crate::proofs::Extended::extension))]
+pub fn put_numbered(out: &mut Vec<u8>, letter: &str, number: u8) -> Result<(), AllocError>
+    ensures ok { OnOk result (out.new.items ≡ out.old.items ++ letter.now ++ decimal number) }
+    ensures kept { Extends out.old.items out.new.items }
+{
+    put_bytes(out, letter.as_bytes())?;
+    put_number(out, u64::from(number))
+}
+
+/// Appends each of the words after a space. What was there stays, also after an error.
+#[tactic(auto, using(crate::proofs::Extended::extension))]
+pub fn put_spaced(out: &mut Vec<u8>, words: &[Piece]) -> Result<(), AllocError>
+    ensures ok { OnOk result (out.new.items ≡ out.old.items ++ text.spaced (map word_of words.now)) }
+    ensures kept { Extends out.old.items out.new.items }
+{
+    for word in words {
+        put_bytes(out, b" ")?;
+        put_word(out, *word)?;
+    }
+    Ok(())
+}
+
+/// Appends the end of a line.
+pub fn put_end(out: &mut Vec<u8>) -> Result<(), AllocError>
+    ensures ok { OnOk result (out.new.items ≡ out.old.items ++ codes "\n") }
+    ensures kept { Extends out.old.items out.new.items }
+{
+    put_bytes(out, b"\n")
+}
+
+/// Appends a line: its words with one space between them, and its end.
+#[tactic(auto, using(crate::proofs::Extended::extension))]
+pub fn put_line(out: &mut Vec<u8>, first: &'static str, rest: &[Piece]) -> Result<(), AllocError>
+    ensures { OnOk result (out.new.items ≡ out.old.items ++ text.line first.now (map word_of rest.now)) }
+{
+    put_word(out, Piece::Text(first))?;
+    put_spaced(out, rest)?;
+    put_end(out)
+}
