@@ -3,8 +3,8 @@ use Rattle.std.specs.Prelude.{◌≡◌, ℕ, MatchOption, List}
 use Rattle.am_names.specs.declared.Serial.{Serial}
 use Rattle.am_names.specs.Names.{has_serial}
 use Rattle.am_office.specs.declared.Entry.{Entry}
-use Rattle.am_office.specs.declared.Fate.{Fate}
-use Rattle.am_office.specs.declared.Fate.TheVariants as Fates
+use Rattle.am_office.specs.declared.endings.Fate.{Fate}
+use Rattle.am_office.specs.declared.endings.Fate.TheVariants as Fates
 use Rattle.am_office.specs.Entries.{accepted_of, put_of, run_of, returned_of, unknown_of, return_of}
 use Rattle.am_office.specs.Fates.{fate}
 use Rattle.am_model.specs.PostOffice.{Gave, times, times_serial}

@@ -1,102 +1,56 @@
 -- A message in flight is held by just one bound channel.
-use Rattle.std.specs.Prelude.{MatchOption, not, nat_le, nat_lt, is_none, is_some, slice_get, slice_set, unwrap_or, count_by, sum_by}
-use Rattle.std.proofs.Common.{◌≡◌, ◌≢◌, ◌⊎◌, inl, inr, ⊎_elim, ◌==◌, ℕ, zero, suc, ◌+◌, ◌-◌, ◌≤◌, ◌<◌, Bool, true, false, cond, ◌&&◌, ◌||◌, List, [], ◌∷◌, ◌++◌, drop, length, Option, Some, None, refl, sym, ap, ◌∙◌, subst, arith, eqb-true, eq-eqb, leb-true, leb-false, ltb-true, ltb-false, true≢false, if◌then◌else◌}
-use Rattle.std.proofs.lemmas.Bool.{and_parts}
-use Rattle.std.proofs.lemmas.List.Folds.{list_any-append}
-use Rattle.std.proofs.lemmas.List.Sums.{sum_by_push, sum_by-cons}
-use Rattle.std.specs.List.{list_any, find, filter_map, cons_option}
-use Rattle.am_names.specs.Rules.{matches, is_transient}
+use Rattle.std.specs.Prelude.{not}
+use Rattle.std.proofs.Common.{◌≡◌, ◌≢◌, ◌⊎◌, inl, inr, ⊎_elim, ◌+◌, ◌≤◌, Bool, true, false, cond, ◌&&◌, ◌||◌, List, [], ◌∷◌, ◌++◌, Option, Some, None, refl, sym, ap, ◌∙◌, subst, arith, true≢false, if◌then◌else◌}
+use Rattle.std.proofs.lemmas.List.Sums.{sum_by-cons}
+use Rattle.std.specs.List.{list_any, find}
 use Rattle.am_names.specs.declared.EndpointId.{EndpointId}
 use Rattle.am_names.specs.declared.NodeId.{NodeId}
 use Rattle.am_names.specs.declared.Serial.{Serial}
-use Rattle.am_names.specs.declared.Tag.{Tag}
-use Rattle.am_names.specs.declared.Words.{Words}
-use Rattle.am_names.specs.declared.Cause.{Cause}
-use Rattle.am_names.specs.declared.Cause.TheVariants.{NoEndpoint, NotResident, BadTag, BadHandler, QueueFull, NoRequest}
-use Rattle.am_names.specs.declared.Verdict.{Verdict}
-use Rattle.am_names.specs.declared.Verdict.TheVariants as Verdicts
-use Rattle.am_names.specs.declared.Why.{Why}
-use Rattle.am_names.specs.declared.Why.TheVariants as Whys
 use Rattle.am_names.specs.declared.Message.{Message}
-use Rattle.am_names.specs.declared.MsgKind.{MsgKind}
-use Rattle.am_names.specs.declared.MsgKind.TheVariants as Kind
-use Rattle.am_names.specs.declared.Parcel.{Parcel}
-use Rattle.am_names.specs.declared.AnswerPacket.{AnswerPacket}
-use Rattle.am_names.specs.declared.Packet.{Packet}
-use Rattle.am_names.specs.declared.Packet.TheVariants as Packets
-use Rattle.am_office.specs.declared.Actor.{Actor}
-use Rattle.am_office.specs.declared.HandlerKind.{HandlerKind}
-use Rattle.am_office.specs.declared.HandlerKind.TheVariants.{Note, Echo, Add}
-use Rattle.am_office.specs.declared.Call.{Call}
-use Rattle.am_office.specs.declared.Call.TheVariants as Calls
-use Rattle.am_office.specs.declared.Refusal.{Refusal}
-use Rattle.am_office.specs.declared.Refusal.TheVariants as No
 use Rattle.am_office.specs.declared.Event.{Event}
 use Rattle.am_office.specs.declared.Event.TheVariants as Events
-use Rattle.am_office.specs.declared.Received.{Received}
 use Rattle.am_office.specs.declared.Received.TheVariants as Got
 use Rattle.am_office.specs.declared.Outcome.{Outcome}
 use Rattle.am_office.specs.declared.Outcome.TheVariants as Out
 use Rattle.am_office.specs.declared.Entry.{Entry}
-use Rattle.am_names.specs.Names.{same_end, same_node, same_serial, has_serial, is_request, is_answer}
-use Rattle.am_model.specs.Choice.{first_holding, without_first}
-use Rattle.am_model.specs.declared.Awaited.{Awaited}
-use Rattle.am_model.specs.declared.Mapping.{Mapping}
-use Rattle.am_model.specs.declared.Queued.{Queued}
+use Rattle.am_names.specs.Names.{same_end, same_node, same_serial, has_serial}
+use Rattle.am_model.specs.Choice.{without_first}
 use Rattle.am_model.specs.declared.Flying.{Flying}
-use Rattle.am_model.specs.declared.Notice.{Notice}
-use Rattle.am_model.specs.Endpoint.{State, Body, verdict, verdict_of, waits_for, is_awaited, is_resident, entry_at, front, front_of, is_arrived, requests_held, replies_held, IsWithin}
-use Rattle.am_model.specs.Calls.{outcome_of_call, unless, request_refusal, new_request, request_message, new_serial, has_no_credit, is_over_share, is_at, awaited_at, excess_at, excess_from, excess, share_of, shares, map_refusal, unmap_refusal, give_up_refusal, is_idle, messages_held, poll, poll_received, poll_requests, answer}
-use Rattle.am_model.specs.Changes.{called, left, reached, paged_out, paged_in, changed, put, received, expired, bound, not_awaited, settled, is_of, arrived, with_arrived, marked, with_marked, flying_of, landed, bounces_of}
-use Rattle.am_office.specs.Entries.{accepted_by, accepted_in, accepted_of, put_by, put_in, put_of, run_by, run_in, run_of, returned_by, returned_in, returned_of, unknown_in, unknown_of, given_up_in, given_up_of, requeue_of, refusal_of, ends_touched, touched_by_result, touched_by_expiry, touches, passes, is_serial}
-use Rattle.am_model.specs.Layout.{Layout, AllAre, EndSetting, has_id, opening_by, opening, home, IsLawful}
-use Rattle.am_model.specs.Channels.{Channel, Arrival, Stale, Again, Fresh, bound_message, emitted, arrival, mark, sequence, attempt, sent_message}
-use Rattle.am_model.specs.History.{state_of, MayFollow, IsHistory, EachAfter, outcome_of, carry, judged, receive, arrive, decided, settle, settle_by, counts, bounced, channel_to, next_number, expire, is_answered, bind}
-use Rattle.am_model.specs.PostOffice.{times, times_serial, Gave, WasAccepted, is_from, own_tag, mapping_of, is_about, ends_hold, ends_wait, SendsOne, SendsOneReply, IsRequestOf, IsAcceptedBy, asked_in, is_held, held_by, held_at, over_share, held_over, shares_below, IsWithinCredits, HasItsShare, RefusesAboveShare, CreditsHold}
-use Rattle.am_model.proofs.Each.{over_each, each_push, each_at, each_front, state_of_push}
-use Rattle.am_model.proofs.Names.{same_serial-is, same_serial-refl, same_end-refl}
-use Rattle.am_model.proofs.Received.{bit, one_touched, FitsCall}
-use Rattle.am_model.proofs.Books.{role_push, fits_call, same_end-is, not_touched, fits_direct}
-use Rattle.am_model.proofs.Counts.{Accepts, accepts_next, HasSerial}
+use Rattle.am_model.specs.Endpoint.{State, is_resident}
+use Rattle.am_model.specs.Changes.{changed}
+use Rattle.am_office.specs.Entries.{ends_touched, touches}
+use Rattle.am_model.specs.Layout.{Layout, AllAre, EndSetting, has_id, opening_by, home, IsLawful}
+use Rattle.am_model.specs.Channels.{Channel, bound_message, attempt, sent_message}
+use Rattle.am_model.specs.History.{state_of, MayFollow, IsHistory}
+use Rattle.am_model.specs.PostOffice.{WasAccepted}
+use Rattle.am_model.proofs.Each.{over_each, each_push, state_of_push}
+use Rattle.am_model.proofs.Names.{same_serial-refl, same_end-refl}
+use Rattle.am_model.proofs.Received.{bit}
+use Rattle.am_model.proofs.Books.{same_end-is, fits_direct}
 use Rattle.am_model.proofs.Queues.{FitsDirect}
-use Rattle.am_laws_order.proofs.Waiting.{bound_at, IsFront, found_has}
+use Rattle.am_laws_order.proofs.Waiting.{bound_at, IsFront}
 use Rattle.am_laws_order.proofs.Everywhere.{each_once}
-use Rattle.am_laws_order.proofs.Packets.{kept_packets, KeptPackets, waiting}
-use Rattle.am_laws_order.proofs.Situations.{Situation, Waits, Flies, Ended, puts}
-use Rattle.am_laws_messages.proofs.Alls.{all_map, all_push, all_without, all_found, gave_more, gave_now}
-use Rattle.am_laws_messages.proofs.Asked.{is_asked, knows}
-use Rattle.am_laws_messages.proofs.Delivered.{Delivers, delivers, put_facts, run_facts, each_law, match_option}
-use Rattle.am_laws_messages.proofs.Replies.{event_one}
+use Rattle.am_laws_messages.proofs.Alls.{all_map}
+use Rattle.am_laws_messages.proofs.Delivered.{Delivers, delivers}
 use Rattle.am_laws_messages.proofs.Sent.{FitsSend, fits_send}
-use Rattle.am_laws_replies.proofs.Gave.{gave_back, accepted_one, gave_any}
-use Rattle.am_office.specs.declared.Place.{Place}
-use Rattle.am_office.specs.declared.Place.TheVariants.{Frame, Host, Disk, Direct}
-use Rattle.am_office.specs.declared.Condition.{Condition}
+use Rattle.am_laws_replies.proofs.Gave.{accepted_one}
 use Rattle.am_office.specs.declared.Condition.TheVariants as Needs
-use Rattle.am_model.specs.Endpoint.{is_on_host, is_on_disk}
 use Rattle.am_model.specs.Layout.{AreApart, home_by}
-use Rattle.am_model.specs.Changes.{notice_of, requeued_flight, placed}
-use Rattle.am_model.specs.Channels.{same_channel, binds, frees, sends_on}
-use Rattle.am_model.specs.History.{failing, is_home, is_frame_held, channel_for}
+use Rattle.am_model.specs.Channels.{binds, frees}
+use Rattle.am_model.specs.History.{failing, is_home}
 use Rattle.am_model.specs.Cluster.{InFlightIsBound, IsHeldOnce, IsFlying}
-use Rattle.am_model.proofs.Own.{is_call}
 use Rattle.am_model.proofs.Ends.{bound_push}
-use Rattle.am_model.proofs.Received.{held, weight, run_at, put_at, changed_received}
 use Rattle.am_laws_order.proofs.Senders.{sender, same_channel-is, same_node-is}
-use Rattle.am_laws_order.proofs.Effects.{Effect, Keeps, Binds, Refuses, Ends, IsSame, IsFreedAt, IsBoundTo, landed_by, landed_in, effect}
-use Rattle.am_laws_messages.proofs.Held.{unless_busy, IsWelcome}
-use Rattle.am_laws_messages.proofs.Sent.{SentAre, front_are}
-use Rattle.am_laws_replies.proofs.Credited.{made, IsMade}
-use Rattle.am_laws_fates.proofs.Aloft.{Weight, aloft, queue_weight, flight_weight, one_weight, as_queued, newly, Moves, entry_moves, marked_weighs, landed_weighs}
-use Rattle.am_laws_fates.proofs.Flown.{one, flown, KeptFlights, kept_flights, one_channel, called_flown, left_flown, reached_flown, out_flown, in_flown}
+use Rattle.am_laws_order.proofs.Effects.{Effect, Keeps, Binds, Refuses, Ends, IsSame, IsFreedAt, landed_in, effect}
+use Rattle.am_laws_messages.proofs.Sent.{front_are}
+use Rattle.am_laws_fates.proofs.Aloft.{flight_weight}
+use Rattle.am_laws_fates.proofs.Flown.{one, flown, kept_flights, one_channel}
 use Rattle.am_laws_fates.proofs.Numbers.{own_are}
 use Rattle.am_laws_fates.proofs.Balance.{balanced}
-use Rattle.am_laws_credits.proofs.Tables.{flights_kept, takes_off}
+use Rattle.am_laws_credits.proofs.Tables.{flights_kept}
 use Rattle.am_laws_credits.proofs.Marked.{all_both, every, flights_own}
 use Rattle.am_laws_replies.proofs.Gave.{accepted_one}
-use Rattle.am_laws_messages.proofs.Delivered.{IsRouted}
-use Rattle.am_laws_order.proofs.Situations.{Situation}
-use Rattle.am_laws_cluster.proofs.Flights.{any_message, flights_of, IsAloft, all_aloft, open_aloft, third_none, not_false}
+use Rattle.am_laws_cluster.proofs.Flights.{any_message, flights_of, all_aloft, open_aloft, third_none, not_false}
 
 -- the node that an endpoint is said to be of is its home
 none_same : (e : EndpointId) (s : EndSetting) (node : NodeId) (xs : List EndSetting) → same_end e s.id ≡ true → list_any (λ (t : EndSetting). same_end s.id t.id) xs ≡ false → list_any (λ (t : EndSetting). same_end e t.id && same_node node t.node) xs ≡ true → ⊥
@@ -195,11 +149,12 @@ landed_flights e st event o t h = absurd (cc)
 -- where a serial is in flight once, it is not after it lands
 none_left : (t : Serial) (xs : List Flying) → flight_weight (one t) xs ≡ 0 → AllAre (λ (f : Flying). f.message.serial ≢ t) xs
 none_left t [] h = tt
-none_left t (f ∷ xs) h =
-    (λ is.
-    let here : bit (has_serial t f.message) ≡ 1 = ap (λ (w : Serial). bit (same_serial t w)) is ∙ ap bit (same_serial-refl t) in
-    omega (arith, h, here, sum_by-cons (λ (y : Flying). one t y.message y.bounces) f xs),
-    none_left t xs (omega (arith, h, sum_by-cons (λ (y : Flying). one t y.message y.bounces) f xs)))
+none_left t (f ∷ xs) h = (
+  λ is.
+      let here : bit (has_serial t f.message) ≡ 1 = ap (λ (w : Serial). bit (same_serial t w)) is ∙ ap bit (same_serial-refl t) in
+      omega (arith, h, here, sum_by-cons (λ (y : Flying). one t y.message y.bounces) f xs),
+  none_left t xs (omega (arith, h, sum_by-cons (λ (y : Flying). one t y.message y.bounces) f xs)),
+)
 
 gone_all : (t : Serial) (xs : List Flying) → flight_weight (one t) xs ≤ 1 → AllAre (λ (f : Flying). f.message.serial ≢ t) (without_first (λ (f : Flying). has_serial t f.message) xs)
 gone_all t [] h = tt
@@ -207,9 +162,10 @@ gone_all t (f ∷ xs) h = by_test (has_serial t f.message) refl (λ low. gone_al
   where
     by_test : (b : Bool) → has_serial t f.message ≡ b → (flight_weight (one t) xs ≤ 1 → AllAre (λ (g : Flying). g.message.serial ≢ t) (without_first (λ (g : Flying). has_serial t g.message) xs)) → AllAre (λ (g : Flying). g.message.serial ≢ t) (cond b xs (f ∷ without_first (λ (g : Flying). has_serial t g.message) xs))
     by_test true is more = none_left t xs (omega (arith, h, ap bit is, sum_by-cons (λ (y : Flying). one t y.message y.bounces) f xs))
-    by_test false is more =
-        (λ same. true≢false (sym (same_serial-refl t) ∙ subst (λ (w : Serial). same_serial t w ≡ false) same is),
-        more (omega (arith, h, sum_by-cons (λ (y : Flying). one t y.message y.bounces) f xs)))
+    by_test false is more = (
+      λ same. true≢false (sym (same_serial-refl t) ∙ subst (λ (w : Serial). same_serial t w ≡ false) same is),
+      more (omega (arith, h, sum_by-cons (λ (y : Flying). one t y.message y.bounces) f xs)),
+    )
 
 flown_once : (layout : Layout) (past : List Entry) → IsHistory layout past → (t : Serial) → flown layout past t ≤ 1
 flown_once layout past h t = let b = balanced layout past h in omega (arith, b.balance t, b.serials.once t)
@@ -380,7 +336,7 @@ flies layout packet past h k c m is =
     low : 1 ≤ flown layout past m.serial
     low = (kept_flights layout packet past h).flown c m is
 
-    fewer : (xs : List Flying) → flight_weight (one m.serial) xs ≤ flight_weight (Rattle.am_laws_cluster.proofs.Pools.passing any_message) xs
+    fewer : (xs : List Flying) → flight_weight (one m.serial) xs ≤ flight_weight (Rattle.am_laws_endpoints.proofs.Pools.passing any_message) xs
     fewer [] = omega arith
     fewer (f ∷ xs) = omega (arith, fewer xs, most (has_serial m.serial f.message), sum_by-cons (λ (y : Flying). one m.serial y.message y.bounces) f xs, sum_by-cons (λ (y : Flying). 1) f xs)
       where

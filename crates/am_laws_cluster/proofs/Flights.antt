@@ -1,36 +1,16 @@
 -- An endpoint with a message in flight is in a frame and open.
-use Rattle.std.specs.Prelude.{MatchOption, not, nat_le, nat_lt, is_none, is_some, slice_get, slice_set, unwrap_or, count_by, sum_by}
-use Rattle.std.proofs.Common.{◌≡◌, ◌≢◌, ◌⊎◌, inl, inr, ⊎_elim, ◌==◌, ℕ, zero, suc, ◌+◌, ◌-◌, ◌≤◌, ◌<◌, Bool, true, false, cond, ◌&&◌, ◌||◌, List, [], ◌∷◌, ◌++◌, drop, length, Option, Some, None, refl, sym, ap, ◌∙◌, subst, arith, eqb-true, eq-eqb, leb-true, leb-false, ltb-true, ltb-false, true≢false, if◌then◌else◌}
+use Rattle.std.specs.Prelude.{not, count_by}
+use Rattle.std.proofs.Common.{◌≡◌, ◌⊎◌, inl, inr, ⊎_elim, ◌==◌, ℕ, ◌+◌, ◌≤◌, Bool, true, false, cond, ◌&&◌, List, [], ◌∷◌, ◌++◌, drop, length, Option, Some, None, refl, sym, ap, ◌∙◌, subst, arith, eqb-true, true≢false, if◌then◌else◌}
 use Rattle.std.proofs.lemmas.Bool.{and_parts}
-use Rattle.std.proofs.lemmas.List.Folds.{list_any-append}
-use Rattle.std.proofs.lemmas.List.Sums.{sum_by_push, sum_by-cons}
-use Rattle.std.specs.List.{list_any, find, filter_map, cons_option}
-use Rattle.am_names.specs.Rules.{matches, is_transient}
+use Rattle.std.proofs.lemmas.List.Sums.{sum_by-cons}
+use Rattle.std.specs.List.{list_any, find}
 use Rattle.am_names.specs.declared.EndpointId.{EndpointId}
-use Rattle.am_names.specs.declared.NodeId.{NodeId}
 use Rattle.am_names.specs.declared.Serial.{Serial}
-use Rattle.am_names.specs.declared.Tag.{Tag}
-use Rattle.am_names.specs.declared.Words.{Words}
-use Rattle.am_names.specs.declared.Cause.{Cause}
-use Rattle.am_names.specs.declared.Cause.TheVariants.{NoEndpoint, NotResident, BadTag, BadHandler, QueueFull, NoRequest}
-use Rattle.am_names.specs.declared.Verdict.{Verdict}
-use Rattle.am_names.specs.declared.Verdict.TheVariants as Verdicts
-use Rattle.am_names.specs.declared.Why.{Why}
-use Rattle.am_names.specs.declared.Why.TheVariants as Whys
+use Rattle.am_names.specs.declared.Cause.TheVariants.{NotResident}
 use Rattle.am_names.specs.declared.Message.{Message}
-use Rattle.am_names.specs.declared.MsgKind.{MsgKind}
-use Rattle.am_names.specs.declared.MsgKind.TheVariants as Kind
-use Rattle.am_names.specs.declared.Parcel.{Parcel}
-use Rattle.am_names.specs.declared.AnswerPacket.{AnswerPacket}
-use Rattle.am_names.specs.declared.Packet.{Packet}
-use Rattle.am_names.specs.declared.Packet.TheVariants as Packets
 use Rattle.am_office.specs.declared.Actor.{Actor}
-use Rattle.am_office.specs.declared.HandlerKind.{HandlerKind}
-use Rattle.am_office.specs.declared.HandlerKind.TheVariants.{Note, Echo, Add}
 use Rattle.am_office.specs.declared.Call.{Call}
 use Rattle.am_office.specs.declared.Call.TheVariants as Calls
-use Rattle.am_office.specs.declared.Refusal.{Refusal}
-use Rattle.am_office.specs.declared.Refusal.TheVariants as No
 use Rattle.am_office.specs.declared.Event.{Event}
 use Rattle.am_office.specs.declared.Event.TheVariants as Events
 use Rattle.am_office.specs.declared.Received.{Received}
@@ -38,62 +18,36 @@ use Rattle.am_office.specs.declared.Received.TheVariants as Got
 use Rattle.am_office.specs.declared.Outcome.{Outcome}
 use Rattle.am_office.specs.declared.Outcome.TheVariants as Out
 use Rattle.am_office.specs.declared.Entry.{Entry}
-use Rattle.am_names.specs.Names.{same_end, same_node, same_serial, has_serial, is_request, is_answer}
-use Rattle.am_model.specs.Choice.{first_holding, without_first}
-use Rattle.am_model.specs.declared.Awaited.{Awaited}
-use Rattle.am_model.specs.declared.Mapping.{Mapping}
+use Rattle.am_names.specs.Names.{same_end}
 use Rattle.am_model.specs.declared.Queued.{Queued}
 use Rattle.am_model.specs.declared.Flying.{Flying}
 use Rattle.am_model.specs.declared.Notice.{Notice}
-use Rattle.am_model.specs.Endpoint.{State, Body, verdict, verdict_of, waits_for, is_awaited, is_resident, entry_at, front, front_of, is_arrived, requests_held, replies_held, IsWithin}
-use Rattle.am_model.specs.Calls.{outcome_of_call, unless, request_refusal, new_request, request_message, new_serial, has_no_credit, is_over_share, is_at, awaited_at, excess_at, excess_from, excess, share_of, shares, map_refusal, unmap_refusal, give_up_refusal, is_idle, messages_held, poll, poll_received, poll_requests, answer}
-use Rattle.am_model.specs.Changes.{called, left, reached, paged_out, paged_in, changed, put, received, expired, bound, not_awaited, settled, is_of, arrived, with_arrived, marked, with_marked, flying_of, landed, bounces_of}
-use Rattle.am_office.specs.Entries.{accepted_by, accepted_in, accepted_of, put_by, put_in, put_of, run_by, run_in, run_of, returned_by, returned_in, returned_of, unknown_in, unknown_of, given_up_in, given_up_of, requeue_of, refusal_of, ends_touched, touched_by_result, touched_by_expiry, touches, passes, is_serial}
-use Rattle.am_model.specs.Layout.{Layout, AllAre, EndSetting, has_id, opening_by, opening, home, IsLawful}
-use Rattle.am_model.specs.Channels.{Channel, Arrival, Stale, Again, Fresh, bound_message, emitted, arrival, mark, sequence, attempt, sent_message}
-use Rattle.am_model.specs.History.{state_of, MayFollow, IsHistory, EachAfter, outcome_of, carry, judged, receive, arrive, decided, settle, settle_by, counts, bounced, channel_to, next_number, expire, is_answered, bind}
+use Rattle.am_model.specs.Endpoint.{State, Body, is_resident}
+use Rattle.am_model.specs.Calls.{outcome_of_call, is_idle, messages_held, answer}
+use Rattle.am_model.specs.Changes.{called, left, reached, paged_out, paged_in, changed, put, received, expired, bound, landed}
+use Rattle.am_office.specs.Entries.{accepted_by, put_of, run_by, ends_touched, touches}
+use Rattle.am_model.specs.Layout.{Layout, EndSetting, has_id, opening_by}
+use Rattle.am_model.specs.Channels.{attempt}
+use Rattle.am_model.specs.History.{state_of, MayFollow, IsHistory}
 use Rattle.am_model.specs.PostOffice.{times, times_serial, Gave, WasAccepted, is_from, own_tag, mapping_of, is_about, ends_hold, ends_wait, SendsOne, SendsOneReply, IsRequestOf, IsAcceptedBy, asked_in, is_held, held_by, held_at, over_share, held_over, shares_below, IsWithinCredits, HasItsShare, RefusesAboveShare, CreditsHold}
-use Rattle.am_model.proofs.Each.{over_each, each_push, each_at, each_front, state_of_push}
-use Rattle.am_model.proofs.Names.{same_serial-is, same_serial-refl, same_end-refl}
-use Rattle.am_model.proofs.Received.{bit, one_touched, FitsCall}
-use Rattle.am_model.proofs.Books.{role_push, fits_call, same_end-is, not_touched, fits_direct}
-use Rattle.am_model.proofs.Counts.{Accepts, accepts_next, HasSerial}
-use Rattle.am_model.proofs.Queues.{FitsDirect}
-use Rattle.am_laws_order.proofs.Waiting.{bound_at, IsFront, found_has}
-use Rattle.am_laws_order.proofs.Everywhere.{each_once}
-use Rattle.am_laws_order.proofs.Packets.{kept_packets, KeptPackets, waiting}
-use Rattle.am_laws_order.proofs.Situations.{Situation, Waits, Flies, Ended, puts}
-use Rattle.am_laws_messages.proofs.Alls.{all_map, all_push, all_without, all_found, gave_more, gave_now}
-use Rattle.am_laws_messages.proofs.Asked.{is_asked, knows}
-use Rattle.am_laws_messages.proofs.Delivered.{Delivers, delivers, put_facts, run_facts, each_law, match_option}
-use Rattle.am_laws_messages.proofs.Replies.{event_one}
-use Rattle.am_laws_messages.proofs.Sent.{FitsSend, fits_send}
-use Rattle.am_laws_replies.proofs.Gave.{gave_back, accepted_one, gave_any}
+use Rattle.am_model.proofs.Each.{over_each, each_push, state_of_push}
+use Rattle.am_model.proofs.Received.{one_touched, FitsCall}
+use Rattle.am_model.proofs.Books.{fits_call, same_end-is}
+use Rattle.am_laws_messages.proofs.Delivered.{delivers, put_facts}
+use Rattle.am_laws_messages.proofs.Sent.{fits_send}
 use Rattle.am_office.specs.declared.Place.{Place}
 use Rattle.am_office.specs.declared.Place.TheVariants.{Frame, Host, Disk, Direct}
 use Rattle.am_office.specs.declared.Condition.{Condition}
 use Rattle.am_office.specs.declared.Condition.TheVariants as Needs
 use Rattle.am_model.specs.Endpoint.{is_on_host, is_on_disk}
-use Rattle.am_model.specs.Layout.{AreApart, home_by}
-use Rattle.am_model.specs.Changes.{notice_of, requeued_flight, placed}
-use Rattle.am_model.specs.Channels.{same_channel, binds, frees, sends_on}
-use Rattle.am_model.specs.History.{failing, is_home, is_frame_held, channel_for}
-use Rattle.am_model.specs.Cluster.{InFlightIsBound, IsHeldOnce, IsFlying}
+use Rattle.am_model.specs.History.{failing, is_home}
 use Rattle.am_model.proofs.Own.{is_call}
-use Rattle.am_model.proofs.Ends.{bound_push}
-use Rattle.am_model.proofs.Received.{held, weight, run_at, put_at, changed_received}
-use Rattle.am_laws_order.proofs.Senders.{sender, same_channel-is}
-use Rattle.am_laws_order.proofs.Effects.{Effect, Keeps, Binds, Refuses, Ends, IsSame, IsFreedAt, IsBoundTo, landed_by, landed_in, effect}
+use Rattle.am_model.proofs.Received.{weight, run_at, put_at, changed_received}
 use Rattle.am_laws_messages.proofs.Held.{unless_busy, IsWelcome}
-use Rattle.am_laws_messages.proofs.Sent.{SentAre, front_are}
-use Rattle.am_laws_replies.proofs.Credited.{made, IsMade}
-use Rattle.am_laws_fates.proofs.Aloft.{Weight, aloft, queue_weight, flight_weight, one_weight, as_queued, newly, Moves, entry_moves, marked_weighs, landed_weighs}
-use Rattle.am_laws_fates.proofs.Flown.{one, flown, KeptFlights, kept_flights, one_channel, called_flown, left_flown, reached_flown, out_flown, in_flown}
-use Rattle.am_laws_fates.proofs.Numbers.{own_are}
-use Rattle.am_laws_fates.proofs.Balance.{balanced}
-use Rattle.am_laws_credits.proofs.Tables.{flights_kept, takes_off}
-use Rattle.am_laws_credits.proofs.Marked.{all_both, every, flights_own}
-use Rattle.am_laws_cluster.proofs.Pools.{all_of, back_of, passing, no_more}
+use Rattle.am_laws_replies.proofs.Credited.{made}
+use Rattle.am_laws_fates.proofs.Aloft.{queue_weight, flight_weight, one_weight, newly, entry_moves, marked_weighs, landed_weighs}
+use Rattle.am_laws_fates.proofs.Flown.{called_flown, left_flown, reached_flown, out_flown, in_flown}
+use Rattle.am_laws_endpoints.proofs.Pools.{all_of, back_of, passing, no_more}
 
 -- A closed endpoint has no messages.
 

@@ -1,36 +1,19 @@
 -- A message has one live sequence, and is somewhere.
-use Rattle.std.specs.Prelude.{MatchOption, not, nat_le, nat_lt, is_none, is_some, slice_get, slice_set, unwrap_or, count_by, sum_by}
-use Rattle.std.proofs.Common.{◌≡◌, ◌≢◌, ◌⊎◌, inl, inr, ⊎_elim, ◌==◌, ℕ, zero, suc, ◌+◌, ◌-◌, ◌≤◌, ◌<◌, Bool, true, false, cond, ◌&&◌, ◌||◌, List, [], ◌∷◌, ◌++◌, drop, length, Option, Some, None, refl, sym, ap, ◌∙◌, subst, arith, eqb-true, eq-eqb, leb-true, leb-false, ltb-true, ltb-false, true≢false, if◌then◌else◌}
+use Rattle.std.specs.Prelude.{nat_lt, slice_get, count_by}
+use Rattle.std.proofs.Common.{◌≡◌, ◌==◌, ℕ, zero, suc, ◌+◌, ◌-◌, ◌≤◌, Bool, true, false, ◌&&◌, List, [], ◌∷◌, ◌++◌, Option, Some, None, refl, sym, ap, ◌∙◌, subst, arith, eqb-true, true≢false, if◌then◌else◌}
 use Rattle.std.proofs.lemmas.Bool.{and_parts}
-use Rattle.std.proofs.lemmas.List.Folds.{list_any-append}
-use Rattle.std.proofs.lemmas.List.Sums.{sum_by_push, sum_by-cons}
-use Rattle.std.specs.List.{list_any, find, filter_map, cons_option}
-use Rattle.am_names.specs.Rules.{matches, is_transient}
+use Rattle.std.specs.List.{find}
+use Rattle.am_names.specs.Rules.{is_transient}
 use Rattle.am_names.specs.declared.EndpointId.{EndpointId}
 use Rattle.am_names.specs.declared.NodeId.{NodeId}
 use Rattle.am_names.specs.declared.Serial.{Serial}
-use Rattle.am_names.specs.declared.Tag.{Tag}
-use Rattle.am_names.specs.declared.Words.{Words}
 use Rattle.am_names.specs.declared.Cause.{Cause}
-use Rattle.am_names.specs.declared.Cause.TheVariants.{NoEndpoint, NotResident, BadTag, BadHandler, QueueFull, NoRequest}
 use Rattle.am_names.specs.declared.Verdict.{Verdict}
 use Rattle.am_names.specs.declared.Verdict.TheVariants as Verdicts
-use Rattle.am_names.specs.declared.Why.{Why}
-use Rattle.am_names.specs.declared.Why.TheVariants as Whys
 use Rattle.am_names.specs.declared.Message.{Message}
-use Rattle.am_names.specs.declared.MsgKind.{MsgKind}
-use Rattle.am_names.specs.declared.MsgKind.TheVariants as Kind
-use Rattle.am_names.specs.declared.Parcel.{Parcel}
 use Rattle.am_names.specs.declared.AnswerPacket.{AnswerPacket}
 use Rattle.am_names.specs.declared.Packet.{Packet}
 use Rattle.am_names.specs.declared.Packet.TheVariants as Packets
-use Rattle.am_office.specs.declared.Actor.{Actor}
-use Rattle.am_office.specs.declared.HandlerKind.{HandlerKind}
-use Rattle.am_office.specs.declared.HandlerKind.TheVariants.{Note, Echo, Add}
-use Rattle.am_office.specs.declared.Call.{Call}
-use Rattle.am_office.specs.declared.Call.TheVariants as Calls
-use Rattle.am_office.specs.declared.Refusal.{Refusal}
-use Rattle.am_office.specs.declared.Refusal.TheVariants as No
 use Rattle.am_office.specs.declared.Event.{Event}
 use Rattle.am_office.specs.declared.Event.TheVariants as Events
 use Rattle.am_office.specs.declared.Received.{Received}
@@ -38,40 +21,27 @@ use Rattle.am_office.specs.declared.Received.TheVariants as Got
 use Rattle.am_office.specs.declared.Outcome.{Outcome}
 use Rattle.am_office.specs.declared.Outcome.TheVariants as Out
 use Rattle.am_office.specs.declared.Entry.{Entry}
-use Rattle.am_names.specs.Names.{same_end, same_node, same_serial, has_serial, is_request, is_answer}
-use Rattle.am_model.specs.Choice.{first_holding, without_first}
-use Rattle.am_model.specs.declared.Awaited.{Awaited}
-use Rattle.am_model.specs.declared.Mapping.{Mapping}
-use Rattle.am_model.specs.declared.Queued.{Queued}
+use Rattle.am_names.specs.Names.{same_end, same_serial, has_serial}
 use Rattle.am_model.specs.declared.Flying.{Flying}
-use Rattle.am_model.specs.declared.Notice.{Notice}
-use Rattle.am_model.specs.Endpoint.{State, Body, verdict, verdict_of, waits_for, is_awaited, is_resident, entry_at, front, front_of, is_arrived, requests_held, replies_held, IsWithin}
-use Rattle.am_model.specs.Calls.{outcome_of_call, unless, request_refusal, new_request, request_message, new_serial, has_no_credit, is_over_share, is_at, awaited_at, excess_at, excess_from, excess, share_of, shares, map_refusal, unmap_refusal, give_up_refusal, is_idle, messages_held, poll, poll_received, poll_requests, answer}
-use Rattle.am_model.specs.Changes.{called, left, reached, paged_out, paged_in, changed, put, received, expired, bound, not_awaited, settled, is_of, arrived, with_arrived, marked, with_marked, flying_of, landed, bounces_of}
-use Rattle.am_office.specs.Entries.{accepted_by, accepted_in, accepted_of, put_by, put_in, put_of, run_by, run_in, run_of, returned_by, returned_in, returned_of, unknown_in, unknown_of, given_up_in, given_up_of, requeue_of, refusal_of, ends_touched, touched_by_result, touched_by_expiry, touches, passes, is_serial}
-use Rattle.am_model.specs.Layout.{Layout, AllAre, EndSetting, has_id, opening_by, opening, home, IsLawful}
-use Rattle.am_model.specs.Channels.{Channel, Arrival, Stale, Again, Fresh, bound_message, emitted, arrival, mark, sequence, attempt, sent_message}
-use Rattle.am_model.specs.History.{state_of, MayFollow, IsHistory, EachAfter, outcome_of, carry, judged, receive, arrive, decided, settle, settle_by, counts, bounced, channel_to, next_number, expire, is_answered, bind}
-use Rattle.am_model.specs.PostOffice.{times, times_serial, Gave, WasAccepted, is_from, own_tag, mapping_of, is_about, ends_hold, ends_wait, SendsOne, SendsOneReply, IsRequestOf, IsAcceptedBy, asked_in, is_held, held_by, held_at, over_share, held_over, shares_below, IsWithinCredits, HasItsShare, RefusesAboveShare, CreditsHold}
-use Rattle.am_model.proofs.Each.{over_each, each_push, each_at, each_front, state_of_push}
+use Rattle.am_model.specs.Endpoint.{State, verdict}
+use Rattle.am_model.specs.Changes.{flying_of}
+use Rattle.am_office.specs.Entries.{accepted_in, accepted_of, put_in, put_of, run_by, run_in, run_of, returned_in, returned_of, unknown_in, unknown_of, requeue_of, touches, passes}
+use Rattle.am_model.specs.Layout.{Layout, EndSetting, has_id, opening_by}
+use Rattle.am_model.specs.Channels.{Channel, Arrival, Stale, Again, Fresh, bound_message, emitted, arrival, mark, sequence, attempt}
+use Rattle.am_model.specs.History.{state_of, MayFollow, IsHistory, outcome_of, receive, arrive, decided, settle, settle_by, counts, bounced, channel_to, next_number, expire, is_answered}
+use Rattle.am_model.specs.PostOffice.{times, times_serial, Gave, WasAccepted}
+use Rattle.am_model.proofs.Each.{over_each, each_push}
 use Rattle.am_model.proofs.Names.{same_serial-is, same_serial-refl, same_end-refl}
-use Rattle.am_model.proofs.Received.{bit, one_touched, FitsCall}
-use Rattle.am_model.proofs.Books.{role_push, fits_call, same_end-is, not_touched, fits_direct}
-use Rattle.am_model.proofs.Counts.{Accepts, accepts_next, HasSerial}
+use Rattle.am_model.proofs.Received.{bit}
+use Rattle.am_model.proofs.Books.{role_push, same_end-is, fits_direct}
 use Rattle.am_model.proofs.Queues.{FitsDirect}
-use Rattle.am_laws_order.proofs.Waiting.{bound_at, IsFront, found_has}
+use Rattle.am_laws_order.proofs.Waiting.{bound_at}
 use Rattle.am_laws_order.proofs.Everywhere.{each_once}
-use Rattle.am_laws_order.proofs.Packets.{kept_packets, KeptPackets, waiting}
-use Rattle.am_laws_order.proofs.Situations.{Situation, Waits, Flies, Ended, puts}
-use Rattle.am_laws_messages.proofs.Alls.{all_map, all_push, all_without, all_found, gave_more, gave_now}
-use Rattle.am_laws_messages.proofs.Asked.{is_asked, knows}
-use Rattle.am_laws_messages.proofs.Delivered.{Delivers, delivers, put_facts, run_facts, each_law, match_option}
-use Rattle.am_laws_messages.proofs.Replies.{event_one}
-use Rattle.am_laws_messages.proofs.Sent.{FitsSend, fits_send}
-use Rattle.am_laws_replies.proofs.Gave.{gave_back, accepted_one, gave_any}
+use Rattle.am_laws_order.proofs.Packets.{kept_packets, waiting}
+use Rattle.am_laws_messages.proofs.Alls.{all_found}
 use Rattle.std.proofs.lemmas.List.Sums.{sum_by-le-sum_by}
-use Rattle.am_office.specs.Entries.{requeue_in, emitted_of}
-use Rattle.am_model.specs.Cluster.{OneLiveSequence, bound_in, count_queued, count_flying, took}
+use Rattle.am_office.specs.Entries.{requeue_in}
+use Rattle.am_model.specs.Cluster.{OneLiveSequence, bound_in, count_queued, count_flying}
 use Rattle.am_model.specs.PostOffice.{only_if}
 use Rattle.am_model.proofs.Received.{held, weight, run_at, put_at}
 use Rattle.am_model.proofs.Books.{ReceivedBalance, balance_received, count_role}
@@ -80,19 +50,18 @@ use Rattle.am_laws_order.proofs.Waiting.{weight_serial, requeued_in}
 use Rattle.am_laws_order.proofs.Once.{put_apart_all, runs_somewhere, put_at_le}
 use Rattle.am_laws_order.proofs.Packets.{waiting_more}
 use Rattle.am_laws_order.proofs.Senders.{sender}
-use Rattle.am_laws_order.proofs.Parcels.{IsOf, channel_of}
+use Rattle.am_laws_order.proofs.Parcels.{IsOf}
 use Rattle.am_laws_order.proofs.Marks.{back, end_of}
-use Rattle.am_laws_order.proofs.Effects.{landed_in, link_of_answer}
+use Rattle.am_laws_order.proofs.Effects.{link_of_answer}
 use Rattle.am_laws_fates.proofs.Numbers.{end_in, end_of_entry}
-use Rattle.am_laws_fates.proofs.Balance.{balanced, Balanced, there, serial_push}
-use Rattle.am_laws_fates.proofs.Flown.{one, lands_found}
+use Rattle.am_laws_fates.proofs.Balance.{balanced, serial_push}
 use Rattle.am_laws_fates.proofs.Ledger.{found_serial}
 use Rattle.am_laws_credits.proofs.Given.{gave_times}
-use Rattle.am_laws_credits.proofs.Marked.{replied, flags, AreFlagged}
+use Rattle.am_laws_credits.proofs.Marked.{replied, flags}
 use Rattle.am_laws_credits.proofs.Puts.{put_reply}
-use Rattle.am_laws_cluster.proofs.Sent.{sendings}
-use Rattle.am_laws_cluster.proofs.Taken.{takings}
-use Rattle.am_laws_cluster.proofs.Answers.{replies, Replies, IsKnown}
+use Rattle.am_laws_channels.proofs.Sent.{sendings}
+use Rattle.am_laws_channels.proofs.Taken.{takings}
+use Rattle.am_laws_channels.proofs.Answers.{replies}
 
 -- a message is bound once more than it was requeued, at most
 abbrev pub bound_times : Serial → List Entry → ℕ

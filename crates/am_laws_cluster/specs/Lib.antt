@@ -1,1 +1,1 @@
-pub mod Truth
+pub mod Whole

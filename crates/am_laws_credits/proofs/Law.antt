@@ -35,7 +35,8 @@ use Rattle.am_laws_messages.proofs.Mapped.{IsMapped}
 use Rattle.am_laws_replies.proofs.Records.{records_credited}
 use Rattle.am_laws_credits.proofs.Sums.{below, below_lt, below_zero, below_plus, below_one}
 use Rattle.am_laws_credits.proofs.Held.{held_is}
-use Rattle.am_laws_credits.proofs.Shares.{over_at, share_at, UnmappedIsEmpty, IsPooled, IsPooledBy, Shares, shares_kept, all_count, table_holds, entry_in}
+use Rattle.am_laws_credits.proofs.Shares.{over_at, share_at, excess_is, shares_is, UnmappedIsEmpty, IsPooled, IsPooledBy, Shares, shares_kept, all_count, table_holds, entry_in}
+use Rattle.am_laws_credits.specs.Pool.{IsWithinPool}
 
 eqb_sym : (a b : ℕ) → (a == b) ≡ (b == a)
 eqb_sym a b = by_tests (a == b) (b == a) refl refl
@@ -88,6 +89,21 @@ within layout past lawful h e = by_pool layout.pool refl (k.pooled e)
     by_pool : (pool : Option ℕ) → layout.pool ≡ pool → IsPooledBy pool (state_of layout past e).body → IsWithinCredits pool past e
     by_pool None is p = within_none layout past is h k.mapped e
     by_pool (Some pool) is p = within_some layout past pool h k.mapped e p
+
+-- with a pool, the records are within it
+pub records_within : (layout : Layout) (past : List Entry) (pool : ℕ) → layout.pool ≡ Some pool → IsLawful layout → IsHistory layout past → (e : EndpointId) → IsWithinPool pool (state_of layout past e).body
+records_within layout past pool is lawful h e =
+    record {
+      over = omega (arith, p.over, excess_is (state_of layout past e).body (k.mapped.size e));
+      sum = omega (arith, p.sum, shares_is (state_of layout past e).body (k.mapped.size e));
+      unmapped = k.empty e;
+    }
+  where
+    k : Shares layout past
+    k = shares_kept layout past lawful h
+
+    p : IsPooled pool (state_of layout past e).body
+    p = subst (λ (w : Option ℕ). IsPooledBy w (state_of layout past e).body) is (k.pooled e)
 
 -- an index below its share gets its credit
 

@@ -1,5 +1,0 @@
-use Rattle.am_laws_cluster.proofs.Answers as laws
-use Rattle.am_laws_cluster.proofs.answers_say_true.Goals as goal
-
-pub returns : goal.returns
-returns c = laws.answers_true

@@ -1,0 +1,4 @@
+pub mod Arrived
+pub mod Open
+pub mod Bounced
+pub mod Pools
