@@ -13,3 +13,4 @@ pub mod Merge
 pub mod FullQueue
 pub mod Cluster
 pub mod Allowed
+pub mod Valid
