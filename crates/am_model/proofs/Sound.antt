@@ -53,20 +53,20 @@ use Rattle.am_model.proofs.Sizes.{within_called, count_le, length_appended, wait
 
 -- lists whose elements all pass
 
-all_push : {X : Type 0} (p : X → Bool) (xs : List X) (x : X) → list_all p xs ≡ true → p x ≡ true → list_all p (xs ++ x ∷ []) ≡ true
+pub all_push : {X : Type 0} (p : X → Bool) (xs : List X) (x : X) → list_all p xs ≡ true → p x ≡ true → list_all p (xs ++ x ∷ []) ≡ true
 all_push p xs x all one = list_all-append p xs (x ∷ []) ∙ and_from (list_all p xs) (p x && true) all (and_from (p x) true one refl)
 
-all_dropped : {X : Type 0} (p : X → Bool) (xs : List X) → list_all p xs ≡ true → list_all p (drop 1 xs) ≡ true
+pub all_dropped : {X : Type 0} (p : X → Bool) (xs : List X) → list_all p xs ≡ true → list_all p (drop 1 xs) ≡ true
 all_dropped p [] all = refl
 all_dropped p (x ∷ xs) all = (and_parts (p x) (list_all p xs) all).1
 
-all_set : {X : Type 0} (p : X → Bool) (xs : List X) (i : ℕ) (x : X) → p x ≡ true → list_all p xs ≡ true → list_all p (slice_set xs i x) ≡ true
+pub all_set : {X : Type 0} (p : X → Bool) (xs : List X) (i : ℕ) (x : X) → p x ≡ true → list_all p xs ≡ true → list_all p (slice_set xs i x) ≡ true
 all_set p [] i x one all = refl
 all_set p (y ∷ xs) zero x one all = and_from (p x) (list_all p xs) one (and_parts (p y) (list_all p xs) all).1
 all_set p (y ∷ xs) (suc i) x one all =
     let parts = and_parts (p y) (list_all p xs) all in and_from (p y) (list_all p (slice_set xs i x)) parts.0 (all_set p xs i x one parts.1)
 
-all_without : {X : Type 0} (p t : X → Bool) (xs : List X) → list_all p xs ≡ true → list_all p (without_first t xs) ≡ true
+pub all_without : {X : Type 0} (p t : X → Bool) (xs : List X) → list_all p xs ≡ true → list_all p (without_first t xs) ≡ true
 all_without p t [] all = refl
 all_without p t (x ∷ xs) all = by_test p t x xs (t x) all (all_without p t xs (and_parts (p x) (list_all p xs) all).1)
   where
@@ -74,7 +74,7 @@ all_without p t (x ∷ xs) all = by_test p t x xs (t x) all (all_without p t xs 
     by_test p t x xs true all more = (and_parts (p x) (list_all p xs) all).1
     by_test p t x xs false all more = and_from (p x) (list_all p (without_first t xs)) (and_parts (p x) (list_all p xs) all).0 more
 
-all_found : {X : Type 0} (p t : X → Bool) (xs : List X) (x : X) → list_all p xs ≡ true → find t xs ≡ Some x → p x ≡ true
+pub all_found : {X : Type 0} (p t : X → Bool) (xs : List X) (x : X) → list_all p xs ≡ true → find t xs ≡ Some x → p x ≡ true
 all_found p t [] x all e = absurd (cc)
 all_found p t (y ∷ xs) x all e = by_test p t x y xs (t y) all e (all_found p t xs x (and_parts (p y) (list_all p xs) all).1)
   where
@@ -82,7 +82,7 @@ all_found p t (y ∷ xs) x all e = by_test p t x y xs (t y) all e (all_found p t
     by_test p t x y xs true all h more = let same : y ≡ x = cc in subst (λ w. p w ≡ true) same (and_parts (p y) (list_all p xs) all).0
     by_test p t x y xs false all h more = more h
 
-all_appended : (p : Queued → Bool) (b : Bool) (m : Message) (n : ℕ) (xs : List Queued) → (b ≡ true → p (record { message = m; bounces = n }) ≡ true) → list_all p xs ≡ true → list_all p (appended b m n xs) ≡ true
+pub all_appended : (p : Queued → Bool) (b : Bool) (m : Message) (n : ℕ) (xs : List Queued) → (b ≡ true → p (record { message = m; bounces = n }) ≡ true) → list_all p xs ≡ true → list_all p (appended b m n xs) ≡ true
 all_appended p true m n xs one all = all_push p xs (record { message = m; bounces = n }) all (one refl)
 all_appended p false m n xs one all = all
 
