@@ -88,7 +88,7 @@ all_appended p false m n xs one all = all
 
 -- calls
 
-answer_formed : (e : EndpointId) (s : State) (m : Message) (kind : Option HandlerKind) → is_well_formed (answer e s m kind) ≡ true
+pub answer_formed : (e : EndpointId) (s : State) (m : Message) (kind : Option HandlerKind) → is_well_formed (answer e s m kind) ≡ true
 answer_formed e s m (Some (Echo to)) = refl
 answer_formed e s m (Some (Add to)) = refl
 answer_formed e s m (Some Note) = refl

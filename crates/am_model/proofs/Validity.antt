@@ -154,6 +154,15 @@ records_same e pool a b mapped awaited accepted own =
       credits = fits_fewer pool a b mapped (λ j. omega (arith, ap (λ (xs : List Awaited). count_by (is_at j) xs) awaited)) own.credits;
     }
 
+-- one more message was accepted
+pub records_counted : (e : EndpointId) (pool : Option ℕ) (b : Body) → OwnRecords e pool b → OwnRecords e pool (record b { accepted = b.accepted + 1 })
+records_counted e pool b own =
+    record {
+      counts = rise_higher 0 b.accepted (b.accepted + 1) b.awaited (omega arith) own.counts;
+      records = own.records;
+      credits = fits_fewer pool (record b { accepted = b.accepted + 1 }) b refl (λ j. omega arith) own.credits;
+    }
+
 -- a record goes
 pub records_without : (e : EndpointId) (pool : Option ℕ) (t : Awaited → Bool) (b : Body) → OwnRecords e pool b → OwnRecords e pool (record b { awaited = without_first t b.awaited })
 records_without e pool t b own =
