@@ -44,12 +44,31 @@ use Rattle.am_model.specs.Endpoint.{State, Body, IsWithin, fresh, front, front_o
 use Rattle.am_model.specs.Calls.{outcome_of_call, answer, poll, poll_received, poll_requests, request_refusal, map_refusal, unless, new_request, request_message, sum_after}
 use Rattle.am_model.specs.Changes.{appended, kind_run, arrived, called, left, marked, put, queued, reached, with_arrived, with_marked, without_front, requests_left, noticed, bounces_of, not_awaited, flying_of, landed, requeued_flight, returned_flight, flight_appended, notice_of, received, expired, bound, carried, changed, after}
 use Rattle.am_model.specs.History.{are_credits_in_range, judged, settle_by}
-use Rattle.am_model.specs.Allowed.{EndsFlight, IsInOrder, IsSound, KeepsOrder, MayBind, MaySettle, MayDrain, MayUnload, MayLoad, MayPageOut, MayPageIn, given_up, MayArrive, MayCarry, is_well_formed, is_queued_request, is_queued_answer, is_flight_formed, is_mapping_in_range, are_numbers_in_range, arrived_message, arrival_verdict, is_carry_from}
+use Rattle.am_model.specs.Allowed.{EndsFlight, MayArrive, MayCarry, are_numbers_in_range, arrival_verdict, arrived_message, given_up, is_carry_from, is_well_formed}
+use Rattle.am_model.specs.Valid.{is_mapping_in_range}
 use Rattle.am_model.proofs.Counts.{call_counts_one}
 use Rattle.am_model.proofs.Names.{same_end-refl}
 use Rattle.am_model.proofs.Own.{Own, own_kept, is_call}
 use Rattle.am_model.proofs.Received.{bit, find_counts}
 use Rattle.am_model.proofs.Sizes.{within_called, count_le, length_appended, waiting_kept}
+
+abbrev pub is_queued_request : Queued → Bool
+is_queued_request q = is_request q.message && is_well_formed q.message
+
+abbrev pub is_queued_answer : Queued → Bool
+is_queued_answer q = is_answer q.message && is_well_formed q.message
+
+abbrev pub is_flight_formed : Flying → Bool
+is_flight_formed f = is_well_formed f.message
+
+-- what keeps the lists of a body within their bounds
+pub record IsSound (pool : Option ℕ) (b : Body) : Type 0 where
+  pub within : IsWithin b
+  pub indexes : length b.mapped ≡ 16
+  pub credits : list_all (is_mapping_in_range pool) b.mapped ≡ true
+  pub requests : list_all is_queued_request b.requests ≡ true
+  pub replies : list_all is_queued_answer b.replies ≡ true
+  pub in_flight : list_all is_flight_formed b.in_flight ≡ true
 
 -- lists whose elements all pass
 

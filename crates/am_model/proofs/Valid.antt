@@ -47,14 +47,14 @@ use Rattle.am_model.specs.Changes.{after, answer_ran, bound, bounces_of, called,
 use Rattle.am_model.specs.History.{is_kind_in_range, judged, settle_by}
 use Rattle.am_model.specs.Layout.{IsPoolLawful}
 use Rattle.am_model.specs.Allowed.{EndsFlight, MayArrive, MayCarry, MaySettle, are_numbers_in_range, arrival_verdict, arrived_message, given_up, is_carry_from, is_well_formed}
-use Rattle.am_model.specs.Valid.{FitsPool, IsValid, is_handler_in_range, is_own, is_own_flight, is_own_notice, is_received_here}
+use Rattle.am_model.specs.Valid.{FitsPool, is_handler_in_range, is_own, is_own_flight, is_own_notice, is_received_here}
 use Rattle.am_model.proofs.Matches.{AreMatched, matched_front, matched_more, matched_put, matched_ran, matched_waiting}
 use Rattle.am_model.proofs.Names.{same_end-refl}
 use Rattle.am_model.proofs.Records.{found_is}
 use Rattle.am_model.proofs.Sound.{all_dropped, all_found, all_push, all_set, all_without, answer_formed, verdict_accepts}
-use Rattle.am_model.proofs.Validity.{OwnFront, OwnMessages, OwnRecords, own_accepted, own_bounced, own_front, own_new, own_queued, records_arrived, records_counted, records_mapped, records_more, records_off, records_same, records_without}
+use Rattle.am_model.proofs.Validity.{OwnFront, OwnMessages, OwnRecords, own_accepted, own_bounced, own_formed, own_front, own_new, own_queued, records_arrived, records_counted, records_mapped, records_more, records_off, records_same, records_without}
 
--- the parts of a valid body
+-- the parts of a valid body, but for its table
 
 pub record HandlersKept (handlers : List (Option HandlerKind)) : Type 0 where
   pub slots : length handlers ≡ 16
@@ -67,34 +67,6 @@ pub record Parts (e : EndpointId) (pool : Option ℕ) (b : Body) : Type 0 where
   pub messages : OwnMessages e b
   pub received : list_all (is_received_here e) b.received ≡ true
   pub matched : AreMatched b.received b.awaited
-
-pub parts_of : (e : EndpointId) (pool : Option ℕ) (b : Body) → IsValid e pool b → Parts e pool b
-parts_of e pool b v =
-    record {
-      handlers = record { slots = v.handlers; zero_unset = v.handler_zero; kinds = v.kinds };
-      records = record { counts = v.counts; records = v.records; credits = v.credits };
-      messages = record { requests = v.requests; replies = v.replies; in_flight = v.in_flight; notices = v.notices };
-      received = v.received;
-      matched = record { each = v.each_answer; all = v.all_answers };
-    }
-
-pub valid_by : (e : EndpointId) (pool : Option ℕ) (b : Body) → Parts e pool b → IsValid e pool b
-valid_by e pool b p =
-    record {
-      handlers = p.handlers.slots;
-      handler_zero = p.handlers.zero_unset;
-      kinds = p.handlers.kinds;
-      counts = p.records.counts;
-      records = p.records.records;
-      credits = p.records.credits;
-      requests = p.messages.requests;
-      replies = p.messages.replies;
-      in_flight = p.messages.in_flight;
-      notices = p.messages.notices;
-      received = p.received;
-      each_answer = p.matched.each;
-      all_answers = p.matched.all;
-    }
 
 -- conditions that all fail
 
@@ -326,7 +298,8 @@ give_up_parts pool e s serial None p = waiting_parts pool e serial s.body p
 tested_parts : (pool : Option ℕ) (e : EndpointId) (s : State) (mask : Mask) (o : Outcome) → Parts e pool s.body → Parts e pool (called s (Calls.Test mask) o).body
 tested_parts pool e s mask o p = p
 
-called_parts : (pool : Option ℕ) (e : EndpointId) (s : State) (c : Call) → are_numbers_in_range pool c ≡ true → length s.body.mapped ≡ 16 → Parts e pool s.body → Parts e pool (called s c (outcome_of_call pool e s c)).body
+-- a call keeps the body valid
+pub called_parts : (pool : Option ℕ) (e : EndpointId) (s : State) (c : Call) → are_numbers_in_range pool c ≡ true → length s.body.mapped ≡ 16 → Parts e pool s.body → Parts e pool (called s c (outcome_of_call pool e s c)).body
 called_parts pool e s (Calls.Request index handler words) range slots p = request_parts pool e s index handler words (request_refusal pool s index) (entry_at s.body.mapped index) refl refl p
 called_parts pool e s Calls.Poll range slots p = poll_parts pool e s p s.body.notices
 called_parts pool e s (Calls.SetTag tag) range slots p = tag_parts pool e s tag (busy_refusal s) p
@@ -337,27 +310,15 @@ called_parts pool e s (Calls.GiveUp serial) range slots p = give_up_parts pool e
 called_parts pool e s Calls.Close range slots p = close_parts pool e s (busy_refusal s) p
 called_parts pool e s (Calls.Test mask) range slots p = tested_parts pool e s mask (outcome_of_call pool e s (Calls.Test mask)) p
 
--- a call keeps the body valid
-pub valid_called : (pool : Option ℕ) (e : EndpointId) (s : State) (c : Call) → are_numbers_in_range pool c ≡ true → length s.body.mapped ≡ 16 → IsValid e pool s.body → IsValid e pool (called s c (outcome_of_call pool e s c)).body
-valid_called pool e s c range slots v = valid_by e pool (called s c (outcome_of_call pool e s c)).body (called_parts pool e s c range slots (parts_of e pool s.body v))
-
 -- a fresh body is valid
-pub valid_fresh : (pool : Option ℕ) (e : EndpointId) (tag : Tag) (place : Place) → IsPoolLawful pool → IsValid e pool (fresh tag place).body
-valid_fresh pool e tag place lawful =
+pub fresh_parts : (pool : Option ℕ) (e : EndpointId) (tag : Tag) (place : Place) → IsPoolLawful pool → Parts e pool (fresh tag place).body
+fresh_parts pool e tag place lawful =
     record {
-      handlers = refl;
-      handler_zero = refl;
-      kinds = refl;
-      counts = refl;
-      records = refl;
-      credits = by_pool pool lawful;
-      requests = refl;
-      replies = refl;
-      in_flight = refl;
-      notices = refl;
+      handlers = record { slots = refl; zero_unset = refl; kinds = refl };
+      records = record { counts = refl; records = refl; credits = by_pool pool lawful };
+      messages = record { requests = refl; replies = refl; in_flight = refl; notices = refl };
       received = refl;
-      each_answer = λ r. refl;
-      all_answers = refl;
+      matched = record { each = λ r. refl; all = refl };
     }
   where
     by_pool : (pool : Option ℕ) → IsPoolLawful pool → FitsPool pool (fresh tag place).body
@@ -404,9 +365,8 @@ arrival_parts pool e s m (Events.Receive node peer number) (Out.Received channel
 arrival_parts pool e s m event o is judged here formed other p = absurd (cc)
 
 -- an arrival keeps the body valid
-pub valid_arrived : (pool : Option ℕ) (e : EndpointId) (s : State) (x : Entry) → MayArrive e s x → IsValid e pool s.body → IsValid e pool (after e s x).body
-valid_arrived pool e s x may v =
-    valid_by e pool (after e s x).body (arrival_parts pool e s may.message x.event x.outcome may.is_message may.judged may.here may.formed may.elsewhere (parts_of e pool s.body v))
+pub arrived_parts : (pool : Option ℕ) (e : EndpointId) (s : State) (x : Entry) → MayArrive e s x → Parts e pool s.body → Parts e pool (after e s x).body
+arrived_parts pool e s x may p = arrival_parts pool e s may.message x.event x.outcome may.is_message may.judged may.here may.formed may.elsewhere p
 
 -- the front message leaves
 
@@ -459,13 +419,7 @@ judged_parts : (pool : Option ℕ) (e : EndpointId) (s : State) (q : Queued) (li
 judged_parts pool e s q limit Verdicts.Accepted le is here p = by_end (same_end e q.message.dest) refl
   where
     formed_front : is_well_formed q.message ≡ true
-    formed_front =
-        let b = s.body in
-        let own = (own_front e b q is p.messages).front in
-        let one = and_parts (same_end e q.message.serial.source) (nat_le 1 q.message.serial.count && (nat_le q.message.serial.count b.accepted && (is_well_formed q.message && nat_le q.bounces 16))) own in
-        let two = and_parts (nat_le 1 q.message.serial.count) (nat_le q.message.serial.count b.accepted && (is_well_formed q.message && nat_le q.bounces 16)) one.1 in
-        let three = and_parts (nat_le q.message.serial.count b.accepted) (is_well_formed q.message && nat_le q.bounces 16) two.1 in
-        (and_parts (is_well_formed q.message) (nat_le q.bounces 16) three.1).0
+    formed_front = own_formed e s.body.accepted q.message q.bounces (own_front e s.body q is p.messages).front
 
     by_end : (b : Bool) → same_end e q.message.dest ≡ b → Parts e pool (if b then put q.message (left s (Out.Accepted q.message)) else left s (Out.Accepted q.message)).body
     by_end true same = put_parts pool e q.message (left s (Out.Accepted q.message)) (sym (here same)) same formed_front (gone_parts pool e s.body q is p)
@@ -486,12 +440,12 @@ judged_parts pool e s q limit (Verdicts.Refused cause) le is here p = by_again (
         gone
 
 -- a carry from here keeps the body valid
-pub valid_carried : (pool : Option ℕ) (limit : ℕ) (e : EndpointId) (s : State) (x : Entry) → limit ≤ 16 → MayCarry limit e s x → IsValid e pool s.body → IsValid e pool (after e s x).body
-valid_carried pool limit e s x le may v =
-    rw (may.event, may.outcome, same_end-refl e)
-    (valid_by e pool (reached e (left s (judged limit may.queued.message may.queued.bounces may.verdict_there)) (judged limit may.queued.message may.queued.bounces may.verdict_there)).body (judged_parts pool e s may.queued limit may.verdict_there le may.is_front may.here (parts_of e pool s.body v)))
+pub carried_parts : (pool : Option ℕ) (limit : ℕ) (e : EndpointId) (s : State) (x : Entry) → limit ≤ 16 → MayCarry limit e s x → Parts e pool s.body → Parts e pool (after e s x).body
+carried_parts pool limit e s x le may p =
+    rw (may.event, may.outcome, same_end-refl e) (judged_parts pool e s may.queued limit may.verdict_there le may.is_front may.here p)
 
-bound_parts : (pool : Option ℕ) (e : EndpointId) (s : State) (q : Queued) (peer : NodeId) (channel seq attempt number : ℕ) → front s ≡ Some q → Parts e pool s.body → Parts e pool (bound s (Out.Sent q.message peer channel seq attempt number)).body
+-- a bind keeps the body valid
+pub bound_parts : (pool : Option ℕ) (e : EndpointId) (s : State) (q : Queued) (peer : NodeId) (channel seq attempt number : ℕ) → front s ≡ Some q → Parts e pool s.body → Parts e pool (bound s (Out.Sent q.message peer channel seq attempt number)).body
 bound_parts pool e s q peer channel seq attempt number is p =
     let b = s.body in
     let own = own_front e b q is p.messages in
@@ -509,11 +463,6 @@ bound_parts pool e s q peer channel seq attempt number is p =
       received = p.received;
       matched = p.matched;
     }
-
--- a bind keeps the body valid
-pub valid_bound : (pool : Option ℕ) (e : EndpointId) (s : State) (q : Queued) (peer : NodeId) (channel seq attempt number : ℕ) → front s ≡ Some q → IsValid e pool s.body → IsValid e pool (bound s (Out.Sent q.message peer channel seq attempt number)).body
-valid_bound pool e s q peer channel seq attempt number is v =
-    valid_by e pool (bound s (Out.Sent q.message peer channel seq attempt number)).body (bound_parts pool e s q peer channel seq attempt number is (parts_of e pool s.body v))
 
 -- flights end
 
@@ -591,13 +540,9 @@ given_up_parts pool e s f p = by_test f.answered
     by_test true = landed_parts pool e f.message.serial s.body p
     by_test false = returned_parts pool e f.message.serial Whys.Unknown s.body (flying_of f.message.serial s.body.in_flight) refl p
 
-flight_parts : (pool : Option ℕ) (limit : ℕ) (e : EndpointId) (s : State) (f : Flying) (event : Event) (o : Outcome) → limit ≤ 16 → flying_of f.message.serial s.body.in_flight ≡ Some f → EndsFlight limit f event o → Parts e pool s.body → Parts e pool (changed e s event o).body
+-- what ends a flight keeps the body valid
+pub flight_parts : (pool : Option ℕ) (limit : ℕ) (e : EndpointId) (s : State) (f : Flying) (event : Event) (o : Outcome) → limit ≤ 16 → flying_of f.message.serial s.body.in_flight ≡ Some f → EndsFlight limit f event o → Parts e pool s.body → Parts e pool (changed e s event o).body
 flight_parts pool limit e s f (Events.Receive node peer number) (Out.Received channel seq attempt result) le is ends p =
     subst (λ (r : Received). Parts e pool (received e s r).body) (sym ends.1) (settled_parts pool limit e s f ends.0 le is p)
 flight_parts pool limit e s f (Events.Expire node peer channel) o le is ends p = subst (λ (w : Outcome). Parts e pool (expired s w).body) (sym ends) (given_up_parts pool e s f p)
 flight_parts pool limit e s f event o le is ends p = absurd ends
-
--- what ends a flight keeps the body valid
-pub valid_settled : (pool : Option ℕ) (limit : ℕ) (e : EndpointId) (s : State) (x : Entry) → limit ≤ 16 → MaySettle limit e s x → IsValid e pool s.body → IsValid e pool (after e s x).body
-valid_settled pool limit e s x le may v =
-    valid_by e pool (after e s x).body (flight_parts pool limit e s may.flight x.event x.outcome le may.in_flight may.ends (parts_of e pool s.body v))

@@ -60,6 +60,14 @@ own_bounced e n m k j le h =
     (and_from (nat_le 1 m.serial.count) (nat_le m.serial.count n && (is_well_formed m && nat_le j 16)) two.0
     (and_from (nat_le m.serial.count n) (is_well_formed m && nat_le j 16) three.0 (and_from (is_well_formed m) (nat_le j 16) four.0 (le-leb j 16 le))))
 
+-- a message of its own has the form of its kind
+pub own_formed : (e : EndpointId) (n : ℕ) (m : Message) (k : ℕ) → is_own e n m k ≡ true → is_well_formed m ≡ true
+own_formed e n m k h =
+    let one = and_parts (same_end e m.serial.source) (nat_le 1 m.serial.count && (nat_le m.serial.count n && (is_well_formed m && nat_le k 16))) h in
+    let two = and_parts (nat_le 1 m.serial.count) (nat_le m.serial.count n && (is_well_formed m && nat_le k 16)) one.1 in
+    let three = and_parts (nat_le m.serial.count n) (is_well_formed m && nat_le k 16) two.1 in
+    (and_parts (is_well_formed m) (nat_le k 16) three.1).0
+
 pub own_new : (e : EndpointId) (n : ℕ) (m : Message) → same_end e m.serial.source ≡ true → m.serial.count ≡ n + 1 → is_well_formed m ≡ true → is_own e (n + 1) m 0 ≡ true
 own_new e n m mine is formed =
     and_from (same_end e m.serial.source) (nat_le 1 m.serial.count && (nat_le m.serial.count (n + 1) && (is_well_formed m && nat_le 0 16))) mine

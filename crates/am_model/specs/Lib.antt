@@ -14,3 +14,4 @@ pub mod FullQueue
 pub mod Cluster
 pub mod Allowed
 pub mod Valid
+pub mod Order

@@ -13,8 +13,13 @@ use Rattle.am_model.specs.declared.Notice.{Notice}
 use Rattle.am_model.specs.declared.Queued.{Queued}
 use Rattle.am_model.specs.Endpoint.{Body, entry_at, is_arrived}
 use Rattle.am_model.specs.Calls.{excess, shares}
-use Rattle.am_model.specs.History.{is_kind_in_range}
+use Rattle.am_model.specs.History.{are_credits_in_range, is_kind_in_range}
 use Rattle.am_model.specs.Allowed.{is_well_formed}
+
+-- whether the credits of an index are in range, where it is mapped
+abbrev pub is_mapping_in_range : Option ℕ → Option Mapping → Bool
+is_mapping_in_range pool None = true
+is_mapping_in_range pool (Some mapping) = are_credits_in_range pool mapping.credits
 
 -- whether a handler's numbers are in range, where it is set
 abbrev pub is_handler_in_range : Option HandlerKind → Bool
@@ -69,6 +74,8 @@ has_arrived request a = same_serial request a.serial && a.arrived
 
 -- the body is one that the endpoint e may have, but for its bounds
 pub record IsValid (e : EndpointId) (pool : Option ℕ) (b : Body) : Type 0 where
+  pub indexes : length b.mapped ≡ 16
+  pub mappings : list_all (is_mapping_in_range pool) b.mapped ≡ true
   pub handlers : length b.handlers ≡ 16
   pub handler_zero : entry_at b.handlers 0 ≡ None
   pub kinds : list_all is_handler_in_range b.handlers ≡ true
