@@ -4,12 +4,14 @@ use Rattle.std.specs.Prelude.{ℕ, ◌*◌, ◌≤◌, Option, Some, None, nat_l
 use Rattle.std.specs.List.{count_by, list_all}
 use Rattle.std.proofs.lemmas.Bool.{and_parts}
 use Rattle.std.proofs.lemmas.List.Sums.{sum_by-cons, count_by-le-length}
+use Rattle.am_names.specs.declared.EndpointId.{EndpointId}
 use Rattle.am_names.specs.declared.Message.{Message}
 use Rattle.am_model.specs.declared.Flying.{Flying}
 use Rattle.am_model.specs.declared.Notice.{Notice}
 use Rattle.am_names.specs.Names.{is_request, is_answer}
-use Rattle.am_model.specs.Endpoint.{Body, is_arrived}
-use Rattle.am_model.specs.Allowed.{IsSound, is_mapping_in_range}
+use Rattle.am_model.specs.Endpoint.{State, is_arrived}
+use Rattle.am_model.specs.Order.{IsInOrder}
+use Rattle.am_model.specs.Valid.{is_mapping_in_range}
 use Rattle.am_model.specs.Calls.{share_of}
 use Rattle.am_model.specs.declared.Mapping.{Mapping}
 use Rattle.am_endpoint.specs.Seen.{IsSmall}
@@ -35,12 +37,13 @@ shares_le pool (x ∷ xs) h =
     let parts = and_parts (is_mapping_in_range pool x) (list_all (is_mapping_in_range pool) xs) h in
     omega (arith, share_le pool x parts.0, shares_le pool xs parts.1, sum_by-cons share_of x xs)
 
-pub small_sound : (pool : Option ℕ) (b : Body) → IsSound pool b → IsSmall b
-small_sound pool b sound =
-    let w = sound.within in
+pub small_in_order : (pool : Option ℕ) (e : EndpointId) (s : State) → IsInOrder pool e s → IsSmall s.body
+small_in_order pool e s order =
+    let b = s.body in
+    let w = order.within in
     record {
       held = omega (arith, w.requests, w.replies, both_kinds (λ (f : Flying). f.message) b.in_flight, both_kinds (λ (n : Notice). n.message) b.notices);
       received = omega (arith, w.received, w.answers, w.awaited, both_kinds (λ (m : Message). m) b.received, count_by-le-length is_arrived b.awaited);
       awaited = w.awaited;
-      shares = omega (arith, shares_le pool b.mapped sound.credits, sound.indexes);
+      shares = omega (arith, shares_le pool b.mapped order.valid.mappings, order.valid.indexes);
     }

@@ -1,6 +1,6 @@
 -- What an endpoint keeps: the replay of its log is its state.
 use Rattle.std.specs.Prelude.{◌≡◌, ◌≤◌, ◌&&◌, Bool, length, nat_lt, vec_len, vec_capacity}
-use Rattle.am_model.specs.Allowed.{IsInOrder}
+use Rattle.am_model.specs.Order.{IsInOrder}
 use Rattle.am_endpoint.specs.Settings.{AreLawful}
 use Rattle.am_endpoint.specs.Seen.{state_in, has_room}
 use Rattle.am_endpoint.specs.View.{EndpointView, state_by}
@@ -15,7 +15,7 @@ view_of e = record { settings = e.settings; log = e.log.items; ready = is_ready 
 
 pub record IsReplay (e : Inside) : Type 0 where
   pub replayed : state_by e.settings e.log.items ≡ state_in e.fields
-  pub order : IsInOrder e.settings.pool (state_in e.fields)
+  pub order : IsInOrder e.settings.pool e.settings.id (state_in e.fields)
   pub counted : e.fields.accepted ≤ length e.log.items
   pub bounded : length e.log.items ≤ e.settings.log
   pub lawful : AreLawful e.settings

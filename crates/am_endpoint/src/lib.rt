@@ -3,11 +3,12 @@
 
 ghost use Rattle.am_endpoint.specs.Settings.{AreLawful};
 ghost use Rattle.am_endpoint.specs.View.{EndpointView, last_stamp, state_after};
-ghost use Rattle.am_model.specs.Allowed.{KeepsOrder, MayArrive, MayBind, MayCarry, MayDrain, MayLoad, MayPageIn, MayPageOut, MaySettle, MayUnload, are_numbers_in_range, is_well_formed};
+ghost use Rattle.am_model.specs.Allowed.{MayArrive, MayBind, MayCarry, MayDrain, MayLoad, MayPageIn, MayPageOut, MaySettle, MayUnload, are_numbers_in_range, is_well_formed};
 ghost use Rattle.am_model.specs.Calls.{outcome_of_call};
 ghost use Rattle.am_model.specs.Changes.{flying_of, has_arrivals};
 ghost use Rattle.am_model.specs.History.{judged};
 ghost use Rattle.am_model.specs.Endpoint.{front, is_on_disk, verdict};
+ghost use Rattle.am_model.specs.Order.{KeepsOrder};
 ghost use Rattle.am_names.specs.Names.{is_request};
 ghost use Rattle.std.specs.Prelude.{◌≡◌, ◌+◌, ◌<◌, ◌≤◌, ◌^◌, [], ◌∷◌, ◌++◌, length, count_by, IfOk, OnErr, OnOk, IfSome, Err, is_some, max, true, false, ◌↔◌};
 
@@ -220,7 +221,7 @@ impl Endpoint {
     fn enter(&mut self, entry: Entry)
         requires ready { self.old.ready ≡ true }
         requires room { length self.old.log < self.old.settings.log }
-        requires keeps { KeepsOrder self.old.settings.pool self.old.settings.id (state_after self.old) entry }
+        requires keeps { KeepsOrder self.old.settings.bounces self.old.settings.pool self.old.settings.id (state_after self.old) entry }
         ensures settings { self.new.settings ≡ self.old.settings }
         ensures log { self.new.log ≡ self.old.log ++ entry ∷ [] }
     {

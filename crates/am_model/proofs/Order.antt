@@ -1,7 +1,8 @@
 -- An endpoint stays in order.
 use Rattle.std.specs.Prelude.{nat_lt, ◌||◌}
-use Rattle.std.proofs.Common.{◌≡◌, ℕ, ◌+◌, Bool, true, false, ◌&&◌, List, [], ◌∷◌, ◌++◌, length, Option, Some, None, ◌⊎◌, refl, sym, ap, ◌∙◌, subst, true≢false, if◌then◌else◌}
-use Rattle.am_names.specs.Names.{same_end}
+use Rattle.std.proofs.lemmas.Bool.{and_parts, and_from}
+use Rattle.std.proofs.Common.{◌≡◌, ℕ, ◌+◌, ◌≤◌, Bool, true, false, ◌&&◌, List, [], ◌∷◌, ◌++◌, length, Option, Some, None, ◌⊎◌, refl, sym, ap, ◌∙◌, subst, true≢false, if◌then◌else◌}
+use Rattle.am_names.specs.Names.{is_answer, is_request, same_end}
 use Rattle.am_names.specs.Rules.{is_transient}
 use Rattle.am_names.specs.declared.Cause.TheVariants as Causes
 use Rattle.am_names.specs.declared.EndpointId.{EndpointId}
@@ -21,26 +22,86 @@ use Rattle.am_office.specs.declared.Received.{Received}
 use Rattle.am_office.specs.declared.Received.TheVariants as Got
 use Rattle.am_office.specs.declared.Entry.{Entry}
 use Rattle.am_model.specs.declared.Flying.{Flying}
-use Rattle.am_model.specs.Endpoint.{State, fresh, is_on_disk, is_on_host, is_resident}
+use Rattle.am_model.specs.declared.Queued.{Queued}
+use Rattle.am_model.specs.Endpoint.{State, fresh, front, is_on_disk, is_on_host, is_resident}
 use Rattle.am_model.specs.Calls.{outcome_of_call}
 use Rattle.am_model.specs.Changes.{after, bound, called, carried, changed, expired, left, paged_in, paged_out, put, reached, received, with_marked}
-use Rattle.am_model.specs.Allowed.{EndsFlight, IsInOrder, IsSound, KeepsOrder, MayArrive, MayBind, MayCarry, MayDrain, MayLoad, MayPageIn, MayPageOut, MaySettle, MayUnload, are_numbers_in_range, arrived_message, is_carry_from}
-use Rattle.am_model.proofs.Sound.{flight_sound, sound_arrived, sound_bound, sound_called, sound_carried, sound_fresh}
+use Rattle.am_model.specs.Allowed.{EndsFlight, MayArrive, MayBind, MayCarry, MayDrain, MayLoad, MayPageIn, MayPageOut, MaySettle, MayUnload, are_numbers_in_range, arrived_message, is_carry_from, is_well_formed}
+use Rattle.am_model.specs.Layout.{IsPoolLawful}
+use Rattle.am_model.specs.Order.{IsInOrder, KeepsOrder}
+use Rattle.am_model.specs.Valid.{IsValid, is_own, is_own_answer, is_own_flight, is_own_request}
+use Rattle.am_model.proofs.Valid.{Parts, arrived_parts, bound_parts, called_parts, carried_parts, flight_parts, fresh_parts}
+use Rattle.am_model.proofs.Validity.{all_weaker, own_formed, own_front}
+use Rattle.am_model.proofs.Sound.{IsSound, is_flight_formed, is_queued_answer, is_queued_request, flight_sound, sound_arrived, sound_bound, sound_called, sound_carried, sound_fresh}
 
 -- a change where the endpoint stays put and nothing takes off
 pub record StaysPut (s t : State) : Type 0 where
   pub place : t.head.place ≡ s.head.place
   pub flights : s.body.in_flight ≡ [] → t.body.in_flight ≡ []
 
-order_put : (pool : Option ℕ) (s t : State) → StaysPut s t → IsSound pool t.body → IsInOrder pool s → IsInOrder pool t
-order_put pool s t stays sound order =
+-- what an endpoint in order has in parts
+sound_of : (pool : Option ℕ) (e : EndpointId) (s : State) → IsInOrder pool e s → IsSound pool s.body
+sound_of pool e s order =
+    let b = s.body in
+    let v = order.valid in
     record {
-      body = sound;
-      grounded = λ there. stays.flights (order.grounded (sym (ap is_resident stays.place) ∙ there));
+      within = order.within;
+      indexes = v.indexes;
+      credits = v.mappings;
+      requests =
+          all_weaker (is_own_request e b.accepted) is_queued_request b.requests
+          (λ (q : Queued) h.
+           let parts = and_parts (is_request q.message) (is_own e b.accepted q.message q.bounces) h in
+           and_from (is_request q.message) (is_well_formed q.message) parts.0 (own_formed e b.accepted q.message q.bounces parts.1))
+          v.requests;
+      replies =
+          all_weaker (is_own_answer e b.accepted) is_queued_answer b.replies
+          (λ (q : Queued) h.
+           let parts = and_parts (is_answer q.message) (is_own e b.accepted q.message q.bounces) h in
+           and_from (is_answer q.message) (is_well_formed q.message) parts.0 (own_formed e b.accepted q.message q.bounces parts.1))
+          v.replies;
+      in_flight = all_weaker (is_own_flight e b.accepted) is_flight_formed b.in_flight (λ (f : Flying) h. own_formed e b.accepted f.message f.bounces h) v.in_flight;
     }
 
-put_as : (s t : State) → t.head.place ≡ s.head.place → t.body.in_flight ≡ s.body.in_flight → StaysPut s t
-put_as s t place flights = record { place = place; flights = λ none. flights ∙ none }
+parts_of : (pool : Option ℕ) (e : EndpointId) (s : State) → IsInOrder pool e s → Parts e pool s.body
+parts_of pool e s order =
+    let v = order.valid in
+    record {
+      handlers = record { slots = v.handlers; zero_unset = v.handler_zero; kinds = v.kinds };
+      records = record { counts = v.counts; records = v.records; credits = v.credits };
+      messages = record { requests = v.requests; replies = v.replies; in_flight = v.in_flight; notices = v.notices };
+      received = v.received;
+      matched = record { each = v.each_answer; all = v.all_answers };
+    }
+
+in_order : (pool : Option ℕ) (e : EndpointId) (s : State) → IsSound pool s.body → Parts e pool s.body → (is_resident s.head.place ≡ false → s.body.in_flight ≡ []) → IsInOrder pool e s
+in_order pool e s sound p grounded =
+    record {
+      within = sound.within;
+      valid =
+          record {
+            indexes = sound.indexes;
+            mappings = sound.credits;
+            handlers = p.handlers.slots;
+            handler_zero = p.handlers.zero_unset;
+            kinds = p.handlers.kinds;
+            counts = p.records.counts;
+            records = p.records.records;
+            credits = p.records.credits;
+            requests = p.messages.requests;
+            replies = p.messages.replies;
+            in_flight = p.messages.in_flight;
+            notices = p.messages.notices;
+            received = p.received;
+            each_answer = p.matched.each;
+            all_answers = p.matched.all;
+          };
+      grounded = grounded;
+    }
+
+order_put : (pool : Option ℕ) (e : EndpointId) (s t : State) → StaysPut s t → IsSound pool t.body → Parts e pool t.body → IsInOrder pool e s → IsInOrder pool e t
+order_put pool e s t stays sound p order =
+    in_order pool e t sound p (λ there. stays.flights (order.grounded (sym (ap is_resident stays.place) ∙ there)))
 
 called_put : (s : State) (c : Call) (o : Outcome) → StaysPut s (called s c o)
 called_put s (Calls.Request index handler words) (Out.Requested m) = record { place = refl; flights = λ none. none }
@@ -110,49 +171,48 @@ arrives_put e s m (Events.Receive node peer number) (Out.Received channel seq at
 arrives_put e s m event o is = absurd (cc)
 
 -- a fresh endpoint is in order
-pub order_fresh : (pool : Option ℕ) (tag : Tag) (place : Place) → IsInOrder pool (fresh tag place)
-order_fresh pool tag place = record { body = sound_fresh pool tag place; grounded = λ there. refl }
+pub order_fresh : (pool : Option ℕ) (e : EndpointId) (tag : Tag) (place : Place) → IsPoolLawful pool → IsInOrder pool e (fresh tag place)
+order_fresh pool e tag place lawful = in_order pool e (fresh tag place) (sound_fresh pool tag place) (fresh_parts pool e tag place lawful) (λ there. refl)
 
-pub order_called : (pool : Option ℕ) (e : EndpointId) (s : State) (c : Call) → are_numbers_in_range pool c ≡ true → IsInOrder pool s → IsInOrder pool (called s c (outcome_of_call pool e s c))
-order_called pool e s c range order = order_put pool s (called s c (outcome_of_call pool e s c)) (called_put s c (outcome_of_call pool e s c)) (sound_called pool e s c range order.body) order
+pub order_called : (pool : Option ℕ) (e : EndpointId) (s : State) (c : Call) → are_numbers_in_range pool c ≡ true → IsInOrder pool e s → IsInOrder pool e (called s c (outcome_of_call pool e s c))
+order_called pool e s c range order =
+    order_put pool e s (called s c (outcome_of_call pool e s c)) (called_put s c (outcome_of_call pool e s c)) (sound_called pool e s c range (sound_of pool e s order)) (called_parts pool e s c range order.valid.indexes (parts_of pool e s order)) order
 
-pub order_arrived : (pool : Option ℕ) (e : EndpointId) (s : State) (x : Entry) → MayArrive e s x → KeepsOrder pool e s x
-order_arrived pool e s x may order = order_put pool s (after e s x) (arrives_put e s may.message x.event x.outcome may.is_message) (sound_arrived pool e s x may order.body) order
+pub order_arrived : (limit : ℕ) (pool : Option ℕ) (e : EndpointId) (s : State) (x : Entry) → MayArrive e s x → KeepsOrder limit pool e s x
+order_arrived limit pool e s x may le order =
+    order_put pool e s (after e s x) (arrives_put e s may.message x.event x.outcome may.is_message) (sound_arrived pool e s x may (sound_of pool e s order)) (arrived_parts pool e s x may (parts_of pool e s order)) order
 
-pub order_carried : (pool : Option ℕ) (limit : ℕ) (e : EndpointId) (s : State) (x : Entry) → MayCarry limit e s x → KeepsOrder pool e s x
-order_carried pool limit e s x may order =
-    order_put pool s (after e s x) (subst (λ (event : Event). StaysPut s (changed e s event x.outcome)) (sym may.event) (carried_put e e s x.outcome)) (sound_carried pool limit e s x may order.body) order
+pub order_carried : (limit : ℕ) (pool : Option ℕ) (e : EndpointId) (s : State) (x : Entry) → MayCarry limit e s x → KeepsOrder limit pool e s x
+order_carried limit pool e s x may le order =
+    order_put pool e s (after e s x) (subst (λ (event : Event). StaysPut s (changed e s event x.outcome)) (sym may.event) (carried_put e e s x.outcome)) (sound_carried pool limit e s x may (sound_of pool e s order)) (carried_parts pool limit e s x le may (parts_of pool e s order)) order
 
-pub order_settled : (pool : Option ℕ) (limit : ℕ) (e : EndpointId) (s : State) (x : Entry) → MaySettle limit e s x → KeepsOrder pool e s x
-order_settled pool limit e s x may order =
-    order_put pool s (after e s x) (ends_put limit e s may.flight x.event x.outcome may.ends) (flight_sound pool limit e s may.flight x.event x.outcome may.ends order.body) order
+pub order_settled : (limit : ℕ) (pool : Option ℕ) (e : EndpointId) (s : State) (x : Entry) → MaySettle limit e s x → KeepsOrder limit pool e s x
+order_settled limit pool e s x may le order =
+    order_put pool e s (after e s x) (ends_put limit e s may.flight x.event x.outcome may.ends) (flight_sound pool limit e s may.flight x.event x.outcome may.ends (sound_of pool e s order)) (flight_parts pool limit e s may.flight x.event x.outcome le may.in_flight may.ends (parts_of pool e s order)) order
 
 resident_only : (b : Bool) → b ≡ true → b ≡ false → ⊥
 resident_only b is not_so = true≢false (sym is ∙ not_so)
 
-pub order_bound : (pool : Option ℕ) (node : NodeId) (e : EndpointId) (s : State) (x : Entry) → MayBind node e s x → KeepsOrder pool e s x
-order_bound pool node e s x may order =
+pub order_bound : (limit : ℕ) (pool : Option ℕ) (node : NodeId) (e : EndpointId) (s : State) (x : Entry) → MayBind node e s x → KeepsOrder limit pool e s x
+order_bound limit pool node e s x may le order =
     rw (may.event, may.outcome)
-    (record {
-      body = sound_bound pool s may.queued may.peer may.channel may.seq 0 may.number may.is_front order.body;
-      grounded = λ there. absurd (resident_only (is_resident s.head.place) may.resident there);
-    })
+    (in_order pool e (bound s (Out.Sent may.queued.message may.peer may.channel may.seq 0 may.number)) (sound_bound pool s may.queued may.peer may.channel may.seq 0 may.number may.is_front (sound_of pool e s order)) (bound_parts pool e s may.queued may.peer may.channel may.seq 0 may.number may.is_front (parts_of pool e s order)) (λ there. absurd (resident_only (is_resident s.head.place) may.resident there)))
 
-pub order_wanted : (pool : Option ℕ) (s : State) → IsInOrder pool s → IsInOrder pool (record s { head = record s.head { wanted = true } })
-order_wanted pool s order = record { body = order.body; grounded = order.grounded }
+pub order_wanted : (pool : Option ℕ) (e : EndpointId) (s : State) → IsInOrder pool e s → IsInOrder pool e (record s { head = record s.head { wanted = true } })
+order_wanted pool e s order = record { within = order.within; valid = order.valid; grounded = order.grounded }
 
-pub order_drained : (pool : Option ℕ) (node : NodeId) (e : EndpointId) (s : State) (x : Entry) → MayDrain node e s x → KeepsOrder pool e s x
-order_drained pool node e s x may order = rw may.event (record { body = order.body; grounded = order.grounded })
+pub order_drained : (limit : ℕ) (pool : Option ℕ) (node : NodeId) (e : EndpointId) (s : State) (x : Entry) → MayDrain node e s x → KeepsOrder limit pool e s x
+order_drained limit pool node e s x may le order = rw may.event (record { within = order.within; valid = order.valid; grounded = order.grounded })
 
 empty_list : {X : Type 0} (xs : List X) → length xs ≡ 0 → xs ≡ []
 empty_list [] is = refl
 empty_list (x ∷ xs) is = absurd (cc)
 
-pub order_unloaded : (pool : Option ℕ) (node : NodeId) (e : EndpointId) (s : State) (x : Entry) → MayUnload node e s x → KeepsOrder pool e s x
-order_unloaded pool node e s x may order = rw may.event (record { body = order.body; grounded = λ there. empty_list s.body.in_flight may.landed })
+pub order_unloaded : (limit : ℕ) (pool : Option ℕ) (node : NodeId) (e : EndpointId) (s : State) (x : Entry) → MayUnload node e s x → KeepsOrder limit pool e s x
+order_unloaded limit pool node e s x may le order = rw may.event (record { within = order.within; valid = order.valid; grounded = λ there. empty_list s.body.in_flight may.landed })
 
-pub order_loaded : (pool : Option ℕ) (node : NodeId) (e : EndpointId) (s : State) (x : Entry) → MayLoad node e s x → KeepsOrder pool e s x
-order_loaded pool node e s x may order = rw may.event (record { body = order.body; grounded = λ there. absurd (resident_only true refl there) })
+pub order_loaded : (limit : ℕ) (pool : Option ℕ) (node : NodeId) (e : EndpointId) (s : State) (x : Entry) → MayLoad node e s x → KeepsOrder limit pool e s x
+order_loaded limit pool node e s x may le order = rw may.event (record { within = order.within; valid = order.valid; grounded = λ there. absurd (resident_only true refl there) })
 
 host_grounded : (place : Place) → is_on_host place ≡ true → is_resident place ≡ false
 host_grounded Host is = refl
@@ -166,16 +226,20 @@ disk_grounded Disk is = refl
 disk_grounded (Frame frame) is = absurd (cc)
 disk_grounded Direct is = absurd (cc)
 
-pub order_paged_out : (pool : Option ℕ) (node : NodeId) (e : EndpointId) (s : State) (x : Entry) → MayPageOut node e s x → KeepsOrder pool e s x
-order_paged_out pool node e s x may order = rw may.event (by_outcome x.outcome may.outcome)
+pub order_paged_out : (limit : ℕ) (pool : Option ℕ) (node : NodeId) (e : EndpointId) (s : State) (x : Entry) → MayPageOut node e s x → KeepsOrder limit pool e s x
+order_paged_out limit pool node e s x may le order = rw may.event (by_outcome x.outcome may.outcome)
   where
-    by_outcome : (o : Outcome) → (o ≡ Out.Done) ⊎ (o ≡ Out.Failed) → IsInOrder pool (paged_out s o)
-    by_outcome Out.Done either = record { body = order.body; grounded = λ there. order.grounded (host_grounded s.head.place may.on_host) }
+    by_outcome : (o : Outcome) → (o ≡ Out.Done) ⊎ (o ≡ Out.Failed) → IsInOrder pool e (paged_out s o)
+    by_outcome Out.Done either = record { within = order.within; valid = order.valid; grounded = λ there. order.grounded (host_grounded s.head.place may.on_host) }
     by_outcome o either = order
 
-pub order_paged_in : (pool : Option ℕ) (outcome : Outcome) (node : NodeId) (e : EndpointId) (s : State) (x : Entry) → MayPageIn outcome node e s x → KeepsOrder pool e s x
-order_paged_in pool outcome node e s x may order = rw may.event (by_outcome x.outcome)
+pub order_paged_in : (limit : ℕ) (pool : Option ℕ) (outcome : Outcome) (node : NodeId) (e : EndpointId) (s : State) (x : Entry) → MayPageIn outcome node e s x → KeepsOrder limit pool e s x
+order_paged_in limit pool outcome node e s x may le order = rw may.event (by_outcome x.outcome)
   where
-    by_outcome : (o : Outcome) → IsInOrder pool (paged_in s o)
-    by_outcome Out.Done = record { body = order.body; grounded = λ there. order.grounded (disk_grounded s.head.place may.on_disk) }
+    by_outcome : (o : Outcome) → IsInOrder pool e (paged_in s o)
+    by_outcome Out.Done = record { within = order.within; valid = order.valid; grounded = λ there. order.grounded (disk_grounded s.head.place may.on_disk) }
     by_outcome o = order
+
+-- the front message has the form of its kind
+pub front_formed : (pool : Option ℕ) (e : EndpointId) (s : State) (q : Queued) → IsInOrder pool e s → front s ≡ Some q → is_well_formed q.message ≡ true
+front_formed pool e s q order is = own_formed e s.body.accepted q.message q.bounces (own_front e s.body q is (parts_of pool e s order).messages).front

@@ -44,29 +44,48 @@ use Rattle.am_model.specs.Endpoint.{State, Body, IsWithin, fresh, front, front_o
 use Rattle.am_model.specs.Calls.{outcome_of_call, answer, poll, poll_received, poll_requests, request_refusal, map_refusal, unless, new_request, request_message, sum_after}
 use Rattle.am_model.specs.Changes.{appended, kind_run, arrived, called, left, marked, put, queued, reached, with_arrived, with_marked, without_front, requests_left, noticed, bounces_of, not_awaited, flying_of, landed, requeued_flight, returned_flight, flight_appended, notice_of, received, expired, bound, carried, changed, after}
 use Rattle.am_model.specs.History.{are_credits_in_range, judged, settle_by}
-use Rattle.am_model.specs.Allowed.{EndsFlight, IsInOrder, IsSound, KeepsOrder, MayBind, MaySettle, MayDrain, MayUnload, MayLoad, MayPageOut, MayPageIn, given_up, MayArrive, MayCarry, is_well_formed, is_queued_request, is_queued_answer, is_flight_formed, is_mapping_in_range, are_numbers_in_range, arrived_message, arrival_verdict, is_carry_from}
+use Rattle.am_model.specs.Allowed.{EndsFlight, MayArrive, MayCarry, are_numbers_in_range, arrival_verdict, arrived_message, given_up, is_carry_from, is_well_formed}
+use Rattle.am_model.specs.Valid.{is_mapping_in_range}
 use Rattle.am_model.proofs.Counts.{call_counts_one}
 use Rattle.am_model.proofs.Names.{same_end-refl}
 use Rattle.am_model.proofs.Own.{Own, own_kept, is_call}
 use Rattle.am_model.proofs.Received.{bit, find_counts}
 use Rattle.am_model.proofs.Sizes.{within_called, count_le, length_appended, waiting_kept}
 
+abbrev pub is_queued_request : Queued → Bool
+is_queued_request q = is_request q.message && is_well_formed q.message
+
+abbrev pub is_queued_answer : Queued → Bool
+is_queued_answer q = is_answer q.message && is_well_formed q.message
+
+abbrev pub is_flight_formed : Flying → Bool
+is_flight_formed f = is_well_formed f.message
+
+-- what keeps the lists of a body within their bounds
+pub record IsSound (pool : Option ℕ) (b : Body) : Type 0 where
+  pub within : IsWithin b
+  pub indexes : length b.mapped ≡ 16
+  pub credits : list_all (is_mapping_in_range pool) b.mapped ≡ true
+  pub requests : list_all is_queued_request b.requests ≡ true
+  pub replies : list_all is_queued_answer b.replies ≡ true
+  pub in_flight : list_all is_flight_formed b.in_flight ≡ true
+
 -- lists whose elements all pass
 
-all_push : {X : Type 0} (p : X → Bool) (xs : List X) (x : X) → list_all p xs ≡ true → p x ≡ true → list_all p (xs ++ x ∷ []) ≡ true
+pub all_push : {X : Type 0} (p : X → Bool) (xs : List X) (x : X) → list_all p xs ≡ true → p x ≡ true → list_all p (xs ++ x ∷ []) ≡ true
 all_push p xs x all one = list_all-append p xs (x ∷ []) ∙ and_from (list_all p xs) (p x && true) all (and_from (p x) true one refl)
 
-all_dropped : {X : Type 0} (p : X → Bool) (xs : List X) → list_all p xs ≡ true → list_all p (drop 1 xs) ≡ true
+pub all_dropped : {X : Type 0} (p : X → Bool) (xs : List X) → list_all p xs ≡ true → list_all p (drop 1 xs) ≡ true
 all_dropped p [] all = refl
 all_dropped p (x ∷ xs) all = (and_parts (p x) (list_all p xs) all).1
 
-all_set : {X : Type 0} (p : X → Bool) (xs : List X) (i : ℕ) (x : X) → p x ≡ true → list_all p xs ≡ true → list_all p (slice_set xs i x) ≡ true
+pub all_set : {X : Type 0} (p : X → Bool) (xs : List X) (i : ℕ) (x : X) → p x ≡ true → list_all p xs ≡ true → list_all p (slice_set xs i x) ≡ true
 all_set p [] i x one all = refl
 all_set p (y ∷ xs) zero x one all = and_from (p x) (list_all p xs) one (and_parts (p y) (list_all p xs) all).1
 all_set p (y ∷ xs) (suc i) x one all =
     let parts = and_parts (p y) (list_all p xs) all in and_from (p y) (list_all p (slice_set xs i x)) parts.0 (all_set p xs i x one parts.1)
 
-all_without : {X : Type 0} (p t : X → Bool) (xs : List X) → list_all p xs ≡ true → list_all p (without_first t xs) ≡ true
+pub all_without : {X : Type 0} (p t : X → Bool) (xs : List X) → list_all p xs ≡ true → list_all p (without_first t xs) ≡ true
 all_without p t [] all = refl
 all_without p t (x ∷ xs) all = by_test p t x xs (t x) all (all_without p t xs (and_parts (p x) (list_all p xs) all).1)
   where
@@ -74,7 +93,7 @@ all_without p t (x ∷ xs) all = by_test p t x xs (t x) all (all_without p t xs 
     by_test p t x xs true all more = (and_parts (p x) (list_all p xs) all).1
     by_test p t x xs false all more = and_from (p x) (list_all p (without_first t xs)) (and_parts (p x) (list_all p xs) all).0 more
 
-all_found : {X : Type 0} (p t : X → Bool) (xs : List X) (x : X) → list_all p xs ≡ true → find t xs ≡ Some x → p x ≡ true
+pub all_found : {X : Type 0} (p t : X → Bool) (xs : List X) (x : X) → list_all p xs ≡ true → find t xs ≡ Some x → p x ≡ true
 all_found p t [] x all e = absurd (cc)
 all_found p t (y ∷ xs) x all e = by_test p t x y xs (t y) all e (all_found p t xs x (and_parts (p y) (list_all p xs) all).1)
   where
@@ -82,13 +101,13 @@ all_found p t (y ∷ xs) x all e = by_test p t x y xs (t y) all e (all_found p t
     by_test p t x y xs true all h more = let same : y ≡ x = cc in subst (λ w. p w ≡ true) same (and_parts (p y) (list_all p xs) all).0
     by_test p t x y xs false all h more = more h
 
-all_appended : (p : Queued → Bool) (b : Bool) (m : Message) (n : ℕ) (xs : List Queued) → (b ≡ true → p (record { message = m; bounces = n }) ≡ true) → list_all p xs ≡ true → list_all p (appended b m n xs) ≡ true
+pub all_appended : (p : Queued → Bool) (b : Bool) (m : Message) (n : ℕ) (xs : List Queued) → (b ≡ true → p (record { message = m; bounces = n }) ≡ true) → list_all p xs ≡ true → list_all p (appended b m n xs) ≡ true
 all_appended p true m n xs one all = all_push p xs (record { message = m; bounces = n }) all (one refl)
 all_appended p false m n xs one all = all
 
 -- calls
 
-answer_formed : (e : EndpointId) (s : State) (m : Message) (kind : Option HandlerKind) → is_well_formed (answer e s m kind) ≡ true
+pub answer_formed : (e : EndpointId) (s : State) (m : Message) (kind : Option HandlerKind) → is_well_formed (answer e s m kind) ≡ true
 answer_formed e s m (Some (Echo to)) = refl
 answer_formed e s m (Some (Add to)) = refl
 answer_formed e s m (Some Note) = refl

@@ -1,6 +1,5 @@
 -- What an endpoint may be given at a state, and what its body keeps.
 use Rattle.std.specs.Prelude.{◌≡◌, ℕ, Bool, true, false, ◌==◌, ◌&&◌, Option, Some, None, is_none, is_some, List, [], length, ◌⊎◌, if◌then◌else◌}
-use Rattle.std.specs.List.{list_all}
 use Rattle.am_names.specs.declared.EndpointId.{EndpointId}
 use Rattle.am_names.specs.declared.NodeId.{NodeId}
 use Rattle.am_names.specs.declared.Words.{Words}
@@ -94,37 +93,6 @@ pub record MayCarry (limit : ℕ) (e : EndpointId) (s : State) (x : Entry) : Typ
   pub is_front : front s ≡ Some queued
   pub outcome : x.outcome ≡ judged limit queued.message queued.bounces verdict_there
   pub here : same_end e queued.message.dest ≡ true → verdict_there ≡ verdict s queued.message
-
-abbrev pub is_mapping_in_range : Option ℕ → Option Mapping → Bool
-is_mapping_in_range pool None = true
-is_mapping_in_range pool (Some mapping) = are_credits_in_range pool mapping.credits
-
-abbrev pub is_queued_request : Queued → Bool
-is_queued_request q = is_request q.message && is_well_formed q.message
-
-abbrev pub is_queued_answer : Queued → Bool
-is_queued_answer q = is_answer q.message && is_well_formed q.message
-
-abbrev pub is_flight_formed : Flying → Bool
-is_flight_formed f = is_well_formed f.message
-
--- what the body of an endpoint keeps, where there is this pool or none
-pub record IsSound (pool : Option ℕ) (b : Body) : Type 0 where
-  pub within : IsWithin b
-  pub indexes : length b.mapped ≡ 16
-  pub credits : list_all (is_mapping_in_range pool) b.mapped ≡ true
-  pub requests : list_all is_queued_request b.requests ≡ true
-  pub replies : list_all is_queued_answer b.replies ≡ true
-  pub in_flight : list_all is_flight_formed b.in_flight ≡ true
-
--- what an endpoint keeps: its body is sound, and nothing is in flight unless it is resident
-pub record IsInOrder (pool : Option ℕ) (s : State) : Type 0 where
-  pub body : IsSound pool s.body
-  pub grounded : is_resident s.head.place ≡ false → s.body.in_flight ≡ []
-
--- the entry leaves an endpoint in order that is in order
-abbrev pub KeepsOrder : Option ℕ → EndpointId → State → Entry → Type 0
-KeepsOrder pool e s x = IsInOrder pool s → IsInOrder pool (after e s x)
 
 -- the entry binds the front message of the endpoint e of the node to a channel, at its first attempt
 pub record MayBind (node : NodeId) (e : EndpointId) (s : State) (x : Entry) : Type 0 where

@@ -13,3 +13,5 @@ pub mod Merge
 pub mod FullQueue
 pub mod Cluster
 pub mod Allowed
+pub mod Valid
+pub mod Order

@@ -1,6 +1,7 @@
 use Rattle.std.proofs.Common.{◌≡◌, true, sym, ap, ◌∙◌, subst}
 use Rattle.am_office.specs.declared.Outcome.{Outcome}
-use Rattle.am_model.specs.Allowed.{IsInOrder, are_numbers_in_range}
+use Rattle.am_model.specs.Allowed.{are_numbers_in_range}
+use Rattle.am_model.specs.Order.{IsInOrder}
 use Rattle.am_model.specs.Calls.{outcome_of_call}
 use Rattle.am_model.specs.Changes.{called}
 use Rattle.am_model.proofs.Order.{order_called}
@@ -9,11 +10,11 @@ use Rattle.am_endpoint.specs.declared.settings.EndSettings.{EndSettings}
 use Rattle.am_endpoint.proofs.Endpoint.call.Goals as goal
 
 pub enter-requires-clause-keeps : goal.enter-requires-clause-keeps
-enter-requires-clause-keeps c order =
+enter-requires-clause-keeps c le order =
     let v = c.room.new.self in
     let range : are_numbers_in_range v.settings.pool c.args.call ≡ true =
     subst (λ (set : EndSettings). are_numbers_in_range set.pool c.args.call ≡ true) (sym c.in_ok-room.ensures.settings) c.requires.numbers in
-    subst (λ (o : Outcome). IsInOrder v.settings.pool (called (state_after v) c.args.call o)) (sym c.outcome.ensures)
+    subst (λ (o : Outcome). IsInOrder v.settings.pool v.settings.id (called (state_after v) c.args.call o)) (sym c.outcome.ensures)
     (order_called v.settings.pool v.settings.id (state_after v) c.args.call range order)
 
 pub returns-clause-outcome : goal.returns-clause-outcome

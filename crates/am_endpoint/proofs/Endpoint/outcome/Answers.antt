@@ -2,11 +2,11 @@ use Rattle.std.proofs.Common.{◌≡◌, sym, ap, ◌∙◌}
 use Rattle.am_model.specs.Calls.{outcome_of_call}
 use Rattle.am_endpoint.specs.Seen.{state_in}
 use Rattle.am_endpoint.specs.View.{state_after}
-use Rattle.am_endpoint.proofs.Small.{small_sound}
+use Rattle.am_endpoint.proofs.Small.{small_in_order}
 use Rattle.am_endpoint.proofs.Endpoint.outcome.Goals as goal
 
 pub outcome-requires-clause-small : goal.outcome-requires-clause-small
-outcome-requires-clause-small c = small_sound c.self.inside.settings.pool (state_in c.self.inside.fields).body c.self.invariant.order.body
+outcome-requires-clause-small c = small_in_order c.self.inside.settings.pool c.self.inside.settings.id (state_in c.self.inside.fields) c.self.invariant.order
 
 pub returns : goal.returns
 returns c =

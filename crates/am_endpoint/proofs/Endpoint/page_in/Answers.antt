@@ -5,4 +5,4 @@ use Rattle.am_endpoint.proofs.Endpoint.page_in.Goals as goal
 
 pub enter-requires-clause-keeps : goal.enter-requires-clause-keeps
 enter-requires-clause-keeps c =
-    order_paged_in c.args.self.now.settings.pool Out.Done c.args.self.now.settings.node c.args.self.now.settings.id (state_after c.args.self.now) c.args.entry c.requires.allowed
+    order_paged_in c.args.self.now.settings.bounces c.args.self.now.settings.pool Out.Done c.args.self.now.settings.node c.args.self.now.settings.id (state_after c.args.self.now) c.args.entry c.requires.allowed
