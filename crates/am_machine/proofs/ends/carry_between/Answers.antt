@@ -10,8 +10,8 @@ carry_out-requires-clause-ready c = (at_read c.args.ends.now c.args.source (Carr
 pub carry_out-requires-clause-room : goal.carry_out-requires-clause-room
 carry_out-requires-clause-room c = (at_read c.args.ends.now c.args.source (CarriesFrom c.args.entry) c.index-ends-source.result c.requires.source c.requires.carries).room
 
-pub carry_out-requires-clause-carry : goal.carry_out-requires-clause-carry
-carry_out-requires-clause-carry c = (at_read c.args.ends.now c.args.source (CarriesFrom c.args.entry) c.index-ends-source.result c.requires.source c.requires.carries).carry
+pub carry_out-requires-clause-allowed : goal.carry_out-requires-clause-allowed
+carry_out-requires-clause-allowed c = (at_read c.args.ends.now c.args.source (CarriesFrom c.args.entry) c.index-ends-source.result c.requires.source c.requires.carries).carry
 
 pub put-requires-clause-ready : goal.put-requires-clause-ready
 put-requires-clause-ready c =
@@ -29,8 +29,8 @@ put-requires-clause-room c =
     let at = still_at c.args.ends.now vs c.args.dest (ArrivesAt c.args.entry) (set_other c.args.ends.now c.args.source c.args.dest c.carry_out.new.self apart) (c.requires.arrives apart) in
     (at_read vs c.args.dest (ArrivesAt c.args.entry) c.index-ends-dest.result within at).room
 
-pub put-requires-clause-arrival : goal.put-requires-clause-arrival
-put-requires-clause-arrival c =
+pub put-requires-clause-allowed : goal.put-requires-clause-allowed
+put-requires-clause-allowed c =
     let apart : is_place c.args.source c.args.dest ≡ false = place_apart c.args.source c.args.dest (λ same. c.if-dest-source.true (sym same)) in
     let vs = slice_set c.args.ends.now c.args.source c.carry_out.new.self in
     let within : c.args.dest < length vs = omega (arith, set_length c.args.ends.now c.args.source c.carry_out.new.self, c.requires.dest) in
