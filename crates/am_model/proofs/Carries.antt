@@ -1,6 +1,6 @@
 -- A carry that the definitions give may arrive at its destination, and a receipt that decides too.
 use Rattle.std.specs.Prelude.{nat_lt}
-use Rattle.std.proofs.Common.{◌≡◌, ℕ, ◌+◌, Bool, true, false, ◌&&◌, Some, refl, sym, ap, ◌∙◌, subst, if◌then◌else◌}
+use Rattle.std.proofs.Common.{◌≡◌, ℕ, ◌+◌, Bool, true, false, ◌&&◌, Some, refl, if◌then◌else◌}
 use Rattle.am_names.specs.Names.{same_end}
 use Rattle.am_names.specs.Rules.{is_transient}
 use Rattle.am_names.specs.declared.EndpointId.{EndpointId}
@@ -9,7 +9,6 @@ use Rattle.am_names.specs.declared.NodeId.{NodeId}
 use Rattle.am_names.specs.declared.Verdict.{Verdict}
 use Rattle.am_names.specs.declared.Verdict.TheVariants as Verdicts
 use Rattle.am_office.specs.declared.Event.TheVariants as Events
-use Rattle.am_office.specs.declared.Outcome.{Outcome}
 use Rattle.am_office.specs.declared.Outcome.TheVariants as Out
 use Rattle.am_model.specs.Endpoint.{State, verdict}
 use Rattle.am_model.specs.History.{decided, judged}
