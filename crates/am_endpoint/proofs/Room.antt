@@ -1,7 +1,7 @@
 -- Room, as a test and as a fact.
 use Rattle.std.specs.Prelude.{nat_lt, vec_len, vec_capacity}
-use Rattle.std.proofs.Common.{◌≡◌, ◌<◌, Bool, true, false, ◌&&◌, refl, arith}
-use Rattle.std.proofs.lemmas.Bool.{and_parts, and_from, leb-true, le-leb}
+use Rattle.std.proofs.Common.{◌≡◌, Bool, true, false, ◌&&◌, refl, arith}
+use Rattle.std.proofs.lemmas.Bool.{and_from, leb-true, le-leb}
 use Rattle.am_endpoint.specs.declared.fields.Fields.{Fields}
 use Rattle.am_endpoint.specs.Seen.{HasRoom, has_room}
 

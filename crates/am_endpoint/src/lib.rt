@@ -200,10 +200,10 @@ impl Endpoint {
     }
 
     /// Makes room for one more entry, so that the next logged change takes no memory.
-    ///
-    /// A want of memory may also leave room for some of it; contracts don't speak of that.
+    /// Whether it succeeds or not, the endpoint is as it was.
     pub fn room(&mut self) -> Result<(), EndFault>
         ensures ok { OnOk result (self.new.ready ≡ true) }
+        ensures spare { OnOk result (length self.new.log < self.new.settings.log) }
         ensures full { (result ≡ Err EndFault.LogFull) ↔ (length self.old.log ≡ self.old.settings.log) }
         ensures settings { self.new.settings ≡ self.old.settings }
         ensures log { self.new.log ≡ self.old.log }

@@ -86,3 +86,28 @@ fn one_credit_takes_one_request(rt: HostRuntime) -> Result<(), Fail> {
     assert_eq!(rt; end.room(), Err(EndFault::LogFull));
     Ok(())
 }
+
+#[test]
+fn an_endpoint_on_disk_is_wanted(rt: HostRuntime) -> Result<(), Fail> {
+    let settings = EndSettings {
+        place: Place::Disk,
+        ..SETTINGS
+    };
+    let mut end = Endpoint::new(rt.alloc(), settings)?;
+    assert_eq!(rt; end.wanted(), false);
+    let wanted = match end.place() {
+        Place::Disk => end.want(6, Actor::Thread(2)),
+        Place::Host | Place::Frame(_) | Place::Direct => Err(EndFault::LogFull),
+    };
+    let entry = Entry {
+        stamp: 7,
+        event: Event::Want {
+            actor: Actor::Thread(2),
+            end: EndpointId(0),
+        },
+        outcome: Outcome::Silent,
+    };
+    assert_eq!(rt; wanted, Ok(entry));
+    assert_eq!(rt; end.wanted(), true);
+    Ok(())
+}

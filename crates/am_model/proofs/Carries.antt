@@ -1,6 +1,7 @@
 -- A carry that the definitions give may arrive at its destination, and a receipt that decides too.
 use Rattle.std.specs.Prelude.{nat_lt}
-use Rattle.std.proofs.Common.{◌≡◌, ℕ, ◌+◌, Bool, true, false, ◌&&◌, Some, refl, sym, ap, ◌∙◌, subst, if◌then◌else◌}
+use Rattle.std.proofs.Common.{◌≡◌, ℕ, ◌+◌, Bool, true, false, ◌&&◌, Some, refl, if◌then◌else◌}
+use Rattle.std.proofs.lemmas.Bool.{and_parts}
 use Rattle.am_names.specs.Names.{same_end}
 use Rattle.am_names.specs.Rules.{is_transient}
 use Rattle.am_names.specs.declared.EndpointId.{EndpointId}
@@ -8,12 +9,14 @@ use Rattle.am_names.specs.declared.Message.{Message}
 use Rattle.am_names.specs.declared.NodeId.{NodeId}
 use Rattle.am_names.specs.declared.Verdict.{Verdict}
 use Rattle.am_names.specs.declared.Verdict.TheVariants as Verdicts
+use Rattle.am_office.specs.declared.Call.{Call}
+use Rattle.am_office.specs.declared.Call.TheVariants as Calls
 use Rattle.am_office.specs.declared.Event.TheVariants as Events
-use Rattle.am_office.specs.declared.Outcome.{Outcome}
 use Rattle.am_office.specs.declared.Outcome.TheVariants as Out
 use Rattle.am_model.specs.Endpoint.{State, verdict}
-use Rattle.am_model.specs.History.{decided, judged}
-use Rattle.am_model.specs.Allowed.{MayArrive, arrival_verdict, arrived_message, is_well_formed, message_in, verdict_in}
+use Rattle.am_model.specs.History.{are_credits_in_range, decided, is_byte, is_call_in_range, is_kind_in_range, is_long, judged}
+use Rattle.am_model.specs.Layout.{Layout, declared}
+use Rattle.am_model.specs.Allowed.{MayArrive, are_numbers_in_range, arrival_verdict, arrived_message, is_well_formed, message_in, verdict_in}
 
 -- the outcome of a carry tells the message and its verdict
 judged_tells : (limit : ℕ) (from : EndpointId) (m : Message) (bounces : ℕ) (v : Verdict) → (arrived_message (Events.Carry from) (judged limit m bounces v) ≡ Some m) × (arrival_verdict (Events.Carry from) (judged limit m bounces v) ≡ Some v)
@@ -53,3 +56,10 @@ receipt_arrives stamp node peer number channel seq attempt answer e s m here for
       formed = formed;
       elsewhere = refl;
     }
+
+-- a call whose numbers are in range in a layout may be made there
+pub numbers_in_range : (layout : Layout) (c : Call) → is_call_in_range layout c ≡ true → are_numbers_in_range layout.pool c ≡ true
+numbers_in_range layout (Calls.Map index name tag credits) h =
+    (and_parts (is_byte index && declared layout name && is_long tag.0) (are_credits_in_range layout.pool credits) h).1
+numbers_in_range layout (Calls.SetHandler index kind) h = (and_parts (is_byte index) (is_kind_in_range kind) h).1
+numbers_in_range layout c h = refl

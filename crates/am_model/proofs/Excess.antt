@@ -1,9 +1,7 @@
 -- The records above the shares of their indexes.
-use Rattle.std.specs.Prelude.{nat_le}
-use Rattle.std.proofs.Common.{◌≡◌, ℕ, zero, suc, ◌+◌, ◌-◌, ◌≤◌, ◌<◌, Bool, true, false, cond, ◌&&◌, ◌==◌, List, [], ◌∷◌, ◌++◌, length, Option, Some, None, refl, sym, ap, ◌∙◌, subst, arith}
+use Rattle.std.proofs.Common.{◌≡◌, ℕ, zero, suc, ◌+◌, ◌≤◌, ◌<◌, Bool, true, false, ◌==◌, List, [], ◌∷◌, Option, Some, None, refl, sym, ap, subst, arith}
 use Rattle.std.specs.Prelude.{slice_set}
-use Rattle.std.specs.List.{count_by}
-use Rattle.std.proofs.lemmas.Bool.{eqb-true, eqb-false}
+use Rattle.std.proofs.lemmas.Bool.{eqb-true}
 use Rattle.am_model.specs.declared.Mapping.{Mapping}
 use Rattle.am_model.specs.Endpoint.{Body, entry_at}
 use Rattle.am_model.specs.Calls.{awaited_at, excess_at, excess_from}
@@ -68,7 +66,7 @@ excess_spare index a b m i k [] at is more lt = absurd (cc)
 excess_spare index a b m i zero (x ∷ xs) at is more lt =
     let here : index ≡ i = omega (arith, at) in
     let none : excess_at a i x ≡ 0 =
-            subst (λ (w : Option Mapping). excess_at a i w ≡ 0) (sym is) (subst (λ (w : ℕ). excess_at a w (Some m) ≡ 0) here (excess_at_spare index a b m more lt)) in
+    subst (λ (w : Option Mapping). excess_at a i w ≡ 0) (sym is) (subst (λ (w : ℕ). excess_at a w (Some m) ≡ 0) here (excess_at_spare index a b m more lt)) in
     omega (arith, none, excess_past index a b (i + 1) xs more (omega (arith, here)))
 excess_spare index a b m i (suc k) (x ∷ xs) at is more lt =
     omega (arith, excess_at_more index a b i x more, not_here, excess_spare index a b m (i + 1) k xs (omega (arith, at)) is more lt)
@@ -82,6 +80,7 @@ excess_spare index a b m i (suc k) (x ∷ xs) at is more lt =
             never : w ≡ i → ⊥
             never h = omega (arith, e, h)
         by_test false same = refl
+
     not_here : bit (index == i) ≡ 0
     not_here = later index at
 

@@ -1,7 +1,7 @@
 -- Each record whose reply has arrived has one received reply.
-use Rattle.std.specs.Prelude.{nat_le, not, is_none, is_some, ◌||◌}
-use Rattle.std.proofs.Common.{◌≡◌, ℕ, suc, ◌+◌, ◌≤◌, ◌<◌, Bool, true, false, cond, ◌&&◌, ◌==◌, List, [], ◌∷◌, ◌++◌, length, drop, map, Option, Some, None, refl, sym, ap, ◌∙◌, subst, arith, true≢false, if◌then◌else◌}
-use Rattle.std.specs.List.{count_by, find, list_all, list_any}
+use Rattle.std.specs.Prelude.{not, is_none, is_some}
+use Rattle.std.proofs.Common.{◌≡◌, ℕ, ◌+◌, ◌≤◌, Bool, true, false, cond, ◌&&◌, ◌==◌, List, [], ◌∷◌, ◌++◌, drop, map, Option, Some, None, refl, sym, ap, ◌∙◌, subst, arith, true≢false, if◌then◌else◌}
+use Rattle.std.specs.List.{count_by, find, list_any}
 use Rattle.std.proofs.lemmas.Bool.{and_parts, and_from}
 use Rattle.std.proofs.lemmas.List.Sums.{sum_by_push, sum_by-cons}
 use Rattle.am_names.specs.Names.{same_serial, is_answer, is_request, is_request_kind}
@@ -11,7 +11,7 @@ use Rattle.am_names.specs.declared.MsgKind.TheVariants as Kind
 use Rattle.am_names.specs.declared.Serial.{Serial}
 use Rattle.am_model.specs.declared.Awaited.{Awaited}
 use Rattle.am_model.specs.Choice.{without_first}
-use Rattle.am_model.specs.Endpoint.{Body, is_arrived, is_awaited, waits_for}
+use Rattle.am_model.specs.Endpoint.{is_arrived, is_awaited, waits_for}
 use Rattle.am_model.specs.Changes.{arrived, is_of, not_awaited, settled, with_arrived}
 use Rattle.am_model.specs.Allowed.{are_zero, is_formed_as, is_well_formed}
 use Rattle.am_model.specs.Valid.{answers, has_arrived, is_about, rise}
@@ -99,7 +99,7 @@ matched_answer last q m received xs kind about rising waits matched =
     by_request r true is =
         let same : r ≡ q = same_serial-is r q is in
         let at : count_by (answers q) (received ++ m ∷ []) ≡ count_by (has_arrived q) (map (arrived q) xs) =
-                omega (arith, matched.each q, sum_by_push (λ (n : Message). cond (answers q n) 1 0) received m, said q, ap bit (same_serial-refl q), arrives_all q xs, arrives_or_waits q xs, one_waits) in
+        omega (arith, matched.each q, sum_by_push (λ (n : Message). cond (answers q n) 1 0) received m, said q, ap bit (same_serial-refl q), arrives_all q xs, arrives_or_waits q xs, one_waits) in
         subst (λ (w : Serial). count_by (answers w) (received ++ m ∷ []) ≡ count_by (has_arrived w) (map (arrived q) xs)) (sym same) at
     by_request r false is =
         omega (arith, matched.each r, sum_by_push (λ (n : Message). cond (answers r n) 1 0) received m, said r, ap bit is, arrives_only q r xs is)

@@ -1,9 +1,7 @@
 -- An endpoint stays in order.
-use Rattle.std.specs.Prelude.{nat_lt, ◌||◌}
 use Rattle.std.proofs.lemmas.Bool.{and_parts, and_from}
-use Rattle.std.proofs.Common.{◌≡◌, ℕ, ◌+◌, ◌≤◌, Bool, true, false, ◌&&◌, List, [], ◌∷◌, ◌++◌, length, Option, Some, None, ◌⊎◌, refl, sym, ap, ◌∙◌, subst, true≢false, if◌then◌else◌}
+use Rattle.std.proofs.Common.{◌≡◌, ℕ, Bool, true, false, List, [], ◌∷◌, length, Option, Some, None, ◌⊎◌, refl, sym, ap, ◌∙◌, subst, true≢false, if◌then◌else◌}
 use Rattle.am_names.specs.Names.{is_answer, is_request, same_end}
-use Rattle.am_names.specs.Rules.{is_transient}
 use Rattle.am_names.specs.declared.Cause.TheVariants as Causes
 use Rattle.am_names.specs.declared.EndpointId.{EndpointId}
 use Rattle.am_names.specs.declared.Message.{Message}
@@ -26,10 +24,10 @@ use Rattle.am_model.specs.declared.Queued.{Queued}
 use Rattle.am_model.specs.Endpoint.{State, fresh, front, is_on_disk, is_on_host, is_resident}
 use Rattle.am_model.specs.Calls.{outcome_of_call}
 use Rattle.am_model.specs.Changes.{after, bound, called, carried, changed, expired, left, paged_in, paged_out, put, reached, received, with_marked}
-use Rattle.am_model.specs.Allowed.{EndsFlight, MayArrive, MayBind, MayCarry, MayDrain, MayLoad, MayPageIn, MayPageOut, MaySettle, MayUnload, are_numbers_in_range, arrived_message, is_carry_from, is_well_formed}
+use Rattle.am_model.specs.Allowed.{EndsFlight, MayArrive, MayBind, MayCarry, MayDrain, MayLoad, MayPageIn, MayPageOut, MaySettle, MayUnload, are_numbers_in_range, arrived_message, is_well_formed}
 use Rattle.am_model.specs.Layout.{IsPoolLawful}
 use Rattle.am_model.specs.Order.{IsInOrder, KeepsOrder}
-use Rattle.am_model.specs.Valid.{IsValid, is_own, is_own_answer, is_own_flight, is_own_request}
+use Rattle.am_model.specs.Valid.{is_own, is_own_answer, is_own_flight, is_own_request}
 use Rattle.am_model.proofs.Valid.{Parts, arrived_parts, bound_parts, called_parts, carried_parts, flight_parts, fresh_parts}
 use Rattle.am_model.proofs.Validity.{all_weaker, own_formed, own_front}
 use Rattle.am_model.proofs.Sound.{IsSound, is_flight_formed, is_queued_answer, is_queued_request, flight_sound, sound_arrived, sound_bound, sound_called, sound_carried, sound_fresh}
@@ -51,14 +49,14 @@ sound_of pool e s order =
       requests =
           all_weaker (is_own_request e b.accepted) is_queued_request b.requests
           (λ (q : Queued) h.
-           let parts = and_parts (is_request q.message) (is_own e b.accepted q.message q.bounces) h in
-           and_from (is_request q.message) (is_well_formed q.message) parts.0 (own_formed e b.accepted q.message q.bounces parts.1))
+          let parts = and_parts (is_request q.message) (is_own e b.accepted q.message q.bounces) h in
+          and_from (is_request q.message) (is_well_formed q.message) parts.0 (own_formed e b.accepted q.message q.bounces parts.1))
           v.requests;
       replies =
           all_weaker (is_own_answer e b.accepted) is_queued_answer b.replies
           (λ (q : Queued) h.
-           let parts = and_parts (is_answer q.message) (is_own e b.accepted q.message q.bounces) h in
-           and_from (is_answer q.message) (is_well_formed q.message) parts.0 (own_formed e b.accepted q.message q.bounces parts.1))
+          let parts = and_parts (is_answer q.message) (is_own e b.accepted q.message q.bounces) h in
+          and_from (is_answer q.message) (is_well_formed q.message) parts.0 (own_formed e b.accepted q.message q.bounces parts.1))
           v.replies;
       in_flight = all_weaker (is_own_flight e b.accepted) is_flight_formed b.in_flight (λ (f : Flying) h. own_formed e b.accepted f.message f.bounces h) v.in_flight;
     }

@@ -1,18 +1,17 @@
 -- The records of the requests whose replies are awaited.
 use Rattle.std.specs.Prelude.{nat_le, nat_lt, not, ◌||◌}
-use Rattle.std.proofs.Common.{◌≡◌, ℕ, suc, ◌+◌, ◌≤◌, ◌<◌, Bool, true, false, cond, ◌&&◌, ◌==◌, List, [], ◌∷◌, ◌++◌, length, map, Option, Some, None, refl, sym, ap, ◌∙◌, subst, arith, true≢false, if◌then◌else◌}
-use Rattle.std.specs.List.{count_by, find, list_all, list_any}
-use Rattle.std.proofs.lemmas.Bool.{and_parts, and_from, leb-true, le-leb, ltb-true, lt-ltb, eqb-true}
-use Rattle.std.proofs.lemmas.List.Sums.{sum_by_push, sum_by-cons}
-use Rattle.am_names.specs.Names.{same_serial, same_end}
-use Rattle.am_names.specs.declared.EndpointId.{EndpointId}
+use Rattle.std.proofs.Common.{◌≡◌, ℕ, ◌+◌, ◌≤◌, ◌<◌, Bool, true, false, cond, ◌&&◌, List, [], ◌∷◌, ◌++◌, map, Option, Some, None, refl, sym, ap, ◌∙◌, subst, arith, true≢false, if◌then◌else◌}
+use Rattle.std.specs.List.{count_by, find, list_any}
+use Rattle.std.proofs.lemmas.Bool.{and_parts, and_from, leb-true, le-leb, ltb-true, lt-ltb}
+use Rattle.std.proofs.lemmas.List.Sums.{sum_by-cons}
+use Rattle.am_names.specs.Names.{same_serial}
 use Rattle.am_names.specs.declared.Serial.{Serial}
 use Rattle.am_model.specs.declared.Awaited.{Awaited}
 use Rattle.am_model.specs.Choice.{without_first}
 use Rattle.am_model.specs.Endpoint.{is_arrived, waits_for}
-use Rattle.am_model.specs.Changes.{arrived, is_of, not_awaited, settled}
+use Rattle.am_model.specs.Changes.{arrived, is_of}
 use Rattle.am_model.specs.Valid.{has_arrived, rise}
-use Rattle.am_model.proofs.Names.{same_serial-is, same_serial-refl}
+use Rattle.am_model.proofs.Names.{same_serial-is}
 use Rattle.am_model.proofs.Received.{bit}
 
 -- a list without its first element that passes, by counts

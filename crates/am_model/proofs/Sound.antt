@@ -1,16 +1,15 @@
 -- The body of an endpoint stays sound.
 use Rattle.std.specs.Prelude.{nat_le, nat_lt, not, is_none, ◌||◌}
-use Rattle.std.proofs.Common.{◌≡◌, ℕ, zero, suc, ◌+◌, ◌≤◌, ◌<◌, Bool, true, false, cond, ◌&&◌, ◌==◌, List, [], ◌∷◌, ◌++◌, length, drop, map, replicate, Option, Some, None, refl, sym, ap, ◌∙◌, subst, arith, leb-false, if◌then◌else◌}
+use Rattle.std.proofs.Common.{◌≡◌, ℕ, zero, suc, ◌+◌, ◌≤◌, Bool, true, false, cond, ◌&&◌, List, [], ◌∷◌, ◌++◌, length, drop, map, Option, Some, None, refl, sym, ap, ◌∙◌, subst, arith, leb-false, if◌then◌else◌}
 use Rattle.std.specs.List.{count_by, find, list_all, list_any}
 use Rattle.std.specs.Prelude.{slice_set}
 use Rattle.std.proofs.lemmas.Bool.{and_parts, and_from}
-use Rattle.std.proofs.lemmas.List.{append-nil, length_push, length-set}
+use Rattle.std.proofs.lemmas.List.{append-nil, length-set}
 use Rattle.std.proofs.lemmas.List.Folds.{list_all-append, list_all-map}
 use Rattle.std.proofs.lemmas.List.Sums.{sum_by_push, sum_by-cons}
 use Rattle.am_names.specs.Names.{has_serial, same_serial, same_end, is_answer, is_request}
 use Rattle.am_names.specs.Rules.{matches, is_transient}
 use Rattle.am_names.specs.declared.EndpointId.{EndpointId}
-use Rattle.am_names.specs.declared.Cause.{Cause}
 use Rattle.am_names.specs.declared.Cause.TheVariants as Causes
 use Rattle.am_names.specs.declared.Message.{Message}
 use Rattle.am_names.specs.declared.NodeId.{NodeId}
@@ -41,15 +40,15 @@ use Rattle.am_model.specs.declared.Notice.{Notice}
 use Rattle.am_model.specs.declared.Queued.{Queued}
 use Rattle.am_model.specs.Choice.{first_holding, without_first}
 use Rattle.am_model.specs.Endpoint.{State, Body, IsWithin, fresh, front, front_of, is_arrived, is_awaited, is_resident, entry_at, requests_held, replies_held, verdict, verdict_of, waits_for}
-use Rattle.am_model.specs.Calls.{outcome_of_call, answer, poll, poll_received, poll_requests, request_refusal, map_refusal, unless, new_request, request_message, sum_after}
-use Rattle.am_model.specs.Changes.{appended, kind_run, arrived, called, left, marked, put, queued, reached, with_arrived, with_marked, without_front, requests_left, noticed, bounces_of, not_awaited, flying_of, landed, requeued_flight, returned_flight, flight_appended, notice_of, received, expired, bound, carried, changed, after}
-use Rattle.am_model.specs.History.{are_credits_in_range, judged, settle_by}
+use Rattle.am_model.specs.Calls.{outcome_of_call, answer, poll, poll_received, poll_requests, request_refusal, unless, new_request, request_message, sum_after}
+use Rattle.am_model.specs.Changes.{appended, kind_run, arrived, called, left, marked, put, queued, reached, with_arrived, with_marked, without_front, noticed, bounces_of, flying_of, landed, requeued_flight, returned_flight, received, expired, bound, changed, after}
+use Rattle.am_model.specs.History.{judged, settle_by}
 use Rattle.am_model.specs.Allowed.{EndsFlight, MayArrive, MayCarry, are_numbers_in_range, arrival_verdict, arrived_message, given_up, is_carry_from, is_well_formed}
 use Rattle.am_model.specs.Valid.{is_mapping_in_range}
 use Rattle.am_model.proofs.Counts.{call_counts_one}
 use Rattle.am_model.proofs.Names.{same_end-refl}
 use Rattle.am_model.proofs.Own.{Own, own_kept, is_call}
-use Rattle.am_model.proofs.Received.{bit, find_counts}
+use Rattle.am_model.proofs.Received.{bit}
 use Rattle.am_model.proofs.Sizes.{within_called, count_le, length_appended, waiting_kept}
 
 abbrev pub is_queued_request : Queued → Bool

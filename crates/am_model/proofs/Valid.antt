@@ -1,12 +1,12 @@
 -- A body stays one that its endpoint may have.
 use Rattle.std.specs.Prelude.{nat_le, nat_lt, not, is_none, is_some}
-use Rattle.std.proofs.Common.{◌≡◌, ℕ, ◌+◌, ◌≤◌, ◌<◌, Bool, true, false, cond, ◌&&◌, ◌==◌, List, [], ◌∷◌, ◌++◌, length, drop, Option, Some, None, refl, sym, ap, ◌∙◌, subst, arith, leb-false, true≢false, if◌then◌else◌}
-use Rattle.std.specs.List.{count_by, find, list_all}
+use Rattle.std.proofs.Common.{◌≡◌, ℕ, ◌+◌, ◌≤◌, ◌<◌, Bool, true, false, ◌&&◌, ◌==◌, List, [], ◌∷◌, ◌++◌, length, drop, Option, Some, None, refl, sym, ap, ◌∙◌, subst, arith, leb-false, true≢false, if◌then◌else◌}
+use Rattle.std.specs.List.{find, list_all}
 use Rattle.std.specs.Prelude.{slice_set}
-use Rattle.std.proofs.lemmas.Bool.{and_parts, and_from, le-leb, leb-true, ltb-true, eqb-true, eqb-false}
+use Rattle.std.proofs.lemmas.Bool.{and_parts, and_from, ltb-true, eqb-true, eqb-false}
 use Rattle.std.proofs.lemmas.List.{append-nil, get_or-set_other, length-set}
 use Rattle.std.proofs.lemmas.List.Folds.{list_all-map}
-use Rattle.am_names.specs.Names.{has_serial, same_end, is_answer, is_request}
+use Rattle.am_names.specs.Names.{has_serial, same_end, is_answer}
 use Rattle.am_names.specs.Rules.{is_transient}
 use Rattle.am_names.specs.declared.Cause.{Cause}
 use Rattle.am_names.specs.declared.Cause.TheVariants as Causes
@@ -35,24 +35,22 @@ use Rattle.am_office.specs.declared.Received.TheVariants as Got
 use Rattle.am_office.specs.declared.Refusal.{Refusal}
 use Rattle.am_office.specs.declared.Refusal.TheVariants as No
 use Rattle.am_office.specs.declared.Entry.{Entry}
-use Rattle.am_model.specs.declared.Awaited.{Awaited}
 use Rattle.am_model.specs.declared.Flying.{Flying}
 use Rattle.am_model.specs.declared.Mapping.{Mapping}
 use Rattle.am_model.specs.declared.Notice.{Notice}
 use Rattle.am_model.specs.declared.Queued.{Queued}
-use Rattle.am_model.specs.Choice.{first_holding, without_first}
+use Rattle.am_model.specs.Choice.{first_holding}
 use Rattle.am_model.specs.Endpoint.{State, Body, entry_at, fresh, front, front_of, replies_held, requests_held, verdict, waits_for}
-use Rattle.am_model.specs.Calls.{answer, awaited_at, busy_refusal, give_up_refusal, handler_refusal, handler_run, has_no_credit, is_over_share, map_refusal, new_request, new_serial, outcome_of_call, poll, poll_received, poll_requests, request_message, request_refusal, shares, sum_after, unless, unmap_refusal}
-use Rattle.am_model.specs.Changes.{after, answer_ran, bound, bounces_of, called, carried, changed, expired, flying_of, kind_run, landed, left, noticed, put, queued, reached, received, request_accepted, request_ran, requeued_flight, returned_flight, is_of, marked, not_awaited, settled, with_arrived, with_marked, without_front}
+use Rattle.am_model.specs.Calls.{answer, awaited_at, busy_refusal, give_up_refusal, handler_refusal, handler_run, has_no_credit, is_over_share, map_refusal, new_request, outcome_of_call, poll, poll_received, poll_requests, request_message, request_refusal, shares, sum_after, unless, unmap_refusal}
+use Rattle.am_model.specs.Changes.{after, answer_ran, bound, bounces_of, called, changed, expired, flying_of, kind_run, landed, left, noticed, put, queued, reached, received, request_accepted, request_ran, requeued_flight, returned_flight, is_of, marked, not_awaited, settled, with_arrived, with_marked, without_front}
 use Rattle.am_model.specs.History.{is_kind_in_range, judged, settle_by}
 use Rattle.am_model.specs.Layout.{IsPoolLawful}
-use Rattle.am_model.specs.Allowed.{EndsFlight, MayArrive, MayCarry, MaySettle, are_numbers_in_range, arrival_verdict, arrived_message, given_up, is_carry_from, is_well_formed}
+use Rattle.am_model.specs.Allowed.{EndsFlight, MayArrive, MayCarry, are_numbers_in_range, arrival_verdict, arrived_message, given_up, is_carry_from, is_well_formed}
 use Rattle.am_model.specs.Valid.{FitsPool, is_handler_in_range, is_own, is_own_flight, is_own_notice, is_received_here}
 use Rattle.am_model.proofs.Matches.{AreMatched, matched_front, matched_more, matched_put, matched_ran, matched_waiting}
 use Rattle.am_model.proofs.Names.{same_end-refl}
-use Rattle.am_model.proofs.Records.{found_is}
-use Rattle.am_model.proofs.Sound.{all_dropped, all_found, all_push, all_set, all_without, answer_formed, verdict_accepts}
-use Rattle.am_model.proofs.Validity.{OwnFront, OwnMessages, OwnRecords, own_accepted, own_bounced, own_formed, own_front, own_new, own_queued, records_arrived, records_counted, records_mapped, records_more, records_off, records_same, records_without}
+use Rattle.am_model.proofs.Sound.{all_dropped, all_found, all_push, all_set, all_without, verdict_accepts}
+use Rattle.am_model.proofs.Validity.{OwnMessages, OwnRecords, own_accepted, own_bounced, own_formed, own_front, own_new, own_queued, records_arrived, records_counted, records_mapped, records_more, records_off, records_same, records_without}
 
 -- the parts of a valid body, but for its table
 
@@ -102,16 +100,16 @@ requested_parts pool e s index handler words mapping lt at credit p =
 request_fails : (pool : Option ℕ) (s : State) (index : ℕ) → request_refusal pool s index ≡ None → (nat_le 16 index ≡ false) × (has_no_credit pool s.body index (entry_at s.body.mapped index) ≡ false)
 request_fails pool s index h =
     let all =
-        fails
-        ((s.head.closed, No.Closed)
-        ∷ (s.body.tag.0 == 0, No.OwnTagNone)
-        ∷ (nat_le 16 index, No.BadIndex)
-        ∷ (is_none (entry_at s.body.mapped index), No.NotMapped)
-        ∷ (has_no_credit pool s.body index (entry_at s.body.mapped index), No.NoCredit)
-        ∷ (nat_le 32 (length s.body.awaited), No.TableFull)
-        ∷ (nat_le 16 (requests_held s.body), No.SendFull)
-        ∷ [])
-        h in
+    fails
+    ((s.head.closed, No.Closed)
+    ∷ (s.body.tag.0 == 0, No.OwnTagNone)
+    ∷ (nat_le 16 index, No.BadIndex)
+    ∷ (is_none (entry_at s.body.mapped index), No.NotMapped)
+    ∷ (has_no_credit pool s.body index (entry_at s.body.mapped index), No.NoCredit)
+    ∷ (nat_le 32 (length s.body.awaited), No.TableFull)
+    ∷ (nat_le 16 (requests_held s.body), No.SendFull)
+    ∷ [])
+    h in
     (all.1.1.0, all.1.1.1.1.0)
 
 request_parts : (pool : Option ℕ) (e : EndpointId) (s : State) (index handler : ℕ) (words : Words) (r : Option Refusal) (f : Option Mapping) → request_refusal pool s index ≡ r → entry_at s.body.mapped index ≡ f → Parts e pool s.body → Parts e pool (called s (Calls.Request index handler words) (unless r (new_request e s f handler words))).body
@@ -192,13 +190,13 @@ poll_parts pool e s p [] = by_found (find is_answer s.body.received) refl
 map_fails : (pool : Option ℕ) (s : State) (index share : ℕ) → map_refusal pool s index share ≡ None → (nat_le 16 index ≡ false) × (is_some (entry_at s.body.mapped index) ≡ false) × (is_over_share pool s.body share ≡ false)
 map_fails pool s index share h =
     let all =
-        fails
-        ((s.head.closed, No.Closed)
-        ∷ (nat_le 16 index, No.BadIndex)
-        ∷ (is_some (entry_at s.body.mapped index), No.InUse)
-        ∷ (is_over_share pool s.body share, No.OverShare (shares s.body))
-        ∷ [])
-        h in
+    fails
+    ((s.head.closed, No.Closed)
+    ∷ (nat_le 16 index, No.BadIndex)
+    ∷ (is_some (entry_at s.body.mapped index), No.InUse)
+    ∷ (is_over_share pool s.body share, No.OverShare (shares s.body))
+    ∷ [])
+    h in
     (all.1.0, all.1.1.0, all.1.1.1.0)
 
 no_entry : (f : Option Mapping) → is_some f ≡ false → f ≡ None
@@ -220,13 +218,13 @@ map_parts pool e s index m None slots is p =
 unmap_fails : (s : State) (index : ℕ) → unmap_refusal s index ≡ None → (nat_le 16 index ≡ false) × (awaited_at s.body index ≡ 0)
 unmap_fails s index h =
     let all =
-        fails
-        ((s.head.closed, No.Closed)
-        ∷ (nat_le 16 index, No.BadIndex)
-        ∷ (is_none (entry_at s.body.mapped index), No.NotMapped)
-        ∷ (not (awaited_at s.body index == 0), No.Outstanding (awaited_at s.body index))
-        ∷ [])
-        h in
+    fails
+    ((s.head.closed, No.Closed)
+    ∷ (nat_le 16 index, No.BadIndex)
+    ∷ (is_none (entry_at s.body.mapped index), No.NotMapped)
+    ∷ (not (awaited_at s.body index == 0), No.Outstanding (awaited_at s.body index))
+    ∷ [])
+    h in
     (all.1.0, zero_of (awaited_at s.body index) all.1.1.1.0)
   where
     zero_of : (n : ℕ) → not (n == 0) ≡ false → n ≡ 0

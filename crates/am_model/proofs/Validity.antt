@@ -1,37 +1,32 @@
 -- A body stays one that its endpoint may have: parts.
-use Rattle.std.specs.Prelude.{nat_le, nat_lt, not, is_none, is_some, sum_by, ◌||◌}
-use Rattle.std.proofs.Common.{◌≡◌, ℕ, zero, suc, ◌+◌, ◌-◌, ◌≤◌, ◌<◌, Bool, true, false, cond, ◌&&◌, ◌==◌, List, [], ◌∷◌, ◌++◌, length, drop, map, Option, Some, None, ◌⊎◌, inl, inr, refl, sym, ap, ◌∙◌, subst, arith, leb-false, true≢false, if◌then◌else◌}
-use Rattle.std.specs.List.{count_by, find, list_all, list_any}
+use Rattle.std.specs.Prelude.{nat_le, nat_lt, is_some, sum_by}
+use Rattle.std.proofs.Common.{◌≡◌, ℕ, ◌+◌, ◌≤◌, ◌<◌, Bool, true, false, cond, ◌&&◌, ◌==◌, List, [], ◌∷◌, ◌++◌, length, map, Option, Some, None, ◌⊎◌, inl, inr, refl, sym, ap, ◌∙◌, subst, arith, leb-false, true≢false}
+use Rattle.std.specs.List.{count_by, list_all}
 use Rattle.std.specs.Prelude.{slice_set}
 use Rattle.std.proofs.lemmas.Bool.{and_parts, and_from, le-leb, leb-true, lt-ltb, ltb-false, eqb-true, eqb-false}
-use Rattle.std.proofs.lemmas.List.{get_or-set_other, get_or-set_same, length_push, length-set}
+use Rattle.std.proofs.lemmas.List.{get_or-set_other, get_or-set_same}
 use Rattle.std.proofs.lemmas.List.Folds.{list_all-map}
 use Rattle.std.proofs.lemmas.List.Sums.{sum_by_push, sum_by-cons, sum_by-set}
-use Rattle.am_names.specs.Names.{has_serial, same_serial, same_end, is_answer, is_request, is_request_kind}
+use Rattle.am_names.specs.Names.{same_end, is_answer, is_request}
 use Rattle.am_names.specs.declared.EndpointId.{EndpointId}
 use Rattle.am_names.specs.declared.Message.{Message}
-use Rattle.am_names.specs.declared.MsgKind.{MsgKind}
-use Rattle.am_names.specs.declared.MsgKind.TheVariants as Kind
 use Rattle.am_names.specs.declared.Serial.{Serial}
-use Rattle.am_names.specs.declared.Verdict.TheVariants as Verdicts
-use Rattle.am_names.specs.declared.Why.{Why}
 use Rattle.am_model.specs.declared.Awaited.{Awaited}
 use Rattle.am_model.specs.declared.Flying.{Flying}
 use Rattle.am_model.specs.declared.Mapping.{Mapping}
 use Rattle.am_model.specs.declared.Notice.{Notice}
 use Rattle.am_model.specs.declared.Queued.{Queued}
-use Rattle.am_model.specs.Choice.{first_holding, without_first}
-use Rattle.am_model.specs.Endpoint.{State, Body, entry_at, front_of, is_arrived, is_awaited, waits_for, verdict}
+use Rattle.am_model.specs.Choice.{without_first}
+use Rattle.am_model.specs.Endpoint.{Body, entry_at, front_of}
 use Rattle.am_model.specs.Calls.{awaited_at, excess, excess_from, has_no_credit, is_at, is_over_share, shares, share_of}
-use Rattle.am_model.specs.Changes.{appended, arrived, flying_of, is_of, marked, not_awaited, queued, settled, with_arrived, with_marked, without_front, requests_left}
-use Rattle.am_model.specs.Allowed.{is_formed_as, is_well_formed}
-use Rattle.am_model.specs.Valid.{FitsPool, IsValid, answers, has_arrived, is_about, is_own, is_own_answer, is_own_flight, is_own_notice, is_own_request, is_received_here, is_record, rise}
+use Rattle.am_model.specs.Changes.{arrived, queued, with_arrived, without_front}
+use Rattle.am_model.specs.Allowed.{is_well_formed}
+use Rattle.am_model.specs.Valid.{FitsPool, is_own, is_own_answer, is_own_flight, is_own_notice, is_own_request, is_record, rise}
 use Rattle.am_model.proofs.Excess.{IsFewer, IsOneMore, excess_fewer, excess_one, excess_set, excess_spare}
-use Rattle.am_model.proofs.Names.{same_end-refl, same_serial-is, same_serial-refl}
-use Rattle.am_model.proofs.Received.{bit, find_counts}
-use Rattle.am_model.proofs.Records.{any_counts, arrived_counts, arrives_all, arrives_only, arrives_or_waits, found_is, none_found, one_record, passing, rise_arrived, rise_higher, rise_push, rise_without, without_counts}
+use Rattle.am_model.proofs.Received.{bit}
+use Rattle.am_model.proofs.Records.{rise_arrived, rise_higher, rise_push, rise_without}
 use Rattle.am_model.proofs.Sizes.{count_le}
-use Rattle.am_model.proofs.Sound.{all_appended, all_dropped, all_found, all_push, all_set, all_without, verdict_accepts}
+use Rattle.am_model.proofs.Sound.{all_appended, all_push, all_without}
 
 -- own messages
 
@@ -87,14 +82,14 @@ own_accepted e b own =
       requests =
           all_weaker (is_own_request e b.accepted) (is_own_request e (b.accepted + 1)) b.requests
           (λ (q : Queued) h.
-           let parts = and_parts (is_request q.message) (is_own e b.accepted q.message q.bounces) h in
-           and_from (is_request q.message) (is_own e (b.accepted + 1) q.message q.bounces) parts.0 (own_more e b.accepted q.message q.bounces parts.1))
+          let parts = and_parts (is_request q.message) (is_own e b.accepted q.message q.bounces) h in
+          and_from (is_request q.message) (is_own e (b.accepted + 1) q.message q.bounces) parts.0 (own_more e b.accepted q.message q.bounces parts.1))
           own.requests;
       replies =
           all_weaker (is_own_answer e b.accepted) (is_own_answer e (b.accepted + 1)) b.replies
           (λ (q : Queued) h.
-           let parts = and_parts (is_answer q.message) (is_own e b.accepted q.message q.bounces) h in
-           and_from (is_answer q.message) (is_own e (b.accepted + 1) q.message q.bounces) parts.0 (own_more e b.accepted q.message q.bounces parts.1))
+          let parts = and_parts (is_answer q.message) (is_own e b.accepted q.message q.bounces) h in
+          and_from (is_answer q.message) (is_own e (b.accepted + 1) q.message q.bounces) parts.0 (own_more e b.accepted q.message q.bounces parts.1))
           own.replies;
       in_flight =
           all_weaker (is_own_flight e b.accepted) (is_own_flight e (b.accepted + 1)) b.in_flight
@@ -206,12 +201,14 @@ fits_more None index m a b same more at credit fits =
 fits_more (Some pool) index m a b same more at credit fits = by_spare (nat_le m.credits (awaited_at b index)) (excess b == pool) refl refl credit
   where
     by_spare : (t u : Bool) → nat_le m.credits (awaited_at b index) ≡ t → (excess b == pool) ≡ u → (nat_le m.credits (awaited_at b index) && (excess b == pool)) ≡ false → (excess a ≤ pool) × (shares a + pool ≤ 32)
-    by_spare false u is empty h =
-        (omega (arith, excess_spare index a b m 0 index a.mapped (omega arith) (ap (λ xs. entry_at xs index) same ∙ at) more (leb-false m.credits (awaited_at b index) is), ap (excess_from b 0) same, fits.0),
-         omega (arith, ap (λ (xs : List (Option Mapping)). sum_by share_of xs) same, fits.1))
-    by_spare true false is empty h =
-        (omega (arith, excess_one index a b 0 a.mapped more, ap (excess_from b 0) same, fits.0, below (excess b) pool fits.0 empty),
-         omega (arith, ap (λ (xs : List (Option Mapping)). sum_by share_of xs) same, fits.1))
+    by_spare false u is empty h = (
+      omega (arith, excess_spare index a b m 0 index a.mapped (omega arith) (ap (λ xs. entry_at xs index) same ∙ at) more (leb-false m.credits (awaited_at b index) is), ap (excess_from b 0) same, fits.0),
+      omega (arith, ap (λ (xs : List (Option Mapping)). sum_by share_of xs) same, fits.1),
+    )
+    by_spare true false is empty h = (
+      omega (arith, excess_one index a b 0 a.mapped more, ap (excess_from b 0) same, fits.0, below (excess b) pool fits.0 empty),
+      omega (arith, ap (λ (xs : List (Option Mapping)). sum_by share_of xs) same, fits.1),
+    )
       where
         below : (m n : ℕ) → m ≤ n → (m == n) ≡ false → m < n
         below m n le other = grind (arith, le, eqb-false m n other)
@@ -290,9 +287,10 @@ records_mapped e pool index m b lt at share own =
   where
     by_pool : (pool : Option ℕ) → is_over_share pool b m.credits ≡ false → FitsPool pool b → excess_from b 0 (slice_set b.mapped index (Some m)) ≤ excess b → FitsPool pool (record b { mapped = slice_set b.mapped index (Some m) })
     by_pool None share fits more = omega (arith, excess_fewer (record b { mapped = slice_set b.mapped index (Some m) }) b 0 (slice_set b.mapped index (Some m)) (λ j. omega arith), more, fits)
-    by_pool (Some pool) share fits more =
-        (omega (arith, excess_fewer (record b { mapped = slice_set b.mapped index (Some m) }) b 0 (slice_set b.mapped index (Some m)) (λ j. omega arith), more, fits.0),
-         omega (arith, shares_set b.mapped index (Some m) lt, ltb-false 32 (shares b + m.credits + pool) share, ap share_of at))
+    by_pool (Some pool) share fits more = (
+      omega (arith, excess_fewer (record b { mapped = slice_set b.mapped index (Some m) }) b 0 (slice_set b.mapped index (Some m)) (λ j. omega arith), more, fits.0),
+      omega (arith, shares_set b.mapped index (Some m) lt, ltb-false 32 (shares b + m.credits + pool) share, ap share_of at),
+    )
 
 pub records_off : (e : EndpointId) (pool : Option ℕ) (index : ℕ) (b : Body) → index < length b.mapped → awaited_at b index ≡ 0 → OwnRecords e pool b → OwnRecords e pool (record b { mapped = slice_set b.mapped index None })
 records_off e pool index b lt none own =
@@ -305,6 +303,7 @@ records_off e pool index b lt none own =
   where
     by_pool : (pool : Option ℕ) → FitsPool pool b → excess_from b 0 (slice_set b.mapped index None) ≤ excess b → FitsPool pool (record b { mapped = slice_set b.mapped index None })
     by_pool None fits more = omega (arith, excess_fewer (record b { mapped = slice_set b.mapped index None }) b 0 (slice_set b.mapped index None) (λ j. omega arith), more, fits)
-    by_pool (Some pool) fits more =
-        (omega (arith, excess_fewer (record b { mapped = slice_set b.mapped index None }) b 0 (slice_set b.mapped index None) (λ j. omega arith), more, fits.0),
-         omega (arith, shares_set b.mapped index None lt, fits.1))
+    by_pool (Some pool) fits more = (
+      omega (arith, excess_fewer (record b { mapped = slice_set b.mapped index None }) b 0 (slice_set b.mapped index None) (λ j. omega arith), more, fits.0),
+      omega (arith, shares_set b.mapped index None lt, fits.1),
+    )

@@ -1,5 +1,5 @@
 -- What an endpoint may be given at a state, and what its body keeps.
-use Rattle.std.specs.Prelude.{◌≡◌, ℕ, Bool, true, false, ◌==◌, ◌&&◌, Option, Some, None, is_none, is_some, List, [], length, ◌⊎◌, if◌then◌else◌}
+use Rattle.std.specs.Prelude.{◌≡◌, ℕ, Bool, true, false, ◌==◌, ◌&&◌, Option, Some, None, is_none, is_some, length, ◌⊎◌, if◌then◌else◌}
 use Rattle.am_names.specs.declared.EndpointId.{EndpointId}
 use Rattle.am_names.specs.declared.NodeId.{NodeId}
 use Rattle.am_names.specs.declared.Words.{Words}
@@ -8,7 +8,7 @@ use Rattle.am_names.specs.declared.MsgKind.TheVariants as Kind
 use Rattle.am_names.specs.declared.Verdict.{Verdict}
 use Rattle.am_names.specs.declared.Verdict.TheVariants as Verdicts
 use Rattle.am_names.specs.declared.Message.{Message}
-use Rattle.am_names.specs.Names.{same_end, is_request, is_answer}
+use Rattle.am_names.specs.Names.{same_end}
 use Rattle.am_office.specs.declared.Call.{Call}
 use Rattle.am_office.specs.declared.Call.TheVariants as Calls
 use Rattle.am_office.specs.declared.Event.{Event}
@@ -19,10 +19,9 @@ use Rattle.am_office.specs.declared.Outcome.{Outcome}
 use Rattle.am_office.specs.declared.Outcome.TheVariants as Out
 use Rattle.am_office.specs.declared.Entry.{Entry}
 use Rattle.am_model.specs.declared.Flying.{Flying}
-use Rattle.am_model.specs.declared.Mapping.{Mapping}
 use Rattle.am_model.specs.declared.Queued.{Queued}
-use Rattle.am_model.specs.Endpoint.{Body, State, IsWithin, front, is_on_disk, is_on_host, is_resident, verdict}
-use Rattle.am_model.specs.Changes.{after, flying_of}
+use Rattle.am_model.specs.Endpoint.{State, front, is_on_disk, is_on_host, is_resident, verdict}
+use Rattle.am_model.specs.Changes.{flying_of}
 use Rattle.am_model.specs.History.{are_credits_in_range, is_kind_in_range, judged, settle_by}
 
 abbrev pub are_zero : Words → Bool

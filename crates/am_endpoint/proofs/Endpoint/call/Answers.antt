@@ -1,4 +1,4 @@
-use Rattle.std.proofs.Common.{◌≡◌, true, sym, ap, ◌∙◌, subst}
+use Rattle.std.proofs.Common.{◌≡◌, true, sym, ◌∙◌, subst}
 use Rattle.am_office.specs.declared.Outcome.{Outcome}
 use Rattle.am_model.specs.Allowed.{are_numbers_in_range}
 use Rattle.am_model.specs.Order.{IsInOrder}

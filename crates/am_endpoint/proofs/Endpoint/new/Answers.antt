@@ -1,5 +1,4 @@
-use Rattle.std.proofs.Common.{◌≡◌, length, sym, ap, ◌∙◌, subst, arith}
-use Rattle.am_office.specs.declared.Entry.{Entry}
+use Rattle.std.proofs.Common.{length, sym, ap, ◌∙◌, subst, arith}
 use Rattle.am_model.specs.Endpoint.{State}
 use Rattle.am_model.specs.Order.{IsInOrder}
 use Rattle.am_model.proofs.Order.{order_fresh}
