@@ -1,6 +1,6 @@
 -- A generated scenario is lawful.
-use Rattle.std.proofs.Common.{◌≡◌, ◌≢◌, ℕ, zero, suc, ◌+◌, ◌-◌, ◌*◌, ◌/◌, ◌%◌, ◌^◌, ◌<◌, ◌≤◌, Bool, true, false, List, [], ◌∷◌, ◌++◌, length, Option, Some, None, refl, sym, ap, ◌∙◌, subst, ⊎_elim, arith, rules, length-append}
-use Rattle.std.specs.Prelude.{◌==◌, ◌&&◌, ◌||◌, nat_lt, find, count_by, if◌then◌else◌, IfSome, IsSome, IsTrue, bit_or, bit_xor}
+use Rattle.std.proofs.Common.{◌≡◌, ◌≢◌, ℕ, zero, suc, ◌+◌, ◌-◌, ◌*◌, ◌/◌, ◌%◌, ◌^◌, ◌<◌, ◌≤◌, Bool, true, false, List, [], ◌∷◌, ◌++◌, length, Option, Some, None, refl, sym, ap, ◌∙◌, subst, ⊎_elim, arith, length-append}
+use Rattle.std.specs.Prelude.{◌==◌, ◌&&◌, ◌||◌, nat_lt, find, count_by, if◌then◌else◌, IsSome, bit_xor}
 use Rattle.std.specs.List.{All, AllPairs, list_any}
 use Rattle.std.specs.Option.{option_map, option_or}
 use Rattle.std.proofs.Math.Nat.{div-le_self}
@@ -11,13 +11,12 @@ use Rattle.std.proofs.lemmas.List.{length_push}
 use Rattle.std.proofs.lemmas.List.Elements.{All-nil, All-cons, All-push, All-append, All-weaker}
 use Rattle.std.proofs.lemmas.List.Quantifiers.{all_pairs_push}
 use Rattle.std.proofs.lemmas.List.Folds.{find-append}
-use Rattle.std.proofs.lemmas.List.Sums.{sum_by_push, sum_by-cons, count_by-le-length}
+use Rattle.std.proofs.lemmas.List.Sums.{sum_by_push, count_by-le-length}
 use Rattle.rand_pcg.specs.Lcg.{Lcg}
-use Rattle.rand_pcg.specs.Pcg.{pcg32, output_xsh_rr}
 use Rattle.am_names.specs.declared.EndpointId.{EndpointId}
 use Rattle.am_names.specs.declared.NodeId.{NodeId}
 use Rattle.am_office.specs.declared.Call.{Call}
-use Rattle.am_office.specs.declared.Call.TheVariants.{Request, Poll, Map, SetHandler}
+use Rattle.am_office.specs.declared.Call.TheVariants.{Request, Poll, SetHandler}
 use Rattle.am_office.specs.declared.HandlerKind.TheVariants.{Note, Echo, Add}
 use Rattle.am_plan.specs.declared.plan.PlanLine.{PlanLine}
 use Rattle.am_plan.specs.declared.plan.LinkFault.TheVariants.{Lose, Repeat, Late}
@@ -26,12 +25,10 @@ use Rattle.am_scenario_types.specs.declared.parts.Network.TheVariants.{Packet}
 use Rattle.am_scenario_types.specs.declared.parts.EndLine.{EndLine}
 use Rattle.am_scenario_types.specs.declared.parts.ThreadLine.{ThreadLine}
 use Rattle.am_scenario_types.specs.declared.parts.ScriptCall.{ScriptCall}
-use Rattle.am_scenario_types.specs.declared.parts.StepLine.{StepLine}
-use Rattle.am_scenario_types.specs.Lists.{ScenarioLists}
-use Rattle.am_scenario_types.specs.Lawful.{IsWithin, node_of, thread_node, IsDeclared, IsOn, HasLawfulSettings, IsLawfulEnd, IsLawfulBundle, IsLawfulThread, IsLawfulFault, IsLawfulPlanLine, IsSamePlace, IsLawfulFaultLine, IsSamePageCall, IsLawfulCall, IsLawfulScriptCall, IsLawfulEvent, IsLawful, IsOfForm}
+use Rattle.am_scenario_types.specs.Lawful.{node_of, thread_node, IsDeclared, IsOn, IsLawfulEnd, IsLawfulBundle, IsLawfulThread, IsLawfulFault, IsLawfulPlanLine, IsSamePlace, IsLawfulFaultLine, IsSamePageCall, IsLawfulCall, IsLawfulScriptCall, IsLawfulEvent, IsLawful, IsOfForm}
 use Rattle.am_generator.specs.Words.{seeded, word, steps, after_threads}
 use Rattle.am_generator.specs.Calls.{call_on, map_to, greeting, greetings, polls, opening, drawn_end, drawn_call, drawn_calls, thread_calls, script_below}
-use Rattle.am_generator.specs.Plan.{fault_of, line_of, stands, with_line, plan_after}
+use Rattle.am_generator.specs.Plan.{line_of, stands, with_line, plan_after}
 use Rattle.am_generator.specs.Scenarios.{end_line, ends_below, thread_line, threads_below, generated}
 
 -- ---- tests and lists

@@ -43,7 +43,7 @@ fn make_threads(alloc: Global, count: u8) -> Result<Vec<ThreadLine>, AllocError>
 }
 
 /// The scenario of a number: twelve endpoints and eight threads on four nodes, 1,744 calls, and up to 32 packets that
-/// are lost, repeated or late, all by random words.
+/// are lost, repeated or late, all by the words of the generator `Lcg64Xsh32` with this state and the stream 54.
 pub fn generate(alloc: Global, n: u64) -> Result<Scenario, AllocError>
     ensures exact { IfOk result (λ scenario. scenario ≡ generated n) }
     ensures lawful { IfOk result IsLawful }

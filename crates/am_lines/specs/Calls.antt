@@ -1,5 +1,5 @@
 -- The calls, each by the words behind its verb: the endpoint, of the node that is wanted, if one is, and the call.
-use Rattle.std.specs.Prelude.{ℕ, List, codes, if◌then◌else◌, Option, Some, None, Result, Ok, Err}
+use Rattle.std.specs.Prelude.{ℕ, List, codes, if◌then◌else◌, Option, None, Result, Ok, Err}
 use Rattle.std.specs.Str.{bytes_eq}
 use Rattle.am_lexer.specs.declared.what.What.{What}
 use Rattle.am_lexer.specs.declared.what.What.TheVariants.{UnknownWord}

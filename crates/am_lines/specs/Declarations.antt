@@ -1,5 +1,5 @@
 -- Section 3: what is declared, and what fails.
-use Rattle.std.specs.Prelude.{ℕ, Bool, true, false, ◌==◌, ◌||◌, nat_lt, List, [], ◌∷◌, length, codes, if◌then◌else◌, Option, Some, None, Result, Ok, Err, count_by}
+use Rattle.std.specs.Prelude.{ℕ, Bool, true, false, ◌==◌, ◌||◌, nat_lt, List, [], ◌∷◌, length, codes, if◌then◌else◌, Some, None, Result, Ok, Err, count_by}
 use Rattle.std.specs.Option.{is_some}
 use Rattle.std.specs.List.{list_any}
 use Rattle.std.specs.Str.{bytes_eq}
@@ -12,7 +12,7 @@ use Rattle.am_office.specs.declared.Mask.{Mask}
 use Rattle.am_office.specs.declared.Mask.TheVariants.{NoEvents, NotEmpty}
 use Rattle.am_plan.specs.declared.LinkFault.{LinkFault}
 use Rattle.am_plan.specs.declared.LinkFault.TheVariants.{Lose, Repeat, Late}
-use Rattle.am_scenario_types.specs.declared.parts.Network.TheVariants.{Direct, Packet}
+use Rattle.am_scenario_types.specs.declared.parts.Network.TheVariants.{Packet}
 use Rattle.am_draft.specs.declared.settings.Settings.{Settings}
 use Rattle.am_draft.specs.declared.line.Line.{Line}
 use Rattle.am_draft.specs.declared.line.Line.TheVariants as line

@@ -1,13 +1,12 @@
 -- Each kind of line says something lawful: section 4, and all kinds together.
-use Rattle.std.proofs.Common.{◌≡◌, ℕ, ◌+◌, ◌<◌, ◌≤◌, ◌^◌, Bool, true, false, List, [], ◌∷◌, length, Option, Some, None, Result, Ok, Err, refl, sym, ap, ◌∙◌, subst, arith, rules}
-use Rattle.std.specs.Prelude.{◌==◌, nat_lt, nat_le, map, find, if◌then◌else◌, codes}
+use Rattle.std.proofs.Common.{◌≡◌, ℕ, ◌+◌, ◌<◌, List, [], ◌∷◌, length, Option, Some, None, refl, sym, ap, ◌∙◌, arith}
+use Rattle.std.specs.Prelude.{◌==◌, nat_lt, nat_le, map, codes}
 use Rattle.std.specs.List.{All}
 use Rattle.std.specs.Option.{option_map}
 use Rattle.std.specs.Str.{bytes_eq}
 use Rattle.std.proofs.lemmas.List.Elements.{All-nil, All-cons, All-tail}
-use Rattle.am_lexer.specs.declared.what.What.{What}
 use Rattle.am_lexer.specs.declared.what.What.TheVariants.{UnknownWord, OutOfRange, Undeclared, TooMany}
-use Rattle.am_lexer.specs.Fields.{◌>>=◌, or_else, word_at, number_at, within, ended}
+use Rattle.am_lexer.specs.Fields.{or_else, word_at, number_at, within, ended}
 use Rattle.am_names.specs.declared.EndpointId.{EndpointId}
 use Rattle.am_names.specs.declared.NodeId.{NodeId}
 use Rattle.am_office.specs.declared.Actor.TheVariants.{Outside}
@@ -18,12 +17,10 @@ use Rattle.am_office.specs.declared.HandlerKind.TheVariants.{Note, Echo, Add}
 use Rattle.am_office.specs.declared.Event.{Event}
 use Rattle.am_office.specs.declared.Event.TheVariants as event
 use Rattle.am_bundle.specs.Calls.{poll_calls, test_calls}
-use Rattle.am_bundle.specs.Lists.{BundleLists}
 use Rattle.am_scenario_types.specs.declared.parts.Form.{Form}
 use Rattle.am_scenario_types.specs.declared.parts.Form.TheVariants.{Step, Run}
-use Rattle.am_scenario_types.specs.declared.parts.EndLine.{EndLine}
 use Rattle.am_scenario_types.specs.declared.parts.ThreadLine.{ThreadLine}
-use Rattle.am_scenario_types.specs.Lawful.{IsWithin, IsOn, IsDeclared, IsLawfulKind, IsLawfulCall, IsLawfulScriptCall, IsLawfulEvent, thread_node}
+use Rattle.am_scenario_types.specs.Lawful.{IsOn, IsLawfulKind, IsLawfulCall, IsLawfulScriptCall, IsLawfulEvent, thread_node}
 use Rattle.am_draft.specs.declared.line.Line.{Line}
 use Rattle.am_draft.specs.declared.line.Line.TheVariants as line
 use Rattle.am_draft.specs.Said.{Said, node_count, frame_count, channel_count, thread_of, script_call}
@@ -37,9 +34,9 @@ use Rattle.am_lines.specs.Script.{bundled, poll_bundle_line, test_bundle_line, t
 use Rattle.am_lines.specs.Steps.{step, outside_line, head_node, bind_line, expire_line, receive_line, interface_line, load_line, drive_line, driver_line}
 use Rattle.am_lines.specs.Settings.{setting_line}
 use Rattle.am_lines.specs.Lines.{words_say}
-use Rattle.am_lines_laws.specs.LineLaws.{section_said, fits_form, Kind, OfSetting, OfScript, OfStep, kind_said, kind_of, section_of_kind, is_kind_of_form, IsLawfulSetting, IsLawfulLine, LinesAreLawful}
-use Rattle.am_lines_laws.proofs.Meets.{Meets, refuses, gives, bind, test, anything, found, weaker}
-use Rattle.am_lines_laws.proofs.Words.{a_number, is_within, is_below, a_node, a_tag, a_serial, an_end, a_bundle, eq_true, find_passes, IsEndFor, on_is_declared}
+use Rattle.am_lines_laws.specs.LineLaws.{section_said, fits_form, Kind, OfSetting, OfScript, OfStep, kind_said, kind_of, section_of_kind, is_kind_of_form, LinesAreLawful}
+use Rattle.am_lines_laws.proofs.Meets.{Meets, refuses, gives, bind, test, anything, found}
+use Rattle.am_lines_laws.proofs.Words.{a_number, is_within, is_below, a_node, a_tag, a_serial, an_end, a_bundle, eq_true, find_passes, IsEndFor}
 use Rattle.am_lines_laws.proofs.Declaring.{Says, is_less, is_at_most, a_version, a_setting, an_endpoint, a_bundle_line, a_thread, a_plan_line, a_swap_fault}
 
 -- ---- calls

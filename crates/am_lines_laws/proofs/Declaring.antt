@@ -1,15 +1,14 @@
 -- Each kind of line says something lawful: sections 1 to 3.
-use Rattle.std.proofs.Common.{◌≡◌, ◌≢◌, ℕ, ◌+◌, ◌<◌, ◌≤◌, ◌^◌, Bool, true, false, List, [], ◌∷◌, length, Option, Some, None, Result, Ok, Err, refl, sym, ap, ◌∙◌, subst, arith, rules}
-use Rattle.std.specs.Prelude.{◌==◌, ◌&&◌, ◌||◌, nat_lt, nat_le, is_some, if◌then◌else◌, IsTrue, codes, count_by}
+use Rattle.std.proofs.Common.{◌≡◌, ◌≢◌, ℕ, ◌<◌, ◌≤◌, Bool, true, false, List, [], ◌∷◌, length, Option, Some, None, Ok, Err, refl, arith}
+use Rattle.std.specs.Prelude.{◌==◌, ◌||◌, nat_lt, nat_le, is_some, IsTrue, codes, count_by}
 use Rattle.std.specs.List.{All, AllPairs, list_any}
 use Rattle.std.specs.Option.{unwrap_or}
 use Rattle.std.specs.Str.{bytes_eq}
 use Rattle.std.proofs.lemmas.Bool.Decides.{nat_tests}
 use Rattle.std.proofs.lemmas.List.Elements.{All-nil, All-cons, All-weaker}
 use Rattle.std.proofs.lemmas.List.Kept.{AllPairs-cons}
-use Rattle.am_lexer.specs.declared.what.What.{What}
-use Rattle.am_lexer.specs.declared.what.What.TheVariants.{UnknownWord, BadNumber, OutOfRange, Twice, TooMany}
-use Rattle.am_lexer.specs.Fields.{◌>>=◌, word_at, within, ended}
+use Rattle.am_lexer.specs.declared.what.What.TheVariants.{UnknownWord, OutOfRange, Twice, TooMany}
+use Rattle.am_lexer.specs.Fields.{word_at, within, ended}
 use Rattle.am_names.specs.declared.EndpointId.{EndpointId}
 use Rattle.am_names.specs.declared.NodeId.{NodeId}
 use Rattle.am_plan.specs.declared.plan.LinkFault.{LinkFault}
@@ -18,22 +17,20 @@ use Rattle.am_scenario_types.specs.declared.parts.Form.{Form}
 use Rattle.am_scenario_types.specs.declared.parts.Form.TheVariants.{Step, Run}
 use Rattle.am_scenario_types.specs.declared.parts.Network.{Network}
 use Rattle.am_scenario_types.specs.declared.parts.Network.TheVariants.{Direct, Packet}
-use Rattle.am_scenario_types.specs.declared.parts.EndLine.{EndLine}
-use Rattle.am_scenario_types.specs.Lawful.{IsWithin, IsOn, IsLawfulFault, IsLawfulEnd}
+use Rattle.am_scenario_types.specs.Lawful.{IsWithin, IsOn, IsLawfulFault}
 use Rattle.am_draft.specs.declared.settings.Settings.{Settings}
-use Rattle.am_draft.specs.declared.settings.Setting.{Setting}
 use Rattle.am_draft.specs.declared.settings.Setting.TheVariants as setting
 use Rattle.am_draft.specs.declared.line.Line.{Line}
 use Rattle.am_draft.specs.declared.line.Line.TheVariants as line
-use Rattle.am_draft.specs.Said.{Said, node_count, end_of, thread_of, bundle_of, is_planned, is_faulty}
+use Rattle.am_draft.specs.Said.{Said, end_of, thread_of, bundle_of, is_planned, is_faulty}
 use Rattle.am_lines.specs.declared.head.SettingName.{SettingName}
 use Rattle.am_lines.specs.declared.head.SettingName.TheVariants.{Network as NetworkWord, Nodes, Frames, Channels, Tries, Bounces, Pool, Keep, Log, Turns}
 use Rattle.am_lines.specs.Places.{node_at, end_word, tag_at}
 use Rattle.am_lines.specs.Settings.{version_of, version_line, once_within, network_of as network_word, network_setting, setting_line}
 use Rattle.am_lines.specs.Declarations.{disk_at, endpoint_line, thread_line, link_fault_at, plan_line, swap_fault_line, mask_at, members, has_twice, bundle_line}
 use Rattle.am_lines_laws.specs.LineLaws.{network_of, Kind, OfVersion, OfDeclaration, OfPlan, kind_said, IsNetworkOf, IsLawfulSetting, IsLawfulLine}
-use Rattle.am_lines_laws.proofs.Meets.{Meets, refuses, gives, bind, test, anything, found}
-use Rattle.am_lines_laws.proofs.Words.{is_within, a_node, a_tag, an_end_word, eq_true}
+use Rattle.am_lines_laws.proofs.Meets.{Meets, refuses, gives, bind, test, anything}
+use Rattle.am_lines_laws.proofs.Words.{is_within, a_node, a_tag, an_end_word}
 
 -- lawful, and of this kind
 abbrev pub Says : Form → Said → Kind → Line → Type 0

@@ -1,7 +1,7 @@
 -- With a lawful line what was said stays sound.
-use Rattle.std.proofs.Common.{◌≡◌, ◌≢◌, ℕ, zero, suc, ◌+◌, ◌<◌, ◌≤◌, Bool, true, false, List, [], ◌∷◌, ◌++◌, length, Option, Some, None, refl, sym, ap, ◌∙◌, subst, arith, rules, length-append}
-use Rattle.std.specs.Prelude.{◌==◌, ◌&&◌, ◌||◌, map, find, count_by, if◌then◌else◌, IfSome}
-use Rattle.std.specs.List.{All, AllPairs, list_any}
+use Rattle.std.proofs.Common.{◌≡◌, ◌≢◌, ℕ, ◌+◌, ◌<◌, ◌≤◌, Bool, true, false, List, [], ◌∷◌, ◌++◌, length, Option, Some, None, refl, sym, ap, ◌∙◌, subst, arith, length-append}
+use Rattle.std.specs.Prelude.{◌==◌, ◌&&◌, map, find, count_by, if◌then◌else◌}
+use Rattle.std.specs.List.{All, AllPairs}
 use Rattle.std.specs.Option.{option_map, option_or}
 use Rattle.std.proofs.lemmas.Bool.Decides.{nat_tests}
 use Rattle.std.proofs.lemmas.List.{length_push, length-map}
@@ -21,18 +21,17 @@ use Rattle.am_scenario_types.specs.declared.parts.ThreadLine.{ThreadLine}
 use Rattle.am_scenario_types.specs.declared.parts.FaultLine.{FaultLine}
 use Rattle.am_scenario_types.specs.declared.parts.ScriptCall.{ScriptCall}
 use Rattle.am_scenario_types.specs.declared.parts.StepLine.{StepLine}
-use Rattle.am_scenario_types.specs.Lawful.{IsWithin, node_of, IsOn, IsLawfulEnd, IsLawfulBundle, IsLawfulThread, IsLawfulPlanLine, IsSamePlace, IsLawfulFaultLine, IsSamePageCall, IsLawfulScriptCall, IsLawfulEvent}
+use Rattle.am_scenario_types.specs.Lawful.{IsOn, IsLawfulEnd, IsLawfulBundle, IsLawfulThread, IsLawfulPlanLine, IsSamePlace, IsLawfulFaultLine, IsSamePageCall, IsLawfulScriptCall, IsLawfulEvent}
 use Rattle.am_draft.specs.declared.settings.Settings.{Settings}
 use Rattle.am_draft.specs.declared.settings.Setting.{Setting}
 use Rattle.am_draft.specs.declared.settings.Setting.TheVariants as setting
-use Rattle.am_draft.specs.declared.line.Line.{Line}
 use Rattle.am_draft.specs.declared.line.Line.TheVariants as line
 use Rattle.am_draft.specs.Said.{Said, with_line, with_setting, nothing, node_count, frame_count, channel_count, end_of, thread_of, bundle_of, is_planned, is_faulty, script_call}
 use Rattle.am_lines.specs.Calls.{least_share}
-use Rattle.am_lines_laws.specs.LineLaws.{network_of, section_said, fits_form, IsNetworkOf, IsLawfulSetting, IsLawfulLine}
+use Rattle.am_lines_laws.specs.LineLaws.{network_of, fits_form, IsLawfulSetting}
 use Rattle.am_lines_laws.specs.Sound.{SettingsAreSound, EndsAreSound, BundlesAreSound, ThreadsAreSound, PlanIsSound, FaultsAreSound, ScriptIsSound, StepsAreSound, DeclaresNothing, DoesNothing, HasForm, IsSound}
 use Rattle.am_lines_laws.specs.Growth.{StaysSound, BeginsSound}
-use Rattle.am_lines_laws.proofs.Declaring.{none_passes, neither}
+use Rattle.am_lines_laws.proofs.Declaring.{none_passes}
 
 -- ---- nothing
 

@@ -1,22 +1,21 @@
 -- What is known of the places in a line.
-use Rattle.std.proofs.Common.{◌≡◌, ◌≢◌, ℕ, ◌+◌, ◌<◌, ◌≤◌, ◌^◌, Bool, true, false, List, [], ◌∷◌, length, take, drop, Option, Some, None, Result, Ok, Err, refl, sym, ap, ◌∙◌, subst, arith, rules}
-use Rattle.std.specs.Prelude.{◌==◌, ◌&&◌, ◌||◌, nat_lt, nat_le, find, map, if◌then◌else◌, IsSome, IsTrue, codes}
-use Rattle.std.specs.List.{All, AllPairs, list_any, list_all, position}
-use Rattle.std.specs.Option.{option_map, unwrap_or}
+use Rattle.std.proofs.Common.{◌≡◌, ℕ, ◌+◌, ◌<◌, ◌≤◌, ◌^◌, Bool, true, false, List, [], ◌∷◌, take, drop, Option, Some, None, refl, sym, ap, ◌∙◌, subst, arith, rules}
+use Rattle.std.specs.Prelude.{◌==◌, ◌&&◌, nat_lt, nat_le, find, if◌then◌else◌, IsSome, codes}
+use Rattle.std.specs.List.{All, position}
+use Rattle.std.specs.Option.{option_map}
 use Rattle.std.specs.Str.{bytes_eq}
 use Rattle.std.proofs.lemmas.Bool.Decides.{nat_tests}
 use Rattle.std.proofs.lemmas.List.Elements.{All-nil, All-cons}
-use Rattle.am_lexer.specs.declared.what.What.{What}
-use Rattle.am_lexer.specs.declared.what.What.TheVariants.{UnknownWord, BadNumber, OutOfRange, Undeclared}
-use Rattle.am_lexer.specs.Text.{number_of, has_bytes, is_digit, value_after}
-use Rattle.am_lexer.specs.Fields.{◌>>=◌, or_else, word_at, number_at, within, ended}
+use Rattle.am_lexer.specs.declared.what.What.TheVariants.{BadNumber, OutOfRange, Undeclared}
+use Rattle.am_lexer.specs.Text.{number_of, value_after}
+use Rattle.am_lexer.specs.Fields.{or_else, word_at, number_at, within}
 use Rattle.am_names.specs.declared.EndpointId.{EndpointId}
 use Rattle.am_names.specs.declared.NodeId.{NodeId}
 use Rattle.am_names.specs.declared.Tag.{Tag}
 use Rattle.am_names.specs.declared.Serial.{Serial}
 use Rattle.am_bundle.specs.Lists.{BundleLists}
 use Rattle.am_scenario_types.specs.declared.parts.EndLine.{EndLine}
-use Rattle.am_scenario_types.specs.Lawful.{IsWithin, node_of, IsDeclared, IsOn, IsLawfulSerial}
+use Rattle.am_scenario_types.specs.Lawful.{IsWithin, IsDeclared, IsOn, IsLawfulSerial}
 use Rattle.am_draft.specs.declared.settings.Settings.{Settings}
 use Rattle.am_draft.specs.Said.{Said, node_count, end_of, bundle_of}
 use Rattle.am_lines.specs.Places.{below, node_at, is_wanted, end_word, end_at, is_there, is_on, are_on, bundle_at, tag_at, and_then, serial_of, serial_at}

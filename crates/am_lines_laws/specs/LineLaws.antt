@@ -1,9 +1,7 @@
 -- What a line says is lawful, after what the lines before it have said.
-use Rattle.std.specs.Prelude.{◌≡◌, ◌≢◌, ℕ, ◌+◌, ◌<◌, ◌≤◌, ◌==◌, true, false, Bool, List, length, map, count_by, Option, Some, None, Result, Ok}
-use Rattle.std.specs.List.{All, AllPairs}
+use Rattle.std.specs.Prelude.{◌≡◌, ℕ, ◌+◌, ◌<◌, ◌≤◌, ◌==◌, true, false, Bool, List, length, map, count_by, None, Ok}
+use Rattle.std.specs.List.{All}
 use Rattle.std.specs.Option.{unwrap_or}
-use Rattle.am_lexer.specs.declared.what.What.{What}
-use Rattle.am_names.specs.declared.EndpointId.{EndpointId}
 use Rattle.am_bundle.specs.Lists.{BundleLists}
 use Rattle.am_plan.specs.declared.plan.PlanLine.{PlanLine}
 use Rattle.am_scenario_types.specs.declared.parts.Form.{Form}

@@ -1,5 +1,5 @@
 -- What the lines so far have said is sound: as lawful as a scenario that isn't whole yet can be.
-use Rattle.std.specs.Prelude.{◌≡◌, ◌≢◌, ℕ, ◌<◌, ◌≤◌, ◌==◌, List, [], length, count_by, IfSome}
+use Rattle.std.specs.Prelude.{◌≡◌, ◌≢◌, ℕ, ◌≤◌, ◌==◌, List, [], length, count_by, IfSome}
 use Rattle.std.specs.List.{All, AllPairs}
 use Rattle.am_bundle.specs.Lists.{BundleLists}
 use Rattle.am_plan.specs.declared.plan.PlanLine.{PlanLine}

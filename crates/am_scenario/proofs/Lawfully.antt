@@ -1,6 +1,6 @@
 -- A spelled scenario is lawful.
-use Rattle.std.proofs.Common.{◌≡◌, ◌≢◌, ℕ, zero, suc, ◌+◌, ◌-◌, ◌<◌, ◌≤◌, Bool, true, false, List, [], ◌∷◌, ◌++◌, length, Option, Some, None, Result, Ok, Err, refl, sym, ap, ◌∙◌, subst, inl, inr, ◌⊎◌, arith, rules}
-use Rattle.std.specs.Prelude.{◌==◌, ◌&&◌, ◌||◌, not, nat_lt, find, count_by, if◌then◌else◌, IfSome, IsSome, IsTrue, is_some}
+use Rattle.std.proofs.Common.{◌≡◌, ℕ, zero, suc, ◌+◌, ◌-◌, ◌<◌, ◌≤◌, Bool, true, false, List, [], ◌∷◌, ◌++◌, length, Option, Some, None, Result, Ok, Err, refl, sym, ap, ◌∙◌, subst, inl, inr, ◌⊎◌, arith}
+use Rattle.std.specs.Prelude.{◌==◌, ◌&&◌, ◌||◌, not, nat_lt, find, count_by, IfSome, IsSome, is_some}
 use Rattle.std.specs.List.{All, AllPairs, slice_index}
 use Rattle.std.specs.Option.{option_to_list, option_map, unwrap_or}
 use Rattle.std.proofs.lemmas.Bool.Decides.{nat_tests}
@@ -8,7 +8,7 @@ use Rattle.std.proofs.lemmas.List.Elements.{All-weaker}
 use Rattle.am_lexer.specs.declared.what.What.{What}
 use Rattle.am_lexer.specs.declared.what.What.TheVariants.{UnknownWord, Missing, NotText, OutOfPlace}
 use Rattle.am_lexer.specs.Text.{lines_of, words_of, is_text_line}
-use Rattle.am_lexer.specs.Fields.{◌>>=◌, or_else}
+use Rattle.am_lexer.specs.Fields.{or_else}
 use Rattle.am_names.specs.declared.EndpointId.{EndpointId}
 use Rattle.am_names.specs.declared.NodeId.{NodeId}
 use Rattle.am_office.specs.declared.Call.{Call}
@@ -23,17 +23,15 @@ use Rattle.am_scenario_types.specs.declared.parts.Network.TheVariants.{Direct}
 use Rattle.am_scenario_types.specs.declared.parts.EndLine.{EndLine}
 use Rattle.am_scenario_types.specs.declared.parts.ThreadLine.{ThreadLine}
 use Rattle.am_scenario_types.specs.declared.parts.ScriptCall.{ScriptCall}
-use Rattle.am_scenario_types.specs.declared.parts.StepLine.{StepLine}
 use Rattle.am_scenario_types.specs.declared.faults.ScenarioFault.{ScenarioFault}
 use Rattle.am_scenario_types.specs.Lists.{ScenarioLists}
 use Rattle.am_scenario_types.specs.Lawful.{IsWithin, node_of, thread_node, IsDeclared, IsOn, HasLawfulSettings, IsLawfulEnd, IsLawfulBundle, IsLawfulThread, IsLawfulPlanLine, IsLawfulFaultLine, IsLawfulCall, IsLawfulScriptCall, IsLawfulEvent, least_credits, IsLawful, IsOfForm}
 use Rattle.am_draft.specs.declared.settings.Version.{Version}
 use Rattle.am_draft.specs.declared.settings.Version.TheVariants.{One, Two}
 use Rattle.am_draft.specs.declared.settings.Settings.{Settings}
-use Rattle.am_draft.specs.declared.line.Line.{Line}
 use Rattle.am_draft.specs.Said.{Said, with_line, nothing, node_count, frame_count, channel_count, end_of, thread_of}
 use Rattle.am_lines.specs.declared.head.Head.{Head}
-use Rattle.am_lines.specs.Heads.{head_of, section_of, is_of_form, knows_pools}
+use Rattle.am_lines.specs.Heads.{head_of, section_of, is_of_form}
 use Rattle.am_lines.specs.Calls.{least_share}
 use Rattle.am_lines.specs.Lines.{words_say}
 use Rattle.am_lines_laws.specs.LineLaws.{network_of, section_said, fits_form, IsNetworkOf, IsLawfulLine}
@@ -46,7 +44,7 @@ use Rattle.am_lines_laws.proofs.Growing.{stays_sound, begins_sound}
 use Rattle.am_scenario.specs.Order.{placed, after_words, after_line}
 use Rattle.am_scenario.specs.Grammar.{ends_below, threads_below, tries_of, bounces_of, pool_of, whole, on_line, read_from, grammar}
 use Rattle.am_scenario.specs.Laws.{SpellsLawful, ExactlyOne}
-use Rattle.am_scenario.proofs.Below.{below, has_key, found_holds, all_below, rising, found_below, count_below}
+use Rattle.am_scenario.proofs.Below.{below, found_holds, all_below, rising, found_below, count_below}
 
 -- ---- one line more
 

@@ -22,7 +22,8 @@ fn refused(line: u32, fault: LineFault) -> ReadFault
     }
 }
 
-/// The scenario that the bytes spell, or their first fault.
+/// The scenario that the bytes spell, in the grammar of docs/SCENARIO.md, or the line and the cause of their first
+/// fault. Lines are counted in 32 bits. Without memory the answer is `NoMemory`, and nothing is left of the scenario.
 pub fn read(alloc: Global, form: Form, bytes: &[u8]) -> Result<Scenario, ReadFault>
     requires { length bytes.now < 2 ^ 32 - 1 }
     ensures exact { Answers result (grammar form bytes.now) }

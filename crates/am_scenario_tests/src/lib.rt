@@ -1,0 +1,7 @@
+//! Tests of the scenario's text: small texts with the fault that each has, and texts that spell a scenario.
+#![tactic(auto)]
+
+#[cfg(test)]
+mod tables;
+#[cfg(test)]
+mod tests;

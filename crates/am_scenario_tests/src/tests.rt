@@ -1,0 +1,217 @@
+use crate::tables::{DECLARATIONS, EVENTS, FIRST_LINES, RUNS, SETTINGS};
+use am_lexer::What;
+use am_names::{AnswerPacket, EndpointId, NodeId, Packet, Verdict};
+use am_scenario::{
+    Form, LinkFault, Network, PlanLine, ReadFault, Readiness, Scenario, generate, read, shape,
+};
+use std::alloc::Global;
+use std::fmt::Write;
+use std::test::Fail;
+
+// The fault that reading a text gives, if it gives one.
+fn fault_of(alloc: Global, form: Form, text: &str) -> Option<(u32, What)> {
+    if text.len() > 16_777_216 {
+        return None;
+    }
+    match read(alloc, form, text.as_bytes()) {
+        Err(ReadFault::Refused(fault)) => Some((fault.line, fault.what)),
+        _ => None,
+    }
+}
+
+// The scenario that a text spells.
+fn spelled(alloc: Global, form: Form, text: &str) -> Option<Scenario> {
+    if text.len() > 16_777_216 {
+        return None;
+    }
+    read(alloc, form, text.as_bytes()).ok()
+}
+
+#[test]
+fn first_lines(rt: HostRuntime) {
+    for (text, line, what) in FIRST_LINES.iter() {
+        let fault = fault_of(rt.alloc(), Form::Step, text);
+        assert!(rt; fault == Some((*line, *what)), "{text}");
+    }
+}
+
+#[test]
+fn settings(rt: HostRuntime) {
+    for (text, line, what) in SETTINGS.iter() {
+        let fault = fault_of(rt.alloc(), Form::Step, text);
+        assert!(rt; fault == Some((*line, *what)), "{text}");
+    }
+}
+
+#[test]
+fn declarations(rt: HostRuntime) {
+    for (text, line, what) in DECLARATIONS.iter() {
+        let fault = fault_of(rt.alloc(), Form::Step, text);
+        assert!(rt; fault == Some((*line, *what)), "{text}");
+    }
+}
+
+#[test]
+fn events(rt: HostRuntime) {
+    for (text, line, what) in EVENTS.iter() {
+        let fault = fault_of(rt.alloc(), Form::Step, text);
+        assert!(rt; fault == Some((*line, *what)), "{text}");
+    }
+}
+
+#[test]
+fn runs(rt: HostRuntime) {
+    for (text, line, what) in RUNS.iter() {
+        let fault = fault_of(rt.alloc(), Form::Run, text);
+        assert!(rt; fault == Some((*line, *what)), "{text}");
+    }
+}
+
+// The lines of a head, and then so many numbered lines.
+fn numbered(
+    alloc: Global,
+    head: &str,
+    before: &str,
+    after: &str,
+    count: u32,
+) -> Result<String, Fail> {
+    let mut text = String::from_str(alloc, head)?;
+    for number in 1..count {
+        write!(text, "{before}{number}{after}\n")?;
+    }
+    Ok(text)
+}
+
+#[test]
+fn one_line_too_many(rt: HostRuntime) -> Result<(), Fail> {
+    let alloc = rt.alloc();
+    let cluster = "am2 1\nnetwork packet\nnodes 1\n";
+    let client = "am2 1\nnetwork packet\nnodes 1\nendpoint 0 0 5\nthread 0 0\n";
+    let rows = [
+        (Form::Step, cluster, "endpoint ", " 0 5", 64, 68),
+        (Form::Step, cluster, "swapfault 0 ", "", 64, 68),
+        (Form::Run, cluster, "plan 0 0 ", " lose", 4_096, 4_100),
+        (Form::Step, client, "x tag 0 ", "", 65_536, 65_542),
+        (Form::Run, client, "t0 tag 0 ", "", 16_384, 16_390),
+    ];
+    for (form, head, before, after, most, line) in rows {
+        let full = numbered(alloc, head, before, after, most + 1)?;
+        assert!(rt; spelled(alloc, form, full.as_str()).is_some(), "{before}");
+        let over = numbered(alloc, head, before, after, most + 2)?;
+        let fault = fault_of(alloc, form, over.as_str());
+        assert!(rt; fault == Some((line, What::TooMany)), "{before}");
+    }
+    Ok(())
+}
+
+const VERSION_2: &str =
+    "am2 2\nnetwork packet\nnodes 2\ntries 5\npool 3\nendpoint 7 1 all disk\nendpoint 2 0 none\nbundle 1 notempty 2\nthread 9 1\nthread 3 0\nplan 0 1 4 late 2\nswapfault 1 6\nt3 pollb 1\nt3 eventb 1\nt9 map 7 0 2 5 0\n";
+
+#[test]
+fn a_run_of_version_2(rt: HostRuntime) {
+    let Some(run) = spelled(rt.alloc(), Form::Run, VERSION_2) else {
+        assert!(rt; false, "refused");
+        return;
+    };
+    assert_eq!(rt; run.network, Network::Packet);
+    assert_eq!(rt;
+        (run.nodes, run.frames, run.channels, run.tries),
+        (2, 16, 1, 5)
+    );
+    assert_eq!(rt; (run.bounces, run.pool, run.keep), (4, Some(3), 64));
+    assert_eq!(rt; (run.log, run.turns), (65_536, 0));
+    let mut ends = run
+        .ends
+        .iter()
+        .map(|end| (end.id.0, end.node.0, end.tag.0, end.disk));
+    assert_eq!(rt; ends.next(), Some((2, 0, 0, false)));
+    assert_eq!(rt; ends.next(), Some((7, 1, u64::MAX, true)));
+    let mut threads = run.threads.iter().map(|thread| (thread.id, thread.node.0));
+    assert_eq!(rt; threads.next(), Some((3, 0)));
+    assert_eq!(rt; threads.next(), Some((9, 1)));
+    assert_eq!(rt;
+        (run.plan.len(), run.faults.len(), run.steps.len()),
+        (1, 1, 0)
+    );
+    let mut script = run.script.iter().map(|call| (call.thread, call.endpoint.0));
+    assert_eq!(rt; script.next(), Some((3, 2)));
+    assert_eq!(rt; script.next(), Some((3, 2)));
+    assert_eq!(rt; script.next(), Some((9, 7)));
+    assert_eq!(rt; script.next(), None);
+}
+
+#[test]
+fn a_ready_bundle(rt: HostRuntime) -> Result<(), Fail> {
+    let alloc = rt.alloc();
+    let Some(run) = spelled(alloc, Form::Run, VERSION_2) else {
+        assert!(rt; false, "refused");
+        return Ok(());
+    };
+    for bundle in run.bundles.iter() {
+        assert_eq!(rt; bundle.poll_calls(alloc)?.len(), 1);
+        assert_eq!(rt; bundle.test_calls(alloc)?.len(), 1);
+        assert_eq!(rt;
+            bundle.ready(&[EndpointId(7), EndpointId(2)]),
+            Readiness::Ready(EndpointId(2))
+        );
+        assert_eq!(rt; bundle.ready(&[EndpointId(7)]), Readiness::NotYet);
+    }
+    Ok(())
+}
+
+#[test]
+fn generated(rt: HostRuntime) -> Result<(), Fail> {
+    let scenario = generate(rt.alloc(), 0)?;
+    assert_eq!(rt; scenario.script.len(), 1_744);
+    assert!(rt; scenario.plan.len() <= 32);
+    assert_eq!(rt; (scenario.ends.len(), scenario.threads.len()), (12, 8));
+    Ok(())
+}
+
+fn answer(number: u32) -> Packet {
+    Packet::Answer(AnswerPacket {
+        from: NodeId(0),
+        to: NodeId(1),
+        channel: 0,
+        seq: 1,
+        attempt: 0,
+        number,
+        stamp: 10,
+        verdict: Verdict::Accepted,
+    })
+}
+
+fn plan_line(number: u32, fault: LinkFault) -> PlanLine {
+    PlanLine {
+        from: NodeId(0),
+        to: NodeId(1),
+        number,
+        fault,
+    }
+}
+
+fn number_of(packet: &Packet) -> u32 {
+    match packet {
+        Packet::Parcel(parcel) => parcel.number,
+        Packet::Answer(answer) => answer.number,
+    }
+}
+
+#[test]
+fn five_packets(rt: HostRuntime) -> Result<(), Fail> {
+    let plan = [
+        plan_line(2, LinkFault::Lose),
+        plan_line(3, LinkFault::Late(2)),
+        plan_line(4, LinkFault::Repeat),
+    ];
+    let emitted = [answer(1), answer(2), answer(3), answer(4), answer(5)];
+    let released = shape(rt.alloc(), &plan, NodeId(0), NodeId(1), &emitted)?;
+    let mut numbers = released.iter().map(number_of);
+    for number in [1, 4, 4, 5, 3] {
+        assert_eq!(rt; numbers.next(), Some(number));
+    }
+    assert_eq!(rt; numbers.next(), None);
+    let four = shape(rt.alloc(), &plan, NodeId(0), NodeId(1), &emitted[..4])?;
+    assert_eq!(rt; four.len(), 3);
+    Ok(())
+}
