@@ -244,8 +244,10 @@ fn text(alloc: Global, ends: &[EndpointId], entries: &[Entry]) -> Result<Vec<u8>
 
 /// The report of a journal whose scenario declares these endpoints, which stand in ascending order: the journal's
 /// lines, the runs at each endpoint, each accepted message with its fate in ascending order of source and count, and
-/// how many messages have each fate. It is exact for every journal, also for one that is no history.
-/// It takes one pass over the entries, with a table from serials to what is known of them.
+/// how many messages have each fate (`report` of `specs/Report.antt`). It is exact for every journal, also for one that
+/// is no history: a serial that is accepted twice has one line there, with the kind of its last acceptance.
+/// It goes over the entries four times, whatever the number of endpoints and messages, with a table of the runs of
+/// each endpoint and tables from serials to what is known of them. Where there is no memory it answers `NoMemory`.
 pub fn report(alloc: Global, ends: &[EndpointId], journal: &Journal) -> Result<Vec<u8>, NoMemory>
     ensures { IfOk result (λ bytes. bytes.items ≡ text.report ends.now journal.now) }
 {
