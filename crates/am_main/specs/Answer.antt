@@ -16,6 +16,8 @@ use Rattle.am_scenario_types.specs.declared.faults.ScenarioFault.{ScenarioFault}
 use Rattle.am_scenario_types.specs.Lists.{ScenarioLists}
 use Rattle.am_follow.specs.Layout.{layout_of, events_of}
 use Rattle.am_model.specs.Steps.{Made, Stop, NotEnabled, LogFull, made}
+use Rattle.am_machine.specs.declared.settings.ApplyFault.{ApplyFault}
+use Rattle.am_machine.specs.declared.settings.ApplyFault.TheVariants as Applied
 use Rattle.am_main.specs.declared.faults.StepFault.{StepFault}
 use Rattle.am_main.specs.declared.faults.StepFault.TheVariants as Faults
 use Rattle.am_main.specs.Words.{what_word, condition_word, part_word}
@@ -69,6 +71,12 @@ answer_of_fault (Faults.LogFull part) = record { status = 6; text = full_line pa
 answer_of_fault Faults.NotBuilt = record { status = 9; text = codes "not built\n" }
 answer_of_fault Faults.NoMemory = record { status = 8; text = codes "no memory\n" }
 
+-- why the step in this line made no entry
+abbrev pub fault_of : ℕ → ApplyFault → StepFault
+fault_of line (Applied.NotEnabled condition) = Faults.NotEnabled line condition
+fault_of line (Applied.LogFull part) = Faults.LogFull part
+fault_of line Applied.NoMemory = Faults.NoMemory
+
 -- the code gives this answer, unless memory runs out
 abbrev pub Gives : Result (List ℕ) StepFault → Answer → Type 0
 Gives (Ok text) answer = answer ≡ record { status = 0; text = text }
@@ -90,3 +98,17 @@ Makes steps journal m (Err (Faults.NotEnabled line condition)) = (m.stopped ≡ 
 Makes steps journal m (Err (Faults.LogFull part)) = m.stopped ≡ Some (LogFull part)
 Makes steps journal m (Err Faults.NoMemory) = Unit {0}
 Makes steps journal m (Err fault) = ⊥
+
+-- What the text of a scenario of the direct network tells of what its steps made, unless memory ran out: the report of
+-- their journal; or what stopped the first step that could not be made, and its line.
+abbrev pub Tells : ScenarioLists → Made → Result (List ℕ) StepFault → Type 0
+Tells s m (Ok text) = (m.stopped ≡ None) × (text ≡ report (ids_of s.ends) m.journal)
+Tells s m (Err (Faults.NotEnabled line condition)) = (m.stopped ≡ Some (NotEnabled condition)) × (line ≡ line_at s.steps (length m.journal))
+Tells s m (Err (Faults.LogFull part)) = m.stopped ≡ Some (LogFull part)
+Tells s m (Err Faults.NoMemory) = Unit {0}
+Tells s m (Err fault) = ⊥
+
+-- the same, where the text is a vector
+abbrev pub TellsText : ScenarioLists → Made → Result (Vec ℕ) StepFault → Type 0
+TellsText s m (Ok text) = Tells s m (Ok text.items)
+TellsText s m (Err fault) = Tells s m (Err fault)

@@ -1,5 +1,5 @@
 -- What the top call leaves in the sink.
-use Rattle.std.specs.Prelude.{◌≡◌, ◌⊎◌, ℕ, ◌≤◌, List, [], ◌∷◌, ◌++◌, codes, length, Option, Some, None, Result, Ok, Err, if◌then◌else◌}
+use Rattle.std.specs.Prelude.{◌≡◌, ◌≢◌, ◌⊎◌, ℕ, ◌≤◌, List, [], ◌∷◌, ◌++◌, codes, length, Option, Some, None, Result, Ok, Err, if◌then◌else◌}
 use Rattle.std.specs.Str.{bytes_eq}
 use Rattle.std.specs.Io.KnownBytes.{Appends}
 use Rattle.am_scenario.specs.Grammar.{grammar}
@@ -35,11 +35,12 @@ pub record Finds (most : ℕ) (left : Option (List ℕ)) (P : List ℕ → Type 
   pub few : length bytes ≤ most
   pub holds : P bytes
 
--- The answer was given: its text was appended under its status; or a front of it with status 5, where the sink failed, or with
--- status 8, where the sink or the program found no memory.
+-- The answer was given: its text was appended under its status; or a front of it with status 5, where the sink failed, or
+-- with status 8, where the sink or the program found no memory, which may have offered its own line.
 pub record IsGiven (answer : Answer) (status : ℕ) (old new : Option (List ℕ)) : Type 0 where
   pub status' : IsOr answer.status status
-  pub whole : status ≡ answer.status → Appends old new answer.text
+  pub whole : status ≢ 5 → status ≢ 8 → Appends old new answer.text
+  pub front' : IsFront old new answer.text ⊎ IsFront old new (codes "no memory\n")
 
 -- the bytes spell a scenario of whose history the report was appended
 pub record Reports (old new : Option (List ℕ)) (bytes : List ℕ) : Type 0 where

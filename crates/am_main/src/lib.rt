@@ -3,7 +3,9 @@
 
 mod faults;
 mod steps;
+mod top;
 mod words;
 
 pub use crate::faults::StepFault;
 pub use crate::steps::step_text;
+pub use crate::top::{Status, am2};

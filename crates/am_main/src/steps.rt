@@ -1,8 +1,8 @@
 // The steps of a scenario, one after the other.
 ghost use Rattle.std.specs.Prelude.{◌≡◌, ◌<◌, ◌-◌, ◌^◌, IfOk, [], true, map, length};
-ghost use Rattle.am_follow.specs.Layout.{events_of};
+ghost use Rattle.am_follow.specs.Layout.{events_of, layout_of};
 ghost use Rattle.am_laws_steps.specs.Laws.{AreInRange};
-ghost use Rattle.am_main.specs.Answer.{GivesText, Makes, answer_of, answer_on, ids_of};
+ghost use Rattle.am_main.specs.Answer.{GivesText, Makes, TellsText, answer_of, fault_of, ids_of};
 ghost use Rattle.am_main.specs.Meaning.{TextMeans};
 ghost use Rattle.am_model.specs.Steps.{made};
 ghost use Rattle.am_scenario.specs.Grammar.{grammar};
@@ -17,6 +17,17 @@ use am_report::report;
 use am_scenario::{EndLine, Form, Network, ReadFault, Scenario, StepLine, read};
 use std::alloc::{AllocError, Global};
 
+/// Why the step in this line made no entry.
+fn fault_of(line: u32, fault: ApplyFault) -> StepFault
+    ensures { result ≡ fault_of line fault }
+{
+    match fault {
+        ApplyFault::NotEnabled(condition) => StepFault::NotEnabled { line, condition },
+        ApplyFault::LogFull(part) => StepFault::LogFull(part),
+        ApplyFault::NoMemory => StepFault::NoMemory,
+    }
+}
+
 /// Applies the events of the steps in order, up to the first that can't be made.
 fn make_steps(cluster: &mut Cluster, steps: &[StepLine]) -> Result<(), StepFault>
     requires direct { cluster.old.layout.direct ≡ true }
@@ -28,14 +39,7 @@ fn make_steps(cluster: &mut Cluster, steps: &[StepLine]) -> Result<(), StepFault
     for step in steps {
         match cluster.apply(&step.event) {
             Ok(_) => {}
-            Err(ApplyFault::NotEnabled(condition)) => {
-                return Err(StepFault::NotEnabled {
-                    line: step.line,
-                    condition,
-                });
-            }
-            Err(ApplyFault::LogFull(part)) => return Err(StepFault::LogFull(part)),
-            Err(ApplyFault::NoMemory) => return Err(StepFault::NoMemory),
+            Err(fault) => return Err(fault_of(step.line, fault)),
         }
     }
     Ok(())
@@ -56,7 +60,7 @@ fn ids_of(alloc: Global, ends: &[EndLine]) -> Result<Vec<EndpointId>, AllocError
 fn direct_text(alloc: Global, scenario: &Scenario) -> Result<Vec<u8>, StepFault>
     requires lawful { IsLawful scenario.now }
     requires direct { scenario.now.network ≡ Networks.Direct }
-    ensures { GivesText result (answer_on Networks.Direct scenario.now) }
+    ensures { TellsText scenario.now (made (layout_of scenario.now) (events_of scenario.now.steps)) result }
 {
     let Ok(mut cluster) = Cluster::new(alloc, scenario) else {
         return Err(StepFault::NoMemory);

@@ -1,8 +1,9 @@
 // The one-line texts.
 ghost use Rattle.std.specs.Prelude.{◌≡◌, ◌++◌, IfOk, OnOk};
-ghost use Rattle.am_main.specs.Answer.{full_line, not_enabled_line, refused_line};
+ghost use Rattle.am_main.specs.Answer.{answer_of_fault, full_line, not_enabled_line, refused_line};
 ghost use Rattle.am_main.specs.Words.{condition_word, part_word, what_word};
 
+use crate::faults::StepFault;
 use am_office::{Condition, Part};
 use am_scenario::{ScenarioFault, What};
 use std::alloc::{AllocError, Global};
@@ -66,7 +67,7 @@ fn put_part(alloc: Global, text: &mut Vec<u8>, part: Part) -> Result<(), AllocEr
 
 /// The line that tells the first fault of a text.
 #[tactic(auto, using(std::proofs::Common::append_assoc), unfolding(crate::specs::Answer::refused_line))]
-pub fn refused_line(alloc: Global, fault: ScenarioFault) -> Result<Vec<u8>, AllocError>
+fn refused_line(alloc: Global, fault: ScenarioFault) -> Result<Vec<u8>, AllocError>
     ensures { IfOk result (λ text. text.items ≡ refused_line fault) }
 {
     let mut text = Vec::new(alloc);
@@ -80,7 +81,7 @@ pub fn refused_line(alloc: Global, fault: ScenarioFault) -> Result<Vec<u8>, Allo
 
 /// The line that tells the first step that can't happen.
 #[tactic(auto, using(std::proofs::Common::append_assoc), unfolding(crate::specs::Answer::not_enabled_line))]
-pub fn not_enabled_line(alloc: Global, line: u32, condition: Condition) -> Result<Vec<u8>, AllocError>
+fn not_enabled_line(alloc: Global, line: u32, condition: Condition) -> Result<Vec<u8>, AllocError>
     ensures { IfOk result (λ text. text.items ≡ not_enabled_line line condition) }
 {
     let mut text = Vec::new(alloc);
@@ -94,7 +95,7 @@ pub fn not_enabled_line(alloc: Global, line: u32, condition: Condition) -> Resul
 
 /// The line that tells a full log.
 #[tactic(auto, using(std::proofs::Common::append_assoc), unfolding(crate::specs::Answer::full_line))]
-pub fn full_line(alloc: Global, part: Part) -> Result<Vec<u8>, AllocError>
+fn full_line(alloc: Global, part: Part) -> Result<Vec<u8>, AllocError>
     ensures { IfOk result (λ text. text.items ≡ full_line part) }
 {
     let mut text = Vec::new(alloc);
@@ -102,4 +103,29 @@ pub fn full_line(alloc: Global, part: Part) -> Result<Vec<u8>, AllocError>
     put_part(alloc, &mut text, part)?;
     text.extend_from_slice(b"\n")?;
     Ok(text)
+}
+
+/// The line that a fault stands for.
+pub fn fault_line(alloc: Global, fault: StepFault) -> Result<Vec<u8>, AllocError>
+    ensures { IfOk result (λ text. text.items ≡ (answer_of_fault fault).text) }
+{
+    match fault {
+        StepFault::Scenario(fault) => refused_line(alloc, fault),
+        StepFault::NotEnabled { line, condition } => not_enabled_line(alloc, line, condition),
+        StepFault::LogFull(part) => full_line(alloc, part),
+        StepFault::NotBuilt => Vec::from_slice(alloc, b"not built\n"),
+        StepFault::NoMemory => Vec::from_slice(alloc, b"no memory\n"),
+    }
+}
+
+/// The status that a fault stands for.
+pub fn fault_status(fault: StepFault) -> u8
+    ensures { result ≡ (answer_of_fault fault).status }
+{
+    match fault {
+        StepFault::Scenario(_) | StepFault::NotEnabled { .. } => 3,
+        StepFault::LogFull(_) => 6,
+        StepFault::NotBuilt => 9,
+        StepFault::NoMemory => 8,
+    }
 }

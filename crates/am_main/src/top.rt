@@ -1,0 +1,127 @@
+//! The top call.
+
+ghost use Rattle.std.specs.Prelude.{codes, ◌≡◌, ◌≢◌, ◌⊎◌, ◌≤◌, ◌<◌, ◌-◌, ◌^◌, List, map, string_bytes, true, false, length};
+ghost use Rattle.std.specs.Io.KnownBytes.{Appends};
+ghost use Rattle.am_io.specs.Causes.{Rose};
+ghost use Rattle.am_io.specs.Whole.{IsLonger};
+ghost use Rattle.am_main.specs.Answer.{answer_of};
+ghost use Rattle.am_main.specs.Offers.{Finds, IsFront, IsGiven, IsOr, Reports, is_step};
+ghost use Rattle.am_scenario.specs.Grammar.{grammar};
+ghost use Rattle.am_scenario_types.specs.declared.parts.Form.TheVariants as Forms;
+
+use crate::steps::step_text;
+use crate::words::{fault_line, fault_status};
+use am_io::{MOST_BYTES, Sink, SinkFault, Source, TakeFault, give_all, take_all};
+use std::alloc::Global;
+use std::thread::Threads;
+
+const USAGE: &[u8] = b"usage: am2 step\n";
+
+const READ_FAULT: &[u8] = b"read fault\n";
+
+const TOO_LONG: &[u8] = b"input too long\n";
+
+const NO_MEMORY: &[u8] = b"no memory\n";
+
+/// How the program ends: the number that the process ends with. docs/MANUAL.md lists them.
+#[derive(Clone, Copy, Debug, PartialEq, Eq)]
+pub struct Status {
+    pub number: u8,
+}
+
+/// Whether the words are those of the command `step`.
+#[tactic(auto, unfolding(crate::specs::Offers::is_step))]
+fn is_step(words: &[String]) -> bool
+    ensures { result ≡ is_step (map string_bytes words.now) }
+{
+    match words {
+        [word] => word.as_str() == "step",
+        _ => false,
+    }
+}
+
+// Offers a text. The status is its own, or that of a fault of the sink.
+fn offer<K: Sink>(sink: &mut K, number: u8, text: &[u8]) -> Status
+    ensures number { IsOr number result.number }
+    ensures whole { result.number ≢ 5 → result.number ≢ 8 → Appends (K.held sink.old) (K.held sink.new) text.now }
+    ensures front { IsFront (K.held sink.old) (K.held sink.new) text.now }
+    ensures cause { number ≢ 5 → result.number ≡ 5 → Rose (K.count sink.old) (K.count sink.new) }
+    ensures later { K.count sink.old ≤ K.count sink.new }
+{
+    match give_all(sink, text) {
+        Ok(()) => Status { number },
+        Err(SinkFault::Failed) => Status { number: 5 },
+        Err(SinkFault::NoMemory) => Status { number: 8 },
+    }
+}
+
+/// Answers bytes that were read to their end.
+fn answer<K: Sink>(alloc: Global, bytes: &[u8], sink: &mut K) -> Status
+    requires { length bytes.now < 2 ^ 32 - 1 }
+    ensures given { IsGiven (answer_of (grammar Forms.Step bytes.now)) result.number (K.held sink.old) (K.held sink.new) }
+    ensures reports { result.number ≡ 0 → Reports (K.held sink.old) (K.held sink.new) bytes.now }
+    ensures cause { result.number ≡ 5 → Rose (K.count sink.old) (K.count sink.new) }
+    ensures later { K.count sink.old ≤ K.count sink.new }
+{
+    match step_text(alloc, bytes) {
+        Ok(text) => offer(sink, 0, &text),
+        Err(fault) => match fault_line(alloc, fault) {
+            Ok(text) => offer(sink, fault_status(fault), &text),
+            Err(_) => offer(sink, 8, NO_MEMORY),
+        },
+    }
+}
+
+/// Reads the source to its end, and answers.
+fn step<S: Source, K: Sink>(alloc: Global, source: &mut S, sink: &mut K) -> Status
+    requires { S.has_ended source.old ≡ false }
+    ensures given { IsOr 4 result.number ⊎ (IsOr 7 result.number ⊎ Finds MOST_BYTES (S.left source.old) (λ bytes. IsGiven (answer_of (grammar Forms.Step bytes)) result.number (K.held sink.old) (K.held sink.new))) }
+    ensures reports { result.number ≡ 0 → Finds MOST_BYTES (S.left source.old) (Reports (K.held sink.old) (K.held sink.new)) }
+    ensures read { result.number ≡ 4 → Rose (S.count source.old) (S.count source.new) }
+    ensures write { result.number ≡ 5 → Rose (K.count sink.old) (K.count sink.new) }
+    ensures long { result.number ≡ 7 → IsLonger (S.left source.old) MOST_BYTES }
+    ensures read_text { result.number ≡ 4 → Appends (K.held sink.old) (K.held sink.new) (codes "read fault\n") }
+    ensures long_text { result.number ≡ 7 → Appends (K.held sink.old) (K.held sink.new) (codes "input too long\n") }
+{
+    match take_all(alloc, source) {
+        Ok(bytes) => answer(alloc, &bytes, sink),
+        Err(TakeFault::Failed) => offer(sink, 4, READ_FAULT),
+        Err(TakeFault::TooLong) => offer(sink, 7, TOO_LONG),
+        Err(TakeFault::NoMemory) => offer(sink, 8, NO_MEMORY),
+    }
+}
+
+/// The program, over any source that hasn't ended and any sink: the one form of words is `step`, which reads a step script
+/// and prints the report of the one history that follows its lines.
+///
+/// The status says how it ended. Each has its cause in a clause, and a text of its own, which is offered to the sink:
+/// 0 the report, 2 wrong words, 3 a text that spells no scenario or a step that can't happen, 4 a read fault, 5 a write fault,
+/// 6 a full log, 7 too many bytes, 8 no memory, which may come at any time, and 9 the packet network, which isn't built yet.
+pub fn am2<R: Threads + Sync, S: Source, K: Sink>(
+    _rt: &R,
+    alloc: Global,
+    words: &[String],
+    source: &mut S,
+    sink: &mut K,
+) -> Status
+    requires { S.has_ended source.old ≡ false }
+    // The headline: the sink took the report of a history that follows the lines and obeys the laws.
+    ensures reports { result.number ≡ 0 → Finds MOST_BYTES (S.left source.old) (Reports (K.held sink.old) (K.held sink.new)) }
+    // It is 2 where the words have no form, unless the sink has a fault.
+    ensures usage { result.number ≡ 2 → is_step (map string_bytes words.now) ≡ false }
+    ensures no_form { is_step (map string_bytes words.now) ≡ false → IsOr 2 result.number }
+    ensures usage_text { result.number ≡ 2 → Appends (K.held sink.old) (K.held sink.new) (codes "usage: am2 step\n") }
+    // Where no read fails, the answer is the one that the bytes ask for, unless the sink or memory has a fault.
+    ensures given { is_step (map string_bytes words.now) ≡ true → IsOr 4 result.number ⊎ (IsOr 7 result.number ⊎ Finds MOST_BYTES (S.left source.old) (λ bytes. IsGiven (answer_of (grammar Forms.Step bytes)) result.number (K.held sink.old) (K.held sink.new))) }
+    ensures read { result.number ≡ 4 → Rose (S.count source.old) (S.count source.new) }
+    ensures read_text { result.number ≡ 4 → Appends (K.held sink.old) (K.held sink.new) (codes "read fault\n") }
+    ensures write { result.number ≡ 5 → Rose (K.count sink.old) (K.count sink.new) }
+    ensures long { result.number ≡ 7 → IsLonger (S.left source.old) MOST_BYTES }
+    ensures long_text { result.number ≡ 7 → Appends (K.held sink.old) (K.held sink.new) (codes "input too long\n") }
+{
+    if is_step(words) {
+        step(alloc, source, sink)
+    } else {
+        offer(sink, 2, USAGE)
+    }
+}
