@@ -43,9 +43,10 @@ none_same R same f step x (y ∷ ys) h =
 
 pub apart_of : {X Y : Type 0} (R : X → X → Type 0) (same : Y → Y → Bool) (f : X → Y) → ((a b : X) → R a b → same (f a) (f b) ≡ false) → (xs : List X) → AllPairs R xs → AreApart same (map f xs)
 apart_of R same f step [] h = tt
-apart_of R same f step (x ∷ xs) h =
-    (none_same R same f step x xs (λ j d lt. h zero (suc j) d (omega arith) (omega (arith, lt))),
-    apart_of R same f step xs (λ i j d lt le. h (suc i) (suc j) d (omega (arith, lt)) (omega (arith, le))))
+apart_of R same f step (x ∷ xs) h = (
+  none_same R same f step x xs (λ j d lt. h zero (suc j) d (omega arith) (omega (arith, lt))),
+  apart_of R same f step xs (λ i j d lt le. h (suc i) (suc j) d (omega (arith, lt)) (omega (arith, le))),
+)
 
 -- ---- tests on numbers
 

@@ -69,11 +69,12 @@ tied_next s faults es journal event x new longer n =
     subst (λ (j : List Entry). IsTied (layout_in s faults new) new j) (sym n.journal') ends
 
 pub seen_next : (s : Settings) (faults : List FaultLine) (es : List EndLog) (journal : List Entry) (event : Event) (x : Entry) (new : List EndLog) (longer : List Entry) (v : ClusterView) → seen s faults es journal ≡ v → IsNext s faults es journal event x new longer → (stop v.layout v.journal event ≡ None) × (x ≡ step_entry v.layout v.journal event) × (seen s faults new longer ≡ record v { journal = v.journal ++ x ∷ [] })
-seen_next s faults es journal event x new longer v is n =
-    (ap (λ (w : ClusterView). stop w.layout w.journal event) (sym is) ∙ n.runs,
-    n.entry ∙ ap (λ (w : ClusterView). step_entry w.layout w.journal event) is,
-    (λ i. record { layout = (ap (λ (ns : List EndLog). layout_in s faults ns) n.ends ∙ layout_kept s faults es x) i; journal = n.journal' i })
-    ∙ ap (λ (w : ClusterView). record w { journal = w.journal ++ x ∷ [] }) is)
+seen_next s faults es journal event x new longer v is n = (
+  ap (λ (w : ClusterView). stop w.layout w.journal event) (sym is) ∙ n.runs,
+  n.entry ∙ ap (λ (w : ClusterView). step_entry w.layout w.journal event) is,
+  (λ i. record { layout = (ap (λ (ns : List EndLog). layout_in s faults ns) n.ends ∙ layout_kept s faults es x) i; journal = n.journal' i })
+      ∙ ap (λ (w : ClusterView). record w { journal = w.journal ++ x ∷ [] }) is,
+)
 
 -- where neither settings nor logs changed
 pub tied_same : (s : Settings) (faults : List FaultLine) (es new : List EndLog) (journal other : List Entry) → new ≡ es → other ≡ journal → IsTied (layout_in s faults es) es journal → IsTied (layout_in s faults new) new other
@@ -199,9 +200,9 @@ or_false false = refl
 pub call_grows : (layout : Layout) (vs : List EndpointView) (journal : List Entry) (actor : Actor) (end : EndpointId) (c : Call) (k : ℕ) (one : EndpointView) (x : Entry) → IsTied layout (map kept vs) journal → IsHere vs end k one → x.event ≡ Events.Call actor end c → logged_at k x (map kept vs) ≡ map (grown x) (map kept vs)
 call_grows layout vs journal actor end c k one x tied here event =
     sym (one_grown x (map kept vs) k (λ j d at.
-      ap (λ (e : Event). list_any (same_end d.settings.id) (ends_touched e x.outcome)) event
-      ∙ or_false (same_end d.settings.id end)
-      ∙ only_here layout vs journal end k one tied here j d at))
+    ap (λ (e : Event). list_any (same_end d.settings.id) (ends_touched e x.outcome)) event
+    ∙ or_false (same_end d.settings.id end)
+    ∙ only_here layout vs journal end k one tied here j d at))
 
 max_left : (a b : ℕ) → b ≤ a → 1 + max a b ≡ a + 1
 max_left a b h = omega arith

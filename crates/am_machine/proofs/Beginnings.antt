@@ -113,9 +113,9 @@ begins s faults nodes lines es is lawful rise =
       walked = record { history = tt; stamped = refl; below = tt };
       own = all_by_place (IsOwn layout []) (map (opened s) lines) own_at;
       apart = λ j k d e dj ek same.
-        (let a = got_opened s lines j d dj in
-        let b = got_opened s lines k e ek in
-        rise_apart lines j k a.0 b.0 rise a.1.0 b.1.0 (ap (λ (l : EndLog). l.settings.id) (sym a.1.1) ∙ same ∙ ap (λ (l : EndLog). l.settings.id) b.1.1));
+          (let a = got_opened s lines j d dj in
+          let b = got_opened s lines k e ek in
+          rise_apart lines j k a.0 b.0 rise a.1.0 b.1.0 (ap (λ (l : EndLog). l.settings.id) (sym a.1.1) ∙ same ∙ ap (λ (l : EndLog). l.settings.id) b.1.1));
     })
   where
     layout : Layout

@@ -113,7 +113,7 @@ places : (c : Carriage) (x : Entry) → IsEntryOf c x → (j : ℕ) (d : EndLog)
 places c x is j d at =
     touched c x is d.settings.id
     ∙ (λ i. only_here (layout_of c) c.ends c.journal c.end c.from c.one c.tied c.source j d at i
-            || or_false (same_end d.settings.id c.queued.message.dest) i)
+    || or_false (same_end d.settings.id c.queued.message.dest) i)
     ∙ ap (λ (b : Bool). is_place c.from j || b) (only_here (layout_of c) c.ends c.journal c.queued.message.dest c.to c.two c.tied c.dest j d at)
 
 or_twice : (b : Bool) → (b || b) ≡ b
@@ -176,11 +176,11 @@ carriage_carries c x is us same ready w now =
             is_front = ap front state ∙ c.is_front;
             outcome = is.outcome ∙ ap (λ (b : ℕ). judged b c.queued.message c.queued.bounces c.there) (sym (ap (λ (e : EndLog). e.settings.bounces) as' ∙ own.bounces));
             here = λ at_home.
-              (let dest : w.settings.id ≡ c.queued.message.dest = same_end-is w.settings.id c.queued.message.dest at_home in
-              let both : c.end ≡ c.queued.message.dest = sym (ap (λ (e : EndLog). e.settings.id) as' ∙ c.source.id) ∙ dest in
-              verdict_there c
-              ∙ ap (λ (e : EndpointId). verdict (state_of (layout_of c) c.journal e) c.queued.message) (sym both)
-              ∙ ap (λ (st : State). verdict st c.queued.message) (sym (state ∙ state_here (layout_of c) c.ends c.journal c.end c.from c.one c.tied c.source)));
+                (let dest : w.settings.id ≡ c.queued.message.dest = same_end-is w.settings.id c.queued.message.dest at_home in
+                let both : c.end ≡ c.queued.message.dest = sym (ap (λ (e : EndLog). e.settings.id) as' ∙ c.source.id) ∙ dest in
+                verdict_there c
+                ∙ ap (λ (e : EndpointId). verdict (state_of (layout_of c) c.journal e) c.queued.message) (sym both)
+                ∙ ap (λ (st : State). verdict st c.queued.message) (sym (state ∙ state_here (layout_of c) c.ends c.journal c.end c.from c.one c.tied c.source)));
           };
     }
 

@@ -13,14 +13,13 @@ mod journal;
 mod opening;
 mod settings;
 
-pub use crate::settings::{ApplyFault, Settings};
-pub use am_office::NoMemory;
-
 use crate::ends::{carry_between, is_full, judged, least_full, place_of, room_for_both};
 use crate::journal::{last_stamp, log_entry};
 use crate::opening::open_ends;
+pub use crate::settings::{ApplyFault, Settings};
 use am_endpoint::Endpoint;
 use am_names::EndpointId;
+pub use am_office::NoMemory;
 use am_office::{Actor, Call, Condition, Entry, Event, Journal, Part, Place};
 use am_scenario_types::{FaultLine, Scenario};
 use std::alloc::Global;
@@ -120,7 +119,9 @@ impl Cluster {
         };
         match self.ends[place].place() {
             Place::Disk => unreachable!(),
-            Place::Host | Place::Frame(_) | Place::Direct => Err(ApplyFault::NotEnabled(Condition::NotOnDisk)),
+            Place::Host | Place::Frame(_) | Place::Direct => Err(ApplyFault::NotEnabled(
+                Condition::NotOnDisk,
+            )),
         }
     }
 

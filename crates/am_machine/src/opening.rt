@@ -43,7 +43,11 @@ fn open_end(alloc: Global, settings: &Settings, line: &EndLine) -> Result<Endpoi
 }
 
 /// The fresh endpoints of a cluster, in the order of their lines.
-pub fn open_ends(alloc: Global, settings: &Settings, lines: &[EndLine]) -> Result<Vec<Endpoint>, NoMemory>
+pub fn open_ends(
+    alloc: Global,
+    settings: &Settings,
+    lines: &[EndLine],
+) -> Result<Vec<Endpoint>, NoMemory>
     requires { CanOpen settings.now }
     ensures { IfOk result (λ ends. map kept ends.items ≡ map (opened settings.now) lines.now) }
 {

@@ -109,7 +109,7 @@ HasComeTo m seq attempt = (seq < m.seq) ⊎ ((seq ≡ m.seq) × (attempt ≤ m.a
 
 abbrev pub AnswerSays : List Entry → AnswerPacket → Verdict → Type 0
 AnswerSays past a Verdicts.Accepted =
-    (took (answer_channel a) a.seq a.attempt past ≡ true)
+    ((most : ℕ) × (took (answer_channel a) a.seq most past ≡ true))
     × ((a.seq < (mark (answer_channel a) past).seq) ⊎ ((a.seq ≡ (mark (answer_channel a) past).seq) × ((mark (answer_channel a) past).verdict ≡ Verdicts.Accepted)))
 AnswerSays past a (Verdicts.Refused cause) = HasComeTo (mark (answer_channel a) past) a.seq a.attempt × (took (answer_channel a) a.seq a.attempt past ≡ false)
 

@@ -30,9 +30,10 @@ returns-then-is_full c =
     let range : is_in_range layout (Events.Call c.args.actor c.args.end c.args.call) ≡ true = ap (λ (v : ClusterView). is_in_range v.layout (Events.Call c.args.actor c.args.end c.args.call)) c.self.view_is ∙ c.requires.in_range in
     let here = applied.found_here vs c.args.end c.in-Some.place one (sym (c.place_of.ensures ∙ ap (position (is_of c.args.end)) c.deref.ensures.value) ∙ c.in-Some.is) c.index_mut-one.ensures.value in
     let off = applied.off_disk_at layout journal c.args.end direct c.self.invariant in
-    let full = applied.full_here layout vs journal c.args.end c.in-Some.place one true c.self.invariant here (sym c.is_full.ensures ∙ c.if-is_full.true) in
-    (ap (λ (v : ClusterView). stop v.layout v.journal (Events.Call c.args.actor c.args.end c.args.call)) (sym c.self.view_is) ∙ call_stopped layout journal c.args.actor c.args.end c.args.call off full,
-    applied.seen_same c.self.inside.settings c.self.inside.faults.items (map kept vs) _ journal journal c.args.self.now (kept_same vs c.in-Some.place one one here.at refl) refl c.self.view_is)
+    let full = applied.full_here layout vs journal c.args.end c.in-Some.place one true c.self.invariant here (sym c.is_full.ensures ∙ c.if-is_full.true) in (
+      ap (λ (v : ClusterView). stop v.layout v.journal (Events.Call c.args.actor c.args.end c.args.call)) (sym c.self.view_is) ∙ call_stopped layout journal c.args.actor c.args.end c.args.call off full,
+      applied.seen_same c.self.inside.settings c.self.inside.faults.items (map kept vs) _ journal journal c.args.self.now (kept_same vs c.in-Some.place one one here.at refl) refl c.self.view_is,
+    )
 
 pub call-requires-clause-place : goal.call-requires-clause-place
 call-requires-clause-place c =

@@ -74,12 +74,14 @@ returns-in-Some-least_full c =
     let there = applied.found_here vs c.in-Some-front.front.message.dest c.in-Some-place_of.dest two (sym (c.place_of-2.ensures ∙ ap (position (is_of c.in-Some-front.front.message.dest)) c.deref-2.ensures.value) ∙ c.in-Some-place_of.is) c.index-2.ensures in
     let three = applied.found_here vs c.args.end c.in-Some.source c.index-3.result.now (sym (c.place_of.ensures ∙ ap (position (is_of c.args.end)) c.deref.ensures.value) ∙ c.in-Some.is) c.index-3.ensures in
     let four = applied.found_here vs c.in-Some-front.front.message.dest c.in-Some-place_of.dest c.index-4.result.now (sym (c.place_of-2.ensures ∙ ap (position (is_of c.in-Some-front.front.message.dest)) c.deref-2.ensures.value) ∙ c.in-Some-place_of.is) c.index-4.ensures in
-    let at = carriages.front_at layout vs journal c.args.end c.in-Some.source one (Some c.in-Some-front.front) c.self.invariant here (sym c.front.ensures.value ∙ c.in-Some-front.is) in
-    (ap (λ (v : ClusterView). stop v.layout v.journal (Events.Carry c.args.end)) (sym c.self.view_is)
-    ∙ carry_stop layout journal c.args.end c.in-Some-front.front c.is_full-is_source_full.result c.is_full-is_dest_full.result direct at
-      (applied.full_here layout vs journal c.args.end c.in-Some.source c.index-3.result.now c.is_full-is_source_full.result c.self.invariant three (sym c.is_full-is_source_full.ensures))
-      (applied.full_here layout vs journal c.in-Some-front.front.message.dest c.in-Some-place_of.dest c.index-4.result.now c.is_full-is_dest_full.result c.self.invariant four (sym c.is_full-is_dest_full.ensures))
-    ∙ ap stop_of (sym c.least_full.ensures ∙ c.in-Some-least_full.is), refl)
+    let at = carriages.front_at layout vs journal c.args.end c.in-Some.source one (Some c.in-Some-front.front) c.self.invariant here (sym c.front.ensures.value ∙ c.in-Some-front.is) in (
+      ap (λ (v : ClusterView). stop v.layout v.journal (Events.Carry c.args.end)) (sym c.self.view_is)
+          ∙ carry_stop layout journal c.args.end c.in-Some-front.front c.is_full-is_source_full.result c.is_full-is_dest_full.result direct at
+          (applied.full_here layout vs journal c.args.end c.in-Some.source c.index-3.result.now c.is_full-is_source_full.result c.self.invariant three (sym c.is_full-is_source_full.ensures))
+          (applied.full_here layout vs journal c.in-Some-front.front.message.dest c.in-Some-place_of.dest c.index-4.result.now c.is_full-is_dest_full.result c.self.invariant four (sym c.is_full-is_dest_full.ensures))
+          ∙ ap stop_of (sym c.least_full.ensures ∙ c.in-Some-least_full.is),
+      refl,
+    )
 
 pub carry_between-requires-clause-carries : goal.carry_between-requires-clause-carries
 carry_between-requires-clause-carries c =
@@ -96,9 +98,21 @@ carry_between-requires-clause-carries c =
     let four = applied.found_here vs c.in-Some-front.front.message.dest c.in-Some-place_of.dest c.index-4.result.now (sym (c.place_of-2.ensures ∙ ap (position (is_of c.in-Some-front.front.message.dest)) c.deref-2.ensures.value) ∙ c.in-Some-place_of.is) c.index-4.ensures in
     let none = carriages.least_none c.args.end c.in-Some-front.front.message.dest c.is_full-is_source_full.result c.is_full-is_dest_full.result (sym c.least_full.ensures ∙ c.in_default-least_full.is) in
     let carriage : Carriage = record {
-      settings = c.self.inside.settings; faults = c.self.inside.faults.items; ends = vs; journal = journal; end = c.args.end;
-      from = c.in-Some.source; one = c.index-3.result.now; queued = c.in-Some-front.front; to = c.in-Some-place_of.dest; two = c.index-4.result.now; there = c.verdict-verdict.result;
-      tied = c.self.invariant; direct = direct; in_range = range; source = three;
+      settings = c.self.inside.settings;
+      faults = c.self.inside.faults.items;
+      ends = vs;
+      journal = journal;
+      end = c.args.end;
+      from = c.in-Some.source;
+      one = c.index-3.result.now;
+      queued = c.in-Some-front.front;
+      to = c.in-Some-place_of.dest;
+      two = c.index-4.result.now;
+      there = c.verdict-verdict.result;
+      tied = c.self.invariant;
+      direct = direct;
+      in_range = range;
+      source = three;
       is_front = carriages.front_same vs c.args.end c.in-Some.source one c.index-3.result.now here three ∙ sym c.front.ensures.value ∙ c.in-Some-front.is;
       dest = four;
       judged_there = c.verdict-verdict.ensures ∙ carriages.verdict_same vs c.in-Some-front.front.message.dest c.in-Some-place_of.dest two c.index-4.result.now c.in-Some-front.front.message there four;
@@ -128,9 +142,21 @@ carry_between-requires-clause-arrives c =
     let four = applied.found_here vs c.in-Some-front.front.message.dest c.in-Some-place_of.dest c.index-4.result.now (sym (c.place_of-2.ensures ∙ ap (position (is_of c.in-Some-front.front.message.dest)) c.deref-2.ensures.value) ∙ c.in-Some-place_of.is) c.index-4.ensures in
     let none = carriages.least_none c.args.end c.in-Some-front.front.message.dest c.is_full-is_source_full.result c.is_full-is_dest_full.result (sym c.least_full.ensures ∙ c.in_default-least_full.is) in
     let carriage : Carriage = record {
-      settings = c.self.inside.settings; faults = c.self.inside.faults.items; ends = vs; journal = journal; end = c.args.end;
-      from = c.in-Some.source; one = c.index-3.result.now; queued = c.in-Some-front.front; to = c.in-Some-place_of.dest; two = c.index-4.result.now; there = c.verdict-verdict.result;
-      tied = c.self.invariant; direct = direct; in_range = range; source = three;
+      settings = c.self.inside.settings;
+      faults = c.self.inside.faults.items;
+      ends = vs;
+      journal = journal;
+      end = c.args.end;
+      from = c.in-Some.source;
+      one = c.index-3.result.now;
+      queued = c.in-Some-front.front;
+      to = c.in-Some-place_of.dest;
+      two = c.index-4.result.now;
+      there = c.verdict-verdict.result;
+      tied = c.self.invariant;
+      direct = direct;
+      in_range = range;
+      source = three;
       is_front = carriages.front_same vs c.args.end c.in-Some.source one c.index-3.result.now here three ∙ sym c.front.ensures.value ∙ c.in-Some-front.is;
       dest = four;
       judged_there = c.verdict-verdict.ensures ∙ carriages.verdict_same vs c.in-Some-front.front.message.dest c.in-Some-place_of.dest two c.index-4.result.now c.in-Some-front.front.message there four;
@@ -160,9 +186,21 @@ invariant_of-self-2 c =
     let four = applied.found_here vs c.in-Some-front.front.message.dest c.in-Some-place_of.dest c.index-4.result.now (sym (c.place_of-2.ensures ∙ ap (position (is_of c.in-Some-front.front.message.dest)) c.deref-2.ensures.value) ∙ c.in-Some-place_of.is) c.index-4.ensures in
     let none = carriages.least_none c.args.end c.in-Some-front.front.message.dest c.is_full-is_source_full.result c.is_full-is_dest_full.result (sym c.least_full.ensures ∙ c.in_default-least_full.is) in
     let carriage : Carriage = record {
-      settings = c.self.inside.settings; faults = c.self.inside.faults.items; ends = vs; journal = journal; end = c.args.end;
-      from = c.in-Some.source; one = c.index-3.result.now; queued = c.in-Some-front.front; to = c.in-Some-place_of.dest; two = c.index-4.result.now; there = c.verdict-verdict.result;
-      tied = c.self.invariant; direct = direct; in_range = range; source = three;
+      settings = c.self.inside.settings;
+      faults = c.self.inside.faults.items;
+      ends = vs;
+      journal = journal;
+      end = c.args.end;
+      from = c.in-Some.source;
+      one = c.index-3.result.now;
+      queued = c.in-Some-front.front;
+      to = c.in-Some-place_of.dest;
+      two = c.index-4.result.now;
+      there = c.verdict-verdict.result;
+      tied = c.self.invariant;
+      direct = direct;
+      in_range = range;
+      source = three;
       is_front = carriages.front_same vs c.args.end c.in-Some.source one c.index-3.result.now here three ∙ sym c.front.ensures.value ∙ c.in-Some-front.is;
       dest = four;
       judged_there = c.verdict-verdict.ensures ∙ carriages.verdict_same vs c.in-Some-front.front.message.dest c.in-Some-place_of.dest two c.index-4.result.now c.in-Some-front.front.message there four;
@@ -177,8 +215,8 @@ invariant_of-self-2 c =
     let same : map kept us ≡ map kept vs = ap (λ (l : List EndpointView). map kept l) back ∙ c.in-Ok.ensures.same ∙ ap (λ (l : List EndpointView). map kept l) c.deref_mut.ensures.value in
     let x : Entry = record { stamp = c.last_stamp.result + 1; event = Events.Carry c.args.end; outcome = c.judged.result } in
     let next = carriages.carriage_next carriage x is (map kept c.carry_between.new.ends) c.log_entry.new.journal.items
-      (c.carry_between.ensures ∙ ap (carried_at c.in-Some.source c.in-Some-place_of.dest x) same)
-      (c.log_entry.ensures ∙ ap (λ (xs : List Entry). xs ++ x ∷ []) c.reserve.ensures.items) in
+    (c.carry_between.ensures ∙ ap (carried_at c.in-Some.source c.in-Some-place_of.dest x) same)
+    (c.log_entry.ensures ∙ ap (λ (xs : List Entry). xs ++ x ∷ []) c.reserve.ensures.items) in
     let n = vec_len c.self.inside.ends in
     let last = c.carry_between.new.ends in
     let whole : take n (last ++ drop (length last) (take n (c.room_for_both.new.ends ++ drop (length c.room_for_both.new.ends) vs))) ≡ last = lent_back n last (take n (c.room_for_both.new.ends ++ drop (length c.room_for_both.new.ends) vs)) (c.carry_between.auto.ends ∙ c.deref_mut-2.ensures.len) in
@@ -200,9 +238,21 @@ returns c =
     let four = applied.found_here vs c.in-Some-front.front.message.dest c.in-Some-place_of.dest c.index-4.result.now (sym (c.place_of-2.ensures ∙ ap (position (is_of c.in-Some-front.front.message.dest)) c.deref-2.ensures.value) ∙ c.in-Some-place_of.is) c.index-4.ensures in
     let none = carriages.least_none c.args.end c.in-Some-front.front.message.dest c.is_full-is_source_full.result c.is_full-is_dest_full.result (sym c.least_full.ensures ∙ c.in_default-least_full.is) in
     let carriage : Carriage = record {
-      settings = c.self.inside.settings; faults = c.self.inside.faults.items; ends = vs; journal = journal; end = c.args.end;
-      from = c.in-Some.source; one = c.index-3.result.now; queued = c.in-Some-front.front; to = c.in-Some-place_of.dest; two = c.index-4.result.now; there = c.verdict-verdict.result;
-      tied = c.self.invariant; direct = direct; in_range = range; source = three;
+      settings = c.self.inside.settings;
+      faults = c.self.inside.faults.items;
+      ends = vs;
+      journal = journal;
+      end = c.args.end;
+      from = c.in-Some.source;
+      one = c.index-3.result.now;
+      queued = c.in-Some-front.front;
+      to = c.in-Some-place_of.dest;
+      two = c.index-4.result.now;
+      there = c.verdict-verdict.result;
+      tied = c.self.invariant;
+      direct = direct;
+      in_range = range;
+      source = three;
       is_front = carriages.front_same vs c.args.end c.in-Some.source one c.index-3.result.now here three ∙ sym c.front.ensures.value ∙ c.in-Some-front.is;
       dest = four;
       judged_there = c.verdict-verdict.ensures ∙ carriages.verdict_same vs c.in-Some-front.front.message.dest c.in-Some-place_of.dest two c.index-4.result.now c.in-Some-front.front.message there four;
@@ -217,8 +267,8 @@ returns c =
     let same : map kept us ≡ map kept vs = ap (λ (l : List EndpointView). map kept l) back ∙ c.in-Ok.ensures.same ∙ ap (λ (l : List EndpointView). map kept l) c.deref_mut.ensures.value in
     let x : Entry = record { stamp = c.last_stamp.result + 1; event = Events.Carry c.args.end; outcome = c.judged.result } in
     let next = carriages.carriage_next carriage x is (map kept c.carry_between.new.ends) c.log_entry.new.journal.items
-      (c.carry_between.ensures ∙ ap (carried_at c.in-Some.source c.in-Some-place_of.dest x) same)
-      (c.log_entry.ensures ∙ ap (λ (xs : List Entry). xs ++ x ∷ []) c.reserve.ensures.items) in
+    (c.carry_between.ensures ∙ ap (carried_at c.in-Some.source c.in-Some-place_of.dest x) same)
+    (c.log_entry.ensures ∙ ap (λ (xs : List Entry). xs ++ x ∷ []) c.reserve.ensures.items) in
     let n = vec_len c.self.inside.ends in
     let last = c.carry_between.new.ends in
     let whole : take n (last ++ drop (length last) (take n (c.room_for_both.new.ends ++ drop (length c.room_for_both.new.ends) vs))) ≡ last = lent_back n last (take n (c.room_for_both.new.ends ++ drop (length c.room_for_both.new.ends) vs)) (c.carry_between.auto.ends ∙ c.deref_mut-2.ensures.len) in
