@@ -9,3 +9,6 @@ mod words;
 pub use crate::faults::StepFault;
 pub use crate::steps::step_text;
 pub use crate::top::{Status, am2};
+
+#[cfg(test)]
+mod tests;
