@@ -35,7 +35,7 @@ least_such p [] = None
 least_such p (e ∷ es) = if p e then Some (lesser e (least_such p es)) else least_such p es
 
 abbrev pub full_by : Layout → List Entry → Option EndpointId → Option NodeId → Option Part
-full_by layout past (Some e) node = Some (Parts.Endpoint e)
+full_by layout past (Some e) interface = Some (Parts.Endpoint e)
 full_by layout past None (Some node) = if is_node_full layout past node then Some (Parts.Interface node) else None
 full_by layout past None None = None
 
