@@ -49,3 +49,9 @@ pub record Reports (old new : Option (List ℕ)) (bytes : List ℕ) : Type 0 whe
   pub spells : grammar Forms.Step bytes ≡ Ok scenario
   pub prints : PrintsHistory scenario text
   pub given : Appends old new text
+
+-- The status and the whole text are those that the bytes ask for, unless memory ran out.
+abbrev pub Completes : ℕ → ℕ → Option (List ℕ) → Option (List ℕ) → Option (List ℕ) → Type 0
+Completes most status left old new =
+    (status ≡ 8)
+    ⊎ Finds most left (λ bytes. (status ≡ (answer_of (grammar Forms.Step bytes)).status) × Appends old new (answer_of (grammar Forms.Step bytes)).text)

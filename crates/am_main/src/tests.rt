@@ -1,6 +1,10 @@
+use self::journals as worked;
 use super::*;
 use am_io::{MemorySink, MemorySource};
+use std::alloc::{AllocError, Global};
 use std::test::Fail;
+
+mod journals;
 
 const EMPTY: &str = "am2 1\nnetwork direct\nnodes 1\nendpoint 0 0 5\n";
 
@@ -25,10 +29,17 @@ const IDLE: &str = "am2 1\nnetwork direct\nnodes 1\nendpoint 0 0 5\nx carry 0\n"
 const PACKET: &str = "am2 1\nnetwork packet\nnodes 1\n";
 
 /// A text, its status and what is printed.
-const CASES: [(&str, u8, &str); 15] = [
+const CASES: [(&str, u8, &str); 22] = [
     (EMPTY, 0, EMPTY_REPORT),
     (PATH, 0, PATH_REPORT),
     (FULL, 6, "log full e0\n"),
+    (worked::ECHO, 0, worked::ECHO_REPORT),
+    (worked::TAGS, 0, worked::TAGS_REPORT),
+    (worked::INDEXES, 0, worked::INDEXES_REPORT),
+    (worked::GIVING_UP, 0, worked::GIVING_UP_REPORT),
+    (worked::FULL_QUEUE, 0, worked::FULL_QUEUE_REPORT),
+    (worked::NO_BOUNCE, 0, worked::NO_BOUNCE_REPORT),
+    (worked::POOLS, 0, worked::POOLS_REPORT),
     (IDLE, 3, "refused line 5 not-enabled no-message\n"),
     (PACKET, 9, "not built\n"),
     ("", 3, "refused line 1 missing\n"),
@@ -114,5 +125,24 @@ fn other_words_are_usage(rt: HostRuntime) -> Result<(), Fail> {
         assert_eq!(rt; am2(&rt, alloc, &words, &mut source, &mut sink).number, 2);
         assert_eq!(rt; sink.bytes(), b"usage: am2 step\n".as_slice());
     }
+    Ok(())
+}
+
+fn spaces(alloc: Global, count: usize) -> Result<Vec<u8>, AllocError> {
+    let mut bytes = Vec::with_capacity(alloc, count)?;
+    for _ in 0..count {
+        bytes.push(b' ')?;
+    }
+    Ok(bytes)
+}
+
+#[test]
+fn one_byte_too_many(rt: HostRuntime) -> Result<(), Fail> {
+    let alloc = rt.alloc();
+    let words = vec![in alloc; String::from_str(alloc, "step")?]?;
+    let mut source = MemorySource::new(spaces(alloc, 16_777_217)?, 65_536, Vec::new(alloc));
+    let mut sink = MemorySink::new(alloc, 16, Vec::new(alloc));
+    assert_eq!(rt; am2(&rt, alloc, &words, &mut source, &mut sink).number, 7);
+    assert_eq!(rt; sink.bytes(), b"input too long\n".as_slice());
     Ok(())
 }

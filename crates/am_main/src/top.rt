@@ -5,7 +5,7 @@ ghost use Rattle.std.specs.Io.KnownBytes.{Appends};
 ghost use Rattle.am_io.specs.Causes.{Rose};
 ghost use Rattle.am_io.specs.Whole.{IsLonger};
 ghost use Rattle.am_main.specs.Answer.{answer_of};
-ghost use Rattle.am_main.specs.Offers.{Finds, IsFront, IsGiven, IsOr, Reports, is_step};
+ghost use Rattle.am_main.specs.Offers.{Completes, Finds, IsFront, IsGiven, IsOr, Reports, is_step};
 ghost use Rattle.am_scenario.specs.Grammar.{grammar};
 ghost use Rattle.am_scenario_types.specs.declared.parts.Form.TheVariants as Forms;
 
@@ -113,6 +113,8 @@ pub fn am2<R: Threads + Sync, S: Source, K: Sink>(
     ensures usage_text { result.number ≡ 2 → Appends (K.held sink.old) (K.held sink.new) (codes "usage: am2 step\n") }
     // Where no read fails, the answer is the one that the bytes ask for, unless the sink or memory has a fault.
     ensures given { is_step (map string_bytes words.now) ≡ true → IsOr 4 result.number ⊎ (IsOr 7 result.number ⊎ Finds MOST_BYTES (S.left source.old) (λ bytes. IsGiven (answer_of (grammar Forms.Step bytes)) result.number (K.held sink.old) (K.held sink.new))) }
+    // Where no read and no write fails and the bytes aren't too many, the answer is given whole, unless memory runs out.
+    ensures complete { is_step (map string_bytes words.now) ≡ true → (Rose (S.count source.old) (S.count source.new) → ⊥) → (Rose (K.count sink.old) (K.count sink.new) → ⊥) → (IsLonger (S.left source.old) MOST_BYTES → ⊥) → Completes MOST_BYTES result.number (S.left source.old) (K.held sink.old) (K.held sink.new) }
     ensures read { result.number ≡ 4 → Rose (S.count source.old) (S.count source.new) }
     ensures read_text { result.number ≡ 4 → Appends (K.held sink.old) (K.held sink.new) (codes "read fault\n") }
     ensures write { result.number ≡ 5 → Rose (K.count sink.old) (K.count sink.new) }

@@ -1,0 +1,430 @@
+// The worked journals of the direct network: each input, and the whole report.
+
+pub const ECHO: &str = "am2 1\n\
+    network direct\n\
+    nodes 1\n\
+    endpoint 0 0 5\n\
+    endpoint 1 0 7\n\
+    x handler 1 2 echo 3\n\
+    x handler 0 3 note\n\
+    x map 0 0 1 7 1\n\
+    x request 0 0 2 1 2 3 4\n\
+    x request 0 0 2 1 2 3 4\n\
+    x carry 0\n\
+    x poll 1\n\
+    x carry 1\n\
+    x poll 0\n\
+    x request 0 0 2 5 6 7 8\n";
+
+pub const ECHO_REPORT: &str = "am2 report 1\n\
+    entries 10\n\
+    x handler 1 2 echo 3 -> ok\n\
+    x handler 0 3 note -> ok\n\
+    x map 0 0 1 7 1 -> ok\n\
+    x request 0 0 2 1 2 3 4 -> ok 0.1\n\
+    x request 0 0 2 1 2 3 4 -> refused no-credit\n\
+    x carry 0 -> accepted 0.1\n\
+    x poll 1 -> ran 0.1 2 sends 1.1\n\
+    x carry 1 -> accepted 1.1\n\
+    x poll 0 -> ran 1.1 3\n\
+    x request 0 0 2 5 6 7 8 -> ok 0.2\n\
+    endpoint 0 runs 1\n\
+    run 1.1 3 1 2 3 4\n\
+    endpoint 1 runs 1\n\
+    run 0.1 2 1 2 3 4\n\
+    messages 3\n\
+    fate 0.1 request ran\n\
+    fate 0.2 request pending\n\
+    fate 1.1 reply ran\n\
+    totals ran 2 returned 0 unknown 0 unknown-but-ran 0 pending 1\n";
+
+pub const TAGS: &str = "am2 1\n\
+    network direct\n\
+    nodes 1\n\
+    endpoint 0 0 5\n\
+    endpoint 1 0 8\n\
+    x handler 1 1 note\n\
+    x map 0 0 1 7 4\n\
+    x request 0 0 1 1 0 0 0\n\
+    x carry 0\n\
+    x poll 0\n\
+    x tag 1 all\n\
+    x request 0 0 1 2 0 0 0\n\
+    x carry 0\n\
+    x tag 1 none\n\
+    x poll 1\n\
+    x carry 1\n\
+    x poll 0\n\
+    x tag 1 none\n\
+    x request 0 0 1 3 0 0 0\n\
+    x carry 0\n\
+    x poll 0\n\
+    x tag 0 none\n\
+    x request 0 0 1 4 0 0 0\n\
+    x close 0\n\
+    x request 0 0 1 4 0 0 0\n\
+    x poll 0\n";
+
+pub const TAGS_REPORT: &str = "am2 report 1\n\
+    entries 21\n\
+    x handler 1 1 note -> ok\n\
+    x map 0 0 1 7 4 -> ok\n\
+    x request 0 0 1 1 0 0 0 -> ok 0.1\n\
+    x carry 0 -> returned 0.1 bad-tag\n\
+    x poll 0 -> zero 0.1 bad-tag\n\
+    x tag 1 all -> ok\n\
+    x request 0 0 1 2 0 0 0 -> ok 0.2\n\
+    x carry 0 -> accepted 0.2\n\
+    x tag 1 none -> refused in-use 1 0 0\n\
+    x poll 1 -> ran 0.2 1 sends 1.1\n\
+    x carry 1 -> accepted 1.1\n\
+    x poll 0 -> ran 1.1 -\n\
+    x tag 1 none -> ok\n\
+    x request 0 0 1 3 0 0 0 -> ok 0.3\n\
+    x carry 0 -> returned 0.3 bad-tag\n\
+    x poll 0 -> zero 0.3 bad-tag\n\
+    x tag 0 none -> ok\n\
+    x request 0 0 1 4 0 0 0 -> refused own-tag-none\n\
+    x close 0 -> ok\n\
+    x request 0 0 1 4 0 0 0 -> refused closed\n\
+    x poll 0 -> empty\n\
+    endpoint 0 runs 2\n\
+    zero 0.1 bad-tag\n\
+    zero 0.3 bad-tag\n\
+    endpoint 1 runs 1\n\
+    run 0.2 1 2 0 0 0\n\
+    messages 4\n\
+    fate 0.1 request returned bad-tag\n\
+    fate 0.2 request ran\n\
+    fate 0.3 request returned bad-tag\n\
+    fate 1.1 empty ran\n\
+    totals ran 2 returned 2 unknown 0 unknown-but-ran 0 pending 0\n";
+
+pub const INDEXES: &str = "am2 1\n\
+    network direct\n\
+    nodes 1\n\
+    endpoint 0 0 5\n\
+    endpoint 1 0 7\n\
+    x handler 1 16 note\n\
+    x handler 1 0 note\n\
+    x map 0 0 1 7 1\n\
+    x request 0 16 1 0 0 0 0\n\
+    x request 0 15 1 0 0 0 0\n\
+    x request 0 0 15 0 0 0 0\n\
+    x carry 0\n";
+
+pub const INDEXES_REPORT: &str = "am2 report 1\n\
+    entries 7\n\
+    x handler 1 16 note -> refused bad-index\n\
+    x handler 1 0 note -> refused reserved\n\
+    x map 0 0 1 7 1 -> ok\n\
+    x request 0 16 1 0 0 0 0 -> refused bad-index\n\
+    x request 0 15 1 0 0 0 0 -> refused not-mapped\n\
+    x request 0 0 15 0 0 0 0 -> ok 0.1\n\
+    x carry 0 -> returned 0.1 bad-handler\n\
+    endpoint 0 runs 0\n\
+    endpoint 1 runs 0\n\
+    messages 1\n\
+    fate 0.1 request returned bad-handler\n\
+    totals ran 0 returned 1 unknown 0 unknown-but-ran 0 pending 0\n";
+
+pub const GIVING_UP: &str = "am2 1\n\
+    network direct\n\
+    nodes 1\n\
+    endpoint 0 0 5\n\
+    endpoint 1 0 7\n\
+    x handler 1 1 note\n\
+    x map 0 0 1 7 1\n\
+    x request 0 0 1 10 20 30 40\n\
+    x carry 0\n\
+    x giveup 0 0.1\n\
+    x poll 1\n\
+    x carry 1\n\
+    x poll 1\n\
+    x giveup 0 0.1\n";
+
+pub const GIVING_UP_REPORT: &str = "am2 report 1\n\
+    entries 9\n\
+    x handler 1 1 note -> ok\n\
+    x map 0 0 1 7 1 -> ok\n\
+    x request 0 0 1 10 20 30 40 -> ok 0.1\n\
+    x carry 0 -> accepted 0.1\n\
+    x giveup 0 0.1 -> ok\n\
+    x poll 1 -> ran 0.1 1 sends 1.1\n\
+    x carry 1 -> returned 1.1 no-request\n\
+    x poll 1 -> zero 1.1 no-request\n\
+    x giveup 0 0.1 -> refused no-request\n\
+    endpoint 0 runs 0\n\
+    endpoint 1 runs 2\n\
+    run 0.1 1 10 20 30 40\n\
+    zero 1.1 no-request\n\
+    messages 2\n\
+    fate 0.1 request ran\n\
+    fate 1.1 empty returned no-request\n\
+    totals ran 1 returned 1 unknown 0 unknown-but-ran 0 pending 0\n";
+
+pub const FULL_QUEUE: &str = "am2 1\n\
+    network direct\n\
+    nodes 1\n\
+    endpoint 0 0 5\n\
+    endpoint 1 0 7\n\
+    x handler 1 1 note\n\
+    x map 0 0 1 7 8\n\
+    x map 0 1 1 7 8\n\
+    x map 0 2 1 7 8\n\
+    x request 0 0 1 0 0 0 0\n\
+    x carry 0\n\
+    x request 0 0 1 0 0 0 0\n\
+    x carry 0\n\
+    x request 0 0 1 0 0 0 0\n\
+    x carry 0\n\
+    x request 0 0 1 0 0 0 0\n\
+    x carry 0\n\
+    x request 0 0 1 0 0 0 0\n\
+    x carry 0\n\
+    x request 0 0 1 0 0 0 0\n\
+    x carry 0\n\
+    x request 0 0 1 0 0 0 0\n\
+    x carry 0\n\
+    x request 0 0 1 0 0 0 0\n\
+    x carry 0\n\
+    x request 0 1 1 0 0 0 0\n\
+    x carry 0\n\
+    x request 0 1 1 0 0 0 0\n\
+    x carry 0\n\
+    x request 0 1 1 0 0 0 0\n\
+    x carry 0\n\
+    x request 0 1 1 0 0 0 0\n\
+    x carry 0\n\
+    x request 0 1 1 0 0 0 0\n\
+    x carry 0\n\
+    x request 0 1 1 0 0 0 0\n\
+    x carry 0\n\
+    x request 0 1 1 0 0 0 0\n\
+    x carry 0\n\
+    x request 0 1 1 0 0 0 0\n\
+    x carry 0\n\
+    x request 0 2 1 0 0 0 0\n\
+    x carry 0\n\
+    x carry 0\n\
+    x carry 0\n\
+    x carry 0\n\
+    x poll 0\n";
+
+pub const FULL_QUEUE_REPORT: &str = "am2 report 1\n\
+    entries 42\n\
+    x handler 1 1 note -> ok\n\
+    x map 0 0 1 7 8 -> ok\n\
+    x map 0 1 1 7 8 -> ok\n\
+    x map 0 2 1 7 8 -> ok\n\
+    x request 0 0 1 0 0 0 0 -> ok 0.1\n\
+    x carry 0 -> accepted 0.1\n\
+    x request 0 0 1 0 0 0 0 -> ok 0.2\n\
+    x carry 0 -> accepted 0.2\n\
+    x request 0 0 1 0 0 0 0 -> ok 0.3\n\
+    x carry 0 -> accepted 0.3\n\
+    x request 0 0 1 0 0 0 0 -> ok 0.4\n\
+    x carry 0 -> accepted 0.4\n\
+    x request 0 0 1 0 0 0 0 -> ok 0.5\n\
+    x carry 0 -> accepted 0.5\n\
+    x request 0 0 1 0 0 0 0 -> ok 0.6\n\
+    x carry 0 -> accepted 0.6\n\
+    x request 0 0 1 0 0 0 0 -> ok 0.7\n\
+    x carry 0 -> accepted 0.7\n\
+    x request 0 0 1 0 0 0 0 -> ok 0.8\n\
+    x carry 0 -> accepted 0.8\n\
+    x request 0 1 1 0 0 0 0 -> ok 0.9\n\
+    x carry 0 -> accepted 0.9\n\
+    x request 0 1 1 0 0 0 0 -> ok 0.10\n\
+    x carry 0 -> accepted 0.10\n\
+    x request 0 1 1 0 0 0 0 -> ok 0.11\n\
+    x carry 0 -> accepted 0.11\n\
+    x request 0 1 1 0 0 0 0 -> ok 0.12\n\
+    x carry 0 -> accepted 0.12\n\
+    x request 0 1 1 0 0 0 0 -> ok 0.13\n\
+    x carry 0 -> accepted 0.13\n\
+    x request 0 1 1 0 0 0 0 -> ok 0.14\n\
+    x carry 0 -> accepted 0.14\n\
+    x request 0 1 1 0 0 0 0 -> ok 0.15\n\
+    x carry 0 -> accepted 0.15\n\
+    x request 0 1 1 0 0 0 0 -> ok 0.16\n\
+    x carry 0 -> accepted 0.16\n\
+    x request 0 2 1 0 0 0 0 -> ok 0.17\n\
+    x carry 0 -> requeued 0.17 queue-full\n\
+    x carry 0 -> requeued 0.17 queue-full\n\
+    x carry 0 -> requeued 0.17 queue-full\n\
+    x carry 0 -> returned 0.17 queue-full\n\
+    x poll 0 -> zero 0.17 queue-full\n\
+    endpoint 0 runs 1\n\
+    zero 0.17 queue-full\n\
+    endpoint 1 runs 0\n\
+    messages 17\n\
+    fate 0.1 request pending\n\
+    fate 0.2 request pending\n\
+    fate 0.3 request pending\n\
+    fate 0.4 request pending\n\
+    fate 0.5 request pending\n\
+    fate 0.6 request pending\n\
+    fate 0.7 request pending\n\
+    fate 0.8 request pending\n\
+    fate 0.9 request pending\n\
+    fate 0.10 request pending\n\
+    fate 0.11 request pending\n\
+    fate 0.12 request pending\n\
+    fate 0.13 request pending\n\
+    fate 0.14 request pending\n\
+    fate 0.15 request pending\n\
+    fate 0.16 request pending\n\
+    fate 0.17 request returned queue-full\n\
+    totals ran 0 returned 1 unknown 0 unknown-but-ran 0 pending 16\n";
+
+pub const NO_BOUNCE: &str = "am2 1\n\
+    network direct\n\
+    nodes 1\n\
+    bounces 0\n\
+    endpoint 0 0 5\n\
+    endpoint 1 0 7\n\
+    x handler 1 1 note\n\
+    x map 0 0 1 7 8\n\
+    x map 0 1 1 7 8\n\
+    x map 0 2 1 7 8\n\
+    x request 0 0 1 0 0 0 0\n\
+    x carry 0\n\
+    x request 0 0 1 0 0 0 0\n\
+    x carry 0\n\
+    x request 0 0 1 0 0 0 0\n\
+    x carry 0\n\
+    x request 0 0 1 0 0 0 0\n\
+    x carry 0\n\
+    x request 0 0 1 0 0 0 0\n\
+    x carry 0\n\
+    x request 0 0 1 0 0 0 0\n\
+    x carry 0\n\
+    x request 0 0 1 0 0 0 0\n\
+    x carry 0\n\
+    x request 0 0 1 0 0 0 0\n\
+    x carry 0\n\
+    x request 0 1 1 0 0 0 0\n\
+    x carry 0\n\
+    x request 0 1 1 0 0 0 0\n\
+    x carry 0\n\
+    x request 0 1 1 0 0 0 0\n\
+    x carry 0\n\
+    x request 0 1 1 0 0 0 0\n\
+    x carry 0\n\
+    x request 0 1 1 0 0 0 0\n\
+    x carry 0\n\
+    x request 0 1 1 0 0 0 0\n\
+    x carry 0\n\
+    x request 0 1 1 0 0 0 0\n\
+    x carry 0\n\
+    x request 0 1 1 0 0 0 0\n\
+    x carry 0\n\
+    x request 0 2 1 0 0 0 0\n\
+    x carry 0\n\
+    x poll 0\n";
+
+pub const NO_BOUNCE_REPORT: &str = "am2 report 1\n\
+    entries 39\n\
+    x handler 1 1 note -> ok\n\
+    x map 0 0 1 7 8 -> ok\n\
+    x map 0 1 1 7 8 -> ok\n\
+    x map 0 2 1 7 8 -> ok\n\
+    x request 0 0 1 0 0 0 0 -> ok 0.1\n\
+    x carry 0 -> accepted 0.1\n\
+    x request 0 0 1 0 0 0 0 -> ok 0.2\n\
+    x carry 0 -> accepted 0.2\n\
+    x request 0 0 1 0 0 0 0 -> ok 0.3\n\
+    x carry 0 -> accepted 0.3\n\
+    x request 0 0 1 0 0 0 0 -> ok 0.4\n\
+    x carry 0 -> accepted 0.4\n\
+    x request 0 0 1 0 0 0 0 -> ok 0.5\n\
+    x carry 0 -> accepted 0.5\n\
+    x request 0 0 1 0 0 0 0 -> ok 0.6\n\
+    x carry 0 -> accepted 0.6\n\
+    x request 0 0 1 0 0 0 0 -> ok 0.7\n\
+    x carry 0 -> accepted 0.7\n\
+    x request 0 0 1 0 0 0 0 -> ok 0.8\n\
+    x carry 0 -> accepted 0.8\n\
+    x request 0 1 1 0 0 0 0 -> ok 0.9\n\
+    x carry 0 -> accepted 0.9\n\
+    x request 0 1 1 0 0 0 0 -> ok 0.10\n\
+    x carry 0 -> accepted 0.10\n\
+    x request 0 1 1 0 0 0 0 -> ok 0.11\n\
+    x carry 0 -> accepted 0.11\n\
+    x request 0 1 1 0 0 0 0 -> ok 0.12\n\
+    x carry 0 -> accepted 0.12\n\
+    x request 0 1 1 0 0 0 0 -> ok 0.13\n\
+    x carry 0 -> accepted 0.13\n\
+    x request 0 1 1 0 0 0 0 -> ok 0.14\n\
+    x carry 0 -> accepted 0.14\n\
+    x request 0 1 1 0 0 0 0 -> ok 0.15\n\
+    x carry 0 -> accepted 0.15\n\
+    x request 0 1 1 0 0 0 0 -> ok 0.16\n\
+    x carry 0 -> accepted 0.16\n\
+    x request 0 2 1 0 0 0 0 -> ok 0.17\n\
+    x carry 0 -> returned 0.17 queue-full\n\
+    x poll 0 -> zero 0.17 queue-full\n\
+    endpoint 0 runs 1\n\
+    zero 0.17 queue-full\n\
+    endpoint 1 runs 0\n\
+    messages 17\n\
+    fate 0.1 request pending\n\
+    fate 0.2 request pending\n\
+    fate 0.3 request pending\n\
+    fate 0.4 request pending\n\
+    fate 0.5 request pending\n\
+    fate 0.6 request pending\n\
+    fate 0.7 request pending\n\
+    fate 0.8 request pending\n\
+    fate 0.9 request pending\n\
+    fate 0.10 request pending\n\
+    fate 0.11 request pending\n\
+    fate 0.12 request pending\n\
+    fate 0.13 request pending\n\
+    fate 0.14 request pending\n\
+    fate 0.15 request pending\n\
+    fate 0.16 request pending\n\
+    fate 0.17 request returned queue-full\n\
+    totals ran 0 returned 1 unknown 0 unknown-but-ran 0 pending 16\n";
+
+pub const POOLS: &str = "am2 2\n\
+    network direct\n\
+    nodes 1\n\
+    pool 2\n\
+    endpoint 0 0 5\n\
+    endpoint 1 0 7\n\
+    x map 0 0 1 7 1\n\
+    x map 0 1 1 7 0\n\
+    x request 0 1 1 0 0 0 0\n\
+    x request 0 1 1 0 0 0 0\n\
+    x request 0 1 1 0 0 0 0\n\
+    x request 0 0 1 0 0 0 0\n\
+    x request 0 0 1 0 0 0 0\n\
+    x map 0 2 1 7 8\n\
+    x map 0 3 1 7 8\n\
+    x map 0 4 1 7 8\n\
+    x map 0 5 1 7 8\n\
+    x map 0 5 1 7 5\n";
+
+pub const POOLS_REPORT: &str = "am2 report 1\n\
+    entries 12\n\
+    x map 0 0 1 7 1 -> ok\n\
+    x map 0 1 1 7 0 -> ok\n\
+    x request 0 1 1 0 0 0 0 -> ok 0.1\n\
+    x request 0 1 1 0 0 0 0 -> ok 0.2\n\
+    x request 0 1 1 0 0 0 0 -> refused no-credit\n\
+    x request 0 0 1 0 0 0 0 -> ok 0.3\n\
+    x request 0 0 1 0 0 0 0 -> refused no-credit\n\
+    x map 0 2 1 7 8 -> ok\n\
+    x map 0 3 1 7 8 -> ok\n\
+    x map 0 4 1 7 8 -> ok\n\
+    x map 0 5 1 7 8 -> refused over-share 25\n\
+    x map 0 5 1 7 5 -> ok\n\
+    endpoint 0 runs 0\n\
+    endpoint 1 runs 0\n\
+    messages 3\n\
+    fate 0.1 request pending\n\
+    fate 0.2 request pending\n\
+    fate 0.3 request pending\n\
+    totals ran 0 returned 0 unknown 0 unknown-but-ran 0 pending 3\n";
