@@ -1,10 +1,12 @@
 #!/usr/bin/env bash
-# Each example against its stored report, where the program is built (bin/am2 builds it).
+# Each example against its stored report. bin/am2 builds the program where it isn't built; without one this fails.
 set -u
-program=crates/am2/out/am2
-[ -x "$program" ] || { echo "examples: the program isn't built here, nothing compared"; exit 0; }
 failed=0
+compared=0
 for example in examples/*.am2; do
-    "$program" step < "$example" | cmp -s - "${example%.am2}.out" || { echo "example differs: $example"; failed=1; }
+    bin/am2 step < "$example" | cmp -s - "${example%.am2}.out" || { echo "example differs: $example"; failed=1; }
+    compared=$((compared + 1))
 done
+echo "examples: $compared compared"
+[ "$compared" -gt 0 ] || failed=1
 exit "$failed"
