@@ -1,4 +1,6 @@
 ghost use Rattle.std.specs.Prelude.{◌≡◌, false};
+ghost use Rattle.am_io.specs.Causes.{ReadCause, Reads, WriteCause, Writes};
+ghost use Rattle.am_io.specs.Standard.{faults_after};
 
 use crate::memory_source::is_end;
 use crate::sink::{Sink, SinkFault};
@@ -47,7 +49,12 @@ impl<R: Read> Source for StdSource<R> {
         self.faults
     }
 
-    fn read(&mut self, buf: &mut [u8]) -> Result<usize, Failed> {
+    fn read(&mut self, buf: &mut [u8]) -> Result<usize, Failed>
+        requires { self.old.ended ≡ false }
+        ensures bytes { Reads result self.old.left self.new.left self.old.ended self.new.ended buf.new }
+        ensures cause { ReadCause result self.old.faults self.new.faults }
+        ensures counted { self.new.faults ≡ faults_after result self.old.faults }
+    {
         match self.inner.read(buf) {
             Ok(count) => {
                 self.ended = is_end(count, buf.len());
@@ -95,7 +102,11 @@ impl<W: Write> Sink for StdSink<W> {
         self.faults
     }
 
-    fn write(&mut self, piece: &[u8]) -> Result<usize, SinkFault> {
+    fn write(&mut self, piece: &[u8]) -> Result<usize, SinkFault>
+        ensures bytes { Writes result self.old.held self.new.held piece.now }
+        ensures cause { WriteCause result self.old.faults self.new.faults }
+        ensures counted { self.new.faults ≡ faults_after result self.old.faults }
+    {
         match self.inner.write(piece) {
             Ok(count) if count > 0 || piece.is_empty() => Ok(count),
             _ => {
