@@ -219,9 +219,9 @@ settle_delivers layout past h c a (Some m) is here on t e = by_test ((a.seq == s
         let k = (replies layout past h).known a here in
         let took' = k.accepts v in
         let p = (takings layout past h).parcel (end_of a) a.seq took'.0 took'.1 in
-        let of : IsOf (sender c past) p.0 = subst (λ (d : Channel). IsOf (sender d past) p.0) (p.2 ∙ on) ((sendings layout past h).channels.parcels p.0 p.1) in
-        let message : p.0.message ≡ m = of.message m (p.3 ∙ seq) is in
-        subst (λ (w : Serial). 1 ≤ times put_of (has_serial w) past) (ap (λ (w : Message). w.serial) message ∙ same) p.4
+        let of : IsOf (sender c past) p.by = subst (λ (d : Channel). IsOf (sender d past) p.by) (p.on ∙ on) ((sendings layout past h).channels.parcels p.by p.emitted) in
+        let message : p.by.message ≡ m = of.message m (p.seq ∙ seq) is in
+        subst (λ (w : Serial). 1 ≤ times put_of (has_serial w) past) (ap (λ (w : Message). w.serial) message ∙ same) p.put'
     by_verdict (Verdicts.Refused cause) v seq f =
         absurd (by_again cause (bounced (flying_of m.serial (state_of layout past m.serial.source).body.in_flight) + 1) (is_transient cause && nat_lt (bounced (flying_of m.serial (state_of layout past m.serial.source).body.in_flight)) layout.bounces) f)
 

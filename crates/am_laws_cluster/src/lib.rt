@@ -1,8 +1,7 @@
 //! The invariant of the cluster over every history: where each message is, and all eleven parts together.
 #![tactic(auto)]
 
-ghost use Rattle.am_laws_cluster.specs.Whole.{ClusterHolds};
-ghost use Rattle.am_model.specs.Cluster.{InFlightIsBound, OneLiveSequence};
+ghost use Rattle.am_model.specs.Cluster.{ClusterInvariant, InFlightIsBound, OneLiveSequence};
 ghost use Rattle.am_model.specs.History.{IsHistory};
 ghost use Rattle.am_model.specs.Layout.{IsLawful, Layout};
 ghost use Rattle.am_office.specs.declared.Entry.{Entry};
@@ -15,14 +14,14 @@ pub fn one_live_sequence()
     ensures { (layout : Layout) (past : List Entry) → IsHistory layout past → OneLiveSequence layout past }
 {}
 
-/// In each history of a lawful layout a message in flight is held by exactly one bound channel of
-/// its node, and a bound message is in flight once, at an endpoint of the node that is in a frame
-/// and open.
+/// In each history of a lawful layout a message is in flight at its own source alone, held by exactly
+/// one bound channel of the source's node. A bound message is in flight once, and its source is in a
+/// frame and open.
 pub fn in_flight_is_bound()
     ensures { (layout : Layout) (past : List Entry) → IsLawful layout → IsHistory layout past → InFlightIsBound layout past }
 {}
 
-/// In each history of a lawful layout, on either network, all eleven parts hold together.
+/// In each history of a lawful layout, on either network, the whole invariant holds.
 pub fn cluster_holds()
-    ensures { (layout : Layout) (past : List Entry) → IsLawful layout → IsHistory layout past → ClusterHolds layout past }
+    ensures { (layout : Layout) (past : List Entry) → IsLawful layout → IsHistory layout past → ClusterInvariant layout past }
 {}
