@@ -7,9 +7,9 @@ ghost use Rattle.am_model.specs.Layout.{IsLawful, Layout};
 ghost use Rattle.am_office.specs.declared.Entry.{Entry};
 ghost use Rattle.std.specs.Prelude.{List};
 
-/// In each history a message has at most one sequence that did not end in a requeue. One that was
-/// put is received or has run. One that was neither put nor returned nor unknown is in one queue or
-/// in flight.
+/// In each history all sequences of a message, or all but the last, ended in a requeue. A message
+/// that was put is received or has run. One that was accepted and was neither put nor returned nor
+/// unknown is in one queue or in flight.
 pub fn one_live_sequence()
     ensures { (layout : Layout) (past : List Entry) → IsHistory layout past → OneLiveSequence layout past }
 {}

@@ -1,5 +1,5 @@
 -- What holds of a cluster of the packet network after every entry: the channels, the endpoints and where they lie.
-use Rattle.std.specs.Prelude.{◌≡◌, ◌≢◌, ◌⊎◌, ℕ, ◌+◌, ◌≤◌, ◌<◌, ◌==◌, Bool, true, false, ◌&&◌, nat_le, Option, Some, None, List, count_by, filter_map, slice_get, if◌then◌else◌}
+use Rattle.std.specs.Prelude.{◌≡◌, ◌≢◌, ◌⊎◌, ℕ, ◌+◌, ◌≤◌, ◌<◌, ◌==◌, Bool, true, false, ◌&&◌, nat_le, Option, Some, None, List, [], ◌∷◌, ◌++◌, count_by, filter_map, slice_get, if◌then◌else◌}
 use Rattle.std.specs.List.{list_any}
 use Rattle.am_names.specs.Rules.{matches}
 use Rattle.am_names.specs.declared.EndpointId.{EndpointId}
@@ -28,7 +28,7 @@ use Rattle.am_model.specs.Calls.{awaited_at}
 use Rattle.am_model.specs.Endpoint.{Body, IsWithin, is_resident, entry_at}
 use Rattle.am_office.specs.Entries.{put_by, put_of, run_of, returned_of, unknown_of, requeue_of, emitted_of}
 use Rattle.am_model.specs.Layout.{Layout, AllAre, home}
-use Rattle.am_model.specs.Channels.{Channel, Mark, same_channel, sequence, bound_message, attempt, mark, sent_message}
+use Rattle.am_model.specs.Channels.{Channel, Mark, same_channel, sequence, bound_message, attempt, mark}
 use Rattle.am_model.specs.History.{state_of, channel_to}
 use Rattle.am_model.specs.PostOffice.{Gave, WasAccepted, times, times_serial, is_about}
 use Rattle.am_model.specs.Valid.{has_arrived}
@@ -164,9 +164,35 @@ pub record IsOver (past : List Entry) (c : Channel) (k last : ℕ) : Type 0 wher
 abbrev pub EndedSequencePutNothing : List Entry → Type 0
 EndedSequencePutNothing past = (c : Channel) (k last : ℕ) → list_any (λ (x : Entry). comes_back c k last x.event x.outcome) past ≡ true → IsOver past c k last
 
-abbrev pub bound_in : Event → Outcome → Option Message
-bound_in (Events.Bind node end) outcome = sent_message outcome
-bound_in event outcome = None
+-- the channel and the sequence to which a message of this serial is bound here
+abbrev pub sequence_bound_in : Serial → Event → Outcome → Option (Channel × ℕ)
+sequence_bound_in s (Events.Bind node end) (Out.Sent m peer channel seq attempt number) =
+    if has_serial s m then Some (channel_to node peer channel, seq) else None
+sequence_bound_in s event outcome = None
+
+abbrev pub sequence_requeued_by : Serial → Channel → ℕ → Received → Option (Channel × ℕ)
+sequence_requeued_by s c seq (Got.Requeued serial cause bounces) = if same_serial s serial then Some (c, seq) else None
+sequence_requeued_by s c seq result = None
+
+-- the channel and the sequence that end here in a requeue of this serial
+abbrev pub sequence_requeued_in : Serial → Event → Outcome → Option (Channel × ℕ)
+sequence_requeued_in s (Events.Receive node peer number) (Out.Received channel seq attempt result) =
+    sequence_requeued_by s (channel_to node peer channel) seq result
+sequence_requeued_in s event outcome = None
+
+-- the sequences of a message, in the order in which it was bound to them
+abbrev pub sequences_bound : Serial → List Entry → List (Channel × ℕ)
+sequences_bound s past = filter_map (λ (x : Entry). sequence_bound_in s x.event x.outcome) past
+
+-- the sequences of a message that ended in a requeue, in the order in which they did
+abbrev pub sequences_requeued : Serial → List Entry → List (Channel × ℕ)
+sequences_requeued s past = filter_map (λ (x : Entry). sequence_requeued_in s x.event x.outcome) past
+
+-- all sequences of a message ended in a requeue, or all but the last
+abbrev pub OnlyLastMayLive : Serial → List Entry → Type 0
+OnlyLastMayLive s past =
+    (sequences_bound s past ≡ sequences_requeued s past)
+    ⊎ ((last : Channel × ℕ) × (sequences_bound s past ≡ sequences_requeued s past ++ last ∷ []))
 
 abbrev pub count_queued : Serial → Body → ℕ
 count_queued s b = count_by (λ (q : Queued). has_serial s q.message) b.requests + count_by (λ (q : Queued). has_serial s q.message) b.replies
@@ -174,10 +200,10 @@ count_queued s b = count_by (λ (q : Queued). has_serial s q.message) b.requests
 abbrev pub count_flying : Serial → Body → ℕ
 count_flying s b = count_by (λ (f : Flying). has_serial s f.message) b.in_flight
 
--- a message has at most one sequence that did not end in a requeue; one that was put is received or has run; one that
--- was neither put nor returned nor unknown is in one queue or in flight
+-- a message has at most one sequence that did not end in a requeue, the last one; one that was put is received or has run;
+-- one that was accepted and was neither put nor returned nor unknown is in one queue or in flight
 pub record OneLiveSequence (layout : Layout) (past : List Entry) : Type 0 where
-  pub live : (s : Serial) → times (λ x. bound_in x.event x.outcome) (has_serial s) past ≤ times_serial requeue_of s past + 1
+  pub live : (s : Serial) → OnlyLastMayLive s past
   pub put : (m : Message) → Gave put_of past m → count_by (has_serial m.serial) (state_of layout past m.dest).body.received + times run_of (has_serial m.serial) past ≡ 1
   pub waits : (m : Message) → WasAccepted past m → times put_of (has_serial m.serial) past ≡ 0 → times_serial returned_of m.serial past ≡ 0 → times_serial unknown_of m.serial past ≡ 0 → count_queued m.serial (state_of layout past m.serial.source).body + count_flying m.serial (state_of layout past m.serial.source).body ≡ 1
 
