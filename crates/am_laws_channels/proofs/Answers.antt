@@ -30,24 +30,15 @@ use Rattle.am_model.proofs.Received.{bit}
 use Rattle.std.proofs.lemmas.Bool.{eqb-false}
 use Rattle.am_office.specs.Entries.{emitted_of, emitted_in, answer_packet, answer_by}
 use Rattle.am_model.specs.Channels.{Mark, same_channel, frees, frees_by, binds}
-use Rattle.am_model.specs.Cluster.{took, takes_in, HasComeTo, comes_back, comes_back_by, EndedSequencePutNothing}
+use Rattle.am_model.specs.Cluster.{took, takes_in, put_on, HasComeTo, AnswerSays, AnswersAreTrue, comes_back, comes_back_by, EndedSequencePutNothing}
 use Rattle.am_model.proofs.Ends.{EmittedIn, emitted_more, was_emitted, bound_push, sequence_push}
 use Rattle.am_laws_order.proofs.Senders.{SenderMoves, sender, sender_moves, same_channel-is}
 use Rattle.am_laws_order.proofs.Parcels.{IsOf, IsCurrent, channel_of, new_parcel, same_channel-refl}
 use Rattle.am_laws_order.proofs.Marks.{IsPast, mark_moves, mark_after, back, end_of, link_of, again_at, Agrees, IsAnswered, ChannelsKept, refusal_marks, no_answer, settle_answers, parcel_no_answer}
 use Rattle.am_laws_order.proofs.Effects.{IsRefusal, link_of_answer}
-use Rattle.am_laws_channels.specs.Truth.{TookOnSome, SaysTrue, AnswersSayTrue}
 use Rattle.am_laws_channels.proofs.Sent.{gave_emitted, emitted_gave, emitted_later, sendings}
 use Rattle.am_laws_channels.proofs.Taken.{takes_is, took_push, took_later, mark_then, Takings, takings, come_past, come_on}
-use Rattle.am_model.proofs.Names.{same_serial-is}
-use Rattle.am_names.specs.Names.{has_serial}
-use Rattle.am_office.specs.Entries.{put_of}
-use Rattle.am_laws_order.proofs.Everywhere.{each_once}
 use Rattle.am_model.specs.PostOffice.{Gave}
-use Rattle.am_laws_messages.proofs.Delivered.{delivers}
-use Rattle.am_laws_replies.proofs.Gave.{accepted_one}
-use Rattle.am_laws_credits.proofs.Given.{times_gave}
-use Rattle.am_laws_credits.proofs.Puts.{put_was_accepted}
 
 -- an answer as it is sent
 record IsAnswerTo (node peer : NodeId) (channel seq attempt : ℕ) (q : AnswerPacket) : Type 0 where
@@ -139,6 +130,10 @@ accepted_past m a is h = by_test (a.seq == m.seq) refl
         inr (at, subst (λ (v : Verdict). Agrees v a.attempt m) is (h.agrees at))
     by_test false e = let apart : a.seq ≡ m.seq → ⊥ = eqb-false a.seq m.seq e in inl (omega (arith, h.seq, apart))
 
+-- the receiving end took a message in the sequence of the answer, on some attempt
+abbrev pub TookOnSome : List Entry → AnswerPacket → Type 0
+TookOnSome past a = (most : ℕ) × (took (end_of a) a.seq most past ≡ true)
+
 -- what is known of an answer
 pub record IsKnown (past : List Entry) (a : AnswerPacket) : Type 0 where
   pub by : Parcel
@@ -226,7 +221,7 @@ replies layout past h =
     [] past (record { history = tt; known = λ a there. absurd there }) h
 
 -- the fourth part: answers say what their ends did
-pub answers_true : (layout : Layout) (past : List Entry) → IsHistory layout past → AnswersSayTrue past
+pub answers_true : (layout : Layout) (past : List Entry) → IsHistory layout past → AnswersAreTrue past
 answers_true layout past h a g =
     record { parcel = k.by; sent = emitted_gave (Packets.Parcel k.by) past k.emitted; on = k.on; seq = k.seq; attempt = k.attempt; puts = puts; says = by_verdict a.verdict refl }
   where
@@ -239,18 +234,14 @@ answers_true layout past h a g =
     said : IsAnswered (mark (end_of a) past) a
     said = (sendings layout past h).channels.answers a there
 
-    puts : a.verdict ≡ Verdicts.Accepted → Gave put_of past k.by.message
+    puts : a.verdict ≡ Verdicts.Accepted → Gave (put_on (end_of a) a.seq) past k.by.message
     puts is =
         let t = k.accepts is in
         let p = (takings layout past h).parcel (end_of a) a.seq t.0 t.1 in
-        let same : p.0.message ≡ k.by.message = ((sendings layout past h).alike p.0 k.by p.1 k.emitted (p.2 ∙ sym k.on) (p.3 ∙ sym k.seq)).message in
-        let g = times_gave put_of (has_serial p.0.message.serial) past p.4 in
-        let serial : p.0.message.serial ≡ g.0.serial = same_serial-is p.0.message.serial g.0.serial g.2 in
-        let one' : g.0 ≡ p.0.message = accepted_one past p.0.message.serial g.0 p.0.message ((each_once layout past h).accepted p.0.message.serial) (put_was_accepted layout past h g.0 g.1) ((delivers layout past h).parcels p.0 p.1).accepted (sym serial) refl in
-        subst (Gave put_of past) (one' ∙ same) g.1
+        subst (Gave (put_on (end_of a) a.seq) past) ((sendings layout past h).alike p.by k.by p.emitted k.emitted (p.on ∙ sym k.on) (p.seq ∙ sym k.seq)) p.put_there
 
-    by_verdict : (v : Verdict) → a.verdict ≡ v → SaysTrue past a v
-    by_verdict Verdicts.Accepted is = (k.accepts is, accepted_past (mark (end_of a) past) a is said)
+    by_verdict : (v : Verdict) → a.verdict ≡ v → AnswerSays past a v
+    by_verdict Verdicts.Accepted is = accepted_past (mark (end_of a) past) a is said
     by_verdict (Verdicts.Refused cause) is = (refused_come (mark (end_of a) past) a cause is said, k.refuses cause is)
 
 -- a sequence that ends in a requeue or a return ends by a refusal of its current attempt

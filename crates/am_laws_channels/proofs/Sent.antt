@@ -1,7 +1,8 @@
 -- What is known of every parcel that was sent, and of the marks.
-use Rattle.std.specs.Prelude.{nat_lt, slice_get}
-use Rattle.std.proofs.Common.{◌≡◌, ◌≢◌, ◌⊎◌, inl, inr, ⊎_elim, ℕ, zero, suc, ◌+◌, ◌-◌, Bool, true, false, List, [], ◌∷◌, ◌++◌, Option, Some, None, refl, sym, ap, ◌∙◌, subst, arith, if◌then◌else◌}
+use Rattle.std.specs.Prelude.{length, nat_lt, slice_get}
+use Rattle.std.proofs.Common.{◌≡◌, ◌≢◌, ◌⊎◌, inl, inr, ⊎_elim, ℕ, zero, suc, ◌+◌, ◌-◌, ◌≤◌, ◌<◌, Bool, true, false, List, [], ◌∷◌, ◌++◌, Option, Some, None, refl, sym, ap, ◌∙◌, subst, arith, if◌then◌else◌}
 use Rattle.std.specs.List.{filter_map, cons_option}
+use Rattle.std.proofs.lemmas.List.Elements.{filter_map-append}
 use Rattle.am_names.specs.declared.EndpointId.{EndpointId}
 use Rattle.am_names.specs.declared.NodeId.{NodeId}
 use Rattle.am_names.specs.declared.Cause.TheVariants.{NoRequest}
@@ -25,7 +26,7 @@ use Rattle.am_model.proofs.Each.{over_each}
 use Rattle.am_office.specs.Entries.{emitted_of, emitted_in}
 use Rattle.am_model.specs.Channels.{Mark}
 use Rattle.am_model.specs.History.{bind_to, channel_for, sent}
-use Rattle.am_model.specs.Cluster.{ParcelsFitSender, MarkIsOfParcel}
+use Rattle.am_model.specs.Cluster.{ParcelsFitSender, MarkIsOfParcel, AreOfOneSequence, IsSentAfter}
 use Rattle.am_model.proofs.Ends.{EmittedIn, emitted_more}
 use Rattle.am_laws_order.proofs.Senders.{SenderMoves, sender, sender_moves}
 use Rattle.am_laws_order.proofs.Parcels.{IsOf, IsCurrent, ParcelsAreOf, channel_of, new_parcel, receive_no_parcel}
@@ -89,29 +90,19 @@ event_new layout past stamp event q e = absurd (cc)
 pub is_new : (layout : Layout) (past : List Entry) (x : Entry) → MayFollow layout past x → (q : Parcel) → emitted_of x ≡ Some (Packets.Parcel q) → (q.seq ≡ sequence (channel_of q) past + 1) ⊎ (q.attempt ≡ attempt (channel_of q) past + 1)
 is_new layout past x may q e = event_new layout past x.stamp x.event q (ap (emitted_in x.stamp x.event) (sym may.outcome) ∙ e)
 
--- of the parcels of one sequence
-pub record AreAlike (p q : Parcel) : Type 0 where
-  pub message : p.message ≡ q.message
-  pub distinct : p.attempt ≡ q.attempt → p ≡ q
-
+-- the parcels of one sequence carry one message
 abbrev pub Alike : List Entry → Type 0
-Alike past = (p q : Parcel) → EmittedIn (Packets.Parcel p) past → EmittedIn (Packets.Parcel q) past → channel_of p ≡ channel_of q → p.seq ≡ q.seq → AreAlike p q
-
-flip : (p q : Parcel) → AreAlike p q → AreAlike q p
-flip p q a = record { message = sym a.message; distinct = λ e. sym (a.distinct (sym e)) }
+Alike past = (p q : Parcel) → EmittedIn (Packets.Parcel p) past → EmittedIn (Packets.Parcel q) past → channel_of p ≡ channel_of q → p.seq ≡ q.seq → p.message ≡ q.message
 
 -- an old parcel and the one that goes out now
-with_old : (layout : Layout) (past : List Entry) (x : Entry) → MayFollow layout past x → ParcelsAreOf past → (p q : Parcel) → EmittedIn (Packets.Parcel p) past → emitted_of x ≡ Some (Packets.Parcel q) → channel_of p ≡ channel_of q → p.seq ≡ q.seq → AreAlike p q
+with_old : (layout : Layout) (past : List Entry) (x : Entry) → MayFollow layout past x → ParcelsAreOf past → (p q : Parcel) → EmittedIn (Packets.Parcel p) past → emitted_of x ≡ Some (Packets.Parcel q) → channel_of p ≡ channel_of q → p.seq ≡ q.seq → (p.message ≡ q.message) × (p.attempt < q.attempt)
 with_old layout past x may known p q before now on seq =
     ⊎_elim
     (λ (new : q.seq ≡ sequence (channel_of q) past + 1). absurd (omega (arith, new, seq, of.seq)))
     (λ (again : q.attempt ≡ attempt (channel_of q) past + 1).
     ⊎_elim
     (λ (same : sequence (channel_of q) (past ++ x ∷ []) ≡ sequence (channel_of q) past).
-    record {
-      message = of.message q.message (seq ∙ current.seq ∙ same) (moves.same_message q.message same current.message);
-      distinct = λ e. absurd (omega (arith, e, again, of.attempt (seq ∙ current.seq ∙ same)));
-    })
+    (of.message q.message (seq ∙ current.seq ∙ same) (moves.same_message q.message same current.message), omega (arith, again, of.attempt (seq ∙ current.seq ∙ same))))
     (λ (up : sequence (channel_of q) (past ++ x ∷ []) ≡ sequence (channel_of q) past + 1). absurd (omega (arith, up, seq, of.seq, current.seq)))
     moves.up)
     (is_new layout past x may q now)
@@ -131,16 +122,55 @@ alike_more layout past x known alike may p q hp hq on seq =
     (λ (p_before : EmittedIn (Packets.Parcel p) past).
     ⊎_elim
     (λ (q_before : EmittedIn (Packets.Parcel q) past). alike p q p_before q_before on seq)
-    (λ (q_now : emitted_of x ≡ Some (Packets.Parcel q)). with_old layout past x may known p q p_before q_now on seq)
+    (λ (q_now : emitted_of x ≡ Some (Packets.Parcel q)). (with_old layout past x may known p q p_before q_now on seq).0)
     (emitted_more (Packets.Parcel q) past x hq))
     (λ (p_now : emitted_of x ≡ Some (Packets.Parcel p)).
     ⊎_elim
-    (λ (q_before : EmittedIn (Packets.Parcel q) past). flip q p (with_old layout past x may known q p q_before p_now (sym on) (sym seq)))
+    (λ (q_before : EmittedIn (Packets.Parcel q) past). sym (with_old layout past x may known q p q_before p_now (sym on) (sym seq)).0)
     (λ (q_now : emitted_of x ≡ Some (Packets.Parcel q)).
     let both : Some (Packets.Parcel p) ≡ Some (Packets.Parcel q) = sym p_now ∙ q_now in
-    let same : p ≡ q = cc in record { message = ap (λ (w : Parcel). w.message) same; distinct = λ e. same })
+    let same : p ≡ q = cc in ap (λ (w : Parcel). w.message) same)
     (emitted_more (Packets.Parcel q) past x hq))
     (emitted_more (Packets.Parcel p) past x hp)
+
+-- what stands at a place of a list with one more
+get_push : {A : Type 0} (xs : List A) (w : Option A) (i : ℕ) (a : A) → slice_get (xs ++ cons_option w []) i ≡ Some a → (slice_get xs i ≡ Some a) ⊎ ((w ≡ Some a) × (i ≡ length xs))
+get_push [] None i a e = absurd (cc)
+get_push [] (Some b) zero a e = inr (e, refl)
+get_push [] (Some b) (suc i) a e = absurd (cc)
+get_push (x ∷ xs) w zero a e = inl e
+get_push (x ∷ xs) w (suc i) a e = ⊎_elim (λ (old : slice_get xs i ≡ Some a). inl old) (λ (new : (w ≡ Some a) × (i ≡ length xs)). inr (new.0, ap suc new.1)) (get_push xs w i a e)
+
+get_low : {A : Type 0} (xs : List A) (i : ℕ) (a : A) → slice_get xs i ≡ Some a → i < length xs
+get_low [] i a e = absurd (cc)
+get_low (x ∷ xs) zero a e = omega arith
+get_low (x ∷ xs) (suc i) a e = omega (arith, get_low xs i a e)
+
+-- a parcel that stands at a place went out before, or goes out now and stands last
+sent_before : (past : List Entry) (x : Entry) (i : ℕ) (q : Parcel) → IsSentAfter (past ++ x ∷ []) i q → IsSentAfter past i q ⊎ ((emitted_of x ≡ Some (Packets.Parcel q)) × (i ≡ length (filter_map emitted_of past)))
+sent_before past x i q h = get_push (filter_map emitted_of past) (emitted_of x) i (Packets.Parcel q) (subst (λ (ps : List Packet). slice_get ps i ≡ Some (Packets.Parcel q)) (filter_map-append emitted_of past (x ∷ [])) h)
+
+-- of two parcels of one sequence the later one has the greater attempt
+abbrev pub Rises : List Entry → Type 0
+Rises past = (i j : ℕ) (p q : Parcel) → IsSentAfter past i p → IsSentAfter past j q → i < j → AreOfOneSequence p q → p.attempt < q.attempt
+
+rises_more : (layout : Layout) (past : List Entry) (x : Entry) → ParcelsAreOf past → Rises past → MayFollow layout past x → Rises (past ++ x ∷ [])
+rises_more layout past x known before may i j p q at_i at_j later one' =
+    ⊎_elim
+    (λ (p_before : IsSentAfter past i p).
+    ⊎_elim
+    (λ (q_before : IsSentAfter past j q). before i j p q p_before q_before later one')
+    (λ (q_now : (emitted_of x ≡ Some (Packets.Parcel q)) × (j ≡ length (filter_map emitted_of past))). (with_old layout past x may known p q (gave_emitted (Packets.Parcel p) past (i, p_before)) q_now.0 one'.0 one'.1).1)
+    (sent_before past x j q at_j))
+    (λ (p_now : (emitted_of x ≡ Some (Packets.Parcel p)) × (i ≡ length (filter_map emitted_of past))). absurd (omega (arith, p_now.1, later, last)))
+    (sent_before past x i p at_i)
+  where
+    last : j ≤ length (filter_map emitted_of past)
+    last =
+        ⊎_elim
+        (λ (old : IsSentAfter past j q). omega (arith, get_low (filter_map emitted_of past) j (Packets.Parcel q) old))
+        (λ (new : (emitted_of x ≡ Some (Packets.Parcel q)) × (j ≡ length (filter_map emitted_of past))). omega (arith, new.1))
+        (sent_before past x j q at_j)
 
 -- a mark that is not the opening one is of a parcel
 pub record IsOfParcel (past : List Entry) (c : Channel) : Type 0 where
@@ -168,22 +198,23 @@ marked_more layout past x known may c apart =
 pub record Sendings (past : List Entry) : Type 0 where
   pub channels : ChannelsKept past
   pub alike : Alike past
+  pub rises : Rises past
   pub marks : MarksOfParcels past
 
 pub sendings : (layout : Layout) (past : List Entry) → IsHistory layout past → Sendings past
 sendings layout past h =
     over_each (MayFollow layout) Sendings
-    (λ xs x k may. record { channels = channels_more layout xs x k.channels may; alike = alike_more layout xs x k.channels.parcels k.alike may; marks = marked_more layout xs x k.marks may })
-    [] past (record { channels = channels_begin; alike = λ p q hp hq on seq. absurd hp; marks = λ c apart. absurd (apart refl) }) h
+    (λ xs x k may. record { channels = channels_more layout xs x k.channels may; alike = alike_more layout xs x k.channels.parcels k.alike may; rises = rises_more layout xs x k.channels.parcels k.rises may; marks = marked_more layout xs x k.marks may })
+    [] past (record { channels = channels_begin; alike = λ p q hp hq on seq. absurd hp; rises = λ i j p q at_i. absurd (cc); marks = λ c apart. absurd (apart refl) }) h
 
 -- the second part: parcels fit the sender
 pub parcels_fit : (layout : Layout) (past : List Entry) → IsHistory layout past → ParcelsFitSender past
 parcels_fit layout past h =
     record {
       seq = λ q g. (k.channels.parcels q (gave_emitted (Packets.Parcel q) past g)).seq;
-      message = λ p q gp gq one'. (k.alike p q (gave_emitted (Packets.Parcel p) past gp) (gave_emitted (Packets.Parcel q) past gq) one'.0 one'.1).message;
-      distinct = λ p q gp gq one' e. ap (λ (w : Parcel). w.number) ((k.alike p q (gave_emitted (Packets.Parcel p) past gp) (gave_emitted (Packets.Parcel q) past gq) one'.0 one'.1).distinct e);
       attempt = λ q g e. (k.channels.parcels q (gave_emitted (Packets.Parcel q) past g)).attempt e;
+      message = λ p q gp gq one'. k.alike p q (gave_emitted (Packets.Parcel p) past gp) (gave_emitted (Packets.Parcel q) past gq) one'.0 one'.1;
+      rises = k.rises;
     }
   where
     k : Sendings past

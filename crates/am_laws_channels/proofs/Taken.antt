@@ -25,18 +25,19 @@ use Rattle.am_office.specs.Entries.{put_in, put_of, passes}
 use Rattle.am_model.specs.Layout.{Layout}
 use Rattle.am_model.specs.Channels.{Channel, Arrival, Stale, Again, Fresh, bound_message, emitted, arrival, mark, attempt}
 use Rattle.am_model.specs.History.{state_of, MayFollow, IsHistory, outcome_of, receive, arrive, decided, settle, channel_to, next_number}
-use Rattle.am_model.specs.PostOffice.{times}
+use Rattle.am_model.specs.PostOffice.{times, Gave}
 use Rattle.am_model.proofs.Each.{over_each}
 use Rattle.am_model.proofs.Names.{same_serial-refl}
 use Rattle.am_model.proofs.Received.{bit}
 use Rattle.am_model.proofs.Books.{role_push}
 use Rattle.std.proofs.Common.{le-leb}
 use Rattle.am_model.specs.Channels.{Mark, same_channel, decides_by}
-use Rattle.am_model.specs.Cluster.{took, takes_in, takes_by, HasComeTo}
+use Rattle.am_model.specs.Cluster.{took, takes_in, takes_by, HasComeTo, put_on, put_on_in}
 use Rattle.am_model.proofs.Ends.{EmittedIn, was_emitted, mark_push}
 use Rattle.am_laws_order.proofs.Senders.{same_channel-is}
 use Rattle.am_laws_order.proofs.Parcels.{channel_of}
 use Rattle.am_laws_order.proofs.Marks.{IsPast, Decides, MarkMoves, mark_moves, mark_after, back, link_of, fresh_means, settle_decides}
+use Rattle.am_laws_messages.proofs.Alls.{gave_more, gave_now}
 use Rattle.am_laws_channels.proofs.Sent.{emitted_later}
 
 -- a receiving end takes a message
@@ -48,6 +49,7 @@ pub record IsTaking (past : List Entry) (d : Channel) (k most : ℕ) (event : Ev
   pub low : by.attempt ≤ most
   pub fresh : IsPast (mark d past) by.seq by.attempt
   pub puts : put_in event o ≡ Some by.message
+  pub puts_on : put_on_in d k event o ≡ Some by.message
   pub marked : mark_after d (mark d past) event o ≡ record { seq = by.seq; attempt = by.attempt; verdict = Verdicts.Accepted }
 
 takes_decides : (r : Received) → takes_by r ≡ true → decides_by r ≡ true
@@ -73,6 +75,7 @@ arrive_takes layout past d k most node peer number p reply Fresh is here link h 
           low = leb-true p.attempt most outer.1;
           fresh = subst (λ (w : Channel). IsPast (mark w past) p.seq p.attempt) (sym same) (fresh_means (mark (channel_to node peer p.channel) past) p.seq p.attempt is);
           puts = refl;
+          puts_on = λ i. if on i && inner.1 i then Some p.message else None;
           marked = ap (λ (b : Bool). if b then record { seq = p.seq; attempt = p.attempt; verdict = Verdicts.Accepted } else mark d past) on;
         }
     by_verdict (Verdicts.Refused cause) e = absurd (true≢false (sym e))
@@ -135,11 +138,20 @@ accepted_now d m (Events.Receive node peer number) (Out.Received channel seq att
 accepted_now d m (Events.Receive node peer number) (Out.Received channel seq attempt r) h = inl refl
 accepted_now d m event o h = inl refl
 
+-- a sequence whose message was taken
+pub record IsTaken (past : List Entry) (d : Channel) (k : ℕ) : Type 0 where
+  pub by : Parcel
+  pub emitted : EmittedIn (Packets.Parcel by) past
+  pub on : channel_of by ≡ back d
+  pub seq : by.seq ≡ k
+  pub put' : 1 ≤ times put_of (has_serial by.message.serial) past
+  pub put_there : Gave (put_on d k) past by.message
+
 -- what is known of all that was taken
 pub record Takings (past : List Entry) : Type 0 where
   pub accepted : (d : Channel) → (mark d past).verdict ≡ Verdicts.Accepted → took d (mark d past).seq (mark d past).attempt past ≡ true
   pub stands : (d : Channel) (k most : ℕ) → took d k most past ≡ true → (k < (mark d past).seq) ⊎ ((k ≡ (mark d past).seq) × ((mark d past).attempt ≤ most) × ((mark d past).verdict ≡ Verdicts.Accepted))
-  pub parcel : (d : Channel) (k most : ℕ) → took d k most past ≡ true → (p : Parcel) × EmittedIn (Packets.Parcel p) past × (channel_of p ≡ back d) × (p.seq ≡ k) × (1 ≤ times put_of (has_serial p.message.serial) past)
+  pub parcel : (d : Channel) (k most : ℕ) → took d k most past ≡ true → IsTaken past d k
 
 stands_on : (past : List Entry) (d : Channel) (old new : Mark) (k most : ℕ) → MarkMoves past old new d → (k < old.seq) ⊎ ((k ≡ old.seq) × (old.attempt ≤ most) × (old.verdict ≡ Verdicts.Accepted)) → (k < new.seq) ⊎ ((k ≡ new.seq) × (new.attempt ≤ most) × (new.verdict ≡ Verdicts.Accepted))
 stands_on past d old new k most moves h =
@@ -198,14 +210,23 @@ takings_more layout past x t may = record { accepted = accepted; stands = stands
     more : (s : Serial) → 1 ≤ times put_of (has_serial s) past → 1 ≤ times put_of (has_serial s) (past ++ x ∷ [])
     more s low = omega (arith, low, role_push put_in (has_serial s) past x)
 
-    parcel : (d : Channel) (k most : ℕ) → took d k most (past ++ x ∷ []) ≡ true → (p : Parcel) × EmittedIn (Packets.Parcel p) (past ++ x ∷ []) × (channel_of p ≡ back d) × (p.seq ≡ k) × (1 ≤ times put_of (has_serial p.message.serial) (past ++ x ∷ []))
+    parcel : (d : Channel) (k most : ℕ) → took d k most (past ++ x ∷ []) ≡ true → IsTaken (past ++ x ∷ []) d k
     parcel d k most h =
         ⊎_elim
-        (λ (before : took d k most past ≡ true). let r = t.parcel d k most before in (r.0, emitted_later (Packets.Parcel r.0) past x r.1, r.2, r.3, more r.0.message.serial r.4))
+        (λ (before : took d k most past ≡ true).
+        let r = t.parcel d k most before in
+        record { by = r.by; emitted = emitted_later (Packets.Parcel r.by) past x r.emitted; on = r.on; seq = r.seq; put' = more r.by.message.serial r.put'; put_there = gave_more (put_on d k) past x r.by.message r.put_there })
         (λ (now : takes_in d k most x.event x.outcome ≡ true).
         let g = takes_is layout past x may d k most now in
         let one' : bit (passes (has_serial g.by.message.serial) (put_of x)) ≡ 1 = ap (λ (o : Option Message). bit (passes (has_serial g.by.message.serial) o)) g.puts ∙ ap bit (same_serial-refl g.by.message.serial) in
-        (g.by, emitted_later (Packets.Parcel g.by) past x g.emitted, g.on, sym g.seq, omega (arith, one', role_push put_in (has_serial g.by.message.serial) past x)))
+        record {
+          by = g.by;
+          emitted = emitted_later (Packets.Parcel g.by) past x g.emitted;
+          on = g.on;
+          seq = sym g.seq;
+          put' = omega (arith, one', role_push put_in (has_serial g.by.message.serial) past x);
+          put_there = gave_now (put_on d k) past x g.by.message g.puts_on;
+        })
         (took_or_now d k most past x h)
 
 pub takings : (layout : Layout) (past : List Entry) → IsHistory layout past → Takings past

@@ -2,8 +2,7 @@
 #![tactic(auto)]
 
 ghost use Rattle.am_laws_channels.specs.LateAttempt as late;
-ghost use Rattle.am_laws_channels.specs.Truth.{AnswersSayTrue};
-ghost use Rattle.am_model.specs.Cluster.{answer_channel, EndedSequencePutNothing, MarkIsOfParcel, ParcelsFitSender, took};
+ghost use Rattle.am_model.specs.Cluster.{answer_channel, AnswersAreTrue, EndedSequencePutNothing, MarkIsOfParcel, ParcelsFitSender, took};
 ghost use Rattle.am_model.specs.History.{IsHistory};
 ghost use Rattle.am_model.specs.Layout.{Layout};
 ghost use Rattle.am_model.specs.PostOffice.{Gave};
@@ -12,8 +11,8 @@ ghost use Rattle.am_office.specs.Entries.{emitted_of};
 ghost use Rattle.am_office.specs.declared.Entry.{Entry};
 ghost use Rattle.std.specs.Prelude.{◌≡◌, List, false, true};
 
-/// In each history a parcel has a sequence at most the sender's; those of one sequence carry one
-/// message, and their attempts are distinct and at most the last that was sent.
+/// In each history a parcel has a sequence at most the sender's. Those of one sequence carry one
+/// message, and each has a greater attempt than those emitted before it.
 pub fn parcels_fit_sender()
     ensures { (layout : Layout) (past : List Entry) → IsHistory layout past → ParcelsFitSender past }
 {}
@@ -23,11 +22,11 @@ pub fn mark_is_of_parcel()
     ensures { (layout : Layout) (past : List Entry) → IsHistory layout past → MarkIsOfParcel past }
 {}
 
-/// In each history every answer is to a parcel that was sent. If it accepts, the message of its
-/// sequence was put, and the mark is past the sequence, or at it and accepted. If it refuses, the
-/// mark has come to its attempt, and no attempt up to that one was put.
-pub fn answers_say_true()
-    ensures { (layout : Layout) (past : List Entry) → IsHistory layout past → AnswersSayTrue past }
+/// In each history every answer is to a parcel that was sent. If it accepts, the parcel's message was
+/// put in the parcel's sequence, and the mark is past that sequence, or at it and accepted. If it
+/// refuses, the mark has come to its attempt, and no attempt up to that one was put.
+pub fn answers_are_true()
+    ensures { (layout : Layout) (past : List Entry) → IsHistory layout past → AnswersAreTrue past }
 {}
 
 /// In each history a sequence that ended in a requeue or a return has a mark at or past its last

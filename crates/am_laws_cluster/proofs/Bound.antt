@@ -308,9 +308,10 @@ direct_none layout direct past h =
 
 -- on the packet network
 
-held_once : (layout : Layout) → layout.direct ≡ false → (past : List Entry) → IsHistory layout past → (e : EndpointId) (m : Message) → IsHeldBy layout past e m → IsHeldOnce layout past e m
-held_once layout packet past h e m b =
+held_once : (layout : Layout) → layout.direct ≡ false → (past : List Entry) → IsHistory layout past → (e : EndpointId) (m : Message) → IsHeldBy layout past e m → m.serial.source ≡ e → IsHeldOnce layout past e m
+held_once layout packet past h e m b own =
     record {
+      own = own;
       channel = b.channel;
       bound = b.bound;
       node = b.node;
@@ -360,6 +361,6 @@ in_flight_bound layout lawful past h = by_network layout.direct refl
     by_network false d =
         let k = all_held layout lawful past h in
         record {
-          held = λ e. all_map (λ (f : Flying). IsHeldBy layout past e f.message) (λ (f : Flying). IsHeldOnce layout past e f.message) (state_of layout past e).body.in_flight (λ f b. held_once layout d past h e f.message b) (k.held e);
+          held = λ e. all_both (λ (f : Flying). IsHeldBy layout past e f.message) (λ (f : Flying). f.message.serial.source ≡ e) (λ (f : Flying). IsHeldOnce layout past e f.message) (state_of layout past e).body.in_flight (λ f b own. held_once layout d past h e f.message b own) (k.held e) (flights_own layout past h e);
           flies = flies layout d past h k;
         }

@@ -23,9 +23,9 @@ use Rattle.am_office.specs.declared.Outcome.TheVariants as Out
 use Rattle.am_office.specs.declared.Entry.{Entry}
 use Rattle.am_names.specs.Names.{same_end, same_serial, has_serial}
 use Rattle.am_model.specs.declared.Flying.{Flying}
-use Rattle.am_model.specs.Endpoint.{State, verdict}
+use Rattle.am_model.specs.Endpoint.{verdict}
 use Rattle.am_model.specs.Changes.{flying_of}
-use Rattle.am_office.specs.Entries.{accepted_in, accepted_of, put_in, put_of, run_by, run_in, run_of, returned_in, returned_of, unknown_in, unknown_of, requeue_of, touches, passes}
+use Rattle.am_office.specs.Entries.{accepted_of, put_in, put_of, run_by, run_in, run_of, returned_in, returned_of, unknown_in, unknown_of, touches, passes}
 use Rattle.am_model.specs.Layout.{Layout, EndSetting, has_id, opening_by}
 use Rattle.am_model.specs.Channels.{Channel, Arrival, Stale, Again, Fresh, bound_message, emitted, arrival, mark, sequence, attempt}
 use Rattle.am_model.specs.History.{state_of, MayFollow, IsHistory, outcome_of, receive, arrive, decided, settle, settle_by, counts, bounced, channel_to, next_number, expire, is_answered}
@@ -33,22 +33,17 @@ use Rattle.am_model.specs.PostOffice.{times, times_serial, Gave, WasAccepted}
 use Rattle.am_model.proofs.Each.{over_each, each_push}
 use Rattle.am_model.proofs.Names.{same_serial-is, same_serial-refl, same_end-refl}
 use Rattle.am_model.proofs.Received.{bit}
-use Rattle.am_model.proofs.Books.{role_push, same_end-is, fits_direct}
-use Rattle.am_model.proofs.Queues.{FitsDirect}
-use Rattle.am_laws_order.proofs.Waiting.{bound_at}
+use Rattle.am_model.proofs.Books.{role_push, same_end-is}
 use Rattle.am_laws_order.proofs.Everywhere.{each_once}
-use Rattle.am_laws_order.proofs.Packets.{kept_packets, waiting}
 use Rattle.am_laws_messages.proofs.Alls.{all_found}
 use Rattle.std.proofs.lemmas.List.Sums.{sum_by-le-sum_by}
-use Rattle.am_office.specs.Entries.{requeue_in}
-use Rattle.am_model.specs.Cluster.{OneLiveSequence, bound_in, count_queued, count_flying}
+use Rattle.am_model.specs.Cluster.{OneLiveSequence, count_queued, count_flying}
 use Rattle.am_model.specs.PostOffice.{only_if}
 use Rattle.am_model.proofs.Received.{held, weight, run_at, put_at}
 use Rattle.am_model.proofs.Books.{ReceivedBalance, balance_received, count_role}
 use Rattle.am_model.proofs.Ends.{EmittedIn, was_emitted}
-use Rattle.am_laws_order.proofs.Waiting.{weight_serial, requeued_in}
+use Rattle.am_laws_order.proofs.Waiting.{weight_serial}
 use Rattle.am_laws_order.proofs.Once.{put_apart_all, runs_somewhere, put_at_le}
-use Rattle.am_laws_order.proofs.Packets.{waiting_more}
 use Rattle.am_laws_order.proofs.Senders.{sender}
 use Rattle.am_laws_order.proofs.Parcels.{IsOf}
 use Rattle.am_laws_order.proofs.Marks.{back, end_of}
@@ -62,65 +57,7 @@ use Rattle.am_laws_credits.proofs.Puts.{put_reply}
 use Rattle.am_laws_channels.proofs.Sent.{sendings}
 use Rattle.am_laws_channels.proofs.Taken.{takings}
 use Rattle.am_laws_channels.proofs.Answers.{replies}
-
--- a message is bound once more than it was requeued, at most
-abbrev pub bound_times : Serial → List Entry → ℕ
-bound_times s past = count_role bound_in (has_serial s) past
-
-abbrev requeue_times : Serial → List Entry → ℕ
-requeue_times s past = times_serial requeue_of s past
-
-requeue_le : (s : Serial) (event : Event) (o : Outcome) → weight_serial s (requeued_in event o) ≤ weight_serial s (requeue_in event o)
-requeue_le s (Events.Receive node peer number) (Out.Received channel seq attempt (Got.Requeued t cause bounces)) = omega arith
-requeue_le s event o = omega arith
-
-bound_same : (s : Serial) (event : Event) (o : Outcome) → bit (passes (has_serial s) (bound_in event o)) ≡ bit (passes (has_serial s) (bound_at event o))
-bound_same s (Events.Bind node end) o = refl
-bound_same s event o = refl
-
-record Bound (layout : Layout) (past : List Entry) : Type 0 where
-  pub history : IsHistory layout past
-  pub most : (s : Serial) → bound_times s past + waiting layout past s ≤ times accepted_of (has_serial s) past + requeue_times s past
-
-bound_packets : (layout : Layout) → layout.direct ≡ false → (past : List Entry) → IsHistory layout past → Bound layout past
-bound_packets layout packet past h =
-    over_each (MayFollow layout) (λ xs. Bound layout xs)
-    (λ xs x k may.
-    record {
-      history = each_push (MayFollow layout) [] xs x k.history may;
-      most = λ s. omega (
-        arith,
-        k.most s,
-        waiting_more layout packet xs x (kept_packets layout packet xs k.history).none_foreign may s,
-        role_push bound_in (has_serial s) xs x,
-        role_push accepted_in (has_serial s) xs x,
-        serial_push requeue_of s xs x,
-        requeue_le s x.event x.outcome,
-        bound_same s x.event x.outcome,
-      );
-    })
-    [] past (record { history = tt; most = λ s. omega (arith, none s (find (has_id s.source) layout.ends)) }) h
-  where
-    none : (s : Serial) (setting : Option EndSetting) → Rattle.am_model.proofs.Queues.to_send (has_serial s) (opening_by layout setting).body ≡ 0
-    none s None = refl
-    none s (Some setting) = refl
-
-bound_direct : (layout : Layout) → layout.direct ≡ true → (past : List Entry) → IsHistory layout past → (s : Serial) → bound_times s past ≡ 0
-bound_direct layout direct past h s =
-    over_each (MayFollow layout) (λ xs. bound_times s xs ≡ 0)
-    (λ xs x k may. omega (arith, k, role_push bound_in (has_serial s) xs x, none (state_of layout xs s.source) x.event x.outcome (fits_direct layout direct xs s.source x may)))
-    [] past refl h
-  where
-    none : (st : State) (event : Event) (o : Outcome) → FitsDirect s.source st event o → bit (passes (has_serial s) (bound_in event o)) ≡ 0
-    none st (Events.Bind node end) o fits = absurd fits
-    none st event o fits = refl
-
-live : (layout : Layout) (past : List Entry) → IsHistory layout past → (s : Serial) → times (λ x. bound_in x.event x.outcome) (has_serial s) past ≤ times_serial requeue_of s past + 1
-live layout past h s = by_network layout.direct refl
-  where
-    by_network : (direct : Bool) → layout.direct ≡ direct → bound_times s past ≤ times_serial requeue_of s past + 1
-    by_network true d = omega (arith, bound_direct layout d past h s)
-    by_network false d = omega (arith, (bound_packets layout d past h).most s, (each_once layout past h).accepted s)
+use Rattle.am_laws_cluster.proofs.Sequences.{live}
 
 -- what was put is received, or has run
 
@@ -219,9 +156,9 @@ settle_delivers layout past h c a (Some m) is here on t e = by_test ((a.seq == s
         let k = (replies layout past h).known a here in
         let took' = k.accepts v in
         let p = (takings layout past h).parcel (end_of a) a.seq took'.0 took'.1 in
-        let of : IsOf (sender c past) p.0 = subst (λ (d : Channel). IsOf (sender d past) p.0) (p.2 ∙ on) ((sendings layout past h).channels.parcels p.0 p.1) in
-        let message : p.0.message ≡ m = of.message m (p.3 ∙ seq) is in
-        subst (λ (w : Serial). 1 ≤ times put_of (has_serial w) past) (ap (λ (w : Message). w.serial) message ∙ same) p.4
+        let of : IsOf (sender c past) p.by = subst (λ (d : Channel). IsOf (sender d past) p.by) (p.on ∙ on) ((sendings layout past h).channels.parcels p.by p.emitted) in
+        let message : p.by.message ≡ m = of.message m (p.seq ∙ seq) is in
+        subst (λ (w : Serial). 1 ≤ times put_of (has_serial w) past) (ap (λ (w : Message). w.serial) message ∙ same) p.put'
     by_verdict (Verdicts.Refused cause) v seq f =
         absurd (by_again cause (bounced (flying_of m.serial (state_of layout past m.serial.source).body.in_flight) + 1) (is_transient cause && nat_lt (bounced (flying_of m.serial (state_of layout past m.serial.source).body.in_flight)) layout.bounces) f)
 

@@ -3,7 +3,7 @@ use Rattle.std.proofs.Common.{List}
 use Rattle.am_office.specs.declared.Entry.{Entry}
 use Rattle.am_model.specs.Layout.{Layout, IsLawful}
 use Rattle.am_model.specs.History.{IsHistory}
-use Rattle.am_laws_cluster.specs.Whole.{ClusterHolds}
+use Rattle.am_model.specs.Cluster.{ClusterInvariant}
 use Rattle.am_laws_channels.proofs.Sent.{parcels_fit, mark_of}
 use Rattle.am_laws_channels.proofs.Answers.{answers_true, ended_put_nothing}
 use Rattle.am_laws_endpoints.proofs.Arrived.{arrived_matches, received_tags}
@@ -13,7 +13,7 @@ use Rattle.am_laws_endpoints.proofs.Bounced.{bounces_are}
 use Rattle.am_laws_endpoints.proofs.Pools.{pools_bounded}
 use Rattle.am_laws_cluster.proofs.Bound.{in_flight_bound}
 
-pub cluster_holds : (layout : Layout) (past : List Entry) → IsLawful layout → IsHistory layout past → ClusterHolds layout past
+pub cluster_holds : (layout : Layout) (past : List Entry) → IsLawful layout → IsHistory layout past → ClusterInvariant layout past
 cluster_holds layout past lawful h =
     record {
       flights = in_flight_bound layout lawful past h;

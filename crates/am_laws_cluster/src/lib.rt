@@ -1,28 +1,27 @@
 //! The invariant of the cluster over every history: where each message is, and all eleven parts together.
 #![tactic(auto)]
 
-ghost use Rattle.am_laws_cluster.specs.Whole.{ClusterHolds};
-ghost use Rattle.am_model.specs.Cluster.{InFlightIsBound, OneLiveSequence};
+ghost use Rattle.am_model.specs.Cluster.{ClusterInvariant, InFlightIsBound, OneLiveSequence};
 ghost use Rattle.am_model.specs.History.{IsHistory};
 ghost use Rattle.am_model.specs.Layout.{IsLawful, Layout};
 ghost use Rattle.am_office.specs.declared.Entry.{Entry};
 ghost use Rattle.std.specs.Prelude.{List};
 
-/// In each history a message has at most one sequence that did not end in a requeue. One that was
-/// put is received or has run. One that was neither put nor returned nor unknown is in one queue or
-/// in flight.
+/// In each history all sequences of a message, or all but the last, ended in a requeue. A message
+/// that was put is received or has run. One that was accepted and was neither put nor returned nor
+/// unknown is in one queue or in flight.
 pub fn one_live_sequence()
     ensures { (layout : Layout) (past : List Entry) → IsHistory layout past → OneLiveSequence layout past }
 {}
 
-/// In each history of a lawful layout a message in flight is held by exactly one bound channel of
-/// its node, and a bound message is in flight once, at an endpoint of the node that is in a frame
-/// and open.
+/// In each history of a lawful layout a message is in flight at its own source alone, held by exactly
+/// one bound channel of the source's node. A bound message is in flight once, and its source is in a
+/// frame and open.
 pub fn in_flight_is_bound()
     ensures { (layout : Layout) (past : List Entry) → IsLawful layout → IsHistory layout past → InFlightIsBound layout past }
 {}
 
-/// In each history of a lawful layout, on either network, all eleven parts hold together.
+/// In each history of a lawful layout, on either network, the whole invariant holds.
 pub fn cluster_holds()
-    ensures { (layout : Layout) (past : List Entry) → IsLawful layout → IsHistory layout past → ClusterHolds layout past }
+    ensures { (layout : Layout) (past : List Entry) → IsLawful layout → IsHistory layout past → ClusterInvariant layout past }
 {}

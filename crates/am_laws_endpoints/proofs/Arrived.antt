@@ -33,6 +33,7 @@ use Rattle.am_model.specs.History.{state_of, MayFollow, IsHistory}
 use Rattle.am_model.specs.PostOffice.{times, times_serial, Gave, WasAccepted, is_from, own_tag, mapping_of, is_about, ends_hold, ends_wait, SendsOne, SendsOneReply, IsRequestOf, IsAcceptedBy, asked_in, is_held, held_by, held_at, over_share, held_over, shares_below, IsWithinCredits, HasItsShare, RefusesAboveShare, CreditsHold}
 use Rattle.am_model.proofs.Each.{over_each, each_push, state_of_push}
 use Rattle.am_model.proofs.Names.{same_serial-is, same_serial-refl}
+use Rattle.am_model.specs.Valid.{has_arrived}
 use Rattle.am_model.proofs.Received.{bit, one_touched}
 use Rattle.am_model.proofs.Books.{fits_call, same_end-is}
 use Rattle.am_laws_messages.proofs.Alls.{all_map}
@@ -333,11 +334,20 @@ arrivals layout past h =
     none s None = refl
     none s (Some setting) = refl
 
+both_ways : (b d : Bool) → (b && d) ≡ (d && b)
+both_ways true true = refl
+both_ways true false = refl
+both_ways false true = refl
+both_ways false false = refl
+
+arrived_either : (s : Serial) (xs : List Awaited) → count_by (has_arrived s) xs ≡ arrived_of s xs
+arrived_either s xs = ap (λ (p : Awaited → Bool). count_by p xs) (λ i (a : Awaited). both_ways (same_serial s a.serial) a.arrived i)
+
 -- the eighth part: arrived records and received replies correspond
 pub arrived_matches : (layout : Layout) (past : List Entry) → IsHistory layout past → ArrivedMatchesReceived layout past
 arrived_matches layout past h =
     record {
-      one = k.one;
+      one = λ e s. arrived_either s (state_of layout past e).body.awaited ∙ k.one e s;
       once = λ e s. records_once layout past (holds layout past h) e s;
       answered = λ e.
           all_map (λ (f : Flying). f.answered ≡ true → 1 ≤ replied f.message.serial past) (λ (f : Flying). f.answered ≡ true → replied f.message.serial past ≡ 1) (state_of layout past e).body.in_flight

@@ -1,5 +1,5 @@
 -- What holds of a cluster of the packet network after every entry: the channels, the endpoints and where they lie.
-use Rattle.std.specs.Prelude.{◌≡◌, ◌≢◌, ◌⊎◌, ℕ, ◌+◌, ◌≤◌, ◌<◌, ◌==◌, Bool, true, false, ◌&&◌, nat_le, Option, Some, None, List, count_by}
+use Rattle.std.specs.Prelude.{◌≡◌, ◌≢◌, ◌⊎◌, ℕ, ◌+◌, ◌≤◌, ◌<◌, ◌==◌, Bool, true, false, ◌&&◌, nat_le, Option, Some, None, List, [], ◌∷◌, ◌++◌, count_by, filter_map, slice_get, if◌then◌else◌}
 use Rattle.std.specs.List.{list_any}
 use Rattle.am_names.specs.Rules.{matches}
 use Rattle.am_names.specs.declared.EndpointId.{EndpointId}
@@ -26,17 +26,19 @@ use Rattle.am_model.specs.declared.Notice.{Notice}
 use Rattle.am_model.specs.declared.Mapping.{Mapping}
 use Rattle.am_model.specs.Calls.{awaited_at}
 use Rattle.am_model.specs.Endpoint.{Body, IsWithin, is_resident, entry_at}
-use Rattle.am_office.specs.Entries.{put_of, run_of, returned_of, unknown_of, requeue_of, emitted_of}
+use Rattle.am_office.specs.Entries.{put_by, put_of, run_of, returned_of, unknown_of, requeue_of, emitted_of}
 use Rattle.am_model.specs.Layout.{Layout, AllAre, home}
-use Rattle.am_model.specs.Channels.{Channel, Mark, same_channel, sequence, bound_message, attempt, mark, sent_message}
+use Rattle.am_model.specs.Channels.{Channel, Mark, same_channel, sequence, bound_message, attempt, mark}
 use Rattle.am_model.specs.History.{state_of, channel_to}
 use Rattle.am_model.specs.PostOffice.{Gave, WasAccepted, times, times_serial, is_about}
+use Rattle.am_model.specs.Valid.{has_arrived}
 
 abbrev pub in_flight : Layout → List Entry → EndpointId → List Flying
 in_flight layout past e = (state_of layout past e).body.in_flight
 
--- a message in flight is held by just one bound channel of its node
+-- a message in flight at an endpoint is its own, and is held by just one bound channel, which is of the endpoint's node
 pub record IsHeldOnce (layout : Layout) (past : List Entry) (e : EndpointId) (m : Message) : Type 0 where
+  pub own : m.serial.source ≡ e
   pub channel : Channel
   pub bound : bound_message channel past ≡ Some m
   pub node : home layout e ≡ Some channel.node
@@ -71,13 +73,17 @@ WasSent past q = Gave emitted_of past (Packets.Parcel q)
 abbrev pub AreOfOneSequence : Parcel → Parcel → Type 0
 AreOfOneSequence p q = (parcel_channel p ≡ parcel_channel q) × (p.seq ≡ q.seq)
 
--- a parcel has a sequence at most the sender's; those of one sequence carry one message, and their attempts are
--- distinct and at most the last that was sent
+-- so many packets were emitted before the parcel
+abbrev pub IsSentAfter : List Entry → ℕ → Parcel → Type 0
+IsSentAfter past before q = slice_get (filter_map emitted_of past) before ≡ Some (Packets.Parcel q)
+
+-- a parcel has a sequence at most the sender's, and in that one an attempt at most the sender's; those of one sequence
+-- carry one message, and one that is emitted later has a greater attempt
 pub record ParcelsFitSender (past : List Entry) : Type 0 where
   pub seq : (q : Parcel) → WasSent past q → q.seq ≤ sequence (parcel_channel q) past
-  pub message : (p q : Parcel) → WasSent past p → WasSent past q → AreOfOneSequence p q → p.message ≡ q.message
-  pub distinct : (p q : Parcel) → WasSent past p → WasSent past q → AreOfOneSequence p q → p.attempt ≡ q.attempt → p.number ≡ q.number
   pub attempt : (q : Parcel) → WasSent past q → q.seq ≡ sequence (parcel_channel q) past → q.attempt ≤ attempt (parcel_channel q) past
+  pub message : (p q : Parcel) → WasSent past p → WasSent past q → AreOfOneSequence p q → p.message ≡ q.message
+  pub rises : (i j : ℕ) (p q : Parcel) → IsSentAfter past i p → IsSentAfter past j q → i < j → AreOfOneSequence p q → p.attempt < q.attempt
 
 pub record IsMarkOfParcel (past : List Entry) (c : Channel) : Type 0 where
   pub parcel : Parcel
@@ -107,30 +113,43 @@ took c k most past = list_any (λ (x : Entry). takes_in c k most x.event x.outco
 abbrev pub HasComeTo : Mark → ℕ → ℕ → Type 0
 HasComeTo m seq attempt = (seq < m.seq) ⊎ ((seq ≡ m.seq) × (attempt ≤ m.attempt))
 
+abbrev pub put_on_in : Channel → ℕ → Event → Outcome → Option Message
+put_on_in c k (Events.Receive node peer number) (Out.Received channel seq attempt result) =
+    if same_channel c node peer channel && (k == seq) then put_by result else None
+put_on_in c k event outcome = None
+
+-- the message that the receiving end puts in this sequence
+abbrev pub put_on : Channel → ℕ → Entry → Option Message
+put_on c k x = put_on_in c k x.event x.outcome
+
+-- an answer that accepts: the mark is past its sequence, or at it and accepted. One that refuses: the mark has come to its
+-- attempt, and no attempt up to that one was put.
 abbrev pub AnswerSays : List Entry → AnswerPacket → Verdict → Type 0
 AnswerSays past a Verdicts.Accepted =
-    ((most : ℕ) × (took (answer_channel a) a.seq most past ≡ true))
-    × ((a.seq < (mark (answer_channel a) past).seq) ⊎ ((a.seq ≡ (mark (answer_channel a) past).seq) × ((mark (answer_channel a) past).verdict ≡ Verdicts.Accepted)))
+    (a.seq < (mark (answer_channel a) past).seq) ⊎ ((a.seq ≡ (mark (answer_channel a) past).seq) × ((mark (answer_channel a) past).verdict ≡ Verdicts.Accepted))
 AnswerSays past a (Verdicts.Refused cause) = HasComeTo (mark (answer_channel a) past) a.seq a.attempt × (took (answer_channel a) a.seq a.attempt past ≡ false)
 
-pub record IsTrue (past : List Entry) (a : AnswerPacket) : Type 0 where
+-- an answer is to a parcel that was sent. If it accepts, the parcel's message was put in the parcel's sequence, on whatever
+-- attempt.
+pub record IsTrueAnswer (past : List Entry) (a : AnswerPacket) : Type 0 where
   pub parcel : Parcel
   pub sent : WasSent past parcel
   pub on : parcel_channel parcel ≡ other_end (answer_channel a)
   pub seq : parcel.seq ≡ a.seq
   pub attempt : parcel.attempt ≡ a.attempt
+  pub puts : a.verdict ≡ Verdicts.Accepted → Gave (put_on (answer_channel a) a.seq) past parcel.message
   pub says : AnswerSays past a a.verdict
 
--- every answer is to a parcel that was sent, and says what its end did
 abbrev pub AnswersAreTrue : List Entry → Type 0
-AnswersAreTrue past = (a : AnswerPacket) → Gave emitted_of past (Packets.Answer a) → IsTrue past a
+AnswersAreTrue past = (a : AnswerPacket) → Gave emitted_of past (Packets.Answer a) → IsTrueAnswer past a
 
+-- the message comes back to its source: it is requeued or returned
 abbrev pub comes_back_by : Received → Bool
 comes_back_by (Got.Requeued serial cause bounces) = true
 comes_back_by (Got.Returned serial cause) = true
 comes_back_by result = false
 
--- whether a sequence of the channel ends here, on this attempt, in a requeue or a return
+-- whether a sequence of the channel ends here, on this attempt, in a requeue or a return of its message
 abbrev pub comes_back : Channel → ℕ → ℕ → Event → Outcome → Bool
 comes_back c k last (Events.Receive node peer number) (Out.Received channel seq attempt result) =
     comes_back_by result && same_channel c node peer channel && (k == seq) && (last == attempt)
@@ -145,9 +164,35 @@ pub record IsOver (past : List Entry) (c : Channel) (k last : ℕ) : Type 0 wher
 abbrev pub EndedSequencePutNothing : List Entry → Type 0
 EndedSequencePutNothing past = (c : Channel) (k last : ℕ) → list_any (λ (x : Entry). comes_back c k last x.event x.outcome) past ≡ true → IsOver past c k last
 
-abbrev pub bound_in : Event → Outcome → Option Message
-bound_in (Events.Bind node end) outcome = sent_message outcome
-bound_in event outcome = None
+-- the channel and the sequence to which a message of this serial is bound here
+abbrev pub sequence_bound_in : Serial → Event → Outcome → Option (Channel × ℕ)
+sequence_bound_in s (Events.Bind node end) (Out.Sent m peer channel seq attempt number) =
+    if has_serial s m then Some (channel_to node peer channel, seq) else None
+sequence_bound_in s event outcome = None
+
+abbrev pub sequence_requeued_by : Serial → Channel → ℕ → Received → Option (Channel × ℕ)
+sequence_requeued_by s c seq (Got.Requeued serial cause bounces) = if same_serial s serial then Some (c, seq) else None
+sequence_requeued_by s c seq result = None
+
+-- the channel and the sequence that end here in a requeue of this serial
+abbrev pub sequence_requeued_in : Serial → Event → Outcome → Option (Channel × ℕ)
+sequence_requeued_in s (Events.Receive node peer number) (Out.Received channel seq attempt result) =
+    sequence_requeued_by s (channel_to node peer channel) seq result
+sequence_requeued_in s event outcome = None
+
+-- the sequences of a message, in the order in which it was bound to them
+abbrev pub sequences_bound : Serial → List Entry → List (Channel × ℕ)
+sequences_bound s past = filter_map (λ (x : Entry). sequence_bound_in s x.event x.outcome) past
+
+-- the sequences of a message that ended in a requeue, in the order in which they did
+abbrev pub sequences_requeued : Serial → List Entry → List (Channel × ℕ)
+sequences_requeued s past = filter_map (λ (x : Entry). sequence_requeued_in s x.event x.outcome) past
+
+-- all sequences of a message ended in a requeue, or all but the last
+abbrev pub OnlyLastMayLive : Serial → List Entry → Type 0
+OnlyLastMayLive s past =
+    (sequences_bound s past ≡ sequences_requeued s past)
+    ⊎ ((last : Channel × ℕ) × (sequences_bound s past ≡ sequences_requeued s past ++ last ∷ []))
 
 abbrev pub count_queued : Serial → Body → ℕ
 count_queued s b = count_by (λ (q : Queued). has_serial s q.message) b.requests + count_by (λ (q : Queued). has_serial s q.message) b.replies
@@ -155,14 +200,15 @@ count_queued s b = count_by (λ (q : Queued). has_serial s q.message) b.requests
 abbrev pub count_flying : Serial → Body → ℕ
 count_flying s b = count_by (λ (f : Flying). has_serial s f.message) b.in_flight
 
--- a message has at most one sequence that did not end in a requeue; one that was put is received or has run; one that
--- was neither put nor returned nor unknown is in one queue or in flight
+-- a message has at most one sequence that did not end in a requeue, the last one; one that was put is received or has run;
+-- one that was accepted and was neither put nor returned nor unknown is in one queue or in flight
 pub record OneLiveSequence (layout : Layout) (past : List Entry) : Type 0 where
-  pub live : (s : Serial) → times (λ x. bound_in x.event x.outcome) (has_serial s) past ≤ times_serial requeue_of s past + 1
+  pub live : (s : Serial) → OnlyLastMayLive s past
   pub put : (m : Message) → Gave put_of past m → count_by (has_serial m.serial) (state_of layout past m.dest).body.received + times run_of (has_serial m.serial) past ≡ 1
   pub waits : (m : Message) → WasAccepted past m → times put_of (has_serial m.serial) past ≡ 0 → times_serial returned_of m.serial past ≡ 0 → times_serial unknown_of m.serial past ≡ 0 → count_queued m.serial (state_of layout past m.serial.source).body + count_flying m.serial (state_of layout past m.serial.source).body ≡ 1
 
--- the request of a waiting record
+-- the request of a waiting record was accepted and is neither returned nor unknown, and its reply isn't put; the endpoint is
+-- open, and its own tag is the reply tag of the request and matches some tag
 pub record IsOpenFor (layout : Layout) (past : List Entry) (e : EndpointId) (a : Awaited) : Type 0 where
   pub request : Message
   pub accepted : WasAccepted past request
@@ -180,7 +226,7 @@ WaitingIsOpen layout past = (e : EndpointId) → AllAre (λ (a : Awaited). a.arr
 
 -- arrived records and received replies correspond one to one; a request that is marked answered has a reply that was put
 pub record ArrivedMatchesReceived (layout : Layout) (past : List Entry) : Type 0 where
-  pub one : (e : EndpointId) (s : Serial) → count_by (λ (a : Awaited). a.arrived && same_serial s a.serial) (state_of layout past e).body.awaited ≡ count_by (is_about s) (state_of layout past e).body.received
+  pub one : (e : EndpointId) (s : Serial) → count_by (has_arrived s) (state_of layout past e).body.awaited ≡ count_by (is_about s) (state_of layout past e).body.received
   pub once : (e : EndpointId) (s : Serial) → count_by (λ (a : Awaited). same_serial s a.serial) (state_of layout past e).body.awaited ≤ 1
   pub answered : (e : EndpointId) → AllAre (λ (f : Flying). f.answered ≡ true → times put_of (is_about f.message.serial) past ≡ 1) (in_flight layout past e)
 
