@@ -1,0 +1,11 @@
+//! The two ends of a channel, by which a node hands messages to a peer one at a time: each message is sent until it is
+//! answered, or until its tries are used up. Both are plain values, and nothing here takes memory.
+#![tactic(auto)]
+
+mod receiving;
+mod sending;
+mod slot;
+
+pub use crate::receiving::{Arrival, RecvEnd};
+pub use crate::sending::{Bound, SendEnd, Sent, Settled, TimedOut};
+pub use crate::slot::Slot;
