@@ -2,10 +2,14 @@
 //! answered, or until its tries are used up. Both are plain values, and nothing here takes memory.
 #![tactic(auto)]
 
+mod ends;
 mod receiving;
 mod sending;
-mod slot;
 
+pub use crate::ends::Ends;
 pub use crate::receiving::{Arrival, RecvEnd};
 pub use crate::sending::{Bound, SendEnd, Sent, Settled, TimedOut};
-pub use crate::slot::Slot;
+pub use am_block::Slot;
+
+#[cfg(test)]
+mod tests;

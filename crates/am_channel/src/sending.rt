@@ -2,7 +2,7 @@
 ghost use Rattle.am_channel.specs.Sending.{CountsForNothing, bound_after, bound_to, settled, timed_out, unanswered};
 ghost use Rattle.std.specs.Prelude.{◌≡◌, ◌+◌, ◌-◌, ◌<◌, ◌≤◌, ◌^◌, ◌↔◌, IfSome, IsNone, IsSome, None};
 
-use crate::slot::Slot;
+use am_block::Slot;
 use am_names::{AnswerPacket, Message, Verdict};
 use std::marker::Model;
 
@@ -137,16 +137,6 @@ impl SendEnd {
         ensures nothing { (result ≡ Settled.Nothing) ↔ CountsForNothing self.old packet.now }
         ensures after { self.new ≡ record self.old { bound = bound_after self.old.bound result } }
     {
-        let settled = self.settled(packet);
-        if let Settled::Done(_, _) = settled {
-            self.bound = None;
-        }
-        settled
-    }
-
-    fn settled(&self, packet: &AnswerPacket) -> Settled
-        ensures { result ≡ settled self.now packet.now }
-    {
         let Some(bound) = self.bound else {
             return Settled::Nothing;
         };
@@ -155,6 +145,7 @@ impl SendEnd {
             Verdict::Refused(_) => packet.attempt == bound.attempt,
         };
         if packet.seq == self.seq && counts {
+            self.bound = None;
             Settled::Done(bound, packet.verdict)
         } else {
             Settled::Nothing

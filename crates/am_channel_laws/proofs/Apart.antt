@@ -1,5 +1,5 @@
 -- The ends of the other channels, one call more.
-use Rattle.std.proofs.Common.{◌≡◌, ◌≢◌, ℕ, ◌+◌, ◌==◌, Bool, true, false, cond, ◌||◌, ◌&&◌, List, [], ◌∷◌, ◌++◌, Option, Some, None, refl, sym, ap, ◌∙◌, subst, arith, eqb-true, if◌then◌else◌}
+use Rattle.std.proofs.Common.{◌≡◌, ◌≢◌, ℕ, ◌+◌, ◌==◌, Bool, true, false, ◌||◌, ◌&&◌, List, [], ◌∷◌, ◌++◌, Option, Some, None, refl, sym, ap, ◌∙◌, subst, arith, eqb-true, if◌then◌else◌}
 use Rattle.std.proofs.lemmas.Bool.{and_parts}
 use Rattle.am_names.specs.declared.NodeId.{NodeId}
 use Rattle.am_names.specs.Names.{same_node}
@@ -9,14 +9,15 @@ use Rattle.am_office.specs.declared.Received.{Received}
 use Rattle.am_office.specs.declared.Outcome.{Outcome}
 use Rattle.am_office.specs.declared.Outcome.TheVariants as Out
 use Rattle.am_office.specs.declared.Entry.{Entry}
-use Rattle.am_model.specs.Channels.{Channel, Mark, Arrival, same_channel, sequence, bound_message, attempt, mark, binds, sends, frees, frees_by, decides, decides_by, arrival}
+use Rattle.am_model.specs.Channels.{Channel, same_channel, sequence, attempt, binds, sends, frees, frees_by, decides, decides_by, arrival}
 use Rattle.am_model.proofs.Received.{bit}
 use Rattle.am_model.proofs.Ends.{sequence_push, bound_push, attempt_push, mark_push}
 use Rattle.am_channel.specs.declared.sending.Bound.{Bound}
 use Rattle.am_channel.specs.declared.sending.TimedOut.{TimedOut}
 use Rattle.am_channel.specs.declared.sending.TimedOut.TheVariants as Times
 use Rattle.am_channel.specs.Sending.{timed_out, settled}
-use Rattle.am_channel_laws.specs.Calls.{Ends, Call, Bind, TimeOut, Answer, Arrive, Tells, TellsTimedOut, TellsTimeOut, settled_as, arrived_as}
+use Rattle.am_channel.specs.declared.ends.Ends.{Ends}
+use Rattle.am_channel_laws.specs.Calls.{Call, Bind, TimeOut, Answer, Arrive, Tells, TellsTimedOut, TellsTimeOut, settled_as, arrived_as}
 use Rattle.am_channel_laws.specs.Counted.{AreCounted}
 use Rattle.am_channel_laws.proofs.Pushes.{entry_is, kept}
 

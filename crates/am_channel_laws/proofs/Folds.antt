@@ -1,9 +1,11 @@
 -- The ends of every channel after a list of calls.
-use Rattle.std.proofs.Common.{◌≡◌, ◌≢◌, Bool, true, false, List, [], ◌∷◌, ◌++◌, map, refl, sym, ap, ◌∙◌, subst, true≢false, append_assoc, if◌then◌else◌}
+use Rattle.std.proofs.Common.{◌≡◌, Bool, true, false, List, [], ◌∷◌, ◌++◌, refl, sym, ◌∙◌, subst, true≢false, append_assoc, if◌then◌else◌}
 use Rattle.std.proofs.lemmas.List.{append-nil}
 use Rattle.am_office.specs.declared.Entry.{Entry}
 use Rattle.am_model.specs.Channels.{Channel, same_channel}
-use Rattle.am_channel_laws.specs.Calls.{Ends, Call, Tells, after, new_ends}
+use Rattle.am_channel.specs.declared.ends.Ends.{Ends}
+use Rattle.am_channel.specs.Ends.{new_ends}
+use Rattle.am_channel_laws.specs.Calls.{Tells, after}
 use Rattle.am_channel_laws.specs.Counted.{AreCounted}
 use Rattle.am_channel_laws.specs.Folded.{Told, AreMade, changed, ends_after, entries_of}
 use Rattle.am_channel_laws.proofs.Pushes.{call_counted, same_channel-refl}

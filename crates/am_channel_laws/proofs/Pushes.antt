@@ -1,7 +1,6 @@
 -- The ends of a channel, one call more.
-use Rattle.std.proofs.Common.{◌≡◌, ℕ, ◌+◌, Bool, true, false, cond, ◌||◌, ◌&&◌, List, [], ◌∷◌, ◌++◌, Option, Some, None, refl, sym, ap, ◌∙◌, subst, arith, eq-eqb, if◌then◌else◌}
+use Rattle.std.proofs.Common.{◌≡◌, ℕ, ◌+◌, Bool, true, false, ◌||◌, ◌&&◌, List, [], ◌∷◌, ◌++◌, Option, Some, None, refl, sym, ap, ◌∙◌, subst, arith, eq-eqb, if◌then◌else◌}
 use Rattle.am_names.specs.declared.EndpointId.{EndpointId}
-use Rattle.am_names.specs.declared.Cause.TheVariants.{NoRequest}
 use Rattle.am_names.specs.declared.Verdict.{Verdict}
 use Rattle.am_names.specs.declared.Verdict.TheVariants as Verdicts
 use Rattle.am_names.specs.declared.Message.{Message}
@@ -9,7 +8,6 @@ use Rattle.am_names.specs.declared.Parcel.{Parcel}
 use Rattle.am_names.specs.declared.AnswerPacket.{AnswerPacket}
 use Rattle.am_names.specs.Rules.{is_transient}
 use Rattle.std.specs.Prelude.{nat_lt, IfSome}
-use Rattle.std.specs.Option.{option_map}
 use Rattle.am_office.specs.declared.Event.{Event}
 use Rattle.am_office.specs.declared.Event.TheVariants as Events
 use Rattle.am_office.specs.declared.Received.{Received}
@@ -17,18 +15,19 @@ use Rattle.am_office.specs.declared.Received.TheVariants as Got
 use Rattle.am_office.specs.declared.Outcome.{Outcome}
 use Rattle.am_office.specs.declared.Outcome.TheVariants as Out
 use Rattle.am_office.specs.declared.Entry.{Entry}
-use Rattle.am_model.specs.Channels.{Channel, Mark, Arrival, Stale, Again, Fresh, same_channel, sequence, bound_message, attempt, mark, mark_in, verdict_by, frees_by, decides_by, arrival}
+use Rattle.am_model.specs.Channels.{Channel, Mark, Arrival, Stale, Again, Fresh, same_channel, sequence, bound_message, attempt, mark, verdict_by, frees_by, decides_by, arrival}
 use Rattle.am_model.specs.History.{decided, settle_by}
 use Rattle.am_model.proofs.Received.{bit}
 use Rattle.am_model.proofs.Ends.{sequence_push, bound_push, attempt_push, mark_push}
-use Rattle.am_channel.specs.declared.slot.Slot.{Slot}
+use Rattle.am_block.specs.declared.Slot.{Slot}
 use Rattle.am_channel.specs.declared.sending.Bound.{Bound}
 use Rattle.am_channel.specs.declared.sending.Settled.{Settled}
 use Rattle.am_channel.specs.declared.sending.Settled.TheVariants as Settles
 use Rattle.am_channel.specs.declared.sending.TimedOut.{TimedOut}
 use Rattle.am_channel.specs.declared.sending.TimedOut.TheVariants as Times
-use Rattle.am_channel.specs.Sending.{SendView, bound_to, timed_out, unanswered, settled, bound_after}
-use Rattle.am_channel_laws.specs.Calls.{Ends, Call, Bind, TimeOut, Answer, Arrive, after, bound_later, mark_later, settled_as, arrived_as, Tells, TellsBind, TellsResend, TellsGivenUp, TellsTimedOut, TellsTimeOut, TellsAnswer, TellsArrival}
+use Rattle.am_channel.specs.Sending.{SendView, timed_out, unanswered, settled, bound_after}
+use Rattle.am_channel.specs.declared.ends.Ends.{Ends}
+use Rattle.am_channel_laws.specs.Calls.{Call, Bind, TimeOut, Answer, Arrive, after, bound_later, mark_later, Tells, TellsBind, TellsTimedOut, TellsTimeOut, TellsAnswer, TellsArrival}
 use Rattle.am_channel_laws.specs.Counted.{AreCounted}
 
 pub same_channel-refl : (c : Channel) → same_channel c c.node c.peer c.number ≡ true

@@ -1,9 +1,7 @@
 -- The calls on the two ends that a node keeps of a channel with a peer, and the entries that tell of them.
-use Rattle.std.specs.Prelude.{◌≡◌, ℕ, ◌+◌, ◌-◌, ◌<◌, ◌≤◌, ◌^◌, Bool, true, false, Option, Some, None, IsSome, IsNone, if◌then◌else◌}
+use Rattle.std.specs.Prelude.{◌≡◌, ℕ, ◌+◌, ◌-◌, ◌<◌, ◌≤◌, ◌^◌, Bool, Option, Some, None, IsSome, IsNone, if◌then◌else◌}
 use Rattle.am_names.specs.declared.EndpointId.{EndpointId}
-use Rattle.am_names.specs.declared.Cause.TheVariants.{NoRequest}
 use Rattle.am_names.specs.declared.Verdict.{Verdict}
-use Rattle.am_names.specs.declared.Verdict.TheVariants as Verdicts
 use Rattle.am_names.specs.declared.Message.{Message}
 use Rattle.am_names.specs.declared.Parcel.{Parcel}
 use Rattle.am_names.specs.declared.AnswerPacket.{AnswerPacket}
@@ -14,23 +12,15 @@ use Rattle.am_office.specs.declared.Outcome.TheVariants as Out
 use Rattle.am_office.specs.declared.Entry.{Entry}
 use Rattle.am_model.specs.Channels.{Channel, Mark, Arrival, Stale, Again, Fresh, arrival}
 use Rattle.am_model.specs.History.{decided, settle_by}
-use Rattle.am_channel.specs.declared.slot.Slot.{Slot}
+use Rattle.am_block.specs.declared.Slot.{Slot}
 use Rattle.am_channel.specs.declared.sending.Bound.{Bound}
 use Rattle.am_channel.specs.declared.sending.Sent.{Sent}
 use Rattle.am_channel.specs.declared.sending.Settled.{Settled}
 use Rattle.am_channel.specs.declared.sending.Settled.TheVariants as Settles
 use Rattle.am_channel.specs.declared.sending.TimedOut.{TimedOut}
 use Rattle.am_channel.specs.declared.sending.TimedOut.TheVariants as Times
-use Rattle.am_channel.specs.Sending.{SendView, bound_to, timed_out, unanswered, settled, bound_after}
-
--- the ends that a node keeps: the sending end to the peer, and the receiving end from it
-pub record Ends : Type 0 where
-  pub sending : SendView
-  pub receiving : Mark
-
--- ends that no call was made on
-abbrev pub new_ends : Ends
-new_ends = record { sending = record { seq = 0; bound = None }; receiving = record { seq = 0; attempt = 0; verdict = Verdicts.Refused NoRequest } }
+use Rattle.am_channel.specs.declared.ends.Ends.{Ends}
+use Rattle.am_channel.specs.Sending.{bound_to, timed_out, unanswered, settled, bound_after}
 
 -- a bind; a time-out, where a binding has so many tries in all; an answer from the peer; and a parcel from the peer, with
 -- the verdict that its destination gives it where it is fresh

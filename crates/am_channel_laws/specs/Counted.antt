@@ -1,10 +1,10 @@
 -- The ends of a channel are those that the definitions count in a log.
-use Rattle.std.specs.Prelude.{◌≡◌, Option, Some, None, List, IfSome}
+use Rattle.std.specs.Prelude.{◌≡◌, List, IfSome}
 use Rattle.std.specs.Option.{option_map}
 use Rattle.am_office.specs.declared.Entry.{Entry}
 use Rattle.am_model.specs.Channels.{Channel, sequence, bound_message, attempt, mark}
 use Rattle.am_channel.specs.declared.sending.Bound.{Bound}
-use Rattle.am_channel_laws.specs.Calls.{Ends}
+use Rattle.am_channel.specs.declared.ends.Ends.{Ends}
 
 -- the sequence, the bound message, the attempt of a bound message and the mark; slots are in no log
 pub record AreCounted (c : Channel) (log : List Entry) (e : Ends) : Type 0 where

@@ -2,7 +2,8 @@
 use Rattle.std.specs.Prelude.{List, [], ◌∷◌, map, if◌then◌else◌}
 use Rattle.am_office.specs.declared.Entry.{Entry}
 use Rattle.am_model.specs.Channels.{Channel, same_channel}
-use Rattle.am_channel_laws.specs.Calls.{Call, Ends, IsCallable, Tells, after}
+use Rattle.am_channel.specs.declared.ends.Ends.{Ends}
+use Rattle.am_channel_laws.specs.Calls.{Call, IsCallable, Tells, after}
 
 -- a call on the ends of a channel, and an entry that tells of it
 pub record Told : Type 0 where

@@ -1,7 +1,9 @@
 //! The ends of channels by their calls are the ends that the definitions count in the entries that tell of these calls.
 #![tactic(auto)]
 
-ghost use Rattle.am_channel_laws.specs.Calls.{Call, Ends, Tells, after, new_ends};
+ghost use Rattle.am_channel.specs.Ends.{new_ends};
+ghost use Rattle.am_channel.specs.declared.ends.Ends.{Ends};
+ghost use Rattle.am_channel_laws.specs.Calls.{Call, Tells, after};
 ghost use Rattle.am_channel_laws.specs.Counted.{AreCounted};
 ghost use Rattle.am_channel_laws.specs.Folded.{Told, AreMade, ends_after, entries_of};
 ghost use Rattle.am_model.specs.Channels.{Channel, sequence};
