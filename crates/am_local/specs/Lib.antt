@@ -1,0 +1,7 @@
+pub mod Asked
+pub mod Bounds
+pub mod Driver
+pub mod Granted
+pub mod Interface
+pub mod Readings
+pub mod Together
