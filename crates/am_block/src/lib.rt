@@ -5,7 +5,7 @@
 ghost use Rattle.std.specs.Prelude.{◌≡◌, ◌<◌, ◌≤◌, ◌∷◌, [], ◌↔◌, length, drop, IfOk, IfSome, MatchOption, None, Some, slice_get};
 ghost use Rattle.std.specs.Option.{option_map};
 ghost use Rattle.std.specs.Borrow.{sem};
-ghost use Rattle.am_block.specs.Pools.{slots, size, home, moved, behind, IsBlock, IsFresh, IsLast};
+ghost use Rattle.am_block.specs.Pools.{slots, size, home, moved, behind, place, IsBlock, IsFresh, IsLast};
 
 mod lanes;
 
@@ -134,6 +134,7 @@ impl Block {
         ensures none { (result ≡ None) ↔ (slots self.now list ≡ []) }
         ensures slot { MatchOption result (slots self.now list ≡ []) (λ s. slots self.now list ≡ s.0 ∷ drop 1 (slots self.now list)) }
         ensures below { IfSome result (λ s. s.0 < size self.now) }
+        ensures block { IsBlock self.now }
     {
         let slot = self.lanes.of(list).first()?;
         Some(Slot(*slot))
@@ -152,7 +153,7 @@ impl Block {
         }
     }
 
-    /// Moves the first slot of one list to the tail of another.
+    /// Moves the first slot of one list to the tail of another, or of the same.
     pub fn move_front(&mut self, from: List, to: List) -> Option<Slot>
         ensures none { (result ≡ None) ↔ (slots self.old from ≡ []) }
         ensures slot { MatchOption result (slots self.old from ≡ []) (λ s. slots self.old from ≡ s.0 ∷ drop 1 (slots self.old from)) }
@@ -160,10 +161,9 @@ impl Block {
         ensures moved { MatchOption result (self.new ≡ self.old) (λ s. self.new ≡ moved self.old from s.0 to) }
         ensures block { IsBlock self.new }
     {
-        let slot = self.front(from)?;
-        self.lanes.take(from, slot.0);
-        self.lanes.put(to, slot.0);
-        Some(slot)
+        let first = self.front(from)?;
+        self.relist(from, first, to);
+        Some(first)
     }
 
     /// Takes a slot out of its list and appends it to another, or to the same.
@@ -173,6 +173,15 @@ impl Block {
         ensures block { IsBlock self.new }
     {
         let from = self.home(slot);
+        self.relist(from, slot, to);
+    }
+
+    /// Takes a slot out of this list of its and appends it to another.
+    fn relist(&mut self, from: List, slot: Slot, to: List)
+        requires { place slot.0 (slots self.old from) < length (slots self.old from) }
+        ensures moved { self.new ≡ moved self.old from slot.0 to }
+        ensures block { IsBlock self.new }
+    {
         self.lanes.take(from, slot.0);
         self.lanes.put(to, slot.0);
     }
@@ -180,7 +189,8 @@ impl Block {
     /// The list where a slot stands.
     #[tactic(auto, unfolding(crate::specs::Pools::home))]
     fn home(&self, slot: Slot) -> List
-        ensures { result ≡ home self.now slot.0 }
+        ensures list { result ≡ home self.now slot.0 }
+        ensures block { IsBlock self.now }
     {
         if self.lanes.free.contains(&slot.0) {
             List::Free

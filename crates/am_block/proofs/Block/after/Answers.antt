@@ -7,7 +7,7 @@ use Rattle.am_block.proofs.Sound.{lane-slots}
 use Rattle.am_block.proofs.Block.after.Goals as goal
 
 pub returns-in-Some-clause-slot : goal.returns-in-Some-clause-slot
-returns-in-Some-clause-slot c = rw (← c.self.view_is, ← lane-slots, c.self.view_is, ← c.home.ensures, ← c.of.ensures) c.in-Some.ensures
+returns-in-Some-clause-slot c = rw (← c.self.view_is, ← lane-slots, c.self.view_is, ← c.home.ensures.list, ← c.of.ensures) c.in-Some.ensures
 
 pub returns-in-Some-clause-below : goal.returns-in-Some-clause-below
 returns-in-Some-clause-below c =
@@ -16,7 +16,7 @@ returns-in-Some-clause-below c =
     (ap (λ xs. behind c.args.slot.0 xs) (sym (ap (λ v. v.items) c.of.ensures ∙ lane-slots c.self.inside.lanes c.self.inside.descriptors.items c.home.result)) ∙ sym c.in-Some.ensures))
 
 pub returns-in-None-clause-slot : goal.returns-in-None-clause-slot
-returns-in-None-clause-slot c = rw (← c.self.view_is, ← lane-slots, c.self.view_is, ← c.home.ensures, ← c.of.ensures) c.in-None.ensures
+returns-in-None-clause-slot c = rw (← c.self.view_is, ← lane-slots, c.self.view_is, ← c.home.ensures.list, ← c.of.ensures) c.in-None.ensures
 
 pub returns-in-None-clause-none : goal.returns-in-None-clause-none
 returns-in-None-clause-none c =
