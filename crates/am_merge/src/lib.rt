@@ -2,7 +2,7 @@
 //! theorem is the contract of a function with an empty body.
 #![tactic(auto)]
 
-ghost use Rattle.am_merge.specs.Logs.{AreRising, Logs, MergesInto, StandWhereTheyTouch};
+ghost use Rattle.am_merge.specs.Logs.{AreRising, IsRising, Logs, MergesInto, StandWhereTheyTouch, before};
 ghost use Rattle.am_merge.specs.Merged.{IsBelow, PartLog, entries_of, journal_after, journal_of, merged, touches_one};
 ghost use Rattle.am_merge.specs.Right.{IsRight};
 ghost use Rattle.am_model.specs.History.{IsHistory};
@@ -17,6 +17,12 @@ ghost use Rattle.std.specs.Prelude.{◌≡◌, ◌++◌, [], ◌∷◌, false, t
 /// its stamp, merge into a history.
 pub fn merged_is_history()
     ensures { (layout : Layout) (logs : Logs) (journal : List Entry) → MergesInto logs journal → AreRising logs → AllAre (IsRight layout logs) journal → IsHistory layout journal }
+{}
+
+/// Where stamps rise, what a log had before an entry is what it has below the entry's stamp, whatever came after. So what
+/// a part read of its own log when it made the entry is what the theorem on the merge reads.
+pub fn past_is_below()
+    ensures { (past more : List Entry) (x : Entry) → IsRising (past ++ x ∷ more) → before x.stamp (past ++ x ∷ more) ≡ past }
 {}
 
 /// Logs merge into one journal only.
