@@ -9,3 +9,4 @@ pub mod Asking
 pub mod Growing
 pub mod Granting
 pub mod Numbers
+pub mod Numbering

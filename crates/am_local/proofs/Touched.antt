@@ -80,7 +80,7 @@ arrival_answers s node peer channel seq attempt stamp m answer Fresh = by_verdic
     by_verdict Verdicts.Accepted = refl
     by_verdict (Verdicts.Refused cause) = refl
 
-settling_silent : (limit : ℕ) (m : Message) (bounces : ℕ) (v : Verdict) → answer_by (settle_by limit m bounces v) ≡ None
+pub settling_silent : (limit : ℕ) (m : Message) (bounces : ℕ) (v : Verdict) → answer_by (settle_by limit m bounces v) ≡ None
 settling_silent limit m bounces Verdicts.Accepted = refl
 settling_silent limit m bounces (Verdicts.Refused cause) = by_test (is_transient cause && nat_lt bounces limit)
   where
@@ -88,7 +88,7 @@ settling_silent limit m bounces (Verdicts.Refused cause) = by_test (is_transient
     by_test true = refl
     by_test false = refl
 
-settle_silent : (i : InterfaceLog) (s : State) (c : Channel) (p : AnswerPacket) (m : Option Message) → answer_by (settle_at i s c p m) ≡ None
+pub settle_silent : (i : InterfaceLog) (s : State) (c : Channel) (p : AnswerPacket) (m : Option Message) → answer_by (settle_at i s c p m) ≡ None
 settle_silent i s c p None = refl
 settle_silent i s c p (Some m) = by_test (settles i c p)
   where

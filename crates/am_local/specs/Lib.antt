@@ -3,5 +3,6 @@ pub mod Bounds
 pub mod Driver
 pub mod Granted
 pub mod Interface
+pub mod Numbered
 pub mod Readings
 pub mod Together

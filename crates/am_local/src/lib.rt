@@ -8,11 +8,13 @@ ghost use Rattle.am_local.specs.Bounds.{IsBounded};
 ghost use Rattle.am_local.specs.Driver.{DriverLog, driver_of, end_moved};
 ghost use Rattle.am_local.specs.Granted.{IsMoveOf, IsWorkAt, MayDo, MayMove};
 ghost use Rattle.am_local.specs.Interface.{InterfaceLog, emits_to, event_of, home_of_front, failing_at, is_bind, needs, outcome_at, receiver};
+ghost use Rattle.am_local.specs.Numbered.{AreNumbered, IsNextPacket, IsPacketAt};
 ghost use Rattle.am_local.specs.Readings.{ReadingsGrow, ReadsItsOwn};
 ghost use Rattle.am_local.specs.Together.{IsAt, IsDriverPart, IsPart, IsState, SaysTheSame, SaysTheSameOfCall, SaysTheSameOfCarry, SaysTheSameOfMove, SaysTheSameOfWant, restamped};
 ghost use Rattle.am_model.specs.Allowed.{MayArrive, MayBind, MayCarry, MayDrain, MayLoad, MayPageIn, MayPageOut, MaySettle, MayUnload, are_numbers_in_range};
 ghost use Rattle.am_model.specs.Calls.{outcome_of_call};
 ghost use Rattle.am_model.specs.Changes.{called, made_wanted};
+ghost use Rattle.am_model.specs.Channels.{emitted};
 ghost use Rattle.am_model.specs.Endpoint.{IsWithin, State, Body, fresh, front};
 ghost use Rattle.am_model.specs.History.{IsHistory, state_of};
 ghost use Rattle.am_model.specs.Layout.{IsPoolLawful, Layout};
@@ -29,7 +31,7 @@ ghost use Rattle.am_office.specs.declared.Event.{Event};
 ghost use Rattle.am_office.specs.declared.Outcome.{Outcome};
 ghost use Rattle.am_office.specs.declared.Place.{Place};
 ghost use Rattle.std.specs.Option.{option_to_list};
-ghost use Rattle.std.specs.Prelude.{◌≡◌, ℕ, false, true, List, Option, None, Some};
+ghost use Rattle.std.specs.Prelude.{◌≡◌, ℕ, false, true, List, Option, None, Some, slice_get};
 
 pub mod work;
 
@@ -77,6 +79,19 @@ pub fn stamp_is_not_read()
     ensures outcome { (i : InterfaceLog) (s : State) (p : Packet) (stamp : ℕ) → outcome_at i s (Works.Receive (restamped stamp p)) ≡ outcome_at i s (Works.Receive p) }
     ensures needs { (i : InterfaceLog) (p : Packet) (stamp : ℕ) → needs i (Works.Receive (restamped stamp p)) ≡ needs i (Works.Receive p) }
     ensures emits { (i : InterfaceLog) (p : Packet) (stamp : ℕ) → emits_to i (Works.Receive (restamped stamp p)) ≡ emits_to i (Works.Receive p) }
+{}
+
+/// The packet that a work's entry emits comes from the interface's node, with the entry's stamp and the next number of
+/// its link.
+pub fn emission_is_next()
+    ensures { (i : InterfaceLog) (s : State) (w : Work) (stamp : ℕ) (p : Packet) → emitted_in stamp (event_of i.settings.node w) (outcome_at i s w) ≡ Some p → IsNextPacket i.settings.node i.log stamp p }
+{}
+
+/// Where each packet has the next number of its link, as in every history, the packet with number k is the k-th of its
+/// link.
+pub fn packets_are_numbered()
+    ensures history { (layout : Layout) (journal : List Entry) → IsHistory layout journal → AreNumbered journal }
+    ensures place { (log : List Entry) → AreNumbered log → (node peer : NodeId) (k : ℕ) (p : Packet) → slice_get (emitted node peer log) k ≡ Some p → IsPacketAt node peer k p }
 {}
 
 // ---- what parts keep beside their log
