@@ -5,7 +5,9 @@ use Rattle.std.proofs.Common.{◌≡◌, ◌≢◌, ◌⊎◌, inl, inr, ⊎_eli
 use Rattle.am_scenario.specs.Grammar.{grammar}
 use Rattle.am_scenario_types.specs.declared.parts.Form.TheVariants as Forms
 use Rattle.am_main.specs.Answer.{Answer, answer_of}
-use Rattle.am_main.specs.Offers.{Completes, Finds, IsGiven, IsOr}
+use Rattle.am_io.specs.Causes.{Rose}
+use Rattle.am_io.specs.Whole.{IsLonger}
+use Rattle.am_main.specs.Offers.{Completes, Finds, IsAnswered, IsOffered, no_memory}
 
 -- the status of a fault of the sink or of want of memory is the latter
 memory_alone : (status : ℕ) → (status ≡ 5 → ⊥) → (status ≡ 5) ⊎ (status ≡ 8) → status ≡ 8
@@ -16,7 +18,7 @@ not_eight : (status : ℕ) (b : Bool) → (status == 8) ≡ b → (status ≡ 8)
 not_eight status true is = inl (eqb-true status 8 is)
 not_eight status false is = inr (λ (same : status ≡ 8). let yes' : (status == 8) ≡ true = ap (λ (n : ℕ). n == 8) same in cc)
 
-given_whole : (status most : ℕ) (left old new : Option (List ℕ)) → (status ≡ 5 → ⊥) → Finds most left (λ bytes. IsGiven (answer_of (grammar Forms.Step bytes)) status old new) → Completes most status left old new
+given_whole : (status most : ℕ) (left old new : Option (List ℕ)) → (status ≡ 5 → ⊥) → Finds most left (λ bytes. IsOffered (answer_of (grammar Forms.Step bytes)) status old new) → Completes most status left old new
 given_whole status most left old new write f =
     ⊎_elim
     (λ (eight : status ≡ 8). inl eight)
@@ -29,9 +31,13 @@ given_whole status most left old new write f =
     given.status')
     (not_eight status (status == 8) refl)
 
-pub completes : (status most : ℕ) (left old new : Option (List ℕ)) → (status ≡ 4 → ⊥) → (status ≡ 5 → ⊥) → (status ≡ 7 → ⊥) → IsOr 4 status ⊎ (IsOr 7 status ⊎ Finds most left (λ bytes. IsGiven (answer_of (grammar Forms.Step bytes)) status old new)) → Completes most status left old new
-completes status most left old new read write long (inl (inl four)) = absurd (read four)
-completes status most left old new read write long (inl (inr fault)) = inl (memory_alone status write fault)
-completes status most left old new read write long (inr (inl (inl seven))) = absurd (long seven)
-completes status most left old new read write long (inr (inl (inr fault))) = inl (memory_alone status write fault)
-completes status most left old new read write long (inr (inr f)) = given_whole status most left old new write f
+-- for want of memory the status is 8, where the sink has no fault
+memory_given : (status : ℕ) (old new : Option (List ℕ)) → (status ≡ 5 → ⊥) → IsOffered no_memory status old new → status ≡ 8
+memory_given status old new write offered = ⊎_elim (λ (eight : status ≡ 8). eight) (λ (fault : (status ≡ 5) ⊎ (status ≡ 8)). memory_alone status write fault) offered.status'
+
+pub completes : (most : ℕ) (left : Option (List ℕ)) (before now status : ℕ) (old new : Option (List ℕ))
+    → (Rose before now → ⊥) → (status ≡ 5 → ⊥) → (IsLonger left most → ⊥) → IsAnswered most left before now status old new → Completes most status left old new
+completes most left before now status old new read write long (inl fault) = absurd (read fault.0)
+completes most left before now status old new read write long (inr (inl more)) = absurd (long more.0)
+completes most left before now status old new read write long (inr (inr (inl none))) = inl (memory_given status old new write none)
+completes most left before now status old new read write long (inr (inr (inr f))) = given_whole status most left old new write f

@@ -16,7 +16,7 @@ use Rattle.am_laws.specs.Fates.{HasOneFate}
 use Rattle.am_laws.proofs.Laws.{post_office}
 use Rattle.am_laws.proofs.OneFate.{one_fate}
 use Rattle.am_laws_steps.specs.Laws.{AreInRange, IsMade}
-use Rattle.am_laws_steps.proofs.Steps.{is_made}
+use Rattle.am_laws_steps.proofs.Steps.{is_made, histories_agree}
 use Rattle.am_model.specs.History.{is_in_range}
 use Rattle.am_model.specs.Layout.{Layout, AllAre}
 use Rattle.am_model.specs.Steps.{FollowsSteps, Made, Stop, NotEnabled, LogFull, stop, step_entry, made, made_by, made_from}
@@ -121,10 +121,12 @@ take_whole (x ∷ xs) (suc n) h = ap (λ l. x ∷ l) (take_whole xs n (omega (ar
 pub prints_history : (s : ScenarioLists) (journal : List Entry) (text : List ℕ) → IsLawful s → made (layout_of s) (events_of s.steps) ≡ record { journal = journal; stopped = None } → text ≡ report (ids_of s.ends) journal → PrintsHistory s text
 prints_history s journal text lawful is printed =
     let m = subst (λ (w : Made). IsMade (layout_of s) (events_of s.steps) w) is (made_of s lawful) in
+    let follows = subst (λ (es : List Event). FollowsSteps es journal) (take_whole (events_of s.steps) (length journal) (m.whole refl)) m.follows in
     record {
       journal = journal;
       history = m.history;
-      follows = subst (λ (es : List Event). FollowsSteps es journal) (take_whole (events_of s.steps) (length journal) (m.whole refl)) m.follows;
+      follows = follows;
+      only = λ other h f. histories_agree (layout_of s) (events_of s.steps) other journal h f m.history follows;
       laws = post_office (layout_of s) journal (lawful_layout s lawful) m.history;
       fates = one_fate (layout_of s) journal m.history;
       text' = printed;
@@ -133,7 +135,7 @@ prints_history s journal text lawful is printed =
 abbrev pub is_stopped : (s : ScenarioLists) (why : Stop) → IsLawful s → (made (layout_of s) (events_of s.steps)).stopped ≡ Some why → IsStopped s why
 is_stopped s why lawful is =
     let m = made_of s lawful in
-    record { journal = (made (layout_of s) (events_of s.steps)).journal; history = m.history; follows = m.follows; stops = m.stopped why is }
+    record { journal = (made (layout_of s) (events_of s.steps)).journal; history = m.history; follows = m.follows; unstopped = m.unstopped; stops = m.stopped why is }
 
 pub is_not_enabled : (s : ScenarioLists) (line : ℕ) (condition : Condition) → IsLawful s → (made (layout_of s) (events_of s.steps)).stopped ≡ Some (NotEnabled condition) → line ≡ line_at s.steps (length (made (layout_of s) (events_of s.steps)).journal) → IsNotEnabled s line condition
 is_not_enabled s line condition lawful is at = record { stopped = is_stopped s (NotEnabled condition) lawful is; line' = at }

@@ -1,5 +1,5 @@
 -- What each answer of `step` says of the machine.
-use Rattle.std.specs.Prelude.{◌≡◌, ℕ, List, length, take, Option, Some, None, Result, Ok, Err, slice_get}
+use Rattle.std.specs.Prelude.{◌≡◌, ℕ, List, [], length, take, Option, Some, None, Result, Ok, Err, slice_get}
 use Rattle.std.specs.Global.{Vec}
 use Rattle.am_names.specs.declared.Serial.{Serial}
 use Rattle.am_office.specs.declared.Condition.{Condition}
@@ -11,8 +11,8 @@ use Rattle.am_scenario_types.specs.declared.faults.ScenarioFault.{ScenarioFault}
 use Rattle.am_scenario_types.specs.Lists.{ScenarioLists}
 use Rattle.am_follow.specs.Layout.{layout_of, events_of}
 use Rattle.am_laws.specs.Fates.{HasOneFate}
-use Rattle.am_laws_steps.specs.Laws.{StopsAt}
-use Rattle.am_model.specs.History.{IsHistory}
+use Rattle.am_laws_steps.specs.Laws.{IsUnstopped, StopsAt}
+use Rattle.am_model.specs.History.{EachAfter, IsHistory}
 use Rattle.am_model.specs.PostOffice.{PostOffice}
 use Rattle.am_model.specs.Steps.{FollowsSteps, Stop, NotEnabled, LogFull}
 use Rattle.am_main.specs.declared.faults.StepFault.{StepFault}
@@ -20,21 +20,23 @@ use Rattle.am_main.specs.declared.faults.StepFault.TheVariants as Faults
 use Rattle.am_main.specs.Answer.{ids_of, line_at}
 
 -- THE HEADLINE, for the command `step` on the direct network: the text is the report of a journal that is a history of
--- the machine which the scenario describes, follows its lines, and obeys all the laws of the post office; and each
--- message has its one fate.
+-- the machine which the scenario describes, follows its lines as no other history does, and obeys all the laws of the post
+-- office; and each message has its one fate.
 pub record PrintsHistory (scenario : ScenarioLists) (text : List ℕ) : Type 0 where
   pub journal : List Entry
   pub history : IsHistory (layout_of scenario) journal
   pub follows : FollowsSteps (events_of scenario.steps) journal
+  pub only : (other : List Entry) → IsHistory (layout_of scenario) other → FollowsSteps (events_of scenario.steps) other → other ≡ journal
   pub laws : PostOffice (layout_of scenario) journal
   pub fates : (s : Serial) → HasOneFate journal s
   pub text' : text ≡ report (ids_of scenario.ends) journal
 
--- the steps before one step make a history that follows them, and there this step is stopped
+-- the steps before one step make a history that follows them, none of them is stopped, and there this step is stopped
 pub record IsStopped (scenario : ScenarioLists) (why : Stop) : Type 0 where
   pub journal : List Entry
   pub history : IsHistory (layout_of scenario) journal
   pub follows : FollowsSteps (take (length journal) (events_of scenario.steps)) journal
+  pub unstopped : EachAfter (IsUnstopped (layout_of scenario)) [] journal
   pub stops : StopsAt (layout_of scenario) journal (slice_get (events_of scenario.steps) (length journal)) why
 
 -- the same, where the step stands in this line

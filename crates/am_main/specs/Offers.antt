@@ -5,7 +5,7 @@ use Rattle.std.specs.Io.KnownBytes.{Appends}
 use Rattle.am_scenario.specs.Grammar.{grammar}
 use Rattle.am_scenario_types.specs.declared.parts.Form.TheVariants as Forms
 use Rattle.am_io.specs.Causes.{Rose}
-use Rattle.am_io.specs.Whole.{IsAll}
+use Rattle.am_io.specs.Whole.{IsAll, IsLonger}
 use Rattle.am_main.specs.Answer.{Answer, answer_of}
 use Rattle.am_main.specs.Meaning.{PrintsHistory}
 use Rattle.am_scenario_types.specs.Lists.{ScenarioLists}
@@ -35,12 +35,38 @@ pub record Finds (most : ℕ) (left : Option (List ℕ)) (P : List ℕ → Type 
   pub few : length bytes ≤ most
   pub holds : P bytes
 
--- The answer was given: its text was appended under its status; or a front of it with status 5, where the sink failed, or
--- with status 8, where the sink or the program found no memory, which may have offered its own line.
-pub record IsGiven (answer : Answer) (status : ℕ) (old new : Option (List ℕ)) : Type 0 where
+-- The answer was offered to the sink. It took the text whole, under the answer's status; or a front of it, with status 5
+-- where the sink failed, or with status 8 where the sink found no memory.
+pub record IsOffered (answer : Answer) (status : ℕ) (old new : Option (List ℕ)) : Type 0 where
   pub status' : IsOr answer.status status
   pub whole : status ≢ 5 → status ≢ 8 → Appends old new answer.text
-  pub front' : IsFront old new answer.text ⊎ IsFront old new (codes "no memory\n")
+  pub front' : IsFront old new answer.text
+
+-- the answers that don't look at the bytes: wrong words, a read fault, too many bytes, and want of memory
+abbrev pub usage : Answer
+usage = record { status = 2; text = codes "usage: am2 step\n" }
+
+abbrev pub read_fault : Answer
+read_fault = record { status = 4; text = codes "read fault\n" }
+
+abbrev pub too_long : Answer
+too_long = record { status = 7; text = codes "input too long\n" }
+
+abbrev pub no_memory : Answer
+no_memory = record { status = 8; text = codes "no memory\n" }
+
+-- The answer that the bytes ask for was offered, or the line that says that the program found no memory.
+abbrev pub IsGiven : List ℕ → ℕ → Option (List ℕ) → Option (List ℕ) → Type 0
+IsGiven bytes status old new = IsOffered (answer_of (grammar Forms.Step bytes)) status old new ⊎ IsOffered no_memory status old new
+
+-- A script was answered: a read failed, the bytes are too many, no memory was found, or the bytes are those that the
+-- source had left and their answer was offered.
+abbrev pub IsAnswered : (most : ℕ) (left : Option (List ℕ)) (before now status : ℕ) (old new : Option (List ℕ)) → Type 0
+IsAnswered most left before now status old new =
+    (Rose before now × IsOffered read_fault status old new)
+    ⊎ ((IsLonger left most × IsOffered too_long status old new)
+    ⊎ (IsOffered no_memory status old new
+    ⊎ Finds most left (λ bytes. IsOffered (answer_of (grammar Forms.Step bytes)) status old new)))
 
 -- the bytes spell a scenario of whose history the report was appended
 pub record Reports (old new : Option (List ℕ)) (bytes : List ℕ) : Type 0 where

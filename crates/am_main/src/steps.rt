@@ -1,5 +1,5 @@
 // The steps of a scenario, one after the other.
-ghost use Rattle.std.specs.Prelude.{◌≡◌, ◌<◌, ◌-◌, ◌^◌, IfOk, [], true, map, length};
+ghost use Rattle.std.specs.Prelude.{◌≡◌, IfOk, [], true, map};
 ghost use Rattle.am_follow.specs.Layout.{events_of, layout_of};
 ghost use Rattle.am_laws_steps.specs.Laws.{AreInRange};
 ghost use Rattle.am_main.specs.Answer.{GivesText, Makes, TellsText, answer_of, fault_of, ids_of};
@@ -86,7 +86,6 @@ fn direct_text(alloc: Global, scenario: &Scenario) -> Result<Vec<u8>, StepFault>
 /// It is refused with the first fault of the text; with the line and the condition of the first step that isn't enabled;
 /// with the log that is full where one more entry is due; for want of memory; and, for now, for the packet network.
 pub fn step_text(alloc: Global, bytes: &[u8]) -> Result<Vec<u8>, StepFault>
-    requires { length bytes.now < 2 ^ 32 - 1 }
     ensures answer { GivesText result (answer_of (grammar Forms.Step bytes.now)) }
     ensures meaning { TextMeans result (grammar Forms.Step bytes.now) }
 {

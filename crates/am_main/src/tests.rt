@@ -1,6 +1,7 @@
 use self::journals as worked;
 use super::*;
 use am_io::{MemorySink, MemorySource};
+use am_office::Condition;
 use std::alloc::{AllocError, Global};
 use std::test::Fail;
 
@@ -26,10 +27,16 @@ const FULL: &str =
 
 const IDLE: &str = "am2 1\nnetwork direct\nnodes 1\nendpoint 0 0 5\nx carry 0\n";
 
+const WANTED: &str = "am2 1\nnetwork direct\nnodes 1\nendpoint 0 0 5\nx want 0\n";
+
+const BOUND: &str = "am2 1\nnetwork direct\nnodes 1\nendpoint 0 0 5\ni0 bind 0\n";
+
+const LOADED: &str = "am2 1\nnetwork direct\nnodes 1\nendpoint 0 0 5\nx poll 0\nd0 load 0 0\n";
+
 const PACKET: &str = "am2 1\nnetwork packet\nnodes 1\n";
 
 /// A text, its status and what is printed.
-const CASES: [(&str, u8, &str); 22] = [
+const CASES: [(&str, u8, &str); 25] = [
     (EMPTY, 0, EMPTY_REPORT),
     (PATH, 0, PATH_REPORT),
     (FULL, 6, "log full e0\n"),
@@ -41,6 +48,9 @@ const CASES: [(&str, u8, &str); 22] = [
     (worked::NO_BOUNCE, 0, worked::NO_BOUNCE_REPORT),
     (worked::POOLS, 0, worked::POOLS_REPORT),
     (IDLE, 3, "refused line 5 not-enabled no-message\n"),
+    (WANTED, 3, "refused line 5 not-enabled not-on-disk\n"),
+    (BOUND, 3, "refused line 5 not-enabled not-packet\n"),
+    (LOADED, 3, "refused line 6 not-enabled not-packet\n"),
     (PACKET, 9, "not built\n"),
     ("", 3, "refused line 1 missing\n"),
     (
@@ -113,6 +123,24 @@ fn a_read_fails_and_a_write_fails(rt: HostRuntime) -> Result<(), Fail> {
     assert_eq!(rt; am2(&rt, alloc, &words, &mut whole, &mut failing).number, 5);
     assert_eq!(rt; failing.bytes(), b"am2 report 1\nent".as_slice());
     Ok(())
+}
+
+#[test]
+fn a_text_without_a_sink(rt: HostRuntime) {
+    match step_text(rt.alloc(), PATH.as_bytes()) {
+        Ok(text) => assert!(rt; text.as_slice() == PATH_REPORT.as_bytes()),
+        Err(_) => assert!(rt; false, "refused"),
+    }
+    let idle = step_text(rt.alloc(), IDLE.as_bytes());
+    assert!(rt;
+        matches!(
+            idle,
+            Err(StepFault::NotEnabled {
+                line: 5,
+                condition: Condition::NoMessage
+            })
+        )
+    );
 }
 
 #[test]

@@ -1,13 +1,10 @@
 //! The top call.
 
-ghost use Rattle.std.specs.Prelude.{codes, ◌≡◌, ◌≢◌, ◌⊎◌, ◌≤◌, ◌<◌, ◌-◌, ◌^◌, List, map, string_bytes, true, false, length};
+ghost use Rattle.std.specs.Prelude.{codes, ◌≡◌, ◌≢◌, ◌≤◌, map, string_bytes, true, false};
 ghost use Rattle.std.specs.Io.KnownBytes.{Appends};
 ghost use Rattle.am_io.specs.Causes.{Rose};
 ghost use Rattle.am_io.specs.Whole.{IsLonger};
-ghost use Rattle.am_main.specs.Answer.{answer_of};
-ghost use Rattle.am_main.specs.Offers.{Completes, Finds, IsFront, IsGiven, IsOr, Reports, is_step};
-ghost use Rattle.am_scenario.specs.Grammar.{grammar};
-ghost use Rattle.am_scenario_types.specs.declared.parts.Form.TheVariants as Forms;
+ghost use Rattle.am_main.specs.Offers.{Completes, Finds, IsAnswered, IsGiven, IsOffered, Reports, is_step, usage};
 
 use crate::steps::step_text;
 use crate::words::{fault_line, fault_status};
@@ -42,9 +39,7 @@ fn is_step(words: &[String]) -> bool
 
 // Offers a text. The status is its own, or that of a fault of the sink.
 fn offer<K: Sink>(sink: &mut K, number: u8, text: &[u8]) -> Status
-    ensures number { IsOr number result.number }
-    ensures whole { result.number ≢ 5 → result.number ≢ 8 → Appends (K.held sink.old) (K.held sink.new) text.now }
-    ensures front { IsFront (K.held sink.old) (K.held sink.new) text.now }
+    ensures offered { IsOffered (record { status = number; text = text.now }) result.number (K.held sink.old) (K.held sink.new) }
     ensures cause { number ≢ 5 → result.number ≡ 5 → Rose (K.count sink.old) (K.count sink.new) }
     ensures later { K.count sink.old ≤ K.count sink.new }
 {
@@ -57,8 +52,7 @@ fn offer<K: Sink>(sink: &mut K, number: u8, text: &[u8]) -> Status
 
 /// Answers bytes that were read to their end.
 fn answer<K: Sink>(alloc: Global, bytes: &[u8], sink: &mut K) -> Status
-    requires { length bytes.now < 2 ^ 32 - 1 }
-    ensures given { IsGiven (answer_of (grammar Forms.Step bytes.now)) result.number (K.held sink.old) (K.held sink.new) }
+    ensures given { IsGiven bytes.now result.number (K.held sink.old) (K.held sink.new) }
     ensures reports { result.number ≡ 0 → Reports (K.held sink.old) (K.held sink.new) bytes.now }
     ensures cause { result.number ≡ 5 → Rose (K.count sink.old) (K.count sink.new) }
     ensures later { K.count sink.old ≤ K.count sink.new }
@@ -75,7 +69,7 @@ fn answer<K: Sink>(alloc: Global, bytes: &[u8], sink: &mut K) -> Status
 /// Reads the source to its end, and answers.
 fn step<S: Source, K: Sink>(alloc: Global, source: &mut S, sink: &mut K) -> Status
     requires { S.has_ended source.old ≡ false }
-    ensures given { IsOr 4 result.number ⊎ (IsOr 7 result.number ⊎ Finds MOST_BYTES (S.left source.old) (λ bytes. IsGiven (answer_of (grammar Forms.Step bytes)) result.number (K.held sink.old) (K.held sink.new))) }
+    ensures given { IsAnswered MOST_BYTES (S.left source.old) (S.count source.old) (S.count source.new) result.number (K.held sink.old) (K.held sink.new) }
     ensures reports { result.number ≡ 0 → Finds MOST_BYTES (S.left source.old) (Reports (K.held sink.old) (K.held sink.new)) }
     ensures read { result.number ≡ 4 → Rose (S.count source.old) (S.count source.new) }
     ensures write { result.number ≡ 5 → Rose (K.count sink.old) (K.count sink.new) }
@@ -107,12 +101,12 @@ pub fn am2<R: Threads + Sync, S: Source, K: Sink>(
     requires { S.has_ended source.old ≡ false }
     // The headline: the sink took the report of a history that follows the lines and obeys the laws.
     ensures reports { result.number ≡ 0 → Finds MOST_BYTES (S.left source.old) (Reports (K.held sink.old) (K.held sink.new)) }
-    // It is 2 where the words have no form, unless the sink has a fault.
+    // Where the words have no form, the usage line is offered.
+    ensures no_form { is_step (map string_bytes words.now) ≡ false → IsOffered usage result.number (K.held sink.old) (K.held sink.new) }
     ensures usage { result.number ≡ 2 → is_step (map string_bytes words.now) ≡ false }
-    ensures no_form { is_step (map string_bytes words.now) ≡ false → IsOr 2 result.number }
     ensures usage_text { result.number ≡ 2 → Appends (K.held sink.old) (K.held sink.new) (codes "usage: am2 step\n") }
-    // Where no read fails, the answer is the one that the bytes ask for, unless the sink or memory has a fault.
-    ensures given { is_step (map string_bytes words.now) ≡ true → IsOr 4 result.number ⊎ (IsOr 7 result.number ⊎ Finds MOST_BYTES (S.left source.old) (λ bytes. IsGiven (answer_of (grammar Forms.Step bytes)) result.number (K.held sink.old) (K.held sink.new))) }
+    // Else a read failed, the bytes are too many, memory ran out, or the answer is offered that the bytes ask for.
+    ensures given { is_step (map string_bytes words.now) ≡ true → IsAnswered MOST_BYTES (S.left source.old) (S.count source.old) (S.count source.new) result.number (K.held sink.old) (K.held sink.new) }
     // Where no read and no write fails and the bytes aren't too many, the answer is given whole, unless memory runs out.
     ensures complete { is_step (map string_bytes words.now) ≡ true → (Rose (S.count source.old) (S.count source.new) → ⊥) → (Rose (K.count sink.old) (K.count sink.new) → ⊥) → (IsLonger (S.left source.old) MOST_BYTES → ⊥) → Completes MOST_BYTES result.number (S.left source.old) (K.held sink.old) (K.held sink.new) }
     ensures read { result.number ≡ 4 → Rose (S.count source.old) (S.count source.new) }
