@@ -24,8 +24,10 @@ use Rattle.am_office.specs.declared.Entry.{Entry}
 use Rattle.am_office.specs.Entries.{emitted_in, parcel}
 use Rattle.am_model.specs.declared.Flying.{Flying}
 use Rattle.am_model.specs.declared.Queued.{Queued}
-use Rattle.am_model.specs.Endpoint.{State, front, is_on_disk, is_on_host, is_resident, verdict}
-use Rattle.am_model.specs.Allowed.{EndsFlight, MayArrive, MayBind, MayDrain, MayLoad, MayPageIn, MayPageOut, MaySettle, MayUnload, arrival_verdict, arrived_message, is_carry_from, message_in, verdict_in}
+use Rattle.am_office.specs.declared.Place.{Place}
+use Rattle.am_office.specs.declared.Place.TheVariants.{Direct, Disk, Frame, Host}
+use Rattle.am_model.specs.Endpoint.{State, front, is_direct, is_in_a_frame, is_on_disk, is_on_host, is_resident, verdict}
+use Rattle.am_model.specs.Allowed.{EndsFlight, MayArrive, MayBind, MayDrain, MayLoad, MayPageIn, MayPageOut, MaySettle, MayUnload, arrival_verdict, arrived_message, is_carry_from, is_network_of, message_in, verdict_in}
 use Rattle.am_model.specs.Changes.{flying_of}
 use Rattle.am_model.specs.Channels.{Arrival, Stale, Again, Fresh, attempt, bound_message, sequence}
 use Rattle.am_model.specs.History.{bind_to, bounced, decided, is_answered, next_number, sent, settle_by}
@@ -38,6 +40,13 @@ use Rattle.am_local.specs.Driver.{DriverLog, driver_of, end_moved, failing_move,
 use Rattle.am_local.specs.Granted.{IsInFlight, IsMoveOf, IsWorkAt, MayDo, MayMove}
 use Rattle.am_local.specs.Interface.{InterfaceLog, arrival_in, arrive_at, bind_at, channel_by_home, channel_in, channel_of_front, event_of, expire_at, failing_at, has_try_left, home_in, home_of_front, is_home_in, needs_arrival, needs_bound, outcome_at, receiver, settle_at, settles}
 use Rattle.am_local.proofs.Frames.{none_holds, not_not}
+
+-- what is resident on the packet network lies in a frame
+in_a_frame : (place : Place) → is_resident place ≡ true → is_direct place ≡ false → is_in_a_frame place ≡ true
+in_a_frame (Frame frame) there packet = refl
+in_a_frame Direct there packet = absurd (cc)
+in_a_frame Host there packet = absurd (cc)
+in_a_frame Disk there packet = absurd (cc)
 
 -- ---- arrivals
 
@@ -68,6 +77,7 @@ arrives i e s p x w = by_arrival (arrival_in i p.from p.channel p.seq p.attempt)
           is_message = (λ k. arrived_message (w.event k) (is k)) ∙ told (verdict s p.message);
           judged = (λ k. arrival_verdict (w.event k) (is k)) ∙ given (verdict s p.message);
           here = ap (λ (d : EndpointId). same_end e d) dest ∙ same_end-refl e;
+          network = ap (λ (v : Event). is_network_of v s.head.place) w.event ∙ ap not w.packet;
           formed = w.fits;
           elsewhere = ap (is_carry_from e) w.event;
         }
@@ -224,7 +234,7 @@ binds_front i e end s x w = by_front (front s) refl (ready_to_bind i s end w.ena
           seq = goes.seq;
           number = goes.number;
           event = w.event ∙ ap (Events.Bind i.settings.node) same;
-          resident = ready.resident;
+          framed = in_a_frame s.head.place ready.resident w.packet;
           undrained = ready.undrained;
           is_front = at;
           outcome = is ∙ goes.outcome;
@@ -265,7 +275,7 @@ move_granted d e s x m = by_event x.event refl m.driver m.end m.enabled m.outcom
         let a = none_holds (not (is_end_of d end)) Needs.OtherNode ((not (is_resident s.head.place), Needs.NotResident) ∷ rest) on in
         let b = none_holds (not (is_resident s.head.place)) Needs.NotResident rest a.1 in
         let c = none_holds s.head.draining Needs.Draining [] b.1 in
-        record { event = is ∙ λ k. Events.Drain (by k) (of k); outcome = o; resident = not_not (is_resident s.head.place) b.0; undrained = c.0 }
+        record { event = is ∙ λ k. Events.Drain (by k) (of k); outcome = o; framed = in_a_frame s.head.place (not_not (is_resident s.head.place) b.0) m.packet; undrained = c.0 }
 
     unloads : (at : NodeId) (end : EndpointId) → x.event ≡ Events.Unload at end → at ≡ node → end ≡ e → failing_move d s (Events.Unload at end) ≡ None → x.outcome ≡ Out.Silent → MayUnload node e s x
     unloads at end is by of on o =
@@ -278,7 +288,7 @@ move_granted d e s x m = by_event x.event refl m.driver m.end m.enabled m.outcom
         record {
           event = is ∙ λ k. Events.Unload (by k) (of k);
           outcome = o;
-          resident = not_not (is_resident s.head.place) b.0;
+          framed = in_a_frame s.head.place (not_not (is_resident s.head.place) b.0) m.packet;
           draining = not_not s.head.draining c.0;
           landed = eqb-true (length s.body.in_flight) 0 (not_not (length s.body.in_flight == 0) f.0);
         }

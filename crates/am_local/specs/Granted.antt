@@ -1,5 +1,5 @@
 -- What an interface or a driver gives to an endpoint is what the endpoint may be given.
-use Rattle.std.specs.Prelude.{◌≡◌, true, Option, Some, None, is_some}
+use Rattle.std.specs.Prelude.{◌≡◌, true, false, Option, Some, None, is_some}
 use Rattle.am_names.specs.declared.EndpointId.{EndpointId}
 use Rattle.am_names.specs.declared.NodeId.{NodeId}
 use Rattle.am_names.specs.declared.Message.{Message}
@@ -7,7 +7,7 @@ use Rattle.am_names.specs.declared.Packet.TheVariants as Packets
 use Rattle.am_office.specs.declared.Event.{Event}
 use Rattle.am_office.specs.declared.Event.TheVariants as Events
 use Rattle.am_office.specs.declared.Entry.{Entry}
-use Rattle.am_model.specs.Endpoint.{State}
+use Rattle.am_model.specs.Endpoint.{State, is_direct}
 use Rattle.am_model.specs.Allowed.{MayArrive, MayBind, MayDrain, MayLoad, MayPageIn, MayPageOut, MaySettle, MayUnload, is_well_formed}
 use Rattle.am_model.specs.Changes.{flying_of}
 use Rattle.am_model.specs.Channels.{bound_message}
@@ -29,13 +29,15 @@ FitsEndpoint i s (Works.Receive (Packets.Answer p)) = IsInFlight s (bound_messag
 FitsEndpoint i s (Works.Bind end) = Unit {0}
 FitsEndpoint i s (Works.Expire peer channel) = IsInFlight s (bound_message (channel_in i peer channel) i.log)
 
--- the entry is the work's at the endpoint e, which the work touches and which is in this state
+-- the entry is the work's at the endpoint e, which the work touches, which is in this state, and which is no endpoint of the
+-- direct network
 pub record IsWorkAt (i : InterfaceLog) (e : EndpointId) (s : State) (w : Work) (x : Entry) : Type 0 where
   pub needs : needs i w ≡ Some e
   pub enabled : failing_at i s w ≡ None
   pub event : x.event ≡ event_of i.settings.node w
   pub outcome : x.outcome ≡ outcome_at i s w
   pub fits : FitsEndpoint i s w
+  pub packet : is_direct s.head.place ≡ false
 
 -- the endpoint e may be given the entry: as an arrival, as a bind of its front message, or as the end of a flight
 abbrev pub MayDo : InterfaceLog → EndpointId → State → Work → Entry → Type 0
@@ -44,12 +46,13 @@ MayDo i e s (Works.Receive (Packets.Answer p)) x = MaySettle i.settings.bounces 
 MayDo i e s (Works.Bind end) x = MayBind i.settings.node e s x
 MayDo i e s (Works.Expire peer channel) x = MaySettle i.settings.bounces e s x
 
--- the entry is the driver's move of the endpoint e, which is in this state
+-- the entry is the driver's move of the endpoint e, which is in this state, and is no endpoint of the direct network
 pub record IsMoveOf (d : DriverLog) (e : EndpointId) (s : State) (x : Entry) : Type 0 where
   pub driver : driver_of x.event ≡ Some d.settings.node
   pub end : end_moved x.event ≡ Some e
   pub enabled : failing_move d s x.event ≡ None
   pub outcome : x.outcome ≡ outcome_move d x.event
+  pub packet : is_direct s.head.place ≡ false
 
 -- the endpoint e may be given the entry, as the kind of move that it is
 abbrev pub MayMove : NodeId → EndpointId → State → Entry → Event → Type 0
