@@ -4,9 +4,9 @@
 ghost use Rattle.std.specs.Prelude.{◌≡◌, IfOk, map, find};
 ghost use Rattle.am_bundle.specs.Calls.{poll_calls, test_calls, is_among, readiness};
 
-use am_names::EndpointId;
+use am_names::{EndpointId, NoMemory};
 use am_office::{Call, Mask};
-use std::alloc::{AllocError, Global};
+use std::alloc::Global;
 use std::marker::Model;
 
 /// Endpoints of one node, in the order in which they are polled.
@@ -38,15 +38,15 @@ pub enum Readiness {
 }
 
 impl Bundle {
-    /// One poll for each member, in the bundle's order.
-    pub fn poll_calls(&self, alloc: Global) -> Result<Vec<(EndpointId, Call)>, AllocError>
+    /// One poll for each member, in the bundle's order. `NoMemory` leaves the bundle as it is.
+    pub fn poll_calls(&self, alloc: Global) -> Result<Vec<(EndpointId, Call)>, NoMemory>
         ensures { IfOk result (λ calls. calls.items ≡ poll_calls self.now) }
     {
         each_with(alloc, &self.members, Call::Poll)
     }
 
-    /// One test of the bundle's mask for each member, in the bundle's order.
-    pub fn test_calls(&self, alloc: Global) -> Result<Vec<(EndpointId, Call)>, AllocError>
+    /// One test of the bundle's mask for each member, in the bundle's order. `NoMemory` leaves the bundle as it is.
+    pub fn test_calls(&self, alloc: Global) -> Result<Vec<(EndpointId, Call)>, NoMemory>
         ensures { IfOk result (λ calls. calls.items ≡ test_calls self.now) }
     {
         each_with(alloc, &self.members, Call::Test(self.mask))
@@ -70,7 +70,7 @@ fn each_with(
     alloc: Global,
     members: &[EndpointId],
     call: Call,
-) -> Result<Vec<(EndpointId, Call)>, AllocError>
+) -> Result<Vec<(EndpointId, Call)>, NoMemory>
     ensures { IfOk result (λ calls. calls.items ≡ map (λ member. (member, call)) members.now) }
 {
     let mut calls = Vec::with_capacity(alloc, members.len())?;

@@ -137,7 +137,8 @@ impl Draft {
             .count()
     }
 
-    /// Adds what a line says.
+    /// Adds what a line says. Where memory runs out some of the line's calls may have been added, so the draft is of no
+    /// further use.
     pub fn add(&mut self, number: u32, line: Line) -> Result<(), AllocError>
         ensures { OnOk result (said self.new ≡ with_line number (said self.old) line) }
     {

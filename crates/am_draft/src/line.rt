@@ -2,7 +2,7 @@ ghost use Rattle.std.specs.Prelude.{◌≡◌};
 ghost use Rattle.am_draft.specs.declared.line.LineFault.TheVariants as faults;
 
 use crate::settings::{Setting, Version};
-use am_names::EndpointId;
+use am_names::{EndpointId, NoMemory};
 use am_office::{Call, Event};
 use am_scenario_types::{Bundle, EndLine, FaultLine, PlanLine, ScriptCall, ThreadLine, What};
 use std::alloc::{AllocError, AllocFailed};
@@ -60,6 +60,14 @@ impl From<AllocError> for LineFault {
     ghost from_gives = { λ _ e. e ≡ faults.NoMemory };
 
     fn from(_e: AllocError) -> LineFault {
+        LineFault::NoMemory
+    }
+}
+
+impl From<NoMemory> for LineFault {
+    ghost from_gives = { λ _ e. e ≡ faults.NoMemory };
+
+    fn from(_e: NoMemory) -> LineFault {
         LineFault::NoMemory
     }
 }

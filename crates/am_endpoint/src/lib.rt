@@ -6,7 +6,6 @@ ghost use Rattle.am_endpoint.specs.View.{EndpointView, last_stamp, state_after};
 ghost use Rattle.am_model.specs.Allowed.{MayArrive, MayBind, MayCarry, MayDrain, MayLoad, MayPageIn, MayPageOut, MaySettle, MayUnload, are_numbers_in_range, is_well_formed};
 ghost use Rattle.am_model.specs.Calls.{outcome_of_call};
 ghost use Rattle.am_model.specs.Changes.{flying_of, has_arrivals};
-ghost use Rattle.am_model.specs.History.{judged};
 ghost use Rattle.am_model.specs.Endpoint.{front, is_on_disk, verdict};
 ghost use Rattle.am_model.specs.Order.{KeepsOrder};
 ghost use Rattle.am_names.specs.Names.{is_request};
@@ -21,8 +20,9 @@ mod flights;
 mod settings;
 
 use crate::fields::Fields;
-pub use crate::settings::{EndFault, EndSettings, NoMemory};
+pub use crate::settings::{EndFault, EndSettings};
 use am_model::Queued;
+pub use am_names::NoMemory;
 use am_names::{EndpointId, Message, NodeId, Serial, Verdict};
 use am_office::{Actor, Call, Entry, Event, Outcome, Place};
 use std::alloc::{AllocError, Global};
@@ -286,29 +286,6 @@ impl Endpoint {
         ensures log { self.new.log ≡ self.old.log ++ entry ∷ [] }
     {
         self.enter(entry);
-    }
-
-    /// What comes of a carry of a message of its own that the destination judged.
-    pub fn carry_outcome(&self, queued: Queued, verdict: Verdict) -> Outcome
-        ensures { result ≡ judged self.now.settings.bounces queued.message queued.bounces verdict }
-    {
-        match verdict {
-            Verdict::Accepted => Outcome::Accepted(queued.message),
-            Verdict::Refused(cause) => if cause.transient()
-                && queued.bounces < self.settings.bounces
-            {
-                Outcome::Requeued {
-                    message: queued.message,
-                    cause,
-                    used: queued.bounces + 1,
-                }
-            } else {
-                Outcome::Returned {
-                    message: queued.message,
-                    cause,
-                }
-            },
-        }
     }
 
     /// What a carry of its front message makes of it: the source's change, and where it is the

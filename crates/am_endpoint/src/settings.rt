@@ -26,7 +26,3 @@ pub enum EndFault {
     /// There is no memory for one more entry.
     NoMemory,
 }
-
-/// There is no memory.
-#[derive(Clone, Copy, PartialEq, Eq, Debug)]
-pub struct NoMemory;

@@ -7,7 +7,7 @@ ghost use Rattle.am_generator.specs.Scenarios.{ends_below, threads_below, genera
 
 use crate::calls::make_script;
 use crate::plan::make_plan;
-use am_names::{EndpointId, NodeId, Tag};
+use am_names::{EndpointId, NoMemory, NodeId, Tag};
 use am_scenario_types::{EndLine, Network, Scenario, ThreadLine};
 use rand_pcg::Lcg64Xsh32;
 use std::alloc::{AllocError, Global};
@@ -44,7 +44,8 @@ fn make_threads(alloc: Global, count: u8) -> Result<Vec<ThreadLine>, AllocError>
 
 /// The scenario of a number: twelve endpoints and eight threads on four nodes, 1,744 calls, and up to 32 packets that
 /// are lost, repeated or late, all by the words of the generator `Lcg64Xsh32` with this state and the stream 54.
-pub fn generate(alloc: Global, n: u64) -> Result<Scenario, AllocError>
+/// `NoMemory` comes only for want of memory.
+pub fn generate(alloc: Global, n: u64) -> Result<Scenario, NoMemory>
     ensures exact { IfOk result (λ scenario. scenario ≡ generated n) }
     ensures lawful { IfOk result IsLawful }
     ensures of_form { IfOk result (IsOfForm Run) }

@@ -1,8 +1,8 @@
-//! Every message of a history comes from a declared endpoint and goes to one. Each law is the contract of a function with
+//! Every message of a history comes from a declared endpoint and goes to one, and endpoints lie where their network has them. Each law is the contract of a function with
 //! an empty body.
 #![tactic(auto)]
 
-ghost use Rattle.am_laws_homes.specs.Homes.{IsAddressed};
+ghost use Rattle.am_laws_homes.specs.Homes.{FitsNetwork, IsAddressed};
 ghost use Rattle.am_model.specs.Endpoint.{front};
 ghost use Rattle.am_model.specs.History.{IsHistory, state_of};
 ghost use Rattle.am_model.specs.Layout.{Layout};
@@ -21,4 +21,9 @@ pub fn messages_are_addressed()
 /// So the front message of an endpoint has a destination.
 pub fn front_is_addressed()
     ensures { (layout : Layout) (past : List Entry) → IsHistory layout past → (e : EndpointId) (q : Queued) → front (state_of layout past e) ≡ Some q → IsAddressed layout q.message }
+{}
+
+/// Endpoints lie in the direct network where the cluster is one, and nowhere else.
+pub fn places_fit_the_network()
+    ensures { (layout : Layout) (past : List Entry) → IsHistory layout past → FitsNetwork layout past }
 {}

@@ -22,7 +22,7 @@ use Rattle.am_model.specs.History.{MayFollow, EachAfter, IsHistory, is_in_range,
 use Rattle.am_model.specs.Steps.{FollowsSteps, Made, Stop, stop, stop_by, full_log, step_entry, made, made_by, made_from}
 use Rattle.am_model.proofs.Each.{each_push}
 use Rattle.am_model.proofs.Ends.{EmittedIn, was_emitted}
-use Rattle.am_laws_steps.specs.Laws.{AreBelow, Walked, AreInRange, StopsAt, IsMade}
+use Rattle.am_laws_steps.specs.Laws.{AreBelow, Walked, AreInRange, StopsAt, IsUnstopped, IsMade}
 
 below_more : (n k : ℕ) (xs : List Entry) → n ≤ k → AreBelow n xs → AreBelow k xs
 below_more n k [] le h = tt
@@ -130,15 +130,17 @@ events_of xs = map (λ (x : Entry). x.event) xs
 pub record Reaches (layout : Layout) (past : List Entry) (events : List Event) (m : Made) : Type 0 where
   pub count : ℕ
   pub walked : Walked layout m.journal
+  pub unstopped : EachAfter (IsUnstopped layout) [] m.journal
   pub longer : length m.journal ≡ length past + count
   pub in_order : events_of m.journal ≡ events_of past ++ take count events
   pub whole : m.stopped ≡ None → count ≡ length events
   pub stopped : (why : Stop) → m.stopped ≡ Some why → StopsAt layout m.journal (slice_get events count) why
 
-pub reaches : (layout : Layout) (past : List Entry) (events : List Event) → Walked layout past → AreInRange layout events → Reaches layout past events (made_from layout past events)
-reaches layout past [] w range =
-    record { count = 0; walked = w; longer = omega arith; in_order = sym (append-nil (events_of past)); whole = λ h. refl; stopped = λ why h. absurd (cc) }
-reaches layout past (event ∷ events) w range = by_stop (stop layout past event) refl (λ more. reaches layout (past ++ step_entry layout past event ∷ []) events more range.1)
+pub reaches : (layout : Layout) (past : List Entry) (events : List Event) → Walked layout past → EachAfter (IsUnstopped layout) [] past → AreInRange layout events → Reaches layout past events (made_from layout past events)
+reaches layout past [] w free range =
+    record { count = 0; walked = w; unstopped = free; longer = omega arith; in_order = sym (append-nil (events_of past)); whole = λ h. refl; stopped = λ why h. absurd (cc) }
+reaches layout past (event ∷ events) w free range =
+    by_stop (stop layout past event) refl (λ more on. reaches layout (past ++ step_entry layout past event ∷ []) events more on range.1)
   where
     x : Entry
     x = step_entry layout past event
@@ -146,11 +148,12 @@ reaches layout past (event ∷ events) w range = by_stop (stop layout past event
     rest : Made
     rest = made_from layout (past ++ x ∷ []) events
 
-    by_stop : (s : Option Stop) → stop layout past event ≡ s → (Walked layout (past ++ x ∷ []) → Reaches layout (past ++ x ∷ []) events rest) → Reaches layout past (event ∷ events) (made_by s past rest)
+    by_stop : (s : Option Stop) → stop layout past event ≡ s → (Walked layout (past ++ x ∷ []) → EachAfter (IsUnstopped layout) [] (past ++ x ∷ []) → Reaches layout (past ++ x ∷ []) events rest) → Reaches layout past (event ∷ events) (made_by s past rest)
     by_stop (Some why) is further =
         record {
           count = 0;
           walked = w;
+          unstopped = free;
           longer = omega arith;
           in_order = sym (append-nil (events_of past));
           whole = λ h. absurd (cc);
@@ -158,10 +161,11 @@ reaches layout past (event ∷ events) w range = by_stop (stop layout past event
         }
     by_stop None is further =
         let enabled = no_condition (failing layout past event) (full_log layout past event) is in
-        let r = further (walked_more layout past event w range.0 enabled) in
+        let r = further (walked_more layout past event w range.0 enabled) (each_push (IsUnstopped layout) [] past x free is) in
         record {
           count = suc r.count;
           walked = r.walked;
+          unstopped = r.unstopped;
           longer = omega (arith, r.longer, length_push past x);
           in_order =
               r.in_order
@@ -173,11 +177,12 @@ reaches layout past (event ∷ events) w range = by_stop (stop layout past event
 
 pub is_made : (layout : Layout) (events : List Event) → AreInRange layout events → IsMade layout events (made layout events)
 is_made layout events range =
-    let r = reaches layout [] events (record { history = tt; stamped = refl; below = tt }) range in
+    let r = reaches layout [] events (record { history = tt; stamped = refl; below = tt }) tt range in
     let same : r.count ≡ length (made layout events).journal = omega (arith, r.longer) in
     record {
       history = r.walked.history;
       follows = record { in_order = r.in_order ∙ ap (λ (k : ℕ). take k events) same; stamped = r.walked.stamped };
+      unstopped = r.unstopped;
       whole = λ h. sym same ∙ r.whole h;
       stopped = λ why h. subst (λ (k : ℕ). StopsAt layout (made layout events).journal (slice_get events k) why) same (r.stopped why h);
     }
@@ -208,3 +213,41 @@ histories_agree layout events one other h f k g =
     same_length [] (y ∷ ys) e = absurd (cc)
     same_length (x ∷ xs) [] e = absurd (cc)
     same_length (x ∷ xs) (y ∷ ys) e = let events : events_of xs ≡ events_of ys = cc in ap suc (same_length xs ys events)
+
+-- ---- one answer
+
+-- these entries, which follow the steps from here on, are all that the steps make
+follows_made : (layout : Layout) (past ys : List Entry) (events : List Event) (stopped : Option Stop)
+    → EachAfter (MayFollow layout) past ys → EachAfter (IsUnstopped layout) past ys → events_of ys ≡ take (length ys) events
+    → map (λ (y : Entry). y.stamp) ys ≡ range_with_len (length past + 1) (length ys)
+    → (stopped ≡ None → length ys ≡ length events) → ((why : Stop) → stopped ≡ Some why → StopsAt layout (past ++ ys) (slice_get events (length ys)) why)
+    → record { journal = past ++ ys; stopped = stopped } ≡ made_from layout past events
+follows_made layout past [] [] None h free e s whole stops = ap (λ (j : List Entry). record { journal = j; stopped = None }) (append-nil past)
+follows_made layout past [] [] (Some why) h free e s whole stops = absurd (stops why refl)
+follows_made layout past [] (event ∷ events) None h free e s whole stops = let none : 0 ≡ suc (length events) = whole refl in absurd (cc)
+follows_made layout past [] (event ∷ events) (Some why) h free e s whole stops =
+    let at : stop layout past event ≡ Some why = subst (λ (j : List Entry). stop layout j event ≡ Some why) (append-nil past) (stops why refl) in
+    ap (λ (j : List Entry). record { journal = j; stopped = Some why }) (append-nil past)
+    ∙ sym (ap (λ (o : Option Stop). made_by o past (made_from layout (past ++ step_entry layout past event ∷ []) events)) at)
+follows_made layout past (y ∷ ys) [] stopped h free e s whole stops = absurd (cc)
+follows_made layout past (y ∷ ys) (event ∷ events) stopped h free e s whole stops =
+    let is : y.event ≡ event = cc in
+    let later : events_of ys ≡ take (length ys) events = cc in
+    let stamp : y.stamp ≡ length past + 1 = cc in
+    let stamps : map (λ (z : Entry). z.stamp) ys ≡ range_with_len (length past + 1 + 1) (length ys) = cc in
+    let outcome : y.outcome ≡ outcome_of layout past event = h.0.outcome ∙ ap (outcome_of layout past) is in
+    let one : y ≡ step_entry layout past event = λ i. record { stamp = stamp i; event = is i; outcome = outcome i } in
+    let runs : stop layout past event ≡ None = subst (λ (v : Event). stop layout past v ≡ None) is free.0 in
+    let longer : length past + 1 + 1 ≡ length (past ++ y ∷ []) + 1 = omega (arith, length_push past y) in
+    let all : past ++ y ∷ ys ≡ (past ++ y ∷ []) ++ ys = sym (append_assoc past (y ∷ []) ys) in
+    let rest =
+    follows_made layout (past ++ y ∷ []) ys events stopped h.1 free.1 later (stamps ∙ ap (λ (n : ℕ). range_with_len n (length ys)) longer)
+    (λ none. let same : suc (length ys) ≡ suc (length events) = whole none in omega (arith, same))
+    (λ why is. subst (λ (j : List Entry). StopsAt layout j (slice_get events (length ys)) why) all (stops why is)) in
+    ap (λ (j : List Entry). record { journal = j; stopped = stopped }) all
+    ∙ rest
+    ∙ ap (λ (z : Entry). made_from layout (past ++ z ∷ []) events) one
+    ∙ sym (ap (λ (o : Option Stop). made_by o past (made_from layout (past ++ step_entry layout past event ∷ []) events)) runs)
+
+pub made_alone : (layout : Layout) (events : List Event) (m : Made) → IsMade layout events m → m ≡ made layout events
+made_alone layout events m h = follows_made layout [] m.journal events m.stopped h.history h.unstopped h.follows.in_order h.follows.stamped h.whole h.stopped

@@ -1,10 +1,10 @@
 -- What the steps of a script make, in other words.
-use Rattle.std.specs.Prelude.{◌≡◌, ℕ, ◌+◌, ◌<◌, true, Option, Some, None, List, map, length, take, slice_get}
+use Rattle.std.specs.Prelude.{◌≡◌, ℕ, ◌+◌, ◌<◌, true, Option, Some, None, List, [], map, length, take, slice_get}
 use Rattle.std.specs.List.{range_with_len}
 use Rattle.am_office.specs.declared.Event.{Event}
 use Rattle.am_office.specs.declared.Entry.{Entry}
 use Rattle.am_model.specs.Layout.{Layout, AllAre}
-use Rattle.am_model.specs.History.{IsHistory, is_in_range}
+use Rattle.am_model.specs.History.{EachAfter, IsHistory, is_in_range}
 use Rattle.am_model.specs.Steps.{FollowsSteps, Made, Stop, stop}
 
 -- each stamp is below this number
@@ -26,9 +26,15 @@ abbrev pub StopsAt : Layout → List Entry → Option Event → Stop → Type 0
 StopsAt layout past None why = ⊥
 StopsAt layout past (Some event) why = stop layout past event ≡ Some why
 
--- the journal is a history that follows the steps: all of them, or those before the first that is stopped
+-- nothing stopped the event of this entry
+abbrev pub IsUnstopped : Layout → List Entry → Entry → Type 0
+IsUnstopped layout past x = stop layout past x.event ≡ None
+
+-- The journal is a history that follows the steps: all of them, or those before the first that is stopped. No step before
+-- that one is stopped, neither by a condition nor by a full log.
 pub record IsMade (layout : Layout) (events : List Event) (m : Made) : Type 0 where
   pub history : IsHistory layout m.journal
   pub follows : FollowsSteps (take (length m.journal) events) m.journal
+  pub unstopped : EachAfter (IsUnstopped layout) [] m.journal
   pub whole : m.stopped ≡ None → length m.journal ≡ length events
   pub stopped : (why : Stop) → m.stopped ≡ Some why → StopsAt layout m.journal (slice_get events (length m.journal)) why

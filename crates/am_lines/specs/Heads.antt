@@ -77,7 +77,7 @@ section_of (head.OfThread number) = 4
 section_of (head.OfInterface number) = 4
 section_of (head.OfDriver number) = 4
 
--- Plans and threads are for runs, single events for steps.
+-- Plans and the calls of threads are for runs, single events for steps. All other lines are for both.
 abbrev pub is_of_form : Form → Head → Bool
 is_of_form Step head.Plan = false
 is_of_form Step (head.OfThread number) = false

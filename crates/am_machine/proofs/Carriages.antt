@@ -17,10 +17,11 @@ use Rattle.am_office.specs.declared.Outcome.TheVariants as Out
 use Rattle.am_office.specs.declared.Entry.{Entry}
 use Rattle.am_office.specs.Entries.{ends_touched, touches}
 use Rattle.am_model.specs.declared.Queued.{Queued}
-use Rattle.am_model.specs.Allowed.{MayArrive, MayCarry, arrival_verdict, arrived_message, is_carry_from, is_well_formed}
-use Rattle.am_model.specs.Endpoint.{State, front, verdict}
+use Rattle.am_model.specs.Allowed.{MayArrive, MayCarry, arrival_verdict, arrived_message, is_carry_from, is_network_of, is_well_formed}
+use Rattle.am_model.specs.Endpoint.{State, front, is_direct, verdict}
 use Rattle.am_model.specs.Layout.{Layout, declared}
 use Rattle.am_laws_homes.proofs.Homes.{front_addressed}
+use Rattle.am_laws_homes.proofs.Places.{fits_network}
 use Rattle.am_model.specs.History.{is_in_range, carry, judged, outcome_of, state_of}
 use Rattle.am_model.specs.Steps.{stop, step_entry, lesser, is_end_full}
 use Rattle.am_model.proofs.Names.{same_end-is, same_end-refl}
@@ -145,6 +146,14 @@ carriage_next c x is new longer ends more =
 
 -- ---- what the two endpoints are handed
 
+-- a declared endpoint lies in the direct network
+lies_direct : (c : Carriage) (e : EndpointId) (s : State) → s ≡ state_of (layout_of c) c.journal e → declared (layout_of c) e ≡ true → is_direct s.head.place ≡ true
+lies_direct c e s is known =
+    ap (λ (st : State). is_direct st.head.place) is
+    ∙ fits_network (layout_of c) c.journal c.tied.walked.history e
+    ∙ ap (λ (b : Bool). b && declared (layout_of c) e) c.direct
+    ∙ known
+
 less_of : (a b : ℕ) → nat_le a b ≡ false → b < a
 less_of a b h = leb-false a b h
 
@@ -173,6 +182,7 @@ carriage_carries c x is us same ready w now =
             queued = c.queued;
             verdict_there = c.there;
             event = is.event ∙ ap (λ (e : EndpointId). Events.Carry e) (sym (ap (λ (z : EndSettings). z.id) set ∙ c.source.id));
+            direct = lies_direct c c.end (state_after w) (state ∙ state_here (layout_of c) c.ends c.journal c.end c.from c.one c.tied c.source) c.in_range;
             is_front = ap front state ∙ c.is_front;
             outcome = is.outcome ∙ ap (λ (b : ℕ). judged b c.queued.message c.queued.bounces c.there) (sym (ap (λ (e : EndLog). e.settings.bounces) as' ∙ own.bounces));
             here = λ at_home.
@@ -202,6 +212,10 @@ carriage_arrives c x is us same ready apart w now =
             is_message = (λ i. arrived_message (is.event i) (is.outcome i)) ∙ came.0;
             judged = (λ i. arrival_verdict (is.event i) (is.outcome i)) ∙ came.1 ∙ ap (λ (v : Verdict). Some v) (c.judged_there ∙ ap (λ (st : State). verdict st c.queued.message) (sym state));
             here = ap (λ (e : EndpointId). same_end e c.queued.message.dest) (id ∙ c.dest.id) ∙ same_end-refl c.queued.message.dest;
+            network =
+                ap (λ (e : Event). is_network_of e (state_after w).head.place) is.event
+                ∙ lies_direct c c.queued.message.dest (state_after w) (state ∙ state_here (layout_of c) c.ends c.journal c.queued.message.dest c.to c.two c.tied c.dest)
+                (front_addressed (layout_of c) c.journal c.tied.walked.history c.end c.queued (front_there c)).dest;
             formed = c.formed;
             elsewhere =
                 ap (λ (e : Event). is_carry_from w.settings.id e) is.event

@@ -36,10 +36,7 @@ fn open_end(alloc: Global, settings: &Settings, line: &EndLine) -> Result<Endpoi
         bounces: settings.bounces,
         pool: settings.pool,
     };
-    match Endpoint::new(alloc, set) {
-        Ok(end) => Ok(end),
-        Err(_) => Err(NoMemory),
-    }
+    Endpoint::new(alloc, set)
 }
 
 /// The fresh endpoints of a cluster, in the order of their lines.

@@ -21,7 +21,7 @@ use Rattle.am_office.specs.declared.Received.TheVariants as Got
 use Rattle.am_office.specs.declared.Entry.{Entry}
 use Rattle.am_model.specs.declared.Flying.{Flying}
 use Rattle.am_model.specs.declared.Queued.{Queued}
-use Rattle.am_model.specs.Endpoint.{State, fresh, front, is_on_disk, is_on_host, is_resident}
+use Rattle.am_model.specs.Endpoint.{State, fresh, front, is_on_disk, is_on_host, is_in_a_frame}
 use Rattle.am_model.specs.Calls.{outcome_of_call}
 use Rattle.am_model.specs.Changes.{after, bound, called, carried, changed, expired, left, paged_in, paged_out, put, reached, received, with_marked}
 use Rattle.am_model.specs.Allowed.{EndsFlight, MayArrive, MayBind, MayCarry, MayDrain, MayLoad, MayPageIn, MayPageOut, MaySettle, MayUnload, are_numbers_in_range, arrived_message, is_well_formed}
@@ -72,7 +72,7 @@ parts_of pool e s order =
       matched = record { each = v.each_answer; all = v.all_answers };
     }
 
-in_order : (pool : Option ℕ) (e : EndpointId) (s : State) → IsSound pool s.body → Parts e pool s.body → (is_resident s.head.place ≡ false → s.body.in_flight ≡ []) → IsInOrder pool e s
+in_order : (pool : Option ℕ) (e : EndpointId) (s : State) → IsSound pool s.body → Parts e pool s.body → (is_in_a_frame s.head.place ≡ false → s.body.in_flight ≡ []) → IsInOrder pool e s
 in_order pool e s sound p grounded =
     record {
       within = sound.within;
@@ -99,7 +99,7 @@ in_order pool e s sound p grounded =
 
 order_put : (pool : Option ℕ) (e : EndpointId) (s t : State) → StaysPut s t → IsSound pool t.body → Parts e pool t.body → IsInOrder pool e s → IsInOrder pool e t
 order_put pool e s t stays sound p order =
-    in_order pool e t sound p (λ there. stays.flights (order.grounded (sym (ap is_resident stays.place) ∙ there)))
+    in_order pool e t sound p (λ there. stays.flights (order.grounded (sym (ap is_in_a_frame stays.place) ∙ there)))
 
 called_put : (s : State) (c : Call) (o : Outcome) → StaysPut s (called s c o)
 called_put s (Calls.Request index handler words) (Out.Requested m) = record { place = refl; flights = λ none. none }
@@ -194,7 +194,7 @@ resident_only b is not_so = true≢false (sym is ∙ not_so)
 pub order_bound : (limit : ℕ) (pool : Option ℕ) (node : NodeId) (e : EndpointId) (s : State) (x : Entry) → MayBind node e s x → KeepsOrder limit pool e s x
 order_bound limit pool node e s x may le order =
     rw (may.event, may.outcome)
-    (in_order pool e (bound s (Out.Sent may.queued.message may.peer may.channel may.seq 0 may.number)) (sound_bound pool s may.queued may.peer may.channel may.seq 0 may.number may.is_front (sound_of pool e s order)) (bound_parts pool e s may.queued may.peer may.channel may.seq 0 may.number may.is_front (parts_of pool e s order)) (λ there. absurd (resident_only (is_resident s.head.place) may.resident there)))
+    (in_order pool e (bound s (Out.Sent may.queued.message may.peer may.channel may.seq 0 may.number)) (sound_bound pool s may.queued may.peer may.channel may.seq 0 may.number may.is_front (sound_of pool e s order)) (bound_parts pool e s may.queued may.peer may.channel may.seq 0 may.number may.is_front (parts_of pool e s order)) (λ there. absurd (resident_only (is_in_a_frame s.head.place) may.framed there)))
 
 pub order_wanted : (pool : Option ℕ) (e : EndpointId) (s : State) → IsInOrder pool e s → IsInOrder pool e (record s { head = record s.head { wanted = true } })
 order_wanted pool e s order = record { within = order.within; valid = order.valid; grounded = order.grounded }
@@ -212,13 +212,13 @@ order_unloaded limit pool node e s x may le order = rw may.event (record { withi
 pub order_loaded : (limit : ℕ) (pool : Option ℕ) (node : NodeId) (e : EndpointId) (s : State) (x : Entry) → MayLoad node e s x → KeepsOrder limit pool e s x
 order_loaded limit pool node e s x may le order = rw may.event (record { within = order.within; valid = order.valid; grounded = λ there. absurd (resident_only true refl there) })
 
-host_grounded : (place : Place) → is_on_host place ≡ true → is_resident place ≡ false
+host_grounded : (place : Place) → is_on_host place ≡ true → is_in_a_frame place ≡ false
 host_grounded Host is = refl
 host_grounded Disk is = refl
 host_grounded (Frame frame) is = absurd (cc)
 host_grounded Direct is = absurd (cc)
 
-disk_grounded : (place : Place) → is_on_disk place ≡ true → is_resident place ≡ false
+disk_grounded : (place : Place) → is_on_disk place ≡ true → is_in_a_frame place ≡ false
 disk_grounded Host is = refl
 disk_grounded Disk is = refl
 disk_grounded (Frame frame) is = absurd (cc)

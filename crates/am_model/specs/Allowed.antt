@@ -1,5 +1,5 @@
 -- What an endpoint may be given at a state, and what its body keeps.
-use Rattle.std.specs.Prelude.{◌≡◌, ℕ, Bool, true, false, ◌==◌, ◌&&◌, Option, Some, None, is_none, is_some, length, ◌⊎◌, if◌then◌else◌}
+use Rattle.std.specs.Prelude.{◌≡◌, ℕ, Bool, true, false, ◌==◌, ◌&&◌, not, Option, Some, None, is_none, is_some, length, ◌⊎◌, if◌then◌else◌}
 use Rattle.am_names.specs.declared.EndpointId.{EndpointId}
 use Rattle.am_names.specs.declared.NodeId.{NodeId}
 use Rattle.am_names.specs.declared.Words.{Words}
@@ -18,9 +18,10 @@ use Rattle.am_office.specs.declared.Received.TheVariants as Got
 use Rattle.am_office.specs.declared.Outcome.{Outcome}
 use Rattle.am_office.specs.declared.Outcome.TheVariants as Out
 use Rattle.am_office.specs.declared.Entry.{Entry}
+use Rattle.am_office.specs.declared.Place.{Place}
 use Rattle.am_model.specs.declared.Flying.{Flying}
 use Rattle.am_model.specs.declared.Queued.{Queued}
-use Rattle.am_model.specs.Endpoint.{State, front, is_on_disk, is_on_host, is_resident, verdict}
+use Rattle.am_model.specs.Endpoint.{State, front, is_direct, is_in_a_frame, is_on_disk, is_on_host, verdict}
 use Rattle.am_model.specs.Changes.{flying_of}
 use Rattle.am_model.specs.History.{are_credits_in_range, is_kind_in_range, judged, settle_by}
 
@@ -75,12 +76,18 @@ abbrev pub is_carry_from : EndpointId → Event → Bool
 is_carry_from e (Events.Carry from) = same_end e from
 is_carry_from e event = false
 
+-- whether the event reaches endpoints at this place: a carry those of the direct network, any other event the others
+abbrev pub is_network_of : Event → Place → Bool
+is_network_of (Events.Carry from) place = is_direct place
+is_network_of event place = not (is_direct place)
+
 -- the entry is an arrival from elsewhere at the endpoint e in this state
 pub record MayArrive (e : EndpointId) (s : State) (x : Entry) : Type 0 where
   pub message : Message
   pub is_message : arrived_message x.event x.outcome ≡ Some message
   pub judged : arrival_verdict x.event x.outcome ≡ Some (verdict s message)
   pub here : same_end e message.dest ≡ true
+  pub network : is_network_of x.event s.head.place ≡ true
   pub formed : is_well_formed message ≡ true
   pub elsewhere : is_carry_from e x.event ≡ false
 
@@ -89,6 +96,7 @@ pub record MayCarry (limit : ℕ) (e : EndpointId) (s : State) (x : Entry) : Typ
   pub queued : Queued
   pub verdict_there : Verdict
   pub event : x.event ≡ Events.Carry e
+  pub direct : is_direct s.head.place ≡ true
   pub is_front : front s ≡ Some queued
   pub outcome : x.outcome ≡ judged limit queued.message queued.bounces verdict_there
   pub here : same_end e queued.message.dest ≡ true → verdict_there ≡ verdict s queued.message
@@ -101,7 +109,7 @@ pub record MayBind (node : NodeId) (e : EndpointId) (s : State) (x : Entry) : Ty
   pub seq : ℕ
   pub number : ℕ
   pub event : x.event ≡ Events.Bind node e
-  pub resident : is_resident s.head.place ≡ true
+  pub framed : is_in_a_frame s.head.place ≡ true
   pub undrained : s.head.draining ≡ false
   pub is_front : front s ≡ Some queued
   pub outcome : x.outcome ≡ Out.Sent queued.message peer channel seq 0 number
@@ -127,14 +135,14 @@ pub record MaySettle (limit : ℕ) (e : EndpointId) (s : State) (x : Entry) : Ty
 pub record MayDrain (node : NodeId) (e : EndpointId) (s : State) (x : Entry) : Type 0 where
   pub event : x.event ≡ Events.Drain node e
   pub outcome : x.outcome ≡ Out.Silent
-  pub resident : is_resident s.head.place ≡ true
+  pub framed : is_in_a_frame s.head.place ≡ true
   pub undrained : s.head.draining ≡ false
 
 -- the entry takes the endpoint e of the node out of its frame
 pub record MayUnload (node : NodeId) (e : EndpointId) (s : State) (x : Entry) : Type 0 where
   pub event : x.event ≡ Events.Unload node e
   pub outcome : x.outcome ≡ Out.Silent
-  pub resident : is_resident s.head.place ≡ true
+  pub framed : is_in_a_frame s.head.place ≡ true
   pub draining : s.head.draining ≡ true
   pub landed : length s.body.in_flight ≡ 0
 

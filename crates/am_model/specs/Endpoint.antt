@@ -65,6 +65,20 @@ is_resident Direct = true
 is_resident Host = false
 is_resident Disk = false
 
+-- whether an endpoint lies in a frame
+abbrev pub is_in_a_frame : Place → Bool
+is_in_a_frame (Frame frame) = true
+is_in_a_frame Direct = false
+is_in_a_frame Host = false
+is_in_a_frame Disk = false
+
+-- whether an endpoint is one of the direct network
+abbrev pub is_direct : Place → Bool
+is_direct Direct = true
+is_direct (Frame frame) = false
+is_direct Host = false
+is_direct Disk = false
+
 abbrev pub is_on_disk : Place → Bool
 is_on_disk Disk = true
 is_on_disk (Frame frame) = false

@@ -7,6 +7,7 @@ mod lines;
 mod roles;
 mod touched;
 
+pub use am_names::NoMemory;
 use am_names::{Cause, EndpointId, Message, NodeId, Serial, Tag, Verdict, Why, Words};
 pub use endings::Fate;
 pub use fates::fate;
@@ -344,10 +345,6 @@ impl Model for Journal {
 
     ghost view = { λ journal. journal.entries.items };
 }
-
-/// There is no memory for what was asked.
-#[derive(Clone, Copy, PartialEq, Eq, Debug)]
-pub struct NoMemory;
 
 #[cfg(test)]
 mod tests;

@@ -6,8 +6,8 @@ ghost use Rattle.am_plan.specs.Shape.{is_line_of, fault_in, fault_at, at_once, s
 ghost use Rattle.am_plan.specs.Held.{held_back, falls_due};
 
 use crate::plan::{LinkFault, PlanLine};
-use am_names::{NodeId, Packet};
-use std::alloc::{AllocError, Global};
+use am_names::{NoMemory, NodeId, Packet};
+use std::alloc::Global;
 
 /// A packet that is released later.
 #[derive(Clone, Copy, Debug)]
@@ -64,7 +64,7 @@ fn release(
     released: &mut Vec<Packet>,
     fault: Option<LinkFault>,
     packet: Packet,
-) -> Result<(), AllocError>
+) -> Result<(), NoMemory>
     ensures { IfOk result (λ _. released.new.items ≡ released.old.items ++ at_once fault packet) }
 {
     match fault {
@@ -78,12 +78,7 @@ fn release(
     Ok(())
 }
 
-fn release_due(
-    released: &mut Vec<Packet>,
-    held: Held,
-    now: u64,
-    stamp: u64,
-) -> Result<(), AllocError>
+fn release_due(released: &mut Vec<Packet>, held: Held, now: u64, stamp: u64) -> Result<(), NoMemory>
     ensures { IfOk result (λ _. released.new.items ≡ released.old.items ++ falls_due now stamp held) }
 {
     if held.due == now {
@@ -98,7 +93,7 @@ fn release_held(
     held: &[Held],
     now: u64,
     stamp: u64,
-) -> Result<(), AllocError>
+) -> Result<(), NoMemory>
     ensures { IfOk result (λ _. released.new.items ≡ released.old.items ++ flat_map (falls_due now stamp) held.now) }
 {
     for packet in held {
@@ -112,7 +107,7 @@ fn hold(
     fault: Option<LinkFault>,
     place: u64,
     packet: Packet,
-) -> Result<(), AllocError>
+) -> Result<(), NoMemory>
     requires { place < 2 ^ 63 }
     ensures { IfOk result (λ _. held.new.items ≡ held.old.items ++ held_back fault place packet) }
 {
@@ -123,14 +118,14 @@ fn hold(
     Ok(())
 }
 
-/// What the emissions on the link from a node to a node release, by the plan.
+/// What the emissions on the link from a node to a node release, by the plan. `NoMemory` comes only for want of memory.
 pub fn shape(
     alloc: Global,
     plan: &[PlanLine],
     from: NodeId,
     to: NodeId,
     emitted: &[Packet],
-) -> Result<Vec<Packet>, AllocError>
+) -> Result<Vec<Packet>, NoMemory>
     ensures { IfOk result (λ released. released.items ≡ shape plan.now from to emitted.now) }
 {
     let mut released = Vec::new(alloc);

@@ -42,7 +42,7 @@ use Rattle.am_lines_laws.proofs.Declaring.{neither}
 use Rattle.am_lines_laws.proofs.Words.{eq_true, find_passes, on_is_declared}
 use Rattle.am_lines_laws.proofs.Growing.{stays_sound, begins_sound}
 use Rattle.am_scenario.specs.Order.{placed, after_words, after_line}
-use Rattle.am_scenario.specs.Grammar.{ends_below, threads_below, tries_of, bounces_of, pool_of, whole, on_line, read_from, grammar}
+use Rattle.am_scenario.specs.Grammar.{ends_below, threads_below, tries_of, bounces_of, pool_of, whole, on_line, line_after, read_from, grammar}
 use Rattle.am_scenario.specs.Laws.{SpellsLawful, ExactlyOne}
 use Rattle.am_scenario.proofs.Below.{below, found_holds, all_below, rising, found_below, count_below}
 
@@ -344,8 +344,8 @@ read_good : (form : Form) (number : ℕ) (said : Said) (lines : List (List ℕ))
 unfolding read_from
 read_good form number said [] scenario h e = read_good_end form number (whole said) scenario (whole_good form said h) e
 read_good form number said (line ∷ lines) scenario h e =
-    read_good_line form number (after_line form number said line) (λ next. read_from form (number + 1) next lines) scenario (line_sound form number said line h)
-    (λ next k r. read_good form (number + 1) next lines scenario k r) e
+    read_good_line form number (after_line form number said line) (λ next. read_from form (line_after number) next lines) scenario (line_sound form number said line h)
+    (λ next k r. read_good form (line_after number) next lines scenario k r) e
 
 pub spells_lawful : SpellsLawful
 spells_lawful form bytes scenario e = read_good form 1 nothing (lines_of bytes) scenario (begins_sound form) e

@@ -7,12 +7,12 @@ use Rattle.am_draft.specs.declared.line.LineFault.{LineFault}
 use Rattle.am_draft.specs.declared.line.LineFault.TheVariants as faults
 use Rattle.am_draft.specs.Said.{Said}
 use Rattle.am_scenario.specs.Order.{after_line}
-use Rattle.am_scenario.specs.Grammar.{whole, read_from}
+use Rattle.am_scenario.specs.Grammar.{whole, read_from, line_after}
 use Rattle.am_scenario.specs.Answers.{Changes, Finishes, Answers, at_line}
 
 -- a line that was taken
 pub line_taken : (form : Form) (number : ℕ) (said next : Said) (line : List ℕ) (lines : List (List ℕ)) (all : Result ScenarioLists ScenarioFault)
-    → after_line form number said line ≡ Ok next → read_from form number said (line ∷ lines) ≡ all → read_from form (number + 1) next lines ≡ all
+    → after_line form number said line ≡ Ok next → read_from form number said (line ∷ lines) ≡ all → read_from form (line_after number) next lines ≡ all
 unfolding read_from
 line_taken form number said next line lines all e so_far = rw e at so_far
 

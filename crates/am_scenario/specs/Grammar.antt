@@ -1,5 +1,5 @@
 -- The scenario that a text spells, or its first fault.
-use Rattle.std.specs.Prelude.{ℕ, zero, suc, ◌+◌, ◌-◌, ◌==◌, List, [], ◌∷◌, ◌++◌, if◌then◌else◌, Option, Some, None, Result, Ok, Err}
+use Rattle.std.specs.Prelude.{ℕ, zero, suc, ◌+◌, ◌-◌, ◌^◌, min, ◌==◌, List, [], ◌∷◌, ◌++◌, if◌then◌else◌, Option, Some, None, Result, Ok, Err}
 use Rattle.std.specs.Option.{unwrap_or, option_to_list}
 use Rattle.am_lexer.specs.declared.what.What.{What}
 use Rattle.am_lexer.specs.declared.what.What.TheVariants.{Missing}
@@ -68,10 +68,14 @@ abbrev pub on_line : {A B : Type 0} → ℕ → Result A What → (A → Result 
 on_line number (Ok x) f = f x
 on_line number (Err what) f = Err (record { line = number; what = what })
 
+-- the number of the next line; a number of 32 bits stands still at its end
+abbrev pub line_after : ℕ → ℕ
+line_after number = min (number + 1) (2 ^ 32 - 1)
+
 -- the lines from this number on
 unfoldable pub read_from : Form → ℕ → Said → List (List ℕ) → Result ScenarioLists ScenarioFault
 read_from form number said [] = on_line number (whole said) (λ scenario. Ok scenario)
-read_from form number said (line ∷ lines) = on_line number (after_line form number said line) (λ next. read_from form (number + 1) next lines)
+read_from form number said (line ∷ lines) = on_line number (after_line form number said line) (λ next. read_from form (line_after number) next lines)
 
 -- The scenario that the bytes spell, or the line and cause of their first fault.
 abbrev pub grammar : Form → List ℕ → Result ScenarioLists ScenarioFault

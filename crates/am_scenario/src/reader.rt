@@ -1,6 +1,6 @@
 //! The scenario that a text spells.
 
-ghost use Rattle.std.specs.Prelude.{◌≡◌, ◌<◌, ◌-◌, ◌^◌, IfOk, length};
+ghost use Rattle.std.specs.Prelude.{◌≡◌, IfOk};
 ghost use Rattle.am_scenario.specs.Grammar.{grammar};
 ghost use Rattle.am_scenario.specs.Answers.{Answers, at_line};
 ghost use Rattle.am_scenario.specs.Laws.{ExactlyOne, SpellsLawful};
@@ -23,9 +23,8 @@ fn refused(line: u32, fault: LineFault) -> ReadFault
 }
 
 /// The scenario that the bytes spell, in the grammar of docs/SCENARIO.md, or the line and the cause of their first
-/// fault. Lines are counted in 32 bits. Without memory the answer is `NoMemory`, and nothing is left of the scenario.
+/// fault. A line's number stands still at 2^32-1. Without memory the answer is `NoMemory`, and nothing is left of the scenario.
 pub fn read(alloc: Global, form: Form, bytes: &[u8]) -> Result<Scenario, ReadFault>
-    requires { length bytes.now < 2 ^ 32 - 1 }
     ensures exact { Answers result (grammar form bytes.now) }
     ensures lawful { IfOk result IsLawful }
     ensures of_form { IfOk result (IsOfForm form) }
@@ -37,7 +36,7 @@ pub fn read(alloc: Global, form: Form, bytes: &[u8]) -> Result<Scenario, ReadFau
         if let Err(fault) = take_line(alloc, form, number, &mut draft, line) {
             return Err(refused(number, fault));
         }
-        number += 1;
+        number = number.saturating_add(1);
         rest = after;
     }
     match finish(alloc, draft) {

@@ -1,6 +1,10 @@
+use crate::single_lines::{
+    PLAN_HEAD, PLAN_LINES, POOL_HEAD, POOL_LINES, RUN_HEAD, RUN_LINES, STEP_HEAD, STEP_LINES,
+};
 use crate::tables::{DECLARATIONS, EVENTS, FIRST_LINES, RUNS, SETTINGS};
 use am_lexer::What;
-use am_names::{AnswerPacket, EndpointId, NodeId, Packet, Verdict};
+use am_names::{AnswerPacket, EndpointId, NodeId, Packet, Tag, Verdict};
+use am_office::{Call, Mask};
 use am_scenario::{
     Form, LinkFault, Network, PlanLine, ReadFault, Readiness, Scenario, generate, read, shape,
 };
@@ -67,6 +71,55 @@ fn runs(rt: HostRuntime) {
     }
 }
 
+// Whether reading a head and a line gives this fault of the line.
+fn is_fault(
+    alloc: Global,
+    form: Form,
+    head: &str,
+    line: &str,
+    fault: (u32, What),
+) -> Result<bool, Fail> {
+    let mut text = String::from_str(alloc, head)?;
+    text.push_str(line)?;
+    Ok(fault_of(alloc, form, text.as_str()) == Some(fault))
+}
+
+#[test]
+fn lines_of_steps(rt: HostRuntime) -> Result<(), Fail> {
+    for (line, what) in STEP_LINES.iter() {
+        let is = is_fault(rt.alloc(), Form::Step, STEP_HEAD, line, (5, *what))?;
+        assert!(rt; is, "{line}");
+    }
+    Ok(())
+}
+
+#[test]
+fn lines_of_runs(rt: HostRuntime) -> Result<(), Fail> {
+    for (line, what) in RUN_LINES.iter() {
+        let is = is_fault(rt.alloc(), Form::Run, RUN_HEAD, line, (9, *what))?;
+        assert!(rt; is, "{line}");
+    }
+    Ok(())
+}
+
+#[test]
+fn lines_of_plans(rt: HostRuntime) -> Result<(), Fail> {
+    for (line, what) in PLAN_LINES.iter() {
+        let is = is_fault(rt.alloc(), Form::Run, PLAN_HEAD, line, (4, *what))?;
+        assert!(rt; is, "{line}");
+    }
+    Ok(())
+}
+
+#[test]
+fn lines_of_pools(rt: HostRuntime) -> Result<(), Fail> {
+    for (line, what) in POOL_LINES.iter() {
+        let is = is_fault(rt.alloc(), Form::Step, POOL_HEAD, line, (2, *what))?;
+        assert!(rt; is, "{line}");
+    }
+    Ok(())
+}
+
 // The lines of a head, and then so many numbered lines.
 fn numbered(
     alloc: Global,
@@ -80,6 +133,19 @@ fn numbered(
         write!(text, "{before}{number}{after}\n")?;
     }
     Ok(text)
+}
+
+// A bundle's polls are counted one by one: 16,383 calls leave room for one, and the bundle has two members.
+#[test]
+fn a_bundle_too_many(rt: HostRuntime) -> Result<(), Fail> {
+    let alloc = rt.alloc();
+    let head =
+        "am2 1\nnetwork packet\nnodes 1\nendpoint 0 0 5\nendpoint 1 0 6\nbundle 0 notempty 0 1\nthread 0 0\n";
+    let mut text = numbered(alloc, head, "t0 tag 0 ", "", 16_384)?;
+    text.push_str("t0 pollb 0\n")?;
+    let fault = fault_of(alloc, Form::Run, text.as_str());
+    assert!(rt; fault == Some((16_391, What::TooMany)));
+    Ok(())
 }
 
 #[test]
@@ -133,11 +199,27 @@ fn a_run_of_version_2(rt: HostRuntime) {
         (run.plan.len(), run.faults.len(), run.steps.len()),
         (1, 1, 0)
     );
-    let mut script = run.script.iter().map(|call| (call.thread, call.endpoint.0));
-    assert_eq!(rt; script.next(), Some((3, 2)));
-    assert_eq!(rt; script.next(), Some((3, 2)));
-    assert_eq!(rt; script.next(), Some((9, 7)));
-    assert_eq!(rt; script.next(), None);
+    let mut plan = run
+        .plan
+        .iter()
+        .map(|line| (line.from.0, line.to.0, line.number));
+    assert_eq!(rt; plan.next(), Some((0, 1, 4)));
+    let mut faults = run.faults.iter().map(|line| (line.node.0, line.number));
+    assert_eq!(rt; faults.next(), Some((1, 6)));
+    let mut script = run
+        .script
+        .iter()
+        .map(|made| (made.thread, made.endpoint.0, made.call));
+    assert!(rt; matches!(script.next(), Some((3, 2, Call::Poll))));
+    assert!(rt; matches!(script.next(), Some((3, 2, Call::Test(Mask::NotEmpty)))));
+    let map = Call::Map {
+        index: 0,
+        name: EndpointId(2),
+        tag: Tag(5),
+        credits: 0,
+    };
+    assert!(rt; script.next() == Some((9, 7, map)));
+    assert!(rt; script.next() == None);
 }
 
 #[test]
@@ -148,8 +230,15 @@ fn a_ready_bundle(rt: HostRuntime) -> Result<(), Fail> {
         return Ok(());
     };
     for bundle in run.bundles.iter() {
-        assert_eq!(rt; bundle.poll_calls(alloc)?.len(), 1);
-        assert_eq!(rt; bundle.test_calls(alloc)?.len(), 1);
+        let polls = bundle.poll_calls(alloc)?;
+        assert!(rt; matches!(polls.as_slice(), [(EndpointId(2), Call::Poll)]));
+        let tests = bundle.test_calls(alloc)?;
+        assert!(rt;
+            matches!(
+                tests.as_slice(),
+                [(EndpointId(2), Call::Test(Mask::NotEmpty))]
+            )
+        );
         assert_eq!(rt;
             bundle.ready(&[EndpointId(7), EndpointId(2)]),
             Readiness::Ready(EndpointId(2))
@@ -212,6 +301,10 @@ fn five_packets(rt: HostRuntime) -> Result<(), Fail> {
     }
     assert_eq!(rt; numbers.next(), None);
     let four = shape(rt.alloc(), &plan, NodeId(0), NodeId(1), &emitted[..4])?;
-    assert_eq!(rt; four.len(), 3);
+    let mut numbers = four.iter().map(number_of);
+    for number in [1, 4, 4] {
+        assert_eq!(rt; numbers.next(), Some(number));
+    }
+    assert_eq!(rt; numbers.next(), None);
     Ok(())
 }

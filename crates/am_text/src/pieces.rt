@@ -118,7 +118,8 @@ pub fn put_end(out: &mut Vec<u8>) -> Result<(), AllocError>
 /// Appends a line: its words with one space between them, and its end.
 #[tactic(auto, using(crate::proofs::Extended::extension))]
 pub fn put_line(out: &mut Vec<u8>, first: &'static str, rest: &[Piece]) -> Result<(), AllocError>
-    ensures { OnOk result (out.new.items ≡ out.old.items ++ text.line first.now (map word_of rest.now)) }
+    ensures ok { OnOk result (out.new.items ≡ out.old.items ++ text.line first.now (map word_of rest.now)) }
+    ensures kept { Extends out.old.items out.new.items }
 {
     put_word(out, Piece::Text(first))?;
     put_spaced(out, rest)?;

@@ -9,4 +9,4 @@ joined l j f m out0 out1 out2 out3 out4 e0 e1 e2 e3 e4 = rw (e4, e3, e2, e1, e0)
 pub returns : goal.returns
 unfolding report
 returns c =
-    joined _ _ _ _ _ _ _ _ _ c.new-out.ensures.items c.in_ok-put_line.ensures c.in_ok-put_journal.ensures (c.in_ok-put_ends.ensures c.args.entries.now c.in_ok-table.ensures) (rw (c.deref.ensures.value, c.in_ok-messages.ensures) at c.in_ok-put_messages.ensures)
+    joined _ _ _ _ _ _ _ _ _ c.new-out.ensures.items c.in_ok-put_line.ensures.ok c.in_ok-put_journal.ensures (c.in_ok-put_ends.ensures c.args.entries.now c.in_ok-table.ensures) (rw (c.deref.ensures.value, c.in_ok-messages.ensures) at c.in_ok-put_messages.ensures)

@@ -1,0 +1,146 @@
+ghost use Rattle.am_device.specs.Causes.{FailsAsTold, HoldsSame, IsCaused, IsCounted, Writes, fails_after};
+ghost use Rattle.am_device.specs.Memory.{ReadsSo, WritesSo, counted, faulted, held_for, with_held};
+ghost use Rattle.std.specs.Prelude.{◌≡◌, ◌≤◌, [], IfOk, IsSome, OnErr, OnOk, Some, is_ok};
+ghost use Rattle.std.specs.Option.{option_copied};
+
+use crate::kept::{Kept, held_for, hold};
+use crate::swap::{Swap, SwapFault};
+use am_names::EndpointId;
+use am_office::NoMemory;
+use std::alloc::Global;
+use std::marker::Model;
+
+/// A swap that keeps what it holds in memory, and whose calls with the listed numbers fail. Contracts see it as what it
+/// holds, these numbers, and its counts of calls and faults.
+#[derive(Drop)]
+pub struct MemorySwap {
+    alloc: Global,
+    kept: Vec<Kept>,
+    fails: Vec<u32>,
+    calls: u64,
+    faults: u64,
+}
+
+impl Model for MemorySwap {
+    ghost use Rattle.am_device.specs.Memory.{Store};
+
+    ghost Value = { Store };
+
+    ghost use Rattle.am_device.specs.Inside.{store_in};
+
+    ghost view = { store_in };
+}
+
+impl MemorySwap {
+    /// Holds nothing yet. Its calls of `write` and `read` with the numbers in `fails`, counted from 1 over both, fail.
+    pub fn new(alloc: Global, fails: Vec<u32>) -> MemorySwap
+        ensures { result ≡ record { held = []; fails = fails.items; calls = 0; faults = 0 } }
+    {
+        MemorySwap {
+            alloc,
+            kept: Vec::new(alloc),
+            fails,
+            calls: 0,
+            faults: 0,
+        }
+    }
+
+    /// Holds these bytes for the key from now on, without being counted. Want of memory leaves all as it was.
+    pub fn preset(&mut self, key: EndpointId, bytes: &[u8]) -> Result<(), NoMemory>
+        ensures ok { OnOk result (self.new ≡ with_held self.old key bytes.now) }
+        ensures no_memory { OnErr result (self.new ≡ self.old) }
+    {
+        hold(self.alloc, &mut self.kept, key, bytes)
+    }
+
+    /// What it holds for the key, and None exactly where the key wasn't written. It isn't counted.
+    pub fn held(&self, key: EndpointId) -> Option<&[u8]>
+        ensures { option_copied result ≡ held_for self.now.held key }
+    {
+        held_for(&self.kept, key)
+    }
+
+    /// Counts a call that is done.
+    fn count(&mut self)
+        ensures { self.new ≡ counted self.old }
+    {
+        self.calls = self.calls.saturating_add(1);
+    }
+
+    /// Counts a call that failed.
+    fn fail(&mut self) -> SwapFault
+        ensures fault { result ≡ SwapFault.Failed }
+        ensures counts { self.new ≡ faulted self.old }
+        ensures rose { self.old.faults ≤ self.new.faults }
+    {
+        self.count();
+        self.faults = self.faults.saturating_add(1);
+        SwapFault::Failed
+    }
+}
+
+/// Whether the call after so many fails.
+fn fails_after(fails: &[u32], calls: u64) -> bool
+    ensures { result ≡ fails_after fails.now calls }
+{
+    let number = calls.saturating_add(1);
+    fails.iter().any(|fail| u64::from(*fail) == number)
+}
+
+impl Swap for MemorySwap {
+    ghost held = { λ s. held_for s.held };
+
+    ghost fails = { λ s. Some s.fails };
+
+    ghost calls = { λ s. s.calls };
+
+    ghost count = { λ s. s.faults };
+
+    fn faults(&self) -> u64 {
+        self.faults
+    }
+
+    fn write(&mut self, key: EndpointId, bytes: &[u8]) -> Result<(), SwapFault>
+        ensures held { Writes result (held_for self.old.held) (held_for self.new.held) key bytes.now }
+        ensures fails { Some self.new.fails ≡ Some self.old.fails }
+        ensures calls { IsCounted result self.old.calls self.new.calls }
+        ensures cause { IsCaused result self.old.faults self.new.faults }
+        ensures told { FailsAsTold result (Some self.old.fails) self.old.calls }
+        ensures exact { WritesSo result self.old self.new key bytes.now }
+    {
+        let fails = fails_after(&self.fails, self.calls);
+        if fails {
+            return Err(self.fail());
+        }
+        match hold(self.alloc, &mut self.kept, key, bytes) {
+            Ok(()) => {
+                self.count();
+                Ok(())
+            }
+            Err(NoMemory) => Err(SwapFault::NoMemory),
+        }
+    }
+
+    fn read(&mut self, alloc: Global, key: EndpointId) -> Result<Vec<u8>, SwapFault>
+        requires { IsSome (held_for self.old.held key) }
+        ensures bytes { IfOk result (λ bytes. held_for self.old.held key ≡ Some bytes.items) }
+        ensures held { HoldsSame (held_for self.old.held) (held_for self.new.held) }
+        ensures fails { Some self.new.fails ≡ Some self.old.fails }
+        ensures calls { IsCounted result self.old.calls self.new.calls }
+        ensures cause { IsCaused result self.old.faults self.new.faults }
+        ensures told { FailsAsTold result (Some self.old.fails) self.old.calls }
+        ensures exact { ReadsSo result self.old self.new }
+    {
+        if fails_after(&self.fails, self.calls) {
+            return Err(self.fail());
+        }
+        let bytes = held_for(&self.kept, key).unwrap();
+        match Vec::from_slice(alloc, bytes) {
+            Ok(bytes) => {
+                self.count();
+                Ok(bytes)
+            }
+            Err(_) => Err(SwapFault::NoMemory),
+        }
+    }
+}

@@ -1,0 +1,66 @@
+use super::*;
+use am_names::EndpointId;
+use std::alloc::Global;
+use std::test::Fail;
+
+const FIRST: EndpointId = EndpointId(3);
+
+const SECOND: EndpointId = EndpointId(4);
+
+fn written<S: Swap>(swap: &mut S, key: EndpointId, bytes: &[u8]) -> Result<(), SwapFault> {
+    swap.write(key, bytes)
+}
+
+/// What a read of the key gives, where something is held for it.
+fn read_back(
+    alloc: Global,
+    swap: &mut MemorySwap,
+    key: EndpointId,
+) -> Option<Result<Vec<u8>, SwapFault>> {
+    match swap.held(key).is_some() {
+        true => Some(swap.read(alloc, key)),
+        false => None,
+    }
+}
+
+fn holds(swap: &MemorySwap, key: EndpointId, bytes: &[u8]) -> bool {
+    match swap.held(key) {
+        Some(held) => held == bytes,
+        None => false,
+    }
+}
+
+#[test]
+fn calls_one_and_three_fail(rt: HostRuntime) -> Result<(), Fail> {
+    let alloc = rt.alloc();
+    let mut swap = MemorySwap::new(alloc, vec![in alloc; 1, 3]?);
+    assert_eq!(rt; written(&mut swap, FIRST, b"one"), Err(SwapFault::Failed));
+    assert!(rt; swap.held(FIRST).is_none());
+    assert_eq!(rt; written(&mut swap, FIRST, b"two"), Ok(()));
+    assert!(rt; holds(&swap, FIRST, b"two"));
+    assert_eq!(rt; written(&mut swap, FIRST, b"three"), Err(SwapFault::Failed));
+    assert!(rt; holds(&swap, FIRST, b"two"));
+    assert!(rt; matches!(read_back(alloc, &mut swap, FIRST), Some(Ok(_))));
+    assert_eq!(rt; swap.faults(), 2);
+    Ok(())
+}
+
+#[test]
+fn reads_and_writes_are_counted_together(rt: HostRuntime) -> Result<(), Fail> {
+    let alloc = rt.alloc();
+    let mut swap = MemorySwap::new(alloc, vec![in alloc; 2]?);
+    assert_eq!(rt; swap.preset(FIRST, b"opening"), Ok(()));
+    assert_eq!(rt; written(&mut swap, SECOND, b"other"), Ok(()));
+    match read_back(alloc, &mut swap, FIRST) {
+        Some(Err(fault)) => assert_eq!(rt; fault, SwapFault::Failed),
+        _ => assert!(rt; false),
+    }
+    match read_back(alloc, &mut swap, FIRST) {
+        Some(Ok(bytes)) => assert_eq!(rt; bytes.as_slice(), b"opening".as_slice()),
+        _ => assert!(rt; false),
+    }
+    assert!(rt; holds(&swap, SECOND, b"other"));
+    assert!(rt; read_back(alloc, &mut swap, EndpointId(5)).is_none());
+    assert_eq!(rt; swap.faults(), 1);
+    Ok(())
+}

@@ -1,0 +1,5 @@
+mod Found
+mod Frames
+mod Enabled
+mod Nothing
+mod Views

@@ -1,0 +1,12 @@
+pub mod Within
+pub mod Parts
+pub mod Homes
+pub mod Outcomes
+pub mod Frames
+pub mod Moves
+pub mod Touched
+pub mod Asking
+pub mod Growing
+pub mod Granting
+pub mod Numbers
+pub mod Numbering
