@@ -2,14 +2,14 @@
 #![tactic(auto)]
 
 ghost use Rattle.am_laws_channels.specs.LateAttempt as late;
-ghost use Rattle.am_model.specs.Cluster.{answer_channel, AnswersAreTrue, EndedSequencePutNothing, MarkIsOfParcel, ParcelsFitSender, took};
+ghost use Rattle.am_model.specs.Cluster.{answer_channel, AnswersAreTrue, EndedSequencePutNothing, MarkIsOfParcel, ParcelsFitSender, put_on, took};
 ghost use Rattle.am_model.specs.History.{IsHistory};
 ghost use Rattle.am_model.specs.Layout.{Layout};
 ghost use Rattle.am_model.specs.PostOffice.{Gave};
 ghost use Rattle.am_names.specs.declared.Packet.TheVariants as Packets;
 ghost use Rattle.am_office.specs.Entries.{emitted_of};
 ghost use Rattle.am_office.specs.declared.Entry.{Entry};
-ghost use Rattle.std.specs.Prelude.{◌≡◌, List, false, true};
+ghost use Rattle.std.specs.Prelude.{◌≡◌, ◌∷◌, List, [], false, filter_map, true};
 
 /// In each history a parcel has a sequence at most the sender's. Those of one sequence carry one
 /// message, and each has a greater attempt than those emitted before it.
@@ -36,10 +36,12 @@ pub fn ended_sequence_put_nothing()
 {}
 
 /// Why an answer that accepts doesn't say which attempt was taken: where a first attempt comes after
-/// the second was taken, it is answered as taken, though no attempt up to it was.
+/// the second was taken, it is answered as taken, though no attempt up to it was. The message was put
+/// once in the sequence.
 pub fn a_late_first_attempt()
     ensures history { IsHistory late.layout late.journal }
     ensures answered { Gave emitted_of late.journal (Packets.Answer late.answer) }
     ensures untaken { took (answer_channel late.answer) 1 0 late.journal ≡ false }
     ensures taken { took (answer_channel late.answer) 1 1 late.journal ≡ true }
+    ensures put_once { filter_map (put_on (answer_channel late.answer) 1) late.journal ≡ late.request ∷ [] }
 {}

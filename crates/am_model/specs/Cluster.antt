@@ -44,7 +44,7 @@ pub record IsHeldOnce (layout : Layout) (past : List Entry) (e : EndpointId) (m 
   pub node : home layout e ≡ Some channel.node
   pub only : (c : Channel) → bound_message c past ≡ Some m → c ≡ channel
 
--- a bound message is the one of its serial in flight, at an endpoint of the node that is in a frame and open
+-- a bound message is the one of its serial in flight at its source, which is of the channel's node, in a frame and open
 pub record IsFlying (layout : Layout) (past : List Entry) (c : Channel) (m : Message) : Type 0 where
   pub one : count_by (λ (f : Flying). has_serial m.serial f.message) (in_flight layout past m.serial.source) ≡ 1
   pub message : AllAre (λ (f : Flying). f.message.serial ≡ m.serial → f.message ≡ m) (in_flight layout past m.serial.source)
@@ -208,7 +208,7 @@ pub record OneLiveSequence (layout : Layout) (past : List Entry) : Type 0 where
   pub waits : (m : Message) → WasAccepted past m → times put_of (has_serial m.serial) past ≡ 0 → times_serial returned_of m.serial past ≡ 0 → times_serial unknown_of m.serial past ≡ 0 → count_queued m.serial (state_of layout past m.serial.source).body + count_flying m.serial (state_of layout past m.serial.source).body ≡ 1
 
 -- the request of a waiting record was accepted and is neither returned nor unknown, and its reply isn't put; the endpoint is
--- open, and its own tag is the reply tag of the request and matches some tag
+-- open, and its own tag is the reply tag of the request and isn't `none`
 pub record IsOpenFor (layout : Layout) (past : List Entry) (e : EndpointId) (a : Awaited) : Type 0 where
   pub request : Message
   pub accepted : WasAccepted past request
