@@ -1,5 +1,5 @@
 -- What contracts see of a body, and how the descriptors of a block are seen as lists of messages.
-use Rattle.std.specs.Prelude.{ℕ, false, Option, None, List, map, slice_index_or}
+use Rattle.std.specs.Prelude.{ℕ, ◌+◌, false, Option, None, List, map, length, slice_index_or}
 use Rattle.am_names.specs.declared.Message.{Message}
 use Rattle.am_names.specs.declared.MsgKind.TheVariants.{Empty}
 use Rattle.am_names.specs.declared.Tag.{Tag}
@@ -10,6 +10,7 @@ use Rattle.am_block.specs.declared.Descriptor.{Descriptor}
 use Rattle.am_model.specs.declared.Flying.{Flying}
 use Rattle.am_model.specs.declared.Notice.{Notice}
 use Rattle.am_model.specs.declared.Queued.{Queued}
+use Rattle.am_model.specs.Calls.{messages_held}
 use Rattle.am_model.specs.Endpoint.{Body}
 use Rattle.am_translate.specs.Tables.{Table}
 
@@ -38,12 +39,12 @@ blank =
       why = Unknown;
     }
 
-abbrev pub descriptor_at : Pools → ℕ → Descriptor
-descriptor_at p s = slice_index_or p.descriptors s blank
+abbrev pub descriptor_at : List Descriptor → ℕ → Descriptor
+descriptor_at ds s = slice_index_or ds s blank
 
 -- the descriptors of some slots, seen by f
-abbrev pub seen : {X : Type 0} → (Descriptor → X) → Pools → List ℕ → List X
-seen f p xs = map (λ s. f (descriptor_at p s)) xs
+abbrev pub seen : {X : Type 0} → (Descriptor → X) → List Descriptor → List ℕ → List X
+seen f ds xs = map (λ s. f (descriptor_at ds s)) xs
 
 abbrev pub queued_in : Descriptor → Queued
 queued_in d = record { message = d.message; bounces = d.used }
@@ -67,9 +68,13 @@ body_over tag sum accepted table handlers p =
       mapped = table.mapped;
       awaited = table.awaited;
       handlers = handlers;
-      requests = seen queued_in p p.requests;
-      replies = seen queued_in p p.replies;
-      in_flight = seen flying_in p p.in_flight;
-      notices = seen notice_in p p.notices;
-      received = seen message_in p p.received;
+      requests = seen queued_in p.descriptors p.requests;
+      replies = seen queued_in p.descriptors p.replies;
+      in_flight = seen flying_in p.descriptors p.in_flight;
+      notices = seen notice_in p.descriptors p.notices;
+      received = seen message_in p.descriptors p.received;
     }
+
+-- how many slots hold a message
+abbrev pub slots_held : Body → ℕ
+slots_held b = messages_held b + length b.received

@@ -4,6 +4,8 @@
 ghost use Rattle.am_model.specs.Endpoint.{fresh};
 ghost use Rattle.std.specs.Prelude.{◌≡◌, IfOk};
 
+mod moves;
+mod queues;
 mod settings;
 
 pub use crate::settings::EndSettings;

@@ -1,0 +1,88 @@
+-- What a body is after a free slot took a message.
+use Rattle.std.proofs.Common.{◌≡◌, ℕ, ◌+◌, ◌<◌, Bool, true, false, List, [], ◌∷◌, ◌++◌, length, map, refl, sym, ap, ◌∙◌, subst, arith}
+use Rattle.std.proofs.lemmas.List.{length-map}
+use Rattle.am_names.specs.Names.{is_request}
+use Rattle.am_names.specs.declared.Message.{Message}
+use Rattle.am_names.specs.declared.Tag.{Tag}
+use Rattle.am_office.specs.declared.HandlerKind.{HandlerKind}
+use Rattle.am_block.specs.Pools.{Pools, IsBlock, size, total}
+use Rattle.am_block.specs.declared.Descriptor.{Descriptor}
+use Rattle.am_block.specs.declared.List.TheVariants.{Requests, Replies}
+use Rattle.am_model.specs.declared.Flying.{Flying}
+use Rattle.am_model.specs.declared.Notice.{Notice}
+use Rattle.am_model.specs.declared.Queued.{Queued}
+use Rattle.am_model.specs.Endpoint.{Body}
+use Rattle.am_model.specs.Changes.{appended, queued}
+use Rattle.am_translate.specs.Tables.{Table}
+use Rattle.std.specs.Prelude.{Option, if◌then◌else◌}
+use Rattle.am_body.specs.Moves.{filed}
+use Rattle.am_body.specs.Kept.{IsSound, view_of}
+use Rattle.am_body.specs.declared.Body.TheInside.{Inside}
+use Rattle.am_body.specs.Views.{View, body_over, descriptor_at, flying_in, message_in, notice_in, queued_in, seen, slots_held}
+use Rattle.am_body.proofs.Seen.{IsFree, first_free, grown, kept}
+
+-- a body with other lists
+abbrev pub with_lists : Body → List Queued → List Queued → List Flying → List Notice → List Message → Body
+with_lists b requests replies in_flight notices received =
+    record b { requests = requests; replies = replies; in_flight = in_flight; notices = notices; received = received }
+
+pub same_lists : (b : Body) (q q' r r' : List Queued) (f f' : List Flying) (n n' : List Notice) (m m' : List Message) → q ≡ q' → r ≡ r' → f ≡ f' → n ≡ n' → m ≡ m' → with_lists b q r f n m ≡ with_lists b q' r' f' n' m'
+same_lists b q q' r r' f f' n n' m m' a c d e g = λ i. with_lists b (a i) (c i) (d i) (e i) (g i)
+
+-- while fewer than 80 slots are held one is free
+pub some_free : (tag : Tag) (sum accepted : ℕ) (t : Table) (hs : List (Option HandlerKind)) (p : Pools) → IsBlock p → size p ≡ 80 → slots_held (body_over tag sum accepted t hs p) < 80 → p.free ≡ [] → ⊥
+some_free tag sum accepted t hs p b is held none =
+    omega (arith, b.all_stand, is, held, ap length none, length-map p.requests (λ s. queued_in (slot s)), length-map p.replies (λ s. queued_in (slot s)), length-map p.in_flight (λ s. flying_in (slot s)), length-map p.notices (λ s. notice_in (slot s)), length-map p.received (λ s. message_in (slot s)))
+  where
+    slot : ℕ → Descriptor
+    slot s = descriptor_at p.descriptors s
+
+module _ (tag : Tag) (sum accepted : ℕ) (t : Table) (hs : List (Option HandlerKind)) (p : Pools) (d : Descriptor) (b : IsBlock p) where
+  request_filed : (s : ℕ) (free : List ℕ) → is_request d.message ≡ true → p.free ≡ s ∷ free → body_over tag sum accepted t hs (filed p (s ∷ free) Requests d) ≡ queued d.message d.used (body_over tag sum accepted t hs p)
+  request_filed s free is front =
+      let ok = first_free p s free b front in
+      same_lists (body_over tag sum accepted t hs p) _ _ _ _ _ _ _ _ _ _
+      (grown queued_in p.descriptors s d p.requests ok.requests ok.within ∙ ap (λ c. appended c d.message d.used (seen queued_in p.descriptors p.requests)) (sym is))
+      (kept queued_in p.descriptors s d p.replies ok.replies ∙ ap (λ c. appended (if c then false else true) d.message d.used (seen queued_in p.descriptors p.replies)) (sym is))
+      (kept flying_in p.descriptors s d p.in_flight ok.in_flight)
+      (kept notice_in p.descriptors s d p.notices ok.notices)
+      (kept message_in p.descriptors s d p.received ok.received)
+
+  answer_filed : (s : ℕ) (free : List ℕ) → is_request d.message ≡ false → p.free ≡ s ∷ free → body_over tag sum accepted t hs (filed p (s ∷ free) Replies d) ≡ queued d.message d.used (body_over tag sum accepted t hs p)
+  answer_filed s free is front =
+      let ok = first_free p s free b front in
+      same_lists (body_over tag sum accepted t hs p) _ _ _ _ _ _ _ _ _ _
+      (kept queued_in p.descriptors s d p.requests ok.requests ∙ ap (λ c. appended c d.message d.used (seen queued_in p.descriptors p.requests)) (sym is))
+      (grown queued_in p.descriptors s d p.replies ok.replies ok.within ∙ ap (λ c. appended (if c then false else true) d.message d.used (seen queued_in p.descriptors p.replies)) (sym is))
+      (kept flying_in p.descriptors s d p.in_flight ok.in_flight)
+      (kept notice_in p.descriptors s d p.notices ok.notices)
+      (kept message_in p.descriptors s d p.received ok.received)
+
+  pub request_queued : size p ≡ 80 → slots_held (body_over tag sum accepted t hs p) < 80 → is_request d.message ≡ true → body_over tag sum accepted t hs (filed p p.free Requests d) ≡ queued d.message d.used (body_over tag sum accepted t hs p)
+  request_queued all held is = by_free p.free refl
+    where
+      by_free : (xs : List ℕ) → p.free ≡ xs → body_over tag sum accepted t hs (filed p xs Requests d) ≡ queued d.message d.used (body_over tag sum accepted t hs p)
+      by_free [] none = absurd (some_free tag sum accepted t hs p b all held none)
+      by_free (s ∷ free) front = request_filed s free is front
+
+  pub answer_queued : size p ≡ 80 → slots_held (body_over tag sum accepted t hs p) < 80 → is_request d.message ≡ false → body_over tag sum accepted t hs (filed p p.free Replies d) ≡ queued d.message d.used (body_over tag sum accepted t hs p)
+  answer_queued all held is = by_free p.free refl
+    where
+      by_free : (xs : List ℕ) → p.free ≡ xs → body_over tag sum accepted t hs (filed p xs Replies d) ≡ queued d.message d.used (body_over tag sum accepted t hs p)
+      by_free [] none = absurd (some_free tag sum accepted t hs p b all held none)
+      by_free (s ∷ free) front = answer_filed s free is front
+
+held_before : (i : Inside) (v : View) → view_of i ≡ v → slots_held v.body < 80 → slots_held (view_of i).body < 80
+held_before i v e h = subst (λ (w : View). slots_held w.body < 80) (sym e) h
+
+pub request_view : (i : Inside) (v : View) (q : Pools) (d : Descriptor) → view_of i ≡ v → IsSound i → q ≡ filed i.block i.block.free Requests d → is_request d.message ≡ true → slots_held v.body < 80 → view_of (record i { block = q }) ≡ record v { body = queued d.message d.used v.body }
+request_view i v q d e ok is kind held =
+    ap (λ (p : Pools). view_of (record i { block = p })) is
+    ∙ ap (λ (b : Body). record (view_of i) { body = b }) (request_queued i.tag i.sum i.accepted i.translate i.handlers i.block d ok.block ok.slots (held_before i v e held) kind)
+    ∙ ap (λ (w : View). record w { body = queued d.message d.used w.body }) e
+
+pub answer_view : (i : Inside) (v : View) (q : Pools) (d : Descriptor) → view_of i ≡ v → IsSound i → q ≡ filed i.block i.block.free Replies d → is_request d.message ≡ false → slots_held v.body < 80 → view_of (record i { block = q }) ≡ record v { body = queued d.message d.used v.body }
+answer_view i v q d e ok is kind held =
+    ap (λ (p : Pools). view_of (record i { block = p })) is
+    ∙ ap (λ (b : Body). record (view_of i) { body = b }) (answer_queued i.tag i.sum i.accepted i.translate i.handlers i.block d ok.block ok.slots (held_before i v e held) kind)
+    ∙ ap (λ (w : View). record w { body = queued d.message d.used w.body }) e
