@@ -1,13 +1,13 @@
 -- What a body is after a free slot took a message.
-use Rattle.std.proofs.Common.{◌≡◌, ℕ, ◌+◌, ◌<◌, Bool, true, false, List, [], ◌∷◌, ◌++◌, length, map, refl, sym, ap, ◌∙◌, subst, arith}
+use Rattle.std.proofs.Common.{◌≡◌, ℕ, ◌+◌, ◌<◌, Bool, true, false, List, [], ◌∷◌, ◌++◌, length, map, drop, refl, sym, ap, ◌∙◌, subst, arith}
 use Rattle.std.proofs.lemmas.List.{length-map}
 use Rattle.am_names.specs.Names.{is_request}
 use Rattle.am_names.specs.declared.Message.{Message}
 use Rattle.am_names.specs.declared.Tag.{Tag}
 use Rattle.am_office.specs.declared.HandlerKind.{HandlerKind}
-use Rattle.am_block.specs.Pools.{Pools, IsBlock, size, total}
+use Rattle.am_block.specs.Pools.{Pools, IsBlock, size, total, without}
 use Rattle.am_block.specs.declared.Descriptor.{Descriptor}
-use Rattle.am_block.specs.declared.List.TheVariants.{Requests, Replies}
+use Rattle.am_block.specs.declared.List.TheVariants.{Requests, Replies, InFlight, Notices, Received}
 use Rattle.am_model.specs.declared.Flying.{Flying}
 use Rattle.am_model.specs.declared.Notice.{Notice}
 use Rattle.am_model.specs.declared.Queued.{Queued}
@@ -15,11 +15,11 @@ use Rattle.am_model.specs.Endpoint.{Body}
 use Rattle.am_model.specs.Changes.{appended, queued}
 use Rattle.am_translate.specs.Tables.{Table}
 use Rattle.std.specs.Prelude.{Option, if◌then◌else◌}
-use Rattle.am_body.specs.Moves.{filed}
+use Rattle.am_body.specs.Moves.{filed, freed}
 use Rattle.am_body.specs.Kept.{IsSound, view_of}
 use Rattle.am_body.specs.declared.Body.TheInside.{Inside}
 use Rattle.am_body.specs.Views.{View, body_over, descriptor_at, flying_in, message_in, notice_in, queued_in, seen, slots_held}
-use Rattle.am_body.proofs.Seen.{IsFree, first_free, grown, kept}
+use Rattle.am_body.proofs.Seen.{IsFree, first_free, grown, kept, without-front}
 
 -- a body with other lists
 abbrev pub with_lists : Body → List Queued → List Queued → List Flying → List Notice → List Message → Body
@@ -58,6 +58,23 @@ module _ (tag : Tag) (sum accepted : ℕ) (t : Table) (hs : List (Option Handler
       (kept notice_in p.descriptors s d p.notices ok.notices)
       (kept message_in p.descriptors s d p.received ok.received)
 
+  notice_filed : (s : ℕ) (free : List ℕ) → p.free ≡ s ∷ free → body_over tag sum accepted t hs (filed p (s ∷ free) Notices d) ≡ record (body_over tag sum accepted t hs p) { notices = (body_over tag sum accepted t hs p).notices ++ notice_in d ∷ [] }
+  notice_filed s free front =
+      let ok = first_free p s free b front in
+      same_lists (body_over tag sum accepted t hs p) _ _ _ _ _ _ _ _ _ _
+      (kept queued_in p.descriptors s d p.requests ok.requests)
+      (kept queued_in p.descriptors s d p.replies ok.replies)
+      (kept flying_in p.descriptors s d p.in_flight ok.in_flight)
+      (grown notice_in p.descriptors s d p.notices ok.notices ok.within)
+      (kept message_in p.descriptors s d p.received ok.received)
+
+  pub notice_added : size p ≡ 80 → slots_held (body_over tag sum accepted t hs p) < 80 → body_over tag sum accepted t hs (filed p p.free Notices d) ≡ record (body_over tag sum accepted t hs p) { notices = (body_over tag sum accepted t hs p).notices ++ notice_in d ∷ [] }
+  notice_added all held = by_free p.free refl
+    where
+      by_free : (xs : List ℕ) → p.free ≡ xs → body_over tag sum accepted t hs (filed p xs Notices d) ≡ record (body_over tag sum accepted t hs p) { notices = (body_over tag sum accepted t hs p).notices ++ notice_in d ∷ [] }
+      by_free [] none = absurd (some_free tag sum accepted t hs p b all held none)
+      by_free (s ∷ free) front = notice_filed s free front
+
   pub request_queued : size p ≡ 80 → slots_held (body_over tag sum accepted t hs p) < 80 → is_request d.message ≡ true → body_over tag sum accepted t hs (filed p p.free Requests d) ≡ queued d.message d.used (body_over tag sum accepted t hs p)
   request_queued all held is = by_free p.free refl
     where
@@ -75,14 +92,33 @@ module _ (tag : Tag) (sum accepted : ℕ) (t : Table) (hs : List (Option Handler
 held_before : (i : Inside) (v : View) → view_of i ≡ v → slots_held v.body < 80 → slots_held (view_of i).body < 80
 held_before i v e h = subst (λ (w : View). slots_held w.body < 80) (sym e) h
 
+-- a body with another block, where its new view is known
+viewed : (i : Inside) (v : View) (q r : Pools) (change : Body → Body) → view_of i ≡ v → q ≡ r → (view_of (record i { block = r })).body ≡ change (view_of i).body → view_of (record i { block = q }) ≡ record v { body = change v.body }
+viewed i v q r change e is to =
+    ap (λ (p : Pools). view_of (record i { block = p })) is ∙ ap (λ (b : Body). record (view_of i) { body = b }) to ∙ ap (λ (w : View). record w { body = change w.body }) e
+
 pub request_view : (i : Inside) (v : View) (q : Pools) (d : Descriptor) → view_of i ≡ v → IsSound i → q ≡ filed i.block i.block.free Requests d → is_request d.message ≡ true → slots_held v.body < 80 → view_of (record i { block = q }) ≡ record v { body = queued d.message d.used v.body }
 request_view i v q d e ok is kind held =
-    ap (λ (p : Pools). view_of (record i { block = p })) is
-    ∙ ap (λ (b : Body). record (view_of i) { body = b }) (request_queued i.tag i.sum i.accepted i.translate i.handlers i.block d ok.block ok.slots (held_before i v e held) kind)
-    ∙ ap (λ (w : View). record w { body = queued d.message d.used w.body }) e
+    viewed i v q (filed i.block i.block.free Requests d) (queued d.message d.used) e is
+    (request_queued i.tag i.sum i.accepted i.translate i.handlers i.block d ok.block ok.slots (held_before i v e held) kind)
 
 pub answer_view : (i : Inside) (v : View) (q : Pools) (d : Descriptor) → view_of i ≡ v → IsSound i → q ≡ filed i.block i.block.free Replies d → is_request d.message ≡ false → slots_held v.body < 80 → view_of (record i { block = q }) ≡ record v { body = queued d.message d.used v.body }
 answer_view i v q d e ok is kind held =
-    ap (λ (p : Pools). view_of (record i { block = p })) is
-    ∙ ap (λ (b : Body). record (view_of i) { body = b }) (answer_queued i.tag i.sum i.accepted i.translate i.handlers i.block d ok.block ok.slots (held_before i v e held) kind)
-    ∙ ap (λ (w : View). record w { body = queued d.message d.used w.body }) e
+    viewed i v q (filed i.block i.block.free Replies d) (queued d.message d.used) e is
+    (answer_queued i.tag i.sum i.accepted i.translate i.handlers i.block d ok.block ok.slots (held_before i v e held) kind)
+
+pub notice_view : (i : Inside) (v : View) (q : Pools) (d : Descriptor) → view_of i ≡ v → IsSound i → q ≡ filed i.block i.block.free Notices d → slots_held v.body < 80 → view_of (record i { block = q }) ≡ record v { body = record v.body { notices = v.body.notices ++ notice_in d ∷ [] } }
+notice_view i v q d e ok is held =
+    viewed i v q (filed i.block i.block.free Notices d) (λ b. record b { notices = b.notices ++ notice_in d ∷ [] }) e is
+    (notice_added i.tag i.sum i.accepted i.translate i.handlers i.block d ok.block ok.slots (held_before i v e held))
+
+-- a body whose list loses its front
+
+notices_freed : (i : Inside) (xs : List ℕ) → i.block.notices ≡ xs → (view_of (record i { block = freed i.block xs Notices })).body ≡ record (view_of i).body { notices = drop 1 (view_of i).body.notices }
+notices_freed i [] e = ap (λ (ns : List Notice). record (view_of i).body { notices = ns }) (ap (seen notice_in i.block.descriptors) e ∙ sym (ap (λ ys. drop 1 (seen notice_in i.block.descriptors ys)) e))
+notices_freed i (s ∷ xs) e =
+    ap (λ (ys : List ℕ). record (view_of i).body { notices = seen notice_in i.block.descriptors ys }) (ap (without s) e ∙ without-front s xs)
+    ∙ sym (ap (λ (ys : List ℕ). record (view_of i).body { notices = drop 1 (seen notice_in i.block.descriptors ys) }) e)
+
+pub notices_view : (i : Inside) (v : View) (q : Pools) → view_of i ≡ v → q ≡ freed i.block i.block.notices Notices → view_of (record i { block = q }) ≡ record v { body = record v.body { notices = drop 1 v.body.notices } }
+notices_view i v q e is = viewed i v q (freed i.block i.block.notices Notices) (λ b. record b { notices = drop 1 b.notices }) e is (notices_freed i i.block.notices refl)

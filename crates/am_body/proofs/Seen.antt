@@ -1,12 +1,13 @@
 -- The descriptors of some slots, where one of them is written.
 use Rattle.std.specs.Prelude.{slice_set}
 use Rattle.std.proofs.Common.{◌≡◌, ℕ, ◌+◌, ◌<◌, ◌≤◌, ◌==◌, Bool, true, false, cond, List, [], ◌∷◌, ◌++◌, length, map, refl, ap, ◌∙◌, arith}
+use Rattle.std.specs.List.{remove}
 use Rattle.std.proofs.lemmas.Bool.{eqb-false}
 use Rattle.std.proofs.lemmas.List.{get_or-set_same, get_or-set_other, map-append}
 use Rattle.am_block.specs.declared.Descriptor.{Descriptor}
-use Rattle.am_block.specs.Pools.{Pools, IsBlock, size, standings, times}
+use Rattle.am_block.specs.Pools.{Pools, IsBlock, size, standings, times, without}
 use Rattle.am_block.specs.declared.List.TheVariants.{Free}
-use Rattle.am_block.proofs.Fresh.{front-below, one_if, times-cons}
+use Rattle.am_block.proofs.Fresh.{front-below, one_if, place-head, times-cons}
 use Rattle.am_body.specs.Views.{blank, descriptor_at, seen}
 
 -- what no slot of the list has is not seen
@@ -48,3 +49,7 @@ first_free p s free b front =
       notices = omega (arith, once, here);
       received = omega (arith, once, here);
     }
+
+-- without its front slot a list is the rest
+pub without-front : (s : ℕ) (xs : List ℕ) → without s (s ∷ xs) ≡ xs
+without-front s xs = ap (remove (s ∷ xs)) (place-head s xs)

@@ -5,6 +5,7 @@ ghost use Rattle.am_model.specs.Endpoint.{fresh};
 ghost use Rattle.std.specs.Prelude.{◌≡◌, IfOk};
 
 mod moves;
+mod notices;
 mod queues;
 mod settings;
 
