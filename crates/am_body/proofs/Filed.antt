@@ -1,7 +1,8 @@
 -- What a body is after a free slot took a message.
 use Rattle.std.proofs.Common.{◌≡◌, ℕ, ◌+◌, ◌<◌, Bool, true, false, List, [], ◌∷◌, ◌++◌, length, map, drop, refl, sym, ap, ◌∙◌, subst, arith}
 use Rattle.std.proofs.lemmas.List.{length-map}
-use Rattle.am_names.specs.Names.{is_request}
+use Rattle.am_names.specs.Names.{has_serial, is_answer, is_request}
+use Rattle.am_names.specs.declared.Serial.{Serial}
 use Rattle.am_names.specs.declared.Message.{Message}
 use Rattle.am_names.specs.declared.Tag.{Tag}
 use Rattle.am_office.specs.declared.HandlerKind.{HandlerKind}
@@ -12,14 +13,17 @@ use Rattle.am_model.specs.declared.Flying.{Flying}
 use Rattle.am_model.specs.declared.Notice.{Notice}
 use Rattle.am_model.specs.declared.Queued.{Queued}
 use Rattle.am_model.specs.Endpoint.{Body}
-use Rattle.am_model.specs.Changes.{appended, queued}
+use Rattle.am_model.specs.Changes.{appended, landed, queued}
+use Rattle.am_model.specs.Choice.{without_first}
 use Rattle.am_translate.specs.Tables.{Table}
-use Rattle.std.specs.Prelude.{Option, if◌then◌else◌}
+use Rattle.std.specs.Prelude.{Option, None, Some, find, if◌then◌else◌}
 use Rattle.am_body.specs.Moves.{filed, freed}
+use Rattle.am_body.specs.Walks.{is_sought_at, taken_out}
+use Rattle.am_body.specs.declared.walks.Sought.TheVariants as Soughts
 use Rattle.am_body.specs.Kept.{IsSound, view_of}
 use Rattle.am_body.specs.declared.Body.TheInside.{Inside}
 use Rattle.am_body.specs.Views.{View, body_over, descriptor_at, flying_in, message_in, notice_in, queued_in, seen, slots_held}
-use Rattle.am_body.proofs.Seen.{IsFree, first_free, grown, kept, without-front}
+use Rattle.am_body.proofs.Seen.{IsFree, first_free, grown, kept, none-seen, without-front, without-seen}
 
 -- a body with other lists
 abbrev pub with_lists : Body → List Queued → List Queued → List Flying → List Notice → List Message → Body
@@ -57,6 +61,40 @@ module _ (tag : Tag) (sum accepted : ℕ) (t : Table) (hs : List (Option Handler
       (kept flying_in p.descriptors s d p.in_flight ok.in_flight)
       (kept notice_in p.descriptors s d p.notices ok.notices)
       (kept message_in p.descriptors s d p.received ok.received)
+
+  received_filed : (s : ℕ) (free : List ℕ) → p.free ≡ s ∷ free → body_over tag sum accepted t hs (filed p (s ∷ free) Received d) ≡ record (body_over tag sum accepted t hs p) { received = (body_over tag sum accepted t hs p).received ++ message_in d ∷ [] }
+  received_filed s free front =
+      let ok = first_free p s free b front in
+      same_lists (body_over tag sum accepted t hs p) _ _ _ _ _ _ _ _ _ _
+      (kept queued_in p.descriptors s d p.requests ok.requests)
+      (kept queued_in p.descriptors s d p.replies ok.replies)
+      (kept flying_in p.descriptors s d p.in_flight ok.in_flight)
+      (kept notice_in p.descriptors s d p.notices ok.notices)
+      (grown message_in p.descriptors s d p.received ok.received ok.within)
+
+  flight_filed : (s : ℕ) (free : List ℕ) → p.free ≡ s ∷ free → body_over tag sum accepted t hs (filed p (s ∷ free) InFlight d) ≡ record (body_over tag sum accepted t hs p) { in_flight = (body_over tag sum accepted t hs p).in_flight ++ flying_in d ∷ [] }
+  flight_filed s free front =
+      let ok = first_free p s free b front in
+      same_lists (body_over tag sum accepted t hs p) _ _ _ _ _ _ _ _ _ _
+      (kept queued_in p.descriptors s d p.requests ok.requests)
+      (kept queued_in p.descriptors s d p.replies ok.replies)
+      (grown flying_in p.descriptors s d p.in_flight ok.in_flight ok.within)
+      (kept notice_in p.descriptors s d p.notices ok.notices)
+      (kept message_in p.descriptors s d p.received ok.received)
+
+  pub received_added : size p ≡ 80 → slots_held (body_over tag sum accepted t hs p) < 80 → body_over tag sum accepted t hs (filed p p.free Received d) ≡ record (body_over tag sum accepted t hs p) { received = (body_over tag sum accepted t hs p).received ++ message_in d ∷ [] }
+  received_added all held = by_free p.free refl
+    where
+      by_free : (xs : List ℕ) → p.free ≡ xs → body_over tag sum accepted t hs (filed p xs Received d) ≡ record (body_over tag sum accepted t hs p) { received = (body_over tag sum accepted t hs p).received ++ message_in d ∷ [] }
+      by_free [] none = absurd (some_free tag sum accepted t hs p b all held none)
+      by_free (s ∷ free) front = received_filed s free front
+
+  pub flight_added : size p ≡ 80 → slots_held (body_over tag sum accepted t hs p) < 80 → body_over tag sum accepted t hs (filed p p.free InFlight d) ≡ record (body_over tag sum accepted t hs p) { in_flight = (body_over tag sum accepted t hs p).in_flight ++ flying_in d ∷ [] }
+  flight_added all held = by_free p.free refl
+    where
+      by_free : (xs : List ℕ) → p.free ≡ xs → body_over tag sum accepted t hs (filed p xs InFlight d) ≡ record (body_over tag sum accepted t hs p) { in_flight = (body_over tag sum accepted t hs p).in_flight ++ flying_in d ∷ [] }
+      by_free [] none = absurd (some_free tag sum accepted t hs p b all held none)
+      by_free (s ∷ free) front = flight_filed s free front
 
   notice_filed : (s : ℕ) (free : List ℕ) → p.free ≡ s ∷ free → body_over tag sum accepted t hs (filed p (s ∷ free) Notices d) ≡ record (body_over tag sum accepted t hs p) { notices = (body_over tag sum accepted t hs p).notices ++ notice_in d ∷ [] }
   notice_filed s free front =
@@ -122,3 +160,40 @@ notices_freed i (s ∷ xs) e =
 
 pub notices_view : (i : Inside) (v : View) (q : Pools) → view_of i ≡ v → q ≡ freed i.block i.block.notices Notices → view_of (record i { block = q }) ≡ record v { body = record v.body { notices = drop 1 v.body.notices } }
 notices_view i v q e is = viewed i v q (freed i.block i.block.notices Notices) (λ b. record b { notices = drop 1 b.notices }) e is (notices_freed i i.block.notices refl)
+
+pub received_view : (i : Inside) (v : View) (q : Pools) (d : Descriptor) → view_of i ≡ v → IsSound i → q ≡ filed i.block i.block.free Received d → slots_held v.body < 80 → view_of (record i { block = q }) ≡ record v { body = record v.body { received = v.body.received ++ message_in d ∷ [] } }
+received_view i v q d e ok is held =
+    viewed i v q (filed i.block i.block.free Received d) (λ b. record b { received = b.received ++ message_in d ∷ [] }) e is
+    (received_added i.tag i.sum i.accepted i.translate i.handlers i.block d ok.block ok.slots (held_before i v e held))
+
+pub flight_view : (i : Inside) (v : View) (q : Pools) (d : Descriptor) → view_of i ≡ v → IsSound i → q ≡ filed i.block i.block.free InFlight d → slots_held v.body < 80 → view_of (record i { block = q }) ≡ record v { body = record v.body { in_flight = v.body.in_flight ++ flying_in d ∷ [] } }
+flight_view i v q d e ok is held =
+    viewed i v q (filed i.block i.block.free InFlight d) (λ b. record b { in_flight = b.in_flight ++ flying_in d ∷ [] }) e is
+    (flight_added i.tag i.sum i.accepted i.translate i.handlers i.block d ok.block ok.slots (held_before i v e held))
+
+received_freed : (i : Inside) (xs : List ℕ) → i.block.received ≡ xs → (view_of (record i { block = freed i.block xs Received })).body ≡ record (view_of i).body { received = drop 1 (view_of i).body.received }
+received_freed i [] e = ap (λ (ms : List Message). record (view_of i).body { received = ms }) (ap (seen message_in i.block.descriptors) e ∙ sym (ap (λ ys. drop 1 (seen message_in i.block.descriptors ys)) e))
+received_freed i (s ∷ xs) e =
+    ap (λ (ys : List ℕ). record (view_of i).body { received = seen message_in i.block.descriptors ys }) (ap (without s) e ∙ without-front s xs)
+    ∙ sym (ap (λ (ys : List ℕ). record (view_of i).body { received = drop 1 (seen message_in i.block.descriptors ys) }) e)
+
+pub received_gone : (i : Inside) (v : View) (q : Pools) → view_of i ≡ v → q ≡ freed i.block i.block.received Received → view_of (record i { block = q }) ≡ record v { body = record v.body { received = drop 1 v.body.received } }
+received_gone i v q e is = viewed i v q (freed i.block i.block.received Received) (λ b. record b { received = drop 1 b.received }) e is (received_freed i i.block.received refl)
+
+-- a body whose list loses what was found
+
+answer_out : (i : Inside) (r : Option ℕ) → find (λ s. is_sought_at Soughts.Answer i.block s) i.block.received ≡ r → (view_of (record i { block = taken_out i.block Received r })).body ≡ record (view_of i).body { received = without_first is_answer (view_of i).body.received }
+answer_out i None found = ap (λ (ms : List Message). record (view_of i).body { received = ms }) (sym (none-seen message_in is_answer i.block.descriptors i.block.received found))
+answer_out i (Some s) found = ap (λ (ms : List Message). record (view_of i).body { received = ms }) (without-seen message_in is_answer i.block.descriptors i.block.received s found)
+
+pub answer_gone : (i : Inside) (v : View) (q : Pools) → view_of i ≡ v → q ≡ taken_out i.block Received (find (λ s. is_sought_at Soughts.Answer i.block s) i.block.received) → view_of (record i { block = q }) ≡ record v { body = record v.body { received = without_first is_answer v.body.received } }
+answer_gone i v q e is =
+    viewed i v q (taken_out i.block Received (find (λ s. is_sought_at Soughts.Answer i.block s) i.block.received)) (λ b. record b { received = without_first is_answer b.received }) e is (answer_out i _ refl)
+
+flight_out : (serial : Serial) (i : Inside) (r : Option ℕ) → find (λ s. is_sought_at (Soughts.Of serial) i.block s) i.block.in_flight ≡ r → (view_of (record i { block = taken_out i.block InFlight r })).body ≡ landed serial (view_of i).body
+flight_out serial i None found = ap (λ (fs : List Flying). record (view_of i).body { in_flight = fs }) (sym (none-seen flying_in (λ (f : Flying). has_serial serial f.message) i.block.descriptors i.block.in_flight found))
+flight_out serial i (Some s) found = ap (λ (fs : List Flying). record (view_of i).body { in_flight = fs }) (without-seen flying_in (λ (f : Flying). has_serial serial f.message) i.block.descriptors i.block.in_flight s found)
+
+pub flight_gone : (serial : Serial) (i : Inside) (v : View) (q : Pools) → view_of i ≡ v → q ≡ taken_out i.block InFlight (find (λ s. is_sought_at (Soughts.Of serial) i.block s) i.block.in_flight) → view_of (record i { block = q }) ≡ record v { body = landed serial v.body }
+flight_gone serial i v q e is =
+    viewed i v q (taken_out i.block InFlight (find (λ s. is_sought_at (Soughts.Of serial) i.block s) i.block.in_flight)) (landed serial) e is (flight_out serial i _ refl)

@@ -4,10 +4,13 @@
 ghost use Rattle.am_model.specs.Endpoint.{fresh};
 ghost use Rattle.std.specs.Prelude.{◌≡◌, IfOk};
 
+mod flights;
 mod moves;
 mod notices;
 mod queues;
+mod received;
 mod settings;
+mod walks;
 
 pub use crate::settings::EndSettings;
 use am_block::Block;
