@@ -1,0 +1,199 @@
+-- What a body is after a free slot took a message.
+use Rattle.std.proofs.Common.{◌≡◌, ℕ, ◌+◌, ◌<◌, Bool, true, false, List, [], ◌∷◌, ◌++◌, length, map, drop, refl, sym, ap, ◌∙◌, subst, arith}
+use Rattle.std.proofs.lemmas.List.{length-map}
+use Rattle.am_names.specs.Names.{has_serial, is_answer, is_request}
+use Rattle.am_names.specs.declared.Serial.{Serial}
+use Rattle.am_names.specs.declared.Message.{Message}
+use Rattle.am_names.specs.declared.Tag.{Tag}
+use Rattle.am_office.specs.declared.HandlerKind.{HandlerKind}
+use Rattle.am_block.specs.Pools.{Pools, IsBlock, size, total, without}
+use Rattle.am_block.specs.declared.Descriptor.{Descriptor}
+use Rattle.am_block.specs.declared.List.TheVariants.{Requests, Replies, InFlight, Notices, Received}
+use Rattle.am_model.specs.declared.Flying.{Flying}
+use Rattle.am_model.specs.declared.Notice.{Notice}
+use Rattle.am_model.specs.declared.Queued.{Queued}
+use Rattle.am_model.specs.Endpoint.{Body}
+use Rattle.am_model.specs.Changes.{appended, landed, queued}
+use Rattle.am_model.specs.Choice.{without_first}
+use Rattle.am_translate.specs.Tables.{Table}
+use Rattle.std.specs.Prelude.{Option, None, Some, find, if◌then◌else◌}
+use Rattle.am_body.specs.Moves.{filed, freed}
+use Rattle.am_body.specs.Walks.{is_sought_at, taken_out}
+use Rattle.am_body.specs.declared.walks.Sought.TheVariants as Soughts
+use Rattle.am_body.specs.Kept.{IsSound, view_of}
+use Rattle.am_body.specs.declared.Body.TheInside.{Inside}
+use Rattle.am_body.specs.Views.{View, body_over, descriptor_at, flying_in, message_in, notice_in, queued_in, seen, slots_held}
+use Rattle.am_body.proofs.Seen.{IsFree, first_free, grown, kept, none-seen, without-front, without-seen}
+
+-- a body with other lists
+abbrev pub with_lists : Body → List Queued → List Queued → List Flying → List Notice → List Message → Body
+with_lists b requests replies in_flight notices received =
+    record b { requests = requests; replies = replies; in_flight = in_flight; notices = notices; received = received }
+
+pub same_lists : (b : Body) (q q' r r' : List Queued) (f f' : List Flying) (n n' : List Notice) (m m' : List Message) → q ≡ q' → r ≡ r' → f ≡ f' → n ≡ n' → m ≡ m' → with_lists b q r f n m ≡ with_lists b q' r' f' n' m'
+same_lists b q q' r r' f f' n n' m m' a c d e g = λ i. with_lists b (a i) (c i) (d i) (e i) (g i)
+
+-- while fewer than 80 slots are held one is free
+pub some_free : (tag : Tag) (sum accepted : ℕ) (t : Table) (hs : List (Option HandlerKind)) (p : Pools) → IsBlock p → size p ≡ 80 → slots_held (body_over tag sum accepted t hs p) < 80 → p.free ≡ [] → ⊥
+some_free tag sum accepted t hs p b is held none =
+    omega (arith, b.all_stand, is, held, ap length none, length-map p.requests (λ s. queued_in (slot s)), length-map p.replies (λ s. queued_in (slot s)), length-map p.in_flight (λ s. flying_in (slot s)), length-map p.notices (λ s. notice_in (slot s)), length-map p.received (λ s. message_in (slot s)))
+  where
+    slot : ℕ → Descriptor
+    slot s = descriptor_at p.descriptors s
+
+module _ (tag : Tag) (sum accepted : ℕ) (t : Table) (hs : List (Option HandlerKind)) (p : Pools) (d : Descriptor) (b : IsBlock p) where
+  request_filed : (s : ℕ) (free : List ℕ) → is_request d.message ≡ true → p.free ≡ s ∷ free → body_over tag sum accepted t hs (filed p (s ∷ free) Requests d) ≡ queued d.message d.used (body_over tag sum accepted t hs p)
+  request_filed s free is front =
+      let ok = first_free p s free b front in
+      same_lists (body_over tag sum accepted t hs p) _ _ _ _ _ _ _ _ _ _
+      (grown queued_in p.descriptors s d p.requests ok.requests ok.within ∙ ap (λ c. appended c d.message d.used (seen queued_in p.descriptors p.requests)) (sym is))
+      (kept queued_in p.descriptors s d p.replies ok.replies ∙ ap (λ c. appended (if c then false else true) d.message d.used (seen queued_in p.descriptors p.replies)) (sym is))
+      (kept flying_in p.descriptors s d p.in_flight ok.in_flight)
+      (kept notice_in p.descriptors s d p.notices ok.notices)
+      (kept message_in p.descriptors s d p.received ok.received)
+
+  answer_filed : (s : ℕ) (free : List ℕ) → is_request d.message ≡ false → p.free ≡ s ∷ free → body_over tag sum accepted t hs (filed p (s ∷ free) Replies d) ≡ queued d.message d.used (body_over tag sum accepted t hs p)
+  answer_filed s free is front =
+      let ok = first_free p s free b front in
+      same_lists (body_over tag sum accepted t hs p) _ _ _ _ _ _ _ _ _ _
+      (kept queued_in p.descriptors s d p.requests ok.requests ∙ ap (λ c. appended c d.message d.used (seen queued_in p.descriptors p.requests)) (sym is))
+      (grown queued_in p.descriptors s d p.replies ok.replies ok.within ∙ ap (λ c. appended (if c then false else true) d.message d.used (seen queued_in p.descriptors p.replies)) (sym is))
+      (kept flying_in p.descriptors s d p.in_flight ok.in_flight)
+      (kept notice_in p.descriptors s d p.notices ok.notices)
+      (kept message_in p.descriptors s d p.received ok.received)
+
+  received_filed : (s : ℕ) (free : List ℕ) → p.free ≡ s ∷ free → body_over tag sum accepted t hs (filed p (s ∷ free) Received d) ≡ record (body_over tag sum accepted t hs p) { received = (body_over tag sum accepted t hs p).received ++ message_in d ∷ [] }
+  received_filed s free front =
+      let ok = first_free p s free b front in
+      same_lists (body_over tag sum accepted t hs p) _ _ _ _ _ _ _ _ _ _
+      (kept queued_in p.descriptors s d p.requests ok.requests)
+      (kept queued_in p.descriptors s d p.replies ok.replies)
+      (kept flying_in p.descriptors s d p.in_flight ok.in_flight)
+      (kept notice_in p.descriptors s d p.notices ok.notices)
+      (grown message_in p.descriptors s d p.received ok.received ok.within)
+
+  flight_filed : (s : ℕ) (free : List ℕ) → p.free ≡ s ∷ free → body_over tag sum accepted t hs (filed p (s ∷ free) InFlight d) ≡ record (body_over tag sum accepted t hs p) { in_flight = (body_over tag sum accepted t hs p).in_flight ++ flying_in d ∷ [] }
+  flight_filed s free front =
+      let ok = first_free p s free b front in
+      same_lists (body_over tag sum accepted t hs p) _ _ _ _ _ _ _ _ _ _
+      (kept queued_in p.descriptors s d p.requests ok.requests)
+      (kept queued_in p.descriptors s d p.replies ok.replies)
+      (grown flying_in p.descriptors s d p.in_flight ok.in_flight ok.within)
+      (kept notice_in p.descriptors s d p.notices ok.notices)
+      (kept message_in p.descriptors s d p.received ok.received)
+
+  pub received_added : size p ≡ 80 → slots_held (body_over tag sum accepted t hs p) < 80 → body_over tag sum accepted t hs (filed p p.free Received d) ≡ record (body_over tag sum accepted t hs p) { received = (body_over tag sum accepted t hs p).received ++ message_in d ∷ [] }
+  received_added all held = by_free p.free refl
+    where
+      by_free : (xs : List ℕ) → p.free ≡ xs → body_over tag sum accepted t hs (filed p xs Received d) ≡ record (body_over tag sum accepted t hs p) { received = (body_over tag sum accepted t hs p).received ++ message_in d ∷ [] }
+      by_free [] none = absurd (some_free tag sum accepted t hs p b all held none)
+      by_free (s ∷ free) front = received_filed s free front
+
+  pub flight_added : size p ≡ 80 → slots_held (body_over tag sum accepted t hs p) < 80 → body_over tag sum accepted t hs (filed p p.free InFlight d) ≡ record (body_over tag sum accepted t hs p) { in_flight = (body_over tag sum accepted t hs p).in_flight ++ flying_in d ∷ [] }
+  flight_added all held = by_free p.free refl
+    where
+      by_free : (xs : List ℕ) → p.free ≡ xs → body_over tag sum accepted t hs (filed p xs InFlight d) ≡ record (body_over tag sum accepted t hs p) { in_flight = (body_over tag sum accepted t hs p).in_flight ++ flying_in d ∷ [] }
+      by_free [] none = absurd (some_free tag sum accepted t hs p b all held none)
+      by_free (s ∷ free) front = flight_filed s free front
+
+  notice_filed : (s : ℕ) (free : List ℕ) → p.free ≡ s ∷ free → body_over tag sum accepted t hs (filed p (s ∷ free) Notices d) ≡ record (body_over tag sum accepted t hs p) { notices = (body_over tag sum accepted t hs p).notices ++ notice_in d ∷ [] }
+  notice_filed s free front =
+      let ok = first_free p s free b front in
+      same_lists (body_over tag sum accepted t hs p) _ _ _ _ _ _ _ _ _ _
+      (kept queued_in p.descriptors s d p.requests ok.requests)
+      (kept queued_in p.descriptors s d p.replies ok.replies)
+      (kept flying_in p.descriptors s d p.in_flight ok.in_flight)
+      (grown notice_in p.descriptors s d p.notices ok.notices ok.within)
+      (kept message_in p.descriptors s d p.received ok.received)
+
+  pub notice_added : size p ≡ 80 → slots_held (body_over tag sum accepted t hs p) < 80 → body_over tag sum accepted t hs (filed p p.free Notices d) ≡ record (body_over tag sum accepted t hs p) { notices = (body_over tag sum accepted t hs p).notices ++ notice_in d ∷ [] }
+  notice_added all held = by_free p.free refl
+    where
+      by_free : (xs : List ℕ) → p.free ≡ xs → body_over tag sum accepted t hs (filed p xs Notices d) ≡ record (body_over tag sum accepted t hs p) { notices = (body_over tag sum accepted t hs p).notices ++ notice_in d ∷ [] }
+      by_free [] none = absurd (some_free tag sum accepted t hs p b all held none)
+      by_free (s ∷ free) front = notice_filed s free front
+
+  pub request_queued : size p ≡ 80 → slots_held (body_over tag sum accepted t hs p) < 80 → is_request d.message ≡ true → body_over tag sum accepted t hs (filed p p.free Requests d) ≡ queued d.message d.used (body_over tag sum accepted t hs p)
+  request_queued all held is = by_free p.free refl
+    where
+      by_free : (xs : List ℕ) → p.free ≡ xs → body_over tag sum accepted t hs (filed p xs Requests d) ≡ queued d.message d.used (body_over tag sum accepted t hs p)
+      by_free [] none = absurd (some_free tag sum accepted t hs p b all held none)
+      by_free (s ∷ free) front = request_filed s free is front
+
+  pub answer_queued : size p ≡ 80 → slots_held (body_over tag sum accepted t hs p) < 80 → is_request d.message ≡ false → body_over tag sum accepted t hs (filed p p.free Replies d) ≡ queued d.message d.used (body_over tag sum accepted t hs p)
+  answer_queued all held is = by_free p.free refl
+    where
+      by_free : (xs : List ℕ) → p.free ≡ xs → body_over tag sum accepted t hs (filed p xs Replies d) ≡ queued d.message d.used (body_over tag sum accepted t hs p)
+      by_free [] none = absurd (some_free tag sum accepted t hs p b all held none)
+      by_free (s ∷ free) front = answer_filed s free is front
+
+held_before : (i : Inside) (v : View) → view_of i ≡ v → slots_held v.body < 80 → slots_held (view_of i).body < 80
+held_before i v e h = subst (λ (w : View). slots_held w.body < 80) (sym e) h
+
+-- a body with another block, where its new view is known
+viewed : (i : Inside) (v : View) (q r : Pools) (change : Body → Body) → view_of i ≡ v → q ≡ r → (view_of (record i { block = r })).body ≡ change (view_of i).body → view_of (record i { block = q }) ≡ record v { body = change v.body }
+viewed i v q r change e is to =
+    ap (λ (p : Pools). view_of (record i { block = p })) is ∙ ap (λ (b : Body). record (view_of i) { body = b }) to ∙ ap (λ (w : View). record w { body = change w.body }) e
+
+pub request_view : (i : Inside) (v : View) (q : Pools) (d : Descriptor) → view_of i ≡ v → IsSound i → q ≡ filed i.block i.block.free Requests d → is_request d.message ≡ true → slots_held v.body < 80 → view_of (record i { block = q }) ≡ record v { body = queued d.message d.used v.body }
+request_view i v q d e ok is kind held =
+    viewed i v q (filed i.block i.block.free Requests d) (queued d.message d.used) e is
+    (request_queued i.tag i.sum i.accepted i.translate i.handlers i.block d ok.block ok.slots (held_before i v e held) kind)
+
+pub answer_view : (i : Inside) (v : View) (q : Pools) (d : Descriptor) → view_of i ≡ v → IsSound i → q ≡ filed i.block i.block.free Replies d → is_request d.message ≡ false → slots_held v.body < 80 → view_of (record i { block = q }) ≡ record v { body = queued d.message d.used v.body }
+answer_view i v q d e ok is kind held =
+    viewed i v q (filed i.block i.block.free Replies d) (queued d.message d.used) e is
+    (answer_queued i.tag i.sum i.accepted i.translate i.handlers i.block d ok.block ok.slots (held_before i v e held) kind)
+
+pub notice_view : (i : Inside) (v : View) (q : Pools) (d : Descriptor) → view_of i ≡ v → IsSound i → q ≡ filed i.block i.block.free Notices d → slots_held v.body < 80 → view_of (record i { block = q }) ≡ record v { body = record v.body { notices = v.body.notices ++ notice_in d ∷ [] } }
+notice_view i v q d e ok is held =
+    viewed i v q (filed i.block i.block.free Notices d) (λ b. record b { notices = b.notices ++ notice_in d ∷ [] }) e is
+    (notice_added i.tag i.sum i.accepted i.translate i.handlers i.block d ok.block ok.slots (held_before i v e held))
+
+-- a body whose list loses its front
+
+notices_freed : (i : Inside) (xs : List ℕ) → i.block.notices ≡ xs → (view_of (record i { block = freed i.block xs Notices })).body ≡ record (view_of i).body { notices = drop 1 (view_of i).body.notices }
+notices_freed i [] e = ap (λ (ns : List Notice). record (view_of i).body { notices = ns }) (ap (seen notice_in i.block.descriptors) e ∙ sym (ap (λ ys. drop 1 (seen notice_in i.block.descriptors ys)) e))
+notices_freed i (s ∷ xs) e =
+    ap (λ (ys : List ℕ). record (view_of i).body { notices = seen notice_in i.block.descriptors ys }) (ap (without s) e ∙ without-front s xs)
+    ∙ sym (ap (λ (ys : List ℕ). record (view_of i).body { notices = drop 1 (seen notice_in i.block.descriptors ys) }) e)
+
+pub notices_view : (i : Inside) (v : View) (q : Pools) → view_of i ≡ v → q ≡ freed i.block i.block.notices Notices → view_of (record i { block = q }) ≡ record v { body = record v.body { notices = drop 1 v.body.notices } }
+notices_view i v q e is = viewed i v q (freed i.block i.block.notices Notices) (λ b. record b { notices = drop 1 b.notices }) e is (notices_freed i i.block.notices refl)
+
+pub received_view : (i : Inside) (v : View) (q : Pools) (d : Descriptor) → view_of i ≡ v → IsSound i → q ≡ filed i.block i.block.free Received d → slots_held v.body < 80 → view_of (record i { block = q }) ≡ record v { body = record v.body { received = v.body.received ++ message_in d ∷ [] } }
+received_view i v q d e ok is held =
+    viewed i v q (filed i.block i.block.free Received d) (λ b. record b { received = b.received ++ message_in d ∷ [] }) e is
+    (received_added i.tag i.sum i.accepted i.translate i.handlers i.block d ok.block ok.slots (held_before i v e held))
+
+pub flight_view : (i : Inside) (v : View) (q : Pools) (d : Descriptor) → view_of i ≡ v → IsSound i → q ≡ filed i.block i.block.free InFlight d → slots_held v.body < 80 → view_of (record i { block = q }) ≡ record v { body = record v.body { in_flight = v.body.in_flight ++ flying_in d ∷ [] } }
+flight_view i v q d e ok is held =
+    viewed i v q (filed i.block i.block.free InFlight d) (λ b. record b { in_flight = b.in_flight ++ flying_in d ∷ [] }) e is
+    (flight_added i.tag i.sum i.accepted i.translate i.handlers i.block d ok.block ok.slots (held_before i v e held))
+
+received_freed : (i : Inside) (xs : List ℕ) → i.block.received ≡ xs → (view_of (record i { block = freed i.block xs Received })).body ≡ record (view_of i).body { received = drop 1 (view_of i).body.received }
+received_freed i [] e = ap (λ (ms : List Message). record (view_of i).body { received = ms }) (ap (seen message_in i.block.descriptors) e ∙ sym (ap (λ ys. drop 1 (seen message_in i.block.descriptors ys)) e))
+received_freed i (s ∷ xs) e =
+    ap (λ (ys : List ℕ). record (view_of i).body { received = seen message_in i.block.descriptors ys }) (ap (without s) e ∙ without-front s xs)
+    ∙ sym (ap (λ (ys : List ℕ). record (view_of i).body { received = drop 1 (seen message_in i.block.descriptors ys) }) e)
+
+pub received_gone : (i : Inside) (v : View) (q : Pools) → view_of i ≡ v → q ≡ freed i.block i.block.received Received → view_of (record i { block = q }) ≡ record v { body = record v.body { received = drop 1 v.body.received } }
+received_gone i v q e is = viewed i v q (freed i.block i.block.received Received) (λ b. record b { received = drop 1 b.received }) e is (received_freed i i.block.received refl)
+
+-- a body whose list loses what was found
+
+answer_out : (i : Inside) (r : Option ℕ) → find (λ s. is_sought_at Soughts.Answer i.block s) i.block.received ≡ r → (view_of (record i { block = taken_out i.block Received r })).body ≡ record (view_of i).body { received = without_first is_answer (view_of i).body.received }
+answer_out i None found = ap (λ (ms : List Message). record (view_of i).body { received = ms }) (sym (none-seen message_in is_answer i.block.descriptors i.block.received found))
+answer_out i (Some s) found = ap (λ (ms : List Message). record (view_of i).body { received = ms }) (without-seen message_in is_answer i.block.descriptors i.block.received s found)
+
+pub answer_gone : (i : Inside) (v : View) (q : Pools) → view_of i ≡ v → q ≡ taken_out i.block Received (find (λ s. is_sought_at Soughts.Answer i.block s) i.block.received) → view_of (record i { block = q }) ≡ record v { body = record v.body { received = without_first is_answer v.body.received } }
+answer_gone i v q e is =
+    viewed i v q (taken_out i.block Received (find (λ s. is_sought_at Soughts.Answer i.block s) i.block.received)) (λ b. record b { received = without_first is_answer b.received }) e is (answer_out i _ refl)
+
+flight_out : (serial : Serial) (i : Inside) (r : Option ℕ) → find (λ s. is_sought_at (Soughts.Of serial) i.block s) i.block.in_flight ≡ r → (view_of (record i { block = taken_out i.block InFlight r })).body ≡ landed serial (view_of i).body
+flight_out serial i None found = ap (λ (fs : List Flying). record (view_of i).body { in_flight = fs }) (sym (none-seen flying_in (λ (f : Flying). has_serial serial f.message) i.block.descriptors i.block.in_flight found))
+flight_out serial i (Some s) found = ap (λ (fs : List Flying). record (view_of i).body { in_flight = fs }) (without-seen flying_in (λ (f : Flying). has_serial serial f.message) i.block.descriptors i.block.in_flight s found)
+
+pub flight_gone : (serial : Serial) (i : Inside) (v : View) (q : Pools) → view_of i ≡ v → q ≡ taken_out i.block InFlight (find (λ s. is_sought_at (Soughts.Of serial) i.block s) i.block.in_flight) → view_of (record i { block = q }) ≡ record v { body = landed serial v.body }
+flight_gone serial i v q e is =
+    viewed i v q (taken_out i.block InFlight (find (λ s. is_sought_at (Soughts.Of serial) i.block s) i.block.in_flight)) (landed serial) e is (flight_out serial i _ refl)

@@ -1,0 +1,61 @@
+// Messages of its own that an endpoint has in flight.
+ghost use Rattle.am_body.specs.Views.{flying_in, slots_held};
+ghost use Rattle.am_model.specs.Changes.{flying_of, landed};
+ghost use Rattle.std.specs.Prelude.{◌≡◌, ◌<◌, [], ◌∷◌, ◌++◌, false, length};
+
+use crate::Body;
+use crate::moves::file_free;
+use crate::walks::{Sought, find, free_found};
+use am_block::{Descriptor, List};
+use am_model::Flying;
+use am_names::{Message, Serial, Why};
+
+fn as_flying(descriptor: Descriptor) -> Flying
+    ensures { result ≡ flying_in descriptor }
+{
+    Flying {
+        message: descriptor.message,
+        bounces: descriptor.used,
+        answered: descriptor.answered,
+    }
+}
+
+impl Body {
+    /// How many messages are in flight.
+    pub fn in_flight_len(&self) -> u8
+        ensures { result ≡ length self.now.body.in_flight }
+    {
+        self.block.len(List::InFlight)
+    }
+
+    /// The message in flight with this serial, if any.
+    pub fn flight(&self, serial: Serial) -> Option<Flying>
+        ensures { result ≡ flying_of serial self.now.body.in_flight }
+    {
+        match find(&self.block, List::InFlight, Sought::Of(serial)) {
+            Some(slot) => Some(as_flying(*self.block.get(slot))),
+            None => None,
+        }
+    }
+
+    /// The message in flight with this serial, if any, is in flight no more.
+    pub fn land(&mut self, serial: Serial)
+        ensures { self.new ≡ record self.old { body = landed serial self.old.body } }
+    {
+        free_found(&mut self.block, List::InFlight, Sought::Of(serial));
+    }
+
+    /// A message that bounced so often is in flight from now on, and has no reply yet.
+    pub fn add_flight(&mut self, message: Message, bounces: u8)
+        requires { slots_held self.old.body < 80 }
+        ensures { self.new ≡ record self.old { body = record self.old.body { in_flight = self.old.body.in_flight ++ record { message = message; bounces = bounces; answered = false } ∷ [] } } }
+    {
+        let descriptor = Descriptor {
+            message,
+            used: bounces,
+            answered: false,
+            why: Why::Unknown,
+        };
+        file_free(&mut self.block, List::InFlight, descriptor);
+    }
+}

@@ -1,0 +1,38 @@
+// Slots of a block that go from list to list.
+ghost use Rattle.am_block.specs.Pools.{IsBlock, size, slots};
+ghost use Rattle.am_body.specs.Moves.{filed};
+ghost use Rattle.am_body.specs.Moves.{first_of, freed};
+ghost use Rattle.std.specs.Prelude.{◌≡◌};
+
+use am_block::{Block, Descriptor, List};
+
+/// The first free slot, if there is one, takes a message for a list.
+pub(crate) fn file_free(block: &mut Block, to: List, descriptor: Descriptor)
+    ensures filed { block.new ≡ filed block.old (slots block.old List.Free) to descriptor }
+    ensures block { IsBlock block.new }
+    ensures size { size block.new ≡ size block.old }
+{
+    match block.move_front(List::Free, to) {
+        None => {}
+        Some(slot) => *block.get_mut(slot) = descriptor,
+    }
+}
+
+/// The first slot of a list, if it has one, is free from now on.
+pub(crate) fn free_front(block: &mut Block, from: List)
+    ensures freed { block.new ≡ freed block.old (slots block.old from) from }
+    ensures block { IsBlock block.new }
+    ensures size { size block.new ≡ size block.old }
+{
+    block.move_front(from, List::Free);
+}
+
+/// The descriptor of the first slot of a list, if it has one.
+pub(crate) fn front_descriptor(block: &Block, list: List) -> Option<Descriptor>
+    ensures { result ≡ first_of block.now (slots block.now list) }
+{
+    match block.front(list) {
+        None => None,
+        Some(slot) => Some(*block.get(slot)),
+    }
+}

@@ -1,0 +1,75 @@
+// Messages of its own that an endpoint has to send.
+ghost use Rattle.am_body.specs.Views.{slots_held};
+ghost use Rattle.am_body.specs.Views.{queued_in};
+ghost use Rattle.am_model.specs.Changes.{queued, without_front};
+ghost use Rattle.am_model.specs.Endpoint.{front_of};
+ghost use Rattle.am_names.specs.Names.{is_request};
+ghost use Rattle.std.specs.Prelude.{◌≡◌, ◌<◌};
+
+use crate::Body;
+use crate::moves::{file_free, free_front, front_descriptor};
+use am_block::{Descriptor, List};
+use am_model::Queued;
+use am_names::{Message, MsgKind, Why};
+
+pub(crate) fn is_request(message: &Message) -> bool
+    ensures { result ≡ is_request message.now }
+{
+    match message.kind {
+        MsgKind::Request => true,
+        MsgKind::Reply | MsgKind::Empty => false,
+    }
+}
+
+fn as_queued(descriptor: Descriptor) -> Queued
+    ensures { result ≡ queued_in descriptor }
+{
+    Queued {
+        message: descriptor.message,
+        bounces: descriptor.used,
+    }
+}
+
+impl Body {
+    /// The front message, and how often it bounced: the front of replies, and where there is none the front of requests.
+    pub fn front(&self) -> Option<Queued>
+        ensures { result ≡ front_of self.now.body.replies self.now.body.requests }
+    {
+        match front_descriptor(&self.block, List::Replies) {
+            Some(reply) => Some(as_queued(reply)),
+            None => match front_descriptor(&self.block, List::Requests) {
+                Some(request) => Some(as_queued(request)),
+                None => None,
+            },
+        }
+    }
+
+    /// The front message leaves its queue.
+    pub fn drop_front(&mut self)
+        ensures { self.new ≡ record self.old { body = without_front self.old.body } }
+    {
+        if self.block.len(List::Replies) == 0 {
+            free_front(&mut self.block, List::Requests);
+        } else {
+            free_front(&mut self.block, List::Replies);
+        }
+    }
+
+    /// A message goes to the tail of its queue, having bounced so often.
+    pub fn queue(&mut self, message: Message, bounces: u8)
+        requires { slots_held self.old.body < 80 }
+        ensures { self.new ≡ record self.old { body = queued message bounces self.old.body } }
+    {
+        let descriptor = Descriptor {
+            message,
+            used: bounces,
+            answered: false,
+            why: Why::Unknown,
+        };
+        if is_request(&message) {
+            file_free(&mut self.block, List::Requests, descriptor);
+        } else {
+            file_free(&mut self.block, List::Replies, descriptor);
+        }
+    }
+}
