@@ -10,3 +10,4 @@ pub mod Growing
 pub mod Granting
 pub mod Numbers
 pub mod Numbering
+pub mod Settings

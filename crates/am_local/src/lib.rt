@@ -10,14 +10,14 @@ ghost use Rattle.am_local.specs.Granted.{IsMoveOf, IsWorkAt, MayDo, MayMove};
 ghost use Rattle.am_local.specs.Interface.{InterfaceLog, emits_to, event_of, home_of_front, failing_at, is_bind, needs, outcome_at, receiver};
 ghost use Rattle.am_local.specs.Numbered.{AreNumbered, IsNextPacket, IsPacketAt};
 ghost use Rattle.am_local.specs.Readings.{ReadingsGrow, ReadsItsOwn};
-ghost use Rattle.am_local.specs.Together.{IsAt, IsDriverPart, IsPart, IsState, SaysTheSame, SaysTheSameOfCall, SaysTheSameOfCarry, SaysTheSameOfMove, SaysTheSameOfWant, restamped};
+ghost use Rattle.am_local.specs.Together.{IsAt, IsDriverPart, IsPart, IsState, SaysTheSame, SaysTheSameOfCall, SaysTheSameOfCarry, SaysTheSameOfMove, SaysTheSameOfWant, driver_in, interface_in, restamped};
 ghost use Rattle.am_model.specs.Allowed.{MayArrive, MayBind, MayCarry, MayDrain, MayLoad, MayPageIn, MayPageOut, MaySettle, MayUnload, are_numbers_in_range};
 ghost use Rattle.am_model.specs.Calls.{outcome_of_call};
 ghost use Rattle.am_model.specs.Changes.{called, made_wanted};
 ghost use Rattle.am_model.specs.Channels.{emitted};
 ghost use Rattle.am_model.specs.Endpoint.{IsWithin, State, Body, fresh, front};
 ghost use Rattle.am_model.specs.History.{IsHistory, state_of};
-ghost use Rattle.am_model.specs.Layout.{IsPoolLawful, Layout};
+ghost use Rattle.am_model.specs.Layout.{IsLawful, IsPoolLawful, Layout};
 ghost use Rattle.am_model.specs.Order.{IsInOrder, KeepsOrder};
 ghost use Rattle.am_names.specs.declared.EndpointId.{EndpointId};
 ghost use Rattle.am_names.specs.declared.NodeId.{NodeId};
@@ -58,6 +58,13 @@ pub fn calls_are_local()
     ensures call { (layout : Layout) (past : List Entry) (actor : Actor) (e : EndpointId) (call : Call) (s : State) → s ≡ state_of layout past e → SaysTheSameOfCall layout past actor e call s }
     ensures want { (layout : Layout) (past : List Entry) (actor : Actor) (e : EndpointId) (s : State) → s ≡ state_of layout past e → SaysTheSameOfWant layout past actor e s }
     ensures carry { (layout : Layout) (past : List Entry) (e : EndpointId) (s there : State) → layout.direct ≡ true → s ≡ state_of layout past e → IsThere layout past (front s) there → SaysTheSameOfCarry layout past e s there }
+{}
+
+/// On the packet network each node has an interface and a driver whose settings are the layout's and whose logs are their
+/// parts of the journal.
+pub fn parts_are_there()
+    ensures interface { (layout : Layout) (past : List Entry) (node : NodeId) → IsLawful layout → layout.direct ≡ false → IsPart layout past (interface_in layout node past) }
+    ensures driver { (layout : Layout) (past : List Entry) (node : NodeId) → IsLawful layout → layout.direct ≡ false → IsDriverPart layout past (driver_in layout node past) }
 {}
 
 // ---- what a work touches and where its packet goes
