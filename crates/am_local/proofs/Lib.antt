@@ -11,3 +11,4 @@ pub mod Granting
 pub mod Numbers
 pub mod Numbering
 pub mod Settings
+pub mod Following
