@@ -10,3 +10,5 @@ pub mod Growing
 pub mod Granting
 pub mod Numbers
 pub mod Numbering
+pub mod Settings
+pub mod Following

@@ -1,6 +1,7 @@
 pub mod Asked
 pub mod Bounds
 pub mod Driver
+pub mod Follows
 pub mod Granted
 pub mod Interface
 pub mod Numbered

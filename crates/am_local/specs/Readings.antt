@@ -1,6 +1,6 @@
 -- The readings of a list of entries that parts keep beside their log: which entries they read, and what one entry more
 -- makes of them.
-use Rattle.std.specs.Prelude.{◌≡◌, ℕ, ◌+◌, ◌||◌, List, [], ◌∷◌, ◌++◌, filter, count_by, if◌then◌else◌}
+use Rattle.std.specs.Prelude.{◌≡◌, ℕ, Bool, true, false, ◌+◌, ◌||◌, List, [], ◌∷◌, ◌++◌, filter, count_by, if◌then◌else◌}
 use Rattle.am_names.specs.declared.EndpointId.{EndpointId}
 use Rattle.am_names.specs.declared.NodeId.{NodeId}
 use Rattle.am_office.specs.declared.Entry.{Entry}
@@ -43,3 +43,8 @@ pub record ReadingsGrow (log : List Entry) (x : Entry) : Type 0 where
   pub frames : (frame : ℕ) (e : EndpointId) → lies_in (log ++ x ∷ []) frame e ≡ (if changes_frame e x.event then is_load_into frame x.event else lies_in log frame e)
   pub pages : (node : NodeId) → page_calls node (log ++ x ∷ []) ≡ page_calls node log + (if is_page_call node x.event then 1 else 0)
   pub states : (layout : Layout) (e : EndpointId) → state_of layout (log ++ x ∷ []) e ≡ (if touches e x then after e (state_of layout log e) x else state_of layout log e)
+
+-- a log after an entry, which stands at its end where it belongs into it
+abbrev pub with_entry : Bool → Entry → List Entry → List Entry
+with_entry true x log = log ++ x ∷ []
+with_entry false x log = log

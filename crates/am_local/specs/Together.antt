@@ -1,5 +1,6 @@
 -- When a part's own log says what the whole journal says, and what it then says.
 use Rattle.std.specs.Prelude.{◌≡◌, ℕ, ◌-◌, ◌≤◌, false, Option, Some, None, List, map, filter, slice_get}
+use Rattle.std.specs.List.{range_with_len}
 use Rattle.am_names.specs.declared.EndpointId.{EndpointId}
 use Rattle.am_names.specs.declared.NodeId.{NodeId}
 use Rattle.am_names.specs.declared.Packet.{Packet}
@@ -120,3 +121,23 @@ pub record SaysTheSameOfWant (layout : Layout) (past : List Entry) (actor : Acto
 pub record SaysTheSameOfCarry (layout : Layout) (past : List Entry) (e : EndpointId) (s there : State) : Type 0 where
   pub outcome : outcome_of layout past (Events.Carry e) ≡ carry_at layout.bounces (front s) there
   pub failing : failing layout past (Events.Carry e) ≡ failing_carry s
+
+-- the node of each of the 256 endpoints that may be declared
+abbrev pub homes_of : Layout → List (Option NodeId)
+homes_of layout = map (λ (number : ℕ). home layout (record { 0 = number })) (range_with_len 0 256)
+
+-- the interface of a node after these entries
+abbrev pub interface_in : Layout → NodeId → List Entry → InterfaceLog
+interface_in layout node past =
+    record {
+      settings = record { node = node; channels = layout.channels; tries = layout.tries; bounces = layout.bounces; homes = homes_of layout };
+      log = filter (touches_node node) past;
+    }
+
+-- the driver of a node after these entries
+abbrev pub driver_in : Layout → NodeId → List Entry → DriverLog
+driver_in layout node past =
+    record {
+      settings = record { node = node; ends = ends_of layout node; faults = faults_of layout node };
+      log = filter (is_by_driver node) past;
+    }

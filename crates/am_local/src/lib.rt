@@ -3,21 +3,22 @@
 //! cluster and the threads stand on the same theorems. Each theorem is the contract of a function with an empty body.
 #![tactic(auto)]
 
-ghost use Rattle.am_local.specs.Asked.{IsThere};
+ghost use Rattle.am_local.specs.Asked.{IsThere, carry_at, failing_call, failing_carry, failing_want};
 ghost use Rattle.am_local.specs.Bounds.{IsBounded};
-ghost use Rattle.am_local.specs.Driver.{DriverLog, driver_of, end_moved};
+ghost use Rattle.am_local.specs.Driver.{DriverLog, driver_of, end_moved, failing_move, outcome_move};
+ghost use Rattle.am_local.specs.Follows.{IsNext, PartsGrow};
 ghost use Rattle.am_local.specs.Granted.{IsMoveOf, IsWorkAt, MayDo, MayMove};
 ghost use Rattle.am_local.specs.Interface.{InterfaceLog, emits_to, event_of, home_of_front, failing_at, is_bind, needs, outcome_at, receiver};
 ghost use Rattle.am_local.specs.Numbered.{AreNumbered, IsNextPacket, IsPacketAt};
 ghost use Rattle.am_local.specs.Readings.{ReadingsGrow, ReadsItsOwn};
-ghost use Rattle.am_local.specs.Together.{IsAt, IsDriverPart, IsPart, IsState, SaysTheSame, SaysTheSameOfCall, SaysTheSameOfCarry, SaysTheSameOfMove, SaysTheSameOfWant, restamped};
+ghost use Rattle.am_local.specs.Together.{IsAt, IsDriverPart, IsPart, IsState, SaysTheSame, SaysTheSameOfCall, SaysTheSameOfCarry, SaysTheSameOfMove, SaysTheSameOfWant, driver_in, interface_in, restamped};
 ghost use Rattle.am_model.specs.Allowed.{MayArrive, MayBind, MayCarry, MayDrain, MayLoad, MayPageIn, MayPageOut, MaySettle, MayUnload, are_numbers_in_range};
 ghost use Rattle.am_model.specs.Calls.{outcome_of_call};
 ghost use Rattle.am_model.specs.Changes.{called, made_wanted};
 ghost use Rattle.am_model.specs.Channels.{emitted};
 ghost use Rattle.am_model.specs.Endpoint.{IsWithin, State, Body, fresh, front};
-ghost use Rattle.am_model.specs.History.{IsHistory, state_of};
-ghost use Rattle.am_model.specs.Layout.{IsPoolLawful, Layout};
+ghost use Rattle.am_model.specs.History.{IsHistory, MayFollow, state_of};
+ghost use Rattle.am_model.specs.Layout.{IsLawful, IsPoolLawful, Layout};
 ghost use Rattle.am_model.specs.Order.{IsInOrder, KeepsOrder};
 ghost use Rattle.am_names.specs.declared.EndpointId.{EndpointId};
 ghost use Rattle.am_names.specs.declared.NodeId.{NodeId};
@@ -28,7 +29,9 @@ ghost use Rattle.am_office.specs.declared.Actor.{Actor};
 ghost use Rattle.am_office.specs.declared.Call.{Call};
 ghost use Rattle.am_office.specs.declared.Entry.{Entry};
 ghost use Rattle.am_office.specs.declared.Event.{Event};
+ghost use Rattle.am_office.specs.declared.Event.TheVariants as Events;
 ghost use Rattle.am_office.specs.declared.Outcome.{Outcome};
+ghost use Rattle.am_office.specs.declared.Outcome.TheVariants as Out;
 ghost use Rattle.am_office.specs.declared.Place.{Place};
 ghost use Rattle.std.specs.Option.{option_to_list};
 ghost use Rattle.std.specs.Prelude.{◌≡◌, ℕ, false, true, List, Option, None, Some, slice_get};
@@ -58,6 +61,13 @@ pub fn calls_are_local()
     ensures call { (layout : Layout) (past : List Entry) (actor : Actor) (e : EndpointId) (call : Call) (s : State) → s ≡ state_of layout past e → SaysTheSameOfCall layout past actor e call s }
     ensures want { (layout : Layout) (past : List Entry) (actor : Actor) (e : EndpointId) (s : State) → s ≡ state_of layout past e → SaysTheSameOfWant layout past actor e s }
     ensures carry { (layout : Layout) (past : List Entry) (e : EndpointId) (s there : State) → layout.direct ≡ true → s ≡ state_of layout past e → IsThere layout past (front s) there → SaysTheSameOfCarry layout past e s there }
+{}
+
+/// On the packet network each node has an interface and a driver whose settings are the layout's and whose logs are their
+/// parts of the journal.
+pub fn parts_are_there()
+    ensures interface { (layout : Layout) (past : List Entry) (node : NodeId) → IsLawful layout → layout.direct ≡ false → IsPart layout past (interface_in layout node past) }
+    ensures driver { (layout : Layout) (past : List Entry) (node : NodeId) → IsLawful layout → layout.direct ≡ false → IsDriverPart layout past (driver_in layout node past) }
 {}
 
 // ---- what a work touches and where its packet goes
@@ -105,6 +115,22 @@ pub fn readings_are_own()
 /// What one entry more makes of each reading.
 pub fn readings_grow()
     ensures { (log : List Entry) (x : Entry) → ReadingsGrow log x }
+{}
+
+/// The parts of a journal after one entry more: each log has it at its end where the entry touches the part, and is else
+/// as it was.
+pub fn parts_grow()
+    ensures { (layout : Layout) (past : List Entry) (x : Entry) → PartsGrow layout past x }
+{}
+
+/// An entry that a part finds by its own log may come next in the journal, where it is stamped above all that came before:
+/// an interface's work, a driver's move, a call, a want and a carry.
+pub fn entries_follow()
+    ensures work { (layout : Layout) (past : List Entry) (i : InterfaceLog) (s : State) (w : Work) (x : Entry) → IsPart layout past i → IsAt layout past i s w → IsNext layout past (event_of i.settings.node w) x → failing_at i s w ≡ None → x.outcome ≡ outcome_at i s w → MayFollow layout past x }
+    ensures moved { (layout : Layout) (past : List Entry) (d : DriverLog) (s : State) (event : Event) (x : Entry) → IsHistory layout past → IsDriverPart layout past d → driver_of event ≡ Some d.settings.node → IsState layout past s (end_moved event) → IsNext layout past event x → failing_move d s event ≡ None → x.outcome ≡ outcome_move d event → MayFollow layout past x }
+    ensures call { (layout : Layout) (past : List Entry) (actor : Actor) (e : EndpointId) (call : Call) (s : State) (x : Entry) → s ≡ state_of layout past e → IsNext layout past (Events.Call actor e call) x → failing_call s ≡ None → x.outcome ≡ outcome_of_call layout.pool e s call → MayFollow layout past x }
+    ensures want { (layout : Layout) (past : List Entry) (actor : Actor) (e : EndpointId) (s : State) (x : Entry) → s ≡ state_of layout past e → IsNext layout past (Events.Want actor e) x → failing_want s ≡ None → x.outcome ≡ Out.Silent → MayFollow layout past x }
+    ensures carry { (layout : Layout) (past : List Entry) (e : EndpointId) (s there : State) (x : Entry) → layout.direct ≡ true → s ≡ state_of layout past e → IsThere layout past (front s) there → IsNext layout past (Events.Carry e) x → failing_carry s ≡ None → x.outcome ≡ carry_at layout.bounces (front s) there → MayFollow layout past x }
 {}
 
 // ---- what an endpoint may be given

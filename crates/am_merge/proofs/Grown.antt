@@ -2,9 +2,10 @@
 use Rattle.std.specs.Prelude.{nat_lt}
 use Rattle.std.proofs.Common.{◌≡◌, ℕ, ◌<◌, ◌==◌, Bool, true, false, ◌&&◌, ◌||◌, List, [], ◌∷◌, ◌++◌, map, refl, sym, ap, ◌∙◌, arith, append_assoc, ne_eqb, eq-eqb, le-ltb, lt-ltb, if◌then◌else◌}
 use Rattle.am_office.specs.declared.Entry.{Entry}
+use Rattle.am_local.specs.Readings.{with_entry}
 use Rattle.am_model.specs.Layout.{AllAre}
 use Rattle.am_model.specs.Merge.{rank, is_before}
-use Rattle.am_merge.specs.Merged.{IsBelow, PartLog, entries_of, grown, inserted, is_same, journal_after, journal_of, merged, sorted, touches_one, touches_part, with_entry}
+use Rattle.am_merge.specs.Merged.{IsBelow, PartLog, entries_of, grown, inserted, is_same, journal_after, journal_of, merged, sorted, touches_one, touches_part}
 
 abbrev AreBelow : ℕ → List Entry → Type 0
 AreBelow stamp xs = AllAre (λ (y : Entry). y.stamp < stamp) xs

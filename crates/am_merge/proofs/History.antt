@@ -59,7 +59,7 @@ state_here layout logs past x rest h e is =
     ap (replay e (opening layout e)) (part_before (touches e) past x rest (logs.end e) is (h.of_ends e) (h.rising.ends e))
 
 -- the list has the endpoint, if there is one
-abbrev HasEnd : List EndpointId → Option EndpointId → Type 0
+abbrev pub HasEnd : List EndpointId → Option EndpointId → Type 0
 HasEnd es None = Unit {0}
 HasEnd es (Some e) = list_any (same_end e) es ≡ true
 
@@ -83,7 +83,7 @@ later_here layout logs past x rest h taken =
     later_than_shared x past (λ e is. below_before (touches e) past x rest (logs.end e) is (h.of_ends e) (h.rising.ends e)) (shares_below layout logs past x rest h (node_touched x.event) refl) k
     && taken k
 
-first_touched : (e : EndpointId) (es : List EndpointId) → list_any (same_end e) (e ∷ es) ≡ true
+pub first_touched : (e : EndpointId) (es : List EndpointId) → list_any (same_end e) (e ∷ es) ≡ true
 first_touched e es = ap (λ (b : Bool). b || list_any (same_end e) es) (same_end-refl e)
 
 -- an entry whose event touches the endpoint, whatever comes of it
@@ -127,7 +127,7 @@ or_true true b h = refl
 or_true false b h = h
 
 -- a carry touches the destination of the message
-reaches : (limit : ℕ) (end : EndpointId) (q : Queued) (there : State) → list_any (same_end q.message.dest) (ends_touched (Events.Carry end) (carry_at limit (Some q) there)) ≡ true
+pub reaches : (limit : ℕ) (end : EndpointId) (q : Queued) (there : State) → list_any (same_end q.message.dest) (ends_touched (Events.Carry end) (carry_at limit (Some q) there)) ≡ true
 reaches limit end q there = or_true (same_end q.message.dest end) _ (by_verdict (verdict there q.message))
   where
     by_test : (b : Bool) (o p : Outcome) → list_any (same_end q.message.dest) (reached_by o) ≡ true → list_any (same_end q.message.dest) (reached_by p) ≡ true → list_any (same_end q.message.dest) (reached_by (if b then o else p)) ≡ true
@@ -166,13 +166,13 @@ carry_follows layout logs past x rest h range r =
 
 -- ---- interfaces
 
-work_node : (node : NodeId) (w : Work) → is_node node (node_touched (event_of node w)) ≡ true
+pub work_node : (node : NodeId) (w : Work) → is_node node (node_touched (event_of node w)) ≡ true
 work_node node (Works.Receive (Packets.Parcel p)) = eq-eqb node.0 node.0 refl
 work_node node (Works.Receive (Packets.Answer p)) = eq-eqb node.0 node.0 refl
 work_node node (Works.Bind end) = eq-eqb node.0 node.0 refl
 work_node node (Works.Expire peer channel) = eq-eqb node.0 node.0 refl
 
-just_has : (es : List EndpointId) (e : Option EndpointId) → es ≡ option_to_list e → HasEnd es e
+pub just_has : (es : List EndpointId) (e : Option EndpointId) → es ≡ option_to_list e → HasEnd es e
 just_has es None h = tt
 just_has es (Some e) h = ap (list_any (same_end e)) h ∙ first_touched e []
 
@@ -237,7 +237,7 @@ work_follows layout logs past x rest h range r =
 -- ---- drivers
 
 -- a move touches the endpoint that it is about
-moved_has : (event : Event) (o : Outcome) → HasEnd (ends_touched event o) (end_moved event)
+pub moved_has : (event : Event) (o : Outcome) → HasEnd (ends_touched event o) (end_moved event)
 moved_has (Events.Drain node end) o = first_touched end []
 moved_has (Events.Unload node end) o = first_touched end []
 moved_has (Events.Load node end frame) o = first_touched end []

@@ -5,3 +5,4 @@ pub mod Grown
 pub mod Before
 pub mod Sent
 pub mod History
+pub mod Rightness

@@ -1,46 +1,19 @@
 -- A packet that is stamped below was emitted before.
 use Rattle.std.specs.Prelude.{slice_get}
-use Rattle.std.proofs.Common.{◌≡◌, ◌⊎◌, inl, inr, ⊎_elim, ℕ, zero, suc, ◌-◌, ◌<◌, ◌≤◌, List, [], ◌∷◌, ◌++◌, length, Option, Some, None, refl, sym, ap, ◌∙◌, arith}
+use Rattle.std.proofs.Common.{◌≡◌, ◌⊎◌, inl, inr, ⊎_elim, ℕ, zero, suc, ◌-◌, ◌<◌, ◌≤◌, List, [], ◌∷◌, ◌++◌, length, Some, sym, ap, ◌∙◌, arith}
 use Rattle.am_names.specs.declared.NodeId.{NodeId}
 use Rattle.am_names.specs.declared.Packet.{Packet}
-use Rattle.am_office.specs.declared.Event.{Event}
-use Rattle.am_office.specs.declared.Event.TheVariants as Events
-use Rattle.am_office.specs.declared.Received.{Received}
-use Rattle.am_office.specs.declared.Received.TheVariants as Got
-use Rattle.am_office.specs.declared.Outcome.{Outcome}
-use Rattle.am_office.specs.declared.Outcome.TheVariants as Out
 use Rattle.am_office.specs.declared.Entry.{Entry}
-use Rattle.am_office.specs.Entries.{emitted_in, parcel, answer_packet, answer_by}
 use Rattle.am_model.specs.Layout.{AllAre}
 use Rattle.am_model.specs.Channels.{emitted}
 use Rattle.am_model.specs.History.{stamp_of}
 use Rattle.am_model.proofs.Ends.{EmittedIn, was_emitted}
+use Rattle.am_local.proofs.Following.{emitted_stamp, stamp_in}
 use Rattle.am_local.proofs.Growing.{emitted_append}
 
 -- none is stamped below
 abbrev pub IsNotBefore : ℕ → List Entry → Type 0
 IsNotBefore t xs = AllAre (λ (y : Entry). t ≤ y.stamp) xs
-
--- the stamp of a packet, if there is one
-abbrev pub stamp_in : ℕ → Option Packet → ℕ
-stamp_in t None = t
-stamp_in t (Some p) = stamp_of p
-
-parcel_stamp : (at : NodeId) (t : ℕ) (o : Outcome) → stamp_in t (parcel at t o) ≡ t
-parcel_stamp at t (Out.Sent m to channel seq attempt number) = refl
-parcel_stamp at t o = refl
-
-answer_stamp : (at to : NodeId) (channel seq attempt t : ℕ) (r : Received) → stamp_in t (answer_packet at to channel seq attempt t (answer_by r)) ≡ t
-answer_stamp at to channel seq attempt t (Got.Accepted m answer) = refl
-answer_stamp at to channel seq attempt t (Got.Refused m cause answer) = refl
-answer_stamp at to channel seq attempt t (Got.Again serial verdict answer) = refl
-answer_stamp at to channel seq attempt t r = refl
-
-pub emitted_stamp : (t : ℕ) (e : Event) (o : Outcome) → stamp_in t (emitted_in t e o) ≡ t
-emitted_stamp t (Events.Bind at end) o = parcel_stamp at t o
-emitted_stamp t (Events.Expire at to channel) o = parcel_stamp at t o
-emitted_stamp t (Events.Receive at to number) (Out.Received channel seq attempt result) = answer_stamp at to channel seq attempt t result
-emitted_stamp t e o = refl
 
 not_before : (t : ℕ) (xs : List Entry) (p : Packet) → IsNotBefore t xs → EmittedIn p xs → t ≤ stamp_of p
 not_before t [] p h e = absurd e

@@ -41,3 +41,12 @@ pub record StandWhereTheyTouch (logs : Logs) (entries : List Entry) : Type 0 whe
   pub nodes : (node : NodeId) (x : Entry) → Contains (logs.node node) x ↔ (Contains entries x × (touches_node node x ≡ true))
   pub drivers : (node : NodeId) (x : Entry) → Contains (logs.driver node) x ↔ (Contains entries x × (is_by_driver node x ≡ true))
   pub numbers : (e : EndpointId) (x : Entry) → Contains entries x → touches e x ≡ true → e.0 < 256
+
+-- the logs that a journal is made of
+abbrev pub logs_of : List Entry → Logs
+logs_of journal =
+    record {
+      end = λ (e : EndpointId). filter (touches e) journal;
+      node = λ (node : NodeId). filter (touches_node node) journal;
+      driver = λ (node : NodeId). filter (is_by_driver node) journal;
+    }

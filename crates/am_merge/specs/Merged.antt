@@ -1,10 +1,11 @@
 -- The journal that some logs make, and how it grows.
-use Rattle.std.specs.Prelude.{ℕ, ◌<◌, Bool, true, false, ◌==◌, ◌&&◌, List, [], ◌∷◌, ◌++◌, map, if◌then◌else◌}
+use Rattle.std.specs.Prelude.{ℕ, ◌<◌, Bool, ◌==◌, ◌&&◌, List, [], ◌∷◌, ◌++◌, map, if◌then◌else◌}
 use Rattle.std.specs.List.{list_any}
 use Rattle.am_office.specs.declared.Entry.{Entry}
 use Rattle.am_office.specs.declared.Part.{Part}
 use Rattle.am_office.specs.declared.Part.TheVariants as Parts
 use Rattle.am_office.specs.Entries.{touches, touches_node}
+use Rattle.am_local.specs.Readings.{with_entry}
 use Rattle.am_model.specs.Layout.{AllAre}
 use Rattle.am_model.specs.Merge.{rank, is_before}
 
@@ -39,10 +40,6 @@ pub record PartLog : Type 0 where
 abbrev pub touches_part : Entry → Part → Bool
 touches_part x (Parts.Endpoint e) = touches e x
 touches_part x (Parts.Interface node) = touches_node node x
-
-abbrev pub with_entry : Bool → Entry → List Entry → List Entry
-with_entry true x log = log ++ x ∷ []
-with_entry false x log = log
 
 -- the log of a part after an entry, which stands at its end where it touches the part
 abbrev pub grown : Entry → PartLog → List Entry

@@ -2,21 +2,28 @@
 //! theorem is the contract of a function with an empty body.
 #![tactic(auto)]
 
-ghost use Rattle.am_merge.specs.Logs.{AreRising, IsRising, Logs, MergesInto, StandWhereTheyTouch, before};
+ghost use Rattle.am_merge.specs.Logs.{AreRising, IsRising, Logs, MergesInto, StandWhereTheyTouch, before, logs_of};
 ghost use Rattle.am_merge.specs.Merged.{IsBelow, PartLog, entries_of, journal_after, journal_of, merged, touches_one};
 ghost use Rattle.am_merge.specs.Right.{IsRight};
 ghost use Rattle.am_model.specs.History.{IsHistory};
-ghost use Rattle.am_model.specs.Layout.{AllAre, Layout};
-ghost use Rattle.am_model.specs.Merge.{IsMerged};
+ghost use Rattle.am_model.specs.Layout.{AllAre, IsLawful, Layout};
+ghost use Rattle.am_model.specs.Merge.{IsMerged, is_ordered};
 ghost use Rattle.am_names.specs.declared.EndpointId.{EndpointId};
 ghost use Rattle.am_names.specs.declared.NodeId.{NodeId};
 ghost use Rattle.am_office.specs.declared.Entry.{Entry};
-ghost use Rattle.std.specs.Prelude.{◌≡◌, ◌++◌, [], ◌∷◌, false, true, List};
+ghost use Rattle.std.specs.Prelude.{◌≡◌, ◌↔◌, ◌++◌, [], ◌∷◌, false, true, List};
 
 /// Logs in which stamps rise, and in which each entry is right by the logs of the parts that made it as they stood before
 /// its stamp, merge into a history.
 pub fn merged_is_history()
     ensures { (layout : Layout) (logs : Logs) (journal : List Entry) → MergesInto logs journal → AreRising logs → AllAre (IsRight layout logs) journal → IsHistory layout journal }
+{}
+
+/// A journal by stamp and then by part, in whose logs the stamps rise, merges from its own logs, and is a history exactly
+/// where each entry is right by them.
+pub fn history_is_right()
+    ensures merges { (journal : List Entry) → is_ordered journal ≡ true → MergesInto (logs_of journal) journal }
+    ensures right { (layout : Layout) (journal : List Entry) → IsLawful layout → is_ordered journal ≡ true → AreRising (logs_of journal) → (IsHistory layout journal ↔ AllAre (IsRight layout (logs_of journal)) journal) }
 {}
 
 /// Where stamps rise, what a log had before an entry is what it has below the entry's stamp, whatever came after. So what
