@@ -2,6 +2,7 @@
 use Rattle.std.proofs.Common.{◌≡◌, ℕ, List, [], ◌∷◌, ◌++◌, length, map, take, drop, Option, Some, None, Bool, true, false, refl, sym, ◌∙◌, ap, subst, append_assoc, append-nil, eqb-true}
 use Rattle.std.specs.Prelude.{◌&&◌, filter, filter_map, slice_get, if◌then◌else◌}
 use Rattle.std.specs.List.{AllByRecursion, cons_option}
+use Rattle.std.proofs.lemmas.Bool.{and_parts}
 use Rattle.std.proofs.lemmas.List.{map-append, take-append-drop}
 use Rattle.std.proofs.lemmas.List.Elements.{filter-append, filter_map-append}
 use Rattle.am_names.specs.declared.NodeId.{NodeId}
@@ -17,36 +18,13 @@ use Rattle.am_scenario_types.specs.Lists.{ScenarioLists}
 use Rattle.am_plan.specs.Shape.{fault_at, shape, shape_after, number_of}
 use Rattle.am_plan.proofs.Shapes.{begins_alike}
 use Rattle.am_scripts.specs.Links.{first_some, nodes_of, number_received, received, numbers_released, due, receipt, receipt_at, IsReceiptInOrder, ReceivesInOrder, ReceivesBeginning, AllIsReceived}
-use Rattle.am_scripts.proofs.Done.{take_all}
-
--- a list is the beginning of another
-abbrev pub Begins : List ℕ → List ℕ → Type 0
-Begins r n = r ≡ take (length r) n
-
-begins_more : (r n more : List ℕ) → Begins r n → Begins r (n ++ more)
-begins_more [] n more e = refl
-begins_more (x ∷ xs) [] more e = absurd (cc)
-begins_more (x ∷ xs) (y ∷ ys) more e =
-    let first : x ≡ y = cc in
-    let rest : xs ≡ take (length xs) ys = cc in
-    ap (λ (z : ℕ). z ∷ xs) first ∙ ap (λ (zs : List ℕ). y ∷ zs) (begins_more xs ys more rest)
-
-begins_next : (r n more : List ℕ) (k : ℕ) → Begins r n → slice_get n (length r) ≡ Some k → Begins (r ++ k ∷ []) (n ++ more)
-begins_next [] [] more k e f = absurd (cc)
-begins_next [] (y ∷ ys) more k e f =
-    let same : y ≡ k = cc in
-    ap (λ (z : ℕ). z ∷ []) (sym same)
-begins_next (x ∷ xs) [] more k e f = absurd (cc)
-begins_next (x ∷ xs) (y ∷ ys) more k e f =
-    let first : x ≡ y = cc in
-    let rest : xs ≡ take (length xs) ys = cc in
-    ap (λ (z : ℕ). z ∷ (xs ++ k ∷ [])) first ∙ ap (λ (zs : List ℕ). y ∷ zs) (begins_next xs ys more k rest f)
+use Rattle.am_scripts.proofs.Lists.{Begins, begins_more, begins_next, take_all, first_none}
 
 -- on a link the received numbers are the beginning of the released ones
 abbrev pub InOrder : ScenarioLists → NodeId → NodeId → List Entry → Type 0
 InOrder scenario from to past = Begins (received from to past) (numbers_released scenario from to past)
 
-emitted_push : (from to : NodeId) (past : List Entry) (x : Entry) → emitted from to (past ++ x ∷ []) ≡ emitted from to past ++ emitted from to (x ∷ [])
+pub emitted_push : (from to : NodeId) (past : List Entry) (x : Entry) → emitted from to (past ++ x ∷ []) ≡ emitted from to past ++ emitted from to (x ∷ [])
 emitted_push from to past x =
     ap (filter (is_on_link from to)) (filter_map-append emitted_of past (x ∷ [])) ∙ filter-append (is_on_link from to) (filter_map emitted_of past) (filter_map emitted_of (x ∷ []))
 
@@ -60,19 +38,11 @@ released_push scenario from to past x =
     ∙ (ap (map number_of) (begins_alike scenario.plan from to (emitted from to past) (emitted from to (x ∷ [])))
     ∙ map-append number_of (shape scenario.plan from to (emitted from to past)) (shape_after (fault_at scenario.plan from to) (emitted from to past) (emitted from to (x ∷ []))))
 
-received_push : (from to : NodeId) (past : List Entry) (x : Entry) → received from to (past ++ x ∷ []) ≡ received from to past ++ cons_option (number_received from to x.event) []
+pub received_push : (from to : NodeId) (past : List Entry) (x : Entry) → received from to (past ++ x ∷ []) ≡ received from to past ++ cons_option (number_received from to x.event) []
 received_push from to past x = filter_map-append (λ (y : Entry). number_received from to y.event) past (x ∷ [])
 
-same_node-is : (a b : NodeId) → same_node a b ≡ true → a ≡ b
+pub same_node-is : (a b : NodeId) → same_node a b ≡ true → a ≡ b
 same_node-is a b h = let e : a.0 ≡ b.0 = eqb-true a.0 b.0 h in λ i. record { 0 = e i }
-
-and_left : (a b : Bool) → (a && b) ≡ true → a ≡ true
-and_left true b e = refl
-and_left false b e = absurd (cc)
-
-and_right : (a b : Bool) → (a && b) ≡ true → b ≡ true
-and_right true b e = e
-and_right false b e = absurd (cc)
 
 -- what a receipt in order says of the link
 abbrev pub NumberIsDue : ScenarioLists → NodeId → NodeId → List Entry → Option ℕ → Type 0
@@ -82,8 +52,8 @@ NumberIsDue scenario from to past (Some k) = due scenario from to past ≡ Some 
 by_test : (scenario : ScenarioLists) (from to peer node : NodeId) (past : List Entry) (number : ℕ) (b : Bool) → (same_node from peer && same_node to node) ≡ b → due scenario peer node past ≡ Some number → NumberIsDue scenario from to past (if b then Some number else None)
 by_test scenario from to peer node past number false test e = tt
 by_test scenario from to peer node past number true test e =
-    let one : from ≡ peer = same_node-is from peer (and_left (same_node from peer) (same_node to node) test) in
-    let two : to ≡ node = same_node-is to node (and_right (same_node from peer) (same_node to node) test) in
+    let one : from ≡ peer = same_node-is from peer (and_parts (same_node from peer) (same_node to node) test).0 in
+    let two : to ≡ node = same_node-is to node (and_parts (same_node from peer) (same_node to node) test).1 in
     ap (λ (f : NodeId). due scenario f to past) one ∙ (ap (λ (t : NodeId). due scenario peer t past) two ∙ e)
 
 number_is_due : (scenario : ScenarioLists) (from to : NodeId) (past : List Entry) (event : Event) → IsReceiptInOrder scenario past event → NumberIsDue scenario from to past (number_received from to event)
@@ -116,10 +86,6 @@ in_order scenario from to journal each = in_order_on scenario from to [] journal
 no_due : (node peer : NodeId) (o : Option ℕ) → receipt node peer o ≡ None → o ≡ None
 no_due node peer None e = refl
 no_due node peer (Some number) e = absurd (cc)
-
-first_none : {X : Type 0} (o : Option X) (os : List (Option X)) → first_some (o ∷ os) ≡ None → (o ≡ None) × (first_some os ≡ None)
-first_none None os e = (refl, e)
-first_none (Some x) os e = absurd (cc)
 
 all_of_link : (scenario : ScenarioLists) (from to : NodeId) (journal : List Entry) → ReceivesInOrder scenario journal → due scenario from to journal ≡ None → received from to journal ≡ numbers_released scenario from to journal
 all_of_link scenario from to journal each none =

@@ -44,6 +44,6 @@ is_idle scenario past node peer = list_all (λ (number : ℕ). not (is_bound (ch
 
 -- at rest: no channel is bound, no message is held, and no wanted endpoint is on disk
 pub record IsAtRest (scenario : ScenarioLists) (journal : List Entry) : Type 0 where
-  pub channels : EachLink scenario (λ from to. is_idle scenario journal from to ≡ true)
+  pub channels : EachLink scenario (λ peer node. is_idle scenario journal node peer ≡ true)
   pub messages : list_all holds_nothing (standings (layout_of scenario) journal) ≡ true
   pub wanted : list_all (λ (s : Standing). not (is_missed s)) (standings (layout_of scenario) journal) ≡ true
