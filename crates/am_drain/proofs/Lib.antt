@@ -1,0 +1,12 @@
+pub mod Quiet
+pub mod Turns
+pub mod Determined
+pub mod Entries
+pub mod TurnKinds
+pub mod Receipts
+pub mod Scripts
+pub mod LastTries
+pub mod Events
+pub mod Rest
+pub mod Follows
+pub mod CutOff

@@ -1,0 +1,36 @@
+-- A drain that meets a full log.
+use Rattle.std.specs.Prelude.{◌≡◌, ℕ, Option, Some, None, List, ◌∷◌, ◌++◌}
+use Rattle.am_office.specs.declared.Part.{Part}
+use Rattle.am_office.specs.declared.Entry.{Entry}
+use Rattle.am_model.specs.History.{EachAfter}
+use Rattle.am_model.specs.Steps.{full_log}
+use Rattle.am_scenario_types.specs.Lists.{ScenarioLists}
+use Rattle.am_follow.specs.Layout.{layout_of}
+use Rattle.am_drain.specs.Drain.{after_turns, IsDrained}
+
+-- the full log that an entry meets, if it meets one: an endpoint's before an interface's, each by number
+abbrev pub full_for : ScenarioLists → List Entry → Entry → Option Part
+full_for scenario past x = full_log (layout_of scenario) past x.event
+
+-- no entry meets a full log
+abbrev pub HasRoom : ScenarioLists → List Entry → List Entry → Type 0
+HasRoom scenario past added = EachAfter (λ (before : List Entry) (x : Entry). full_for scenario before x ≡ None) past added
+
+-- the journal is what the drain makes of the journal `past`, and on the way no entry meets a full log
+pub record IsDrainedWithRoom (scenario : ScenarioLists) (past journal : List Entry) : Type 0 where
+  pub drained : IsDrained scenario past journal
+  pub added : List Entry
+  pub made : journal ≡ past ++ added
+  pub room : HasRoom scenario past added
+
+-- the journal is what the drain makes of the journal `past` before the first entry that meets a full log, which is that of the
+-- part
+pub record IsDrainCutOff (scenario : ScenarioLists) (past : List Entry) (part : Part) (journal : List Entry) : Type 0 where
+  pub added : List Entry
+  pub next : Entry
+  pub later : List Entry
+  pub turns : ℕ
+  pub planned : after_turns turns scenario past ≡ Some (journal ++ next ∷ later)
+  pub made : journal ≡ past ++ added
+  pub room : HasRoom scenario past added
+  pub full : full_for scenario journal next ≡ Some part

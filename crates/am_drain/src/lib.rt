@@ -1,0 +1,87 @@
+//! The drain of a scenario: what is done when no thread runs any more, turn by turn, until all is at rest. And which
+//! journals follow the scripts: a phase of the threads, and then its drain. Each law is the contract of a function with
+//! an empty body.
+#![tactic(auto)]
+
+ghost use Rattle.am_drain.specs.Drain.{DrainAdds, DrainIsDetermined};
+ghost use Rattle.am_drain.specs.Laws.{CutIsDetermined, DrainedFollows, EventsAreOfRun, LastTriesComeLast, ReceiptsGoOn, RestsAtEnd, ScriptsGoOn, TurnsMakeEntries};
+ghost use Rattle.am_drain.specs.Made.{EntryIsStep, EntryMayFollow};
+
+use am_names::{EndpointId, Message, NodeId};
+use am_office::Event;
+use am_scenario_types::ScriptCall;
+
+/// A turn of the drain.
+#[derive(Clone, Copy, PartialEq, Eq, Debug)]
+pub enum Turn {
+    /// An event by itself: a receipt, a time-out, a page-in or a poll.
+    Once(Event),
+    /// The front message of an endpoint of a node is sent, once the endpoint and the destination are ready.
+    Send {
+        node: NodeId,
+        end: EndpointId,
+        message: Message,
+    },
+    /// A thread makes its next call, once the call's endpoint is off the disk.
+    Make(ScriptCall),
+}
+
+/// The entry of an event that is in range and enabled may follow.
+pub fn entry_may_follow()
+    ensures { EntryMayFollow }
+{}
+
+/// In a journal that was made step by step it is the entry of the next step.
+pub fn entry_is_step()
+    ensures { EntryIsStep }
+{}
+
+/// The drain makes one journal of a journal.
+pub fn drain_is_determined()
+    ensures { DrainIsDetermined }
+{}
+
+/// What the drain makes of a journal begins with it.
+pub fn drain_adds()
+    ensures { DrainAdds }
+{}
+
+/// Each turn makes an entry.
+pub fn turns_make_entries()
+    ensures { TurnsMakeEntries }
+{}
+
+/// Where no rule of the drain applies, all is at rest.
+pub fn rests_at_end()
+    ensures { RestsAtEnd }
+{}
+
+/// The drain goes on with each thread's script where the thread left it.
+pub fn scripts_go_on()
+    ensures { ScriptsGoOn }
+{}
+
+/// The drain receives each packet in its turn.
+pub fn receipts_go_on()
+    ensures { ReceiptsGoOn }
+{}
+
+/// What a drain makes of a phase keeps the last tries for the end.
+pub fn last_tries_come_last()
+    ensures { LastTriesComeLast }
+{}
+
+/// The events that a drain adds are those of a run.
+pub fn events_are_of_run()
+    ensures { EventsAreOfRun }
+{}
+
+/// What a drain makes of a good phase follows the scripts.
+pub fn drained_follows()
+    ensures { DrainedFollows }
+{}
+
+/// A drain that meets a full log meets it at one entry, and then there is no drain that has room for all its entries.
+pub fn cut_is_determined()
+    ensures { CutIsDetermined }
+{}

@@ -1,0 +1,4 @@
+pub mod Links
+pub mod Scripts
+pub mod Standings
+pub mod Follows

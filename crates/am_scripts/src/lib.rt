@@ -1,0 +1,21 @@
+//! Following the scripts of a scenario: the calls of its threads, what its links release and deliver, what is left to the
+//! end, and when all is at rest. Each law is the contract of a function with an empty body.
+#![tactic(auto)]
+
+ghost use Rattle.am_scripts.specs.Links.{AllIsReceived, ReceivesBeginning};
+ghost use Rattle.am_scripts.specs.Scripts.{ScriptsAreDone};
+
+/// Where no thread has a call left, the scripts are done.
+pub fn scripts_are_done()
+    ensures { ScriptsAreDone }
+{}
+
+/// Where each packet is received in its turn, what is received on a link is the beginning of what was released there.
+pub fn receives_beginning()
+    ensures { ReceivesBeginning }
+{}
+
+/// Where moreover no receipt is due, all that was released was received, in order.
+pub fn all_is_received()
+    ensures { AllIsReceived }
+{}
