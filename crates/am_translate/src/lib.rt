@@ -1,0 +1,406 @@
+//! The translation table of an endpoint: where the requests of each index go, how many may be out, and the records of
+//! the requests whose replies are awaited. Nothing here takes memory.
+#![tactic(auto)]
+
+ghost use Rattle.am_model.specs.Calls.{excess, excess_at, has_no_credit, is_over_share, share_of, shares};
+ghost use Rattle.am_model.specs.Changes.{not_awaited, settled, with_arrived};
+ghost use Rattle.am_model.specs.Endpoint.{entry_at};
+ghost use Rattle.am_model.specs.History.{are_credits_in_range};
+ghost use Rattle.am_model.specs.declared.Mapping.{Mapping as Mapped};
+ghost use Rattle.am_translate.specs.Tables.{
+  IsTable,
+  body_with,
+  credit_fault,
+  empty_table,
+  is_answered,
+  is_known,
+  is_waiting,
+  map_fault,
+  mapped_at,
+  records_at,
+  target_at,
+  target_of,
+  unmap_fault,
+  with_awaited,
+  with_mapping,
+  with_record,
+};
+ghost use Rattle.std.specs.Prelude.{◌≡◌, ◌≤◌, ◌<◌, ◌↔◌, length, true, false, None, Some, IfOk, IsErr, OnErr, OnOk, slice_get, sum_by};
+ghost use Rattle.std.specs.Result.{result_err};
+
+mod records;
+
+use crate::records::{Records, answered_place, waiting_place};
+pub use am_model::Awaited as Held;
+use am_model::{Awaited, Mapping};
+use am_names::{EndpointId, Serial, Tag};
+use std::marker::Model;
+
+/// Where the requests of an index go, and the tag that they carry.
+#[derive(Clone, Copy, PartialEq, Eq, Debug)]
+pub struct Target {
+    pub name: EndpointId,
+    pub tag: Tag,
+}
+
+/// Why an index was not mapped. The first that holds, in this order, is the fault (`map_fault` of `specs/Tables.antt`).
+#[derive(Clone, Copy, PartialEq, Eq, Debug)]
+pub enum MapFault {
+    /// The index is 16 or more.
+    BadIndex,
+    /// The index is mapped.
+    InUse,
+    /// There is a pool, and the sum of the shares of the mapped indexes, which this carries, the new share and the pool
+    /// are together more than 32.
+    OverShare(u8),
+}
+
+/// Why an index was not unmapped. The first that holds, in this order, is the fault (`unmap_fault` of
+/// `specs/Tables.antt`).
+#[derive(Clone, Copy, PartialEq, Eq, Debug)]
+pub enum UnmapFault {
+    /// The index is 16 or more.
+    BadIndex,
+    /// The index is not mapped.
+    NotMapped,
+    /// The index has so many records.
+    Outstanding(u8),
+}
+
+/// Why no credit was taken. The first that holds, in this order, is the fault (`credit_fault` of `specs/Tables.antt`).
+#[derive(Clone, Copy, PartialEq, Eq, Debug)]
+pub enum CreditFault {
+    /// The index is 16 or more.
+    BadIndex,
+    /// The index is not mapped.
+    NotMapped,
+    /// Without a pool the index has as many records as credits. With one it has at least as many as its share, and the
+    /// records above the shares, over all indexes, are as many as the pool.
+    NoCredit,
+    /// There are 32 records.
+    TableFull,
+}
+
+/// No record of the request is in the state that was asked for.
+#[derive(Clone, Copy, PartialEq, Eq, Debug)]
+pub struct NoRequest;
+
+/// The table of an endpoint. Contracts see the pool, what each of the 16 indexes is mapped to, and the records in order
+/// of acceptance (`Table` of `specs/Tables.antt`).
+#[derive(Drop)]
+pub struct Translate {
+    pool: Option<u8>,
+    mapped: [Option<Mapping>; 16],
+    awaited: Records,
+}
+
+impl Model for Translate {
+    ghost use Rattle.am_translate.specs.Tables.{Table};
+
+    ghost Value = { Table };
+
+    ghost use Rattle.am_translate.specs.Seen.{table_in};
+    ghost use Rattle.am_translate.specs.Tables.{IsTable};
+
+    ghost view = { table_in };
+
+    ghost invariant = { λ table. IsTable (table_in table) };
+}
+
+impl Translate {
+    /// An empty table, whose indexes share a pool of credits above their least shares, 0 to 32, or have each its own.
+    pub fn new(pool: Option<u8>) -> Translate
+        ensures empty { result ≡ empty_table pool }
+        ensures table { IsTable result }
+    {
+        Translate {
+            pool,
+            mapped: [None; 16],
+            awaited: Records::new(),
+        }
+    }
+
+    /// The number of records: of the requests that are outstanding or whose reply has arrived and is not polled. At most 32.
+    pub fn outstanding(&self) -> u8
+        ensures value { result ≡ length self.now.awaited }
+        ensures table { IsTable self.now }
+    {
+        self.awaited.as_slice().len() as u8
+    }
+
+    /// The number of records of an index.
+    pub fn outstanding_at(&self, index: u8) -> u8
+        ensures { result ≡ records_at self.now index }
+    {
+        self.records_at(index) as u8
+    }
+
+    /// Where the requests of an index go, and its credits, or its least share where there is a pool. `None` where the
+    /// index is 16 or more or isn't mapped.
+    pub fn mapped_at(&self, index: u8) -> Option<(Target, u8)>
+        ensures value { result ≡ mapped_at self.now index }
+        ensures none { (result ≡ None) ↔ (entry_at self.now.mapped index ≡ None) }
+    {
+        match self.mapping(index) {
+            Some(mapping) => Some((target_of(mapping), mapping.credits)),
+            None => None,
+        }
+    }
+
+    /// The record at a place in order of acceptance, counted from 0.
+    pub fn held_at(&self, place: u8) -> Option<Held>
+        ensures value { result ≡ slice_get self.now.awaited place }
+        ensures none { (result ≡ None) ↔ (length self.now.awaited ≤ place) }
+    {
+        self.awaited.as_slice().get(place as usize).copied()
+    }
+}
+
+impl Translate {
+    /// Maps an index, with credits 1 to 8, or with a least share 0 to 8 where there is a pool.
+    /// After a fault the table is as it was.
+    pub fn map(
+        &mut self,
+        index: u8,
+        name: EndpointId,
+        tag: Tag,
+        credits: u8,
+    ) -> Result<(), MapFault>
+        requires { are_credits_in_range self.old.pool credits ≡ true }
+        ensures fault { result_err result ≡ map_fault self.old index credits }
+        ensures ok { OnOk result (self.new ≡ with_mapping self.old index (Some (record { name = name; tag = tag; credits = credits }))) }
+        ensures err { OnErr result (self.new ≡ self.old) }
+        ensures table { OnOk result (IsTable self.new) }
+    {
+        if index >= 16 {
+            return Err(MapFault::BadIndex);
+        }
+        if self.mapped[index as usize].is_some() {
+            return Err(MapFault::InUse);
+        }
+        if self.is_over_share(credits) {
+            return Err(MapFault::OverShare(self.shares() as u8));
+        }
+        self.mapped[index as usize] = Some(Mapping { name, tag, credits });
+        Ok(())
+    }
+
+    /// Takes an index's mapping away. After a fault the table is as it was.
+    pub fn unmap(&mut self, index: u8) -> Result<(), UnmapFault>
+        ensures fault { result_err result ≡ unmap_fault self.old index }
+        ensures ok { OnOk result (self.new ≡ with_mapping self.old index None) }
+        ensures err { OnErr result (self.new ≡ self.old) }
+        ensures table { OnOk result (IsTable self.new) }
+    {
+        if index >= 16 {
+            return Err(UnmapFault::BadIndex);
+        }
+        if self.mapped[index as usize].is_none() {
+            return Err(UnmapFault::NotMapped);
+        }
+        let out = self.outstanding_at(index);
+        if out != 0 {
+            return Err(UnmapFault::Outstanding(out));
+        }
+        self.mapped[index as usize] = None;
+        Ok(())
+    }
+
+    /// Whether a request may be made by an index, and where it would go.
+    pub fn can_take(&self, index: u8) -> Result<Target, CreditFault>
+        ensures fault { result_err result ≡ credit_fault self.now index }
+        ensures target { IfOk result (λ target. target_at self.now index ≡ Some target) }
+    {
+        if index >= 16 {
+            return Err(CreditFault::BadIndex);
+        }
+        let Some(mapping) = self.mapping(index) else {
+            return Err(CreditFault::NotMapped);
+        };
+        if self.has_no_credit(index, mapping) {
+            return Err(CreditFault::NoCredit);
+        }
+        if self.awaited.as_slice().len() >= 32 {
+            return Err(CreditFault::TableFull);
+        }
+        Ok(target_of(mapping))
+    }
+
+    /// Takes a credit of an index for a request, whose record then waits, and tells where it goes.
+    /// After a fault the table is as it was.
+    pub fn take_credit(&mut self, index: u8, serial: Serial) -> Result<Target, CreditFault>
+        requires { is_known self.old serial ≡ false }
+        ensures fault { result_err result ≡ credit_fault self.old index }
+        ensures target { IfOk result (λ target. target_at self.old index ≡ Some target) }
+        ensures ok { OnOk result (self.new ≡ with_record self.old index serial) }
+        ensures err { OnErr result (self.new ≡ self.old) }
+        ensures table { OnOk result (IsTable self.new) }
+    {
+        match self.can_take(index) {
+            Err(fault) => Err(fault),
+            Ok(target) => {
+                self.awaited.push(Awaited {
+                    index,
+                    serial,
+                    arrived: false,
+                });
+                Ok(target)
+            }
+        }
+    }
+}
+
+impl Translate {
+    /// The reply to a request arrives: its waiting record becomes arrived. Without one the table is as it was.
+    pub fn reply_arrives(&mut self, request: Serial) -> Result<(), NoRequest>
+        ensures no_request { IsErr result ↔ (is_waiting self.old request ≡ false) }
+        ensures ok { OnOk result (self.new ≡ with_awaited self.old (with_arrived (Some request) self.old.awaited)) }
+        ensures err { OnErr result (self.new ≡ self.old) }
+        ensures table { OnOk result (IsTable self.new) }
+    {
+        match waiting_place(self.awaited.as_slice(), request) {
+            None => Err(NoRequest),
+            Some(_) => {
+                self.awaited.mark_arrived(request);
+                Ok(())
+            }
+        }
+    }
+
+    /// The reply to a request was polled: its arrived record goes. Without one the table is as it was.
+    pub fn reply_taken(&mut self, request: Serial) -> Result<(), NoRequest>
+        ensures no_request { IsErr result ↔ (is_answered self.old request ≡ false) }
+        ensures ok { OnOk result (self.new ≡ with_awaited self.old (settled (Some request) self.old.awaited)) }
+        ensures err { OnErr result (self.new ≡ self.old) }
+        ensures table { OnOk result (IsTable self.new) }
+    {
+        match answered_place(self.awaited.as_slice(), request) {
+            None => Err(NoRequest),
+            Some(answered) => {
+                self.awaited.remove(answered);
+                Ok(())
+            }
+        }
+    }
+
+    /// A request is given up, was returned or is unknown: its waiting record goes. Without one the table is as it was.
+    pub fn give_up(&mut self, request: Serial) -> Result<(), NoRequest>
+        ensures no_request { IsErr result ↔ (is_waiting self.old request ≡ false) }
+        ensures ok { OnOk result (self.new ≡ with_awaited self.old (not_awaited request self.old.awaited)) }
+        ensures err { OnErr result (self.new ≡ self.old) }
+        ensures table { OnOk result (IsTable self.new) }
+    {
+        match waiting_place(self.awaited.as_slice(), request) {
+            None => Err(NoRequest),
+            Some(waiting) => {
+                self.awaited.remove(waiting);
+                Ok(())
+            }
+        }
+    }
+}
+
+impl Translate {
+    fn mapping(&self, index: u8) -> Option<Mapping>
+        ensures { result ≡ entry_at self.now.mapped index }
+    {
+        if index < 16 {
+            self.mapped[index as usize]
+        } else {
+            None
+        }
+    }
+
+    fn records_at(&self, index: u8) -> usize
+        ensures value { result ≡ records_at self.now index }
+        ensures few { result ≤ 32 }
+    {
+        self.awaited
+            .as_slice()
+            .iter()
+            .filter(|a| a.index == index)
+            .count()
+    }
+
+    /// How many records of an index are above its share.
+    fn excess_at(&self, index: u8) -> usize
+        ensures value { result ≡ excess_at (body_with self.now) index (entry_at self.now.mapped index) }
+        ensures few { result ≤ 32 }
+    {
+        match self.mapping(index) {
+            None => 0,
+            Some(mapping) => self
+                .records_at(index)
+                .saturating_sub(mapping.credits as usize),
+        }
+    }
+
+    /// How many records of all indexes are above their shares.
+    fn excess(&self) -> usize
+        ensures { result ≡ excess (body_with self.now) }
+    {
+        let _ = &self.mapped;
+        let mut total = 0;
+        for index in 0..16u8 {
+            total += self.excess_at(index);
+        }
+        total
+    }
+
+    /// Whether a mapped index has no credit left: its own, or its share with the pool empty.
+    fn has_no_credit(&self, index: u8, mapping: Mapping) -> bool
+        ensures { result ≡ has_no_credit self.now.pool (body_with self.now) index (Some mapping) }
+    {
+        let is_spent = self.records_at(index) >= mapping.credits as usize;
+        match self.pool {
+            None => is_spent,
+            Some(pool) => is_spent && self.excess() == pool as usize,
+        }
+    }
+
+    /// The sum of the shares of the mapped indexes.
+    fn shares(&self) -> usize
+        ensures value { result ≡ shares (body_with self.now) }
+        ensures few { result ≤ 128 }
+    {
+        sum_of_shares(&self.mapped)
+    }
+
+    /// Whether a further share is more than the table has left.
+    fn is_over_share(&self, share: u8) -> bool
+        ensures { result ≡ is_over_share self.now.pool (body_with self.now) share }
+    {
+        match self.pool {
+            None => false,
+            Some(pool) => self.shares() + share as usize + pool as usize > 32,
+        }
+    }
+}
+
+fn target_of(mapping: Mapping) -> Target
+    ensures { result ≡ target_of mapping }
+{
+    Target {
+        name: mapping.name,
+        tag: mapping.tag,
+    }
+}
+
+fn sum_of_shares(mapped: &[Option<Mapping>]) -> usize
+    requires { sum_by share_of mapped.now ≤ 128 }
+    ensures { result ≡ sum_by share_of mapped.now }
+{
+    mapped.iter().map(|mapping| share_of(*mapping)).sum()
+}
+
+fn share_of(mapping: Option<Mapping>) -> usize
+    ensures { result ≡ share_of mapping }
+{
+    match mapping {
+        None => 0,
+        Some(mapping) => mapping.credits as usize,
+    }
+}
+
+#[cfg(test)]
+mod tests;
