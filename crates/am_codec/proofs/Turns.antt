@@ -24,3 +24,17 @@ nine o o1 o2 o3 o4 o5 o6 o7 o8 o9 a b c d e f g h i ea eb ec ed ee ef eg eh ei =
     (then_parts o4 o5 o9 e (f ∷ g ∷ h ∷ i ∷ []) ee
     (then_parts o5 o6 o9 f (g ∷ h ∷ i ∷ []) ef
     (then_parts o6 o7 o9 g (h ∷ i ∷ []) eg (then_parts o7 o8 o9 h (i ∷ []) eh (then_parts o8 o9 o9 i [] ei (no_parts o9)))))))))
+
+pub eleven : (o o1 o2 o3 o4 o5 o6 o7 o8 o9 o10 o11 a b c d e f g h i j k : List ℕ) → o1 ≡ o ++ a → o2 ≡ o1 ++ b → o3 ≡ o2 ++ c → o4 ≡ o3 ++ d → o5 ≡ o4 ++ e → o6 ≡ o5 ++ f → o7 ≡ o6 ++ g → o8 ≡ o7 ++ h → o9 ≡ o8 ++ i → o10 ≡ o9 ++ j → o11 ≡ o10 ++ k → o11 ≡ o ++ in_turn (a ∷ b ∷ c ∷ d ∷ e ∷ f ∷ g ∷ h ∷ i ∷ j ∷ k ∷ [])
+eleven o o1 o2 o3 o4 o5 o6 o7 o8 o9 o10 o11 a b c d e f g h i j k ea eb ec ed ee ef eg eh ei ej ek =
+    then_parts o o1 o11 a (b ∷ c ∷ d ∷ e ∷ f ∷ g ∷ h ∷ i ∷ j ∷ k ∷ []) ea
+    (then_parts o1 o2 o11 b (c ∷ d ∷ e ∷ f ∷ g ∷ h ∷ i ∷ j ∷ k ∷ []) eb
+    (then_parts o2 o3 o11 c (d ∷ e ∷ f ∷ g ∷ h ∷ i ∷ j ∷ k ∷ []) ec
+    (then_parts o3 o4 o11 d (e ∷ f ∷ g ∷ h ∷ i ∷ j ∷ k ∷ []) ed
+    (then_parts o4 o5 o11 e (f ∷ g ∷ h ∷ i ∷ j ∷ k ∷ []) ee
+    (then_parts o5 o6 o11 f (g ∷ h ∷ i ∷ j ∷ k ∷ []) ef
+    (then_parts o6 o7 o11 g (h ∷ i ∷ j ∷ k ∷ []) eg
+    (then_parts o7 o8 o11 h (i ∷ j ∷ k ∷ []) eh
+    (then_parts o8 o9 o11 i (j ∷ k ∷ []) ei
+    (then_parts o9 o10 o11 j (k ∷ []) ej
+    (then_parts o10 o11 o11 k [] ek (no_parts o11)))))))))))

@@ -8,7 +8,7 @@ use am_names::{Cause, EndpointId, Message, MsgKind, Serial, Tag, Why, Words};
 use am_office::HandlerKind;
 
 #[tactic(auto, unfolding(am_image::specs::Reading::byte_at))]
-fn take_byte(bytes: &[u8]) -> Option<(u8, &[u8])>
+pub(crate) fn take_byte(bytes: &[u8]) -> Option<(u8, &[u8])>
     ensures { Gives (λ x. (x.0, x.1.now)) result (byte_at bytes.now) }
 {
     match bytes {
@@ -18,7 +18,7 @@ fn take_byte(bytes: &[u8]) -> Option<(u8, &[u8])>
 }
 
 #[tactic(auto, unfolding(am_image::specs::Reading::short_at))]
-fn take_short(bytes: &[u8]) -> Option<(u32, &[u8])>
+pub(crate) fn take_short(bytes: &[u8]) -> Option<(u32, &[u8])>
     ensures { Gives (λ x. (x.0, x.1.now)) result (short_at bytes.now) }
 {
     if bytes.len() < 4 {
@@ -30,7 +30,7 @@ fn take_short(bytes: &[u8]) -> Option<(u32, &[u8])>
 }
 
 #[tactic(auto, unfolding(am_image::specs::Reading::long_at))]
-fn take_long(bytes: &[u8]) -> Option<(u64, &[u8])>
+pub(crate) fn take_long(bytes: &[u8]) -> Option<(u64, &[u8])>
     ensures { Gives (λ x. (x.0, x.1.now)) result (long_at bytes.now) }
 {
     if bytes.len() < 8 {

@@ -1,5 +1,5 @@
 // The parts of an image, written at the end of what stands there.
-ghost use Rattle.am_image.specs.Image.{about_bytes, byte, long, short, cause_number, handler_bytes, kind_number, mapping_bytes, message_bytes, notice_bytes, queued_bytes, received_bytes, record_bytes, serial_bytes, state_number, why_number, words_bytes};
+ghost use Rattle.am_image.specs.Image.{about_bytes, byte, long, short, cause_number, handler_bytes, kind_number, magic, mapping_bytes, message_bytes, notice_bytes, queued_bytes, received_bytes, record_bytes, serial_bytes, state_number, why_number, words_bytes};
 ghost use Rattle.std.specs.Prelude.{◌≡◌, ◌++◌, OnOk};
 
 use am_model::{Awaited, Mapping, Notice, Queued};
@@ -48,23 +48,30 @@ fn state_number(arrived: bool) -> u8
     }
 }
 
-fn put_byte(out: &mut Vec<u8>, number: u8) -> Result<(), AllocError>
+pub(crate) fn put_byte(out: &mut Vec<u8>, number: u8) -> Result<(), AllocError>
     ensures { OnOk result (out.new.items ≡ out.old.items ++ byte number) }
 {
     out.push(number)?;
     Ok(())
 }
 
-fn put_short(out: &mut Vec<u8>, number: u32) -> Result<(), AllocError>
+pub(crate) fn put_short(out: &mut Vec<u8>, number: u32) -> Result<(), AllocError>
     ensures { OnOk result (out.new.items ≡ out.old.items ++ short number) }
 {
     out.extend_from_slice(&number.to_be_bytes())
 }
 
-fn put_long(out: &mut Vec<u8>, number: u64) -> Result<(), AllocError>
+pub(crate) fn put_long(out: &mut Vec<u8>, number: u64) -> Result<(), AllocError>
     ensures { OnOk result (out.new.items ≡ out.old.items ++ long number) }
 {
     out.extend_from_slice(&number.to_be_bytes())
+}
+
+/// The letters AM2I, and the version.
+pub(crate) fn put_magic(out: &mut Vec<u8>) -> Result<(), AllocError>
+    ensures { OnOk result (out.new.items ≡ out.old.items ++ magic) }
+{
+    out.extend_from_slice(b"AM2I\x01")
 }
 
 fn put_kind(out: &mut Vec<u8>, kind: MsgKind) -> Result<(), AllocError>
