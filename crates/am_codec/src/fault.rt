@@ -1,0 +1,7 @@
+/// Why no body was read.
+#[derive(Clone, Copy, PartialEq, Eq, Debug)]
+pub enum ReadFault {
+    /// The bytes are no image of a body of the endpoint.
+    NoBody,
+    NoMemory,
+}

@@ -1,0 +1,12 @@
+//! The image of an endpoint's body, written and read, where the body is seen as lists.
+#![tactic(auto)]
+
+mod fault;
+mod lists;
+mod many;
+mod part;
+mod reading;
+mod writing;
+
+pub use fault::ReadFault;
+pub use lists::BodyLists;

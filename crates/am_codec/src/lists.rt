@@ -1,0 +1,124 @@
+ghost use Rattle.am_codec.specs.Answers.{Finds};
+ghost use Rattle.am_codec.specs.Counts.{AreCounted};
+ghost use Rattle.am_image.specs.Image.{image};
+ghost use Rattle.am_image.specs.Reading.{body_at, whole_body};
+ghost use Rattle.std.specs.Prelude.{◌≡◌, ◌++◌, IfOk, OnOk};
+
+use crate::fault::ReadFault;
+use crate::many::{put_counted, put_each, take_counted, take_many};
+use crate::reading::{take_long, take_magic, take_short};
+use crate::writing::{put_long, put_magic, put_short};
+use am_model::{Awaited, Mapping, Notice, Queued};
+use am_names::{EndpointId, Message, Tag};
+use am_office::{HandlerKind, NoMemory};
+use std::alloc::{AllocError, Global};
+use std::marker::Model;
+
+/// The body of an endpoint as lists, with nothing in flight. Contracts see the body that the machine's definitions
+/// speak of.
+#[derive(Drop)]
+pub struct BodyLists {
+    /// The own tag.
+    pub tag: Tag,
+    /// What the handlers that add have summed up, modulo 2^64.
+    pub sum: u64,
+    /// How many messages it accepted.
+    pub accepted: u32,
+    /// What each of the 16 indexes is mapped to.
+    pub mapped: Vec<Option<Mapping>>,
+    /// The records in order of acceptance, at most 32.
+    pub awaited: Vec<Awaited>,
+    /// What each of the 16 handlers does.
+    pub handlers: Vec<Option<HandlerKind>>,
+    pub requests: Vec<Queued>,
+    pub replies: Vec<Queued>,
+    pub notices: Vec<Notice>,
+    pub received: Vec<Message>,
+}
+
+impl Model for BodyLists {
+    ghost use Rattle.am_model.specs.Endpoint.{Body};
+
+    ghost Value = { Body };
+
+    ghost use Rattle.am_codec.specs.Lists.{body_in};
+
+    ghost view = { body_in };
+}
+
+/// Writes the image of a body at the end of `out`.
+fn put_image(out: &mut Vec<u8>, lists: &BodyLists) -> Result<(), AllocError>
+    requires { AreCounted lists.now }
+    ensures { OnOk result (out.new.items ≡ out.old.items ++ image lists.now) }
+{
+    put_magic(out)?;
+    put_long(out, lists.tag.0)?;
+    put_long(out, lists.sum)?;
+    put_short(out, lists.accepted)?;
+    put_each(out, &lists.mapped)?;
+    put_counted(out, &lists.awaited)?;
+    put_each(out, &lists.handlers)?;
+    put_counted(out, &lists.requests)?;
+    put_counted(out, &lists.replies)?;
+    put_counted(out, &lists.notices)?;
+    put_counted(out, &lists.received)?;
+    Ok(())
+}
+
+impl BodyLists {
+    /// The image of the body.
+    pub fn written(&self, alloc: Global) -> Result<Vec<u8>, NoMemory>
+        requires { AreCounted self.now }
+        ensures { IfOk result (λ bytes. bytes.items ≡ image self.now) }
+    {
+        let mut out = Vec::new(alloc);
+        match put_image(&mut out, self) {
+            Ok(()) => Ok(out),
+            Err(_) => Err(NoMemory),
+        }
+    }
+}
+
+/// The body at the front of some bytes, and the bytes behind it.
+#[tactic(auto, unfolding(am_image::specs::Reading::body_at))]
+fn take_body(alloc: Global, id: EndpointId, bytes: &[u8]) -> Result<(BodyLists, &[u8]), ReadFault>
+    ensures { Finds (λ x. (x.0, x.1.now)) result (body_at id bytes.now) }
+{
+    let rest = take_magic(bytes).ok_or(ReadFault::NoBody)?;
+    let (tag, rest) = take_long(rest).ok_or(ReadFault::NoBody)?;
+    let (sum, rest) = take_long(rest).ok_or(ReadFault::NoBody)?;
+    let (accepted, rest) = take_short(rest).ok_or(ReadFault::NoBody)?;
+    let (mapped, rest) = take_many(alloc, id, 16, rest)?;
+    let (awaited, rest) = take_counted(alloc, id, rest)?;
+    let (handlers, rest) = take_many(alloc, id, 16, rest)?;
+    let (requests, rest) = take_counted(alloc, id, rest)?;
+    let (replies, rest) = take_counted(alloc, id, rest)?;
+    let (notices, rest) = take_counted(alloc, id, rest)?;
+    let (received, rest) = take_counted(alloc, id, rest)?;
+    let lists = BodyLists {
+        tag: Tag(tag),
+        sum,
+        accepted,
+        mapped,
+        awaited,
+        handlers,
+        requests,
+        replies,
+        notices,
+        received,
+    };
+    Ok((lists, rest))
+}
+
+/// The body that all of the bytes are the image of.
+#[tactic(auto, unfolding(am_image::specs::Reading::whole_body))]
+fn take_whole(alloc: Global, id: EndpointId, bytes: &[u8]) -> Result<BodyLists, ReadFault>
+    ensures { Finds (λ x. x) result (whole_body id bytes.now) }
+{
+    let (lists, rest) = take_body(alloc, id, bytes)?;
+    if rest.is_empty() {
+        Ok(lists)
+    } else {
+        Err(ReadFault::NoBody)
+    }
+}

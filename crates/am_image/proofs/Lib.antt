@@ -1,0 +1,6 @@
+pub mod Fields
+pub mod Messages
+pub mod Parts
+pub mod Sizes
+pub mod Bodies
+mod Examples
