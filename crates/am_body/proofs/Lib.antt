@@ -1,3 +1,5 @@
 pub mod Seen
 pub mod Filed
 pub mod Walking
+pub mod Counted
+pub mod Gone

@@ -5,6 +5,7 @@ ghost use Rattle.am_model.specs.Endpoint.{fresh};
 ghost use Rattle.std.specs.Prelude.{◌≡◌, IfOk};
 
 mod flights;
+mod held;
 mod moves;
 mod notices;
 mod queues;
@@ -70,3 +71,6 @@ impl Body {
         }
     }
 }
+
+#[cfg(test)]
+mod tests;
