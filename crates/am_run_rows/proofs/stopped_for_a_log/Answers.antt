@@ -1,0 +1,42 @@
+use Rattle.std.proofs.Common.{rules, List, [], take, drop, refl}
+use Rattle.am_office.specs.declared.Event.TheVariants as Events
+use Rattle.am_office.specs.declared.Entry.{Entry}
+use Rattle.am_follow.specs.Layout.{layout_of}
+use Rattle.am_scripts.specs.Follows.{IsPhase}
+use Rattle.am_drain.specs.Made.{next_entry}
+use Rattle.am_drain.specs.Cut.{HasRoom}
+use Rattle.am_run_rows.specs.EveryTryLost as lost
+use Rattle.am_run_rows.specs.StoppedForLog.{scenario, journal}
+use Rattle.am_run_rows.proofs.stopped_for_a_log.Goals as goal
+
+is_phase : IsPhase scenario []
+is_phase = search rules
+
+next : Entry
+next = next_entry (layout_of scenario) journal (Events.Load (record { 0 = 0 }) (record { 0 = 0 }) 0)
+
+later : List Entry
+later = take 2 (drop 4 lost.journal)
+
+room : HasRoom scenario [] journal
+room = search rules
+
+pub returns-clause-stopped : goal.returns-clause-stopped
+unfolding next later
+returns-clause-stopped c =
+    record {
+      phase = [];
+      is_phase = record { history = tt; is_phase = is_phase; scripts = search rules; in_order = tt; events = refl };
+      added = journal;
+      next = next;
+      later = later;
+      turns = 4;
+      drained = refl;
+      made = refl;
+      touches = refl;
+      full = refl;
+    }
+
+pub returns-clause-cut_off : goal.returns-clause-cut_off
+unfolding next later
+returns-clause-cut_off c = record { added = journal; next = next; later = later; turns = 4; planned = refl; made = refl; room = room; full = refl }

@@ -1,0 +1,9 @@
+pub mod ClientsAndServer
+pub mod PagingOut
+pub mod FailedPageOut
+pub mod LastAnswerLost
+pub mod EveryTryLost
+pub mod StoppedForLog
+pub mod PhaseThenDrain
+pub mod FromDisk
+pub mod RoughRun
