@@ -1,0 +1,4 @@
+pub mod Settings
+pub mod View
+pub mod Kept
+pub mod ByEnds

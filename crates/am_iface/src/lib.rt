@@ -1,0 +1,169 @@
+//! The interface of a node: it binds messages to channels, sends them again, answers those that arrive and settles those
+//! that are answered, each by one entry of its log.
+#![tactic(auto)]
+
+ghost use Rattle.am_iface.specs.Settings.{AreLawful};
+ghost use Rattle.am_iface.specs.View.{FitsInterface, InterfaceView, last_stamp, own};
+ghost use Rattle.am_channel.specs.declared.sending.Bound.{Bound};
+ghost use Rattle.am_channel_laws.specs.Counted.{AreCounted};
+ghost use Rattle.am_local.specs.Interface.{channel_in, emits_to, needs};
+ghost use Rattle.am_model.specs.Channels.{attempt, bound_message, emitted};
+ghost use Rattle.std.specs.Option.{option_map};
+ghost use Rattle.std.specs.Prelude.{◌≡◌, ◌<◌, [], length, IfOk, IfSome};
+
+mod by_ends;
+mod opening;
+mod settings;
+
+use crate::by_ends::{emits_expiry, emits_parcel, needs_answer, needs_expiry, needs_parcel};
+use crate::opening::{no_emissions, unused_ends};
+pub use crate::settings::IfaceSettings;
+pub use am_channel::Bound;
+use am_channel::Ends;
+pub use am_local::work::Work;
+use am_names::{EndpointId, NodeId, Packet};
+pub use am_office::NoMemory;
+use am_office::{Condition, Entry, Part};
+use std::alloc::Global;
+use std::marker::Model;
+
+/// What a turn did: its entry, and the packet that the entry emits, if it emits one.
+#[derive(Clone, Copy, PartialEq, Eq, Debug)]
+pub struct Turned {
+    pub entry: Entry,
+    pub out: Option<Packet>,
+}
+
+/// Why a turn did nothing.
+#[derive(Clone, Copy, PartialEq, Eq, Debug)]
+pub enum IfaceFault {
+    /// The work can't be done: this is the first condition that fails.
+    NotEnabled(Condition),
+    /// The work can be done, and the log of this part has as many entries as it may.
+    LogFull(Part),
+    /// There is no memory for one more entry.
+    NoMemory,
+}
+
+/// An interface with its log. Contracts see what it began with and its log. Its channels' ends, their slots aside, and the
+/// numbers of the packets that it emitted are what the definitions count in the log.
+#[derive(Drop)]
+pub struct Interface {
+    settings: IfaceSettings,
+    /// Four for each of 16 peers.
+    ends: Vec<Ends>,
+    /// How many packets went to each of 16 peers.
+    emissions: Vec<u32>,
+    log: Vec<Entry>,
+}
+
+impl Model for Interface {
+    ghost use Rattle.am_iface.specs.View.{InterfaceView};
+
+    ghost Value = { InterfaceView };
+
+    ghost use Rattle.am_iface.specs.Kept.{view_of, IsCounted};
+
+    ghost view = { view_of };
+
+    ghost invariant = { IsCounted };
+}
+
+impl Interface {
+    /// An interface with an empty log.
+    pub fn new(alloc: Global, set: IfaceSettings) -> Result<Interface, NoMemory>
+        requires { AreLawful set }
+        ensures settings { IfOk result (λ i. i.settings ≡ set) }
+        ensures log { IfOk result (λ i. i.log ≡ []) }
+    {
+        let ends = unused_ends(alloc)?;
+        let emissions = no_emissions(alloc)?;
+        Ok(Interface {
+            settings: set,
+            ends,
+            emissions,
+            log: Vec::new(alloc),
+        })
+    }
+
+    /// The entries in order.
+    pub fn log(&self) -> &[Entry]
+        ensures { result.now ≡ self.now.log }
+    {
+        self.log.as_slice()
+    }
+
+    /// The stamp of the last entry, and 0 where there is none.
+    pub fn last_stamp(&self) -> u64
+        ensures { result ≡ last_stamp self.now.log }
+    {
+        match self.log.as_slice().last().copied() {
+            None => 0,
+            Some(entry) => entry.stamp,
+        }
+    }
+
+    /// How many packets it emitted to a peer.
+    pub fn emitted(&self, peer: NodeId) -> u32
+        requires { peer.0 < self.now.settings.nodes }
+        ensures { result ≡ length (emitted self.now.settings.node peer self.now.log) }
+    {
+        self.emissions[peer.0 as usize]
+    }
+
+    /// Both ends of a channel.
+    fn ends(&self, peer: NodeId, channel: u8) -> Ends
+        requires peer { peer.0 < self.now.settings.nodes }
+        requires channel { channel < self.now.settings.channels }
+        ensures { AreCounted (channel_in (own self.now) peer channel) self.now.log result }
+    {
+        self.ends[4 * peer.0 as usize + channel as usize]
+    }
+
+    /// The message that is bound to the channel's sending end, and the attempt of its last packet. None exactly where the
+    /// end is idle.
+    pub fn bound(&self, peer: NodeId, channel: u8) -> Option<Bound>
+        requires peer { peer.0 < self.now.settings.nodes }
+        requires channel { channel < self.now.settings.channels }
+        ensures message { option_map (λ (b : Bound). b.message) result ≡ bound_message (channel_in (own self.now) peer channel) self.now.log }
+        ensures attempt { IfSome result (λ b. b.attempt ≡ attempt (channel_in (own self.now) peer channel) self.now.log) }
+    {
+        self.ends(peer, channel).sending.busy()
+    }
+
+    /// The endpoint that a work touches: the destination of a fresh parcel, the source of a bound message that settles or
+    /// is given up, the endpoint of a bind, and none otherwise.
+    pub fn needs(&self, work: &Work) -> Option<EndpointId>
+        requires { FitsInterface self.now work.now }
+        ensures { result ≡ needs (own self.now) work.now }
+    {
+        match work {
+            Work::Receive(Packet::Parcel(p)) => needs_parcel(&self.ends(p.from, p.channel), p),
+            Work::Receive(Packet::Answer(p)) => needs_answer(&self.ends(p.from, p.channel), p),
+            Work::Bind(end) => Some(*end),
+            Work::Expire { peer, channel } => needs_expiry(
+                &self.ends(*peer, *channel),
+                self.settings.tries,
+            ),
+        }
+    }
+
+    /// The peer of the packet that the work's entry would emit, if the work can be done: the sender of a parcel that isn't
+    /// stale, and the peer of a time-out with a try left. None exactly where the work is a bind, can't be done, or emits no
+    /// packet.
+    pub fn emits_to(&self, work: &Work) -> Option<NodeId>
+        requires { FitsInterface self.now work.now }
+        ensures { result ≡ emits_to (own self.now) work.now }
+    {
+        match work {
+            Work::Receive(Packet::Parcel(p)) => emits_parcel(&self.ends(p.from, p.channel), p),
+            Work::Receive(Packet::Answer(_)) => None,
+            Work::Bind(_) => None,
+            Work::Expire { peer, channel } => emits_expiry(
+                &self.ends(*peer, *channel),
+                self.settings.tries,
+                *peer,
+            ),
+        }
+    }
+}
