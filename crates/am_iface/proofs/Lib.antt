@@ -1,1 +1,3 @@
 pub mod Readings
+pub mod Emissions
+pub mod Entering

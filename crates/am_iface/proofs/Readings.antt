@@ -18,21 +18,22 @@ use Rattle.am_channel.specs.Sending.{settled, settled_by, settled_if, timed_out}
 use Rattle.am_channel_laws.specs.Counted.{AreCounted}
 use Rattle.am_local.specs.Interface.{InterfaceLog, needs_arrival, answers_to, needs_bound, settles, has_try_left, sends_again_to, channel_in}
 use Rattle.am_iface.specs.ByEnds.{needs_settling, needs_time_out, needs_given_up, emits_retry, emits_again}
-use Rattle.am_iface.specs.Kept.{IsCounted, view_of}
+use Rattle.am_iface.specs.Kept.{AreOfLog, IsCounted, settings_in, view_of}
+use Rattle.am_iface.specs.Settings.{SettingsView}
 use Rattle.am_iface.specs.View.{InterfaceView, own}
 use Rattle.am_iface.specs.declared.Interface.TheInside.{Inside}
 
 -- the ends of a channel are counted in the log
-pub ends_at : (i : Inside) (peer : NodeId) (channel : ℕ) (e : Ends) → IsCounted i → peer.0 < i.settings.nodes → channel < i.settings.channels → e ≡ get_or i.ends.items (4 * peer.0 + channel) e → AreCounted (channel_to i.settings.node peer channel) i.log.items e
-ends_at i peer channel e is to on at =
+pub ends_at : (set : SettingsView) (ends : List Ends) (counts : List ℕ) (log : List Entry) (peer : NodeId) (channel : ℕ) (e : Ends) → AreOfLog set ends counts log → peer.0 < set.nodes → channel < set.channels → e ≡ get_or ends (4 * peer.0 + channel) e → AreCounted (channel_to set.node peer channel) log e
+ends_at set ends counts log peer channel e is to on at =
     let below : channel < 4 = omega (arith, is.lawful.channels) in
     let within : 4 * peer.0 + channel < 64 = omega (arith, is.lawful.nodes) in
-    is.ends peer.0 channel e below (slice_get_read i.ends.items 64 (4 * peer.0 + channel) e (sym is.all_ends) within at)
+    is.ends peer.0 channel e below (slice_get_read ends 64 (4 * peer.0 + channel) e (sym is.all_ends) within at)
 
 pub ends_seen : (i : Inside) (v : InterfaceView) (peer : NodeId) (channel : ℕ) (e : Ends) → view_of i ≡ v → IsCounted i → peer.0 < v.settings.nodes → channel < v.settings.channels → e ≡ get_or i.ends.items (4 * peer.0 + channel) e → AreCounted (channel_in (own v) peer channel) v.log e
 ends_seen i v peer channel e seen is to on at =
     subst (λ (w : InterfaceView). peer.0 < w.settings.nodes → channel < w.settings.channels → AreCounted (channel_in (own w) peer channel) w.log e) seen
-    (λ to on. ends_at i peer channel e is to on at)
+    (λ to on. ends_at (settings_in i) i.ends.items i.emissions.items i.log.items peer channel e is to on at)
     to on
 
 pub parcel_is : (c : Channel) (log : List Entry) (e : Ends) (dest : EndpointId) (seq at : ℕ) → AreCounted c log e → needs_arrival dest (arrival e.receiving seq at) ≡ needs_arrival dest (arrival (mark c log) seq at)

@@ -6,12 +6,24 @@ use Rattle.am_model.specs.Channels.{emitted}
 use Rattle.am_model.specs.History.{channel_to}
 use Rattle.am_channel.specs.declared.ends.Ends.{Ends}
 use Rattle.am_channel_laws.specs.Counted.{AreCounted}
-use Rattle.am_iface.specs.Settings.{AreLawful}
+use Rattle.am_iface.specs.Settings.{AreLawful, SettingsView}
 use Rattle.am_iface.specs.View.{InterfaceView}
 use Rattle.am_iface.specs.declared.Interface.TheInside.{Inside}
 
+abbrev pub settings_in : Inside → SettingsView
+settings_in i =
+    record {
+      node = i.limits.node;
+      nodes = i.limits.nodes;
+      channels = i.limits.channels;
+      tries = i.limits.tries;
+      bounces = i.limits.bounces;
+      log = i.limits.log;
+      homes = i.homes.items;
+    }
+
 abbrev pub view_of : Inside → InterfaceView
-view_of i = record { settings = i.settings; log = i.log.items }
+view_of i = record { settings = settings_in i; log = i.log.items }
 
 abbrev pub node_of : ℕ → NodeId
 node_of n = record { 0 = n }
@@ -26,10 +38,13 @@ abbrev pub AreEmissionsOf : NodeId → List Entry → List ℕ → Type 0
 AreEmissionsOf node log counts =
     (peer n : ℕ) → slice_get counts peer ≡ Some n → (n ≡ length (emitted node (node_of peer) log)) × (n ≤ length log)
 
-pub record IsCounted (i : Inside) : Type 0 where
-  pub ends : AreEndsOf i.settings.node i.log.items i.ends.items
-  pub emissions : AreEmissionsOf i.settings.node i.log.items i.emissions.items
-  pub all_ends : length i.ends.items ≡ 64
-  pub all_peers : length i.emissions.items ≡ 16
-  pub bounded : length i.log.items ≤ i.settings.log
-  pub lawful : AreLawful i.settings
+pub record AreOfLog (set : SettingsView) (all : List Ends) (counts : List ℕ) (log : List Entry) : Type 0 where
+  pub ends : AreEndsOf set.node log all
+  pub emissions : AreEmissionsOf set.node log counts
+  pub all_ends : length all ≡ 64
+  pub all_peers : length counts ≡ 16
+  pub bounded : length log ≤ set.log
+  pub lawful : AreLawful set
+
+abbrev pub IsCounted : Inside → Type 0
+IsCounted i = AreOfLog (settings_in i) i.ends.items i.emissions.items i.log.items

@@ -2,3 +2,4 @@ pub mod Settings
 pub mod View
 pub mod Kept
 pub mod ByEnds
+pub mod Made

@@ -9,15 +9,21 @@ ghost use Rattle.am_channel_laws.specs.Counted.{AreCounted};
 ghost use Rattle.am_local.specs.Interface.{channel_in, emits_to, needs};
 ghost use Rattle.am_model.specs.Channels.{attempt, bound_message, emitted};
 ghost use Rattle.std.specs.Option.{option_map};
-ghost use Rattle.std.specs.Prelude.{◌≡◌, ◌<◌, [], length, IfOk, IfSome};
+ghost use Rattle.am_iface.specs.Made.{IsMade, bit};
+ghost use Rattle.am_office.specs.Entries.{emitted_of};
+ghost use Rattle.am_office.specs.declared.Condition.{Condition};
+ghost use Rattle.am_office.specs.declared.Part.{Part};
+ghost use Rattle.std.specs.Prelude.{◌≡◌, ◌≢◌, ◌↔◌, ◌<◌, [], ◌∷◌, ◌++◌, length, IfOk, IfSome, OnOk, OnErr, Err};
 
 mod by_ends;
 mod opening;
+mod packets;
 mod settings;
 
 use crate::by_ends::{emits_expiry, emits_parcel, needs_answer, needs_expiry, needs_parcel};
 use crate::opening::{no_emissions, unused_ends};
 pub use crate::settings::IfaceSettings;
+use crate::settings::Limits;
 pub use am_channel::Bound;
 use am_channel::Ends;
 pub use am_local::work::Work;
@@ -49,7 +55,8 @@ pub enum IfaceFault {
 /// numbers of the packets that it emitted are what the definitions count in the log.
 #[derive(Drop)]
 pub struct Interface {
-    settings: IfaceSettings,
+    limits: Limits,
+    homes: Vec<Option<NodeId>>,
     /// Four for each of 16 peers.
     ends: Vec<Ends>,
     /// How many packets went to each of 16 peers.
@@ -79,7 +86,15 @@ impl Interface {
         let ends = unused_ends(alloc)?;
         let emissions = no_emissions(alloc)?;
         Ok(Interface {
-            settings: set,
+            limits: Limits {
+                node: set.node,
+                nodes: set.nodes,
+                channels: set.channels,
+                tries: set.tries,
+                bounces: set.bounces,
+                log: set.log,
+            },
+            homes: set.homes,
             ends,
             emissions,
             log: Vec::new(alloc),
@@ -143,7 +158,7 @@ impl Interface {
             Work::Bind(end) => Some(*end),
             Work::Expire { peer, channel } => needs_expiry(
                 &self.ends(*peer, *channel),
-                self.settings.tries,
+                self.limits.tries,
             ),
         }
     }
@@ -161,9 +176,46 @@ impl Interface {
             Work::Bind(_) => None,
             Work::Expire { peer, channel } => emits_expiry(
                 &self.ends(*peer, *channel),
-                self.settings.tries,
+                self.limits.tries,
                 *peer,
             ),
         }
     }
+
+    /// Logs the entry of a call on a channel, which leaves these ends.
+    fn enter(
+        &mut self,
+        peer: NodeId,
+        channel: u8,
+        ends: Ends,
+        entry: Entry,
+    ) -> Result<Turned, IfaceFault>
+        requires peer { peer.0 < self.old.settings.nodes }
+        requires channel { channel < self.old.settings.channels }
+        requires made { IsMade (channel_in (own self.old) peer channel) self.old.log ends entry }
+        ensures turned { IfOk result (λ t. t ≡ record { entry = entry; out = emitted_of entry }) }
+        ensures logged { OnOk result (self.new ≡ record self.old { log = self.old.log ++ entry ∷ [] }) }
+        ensures enabled { (c : Condition) → result ≢ Err (IfaceFault.NotEnabled c) }
+        ensures full { (p : Part) → (result ≡ Err (IfaceFault.LogFull p)) ↔ ((p ≡ Part.Interface self.old.settings.node) × (length self.old.log ≡ self.old.settings.log)) }
+        ensures err { OnErr result (self.new ≡ self.old) }
+    {
+        if self.log.len() >= self.limits.log as usize {
+            return Err(IfaceFault::LogFull(Part::Interface(self.limits.node)));
+        }
+        if self.log.reserve(1).is_err() {
+            return Err(IfaceFault::NoMemory);
+        }
+        let out = packets::emitted_of(&entry);
+        let to = peer.0 as usize;
+        self.ends[4 * to + channel as usize] = ends;
+        self.emissions[to] += one_if(out.is_some());
+        self.log.push(entry).unwrap();
+        Ok(Turned { entry, out })
+    }
+}
+
+fn one_if(is: bool) -> u32
+    ensures { result ≡ bit is }
+{
+    if is { 1 } else { 0 }
 }

@@ -28,3 +28,14 @@ impl Model for IfaceSettings {
 
     ghost view = { λ s. record { node = s.node; nodes = s.nodes; channels = s.channels; tries = s.tries; bounces = s.bounces; log = s.log; homes = s.homes.items } };
 }
+
+/// The settings but for the homes.
+#[derive(Clone, Copy)]
+pub(crate) struct Limits {
+    pub(crate) node: NodeId,
+    pub(crate) nodes: u8,
+    pub(crate) channels: u8,
+    pub(crate) tries: u8,
+    pub(crate) bounces: u8,
+    pub(crate) log: u32,
+}
