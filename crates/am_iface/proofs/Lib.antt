@@ -1,3 +1,5 @@
 pub mod Readings
 pub mod Emissions
 pub mod Entering
+pub mod Telling
+pub mod Turning

@@ -3,3 +3,4 @@ pub mod View
 pub mod Kept
 pub mod ByEnds
 pub mod Made
+pub mod Turns

@@ -1,9 +1,11 @@
 // What a work comes to by the ends of its channel.
 ghost use Rattle.am_iface.specs.ByEnds.{emits_retry, needs_settling, needs_time_out};
-ghost use Rattle.am_channel.specs.Sending.{settled};
+ghost use Rattle.am_channel.specs.Sending.{settled, timed_out};
+ghost use Rattle.am_channel_laws.specs.Calls as Calls;
+ghost use Rattle.am_channel_laws.specs.Calls.{after};
 ghost use Rattle.am_local.specs.Interface.{answers_to, needs_arrival};
 ghost use Rattle.am_model.specs.Channels.{arrival};
-ghost use Rattle.std.specs.Prelude.{◌≡◌, ◌≤◌};
+ghost use Rattle.std.specs.Prelude.{◌≡◌, ◌≤◌, IfSome, IsSome};
 
 use am_channel::{Arrival, Ends, Settled, TimedOut};
 use am_names::{AnswerPacket, EndpointId, NodeId, Parcel};
@@ -67,4 +69,13 @@ pub(crate) fn emits_expiry(ends: &Ends, tries: u8, peer: NodeId) -> Option<NodeI
         TimedOut::Resend(_) => Some(peer),
         TimedOut::GaveUp(_) => None,
     }
+}
+
+/// A time-out of a bound message.
+pub(crate) fn time_out(ends: &mut Ends, tries: u8) -> TimedOut
+    requires { IsSome ends.old.sending.bound }
+    ensures answer { IfSome ends.old.sending.bound (λ b. result ≡ timed_out tries ends.old.sending.seq b) }
+    ensures after { ends.new ≡ after ends.old (Calls.TimeOut tries) }
+{
+    ends.sending.time_out(tries)
 }
