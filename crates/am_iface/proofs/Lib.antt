@@ -3,3 +3,5 @@ pub mod Emissions
 pub mod Entering
 pub mod Telling
 pub mod Turning
+pub mod TurningWith
+pub mod Fresh

@@ -173,3 +173,23 @@ timed_is o b tries limit seq r sent bound same answer is =
     ap (λ (n : ℕ). timed_out n seq b) (sym same)
     ∙ sym (subst (λ (o : Option Bound). IfSome o (λ b. r ≡ timed_out tries seq b)) bound answer)
     ∙ is
+
+-- a parcel that touches an endpoint is fresh
+pub fresh_is : (dest e : EndpointId) (a : Arrival) → needs_arrival dest a ≡ Some e → a ≡ Fresh
+fresh_is dest e Stale some = absurd (cc)
+fresh_is dest e (Again before) some = absurd (cc)
+fresh_is dest e Fresh some = refl
+
+pub fresh_came : (s : State) (m : Message) (answer : ℕ) (v : Verdict) (a : Arrival) (came : Received) → a ≡ Fresh → v ≡ verdict s m → came ≡ decided m answer v → came ≡ arrive_at s m answer a
+fresh_came s m answer v a came fresh said is =
+    is ∙ ap (λ (w : Verdict). decided m answer w) said ∙ sym (ap (λ (b : Arrival). arrive_at s m answer b) fresh)
+
+pub fresh_made : (c : Channel) (log : List Entry) (s : State) (p : Parcel) (e new : Ends) (answer : ℕ) (v : Verdict) (x : Entry) → AreCounted c log e → c ≡ channel_to c.node p.from p.channel → v ≡ verdict s p.message → new ≡ after e (Arrive p v) → x.event ≡ Events.Receive c.node p.from p.number → x.outcome ≡ Out.Received p.channel p.seq p.attempt (arrive_at s p.message answer (arrival e.receiving p.seq p.attempt)) → IsMade c log new x
+fresh_made c log s p e new answer v x is on said leaves event outcome =
+    record {
+      old = e;
+      counted = is;
+      call = Arrive p (verdict s p.message);
+      tells = parcel_tells c s p e answer x on event outcome;
+      leaves = leaves ∙ ap (λ (w : Verdict). after e (Arrive p w)) said;
+    }

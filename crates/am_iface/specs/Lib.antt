@@ -4,3 +4,4 @@ pub mod Kept
 pub mod ByEnds
 pub mod Made
 pub mod Turns
+pub mod With

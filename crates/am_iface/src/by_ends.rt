@@ -4,11 +4,11 @@ ghost use Rattle.am_channel.specs.Sending.{settled, timed_out};
 ghost use Rattle.am_channel_laws.specs.Calls as Calls;
 ghost use Rattle.am_channel_laws.specs.Calls.{after};
 ghost use Rattle.am_local.specs.Interface.{answers_to, needs_arrival};
-ghost use Rattle.am_model.specs.Channels.{arrival};
+ghost use Rattle.am_model.specs.Channels.{Fresh, arrival};
 ghost use Rattle.std.specs.Prelude.{◌≡◌, ◌≤◌, IfSome, IsSome};
 
 use am_channel::{Arrival, Ends, Settled, TimedOut};
-use am_names::{AnswerPacket, EndpointId, NodeId, Parcel};
+use am_names::{AnswerPacket, EndpointId, NodeId, Parcel, Verdict};
 
 /// The endpoint that a parcel touches.
 pub(crate) fn needs_parcel(ends: &Ends, p: &Parcel) -> Option<EndpointId>
@@ -78,4 +78,12 @@ pub(crate) fn time_out(ends: &mut Ends, tries: u8) -> TimedOut
     ensures after { ends.new ≡ after ends.old (Calls.TimeOut tries) }
 {
     ends.sending.time_out(tries)
+}
+
+/// Keeps the verdict on a parcel that is fresh.
+pub(crate) fn decide(ends: &mut Ends, p: &Parcel, verdict: Verdict)
+    requires { arrival ends.old.receiving p.now.seq p.now.attempt ≡ Fresh }
+    ensures { ends.new ≡ after ends.old (Calls.Arrive p.now verdict) }
+{
+    ends.receiving.decided(p, verdict);
 }

@@ -2,10 +2,11 @@
 ghost use Rattle.am_local.specs.Interface.{arrive_at, needs_arrival};
 ghost use Rattle.am_model.specs.Channels.{arrival};
 ghost use Rattle.am_model.specs.Endpoint.{State};
+ghost use Rattle.am_model.specs.History.{decided};
 ghost use Rattle.std.specs.Prelude.{◌≡◌, ◌≤◌, None};
 
 use am_channel::{Arrival, Ends, Sent};
-use am_names::{AnswerPacket, Message, NodeId, Parcel};
+use am_names::{AnswerPacket, Message, NodeId, Parcel, Verdict};
 use am_office::{Entry, Event, Outcome, Received};
 
 /// What comes of a parcel that is stale or comes again.
@@ -91,6 +92,20 @@ pub(crate) fn resend(
             seq: sent.seq,
             attempt: sent.attempt,
             number,
+        },
+    }
+}
+
+/// What comes of a fresh parcel by its verdict.
+pub(crate) fn decided(message: Message, answer: u32, verdict: Verdict) -> Received
+    ensures { result ≡ decided message answer verdict }
+{
+    match verdict {
+        Verdict::Accepted => Received::Accepted { message, answer },
+        Verdict::Refused(cause) => Received::Refused {
+            message,
+            cause,
+            answer,
         },
     }
 }

@@ -18,13 +18,14 @@ ghost use Rattle.am_iface.specs.Made.{IsMade, bit};
 ghost use Rattle.am_office.specs.Entries.{emitted_of};
 ghost use Rattle.am_office.specs.declared.Condition.{Condition};
 ghost use Rattle.am_office.specs.declared.Part.{Part};
-ghost use Rattle.std.specs.Prelude.{◌≡◌, ◌≢◌, ◌↔◌, ◌+◌, ◌<◌, ◌^◌, None, Some, [], ◌∷◌, ◌++◌, length, IfOk, IfSome, OnOk, OnErr, Err};
+ghost use Rattle.std.specs.Prelude.{◌≡◌, ◌≢◌, ◌↔◌, ◌+◌, ◌<◌, ◌≤◌, ◌^◌, IsTrue, None, Some, [], ◌∷◌, ◌++◌, length, IfOk, IfSome, OnOk, OnErr, Err};
 
 mod by_ends;
 mod entries;
 mod opening;
 mod packets;
 mod settings;
+mod with;
 
 use crate::by_ends::{
     emits_expiry, emits_parcel, needs_answer, needs_expiry, needs_parcel, time_out,
@@ -140,6 +141,14 @@ impl Interface {
         ensures { result ≡ length (emitted self.now.settings.node peer self.now.log) }
     {
         self.emissions[peer.0 as usize]
+    }
+
+    /// Whether its log has as many entries as it may.
+    fn is_full(&self) -> bool
+        ensures full { IsTrue result ↔ (length self.now.log ≡ self.now.settings.log) }
+        ensures bounded { length self.now.log ≤ self.now.settings.log }
+    {
+        self.log.len() >= self.limits.log as usize
     }
 
     /// Both ends of a channel.
