@@ -5,3 +5,5 @@ pub mod Telling
 pub mod Turning
 pub mod TurningWith
 pub mod Fresh
+pub mod Frees
+pub mod Homes

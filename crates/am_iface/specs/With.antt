@@ -1,5 +1,5 @@
 -- What a turn of an interface with an endpoint answers, and what it leaves of both.
-use Rattle.std.specs.Prelude.{◌≡◌, ◌≢◌, ◌⊎◌, ◌↔◌, ℕ, ◌+◌, max, Option, Some, None, Result, Err, IfOk, OnErr, List, [], ◌∷◌, ◌++◌, length}
+use Rattle.std.specs.Prelude.{◌≡◌, ◌≢◌, ◌⊎◌, ◌↔◌, ℕ, ◌+◌, max, Option, Some, None, Result, Err, IfOk, OnErr, IsSome, List, [], ◌∷◌, ◌++◌, length}
 use Rattle.am_office.specs.declared.Condition.{Condition}
 use Rattle.am_office.specs.declared.Part.{Part}
 use Rattle.am_office.specs.declared.Part.TheVariants as Parts
@@ -7,7 +7,8 @@ use Rattle.am_office.specs.declared.Entry.{Entry}
 use Rattle.am_office.specs.Entries.{emitted_of}
 use Rattle.am_endpoint.specs.View.{EndpointView, state_after}
 use Rattle.am_local.specs.declared.work.Work.{Work}
-use Rattle.am_local.specs.Interface.{event_of, failing_at, outcome_at}
+use Rattle.am_model.specs.declared.Queued.{Queued}
+use Rattle.am_local.specs.Interface.{InterfaceLog, event_of, failing_at, home_in, outcome_at}
 use Rattle.am_iface.specs.declared.Turned.{Turned}
 use Rattle.am_iface.specs.declared.IfaceFault.{IfaceFault}
 use Rattle.am_iface.specs.declared.IfaceFault.TheVariants as Faults
@@ -30,3 +31,8 @@ pub record TurnsWith (old new : InterfaceView) (e f : EndpointView) (stamp : ℕ
   pub full : (p : Part) → (result ≡ Err (Faults.LogFull p)) ↔ ((failing_at (own old) (state_after e) w ≡ None) × IsFullOf old e p)
   pub err : OnErr result (new ≡ old)
   pub err_there : OnErr result (f.log ≡ e.log)
+
+-- the front message, if there is one, goes to an endpoint whose home is known and one of the nodes
+abbrev pub IsHomeKnown : InterfaceLog → Option Queued → Type 0
+IsHomeKnown i None = Unit {0}
+IsHomeKnown i (Some q) = IsSome (home_in i q.message.dest)

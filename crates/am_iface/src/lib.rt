@@ -238,6 +238,13 @@ impl Interface {
         Ok(Turned { entry, out })
     }
 
+    /// The channels to each peer.
+    fn channels(&self) -> u8
+        ensures { result ≡ self.now.settings.channels }
+    {
+        self.limits.channels
+    }
+
     /// The tries of a binding.
     fn tries(&self) -> u8
         ensures { result ≡ self.now.settings.tries }
