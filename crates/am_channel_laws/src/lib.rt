@@ -6,9 +6,11 @@ ghost use Rattle.am_channel.specs.declared.ends.Ends.{Ends};
 ghost use Rattle.am_channel_laws.specs.Calls.{Call, Tells, after};
 ghost use Rattle.am_channel_laws.specs.Counted.{AreCounted};
 ghost use Rattle.am_channel_laws.specs.Folded.{Told, AreMade, ends_after, entries_of};
+ghost use Rattle.am_channel_laws.specs.Lost as lost;
 ghost use Rattle.am_model.specs.Channels.{Channel, sequence};
+ghost use Rattle.am_names.specs.declared.Verdict.{Verdict};
 ghost use Rattle.am_office.specs.declared.Entry.{Entry};
-ghost use Rattle.std.specs.Prelude.{◌≡◌, ◌≢◌, ◌≤◌, List, [], ◌∷◌, ◌++◌, length};
+ghost use Rattle.std.specs.Prelude.{◌≡◌, ◌≢◌, ◌≤◌, None, List, [], ◌∷◌, ◌++◌, length};
 
 /// Ends that no call was made on are those of an empty log.
 pub fn new_ends_are_counted()
@@ -36,4 +38,12 @@ pub fn calls_are_counted()
 /// A channel was bound at most once with each entry, so a log of fewer than 2^32-1 entries leaves it a next sequence.
 pub fn a_sequence_is_within_the_log()
     ensures { (c : Channel) (log : List Entry) → sequence c log ≤ length log }
+{}
+
+/// A lost acknowledgement is such a list of calls: in the end its sender was bound once and is idle, and its receiver has
+/// the mark of the first attempt, accepted.
+pub fn a_lost_acknowledgement()
+    ensures made { AreMade (λ _. new_ends) lost.told }
+    ensures sent { (ends_after (λ _. new_ends) lost.told lost.outward).sending ≡ record { seq = 1; bound = None } }
+    ensures taken { (ends_after (λ _. new_ends) lost.told lost.inward).receiving ≡ record { seq = 1; attempt = 0; verdict = Verdict.Accepted } }
 {}

@@ -1,0 +1,7 @@
+pub mod Settings
+pub mod View
+pub mod Kept
+pub mod ByEnds
+pub mod Made
+pub mod Turns
+pub mod With

@@ -1,0 +1,20 @@
+-- A call on a channel of an interface, and the entry that tells of it.
+use Rattle.std.specs.Prelude.{◌≡◌, ℕ, Bool, true, false, List}
+use Rattle.am_office.specs.declared.Entry.{Entry}
+use Rattle.am_model.specs.Channels.{Channel}
+use Rattle.am_channel.specs.declared.ends.Ends.{Ends}
+use Rattle.am_channel_laws.specs.Calls.{Call, Tells, after}
+use Rattle.am_channel_laws.specs.Counted.{AreCounted}
+
+-- the entry tells of a call on the ends that are counted in the log, and the call leaves the new ends
+pub record IsMade (c : Channel) (log : List Entry) (new : Ends) (x : Entry) : Type 0 where
+  pub old : Ends
+  pub counted : AreCounted c log old
+  pub call : Call
+  pub tells : Tells c old call x
+  pub leaves : new ≡ after old call
+
+-- 1 for true, 0 for false
+abbrev pub bit : Bool → ℕ
+bit true = 1
+bit false = 0

@@ -1,0 +1,42 @@
+-- What a turn of an interface answers, and what it leaves.
+use Rattle.std.specs.Prelude.{◌≡◌, ◌↔◌, ℕ, ◌+◌, max, Option, Some, None, Result, Err, IfOk, OnErr, List, [], ◌∷◌, ◌++◌, length}
+use Rattle.am_names.specs.declared.Packet.{Packet}
+use Rattle.am_office.specs.declared.Condition.{Condition}
+use Rattle.am_office.specs.declared.Part.{Part}
+use Rattle.am_office.specs.declared.Part.TheVariants as Parts
+use Rattle.am_office.specs.declared.Entry.{Entry}
+use Rattle.am_office.specs.Entries.{emitted_of}
+use Rattle.am_model.specs.Endpoint.{State}
+use Rattle.am_model.specs.History.{stamp_of}
+use Rattle.am_local.specs.declared.work.Work.{Work}
+use Rattle.am_local.specs.declared.work.Work.TheVariants as Works
+use Rattle.am_local.specs.Interface.{event_of, failing_at, outcome_at}
+use Rattle.am_iface.specs.declared.Turned.{Turned}
+use Rattle.am_iface.specs.declared.IfaceFault.{IfaceFault}
+use Rattle.am_iface.specs.declared.IfaceFault.TheVariants as Faults
+use Rattle.am_iface.specs.View.{InterfaceView, last_stamp, own}
+
+-- the stamp of the packet in hand, and 0 where there is none
+abbrev pub stamp_in : Work → ℕ
+stamp_in (Works.Receive p) = stamp_of p
+stamp_in (Works.Bind end) = 0
+stamp_in (Works.Expire peer channel) = 0
+
+-- the stamp of an entry that is made now: above the floor, the last entry and the packet in hand
+abbrev pub stamp_after : ℕ → List Entry → Work → ℕ
+stamp_after floor log w = 1 + max (max floor (last_stamp log)) (stamp_in w)
+
+-- the interface's log has as many entries as it may
+abbrev pub IsFull : InterfaceView → Part → Type 0
+IsFull v part = (part ≡ Parts.Interface v.settings.node) × (length v.log ≡ v.settings.log)
+
+-- where the work touches no endpoint, or one in this state
+pub record Turns (old new : InterfaceView) (s : State) (stamp : ℕ) (w : Work) (result : Result Turned IfaceFault) : Type 0 where
+  pub event : IfOk result (λ t. t.entry.event ≡ event_of old.settings.node w)
+  pub outcome : IfOk result (λ t. t.entry.outcome ≡ outcome_at (own old) s w)
+  pub stamped : IfOk result (λ t. t.entry.stamp ≡ stamp)
+  pub out : IfOk result (λ t. t.out ≡ emitted_of t.entry)
+  pub logged : IfOk result (λ t. new ≡ record old { log = old.log ++ t.entry ∷ [] })
+  pub disabled : (c : Condition) → (result ≡ Err (Faults.NotEnabled c)) ↔ (failing_at (own old) s w ≡ Some c)
+  pub full : (p : Part) → (result ≡ Err (Faults.LogFull p)) ↔ ((failing_at (own old) s w ≡ None) × IsFull old p)
+  pub err : OnErr result (new ≡ old)

@@ -1,0 +1,38 @@
+-- What a turn of an interface with an endpoint answers, and what it leaves of both.
+use Rattle.std.specs.Prelude.{◌≡◌, ◌≢◌, ◌⊎◌, ◌↔◌, ℕ, ◌+◌, max, Option, Some, None, Result, Err, IfOk, OnErr, IsSome, List, [], ◌∷◌, ◌++◌, length}
+use Rattle.am_office.specs.declared.Condition.{Condition}
+use Rattle.am_office.specs.declared.Part.{Part}
+use Rattle.am_office.specs.declared.Part.TheVariants as Parts
+use Rattle.am_office.specs.declared.Entry.{Entry}
+use Rattle.am_office.specs.Entries.{emitted_of}
+use Rattle.am_endpoint.specs.View.{EndpointView, state_after}
+use Rattle.am_local.specs.declared.work.Work.{Work}
+use Rattle.am_model.specs.declared.Queued.{Queued}
+use Rattle.am_local.specs.Interface.{InterfaceLog, event_of, failing_at, home_in, outcome_at}
+use Rattle.am_iface.specs.declared.Turned.{Turned}
+use Rattle.am_iface.specs.declared.IfaceFault.{IfaceFault}
+use Rattle.am_iface.specs.declared.IfaceFault.TheVariants as Faults
+use Rattle.am_iface.specs.View.{InterfaceView, own}
+use Rattle.am_iface.specs.Turns.{IsFull}
+
+-- the endpoint's log has as many entries as it may; or it has not, and the interface's has
+abbrev pub IsFullOf : InterfaceView → EndpointView → Part → Type 0
+IsFullOf v e part = ((part ≡ Parts.Endpoint e.settings.id) × (length e.log ≡ e.settings.log)) ⊎ ((length e.log ≢ e.settings.log) × IsFull v part)
+
+pub record TurnsWith (old new : InterfaceView) (e f : EndpointView) (stamp : ℕ) (w : Work) (result : Result Turned IfaceFault) : Type 0 where
+  pub event : IfOk result (λ t. t.entry.event ≡ event_of old.settings.node w)
+  pub outcome : IfOk result (λ t. t.entry.outcome ≡ outcome_at (own old) (state_after e) w)
+  pub stamped : IfOk result (λ t. t.entry.stamp ≡ stamp)
+  pub out : IfOk result (λ t. t.out ≡ emitted_of t.entry)
+  pub logged : IfOk result (λ t. new ≡ record old { log = old.log ++ t.entry ∷ [] })
+  pub there : IfOk result (λ t. f.log ≡ e.log ++ t.entry ∷ [])
+  pub same : f.settings ≡ e.settings
+  pub disabled : (c : Condition) → (result ≡ Err (Faults.NotEnabled c)) ↔ (failing_at (own old) (state_after e) w ≡ Some c)
+  pub full : (p : Part) → (result ≡ Err (Faults.LogFull p)) ↔ ((failing_at (own old) (state_after e) w ≡ None) × IsFullOf old e p)
+  pub err : OnErr result (new ≡ old)
+  pub err_there : OnErr result (f.log ≡ e.log)
+
+-- the front message, if there is one, goes to an endpoint whose home is known and one of the nodes
+abbrev pub IsHomeKnown : InterfaceLog → Option Queued → Type 0
+IsHomeKnown i None = Unit {0}
+IsHomeKnown i (Some q) = IsSome (home_in i q.message.dest)

@@ -1,0 +1,111 @@
+// The entries of turns that touch no endpoint.
+ghost use Rattle.am_local.specs.Interface.{arrive_at, needs_arrival};
+ghost use Rattle.am_model.specs.Channels.{arrival};
+ghost use Rattle.am_model.specs.Endpoint.{State};
+ghost use Rattle.am_model.specs.History.{decided};
+ghost use Rattle.std.specs.Prelude.{◌≡◌, ◌≤◌, None};
+
+use am_channel::{Arrival, Ends, Sent};
+use am_names::{AnswerPacket, Message, NodeId, Parcel, Verdict};
+use am_office::{Entry, Event, Outcome, Received};
+
+/// What comes of a parcel that is stale or comes again.
+pub(crate) fn repeat(ends: &Ends, answer: u32, p: &Parcel) -> Received
+    requires seq { 1 ≤ p.now.seq }
+    requires known { needs_arrival p.now.message.dest (arrival ends.now.receiving p.now.seq p.now.attempt) ≡ None }
+    ensures { (s : State) → result ≡ arrive_at s p.now.message answer (arrival ends.now.receiving p.now.seq p.now.attempt) }
+{
+    match ends.receiving.arrive(p) {
+        Arrival::Stale => Received::Stale,
+        Arrival::Again(verdict) => Received::Again {
+            serial: p.message.serial,
+            verdict,
+            answer,
+        },
+        Arrival::Fresh => unreachable!(),
+    }
+}
+
+/// The receipt of a parcel, with what came of it.
+pub(crate) fn parcel_receipt(node: NodeId, stamp: u64, p: &Parcel, came: Received) -> Entry
+    ensures { result ≡ record { stamp = stamp; event = Event.Receive node p.now.from p.now.number; outcome = Outcome.Received p.now.channel p.now.seq p.now.attempt came } }
+{
+    Entry {
+        stamp,
+        event: Event::Receive {
+            node,
+            peer: p.from,
+            number: p.number,
+        },
+        outcome: Outcome::Received {
+            channel: p.channel,
+            seq: p.seq,
+            attempt: p.attempt,
+            result: came,
+        },
+    }
+}
+
+/// The receipt of an answer, with what came of it.
+pub(crate) fn answer_receipt(node: NodeId, stamp: u64, p: &AnswerPacket, came: Received) -> Entry
+    ensures { result ≡ record { stamp = stamp; event = Event.Receive node p.now.from p.now.number; outcome = Outcome.Received p.now.channel p.now.seq p.now.attempt came } }
+{
+    Entry {
+        stamp,
+        event: Event::Receive {
+            node,
+            peer: p.from,
+            number: p.number,
+        },
+        outcome: Outcome::Received {
+            channel: p.channel,
+            seq: p.seq,
+            attempt: p.attempt,
+            result: came,
+        },
+    }
+}
+
+/// The time-out of a channel that sends its message again.
+pub(crate) fn resend(
+    node: NodeId,
+    stamp: u64,
+    peer: NodeId,
+    channel: u8,
+    message: Message,
+    sent: Sent,
+    number: u32,
+) -> Entry
+    ensures { result ≡ record { stamp = stamp; event = Event.Expire node peer channel; outcome = Outcome.Sent message peer channel sent.seq sent.attempt number } }
+{
+    Entry {
+        stamp,
+        event: Event::Expire {
+            node,
+            peer,
+            channel,
+        },
+        outcome: Outcome::Sent {
+            message,
+            peer,
+            channel,
+            seq: sent.seq,
+            attempt: sent.attempt,
+            number,
+        },
+    }
+}
+
+/// What comes of a fresh parcel by its verdict.
+pub(crate) fn decided(message: Message, answer: u32, verdict: Verdict) -> Received
+    ensures { result ≡ decided message answer verdict }
+{
+    match verdict {
+        Verdict::Accepted => Received::Accepted { message, answer },
+        Verdict::Refused(cause) => Received::Refused {
+            message,
+            cause,
+            answer,
+        },
+    }
+}

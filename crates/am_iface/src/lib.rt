@@ -1,0 +1,390 @@
+//! The interface of a node: it binds messages to channels, sends them again, answers those that arrive and settles those
+//! that are answered, each by one entry of its log.
+#![tactic(auto)]
+
+ghost use Rattle.am_iface.specs.Settings.{AreLawful};
+ghost use Rattle.am_iface.specs.Turns.{IsFull, Turns, stamp_after, stamp_in};
+ghost use Rattle.am_iface.specs.View.{FitsAnswer, FitsInterface, FitsParcel, InterfaceView, IsChannelOf, last_stamp, own};
+ghost use Rattle.am_channel.specs.declared.sending.Bound.{Bound};
+ghost use Rattle.am_channel_laws.specs.Counted.{AreCounted};
+ghost use Rattle.am_local.specs.Interface.{arrival_in, channel_in, emits_to, event_of, failing_at, needs, needs_arrival, outcome_at};
+ghost use Rattle.am_local.specs.declared.work.Work.TheVariants as Works;
+ghost use Rattle.am_model.specs.Endpoint.{State};
+ghost use Rattle.am_model.specs.History.{next_number};
+ghost use Rattle.am_names.specs.declared.Packet.TheVariants as Packets;
+ghost use Rattle.am_model.specs.Channels.{attempt, bound_message, emitted};
+ghost use Rattle.std.specs.Option.{option_map};
+ghost use Rattle.am_iface.specs.Made.{IsMade, bit};
+ghost use Rattle.am_office.specs.Entries.{emitted_of};
+ghost use Rattle.am_office.specs.declared.Condition.{Condition};
+ghost use Rattle.am_office.specs.declared.Part.{Part};
+ghost use Rattle.std.specs.Prelude.{◌≡◌, ◌≢◌, ◌↔◌, ◌+◌, ◌<◌, ◌≤◌, ◌^◌, IsTrue, None, Some, [], ◌∷◌, ◌++◌, length, IfOk, IfSome, OnOk, OnErr, Err};
+
+mod by_ends;
+mod entries;
+mod opening;
+mod packets;
+mod settings;
+mod with;
+
+use crate::by_ends::{
+    emits_expiry, emits_parcel, needs_answer, needs_expiry, needs_parcel, time_out,
+};
+use crate::entries::{answer_receipt, parcel_receipt, repeat, resend};
+use crate::opening::{no_emissions, unused_ends};
+pub use crate::settings::IfaceSettings;
+use crate::settings::Limits;
+pub use am_channel::Bound;
+use am_channel::{Ends, TimedOut};
+pub use am_local::work::Work;
+use am_names::{AnswerPacket, EndpointId, NodeId, Packet, Parcel};
+pub use am_office::NoMemory;
+use am_office::{Condition, Entry, Part, Received};
+use std::alloc::Global;
+use std::marker::Model;
+
+/// What a turn did: its entry, and the packet that the entry emits, if it emits one.
+#[derive(Clone, Copy, PartialEq, Eq, Debug)]
+pub struct Turned {
+    pub entry: Entry,
+    pub out: Option<Packet>,
+}
+
+/// Why a turn did nothing.
+#[derive(Clone, Copy, PartialEq, Eq, Debug)]
+pub enum IfaceFault {
+    /// The work can't be done: this is the first condition that fails.
+    NotEnabled(Condition),
+    /// The work can be done, and the log of this part has as many entries as it may.
+    LogFull(Part),
+    /// There is no memory for one more entry.
+    NoMemory,
+}
+
+/// An interface with its log. Contracts see what it began with and its log. Its channels' ends, their slots aside, and the
+/// numbers of the packets that it emitted are what the definitions count in the log.
+#[derive(Drop)]
+pub struct Interface {
+    limits: Limits,
+    homes: Vec<Option<NodeId>>,
+    /// Four for each of 16 peers.
+    ends: Vec<Ends>,
+    /// How many packets went to each of 16 peers.
+    emissions: Vec<u32>,
+    log: Vec<Entry>,
+}
+
+impl Model for Interface {
+    ghost use Rattle.am_iface.specs.View.{InterfaceView};
+
+    ghost Value = { InterfaceView };
+
+    ghost use Rattle.am_iface.specs.Kept.{view_of, IsCounted};
+
+    ghost view = { view_of };
+
+    ghost invariant = { IsCounted };
+}
+
+impl Interface {
+    /// An interface with an empty log.
+    pub fn new(alloc: Global, set: IfaceSettings) -> Result<Interface, NoMemory>
+        requires { AreLawful set }
+        ensures settings { IfOk result (λ i. i.settings ≡ set) }
+        ensures log { IfOk result (λ i. i.log ≡ []) }
+    {
+        let ends = unused_ends(alloc)?;
+        let emissions = no_emissions(alloc)?;
+        Ok(Interface {
+            limits: Limits {
+                node: set.node,
+                nodes: set.nodes,
+                channels: set.channels,
+                tries: set.tries,
+                bounces: set.bounces,
+                log: set.log,
+            },
+            homes: set.homes,
+            ends,
+            emissions,
+            log: Vec::new(alloc),
+        })
+    }
+
+    /// Whose it is.
+    pub fn node(&self) -> NodeId
+        ensures { result ≡ self.now.settings.node }
+    {
+        self.limits.node
+    }
+
+    /// The entries in order.
+    pub fn log(&self) -> &[Entry]
+        ensures { result.now ≡ self.now.log }
+    {
+        self.log.as_slice()
+    }
+
+    /// The stamp of the last entry, and 0 where there is none.
+    pub fn last_stamp(&self) -> u64
+        ensures { result ≡ last_stamp self.now.log }
+    {
+        match self.log.as_slice().last().copied() {
+            None => 0,
+            Some(entry) => entry.stamp,
+        }
+    }
+
+    /// How many packets it emitted to a peer.
+    pub fn emitted(&self, peer: NodeId) -> u32
+        requires { peer.0 < self.now.settings.nodes }
+        ensures { result ≡ length (emitted self.now.settings.node peer self.now.log) }
+    {
+        self.emissions[peer.0 as usize]
+    }
+
+    /// Whether its log has as many entries as it may.
+    fn is_full(&self) -> bool
+        ensures full { IsTrue result ↔ (length self.now.log ≡ self.now.settings.log) }
+        ensures bounded { length self.now.log ≤ self.now.settings.log }
+    {
+        self.log.len() >= self.limits.log as usize
+    }
+
+    /// Both ends of a channel.
+    fn ends(&self, peer: NodeId, channel: u8) -> Ends
+        requires peer { peer.0 < self.now.settings.nodes }
+        requires channel { channel < self.now.settings.channels }
+        ensures { AreCounted (channel_in (own self.now) peer channel) self.now.log result }
+    {
+        self.ends[4 * peer.0 as usize + channel as usize]
+    }
+
+    /// The message that is bound to the channel's sending end, and the attempt of its last packet. None exactly where the
+    /// end is idle.
+    pub fn bound(&self, peer: NodeId, channel: u8) -> Option<Bound>
+        requires peer { peer.0 < self.now.settings.nodes }
+        requires channel { channel < self.now.settings.channels }
+        ensures message { option_map (λ (b : Bound). b.message) result ≡ bound_message (channel_in (own self.now) peer channel) self.now.log }
+        ensures attempt { IfSome result (λ b. b.attempt ≡ attempt (channel_in (own self.now) peer channel) self.now.log) }
+    {
+        self.ends(peer, channel).sending.busy()
+    }
+
+    /// The endpoint that a work touches: the destination of a fresh parcel, the source of a bound message that settles or
+    /// is given up, the endpoint of a bind, and none otherwise.
+    pub fn needs(&self, work: &Work) -> Option<EndpointId>
+        requires { FitsInterface self.now work.now }
+        ensures { result ≡ needs (own self.now) work.now }
+    {
+        match work {
+            Work::Receive(Packet::Parcel(p)) => needs_parcel(&self.ends(p.from, p.channel), p),
+            Work::Receive(Packet::Answer(p)) => needs_answer(&self.ends(p.from, p.channel), p),
+            Work::Bind(end) => Some(*end),
+            Work::Expire { peer, channel } => needs_expiry(
+                &self.ends(*peer, *channel),
+                self.limits.tries,
+            ),
+        }
+    }
+
+    /// The peer of the packet that the work's entry would emit, if the work can be done: the sender of a parcel that isn't
+    /// stale, and the peer of a time-out with a try left. None exactly where the work is a bind, can't be done, or emits no
+    /// packet.
+    pub fn emits_to(&self, work: &Work) -> Option<NodeId>
+        requires { FitsInterface self.now work.now }
+        ensures { result ≡ emits_to (own self.now) work.now }
+    {
+        match work {
+            Work::Receive(Packet::Parcel(p)) => emits_parcel(&self.ends(p.from, p.channel), p),
+            Work::Receive(Packet::Answer(_)) => None,
+            Work::Bind(_) => None,
+            Work::Expire { peer, channel } => emits_expiry(
+                &self.ends(*peer, *channel),
+                self.limits.tries,
+                *peer,
+            ),
+        }
+    }
+
+    /// Logs the entry of a call on a channel, which leaves these ends.
+    fn enter(
+        &mut self,
+        peer: NodeId,
+        channel: u8,
+        ends: Ends,
+        entry: Entry,
+    ) -> Result<Turned, IfaceFault>
+        requires peer { peer.0 < self.old.settings.nodes }
+        requires channel { channel < self.old.settings.channels }
+        requires made { IsMade (channel_in (own self.old) peer channel) self.old.log ends entry }
+        ensures turned { IfOk result (λ t. t ≡ record { entry = entry; out = emitted_of entry }) }
+        ensures logged { OnOk result (self.new ≡ record self.old { log = self.old.log ++ entry ∷ [] }) }
+        ensures enabled { (c : Condition) → result ≢ Err (IfaceFault.NotEnabled c) }
+        ensures full { (p : Part) → (result ≡ Err (IfaceFault.LogFull p)) ↔ ((p ≡ Part.Interface self.old.settings.node) × (length self.old.log ≡ self.old.settings.log)) }
+        ensures err { OnErr result (self.new ≡ self.old) }
+    {
+        if self.log.len() >= self.limits.log as usize {
+            return Err(IfaceFault::LogFull(Part::Interface(self.limits.node)));
+        }
+        if self.log.reserve(1).is_err() {
+            return Err(IfaceFault::NoMemory);
+        }
+        let out = packets::emitted_of(&entry);
+        let to = peer.0 as usize;
+        self.ends[4 * to + channel as usize] = ends;
+        self.emissions[to] += one_if(out.is_some());
+        self.log.push(entry).unwrap();
+        Ok(Turned { entry, out })
+    }
+
+    /// The channels to each peer.
+    fn channels(&self) -> u8
+        ensures { result ≡ self.now.settings.channels }
+    {
+        self.limits.channels
+    }
+
+    /// The tries of a binding.
+    fn tries(&self) -> u8
+        ensures { result ≡ self.now.settings.tries }
+    {
+        self.limits.tries
+    }
+
+    /// The number of the next packet to a peer.
+    fn next_number(&self, peer: NodeId) -> u32
+        requires { peer.0 < self.now.settings.nodes }
+        ensures { result ≡ next_number self.now.settings.node peer self.now.log }
+    {
+        self.emissions[peer.0 as usize] + 1
+    }
+
+    /// Receives a parcel that is stale or comes again.
+    fn receive_again(&mut self, stamp: u64, p: &Parcel) -> Result<Turned, IfaceFault>
+        requires fits { FitsParcel self.old.settings p.now }
+        requires known { needs_arrival p.now.message.dest (arrival_in (own self.old) p.now.from p.now.channel p.now.seq p.now.attempt) ≡ None }
+        ensures { (s : State) → Turns self.old self.new s stamp (Works.Receive (Packets.Parcel p.now)) result }
+    {
+        let ends = self.ends(p.from, p.channel);
+        let answer = self.next_number(p.from);
+        let came = repeat(&ends, answer, p);
+        let entry = parcel_receipt(self.node(), stamp, p, came);
+        self.enter(p.from, p.channel, ends, entry)
+    }
+
+    /// Receives an answer that counts for nothing.
+    fn receive_nothing(&mut self, stamp: u64, p: &AnswerPacket) -> Result<Turned, IfaceFault>
+        requires fits { FitsAnswer self.old.settings p.now }
+        requires nothing { needs (own self.old) (Works.Receive (Packets.Answer p.now)) ≡ None }
+        ensures { (s : State) → Turns self.old self.new s stamp (Works.Receive (Packets.Answer p.now)) result }
+    {
+        let ends = self.ends(p.from, p.channel);
+        let entry = answer_receipt(self.node(), stamp, p, Received::Nothing);
+        self.enter(p.from, p.channel, ends, entry)
+    }
+
+    /// The stamp of an entry that is made now.
+    fn stamp_after(&self, floor: u64, work: &Work) -> u64
+        requires floor { floor + 1 < 2 ^ 64 }
+        requires last { last_stamp self.now.log + 1 < 2 ^ 64 }
+        requires packet { stamp_in work.now + 1 < 2 ^ 64 }
+        ensures { result ≡ stamp_after floor self.now.log work.now }
+    {
+        1 + floor.max(self.last_stamp()).max(stamp_in(work))
+    }
+
+    /// Lets a channel time out that is idle or has a try left.
+    fn expire_alone(&mut self, stamp: u64, peer: NodeId, channel: u8) -> Result<Turned, IfaceFault>
+        requires on { IsChannelOf self.old.settings peer channel }
+        requires alone { needs (own self.old) (Works.Expire peer channel) ≡ None }
+        ensures { (s : State) → Turns self.old self.new s stamp (Works.Expire peer channel) result }
+    {
+        let mut ends = self.ends(peer, channel);
+        let Some(bound) = ends.sending.busy() else {
+            return Err(IfaceFault::NotEnabled(Condition::Idle));
+        };
+        let number = self.next_number(peer);
+        match time_out(&mut ends, self.tries()) {
+            TimedOut::Resend(sent) => {
+                let entry = resend(
+                    self.node(),
+                    stamp,
+                    peer,
+                    channel,
+                    bound.message,
+                    sent,
+                    number,
+                );
+                self.enter(peer, channel, ends, entry)
+            }
+            TimedOut::GaveUp(_) => unreachable!(),
+        }
+    }
+
+    /// Receives a packet that touches no endpoint.
+    fn receive_alone(&mut self, stamp: u64, packet: Packet) -> Result<Turned, IfaceFault>
+        requires fits { FitsInterface self.old (Works.Receive packet) }
+        requires alone { needs (own self.old) (Works.Receive packet) ≡ None }
+        ensures { (s : State) → Turns self.old self.new s stamp (Works.Receive packet) result }
+    {
+        match packet {
+            Packet::Parcel(p) => self.receive_again(stamp, &p),
+            Packet::Answer(p) => self.receive_nothing(stamp, &p),
+        }
+    }
+
+    /// Does a work that touches no endpoint.
+    fn work_alone(&mut self, stamp: u64, work: &Work) -> Result<Turned, IfaceFault>
+        requires fits { FitsInterface self.old work.now }
+        requires alone { needs (own self.old) work.now ≡ None }
+        ensures { (s : State) → Turns self.old self.new s stamp work.now result }
+    {
+        match *work {
+            Work::Receive(packet) => self.receive_alone(stamp, packet),
+            Work::Bind(_) => unreachable!(),
+            Work::Expire { peer, channel } => self.expire_alone(stamp, peer, channel),
+        }
+    }
+
+    /// Does a work that touches no endpoint, and logs its entry. Where it answers no entry, nothing has changed.
+    pub fn turn_alone(&mut self, floor: u64, work: &Work) -> Result<Turned, IfaceFault>
+        requires fits { FitsInterface self.old work.now }
+        requires alone { needs (own self.old) work.now ≡ None }
+        requires floor { floor + 1 < 2 ^ 64 }
+        requires last { last_stamp self.old.log + 1 < 2 ^ 64 }
+        requires packet { stamp_in work.now + 1 < 2 ^ 64 }
+
+        // the one entry of the work, whatever the states of endpoints are, and its packet
+        ensures event { IfOk result (λ t. t.entry.event ≡ event_of self.old.settings.node work.now) }
+        ensures outcome { (s : State) → IfOk result (λ t. t.entry.outcome ≡ outcome_at (own self.old) s work.now) }
+        ensures stamp { IfOk result (λ t. t.entry.stamp ≡ stamp_after floor self.old.log work.now) }
+        ensures out { IfOk result (λ t. t.out ≡ emitted_of t.entry) }
+        ensures logged { IfOk result (λ t. self.new ≡ record self.old { log = self.old.log ++ t.entry ∷ [] }) }
+
+        // the first condition that fails, or the full log where none does
+        ensures disabled { (s : State) (c : Condition) → (result ≡ Err (IfaceFault.NotEnabled c)) ↔ (failing_at (own self.old) s work.now ≡ Some c) }
+        ensures full { (s : State) (p : Part) → (result ≡ Err (IfaceFault.LogFull p)) ↔ ((failing_at (own self.old) s work.now ≡ None) × IsFull self.old p) }
+        ensures err { OnErr result (self.new ≡ self.old) }
+    {
+        let stamp = self.stamp_after(floor, work);
+        self.work_alone(stamp, work)
+    }
+}
+
+fn one_if(is: bool) -> u32
+    ensures { result ≡ bit is }
+{
+    if is { 1 } else { 0 }
+}
+
+/// The stamp of the packet in hand, and 0 where there is none.
+fn stamp_in(work: &Work) -> u64
+    ensures { result ≡ stamp_in work.now }
+{
+    match work {
+        Work::Receive(Packet::Parcel(p)) => p.stamp,
+        Work::Receive(Packet::Answer(p)) => p.stamp,
+        Work::Bind(_) | Work::Expire { .. } => 0,
+    }
+}
