@@ -7,3 +7,4 @@ pub mod TurningWith
 pub mod Fresh
 pub mod Frees
 pub mod Homes
+pub mod Settling

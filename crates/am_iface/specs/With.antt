@@ -7,7 +7,11 @@ use Rattle.am_office.specs.declared.Entry.{Entry}
 use Rattle.am_office.specs.Entries.{emitted_of}
 use Rattle.am_endpoint.specs.View.{EndpointView, state_after}
 use Rattle.am_local.specs.declared.work.Work.{Work}
+use Rattle.am_names.specs.declared.Message.{Message}
+use Rattle.am_model.specs.declared.Flying.{Flying}
 use Rattle.am_model.specs.declared.Queued.{Queued}
+use Rattle.am_model.specs.Changes.{flying_of}
+use Rattle.am_model.specs.Endpoint.{State}
 use Rattle.am_local.specs.Interface.{InterfaceLog, event_of, failing_at, home_in, outcome_at}
 use Rattle.am_iface.specs.declared.Turned.{Turned}
 use Rattle.am_iface.specs.declared.IfaceFault.{IfaceFault}
@@ -36,3 +40,8 @@ pub record TurnsWith (old new : InterfaceView) (e f : EndpointView) (stamp : ℕ
 abbrev pub IsHomeKnown : InterfaceLog → Option Queued → Type 0
 IsHomeKnown i None = Unit {0}
 IsHomeKnown i (Some q) = IsSome (home_in i q.message.dest)
+
+-- this is the bound message's flight at its source
+abbrev pub IsFlightOf : State → Option Message → Flying → Type 0
+IsFlightOf s None flight = ⊥
+IsFlightOf s (Some m) flight = flying_of m.serial s.body.in_flight ≡ Some flight

@@ -87,3 +87,11 @@ pub(crate) fn decide(ends: &mut Ends, p: &Parcel, verdict: Verdict)
 {
     ends.receiving.decided(p, verdict);
 }
+
+/// An answer comes.
+pub(crate) fn answer(ends: &mut Ends, p: &AnswerPacket) -> Settled
+    ensures answer { result ≡ settled ends.old.sending p.now }
+    ensures after { ends.new ≡ after ends.old (Calls.Answer p.now) }
+{
+    ends.sending.answer(p)
+}

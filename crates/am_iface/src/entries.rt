@@ -2,7 +2,7 @@
 ghost use Rattle.am_local.specs.Interface.{arrive_at, needs_arrival};
 ghost use Rattle.am_model.specs.Channels.{arrival};
 ghost use Rattle.am_model.specs.Endpoint.{State};
-ghost use Rattle.am_model.specs.History.{decided};
+ghost use Rattle.am_model.specs.History.{decided, settle_by};
 ghost use Rattle.std.specs.Prelude.{◌≡◌, ◌≤◌, None};
 
 use am_channel::{Arrival, Ends, Sent};
@@ -106,6 +106,27 @@ pub(crate) fn decided(message: Message, answer: u32, verdict: Verdict) -> Receiv
             message,
             cause,
             answer,
+        },
+    }
+}
+
+/// What an answer that counts makes of a message that bounced so often and may bounce up to the limit.
+pub(crate) fn settled_by(limit: u8, message: Message, bounces: u8, verdict: Verdict) -> Received
+    ensures { result ≡ settle_by limit message bounces verdict }
+{
+    match verdict {
+        Verdict::Accepted => Received::Delivered(message.serial),
+        Verdict::Refused(cause) => if cause.transient() && bounces < limit {
+            Received::Requeued {
+                serial: message.serial,
+                cause,
+                used: bounces + 1,
+            }
+        } else {
+            Received::Returned {
+                serial: message.serial,
+                cause,
+            }
         },
     }
 }

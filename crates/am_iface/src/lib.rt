@@ -238,6 +238,13 @@ impl Interface {
         Ok(Turned { entry, out })
     }
 
+    /// How often a message may bounce.
+    fn bounces(&self) -> u8
+        ensures { result ≡ self.now.settings.bounces }
+    {
+        self.limits.bounces
+    }
+
     /// The channels to each peer.
     fn channels(&self) -> u8
         ensures { result ≡ self.now.settings.channels }

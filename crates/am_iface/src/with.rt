@@ -2,9 +2,10 @@
 ghost use Rattle.am_endpoint.specs.View.{state_after};
 ghost use Rattle.am_iface.specs.Made.{IsMade};
 ghost use Rattle.am_iface.specs.Turns.{IsFull};
-ghost use Rattle.am_iface.specs.View.{FitsParcel, own};
-ghost use Rattle.am_iface.specs.With.{IsFullOf, IsHomeKnown, TurnsWith};
+ghost use Rattle.am_iface.specs.View.{FitsAnswer, FitsParcel, own};
+ghost use Rattle.am_iface.specs.With.{IsFlightOf, IsFullOf, IsHomeKnown, TurnsWith};
 ghost use Rattle.am_local.specs.Interface.{channel_in, channel_of_front, failing_at, home_in, needs};
+ghost use Rattle.am_model.specs.Channels.{bound_message};
 ghost use Rattle.am_model.specs.Endpoint.{front, is_resident};
 ghost use Rattle.am_model.specs.History.{free_from};
 ghost use Rattle.am_local.specs.declared.work.Work.TheVariants as Works;
@@ -14,13 +15,13 @@ ghost use Rattle.am_office.specs.declared.Condition.{Condition};
 ghost use Rattle.am_office.specs.declared.Part.{Part};
 ghost use Rattle.std.specs.Prelude.{◌≡◌, ◌≢◌, ◌↔◌, ◌<◌, Err, Some, [], ◌∷◌, ◌++◌, true, length, IfOk, IfSome, OnErr, OnOk};
 
-use crate::by_ends::decide;
-use crate::entries::{decided, parcel_receipt};
+use crate::by_ends::{answer, decide};
+use crate::entries::{answer_receipt, decided, parcel_receipt, settled_by};
 use crate::{IfaceFault, Interface, Turned};
-use am_channel::Ends;
+use am_channel::{Ends, Settled};
 use am_endpoint::{EndFault, Endpoint};
-use am_model::Queued;
-use am_names::{EndpointId, NodeId, Parcel};
+use am_model::{Flying, Queued};
+use am_names::{AnswerPacket, EndpointId, NodeId, Parcel};
 use am_office::{Condition, Entry, Part, Place};
 
 impl Interface {
@@ -155,6 +156,35 @@ impl Interface {
         match self.enter_with(p.from, p.channel, ends, entry, endpoint) {
             Ok(turned) => {
                 endpoint.put(entry);
+                Ok(turned)
+            }
+            Err(fault) => Err(fault),
+        }
+    }
+
+    /// Receives an answer that settles the bound message, which is this flight of its source.
+    fn receive_settling(
+        &mut self,
+        stamp: u64,
+        p: &AnswerPacket,
+        flight: Flying,
+        endpoint: &mut Endpoint,
+    ) -> Result<Turned, IfaceFault>
+        requires fits { FitsAnswer self.old.settings p.now }
+        requires needs { needs (own self.old) (Works.Receive (Packets.Answer p.now)) ≡ Some endpoint.old.settings.id }
+        requires bounces { endpoint.old.settings.bounces ≡ self.old.settings.bounces }
+        requires flight { IsFlightOf (state_after endpoint.old) (bound_message (channel_in (own self.old) p.now.from p.now.channel) self.old.log) flight }
+        ensures { TurnsWith self.old self.new endpoint.old endpoint.new stamp (Works.Receive (Packets.Answer p.now)) result }
+    {
+        let mut ends = self.ends(p.from, p.channel);
+        let Settled::Done(bound, verdict) = answer(&mut ends, p) else {
+            unreachable!()
+        };
+        let came = settled_by(self.bounces(), bound.message, flight.bounces, verdict);
+        let entry = answer_receipt(self.node(), stamp, p, came);
+        match self.enter_with(p.from, p.channel, ends, entry, endpoint) {
+            Ok(turned) => {
+                endpoint.settle(entry);
                 Ok(turned)
             }
             Err(fault) => Err(fault),
