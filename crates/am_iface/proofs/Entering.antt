@@ -1,6 +1,6 @@
 -- What an interface keeps, one call more.
 use Rattle.std.specs.Prelude.{slice_get, slice_set}
-use Rattle.std.proofs.Common.{◌≡◌, ◌≢◌, ◌⊎◌, inl, inr, ⊎_elim, ℕ, zero, suc, ◌+◌, ◌*◌, ◌<◌, ◌≤◌, Bool, true, false, ◌&&◌, List, [], ◌∷◌, ◌++◌, length, get_or, Option, Some, None, is_some, refl, sym, ap, ◌∙◌, subst, arith, eq-eqb, eqb-true, ◌==◌, if◌then◌else◌}
+use Rattle.std.proofs.Common.{◌≡◌, ◌⊎◌, inl, inr, ⊎_elim, ℕ, zero, suc, ◌+◌, ◌*◌, ◌<◌, ◌≤◌, Bool, true, false, ◌&&◌, List, [], ◌∷◌, ◌++◌, length, get_or, Some, is_some, refl, sym, ap, ◌∙◌, subst, arith, eq-eqb, eqb-true, ◌==◌}
 use Rattle.std.proofs.lemmas.List.{length_push}
 use Rattle.std.proofs.lemmas.Option.{slice_get_read}
 use Rattle.am_names.specs.declared.NodeId.{NodeId}
@@ -10,7 +10,6 @@ use Rattle.am_office.specs.Entries.{emitted_of}
 use Rattle.am_model.specs.Channels.{Channel, emitted}
 use Rattle.am_model.specs.History.{channel_to}
 use Rattle.am_channel.specs.declared.ends.Ends.{Ends}
-use Rattle.am_channel_laws.specs.Calls.{Call, Tells, after}
 use Rattle.am_channel_laws.specs.Counted.{AreCounted}
 use Rattle.am_channel_laws.proofs.Pushes.{call_counted}
 use Rattle.am_channel_laws.proofs.Apart.{call_apart}

@@ -1,6 +1,5 @@
 -- The entry of a fresh parcel.
-use Rattle.std.proofs.Common.{◌≡◌, ℕ, Option, Some, refl, sym, ap, ◌∙◌, subst, List}
-use Rattle.am_names.specs.declared.EndpointId.{EndpointId}
+use Rattle.std.proofs.Common.{◌≡◌, ℕ, Some, refl, sym, ap, ◌∙◌, subst}
 use Rattle.am_names.specs.declared.NodeId.{NodeId}
 use Rattle.am_names.specs.declared.Verdict.{Verdict}
 use Rattle.am_names.specs.declared.Parcel.{Parcel}
@@ -10,17 +9,15 @@ use Rattle.am_office.specs.declared.Received.{Received}
 use Rattle.am_office.specs.declared.Outcome.TheVariants as Out
 use Rattle.am_office.specs.declared.Entry.{Entry}
 use Rattle.am_model.specs.Allowed.{MayArrive}
-use Rattle.am_model.specs.Channels.{Mark, Fresh, arrival}
+use Rattle.am_model.specs.Channels.{Mark, arrival}
 use Rattle.am_model.specs.Endpoint.{verdict}
 use Rattle.am_model.specs.History.{decided, next_number}
 use Rattle.am_channel.specs.declared.ends.Ends.{Ends}
 use Rattle.am_channel_laws.specs.Counted.{AreCounted}
-use Rattle.am_local.specs.Granted.{IsWorkAt}
 use Rattle.am_local.specs.Interface.{arrive_at, channel_in, needs, needs_arrival}
-use Rattle.am_local.specs.declared.work.Work.{Work}
 use Rattle.am_local.specs.declared.work.Work.TheVariants as Works
 use Rattle.am_local.proofs.Granting.{work_granted}
-use Rattle.am_endpoint.specs.View.{EndpointView, state_after, state_by}
+use Rattle.am_endpoint.specs.View.{EndpointView, state_after}
 use Rattle.am_iface.specs.View.{FitsParcel, InterfaceView, own}
 use Rattle.am_iface.proofs.Telling.{fresh_came, fresh_is, parcel_outcome}
 use Rattle.am_iface.proofs.Turning.{IsEntryOf}

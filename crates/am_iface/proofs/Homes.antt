@@ -1,6 +1,6 @@
 -- The homes of endpoints are nodes of the cluster.
-use Rattle.std.specs.Prelude.{All, IfSome}
-use Rattle.std.proofs.Common.{◌≡◌, ℕ, ◌<◌, List, length, get_or, Option, sym, subst}
+use Rattle.std.specs.Prelude.{IfSome}
+use Rattle.std.proofs.Common.{◌≡◌, ℕ, ◌<◌, length, get_or, Option, sym, subst}
 use Rattle.std.proofs.lemmas.List.Elements.{All-get_or}
 use Rattle.am_names.specs.declared.NodeId.{NodeId}
 use Rattle.am_iface.specs.Kept.{IsCounted, view_of}

@@ -8,3 +8,4 @@ pub mod Fresh
 pub mod Frees
 pub mod Homes
 pub mod Settling
+pub mod GivingUp

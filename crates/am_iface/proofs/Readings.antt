@@ -1,11 +1,10 @@
 -- What an interface reads off the ends of a channel is what its log says.
 use Rattle.std.specs.Prelude.{nat_lt, not, IfSome}
 use Rattle.std.specs.Option.{option_map}
-use Rattle.std.proofs.Common.{◌≡◌, ℕ, ◌+◌, ◌*◌, ◌<◌, ◌==◌, Bool, true, false, ◌&&◌, List, length, get_or, Option, Some, None, refl, sym, ap, ◌∙◌, subst, arith, if◌then◌else◌}
+use Rattle.std.proofs.Common.{◌≡◌, ℕ, ◌+◌, ◌*◌, ◌<◌, ◌==◌, Bool, true, false, ◌&&◌, List, get_or, Option, Some, None, refl, sym, ap, ◌∙◌, subst, arith, if◌then◌else◌}
 use Rattle.std.proofs.lemmas.Option.{slice_get_read}
 use Rattle.am_names.specs.declared.EndpointId.{EndpointId}
 use Rattle.am_names.specs.declared.NodeId.{NodeId}
-use Rattle.am_names.specs.declared.Verdict.{Verdict}
 use Rattle.am_names.specs.declared.Message.{Message}
 use Rattle.am_names.specs.declared.AnswerPacket.{AnswerPacket}
 use Rattle.am_office.specs.declared.Entry.{Entry}
@@ -14,7 +13,7 @@ use Rattle.am_model.specs.History.{channel_to, counts}
 use Rattle.am_channel.specs.declared.ends.Ends.{Ends}
 use Rattle.am_channel.specs.declared.sending.Bound.{Bound}
 use Rattle.am_channel.specs.declared.sending.TimedOut.TheVariants as Times
-use Rattle.am_channel.specs.Sending.{settled, settled_by, settled_if, timed_out}
+use Rattle.am_channel.specs.Sending.{settled, settled_by, settled_if}
 use Rattle.am_channel_laws.specs.Counted.{AreCounted}
 use Rattle.am_local.specs.Interface.{InterfaceLog, needs_arrival, answers_to, needs_bound, settles, has_try_left, sends_again_to, channel_in}
 use Rattle.am_iface.specs.ByEnds.{needs_settling, needs_time_out, needs_given_up, emits_retry, emits_again}

@@ -1,8 +1,7 @@
 -- The entry of an answer that settles a message.
 use Rattle.std.specs.Prelude.{is_some}
 use Rattle.std.specs.Option.{option_map}
-use Rattle.std.proofs.Common.{◌≡◌, ◌==◌, ◌&&◌, ℕ, Bool, true, false, Option, Some, None, refl, sym, ap, ◌∙◌, subst, List, if◌then◌else◌}
-use Rattle.am_names.specs.declared.EndpointId.{EndpointId}
+use Rattle.std.proofs.Common.{◌≡◌, ◌==◌, ◌&&◌, ℕ, Bool, true, false, Option, Some, None, refl, sym, ap, ◌∙◌, subst, if◌then◌else◌}
 use Rattle.am_names.specs.declared.NodeId.{NodeId}
 use Rattle.am_names.specs.declared.Verdict.{Verdict}
 use Rattle.am_names.specs.declared.Message.{Message}
@@ -16,9 +15,9 @@ use Rattle.am_office.specs.declared.Entry.{Entry}
 use Rattle.am_model.specs.declared.Flying.{Flying}
 use Rattle.am_model.specs.Allowed.{MaySettle}
 use Rattle.am_model.specs.Changes.{flying_of}
-use Rattle.am_model.specs.Channels.{Channel, bound_message, sequence, attempt}
+use Rattle.am_model.specs.Channels.{Channel, bound_message, attempt}
 use Rattle.am_model.specs.Endpoint.{State}
-use Rattle.am_model.specs.History.{bounced, channel_to, counts, settle_by}
+use Rattle.am_model.specs.History.{bounced, counts, settle_by}
 use Rattle.am_channel.specs.declared.ends.Ends.{Ends}
 use Rattle.am_channel.specs.declared.sending.Bound.{Bound}
 use Rattle.am_channel.specs.declared.sending.Settled.{Settled}
@@ -27,7 +26,7 @@ use Rattle.am_channel.specs.Sending.{settled, settled_by, settled_if}
 use Rattle.am_channel_laws.specs.Calls.{Answer, after, settled_as}
 use Rattle.am_channel_laws.specs.Counted.{AreCounted}
 use Rattle.am_local.specs.Granted.{IsInFlight}
-use Rattle.am_local.specs.Interface.{InterfaceLog, channel_in, needs, needs_bound, outcome_at, settle_at, settles}
+use Rattle.am_local.specs.Interface.{channel_in, needs, outcome_at, settle_at, settles}
 use Rattle.am_local.specs.declared.work.Work.TheVariants as Works
 use Rattle.am_local.proofs.Granting.{work_granted}
 use Rattle.am_endpoint.specs.View.{EndpointView, state_after}
@@ -125,7 +124,7 @@ settling_entry v e p ends flight bound said came stamp node x is here made =
       enabled = refl;
     }
 
-in_flight : (s : State) (m : Option Message) (flight : Flying) → IsFlightOf s m flight → IsInFlight s m
+pub in_flight : (s : State) (m : Option Message) (flight : Flying) → IsFlightOf s m flight → IsInFlight s m
 in_flight s None flight is = tt
 in_flight s (Some m) flight is = ap (λ (f : Option Flying). is_some f) is
 

@@ -1,7 +1,7 @@
 -- What a work's entry tells of the ends of its channel.
-use Rattle.std.specs.Prelude.{nat_lt, not, is_none, is_some, IfSome}
+use Rattle.std.specs.Prelude.{nat_lt, not, is_some, IfSome}
 use Rattle.std.specs.Option.{option_map}
-use Rattle.std.proofs.Common.{◌≡◌, ℕ, ◌+◌, ◌<◌, ◌==◌, Bool, true, false, ◌&&◌, List, [], ◌∷◌, ◌++◌, length, Option, Some, None, refl, sym, ap, ◌∙◌, subst, arith, if◌then◌else◌}
+use Rattle.std.proofs.Common.{◌≡◌, ℕ, ◌+◌, ◌==◌, Bool, true, false, ◌&&◌, List, [], ◌∷◌, Option, Some, None, refl, sym, ap, ◌∙◌, subst, if◌then◌else◌}
 use Rattle.am_names.specs.declared.NodeId.{NodeId}
 use Rattle.am_names.specs.declared.EndpointId.{EndpointId}
 use Rattle.am_names.specs.declared.Verdict.{Verdict}
@@ -12,7 +12,6 @@ use Rattle.am_names.specs.declared.Packet.TheVariants as Packets
 use Rattle.am_office.specs.declared.Event.TheVariants as Events
 use Rattle.am_office.specs.declared.Received.{Received}
 use Rattle.am_office.specs.declared.Received.TheVariants as Got
-use Rattle.am_office.specs.declared.Outcome.{Outcome}
 use Rattle.am_office.specs.declared.Outcome.TheVariants as Out
 use Rattle.am_office.specs.declared.Entry.{Entry}
 use Rattle.am_model.specs.Choice.{first_holding}
@@ -21,7 +20,7 @@ use Rattle.am_channel.specs.declared.sending.Sent.{Sent}
 use Rattle.am_model.specs.Endpoint.{State, fresh, verdict}
 use Rattle.am_office.specs.declared.Place.TheVariants.{Host}
 use Rattle.am_model.specs.Changes.{flying_of}
-use Rattle.am_model.specs.Channels.{Channel, Mark, Arrival, Stale, Again, Fresh, sequence, bound_message, attempt, mark, arrival}
+use Rattle.am_model.specs.Channels.{Channel, Arrival, Stale, Again, Fresh, sequence, bound_message, attempt, arrival}
 use Rattle.am_model.specs.History.{channel_to, bounced, counts, decided, is_answered, next_number, sent, settle_by}
 use Rattle.am_channel.specs.declared.ends.Ends.{Ends}
 use Rattle.am_channel.specs.declared.sending.Bound.{Bound}
@@ -29,14 +28,14 @@ use Rattle.am_channel.specs.declared.sending.Settled.{Settled}
 use Rattle.am_channel.specs.declared.sending.Settled.TheVariants as Settles
 use Rattle.am_channel.specs.declared.sending.TimedOut.{TimedOut}
 use Rattle.am_channel.specs.declared.sending.TimedOut.TheVariants as Times
-use Rattle.am_channel.specs.Sending.{bound_after, settled, settled_by, settled_if, timed_out, unanswered}
-use Rattle.am_channel_laws.specs.Calls.{Call, Arrive, Answer, TimeOut, Tells, TellsArrival, TellsAnswer, TellsTimedOut, TellsTimeOut, after, arrived_as, settled_as, mark_later}
+use Rattle.am_channel.specs.Sending.{bound_after, settled, settled_by, settled_if, timed_out}
+use Rattle.am_channel_laws.specs.Calls.{Arrive, Answer, TimeOut, Tells, TellsTimedOut, TellsTimeOut, after, arrived_as, settled_as, mark_later}
 use Rattle.am_channel_laws.specs.Counted.{AreCounted}
 use Rattle.am_local.specs.declared.work.Work.TheVariants as Works
-use Rattle.am_local.specs.Interface.{InterfaceLog, channel_in, arrival_in, arrive_at, expire_at, failing_at, has_try_left, needs, needs_arrival, needs_bound, outcome_at, settle_at, settles}
+use Rattle.am_local.specs.Interface.{InterfaceLog, channel_in, arrive_at, expire_at, failing_at, has_try_left, needs, needs_arrival, needs_bound, outcome_at, settle_at, settles}
 use Rattle.am_iface.specs.ByEnds.{needs_settling}
 use Rattle.am_iface.specs.Made.{IsMade}
-use Rattle.am_iface.proofs.Readings.{answer_is, expiry_is}
+use Rattle.am_iface.proofs.Readings.{answer_is}
 
 -- what comes of a parcel by the ends of its channel is what the log says
 pub parcel_outcome : (i : InterfaceLog) (s : State) (p : Parcel) (e : Ends) (answer : ℕ) → AreCounted (channel_in i p.from p.channel) i.log e → answer ≡ next_number i.settings.node p.from i.log → Out.Received p.channel p.seq p.attempt (arrive_at s p.message answer (arrival e.receiving p.seq p.attempt)) ≡ outcome_at i s (Works.Receive (Packets.Parcel p))

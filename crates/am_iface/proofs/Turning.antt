@@ -1,6 +1,6 @@
 -- What a turn answers, by what logging its entry answers.
 use Rattle.std.specs.Prelude.{◌↔◌, Result, Ok, Err, IfOk, OnOk, OnErr}
-use Rattle.std.proofs.Common.{◌≡◌, ◌≢◌, ℕ, List, [], ◌∷◌, ◌++◌, length, Option, Some, None, refl, sym, ap, ◌∙◌, subst}
+use Rattle.std.proofs.Common.{◌≡◌, ◌≢◌, ℕ, [], ◌∷◌, ◌++◌, length, Some, None, refl, sym, ap, ◌∙◌}
 use Rattle.am_office.specs.declared.Condition.{Condition}
 use Rattle.am_office.specs.declared.Part.{Part}
 use Rattle.am_office.specs.declared.Part.TheVariants as Parts
@@ -13,7 +13,7 @@ use Rattle.am_iface.specs.declared.Turned.{Turned}
 use Rattle.am_iface.specs.declared.IfaceFault.{IfaceFault}
 use Rattle.am_iface.specs.declared.IfaceFault.TheVariants as Faults
 use Rattle.am_iface.specs.View.{InterfaceView, own}
-use Rattle.am_iface.specs.Turns.{Turns, IsFull}
+use Rattle.am_iface.specs.Turns.{Turns}
 
 -- what logging an entry answers
 pub record Enters (old new : InterfaceView) (x : Entry) (result : Result Turned IfaceFault) : Type 0 where

@@ -1,18 +1,16 @@
 -- What a turn with an endpoint answers, by what logging its entry answers.
 use Rattle.std.specs.Prelude.{◌↔◌, Result, Ok, Err, IfOk, OnOk, OnErr}
-use Rattle.std.proofs.Common.{◌≡◌, ◌≢◌, ◌⊎◌, ⊎_elim, ℕ, ◌<◌, List, [], ◌∷◌, ◌++◌, length, Option, Some, None, refl, sym, ap, ◌∙◌, subst, arith}
+use Rattle.std.proofs.Common.{◌≡◌, ◌≢◌, ⊎_elim, ℕ, ◌<◌, [], ◌∷◌, ◌++◌, length, Some, None, sym, ap, ◌∙◌, arith}
 use Rattle.am_office.specs.declared.Condition.{Condition}
 use Rattle.am_office.specs.declared.Part.{Part}
-use Rattle.am_office.specs.declared.Part.TheVariants as Parts
 use Rattle.am_office.specs.declared.Entry.{Entry}
 use Rattle.am_office.specs.Entries.{emitted_of}
 use Rattle.am_endpoint.specs.View.{EndpointView, state_after}
 use Rattle.am_local.specs.declared.work.Work.{Work}
-use Rattle.am_local.specs.Interface.{event_of, failing_at, outcome_at}
 use Rattle.am_iface.specs.declared.Turned.{Turned}
 use Rattle.am_iface.specs.declared.IfaceFault.{IfaceFault}
 use Rattle.am_iface.specs.declared.IfaceFault.TheVariants as Faults
-use Rattle.am_iface.specs.View.{InterfaceView, own}
+use Rattle.am_iface.specs.View.{InterfaceView}
 use Rattle.am_iface.specs.With.{IsFullOf, TurnsWith}
 use Rattle.am_iface.proofs.Turning.{IsEntryOf}
 

@@ -1,6 +1,5 @@
 -- What a turn of an interface answers, and what it leaves.
-use Rattle.std.specs.Prelude.{◌≡◌, ◌↔◌, ℕ, ◌+◌, max, Option, Some, None, Result, Err, IfOk, OnErr, List, [], ◌∷◌, ◌++◌, length}
-use Rattle.am_names.specs.declared.Packet.{Packet}
+use Rattle.std.specs.Prelude.{◌≡◌, ◌↔◌, ℕ, ◌+◌, max, Some, None, Result, Err, IfOk, OnErr, List, [], ◌∷◌, ◌++◌, length}
 use Rattle.am_office.specs.declared.Condition.{Condition}
 use Rattle.am_office.specs.declared.Part.{Part}
 use Rattle.am_office.specs.declared.Part.TheVariants as Parts

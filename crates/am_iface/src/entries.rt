@@ -3,7 +3,7 @@ ghost use Rattle.am_local.specs.Interface.{arrive_at, needs_arrival};
 ghost use Rattle.am_model.specs.Channels.{arrival};
 ghost use Rattle.am_model.specs.Endpoint.{State};
 ghost use Rattle.am_model.specs.History.{decided, settle_by};
-ghost use Rattle.std.specs.Prelude.{◌≡◌, ◌≤◌, None};
+ghost use Rattle.std.specs.Prelude.{◌≡◌, ◌≤◌, None, if◌then◌else◌};
 
 use am_channel::{Arrival, Ends, Sent};
 use am_names::{AnswerPacket, Message, NodeId, Parcel, Verdict};
@@ -127,6 +127,32 @@ pub(crate) fn settled_by(limit: u8, message: Message, bounces: u8, verdict: Verd
                 serial: message.serial,
                 cause,
             }
+        },
+    }
+}
+
+/// The time-out of a channel that gives its message up, whose reply was put or not.
+pub(crate) fn give_up(
+    node: NodeId,
+    stamp: u64,
+    peer: NodeId,
+    channel: u8,
+    message: Message,
+    answered: bool,
+) -> Entry
+    ensures { result ≡ record { stamp = stamp; event = Event.Expire node peer channel; outcome = (if answered then Outcome.Delivered message.serial else Outcome.Unknown message.serial) } }
+{
+    Entry {
+        stamp,
+        event: Event::Expire {
+            node,
+            peer,
+            channel,
+        },
+        outcome: if answered {
+            Outcome::Delivered(message.serial)
+        } else {
+            Outcome::Unknown(message.serial)
         },
     }
 }

@@ -2,7 +2,7 @@
 ghost use Rattle.am_endpoint.specs.View.{state_after};
 ghost use Rattle.am_iface.specs.Made.{IsMade};
 ghost use Rattle.am_iface.specs.Turns.{IsFull};
-ghost use Rattle.am_iface.specs.View.{FitsAnswer, FitsParcel, own};
+ghost use Rattle.am_iface.specs.View.{FitsAnswer, FitsParcel, IsChannelOf, own};
 ghost use Rattle.am_iface.specs.With.{IsFlightOf, IsFullOf, IsHomeKnown, TurnsWith};
 ghost use Rattle.am_local.specs.Interface.{channel_in, channel_of_front, failing_at, home_in, needs};
 ghost use Rattle.am_model.specs.Channels.{bound_message};
@@ -15,10 +15,10 @@ ghost use Rattle.am_office.specs.declared.Condition.{Condition};
 ghost use Rattle.am_office.specs.declared.Part.{Part};
 ghost use Rattle.std.specs.Prelude.{◌≡◌, ◌≢◌, ◌↔◌, ◌<◌, Err, Some, [], ◌∷◌, ◌++◌, true, length, IfOk, IfSome, OnErr, OnOk};
 
-use crate::by_ends::{answer, decide};
-use crate::entries::{answer_receipt, decided, parcel_receipt, settled_by};
+use crate::by_ends::{answer, decide, time_out};
+use crate::entries::{answer_receipt, decided, give_up, parcel_receipt, settled_by};
 use crate::{IfaceFault, Interface, Turned};
-use am_channel::{Ends, Settled};
+use am_channel::{Ends, Settled, TimedOut};
 use am_endpoint::{EndFault, Endpoint};
 use am_model::{Flying, Queued};
 use am_names::{AnswerPacket, EndpointId, NodeId, Parcel};
@@ -183,6 +183,45 @@ impl Interface {
         let came = settled_by(self.bounces(), bound.message, flight.bounces, verdict);
         let entry = answer_receipt(self.node(), stamp, p, came);
         match self.enter_with(p.from, p.channel, ends, entry, endpoint) {
+            Ok(turned) => {
+                endpoint.settle(entry);
+                Ok(turned)
+            }
+            Err(fault) => Err(fault),
+        }
+    }
+
+    /// Lets a channel time out that has no try left, whose bound message is this flight of its source.
+    fn expire_with(
+        &mut self,
+        stamp: u64,
+        peer: NodeId,
+        channel: u8,
+        flight: Flying,
+        endpoint: &mut Endpoint,
+    ) -> Result<Turned, IfaceFault>
+        requires on { IsChannelOf self.old.settings peer channel }
+        requires needs { needs (own self.old) (Works.Expire peer channel) ≡ Some endpoint.old.settings.id }
+        requires bounces { endpoint.old.settings.bounces ≡ self.old.settings.bounces }
+        requires flight { IsFlightOf (state_after endpoint.old) (bound_message (channel_in (own self.old) peer channel) self.old.log) flight }
+        ensures { TurnsWith self.old self.new endpoint.old endpoint.new stamp (Works.Expire peer channel) result }
+    {
+        let mut ends = self.ends(peer, channel);
+        let Some(bound) = ends.sending.busy() else {
+            unreachable!()
+        };
+        let TimedOut::GaveUp(_) = time_out(&mut ends, self.tries()) else {
+            unreachable!()
+        };
+        let entry = give_up(
+            self.node(),
+            stamp,
+            peer,
+            channel,
+            bound.message,
+            flight.answered,
+        );
+        match self.enter_with(peer, channel, ends, entry, endpoint) {
             Ok(turned) => {
                 endpoint.settle(entry);
                 Ok(turned)

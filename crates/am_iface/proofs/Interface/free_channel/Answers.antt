@@ -1,6 +1,6 @@
 use Rattle.std.specs.Prelude.{is_some}
 use Rattle.std.proofs.Common.{◌≡◌, ◌<◌, ◌≤◌, ℕ, true, false, sym, ap, ◌∙◌, arith, ◌-◌}
-use Rattle.am_model.specs.History.{channel_to, free_from, is_bound}
+use Rattle.am_model.specs.History.{channel_to, free_from}
 use Rattle.am_iface.proofs.Frees as frees
 use Rattle.am_iface.proofs.Interface.free_channel.Goals as goal
 

@@ -1,4 +1,4 @@
-use Rattle.std.proofs.Common.{◌≡◌, None, ◌∙◌, refl, ap, sym}
+use Rattle.std.proofs.Common.{◌≡◌, None, ◌∙◌, refl, ap}
 use Rattle.am_names.specs.declared.NodeId.{NodeId}
 use Rattle.am_office.specs.declared.Event.TheVariants as Events
 use Rattle.am_office.specs.declared.Entry.{Entry}

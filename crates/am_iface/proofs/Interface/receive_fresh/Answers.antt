@@ -1,4 +1,4 @@
-use Rattle.std.proofs.Common.{◌≡◌, ◌∷◌, [], ◌++◌, List, ◌∙◌, refl, ap}
+use Rattle.std.proofs.Common.{◌∷◌, [], ◌++◌, List, ◌∙◌, refl, ap}
 use Rattle.am_names.specs.declared.NodeId.{NodeId}
 use Rattle.am_names.specs.declared.Packet.TheVariants as Packets
 use Rattle.am_office.specs.declared.Event.TheVariants as Events

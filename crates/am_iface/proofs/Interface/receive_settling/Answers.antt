@@ -1,4 +1,4 @@
-use Rattle.std.proofs.Common.{◌≡◌, ℕ, ◌∷◌, [], ◌++◌, List, ◌∙◌, ap, sym}
+use Rattle.std.proofs.Common.{ℕ, ◌∷◌, [], ◌++◌, List, ◌∙◌, ap, sym}
 use Rattle.am_names.specs.declared.Packet.TheVariants as Packets
 use Rattle.am_office.specs.declared.Entry.{Entry}
 use Rattle.am_local.specs.declared.work.Work.TheVariants as Works
