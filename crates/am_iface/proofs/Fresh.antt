@@ -1,5 +1,5 @@
 -- The entry of a fresh parcel.
-use Rattle.std.proofs.Common.{◌≡◌, ℕ, Some, refl, sym, ap, ◌∙◌, subst}
+use Rattle.std.proofs.Common.{◌≡◌, ℕ, Some, refl, sym, ap, ◌∙◌, subst, false}
 use Rattle.am_names.specs.declared.NodeId.{NodeId}
 use Rattle.am_names.specs.declared.Verdict.{Verdict}
 use Rattle.am_names.specs.declared.Parcel.{Parcel}
@@ -10,7 +10,7 @@ use Rattle.am_office.specs.declared.Outcome.TheVariants as Out
 use Rattle.am_office.specs.declared.Entry.{Entry}
 use Rattle.am_model.specs.Allowed.{MayArrive}
 use Rattle.am_model.specs.Channels.{Mark, arrival}
-use Rattle.am_model.specs.Endpoint.{verdict}
+use Rattle.am_model.specs.Endpoint.{verdict, is_direct}
 use Rattle.am_model.specs.History.{decided, next_number}
 use Rattle.am_channel.specs.declared.ends.Ends.{Ends}
 use Rattle.am_channel_laws.specs.Counted.{AreCounted}
@@ -56,8 +56,8 @@ pub record IsAlike (e f : EndpointView) : Type 0 where
   pub log : f.log ≡ e.log
 
 -- the endpoint may be given it
-pub fresh_arrives : (v : InterfaceView) (e f : EndpointView) (p : Parcel) (stamp : ℕ) (x : Entry) → FitsParcel v.settings p → needs (own v) (Works.Receive (Packets.Parcel p)) ≡ Some e.settings.id → IsEntryOf v (state_after e) stamp (Works.Receive (Packets.Parcel p)) x → IsAlike e f → MayArrive f.settings.id (state_after f) x
-fresh_arrives v e f p stamp x fits needs is alike =
+pub fresh_arrives : (v : InterfaceView) (e f : EndpointView) (p : Parcel) (stamp : ℕ) (x : Entry) → FitsParcel v.settings p → needs (own v) (Works.Receive (Packets.Parcel p)) ≡ Some e.settings.id → is_direct (state_after e).head.place ≡ false → IsEntryOf v (state_after e) stamp (Works.Receive (Packets.Parcel p)) x → IsAlike e f → MayArrive f.settings.id (state_after f) x
+fresh_arrives v e f p stamp x fits needs packet is alike =
     subst (λ (g : EndpointView). MayArrive g.settings.id (state_after g) x) (λ j. record { settings = sym alike.settings j; log = sym alike.log j; ready = f.ready })
     (work_granted (own v) e.settings.id (state_after e) (Works.Receive (Packets.Parcel p)) x
-    (record { needs = needs; enabled = is.enabled; event = is.event; outcome = is.outcome; fits = fits.formed }))
+    (record { needs = needs; enabled = is.enabled; event = is.event; outcome = is.outcome; fits = fits.formed; packet = packet }))

@@ -23,6 +23,7 @@ use Rattle.am_channel_laws.specs.Counted.{AreCounted}
 use Rattle.am_local.specs.Interface.{channel_in, expire_at, has_try_left, needs, needs_bound, outcome_at}
 use Rattle.am_local.specs.declared.work.Work.TheVariants as Works
 use Rattle.am_local.proofs.Granting.{work_granted}
+use Rattle.am_model.specs.Endpoint.{is_direct}
 use Rattle.am_endpoint.specs.View.{EndpointView, state_after}
 use Rattle.am_iface.specs.Made.{IsMade}
 use Rattle.am_iface.specs.View.{InterfaceView, own}
@@ -102,8 +103,8 @@ giving_up_entry v e peer channel ends flight bound gone stamp node x is here mad
     }
 
 -- its source may be given it
-pub giving_up_allowed : (v : InterfaceView) (e f : EndpointView) (peer : NodeId) (channel : ℕ) (flight : Flying) (stamp : ℕ) (x : Entry) → needs (own v) (Works.Expire peer channel) ≡ Some e.settings.id → e.settings.bounces ≡ v.settings.bounces → IsFlightOf (state_after e) (bound_message (channel_in (own v) peer channel) v.log) flight → IsEntryOf v (state_after e) stamp (Works.Expire peer channel) x → IsAlike e f → MaySettle f.settings.bounces f.settings.id (state_after f) x
-giving_up_allowed v e f peer channel flight stamp x needs same flight_is is alike =
+pub giving_up_allowed : (v : InterfaceView) (e f : EndpointView) (peer : NodeId) (channel : ℕ) (flight : Flying) (stamp : ℕ) (x : Entry) → needs (own v) (Works.Expire peer channel) ≡ Some e.settings.id → is_direct (state_after e).head.place ≡ false → e.settings.bounces ≡ v.settings.bounces → IsFlightOf (state_after e) (bound_message (channel_in (own v) peer channel) v.log) flight → IsEntryOf v (state_after e) stamp (Works.Expire peer channel) x → IsAlike e f → MaySettle f.settings.bounces f.settings.id (state_after f) x
+giving_up_allowed v e f peer channel flight stamp x needs packet same flight_is is alike =
     subst (λ (g : EndpointView). MaySettle g.settings.bounces g.settings.id (state_after g) x) (λ j. record { settings = sym alike.settings j; log = sym alike.log j; ready = f.ready })
     (subst (λ (n : ℕ). MaySettle n e.settings.id (state_after e) x) (sym same)
     (work_granted (own v) e.settings.id (state_after e) (Works.Expire peer channel) x
@@ -113,6 +114,7 @@ giving_up_allowed v e f peer channel flight stamp x needs same flight_is is alik
       event = is.event;
       outcome = is.outcome;
       fits = in_flight (state_after e) (bound_message (channel_in (own v) peer channel) v.log) flight flight_is;
+      packet = packet;
     })))
 
 -- what a time-out answers, where this message is bound

@@ -6,14 +6,14 @@ ghost use Rattle.am_iface.specs.View.{FitsAnswer, FitsParcel, IsChannelOf, own};
 ghost use Rattle.am_iface.specs.With.{IsFlightOf, IsFullOf, IsHomeKnown, TurnsWith};
 ghost use Rattle.am_local.specs.Interface.{channel_in, channel_of_front, failing_at, home_in, needs};
 ghost use Rattle.am_model.specs.Channels.{bound_message};
-ghost use Rattle.am_model.specs.Endpoint.{front, is_resident};
+ghost use Rattle.am_model.specs.Endpoint.{front, is_direct, is_resident};
 ghost use Rattle.am_model.specs.History.{free_from};
 ghost use Rattle.am_local.specs.declared.work.Work.TheVariants as Works;
 ghost use Rattle.am_names.specs.declared.Packet.TheVariants as Packets;
 ghost use Rattle.am_office.specs.Entries.{emitted_of};
 ghost use Rattle.am_office.specs.declared.Condition.{Condition};
 ghost use Rattle.am_office.specs.declared.Part.{Part};
-ghost use Rattle.std.specs.Prelude.{◌≡◌, ◌≢◌, ◌↔◌, ◌<◌, Err, Some, [], ◌∷◌, ◌++◌, true, length, IfOk, IfSome, OnErr, OnOk};
+ghost use Rattle.std.specs.Prelude.{◌≡◌, ◌≢◌, ◌↔◌, ◌<◌, Err, Some, [], ◌∷◌, ◌++◌, false, true, length, IfOk, IfSome, OnErr, OnOk};
 
 use crate::by_ends::{answer, decide, time_out};
 use crate::entries::{answer_receipt, decided, give_up, parcel_receipt, settled_by};
@@ -146,6 +146,7 @@ impl Interface {
     ) -> Result<Turned, IfaceFault>
         requires fits { FitsParcel self.old.settings p.now }
         requires needs { needs (own self.old) (Works.Receive (Packets.Parcel p.now)) ≡ Some endpoint.old.settings.id }
+        requires packet { is_direct (state_after endpoint.old).head.place ≡ false }
         ensures { TurnsWith self.old self.new endpoint.old endpoint.new stamp (Works.Receive (Packets.Parcel p.now)) result }
     {
         let verdict = endpoint.verdict(&p.message);
@@ -172,6 +173,7 @@ impl Interface {
     ) -> Result<Turned, IfaceFault>
         requires fits { FitsAnswer self.old.settings p.now }
         requires needs { needs (own self.old) (Works.Receive (Packets.Answer p.now)) ≡ Some endpoint.old.settings.id }
+        requires packet { is_direct (state_after endpoint.old).head.place ≡ false }
         requires bounces { endpoint.old.settings.bounces ≡ self.old.settings.bounces }
         requires flight { IsFlightOf (state_after endpoint.old) (bound_message (channel_in (own self.old) p.now.from p.now.channel) self.old.log) flight }
         ensures { TurnsWith self.old self.new endpoint.old endpoint.new stamp (Works.Receive (Packets.Answer p.now)) result }
@@ -202,6 +204,7 @@ impl Interface {
     ) -> Result<Turned, IfaceFault>
         requires on { IsChannelOf self.old.settings peer channel }
         requires needs { needs (own self.old) (Works.Expire peer channel) ≡ Some endpoint.old.settings.id }
+        requires packet { is_direct (state_after endpoint.old).head.place ≡ false }
         requires bounces { endpoint.old.settings.bounces ≡ self.old.settings.bounces }
         requires flight { IsFlightOf (state_after endpoint.old) (bound_message (channel_in (own self.old) peer channel) self.old.log) flight }
         ensures { TurnsWith self.old self.new endpoint.old endpoint.new stamp (Works.Expire peer channel) result }

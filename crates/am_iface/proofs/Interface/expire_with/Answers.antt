@@ -24,7 +24,7 @@ settle-requires-clause-allowed c =
     let entry = giving.giving_up_entry c.args.self.now c.args.endpoint.now c.args.peer c.args.channel e c.args.flight c.in-Some.bound c.in-GaveUp.field-0 c.args.stamp c.node.result c.give_up-entry.result
     (record { needs = c.requires.needs; counted = c.ends-ends.ensures; flight_is = c.requires.flight; busy = bound; timed = timed })
     c.node.ensures c.give_up-entry.ensures in
-    giving.giving_up_allowed c.args.self.now c.args.endpoint.now c.enter_with.new.endpoint c.args.peer c.args.channel c.args.flight c.args.stamp c.give_up-entry.result c.requires.needs c.requires.bounces c.requires.flight entry
+    giving.giving_up_allowed c.args.self.now c.args.endpoint.now c.enter_with.new.endpoint c.args.peer c.args.channel c.args.flight c.args.stamp c.give_up-entry.result c.requires.needs c.requires.packet c.requires.bounces c.requires.flight entry
     (record { settings = c.enter_with.ensures.settings; log = c.enter_with.ensures.log })
 
 pub returns-in-Ok : goal.returns-in-Ok

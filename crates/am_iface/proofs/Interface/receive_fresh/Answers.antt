@@ -29,7 +29,7 @@ put-requires-clause-allowed c =
     let entry = fresh.fresh_entry c.args.self.now c.args.endpoint.now p c.ends-ends.result c.next_number.result c.verdict-verdict.result c.decided-came.result c.args.stamp c.node.result c.parcel_receipt-entry.result
     (record { needs = c.requires.needs; counted = c.ends-ends.ensures; number = c.next_number.ensures; verdict = c.verdict-verdict.ensures; decided = c.decided-came.ensures })
     c.node.ensures c.parcel_receipt-entry.ensures in
-    fresh.fresh_arrives c.args.self.now c.args.endpoint.now c.enter_with.new.endpoint p c.args.stamp c.parcel_receipt-entry.result c.requires.fits c.requires.needs entry
+    fresh.fresh_arrives c.args.self.now c.args.endpoint.now c.enter_with.new.endpoint p c.args.stamp c.parcel_receipt-entry.result c.requires.fits c.requires.needs c.requires.packet entry
     (record { settings = c.enter_with.ensures.settings; log = c.enter_with.ensures.log })
 
 pub returns-in-Ok : goal.returns-in-Ok

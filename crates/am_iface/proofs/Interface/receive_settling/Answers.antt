@@ -18,7 +18,7 @@ settle-requires-clause-allowed c =
     let entry = settling.settling_entry c.args.self.now c.args.endpoint.now c.args.p.now c.ends-ends.result c.args.flight c.in-Done.bound c.in-Done.verdict c.settled_by-came.result c.args.stamp c.node.result c.answer_receipt-entry.result
     (record { needs = c.requires.needs; counted = c.ends-ends.ensures; flight_is = c.requires.flight; done = sym c.answer.ensures.answer ∙ c.in-Done.is; result = c.settled_by-came.ensures ∙ ap (λ (n : ℕ). settle_by n c.in-Done.bound.message c.args.flight.bounces c.in-Done.verdict) c.bounces.ensures })
     c.node.ensures c.answer_receipt-entry.ensures in
-    settling.settling_allowed c.args.self.now c.args.endpoint.now c.enter_with.new.endpoint c.args.p.now c.args.flight c.args.stamp c.answer_receipt-entry.result c.requires.needs c.requires.bounces c.requires.flight entry
+    settling.settling_allowed c.args.self.now c.args.endpoint.now c.enter_with.new.endpoint c.args.p.now c.args.flight c.args.stamp c.answer_receipt-entry.result c.requires.needs c.requires.packet c.requires.bounces c.requires.flight entry
     (record { settings = c.enter_with.ensures.settings; log = c.enter_with.ensures.log })
 
 pub returns-in-Ok : goal.returns-in-Ok
