@@ -10,3 +10,4 @@ pub mod Events
 pub mod Rest
 pub mod Follows
 pub mod CutOff
+pub mod Stopped

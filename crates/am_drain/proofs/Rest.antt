@@ -124,7 +124,7 @@ idle_peers scenario past node (peer ∷ peers) e =
     let parts = first_none (time_out_to scenario past node peer) (map (time_out_to scenario past node) peers) e in
     (idle_numbers past node peer (range_with_len 0 scenario.channels) parts.0, idle_peers scenario past node peers parts.1)
 
-idle_nodes : (scenario : ScenarioLists) (past : List Entry) (nodes : List NodeId) → first_some (map (time_out_at scenario past) nodes) ≡ None → AllByRecursion (λ (node : NodeId). AllByRecursion (λ (peer : NodeId). is_idle scenario past node peer ≡ true) (nodes_of scenario)) nodes
+pub idle_nodes : (scenario : ScenarioLists) (past : List Entry) (nodes : List NodeId) → first_some (map (time_out_at scenario past) nodes) ≡ None → AllByRecursion (λ (node : NodeId). AllByRecursion (λ (peer : NodeId). is_idle scenario past node peer ≡ true) (nodes_of scenario)) nodes
 idle_nodes scenario past [] e = tt
 idle_nodes scenario past (node ∷ nodes) e =
     let parts = first_none (time_out_at scenario past node) (map (time_out_at scenario past) nodes) e in

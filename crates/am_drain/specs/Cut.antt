@@ -2,15 +2,18 @@
 use Rattle.std.specs.Prelude.{◌≡◌, ℕ, Option, Some, None, List, ◌∷◌, ◌++◌}
 use Rattle.am_office.specs.declared.Part.{Part}
 use Rattle.am_office.specs.declared.Entry.{Entry}
+use Rattle.am_office.specs.Entries.{ends_touched, node_touched}
 use Rattle.am_model.specs.History.{EachAfter}
-use Rattle.am_model.specs.Steps.{full_log}
+use Rattle.am_model.specs.Steps.{is_end_full, least_such, full_by}
 use Rattle.am_scenario_types.specs.Lists.{ScenarioLists}
 use Rattle.am_follow.specs.Layout.{layout_of}
 use Rattle.am_drain.specs.Drain.{after_turns, IsDrained}
 
 -- the full log that an entry meets, if it meets one: an endpoint's before an interface's, each by number
 abbrev pub full_for : ScenarioLists → List Entry → Entry → Option Part
-full_for scenario past x = full_log (layout_of scenario) past x.event
+full_for scenario past x =
+    let layout = layout_of scenario in
+    full_by layout past (least_such (is_end_full layout past) (ends_touched x.event x.outcome)) (node_touched x.event)
 
 -- no entry meets a full log
 abbrev pub HasRoom : ScenarioLists → List Entry → List Entry → Type 0

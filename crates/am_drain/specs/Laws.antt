@@ -1,5 +1,5 @@
 -- What is so of every drain.
-use Rattle.std.specs.Prelude.{◌≡◌, Bool, true, false, ◌==◌, Option, Some, None, List, ◌++◌, length, find, is_some, ◌<◌}
+use Rattle.std.specs.Prelude.{◌≡◌, Bool, true, false, ◌==◌, Option, Some, None, List, ◌++◌, length, find, is_some, ◌<◌, ◌≤◌, count_by}
 use Rattle.std.specs.List.{list_all}
 use Rattle.am_office.specs.declared.Entry.{Entry}
 use Rattle.am_office.specs.declared.Part.{Part}
@@ -10,10 +10,10 @@ use Rattle.am_follow.specs.Layout.{layout_of}
 use Rattle.am_scripts.specs.Links.{ReceivesInOrder, next_receipt}
 use Rattle.am_scripts.specs.Scripts.{BeginsScripts}
 use Rattle.am_scripts.specs.Standings.{Standing, standings, is_standing_of, IsAtRest}
-use Rattle.am_scripts.specs.Follows.{KeepsLastTries, KeepsToEvents, IsPhase}
+use Rattle.am_scripts.specs.Follows.{KeepsLastTries, KeepsToEvents, IsPhase, touches_part}
 use Rattle.am_drain.specs.Rules.{next_turn, next_time_out}
 use Rattle.am_drain.specs.Drain.{turn, IsDrained}
-use Rattle.am_drain.specs.Follows.{IsGoodPhase, FollowsScripts}
+use Rattle.am_drain.specs.Follows.{IsGoodPhase, FollowsScripts, IsStoppedFor}
 use Rattle.am_drain.specs.Cut.{IsDrainedWithRoom, IsDrainCutOff}
 
 -- each turn makes an entry
@@ -67,3 +67,8 @@ DrainedFollows =
 pub record CutIsDetermined : Type 0 where
   pub one : (scenario : ScenarioLists) (past one other : List Entry) (part here : Part) → IsDrainCutOff scenario past part one → IsDrainCutOff scenario past here other → (part ≡ here) × (one ≡ other)
   pub or : (scenario : ScenarioLists) (past one other : List Entry) (part : Part) → IsDrainCutOff scenario past part one → IsDrainedWithRoom scenario past other → ⊥
+
+-- a drain of a good phase that is cut off with no log longer than it may be is stopped for the part
+abbrev pub CutOffIsStopped : Type 0
+CutOffIsStopped =
+    (scenario : ScenarioLists) (phase journal : List Entry) (part : Part) → IsGoodPhase scenario phase → ((p : Part) → count_by (touches_part p) journal ≤ scenario.log) → IsDrainCutOff scenario phase part journal → IsStoppedFor scenario part journal

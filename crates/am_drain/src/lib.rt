@@ -4,7 +4,7 @@
 #![tactic(auto)]
 
 ghost use Rattle.am_drain.specs.Drain.{DrainAdds, DrainIsDetermined};
-ghost use Rattle.am_drain.specs.Laws.{CutIsDetermined, DrainedFollows, EventsAreOfRun, LastTriesComeLast, ReceiptsGoOn, RestsAtEnd, ScriptsGoOn, TurnsMakeEntries};
+ghost use Rattle.am_drain.specs.Laws.{CutIsDetermined, CutOffIsStopped, DrainedFollows, EventsAreOfRun, LastTriesComeLast, ReceiptsGoOn, RestsAtEnd, ScriptsGoOn, TurnsMakeEntries};
 ghost use Rattle.am_drain.specs.Made.{EntryIsStep, EntryMayFollow};
 
 use am_names::{EndpointId, Message, NodeId};
@@ -84,4 +84,9 @@ pub fn drained_follows()
 /// A drain that meets a full log meets it at one entry, and then there is no drain that has room for all its entries.
 pub fn cut_is_determined()
     ensures { CutIsDetermined }
+{}
+
+/// A drain of a good phase that is cut off is stopped for the part whose full log it meets.
+pub fn cut_off_is_stopped()
+    ensures { CutOffIsStopped }
 {}
