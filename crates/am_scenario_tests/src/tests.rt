@@ -210,8 +210,8 @@ fn a_run_of_version_2(rt: HostRuntime) {
         .script
         .iter()
         .map(|made| (made.thread, made.endpoint.0, made.call));
-    assert!(rt; matches!(script.next(), Some((3, 2, Call::Poll))));
-    assert!(rt; matches!(script.next(), Some((3, 2, Call::Test(Mask::NotEmpty)))));
+    assert!(rt; script.next() == Some((3, 2, Call::Poll)));
+    assert!(rt; script.next() == Some((3, 2, Call::Test(Mask::NotEmpty))));
     let map = Call::Map {
         index: 0,
         name: EndpointId(2),
@@ -231,14 +231,13 @@ fn a_ready_bundle(rt: HostRuntime) -> Result<(), Fail> {
     };
     for bundle in run.bundles.iter() {
         let polls = bundle.poll_calls(alloc)?;
-        assert!(rt; matches!(polls.as_slice(), [(EndpointId(2), Call::Poll)]));
+        let mut polls = polls.iter().map(|made| (made.0.0, made.1));
+        assert!(rt; polls.next() == Some((2, Call::Poll)));
+        assert!(rt; polls.next() == None);
         let tests = bundle.test_calls(alloc)?;
-        assert!(rt;
-            matches!(
-                tests.as_slice(),
-                [(EndpointId(2), Call::Test(Mask::NotEmpty))]
-            )
-        );
+        let mut tests = tests.iter().map(|made| (made.0.0, made.1));
+        assert!(rt; tests.next() == Some((2, Call::Test(Mask::NotEmpty))));
+        assert!(rt; tests.next() == None);
         assert_eq!(rt;
             bundle.ready(&[EndpointId(7), EndpointId(2)]),
             Readiness::Ready(EndpointId(2))
