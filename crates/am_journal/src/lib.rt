@@ -6,7 +6,7 @@ ghost use Rattle.am_journal.specs.View.{AreNodes, HasRoomFor, is_ready_on, recei
 ghost use Rattle.am_local.specs.Readings.{page_calls};
 ghost use Rattle.am_model.specs.Channels.{emitted};
 ghost use Rattle.am_office.specs.Entries.{emitted_of};
-ghost use Rattle.std.specs.Prelude.{◌≡◌, ◌+◌, ◌<◌, [], ◌∷◌, ◌++◌, length, true, IfOk, OnOk};
+ghost use Rattle.std.specs.Prelude.{◌≡◌, ◌+◌, ◌<◌, ◌^◌, [], ◌∷◌, ◌++◌, length, true, IfOk, OnOk};
 
 mod links;
 mod places;
@@ -68,7 +68,7 @@ impl IndexedJournal {
     /// How many entries there are.
     pub fn len(&self) -> u64
         ensures value { result ≡ length self.now.entries }
-        ensures more { result + 1 < 9_223_372_036_854_775_809 }
+        ensures more { result + 1 < 2 ^ 64 }
     {
         self.entries.len() as u64
     }
@@ -76,7 +76,8 @@ impl IndexedJournal {
     /// How many page calls a node made.
     pub fn page_calls(&self, node: NodeId) -> u64
         requires { node.0 < 16 }
-        ensures { result ≡ page_calls node self.now.entries }
+        ensures value { result ≡ page_calls node self.now.entries }
+        ensures more { result + 1 < 2 ^ 64 }
     {
         self.page_calls[node.0 as usize]
     }
