@@ -1,7 +1,7 @@
 -- What a cluster is after an event was applied or refused.
-use Rattle.std.specs.Prelude.{slice_get, slice_index_or, slice_set, max, nat_le}
+use Rattle.std.specs.Prelude.{slice_get, slice_index_or, slice_set, max, nat_le, not}
 use Rattle.std.specs.List.{list_any, filter, position}
-use Rattle.std.proofs.Common.{◌≡◌, ◌≢◌, ℕ, zero, suc, ◌+◌, ◌-◌, ◌<◌, ◌≤◌, ◌^◌, Bool, true, false, cond, ◌||◌, ◌&&◌, List, [], ◌∷◌, ◌++◌, map, length, Option, Some, None, refl, sym, ap, ◌∙◌, subst, arith, if◌then◌else◌}
+use Rattle.std.proofs.Common.{◌≡◌, ℕ, zero, suc, ◌+◌, ◌-◌, ◌<◌, ◌≤◌, Bool, true, false, cond, ◌||◌, List, [], ◌∷◌, ◌++◌, map, length, Option, Some, None, refl, sym, ap, ◌∙◌, subst, arith, if◌then◌else◌}
 use Rattle.std.proofs.lemmas.Bool.{and_parts}
 use Rattle.am_names.specs.declared.EndpointId.{EndpointId}
 use Rattle.am_names.specs.Names.{same_end}
@@ -11,16 +11,19 @@ use Rattle.am_office.specs.declared.Call.TheVariants as Calls
 use Rattle.am_office.specs.declared.Condition.{Condition}
 use Rattle.am_office.specs.declared.Event.{Event}
 use Rattle.am_office.specs.declared.Event.TheVariants as Events
-use Rattle.am_office.specs.declared.Outcome.{Outcome}
+use Rattle.am_office.specs.declared.Outcome.TheVariants as Out
 use Rattle.am_office.specs.declared.Entry.{Entry}
-use Rattle.am_office.specs.Entries.{ends_touched, touches}
+use Rattle.am_office.specs.Entries.{ends_touched, node_touched, touches}
 use Rattle.am_model.specs.Allowed.{are_numbers_in_range}
 use Rattle.am_model.specs.Endpoint.{State, is_on_disk}
 use Rattle.am_model.specs.Calls.{outcome_of_call}
-use Rattle.am_model.specs.Layout.{Layout, AllAre}
-use Rattle.am_model.specs.History.{is_in_range, is_call_in_range, is_byte, is_kind_in_range, is_long, are_credits_in_range, failing, outcome_of, state_of}
+use Rattle.am_model.specs.Layout.{Layout}
+use Rattle.am_model.specs.History.{is_in_range, is_call_in_range, is_byte, is_kind_in_range, are_credits_in_range, failing, outcome_of, state_of}
 use Rattle.am_model.specs.Layout.{declared}
-use Rattle.am_model.specs.Steps.{Stop, stop, stop_by, full_log, step_entry, is_end_full}
+use Rattle.am_model.specs.Steps.{LogFull, NotEnabled, stop, stop_by, full_by, full_log, least_such, lesser, step_entry, is_end_full}
+use Rattle.am_model.specs.Choice.{first_holding}
+use Rattle.am_office.specs.declared.Condition.TheVariants as Needs
+use Rattle.am_office.specs.declared.Part.TheVariants as Parts
 use Rattle.am_model.proofs.Names.{same_end-is, same_end-refl}
 use Rattle.am_scenario_types.specs.declared.parts.FaultLine.{FaultLine}
 use Rattle.am_endpoint.specs.View.{EndpointView, last_stamp, stamp_by, state_after}
@@ -31,9 +34,9 @@ use Rattle.am_machine.specs.Ends.{EndLog, is_of, kept, grown, logged_at}
 use Rattle.am_machine.specs.Kept.{IsOwn, IsTied, layout_in}
 use Rattle.am_machine.specs.View.{ClusterView}
 use Rattle.am_machine.proofs.Direct.{off_disk}
-use Rattle.am_machine.proofs.Events.{call_made}
-use Rattle.am_machine.proofs.Places.{IsFound, found, index_got, place_is, place_same}
-use Rattle.am_machine.proofs.Tied.{TouchesAt, kept_at, kept_set, layout_kept, one_grown, own_at, own_state, tied_push}
+use Rattle.am_machine.proofs.Events.{call_enabled}
+use Rattle.am_machine.proofs.Places.{found, index_got, place_is, place_same}
+use Rattle.am_machine.proofs.Tied.{kept_at, kept_set, layout_kept, one_grown, own_at, own_state, tied_push}
 
 -- ---- the whole cluster
 
@@ -197,32 +200,99 @@ pub or_false : (b : Bool) → (b || false) ≡ b
 or_false true = refl
 or_false false = refl
 
-pub call_grows : (layout : Layout) (vs : List EndpointView) (journal : List Entry) (actor : Actor) (end : EndpointId) (c : Call) (k : ℕ) (one : EndpointView) (x : Entry) → IsTied layout (map kept vs) journal → IsHere vs end k one → x.event ≡ Events.Call actor end c → logged_at k x (map kept vs) ≡ map (grown x) (map kept vs)
-call_grows layout vs journal actor end c k one x tied here event =
+-- an entry that touches one endpoint alone stands in its log
+pub single_grows : (layout : Layout) (vs : List EndpointView) (journal : List Entry) (end : EndpointId) (k : ℕ) (one : EndpointView) (x : Entry) → IsTied layout (map kept vs) journal → IsHere vs end k one → ends_touched x.event x.outcome ≡ end ∷ [] → logged_at k x (map kept vs) ≡ map (grown x) (map kept vs)
+single_grows layout vs journal end k one x tied here touched =
     sym (one_grown x (map kept vs) k (λ j d at.
-    ap (λ (e : Event). list_any (same_end d.settings.id) (ends_touched e x.outcome)) event
+    ap (λ (es : List EndpointId). list_any (same_end d.settings.id) es) touched
     ∙ or_false (same_end d.settings.id end)
     ∙ only_here layout vs journal end k one tied here j d at))
+
+-- a step that touches one endpoint alone, and no interface
+pub record IsSingle (layout : Layout) (journal : List Entry) (event : Event) (end : EndpointId) : Type 0 where
+  pub in_range : is_in_range layout event ≡ true
+  pub enabled : failing layout journal event ≡ None
+  pub touched : ends_touched event (outcome_of layout journal event) ≡ end ∷ []
+  pub alone : node_touched event ≡ None
+
+-- what stops it is its endpoint's log, where it is full
+pub single_stop : (layout : Layout) (journal : List Entry) (event : Event) (end : EndpointId) (t : Bool) → IsSingle layout journal event end → is_end_full layout journal end ≡ t → stop layout journal event ≡ cond t (Some (LogFull (Parts.Endpoint end))) None
+single_stop layout journal event end t one full =
+    ap (λ (f : Option Condition). stop_by f (full_log layout journal event)) one.enabled
+    ∙ (λ i. stop_by None (full_by layout journal (least_such (is_end_full layout journal) (one.touched i)) (one.alone i)))
+    ∙ ap (λ (b : Bool). stop_by None (full_by layout journal (if b then Some (lesser end None) else None) None)) full
+    ∙ by_test t
+  where
+    by_test : (b : Bool) → stop_by None (full_by layout journal (if b then Some (lesser end None) else None) None) ≡ cond b (Some (LogFull (Parts.Endpoint end))) None
+    by_test true = refl
+    by_test false = refl
+
+-- what it makes of a cluster
+pub single_next : (s : Settings) (faults : List FaultLine) (vs : List EndpointView) (journal : List Entry) (event : Event) (end : EndpointId) (k : ℕ) (one w : EndpointView) (x : Entry) (longer : List Entry) → IsTied (layout_in s faults (map kept vs)) (map kept vs) journal → IsSingle (layout_in s faults (map kept vs)) journal event end → IsHere vs end k one → nat_le s.log (length one.log) ≡ false → x ≡ step_entry (layout_in s faults (map kept vs)) journal event → w.settings ≡ one.settings → w.log ≡ one.log ++ x ∷ [] → longer ≡ journal ++ x ∷ [] → IsNext s faults (map kept vs) journal event x (map kept (slice_set vs k w)) longer
+single_next s faults vs journal event end k one w x longer tied single here room is settings log more =
+    let layout = layout_in s faults (map kept vs) in
+    record {
+      tied = tied;
+      in_range = single.in_range;
+      runs = single_stop layout journal event end false single (full_here layout vs journal end k one false tied here room);
+      entry = is;
+      ends =
+          kept_set vs k one w x here.at settings log
+          ∙ single_grows layout vs journal end k one x tied here (ap (λ (y : Entry). ends_touched y.event y.outcome) is ∙ single.touched);
+      journal' = more;
+    }
 
 max_left : (a b : ℕ) → b ≤ a → 1 + max a b ≡ a + 1
 max_left a b h = omega arith
 
--- what a call makes of a cluster
-pub call_next : (s : Settings) (faults : List FaultLine) (vs : List EndpointView) (journal : List Entry) (actor : Actor) (end : EndpointId) (c : Call) (k : ℕ) (one w : EndpointView) (x : Entry) (longer : List Entry) (floor : ℕ) → IsTied (layout_in s faults (map kept vs)) (map kept vs) journal → (layout_in s faults (map kept vs)).direct ≡ true → is_in_range (layout_in s faults (map kept vs)) (Events.Call actor end c) ≡ true → IsHere vs end k one → nat_le s.log (length one.log) ≡ false → x.event ≡ Events.Call actor one.settings.id c → x.outcome ≡ outcome_of_call one.settings.pool one.settings.id (state_after one) c → x.stamp ≡ 1 + max floor (last_stamp one.log) → floor ≡ length journal → w.settings ≡ one.settings → w.log ≡ one.log ++ x ∷ [] → longer ≡ journal ++ x ∷ [] → IsNext s faults (map kept vs) journal (Events.Call actor end c) x (map kept (slice_set vs k w)) longer
-call_next s faults vs journal actor end c k one w x longer floor tied direct range here room event outcome stamp at settings log more =
+-- the stamp that an endpoint gives, from the greatest so far
+pub stamp_here : (layout : Layout) (vs : List EndpointView) (journal : List Entry) (end : EndpointId) (k : ℕ) (one : EndpointView) (floor stamp : ℕ) → IsTied layout (map kept vs) journal → IsHere vs end k one → floor ≡ length journal → stamp ≡ 1 + max floor (last_stamp one.log) → stamp ≡ length journal + 1
+stamp_here layout vs journal end k one floor stamp tied here at is =
+    is ∙ ap (λ (n : ℕ). 1 + max n (last_stamp one.log)) at ∙ max_left (length journal) (last_stamp one.log) (last_here layout vs journal end k one tied here)
+
+-- ---- calls and wants
+
+pub call_single : (layout : Layout) (journal : List Entry) (actor : Actor) (end : EndpointId) (c : Call) → is_in_range layout (Events.Call actor end c) ≡ true → is_on_disk (state_of layout journal end).head.place ≡ false → IsSingle layout journal (Events.Call actor end c) end
+call_single layout journal actor end c range off = record { in_range = range; enabled = call_enabled layout journal actor end c off; touched = refl; alone = refl }
+
+pub want_single : (layout : Layout) (journal : List Entry) (actor : Actor) (end : EndpointId) → is_in_range layout (Events.Want actor end) ≡ true → is_on_disk (state_of layout journal end).head.place ≡ true → IsSingle layout journal (Events.Want actor end) end
+want_single layout journal actor end range on =
+    record { in_range = range; enabled = ap (λ (b : Bool). first_holding ((not b, Needs.NotOnDisk) ∷ [])) on; touched = refl; alone = refl }
+
+pub call_next : (s : Settings) (faults : List FaultLine) (vs : List EndpointView) (journal : List Entry) (actor : Actor) (end : EndpointId) (c : Call) (k : ℕ) (one w : EndpointView) (x : Entry) (longer : List Entry) (floor : ℕ) → IsTied (layout_in s faults (map kept vs)) (map kept vs) journal → is_in_range (layout_in s faults (map kept vs)) (Events.Call actor end c) ≡ true → IsHere vs end k one → is_on_disk (state_of (layout_in s faults (map kept vs)) journal end).head.place ≡ false → nat_le s.log (length one.log) ≡ false → x.event ≡ Events.Call actor one.settings.id c → x.outcome ≡ outcome_of_call one.settings.pool one.settings.id (state_after one) c → x.stamp ≡ 1 + max floor (last_stamp one.log) → floor ≡ length journal → w.settings ≡ one.settings → w.log ≡ one.log ++ x ∷ [] → longer ≡ journal ++ x ∷ [] → IsNext s faults (map kept vs) journal (Events.Call actor end c) x (map kept (slice_set vs k w)) longer
+call_next s faults vs journal actor end c k one w x longer floor tied range here off room event outcome stamp at settings log more =
     let layout = layout_in s faults (map kept vs) in
-    let off = off_disk layout direct journal tied.walked.history end in
-    let late = last_here layout vs journal end k one tied here in
-    let next : x.stamp ≡ length journal + 1 = stamp ∙ ap (λ (n : ℕ). 1 + max n (last_stamp one.log)) at ∙ max_left (length journal) (last_stamp one.log) late in
-    let is : x.event ≡ Events.Call actor end c = event ∙ ap (λ (e : EndpointId). Events.Call actor e c) here.id in
-    record {
-      tied = tied;
-      in_range = range;
-      runs = call_made layout journal actor end c off (full_here layout vs journal end k one false tied here room);
-      entry = call_entry layout vs journal actor end c k one x tied here event outcome next;
-      ends = kept_set vs k one w x here.at settings log ∙ call_grows layout vs journal actor end c k one x tied here is;
-      journal' = more;
-    }
+    single_next s faults vs journal (Events.Call actor end c) end k one w x longer tied (call_single layout journal actor end c range off) here room
+    (call_entry layout vs journal actor end c k one x tied here event outcome (stamp_here layout vs journal end k one floor x.stamp tied here at stamp))
+    settings log more
+
+want_entry : (layout : Layout) (vs : List EndpointView) (journal : List Entry) (actor : Actor) (end : EndpointId) (k : ℕ) (one : EndpointView) (x : Entry) → IsHere vs end k one → x.event ≡ Events.Want actor one.settings.id → x.outcome ≡ Out.Silent → x.stamp ≡ length journal + 1 → x ≡ step_entry layout journal (Events.Want actor end)
+want_entry layout vs journal actor end k one x here event outcome stamp =
+    let at : x.event ≡ Events.Want actor end = event ∙ ap (λ (e : EndpointId). Events.Want actor e) here.id in
+    λ i. record { stamp = stamp i; event = at i; outcome = outcome i }
+
+pub want_next : (s : Settings) (faults : List FaultLine) (vs : List EndpointView) (journal : List Entry) (actor : Actor) (end : EndpointId) (k : ℕ) (one w : EndpointView) (x : Entry) (longer : List Entry) (floor : ℕ) → IsTied (layout_in s faults (map kept vs)) (map kept vs) journal → is_in_range (layout_in s faults (map kept vs)) (Events.Want actor end) ≡ true → IsHere vs end k one → is_on_disk (state_of (layout_in s faults (map kept vs)) journal end).head.place ≡ true → nat_le s.log (length one.log) ≡ false → x.event ≡ Events.Want actor one.settings.id → x.outcome ≡ Out.Silent → x.stamp ≡ 1 + max floor (last_stamp one.log) → floor ≡ length journal → w.settings ≡ one.settings → w.log ≡ one.log ++ x ∷ [] → longer ≡ journal ++ x ∷ [] → IsNext s faults (map kept vs) journal (Events.Want actor end) x (map kept (slice_set vs k w)) longer
+want_next s faults vs journal actor end k one w x longer floor tied range here on room event outcome stamp at settings log more =
+    let layout = layout_in s faults (map kept vs) in
+    single_next s faults vs journal (Events.Want actor end) end k one w x longer tied (want_single layout journal actor end range on) here room
+    (want_entry layout vs journal actor end k one x here event outcome (stamp_here layout vs journal end k one floor x.stamp tied here at stamp))
+    settings log more
+
+-- what keeps a call or a want from being made
+pub call_refused : (layout : Layout) (journal : List Entry) (actor : Actor) (end : EndpointId) (c : Call) → is_on_disk (state_of layout journal end).head.place ≡ true → stop layout journal (Events.Call actor end c) ≡ Some (NotEnabled Needs.OnDisk)
+call_refused layout journal actor end c on = ap (λ (b : Bool). stop_by (first_holding ((b, Needs.OnDisk) ∷ [])) (full_log layout journal (Events.Call actor end c))) on
+
+-- an endpoint on disk, told by the one that stands at its place
+pub disk_here : (layout : Layout) (vs : List EndpointView) (journal : List Entry) (e : EndpointId) (k : ℕ) (one : EndpointView) (t : Bool) → IsTied layout (map kept vs) journal → IsHere vs e k one → is_on_disk (state_after one).head.place ≡ t → is_on_disk (state_of layout journal e).head.place ≡ t
+disk_here layout vs journal e k one t tied here is = ap (λ (s : State). is_on_disk s.head.place) (sym (state_here layout vs journal e k one tied here)) ∙ is
+
+-- the same, the other way round
+pub disk_there : (layout : Layout) (vs : List EndpointView) (journal : List Entry) (e : EndpointId) (k : ℕ) (one : EndpointView) (t : Bool) → IsTied layout (map kept vs) journal → IsHere vs e k one → is_on_disk (state_of layout journal e).head.place ≡ t → is_on_disk (state_after one).head.place ≡ t
+disk_there layout vs journal e k one t tied here is = ap (λ (s : State). is_on_disk s.head.place) (state_here layout vs journal e k one tied here) ∙ is
+
+-- what is read twice is the same
+pub same_here : (vs : List EndpointView) (e : EndpointId) (k : ℕ) (one two : EndpointView) → IsHere vs e k one → IsHere vs e k two → two ≡ one
+same_here vs e k one two a b = let both : Some two ≡ Some one = sym b.at ∙ a.at in cc
 
 pub carry_declared : (layout : Layout) (end : EndpointId) → is_in_range layout (Events.Carry end) ≡ true → declared layout end ≡ true
 carry_declared layout end h = h

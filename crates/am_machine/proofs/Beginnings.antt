@@ -1,13 +1,12 @@
 -- A cluster as it begins.
 use Rattle.std.specs.Prelude.{slice_get, slice_index_or, IsTrue}
-use Rattle.std.specs.List.{AllPairs, All, find, list_any}
-use Rattle.std.proofs.Common.{◌≡◌, ℕ, zero, suc, ◌+◌, ◌<◌, ◌≤◌, ◌==◌, Bool, true, false, cond, List, [], ◌∷◌, ◌++◌, map, length, Option, Some, None, refl, sym, ap, ◌∙◌, subst, arith, eqb-true}
+use Rattle.std.specs.List.{AllPairs, All, find}
+use Rattle.std.proofs.Common.{◌≡◌, ℕ, zero, suc, ◌<◌, Bool, true, false, cond, List, [], ◌∷◌, map, length, Some, refl, sym, ap, ◌∙◌, subst, arith, eqb-true}
 use Rattle.am_names.specs.declared.EndpointId.{EndpointId}
 use Rattle.am_names.specs.Names.{same_end}
-use Rattle.am_office.specs.declared.Entry.{Entry}
-use Rattle.am_model.specs.Endpoint.{State, fresh, is_on_disk}
-use Rattle.am_model.specs.Layout.{Layout, EndSetting, AllAre, has_id, opening, opening_by, opening_place}
-use Rattle.am_model.proofs.Names.{same_end-is, same_end-refl}
+use Rattle.am_model.specs.Endpoint.{is_on_disk}
+use Rattle.am_model.specs.Layout.{Layout, AllAre, IsLawful, has_id, opening_by, opening_place}
+use Rattle.am_model.proofs.Names.{same_end-refl}
 use Rattle.am_scenario_types.specs.declared.parts.EndLine.{EndLine}
 use Rattle.am_scenario_types.specs.declared.parts.FaultLine.{FaultLine}
 use Rattle.am_scenario_types.specs.declared.parts.Network.{Network}
@@ -106,10 +105,11 @@ all_by_place P [] h = tt
 all_by_place P (x ∷ xs) h = (h zero x refl, all_by_place P xs (λ k y at. h (suc k) y at))
 
 -- a cluster that begins so keeps what it is to keep
-pub begins : (s : Settings) (faults : List FaultLine) (nodes : ℕ) (lines : List EndLine) (es : List EndLog) → es ≡ map (opened s) lines → All (IsLawfulEnd s.network nodes) lines → Rise lines → IsTied (layout_in s faults es) es []
-begins s faults nodes lines es is lawful rise =
+pub begins : (s : Settings) (faults : List FaultLine) (nodes : ℕ) (lines : List EndLine) (es : List EndLog) → es ≡ map (opened s) lines → All (IsLawfulEnd s.network nodes) lines → Rise lines → IsLawful (layout_in s faults es) → IsTied (layout_in s faults es) es []
+begins s faults nodes lines es is lawful rise whole =
     subst (λ (ns : List EndLog). IsTied (layout_in s faults ns) ns []) (sym is)
     (record {
+      lawful = subst (λ (ns : List EndLog). IsLawful (layout_in s faults ns)) is whole;
       walked = record { history = tt; stamped = refl; below = tt };
       own = all_by_place (IsOwn layout []) (map (opened s) lines) own_at;
       apart = λ j k d e dj ek same.

@@ -1,29 +1,27 @@
 -- A carry from one endpoint to another, or to itself.
-use Rattle.std.specs.Prelude.{slice_get, slice_index_or, nat_le}
+use Rattle.std.specs.Prelude.{slice_get, nat_le}
 use Rattle.std.specs.List.{list_any}
-use Rattle.std.proofs.Common.{◌≡◌, ℕ, ◌+◌, ◌<◌, ◌≤◌, Bool, true, false, cond, ◌||◌, ◌&&◌, List, [], ◌∷◌, ◌++◌, map, length, Option, Some, None, refl, sym, ap, ◌∙◌, subst, arith, lt-ltb, ltb, if◌then◌else◌}
+use Rattle.std.proofs.Common.{◌≡◌, ℕ, ◌+◌, ◌<◌, Bool, true, false, ◌||◌, ◌&&◌, List, [], ◌∷◌, ◌++◌, map, length, Option, Some, None, refl, sym, ap, ◌∙◌, subst, arith, ltb, if◌then◌else◌}
 use Rattle.std.proofs.lemmas.Bool.{leb-false}
 use Rattle.am_names.specs.declared.EndpointId.{EndpointId}
 use Rattle.am_names.specs.declared.Message.{Message}
-use Rattle.am_names.specs.declared.Cause.{Cause}
 use Rattle.am_names.specs.declared.Verdict.{Verdict}
 use Rattle.am_names.specs.declared.Verdict.TheVariants as Verdicts
 use Rattle.am_names.specs.Names.{same_end}
 use Rattle.am_names.specs.Rules.{is_transient}
 use Rattle.am_office.specs.declared.Event.{Event}
 use Rattle.am_office.specs.declared.Event.TheVariants as Events
-use Rattle.am_office.specs.declared.Outcome.{Outcome}
 use Rattle.am_office.specs.declared.Outcome.TheVariants as Out
 use Rattle.am_office.specs.declared.Entry.{Entry}
 use Rattle.am_office.specs.Entries.{ends_touched, touches}
 use Rattle.am_model.specs.declared.Queued.{Queued}
-use Rattle.am_model.specs.Allowed.{MayArrive, MayCarry, arrival_verdict, arrived_message, is_carry_from, is_network_of, is_well_formed}
+use Rattle.am_model.specs.Allowed.{arrival_verdict, arrived_message, is_carry_from, is_network_of, is_well_formed}
 use Rattle.am_model.specs.Endpoint.{State, front, is_direct, verdict}
 use Rattle.am_model.specs.Layout.{Layout, declared}
 use Rattle.am_laws_homes.proofs.Homes.{front_addressed}
 use Rattle.am_laws_homes.proofs.Places.{fits_network}
 use Rattle.am_model.specs.History.{is_in_range, carry, judged, outcome_of, state_of}
-use Rattle.am_model.specs.Steps.{stop, step_entry, lesser, is_end_full}
+use Rattle.am_model.specs.Steps.{stop, step_entry}
 use Rattle.am_model.proofs.Names.{same_end-is, same_end-refl}
 use Rattle.am_scenario_types.specs.declared.parts.FaultLine.{FaultLine}
 use Rattle.am_endpoint.specs.declared.settings.EndSettings.{EndSettings}
@@ -31,9 +29,9 @@ use Rattle.am_endpoint.specs.View.{EndpointView, state_after, state_by}
 use Rattle.am_machine.specs.declared.settings.Settings.{Settings}
 use Rattle.am_machine.specs.Carries.{At, IsReady, CarriesFrom, ArrivesAt, carried_at, is_place, least_full}
 use Rattle.am_machine.specs.Ends.{EndLog, kept, grown, logged_at}
-use Rattle.am_machine.specs.Kept.{IsOwn, IsTied, layout_in}
+use Rattle.am_machine.specs.Kept.{IsTied, layout_in}
 use Rattle.am_machine.proofs.Applied.{IsHere, IsNext, full_here, only_here, or_false, own_here, state_here}
-use Rattle.am_machine.proofs.Events.{carry_stop, judged_touches, stop_of}
+use Rattle.am_machine.proofs.Events.{carry_stop, judged_touches}
 use Rattle.am_machine.proofs.Places.{place_is, place_same}
 use Rattle.am_machine.proofs.Tied.{kept_at, one_grown, two_grown}
 

@@ -1,5 +1,5 @@
 -- In the direct network no endpoint is ever on disk.
-use Rattle.std.proofs.Common.{◌≡◌, Bool, true, false, cond, List, [], ◌∷◌, ◌++◌, Option, Some, None, refl, sym, ap, ◌∙◌, subst, if◌then◌else◌}
+use Rattle.std.proofs.Common.{◌≡◌, Bool, true, false, cond, List, [], ◌∷◌, ◌++◌, Option, Some, None, refl, ap, ◌∙◌, if◌then◌else◌}
 use Rattle.std.specs.List.{find}
 use Rattle.am_names.specs.declared.EndpointId.{EndpointId}
 use Rattle.am_names.specs.Names.{same_end}
@@ -13,7 +13,7 @@ use Rattle.am_office.specs.declared.Outcome.TheVariants as Out
 use Rattle.am_office.specs.declared.Entry.{Entry}
 use Rattle.am_office.specs.Entries.{touches}
 use Rattle.am_model.specs.Endpoint.{State, is_on_disk}
-use Rattle.am_model.specs.Changes.{called, left, reached, carried, put, changed}
+use Rattle.am_model.specs.Changes.{called, left, reached, put, changed}
 use Rattle.am_model.specs.Layout.{Layout, EndSetting, has_id, opening_by, opening_place}
 use Rattle.am_model.specs.History.{MayFollow, IsHistory, state_of, failing}
 use Rattle.am_model.proofs.Each.{over_each, state_of_push}

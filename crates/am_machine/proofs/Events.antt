@@ -1,30 +1,25 @@
 -- What keeps the events of the direct network from happening, and which logs their entries go into.
-use Rattle.std.specs.Prelude.{slice_get, is_none, not}
-use Rattle.std.proofs.Common.{◌≡◌, ℕ, zero, suc, ◌+◌, ◌<◌, Bool, true, false, cond, ◌||◌, List, [], ◌∷◌, ◌++◌, length, Option, Some, None, refl, sym, ap, ◌∙◌, subst, arith, if◌then◌else◌}
-use Rattle.std.specs.List.{list_any}
+use Rattle.std.specs.Prelude.{is_none, not}
+use Rattle.std.proofs.Common.{◌≡◌, ℕ, ◌+◌, Bool, true, false, cond, List, [], ◌∷◌, Option, Some, None, refl, ap, ◌∙◌, if◌then◌else◌}
 use Rattle.am_names.specs.declared.EndpointId.{EndpointId}
 use Rattle.am_names.specs.declared.Verdict.{Verdict}
 use Rattle.am_names.specs.declared.Verdict.TheVariants as Verdicts
 use Rattle.am_names.specs.declared.Message.{Message}
-use Rattle.am_names.specs.Names.{same_end}
-use Rattle.am_names.specs.Rules.{is_transient}
 use Rattle.am_office.specs.declared.Actor.{Actor}
 use Rattle.am_office.specs.declared.Call.{Call}
 use Rattle.am_office.specs.declared.Condition.{Condition}
 use Rattle.am_office.specs.declared.Condition.TheVariants as Needs
-use Rattle.am_office.specs.declared.Event.{Event}
 use Rattle.am_office.specs.declared.Event.TheVariants as Events
-use Rattle.am_office.specs.declared.Outcome.{Outcome}
 use Rattle.am_office.specs.declared.Outcome.TheVariants as Out
 use Rattle.am_office.specs.declared.Entry.{Entry}
 use Rattle.am_office.specs.declared.Part.TheVariants as Parts
-use Rattle.am_office.specs.Entries.{ends_touched, touches}
+use Rattle.am_office.specs.Entries.{ends_touched}
 use Rattle.am_model.specs.declared.Queued.{Queued}
 use Rattle.am_model.specs.Choice.{first_holding}
-use Rattle.am_model.specs.Endpoint.{State, front, is_on_disk}
+use Rattle.am_model.specs.Endpoint.{front, is_on_disk}
 use Rattle.am_model.specs.Layout.{Layout}
 use Rattle.am_model.specs.History.{state_of, failing, outcome_of, carry, judged}
-use Rattle.am_model.specs.Steps.{Stop, NotEnabled, LogFull, stop, stop_by, full_log, full_by, least_such, lesser, is_end_full, step_entry}
+use Rattle.am_model.specs.Steps.{Stop, NotEnabled, LogFull, stop, stop_by, full_log, full_by, least_such, lesser, is_end_full}
 use Rattle.am_machine.specs.Carries.{least_full}
 
 -- ---- calls
@@ -91,3 +86,7 @@ carry_stop layout past end q a b direct at first second =
 
 pub want_refused : (layout : Layout) (past : List Entry) (actor : Actor) (end : EndpointId) → is_on_disk (state_of layout past end).head.place ≡ false → stop layout past (Events.Want actor end) ≡ Some (NotEnabled Needs.NotOnDisk)
 want_refused layout past actor end off = ap (λ (b : Bool). stop_by (first_holding ((not b, Needs.NotOnDisk) ∷ [])) (full_log layout past (Events.Want actor end))) off
+
+pub want_stopped : (layout : Layout) (past : List Entry) (actor : Actor) (end : EndpointId) → is_on_disk (state_of layout past end).head.place ≡ true → is_end_full layout past end ≡ true → stop layout past (Events.Want actor end) ≡ Some (LogFull (Parts.Endpoint end))
+want_stopped layout past actor end on full =
+    (λ i. stop_by (first_holding ((not (on i), Needs.NotOnDisk) ∷ [])) (full_by layout past (if full i then Some (lesser end None) else None) None))

@@ -1,4 +1,5 @@
 pub mod Applied
+pub mod Moving
 pub mod Carriages
 pub mod Direct
 pub mod Events

@@ -2,13 +2,12 @@
 use Rattle.std.specs.Prelude.{slice_get, slice_set, slice_index_or, not, OnOk, Result, Ok, Err}
 use Rattle.std.specs.List.{list_any, position, position_or_len}
 use Rattle.std.proofs.lemmas.List.{take_at}
-use Rattle.std.proofs.Common.{take, drop, ◌≡◌, ℕ, zero, suc, ◌+◌, ◌<◌, Bool, true, false, cond, ◌||◌, List, [], ◌∷◌, ◌++◌, map, length, Option, Some, None, refl, sym, ap, ◌∙◌, subst, arith, eqb-true, ltb-true, ltb, lt-ltb, if◌then◌else◌}
+use Rattle.std.proofs.Common.{take, drop, ◌≡◌, ℕ, zero, suc, ◌+◌, ◌<◌, Bool, true, false, cond, ◌||◌, List, [], ◌∷◌, ◌++◌, map, length, Some, None, refl, sym, ap, ◌∙◌, subst, arith, eqb-true, ltb-true, ltb, lt-ltb, if◌then◌else◌}
 use Rattle.am_names.specs.declared.EndpointId.{EndpointId}
-use Rattle.am_names.specs.Names.{same_end}
 use Rattle.am_office.specs.declared.Entry.{Entry}
-use Rattle.am_model.specs.Layout.{EndSetting, has_id}
+use Rattle.am_model.specs.Layout.{has_id}
 use Rattle.am_endpoint.specs.View.{EndpointView}
-use Rattle.am_machine.specs.Ends.{EndLog, kept, setting_in, is_of, logged_at}
+use Rattle.am_machine.specs.Ends.{kept, setting_in, is_of, logged_at}
 use Rattle.am_machine.specs.Carries.{At, is_place, carried_at}
 use Rattle.am_machine.proofs.Tied.{kept_set}
 
@@ -83,6 +82,9 @@ at_place (x ∷ vs) e h = by_test (is_of e x) refl h (at_place vs e)
 position_is : (b : Bool) (n k : ℕ) → cond b (Some n) None ≡ Some k → (b ≡ true) × (n ≡ k)
 position_is true n k h = (refl, cc)
 position_is false n k h = absurd (cc)
+
+pub position_at : (vs : List EndpointView) (e : EndpointId) (k : ℕ) → position (is_of e) vs ≡ Some k → position_or_len (is_of e) vs ≡ k
+position_at vs e k h = (position_is (ltb (position_or_len (is_of e) vs) (length vs)) (position_or_len (is_of e) vs) k h).1
 
 -- an endpoint that was found: it stands there, and is the one
 pub record IsFound (vs : List EndpointView) (e : EndpointId) (k : ℕ) : Type 0 where

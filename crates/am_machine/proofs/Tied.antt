@@ -1,14 +1,12 @@
 -- One entry more in the logs that it touches is one entry more of the journal.
 use Rattle.std.specs.Prelude.{slice_get, slice_set}
-use Rattle.std.proofs.Common.{◌≡◌, ◌⊎◌, inl, inr, ⊎_elim, ℕ, zero, suc, ◌+◌, ◌-◌, ◌<◌, ◌≤◌, ◌==◌, Bool, true, false, cond, ◌||◌, List, [], ◌∷◌, ◌++◌, map, length, Option, Some, None, refl, sym, ap, ◌∙◌, subst, arith, append_assoc}
+use Rattle.std.proofs.Common.{◌≡◌, ℕ, zero, suc, Bool, true, false, cond, ◌||◌, List, [], ◌∷◌, ◌++◌, map, Some, None, refl, sym, ap, ◌∙◌, subst}
 use Rattle.std.specs.List.{filter}
 use Rattle.std.proofs.lemmas.List.{append-nil}
 use Rattle.std.proofs.lemmas.List.Elements.{filter-append}
-use Rattle.am_names.specs.declared.EndpointId.{EndpointId}
 use Rattle.am_office.specs.declared.Event.{Event}
 use Rattle.am_office.specs.declared.Entry.{Entry}
 use Rattle.am_office.specs.Entries.{touches}
-use Rattle.am_model.specs.Endpoint.{State}
 use Rattle.am_model.specs.Changes.{replay}
 use Rattle.am_model.specs.Layout.{Layout, EndSetting, AllAre}
 use Rattle.am_model.specs.History.{state_of, is_in_range, failing}
@@ -59,6 +57,7 @@ pub tied_push : (layout : Layout) (es : List EndLog) (journal : List Entry) (eve
 tied_push layout es journal event tied range enabled =
     let x = step_entry layout journal event in
     record {
+      lawful = tied.lawful;
       walked = walked_more layout journal event tied.walked range enabled;
       own = all_own layout journal x es tied.own;
       apart =

@@ -1,6 +1,5 @@
 -- How the endpoints of a cluster begin.
-use Rattle.std.specs.Prelude.{ℕ, ◌≤◌, List, []}
-use Rattle.am_office.specs.declared.Entry.{Entry}
+use Rattle.std.specs.Prelude.{◌≤◌, []}
 use Rattle.am_model.specs.Layout.{IsPoolLawful, opening_place}
 use Rattle.am_scenario_types.specs.declared.parts.EndLine.{EndLine}
 use Rattle.am_follow.specs.Layout.{is_direct}

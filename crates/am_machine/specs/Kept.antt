@@ -1,10 +1,10 @@
 -- What a cluster keeps: its journal is a history, and each log is its part of it.
-use Rattle.std.specs.Prelude.{◌≡◌, ℕ, List, Option, Some, map, slice_get}
-use Rattle.std.specs.List.{filter, range_with_len}
+use Rattle.std.specs.Prelude.{◌≡◌, ℕ, List, Some, map, slice_get}
+use Rattle.std.specs.List.{filter}
 use Rattle.am_office.specs.declared.Entry.{Entry}
 use Rattle.am_office.specs.Entries.{touches}
 use Rattle.am_model.specs.Endpoint.{fresh}
-use Rattle.am_model.specs.Layout.{Layout, Fault, AllAre, opening}
+use Rattle.am_model.specs.Layout.{Layout, AllAre, IsLawful, opening}
 use Rattle.am_scenario_types.specs.declared.parts.FaultLine.{FaultLine}
 use Rattle.am_follow.specs.Layout.{is_direct, fault_of}
 use Rattle.am_laws_steps.specs.Laws.{Walked}
@@ -38,6 +38,7 @@ pub record IsOwn (layout : Layout) (journal : List Entry) (e : EndLog) : Type 0 
   pub pool : e.settings.pool ≡ layout.pool
 
 pub record IsTied (layout : Layout) (es : List EndLog) (journal : List Entry) : Type 0 where
+  pub lawful : IsLawful layout
   pub walked : Walked layout journal
   pub own : AllAre (IsOwn layout journal) es
   pub apart : (j k : ℕ) (d e : EndLog) → slice_get es j ≡ Some d → slice_get es k ≡ Some e → d.settings.id ≡ e.settings.id → j ≡ k
@@ -46,7 +47,7 @@ abbrev pub ends_in : Inside → List EndLog
 ends_in c = map kept c.ends.items
 
 abbrev pub cluster_in : Inside → ClusterView
-cluster_in c = record { layout = layout_in c.settings c.faults.items (ends_in c); journal = c.journal.items }
+cluster_in c = record { layout = layout_in c.settings c.faults.items (ends_in c); journal = c.journal.entries }
 
 abbrev pub IsCluster : Inside → Type 0
-IsCluster c = IsTied (layout_in c.settings c.faults.items (ends_in c)) (ends_in c) c.journal.items
+IsCluster c = IsTied (layout_in c.settings c.faults.items (ends_in c)) (ends_in c) c.journal.entries

@@ -1,18 +1,30 @@
 // What a cluster does with its endpoints, each found by its place among them.
 ghost use Rattle.am_machine.specs.Ends.{is_of, kept};
 ghost use Rattle.am_machine.specs.Carries.{At, ArrivesAt, CarriesFrom, IsReady, carried_at, is_place, least_full};
+ghost use Rattle.am_endpoint.specs.View.{state_after};
+ghost use Rattle.am_model.specs.Endpoint.{is_on_disk};
 ghost use Rattle.am_model.specs.History.{judged};
 ghost use Rattle.std.specs.Prelude.{◌≡◌, ◌≢◌, ◌<◌, ℕ, length, map, nat_le, OnOk, position, slice_get, true, false};
 
 use am_endpoint::{EndFault, Endpoint};
 use am_names::{EndpointId, Message, Verdict};
-use am_office::{Entry, Outcome};
+use am_office::{Entry, Outcome, Place};
 
 /// The place of an endpoint among others.
 pub fn place_of(ends: &[Endpoint], id: EndpointId) -> Option<usize>
     ensures { result ≡ position (is_of id) ends.now }
 {
     ends.iter().position(|end| id.0 == end.id().0)
+}
+
+/// Whether it is on disk.
+pub fn is_on_disk(end: &Endpoint) -> bool
+    ensures { result ≡ is_on_disk (state_after end.now).head.place }
+{
+    match end.place() {
+        Place::Disk => true,
+        Place::Host | Place::Frame(_) | Place::Direct => false,
+    }
 }
 
 /// Whether the log has as many entries as it may.

@@ -4,24 +4,25 @@
 ghost use Rattle.am_follow.specs.Layout.{layout_of};
 ghost use Rattle.am_machine.specs.View.{Applies};
 ghost use Rattle.am_model.specs.History.{IsHistory, is_in_range};
-ghost use Rattle.am_office.specs.declared.Event.TheVariants as Events;
+ghost use Rattle.am_office.specs.Entries.{node_touched};
 ghost use Rattle.am_scenario_types.specs.Lawful.{IsLawful};
-ghost use Rattle.std.specs.Prelude.{◌≡◌, true, [], IfOk};
+ghost use Rattle.std.specs.Prelude.{◌≡◌, ◌||◌, true, [], IfOk, is_none};
 
+mod calls;
+mod carries;
 mod ends;
-mod journal;
+mod frames;
+mod moves;
 mod opening;
 mod settings;
 
-use crate::ends::{carry_between, is_full, judged, least_full, place_of, room_for_both};
-use crate::journal::{last_stamp, log_entry};
 use crate::opening::open_ends;
 pub use crate::settings::ApplyFault;
 use crate::settings::Settings;
 use am_endpoint::Endpoint;
-use am_names::EndpointId;
+use am_journal::IndexedJournal;
 pub use am_office::NoMemory;
-use am_office::{Actor, Call, Condition, Entry, Event, Journal, Part, Place};
+use am_office::{Condition, Entry, Event, Journal};
 use am_scenario_types::{FaultLine, Scenario};
 use std::alloc::Global;
 use std::marker::Model;
@@ -32,7 +33,7 @@ pub struct Cluster {
     settings: Settings,
     faults: Vec<FaultLine>,
     ends: Vec<Endpoint>,
-    journal: Vec<Entry>,
+    journal: IndexedJournal,
 }
 
 impl Model for Cluster {
@@ -68,33 +69,34 @@ impl Cluster {
         let Ok(faults) = Vec::from_slice(alloc, &scenario.faults) else {
             return Err(NoMemory);
         };
+        let journal = IndexedJournal::new(alloc)?;
         Ok(Cluster {
             settings,
             faults,
             ends,
-            journal: Vec::new(alloc),
+            journal,
         })
     }
 
-    /// Applies an event of the direct network: Ok is the one entry that the definitions give, and a refusal names the
-    /// first condition that doesn't hold, or the log that is full. A refusal changes nothing.
+    /// Applies an event: Ok is the one entry that the definitions give, and a refusal names the first condition that
+    /// doesn't hold, or the log that is full. A refusal changes nothing.
     pub fn apply(&mut self, event: &Event) -> Result<Entry, ApplyFault>
-        requires direct { self.old.layout.direct ≡ true }
+        requires built { (self.old.layout.direct || is_none (node_touched event.now)) ≡ true }
         requires in_range { is_in_range self.old.layout event.now ≡ true }
         ensures { Applies self.old self.new event.now result }
     {
         match *event {
             Event::Call { actor, end, call } => self.call(actor, end, call),
-            Event::Carry { end } => self.carry(end),
             Event::Want { actor, end } => self.want(actor, end),
-            Event::Bind { .. }
-            | Event::Expire { .. }
-            | Event::Receive { .. }
-            | Event::Drain { .. }
-            | Event::Unload { .. }
-            | Event::Load { .. }
-            | Event::PageOut { .. }
-            | Event::PageIn { .. } => Err(ApplyFault::NotEnabled(Condition::NotPacket)),
+            Event::Carry { end } => self.carry(end),
+            Event::Bind { .. } | Event::Expire { .. } | Event::Receive { .. } => Err(
+                ApplyFault::NotEnabled(Condition::NotPacket),
+            ),
+            Event::Drain { node, end }
+            | Event::Unload { node, end }
+            | Event::Load { node, end, .. }
+            | Event::PageOut { node, end }
+            | Event::PageIn { node, end } => self.make_move(*event, node, end),
         }
     }
 
@@ -103,90 +105,9 @@ impl Cluster {
         ensures journal { IfOk result (λ journal. journal ≡ self.now.journal) }
         ensures history { IfOk result (λ journal. IsHistory self.now.layout journal) }
     {
-        match Vec::from_slice(alloc, &self.journal) {
+        match Vec::from_slice(alloc, self.journal.entries()) {
             Ok(entries) => Ok(Journal { entries }),
             Err(_) => Err(NoMemory),
         }
-    }
-
-    /// Wants an endpoint, which in the direct network is never on disk.
-    fn want(&self, _actor: Actor, end: EndpointId) -> Result<Entry, ApplyFault>
-        requires direct { self.now.layout.direct ≡ true }
-        requires in_range { is_in_range self.now.layout (Events.Want _actor end) ≡ true }
-        ensures { Applies self.now self.now (Events.Want _actor end) result }
-    {
-        let Some(place) = place_of(&self.ends, end) else {
-            unreachable!()
-        };
-        match self.ends[place].place() {
-            Place::Disk => unreachable!(),
-            Place::Host | Place::Frame(_) | Place::Direct => Err(ApplyFault::NotEnabled(
-                Condition::NotOnDisk,
-            )),
-        }
-    }
-
-    /// Makes a call of an application.
-    fn call(&mut self, actor: Actor, end: EndpointId, call: Call) -> Result<Entry, ApplyFault>
-        requires direct { self.old.layout.direct ≡ true }
-        requires in_range { is_in_range self.old.layout (Events.Call actor end call) ≡ true }
-        ensures { Applies self.old self.new (Events.Call actor end call) result }
-    {
-        let Some(place) = place_of(&self.ends, end) else {
-            unreachable!()
-        };
-        let one = &mut self.ends[place];
-        if is_full(one, self.settings.log) {
-            return Err(ApplyFault::LogFull(Part::Endpoint(end)));
-        }
-        if self.journal.reserve(1).is_err() {
-            return Err(ApplyFault::NoMemory);
-        }
-        match one.call(last_stamp(&self.journal), actor, call) {
-            Ok(entry) => {
-                log_entry(&mut self.journal, entry);
-                Ok(entry)
-            }
-            Err(_) => Err(ApplyFault::NoMemory),
-        }
-    }
-
-    /// Carries the front message of an endpoint to its destination.
-    fn carry(&mut self, end: EndpointId) -> Result<Entry, ApplyFault>
-        requires direct { self.old.layout.direct ≡ true }
-        requires in_range { is_in_range self.old.layout (Events.Carry end) ≡ true }
-        ensures { Applies self.old self.new (Events.Carry end) result }
-    {
-        let Some(source) = place_of(&self.ends, end) else {
-            unreachable!()
-        };
-        let Some(front) = self.ends[source].front() else {
-            return Err(ApplyFault::NotEnabled(Condition::NoMessage));
-        };
-        let message = front.message;
-        let Some(dest) = place_of(&self.ends, message.dest) else {
-            unreachable!()
-        };
-        let verdict = self.ends[dest].verdict(&message);
-        let limit = self.settings.log;
-        let is_source_full = is_full(&self.ends[source], limit);
-        let is_dest_full = is_full(&self.ends[dest], limit);
-        if let Some(full) = least_full(end, is_source_full, message.dest, is_dest_full) {
-            return Err(ApplyFault::LogFull(Part::Endpoint(full)));
-        }
-        if self.journal.reserve(1).is_err() {
-            return Err(ApplyFault::NoMemory);
-        }
-        let Ok(()) = room_for_both(&mut self.ends, source, dest) else {
-            return Err(ApplyFault::NoMemory);
-        };
-        let entry = Entry {
-            stamp: last_stamp(&self.journal) + 1,
-            event: Event::Carry { end },
-            outcome: judged(self.settings.bounces, message, front.bounces, verdict),
-        };
-        carry_between(&mut self.ends, source, dest, entry);
-        log_entry(&mut self.journal, entry);
-        Ok(entry)
     }
 }

@@ -1,10 +1,11 @@
 use Rattle.std.proofs.Common.{◌≡◌, List, map, sym, ap, ◌∙◌, subst}
 use Rattle.am_office.specs.declared.Entry.{Entry}
 use Rattle.am_model.specs.Layout.{EndSetting, Fault}
+use Rattle.am_model.specs.Layout as model
+use Rattle.am_follow.proofs.Lawful.{lawful_layout}
 use Rattle.am_scenario_types.specs.declared.parts.EndLine.{EndLine}
 use Rattle.am_scenario_types.specs.declared.parts.FaultLine.{FaultLine}
 use Rattle.am_scenario_types.specs.Lawful.{IsLawful}
-use Rattle.am_scenario_types.specs.Lists.{ScenarioLists}
 use Rattle.am_follow.specs.Layout.{fault_of, layout_of, setting_of}
 use Rattle.am_machine.specs.declared.settings.Settings.{Settings}
 use Rattle.am_machine.specs.Beginnings.{opened}
@@ -20,8 +21,12 @@ invariant_of-result c =
     let lawful = subst IsLawful (sym c.scenario.view_is) c.requires in
     let es = map kept c.in_ok-ends.ends.items in
     let is : es ≡ map (opened settings) s.ends.items = c.in_ok-ends.ensures ∙ ap (λ (lines : List EndLine). map (opened settings) lines) c.deref.ensures.value in
-    subst (λ (j : List Entry). IsTied (layout_in settings c.in-Ok.faults.items es) es j) (sym c.new.ensures.items)
-    (begins settings c.in-Ok.faults.items s.nodes s.ends.items es is lawful.ends lawful.ends_rise)
+    let ends : map setting_in es ≡ map setting_of s.ends.items = ap (λ (l : List EndLog). map setting_in l) is ∙ same_settings settings s.nodes s.ends.items lawful.ends in
+    let faults : map fault_of c.in-Ok.faults.items ≡ map fault_of s.faults.items = ap (λ (l : List FaultLine). map fault_of l) (c.in-Ok.ensures.items ∙ c.deref-2.ensures.value) in
+    let layout : layout_in settings c.in-Ok.faults.items es ≡ layout_of c.args.scenario.now = (λ i. record (layout_in settings c.in-Ok.faults.items es) { ends = ends i; faults = faults i }) ∙ ap layout_of c.scenario.view_is in
+    let whole = subst model.IsLawful (sym layout) (lawful_layout c.args.scenario.now c.requires) in
+    subst (λ (j : List Entry). IsTied (layout_in settings c.in-Ok.faults.items es) es j) (sym c.in_ok-journal.ensures)
+    (begins settings c.in-Ok.faults.items s.nodes s.ends.items es is lawful.ends lawful.ends_rise whole)
 
 pub returns-clause-layout : goal.returns-clause-layout
 returns-clause-layout c =

@@ -1,41 +1,123 @@
-use Rattle.std.proofs.Common.{◌≡◌, false, true, map, position, refl, sym, ap, ◌∙◌}
-use Rattle.am_names.specs.declared.EndpointId.{EndpointId}
+use Rattle.std.specs.Prelude.{nat_le}
+use Rattle.std.proofs.Common.{◌≡◌, ◌++◌, ◌∷◌, [], List, false, true, map, length, position, refl, sym, ap, ◌∙◌, arith, subst}
+use Rattle.am_office.specs.declared.Entry.{Entry}
+use Rattle.am_office.specs.declared.Event.{Event}
 use Rattle.am_office.specs.declared.Event.TheVariants as Events
-use Rattle.am_office.specs.declared.Place.TheVariants as Places
-use Rattle.am_model.specs.Endpoint.{is_on_disk}
+use Rattle.am_office.specs.Entries.{emitted_in}
 use Rattle.am_model.specs.History.{is_in_range}
 use Rattle.am_model.specs.Steps.{stop}
+use Rattle.am_journal.specs.View.{AreNodes}
 use Rattle.am_machine.specs.Ends.{is_of, kept}
 use Rattle.am_machine.specs.Kept.{layout_in}
 use Rattle.am_machine.specs.View.{ClusterView}
 use Rattle.am_machine.proofs.Applied as applied
-use Rattle.am_machine.proofs.Events.{want_refused}
+use Rattle.am_machine.proofs.Events.{want_stopped, want_refused}
 use Rattle.am_machine.proofs.Places.{not_found}
+use Rattle.am_machine.proofs.Tied.{kept_same}
 use Rattle.am_machine.proofs.Cluster.want.Goals as goal
 
 pub unreachable-requires : goal.unreachable-requires
 unreachable-requires c =
-    let range = ap (λ (v : ClusterView). is_in_range v.layout (Events.Want c.args._actor c.args.end)) c.self.view_is ∙ c.requires.in_range in
-    not_found c.self.inside.ends.items c.args.end (sym (c.place_of.ensures ∙ ap (position (is_of c.args.end)) c.deref.ensures.value) ∙ c.in_default.is)
-    (applied.want_declared (layout_in c.self.inside.settings c.self.inside.faults.items (map kept c.self.inside.ends.items)) c.args._actor c.args.end range)
-
-pub unreachable-requires-in-Disk : goal.unreachable-requires-in-Disk
-unreachable-requires-in-Disk c =
     let vs = c.self.inside.ends.items in
-    let journal = c.self.inside.journal.items in
+    let journal = c.self.inside.journal.entries in
     let layout = layout_in c.self.inside.settings c.self.inside.faults.items (map kept vs) in
-    let one = c.index.result.now in
-    let direct : layout.direct ≡ true = ap (λ (v : ClusterView). v.layout.direct) c.self.view_is ∙ c.requires.direct in
-    let here = applied.found_here vs c.args.end c.in-Some.place one (sym (c.place_of.ensures ∙ ap (position (is_of c.args.end)) c.deref.ensures.value) ∙ c.in-Some.is) c.index.ensures in
-    let off = applied.off_disk_here layout vs journal c.args.end c.in-Some.place one direct c.self.invariant here in
-    let disk : is_on_disk Places.Disk ≡ false = ap is_on_disk (sym c.in-Disk.is ∙ c.place.ensures) ∙ off in
-    cc
+    let range : is_in_range layout (Events.Want c.args.actor c.args.end) ≡ true = ap (λ (v : ClusterView). is_in_range v.layout (Events.Want c.args.actor c.args.end)) c.self.view_is ∙ c.requires in
+    not_found vs c.args.end (sym (c.place_of.ensures ∙ ap (position (is_of c.args.end)) c.deref.ensures.value) ∙ c.in_default.is) (applied.want_declared layout c.args.actor c.args.end range)
 
-pub returns : goal.returns
-returns c =
+pub returns-then-not-is_on_disk : goal.returns-then-not-is_on_disk
+returns-then-not-is_on_disk c =
     let vs = c.self.inside.ends.items in
-    let journal = c.self.inside.journal.items in
+    let journal = c.self.inside.journal.entries in
     let layout = layout_in c.self.inside.settings c.self.inside.faults.items (map kept vs) in
-    let direct : layout.direct ≡ true = ap (λ (v : ClusterView). v.layout.direct) c.self.view_is ∙ c.requires.direct in
-    let off = applied.off_disk_at layout journal c.args.end direct c.self.invariant in
-    (ap (λ (v : ClusterView). stop v.layout v.journal (Events.Want c.args._actor c.args.end)) (sym c.self.view_is) ∙ want_refused layout journal c.args._actor c.args.end off, refl)
+    let here = applied.found_here vs c.args.end c.in-Some.place c.index.result.now (sym (c.place_of.ensures ∙ ap (position (is_of c.args.end)) c.deref.ensures.value) ∙ c.in-Some.is) c.index.ensures in
+    let disk = applied.disk_here layout vs journal c.args.end c.in-Some.place c.index.result.now false c.self.invariant here (sym c.is_on_disk.ensures ∙ c.if-not-is_on_disk.true) in
+    (ap (λ (v : ClusterView). stop v.layout v.journal (Events.Want c.args.actor c.args.end)) (sym c.self.view_is) ∙ want_refused layout journal c.args.actor c.args.end disk, refl)
+
+pub returns-then-is_full : goal.returns-then-is_full
+returns-then-is_full c =
+    let vs = c.self.inside.ends.items in
+    let journal = c.self.inside.journal.entries in
+    let layout = layout_in c.self.inside.settings c.self.inside.faults.items (map kept vs) in
+    let here = applied.found_here vs c.args.end c.in-Some.place c.index.result.now (sym (c.place_of.ensures ∙ ap (position (is_of c.args.end)) c.deref.ensures.value) ∙ c.in-Some.is) c.index.ensures in
+    let again = applied.found_here vs c.args.end c.in-Some.place c.index-2.result.now (sym (c.place_of.ensures ∙ ap (position (is_of c.args.end)) c.deref.ensures.value) ∙ c.in-Some.is) c.index-2.ensures in
+    let disk = applied.disk_here layout vs journal c.args.end c.in-Some.place c.index.result.now true c.self.invariant here (sym c.is_on_disk.ensures ∙ c.if-not-is_on_disk.false) in
+    let full = applied.full_here layout vs journal c.args.end c.in-Some.place c.index-2.result.now true c.self.invariant again (sym c.is_full.ensures ∙ c.if-is_full.true) in
+    (ap (λ (v : ClusterView). stop v.layout v.journal (Events.Want c.args.actor c.args.end)) (sym c.self.view_is) ∙ want_stopped layout journal c.args.actor c.args.end disk full, refl)
+
+pub want-requires-clause-place : goal.want-requires-clause-place
+want-requires-clause-place c =
+    let vs = c.self.inside.ends.items in
+    let journal = c.self.inside.journal.entries in
+    let layout = layout_in c.self.inside.settings c.self.inside.faults.items (map kept vs) in
+    let here = applied.found_here vs c.args.end c.in-Some.place c.index.result.now (sym (c.place_of.ensures ∙ ap (position (is_of c.args.end)) c.deref.ensures.value) ∙ c.in-Some.is) c.index.ensures in
+    let now = applied.found_here vs c.args.end c.in-Some.place c.index_mut.result.now (sym (c.place_of.ensures ∙ ap (position (is_of c.args.end)) c.deref.ensures.value) ∙ c.in-Some.is) c.index_mut.ensures.value in
+    let disk = applied.disk_here layout vs journal c.args.end c.in-Some.place c.index.result.now true c.self.invariant here (sym c.is_on_disk.ensures ∙ c.if-not-is_on_disk.false) in
+    applied.disk_there layout vs journal c.args.end c.in-Some.place c.index_mut.result.now true c.self.invariant now disk
+
+pub want-requires-clause-last : goal.want-requires-clause-last
+want-requires-clause-last c =
+    let vs = c.self.inside.ends.items in
+    let journal = c.self.inside.journal.entries in
+    let layout = layout_in c.self.inside.settings c.self.inside.faults.items (map kept vs) in
+    let now = applied.found_here vs c.args.end c.in-Some.place c.index_mut.result.now (sym (c.place_of.ensures ∙ ap (position (is_of c.args.end)) c.deref.ensures.value) ∙ c.in-Some.is) c.index_mut.ensures.value in
+    let late = applied.last_here layout vs journal c.args.end c.in-Some.place c.index_mut.result.now c.self.invariant now in
+    let same : c.len.result ≡ length journal = c.len.ensures.value ∙ ap length c.room.ensures.entries in
+    omega (arith, late, same, c.len.ensures.more)
+
+pub log-requires-clause-packet : goal.log-requires-clause-packet
+log-requires-clause-packet c = ap (λ (e : Event). emitted_in c.in-Ok.entry.stamp e c.in-Ok.entry.outcome) (sym c.in-Ok.ensures.event)
+
+pub log-requires-clause-nodes : goal.log-requires-clause-nodes
+log-requires-clause-nodes c = subst AreNodes (sym c.in-Ok.ensures.event) tt
+
+pub invariant_of-self-in-Ok : goal.invariant_of-self-in-Ok
+invariant_of-self-in-Ok c =
+    let vs = c.self.inside.ends.items in
+    let journal = c.self.inside.journal.entries in
+    let layout = layout_in c.self.inside.settings c.self.inside.faults.items (map kept vs) in
+    let range : is_in_range layout (Events.Want c.args.actor c.args.end) ≡ true = ap (λ (v : ClusterView). is_in_range v.layout (Events.Want c.args.actor c.args.end)) c.self.view_is ∙ c.requires in
+    let here = applied.found_here vs c.args.end c.in-Some.place c.index.result.now (sym (c.place_of.ensures ∙ ap (position (is_of c.args.end)) c.deref.ensures.value) ∙ c.in-Some.is) c.index.ensures in
+    let again = applied.found_here vs c.args.end c.in-Some.place c.index-2.result.now (sym (c.place_of.ensures ∙ ap (position (is_of c.args.end)) c.deref.ensures.value) ∙ c.in-Some.is) c.index-2.ensures in
+    let now = applied.found_here vs c.args.end c.in-Some.place c.index_mut.result.now (sym (c.place_of.ensures ∙ ap (position (is_of c.args.end)) c.deref.ensures.value) ∙ c.in-Some.is) c.index_mut.ensures.value in
+    let disk = applied.disk_here layout vs journal c.args.end c.in-Some.place c.index.result.now true c.self.invariant here (sym c.is_on_disk.ensures ∙ c.if-not-is_on_disk.false) in
+    let room = ap (λ w. nat_le c.self.inside.settings.log (length w.log)) (applied.same_here vs c.args.end c.in-Some.place c.index-2.result.now c.index_mut.result.now again now) ∙ sym c.is_full.ensures ∙ c.if-is_full.false in
+    let next =
+    applied.want_next c.self.inside.settings c.self.inside.faults.items vs journal c.args.actor c.args.end c.in-Some.place c.index_mut.result.now c.want.new.self c.in-Ok.entry c.log.new.self.entries c.len.result
+    c.self.invariant range now disk room c.in-Ok.ensures.event c.in-Ok.ensures.outcome c.in-Ok.ensures.stamp (c.len.ensures.value ∙ ap length c.room.ensures.entries) c.in-Ok.ensures.settings c.in-Ok.ensures.logged
+    (c.log.ensures ∙ ap (λ (xs : List Entry). xs ++ c.in-Ok.entry ∷ []) c.room.ensures.entries) in
+    applied.tied_next c.self.inside.settings c.self.inside.faults.items (map kept vs) journal _ c.in-Ok.entry _ c.log.new.self.entries next
+
+pub returns-in-Ok : goal.returns-in-Ok
+returns-in-Ok c =
+    let vs = c.self.inside.ends.items in
+    let journal = c.self.inside.journal.entries in
+    let layout = layout_in c.self.inside.settings c.self.inside.faults.items (map kept vs) in
+    let range : is_in_range layout (Events.Want c.args.actor c.args.end) ≡ true = ap (λ (v : ClusterView). is_in_range v.layout (Events.Want c.args.actor c.args.end)) c.self.view_is ∙ c.requires in
+    let here = applied.found_here vs c.args.end c.in-Some.place c.index.result.now (sym (c.place_of.ensures ∙ ap (position (is_of c.args.end)) c.deref.ensures.value) ∙ c.in-Some.is) c.index.ensures in
+    let again = applied.found_here vs c.args.end c.in-Some.place c.index-2.result.now (sym (c.place_of.ensures ∙ ap (position (is_of c.args.end)) c.deref.ensures.value) ∙ c.in-Some.is) c.index-2.ensures in
+    let now = applied.found_here vs c.args.end c.in-Some.place c.index_mut.result.now (sym (c.place_of.ensures ∙ ap (position (is_of c.args.end)) c.deref.ensures.value) ∙ c.in-Some.is) c.index_mut.ensures.value in
+    let disk = applied.disk_here layout vs journal c.args.end c.in-Some.place c.index.result.now true c.self.invariant here (sym c.is_on_disk.ensures ∙ c.if-not-is_on_disk.false) in
+    let room = ap (λ w. nat_le c.self.inside.settings.log (length w.log)) (applied.same_here vs c.args.end c.in-Some.place c.index-2.result.now c.index_mut.result.now again now) ∙ sym c.is_full.ensures ∙ c.if-is_full.false in
+    let next =
+    applied.want_next c.self.inside.settings c.self.inside.faults.items vs journal c.args.actor c.args.end c.in-Some.place c.index_mut.result.now c.want.new.self c.in-Ok.entry c.log.new.self.entries c.len.result
+    c.self.invariant range now disk room c.in-Ok.ensures.event c.in-Ok.ensures.outcome c.in-Ok.ensures.stamp (c.len.ensures.value ∙ ap length c.room.ensures.entries) c.in-Ok.ensures.settings c.in-Ok.ensures.logged
+    (c.log.ensures ∙ ap (λ (xs : List Entry). xs ++ c.in-Ok.entry ∷ []) c.room.ensures.entries) in
+    applied.seen_next c.self.inside.settings c.self.inside.faults.items (map kept vs) journal _ c.in-Ok.entry _ c.log.new.self.entries c.args.self.now c.self.view_is next
+
+pub invariant_of-self-in-Err : goal.invariant_of-self-in-Err
+invariant_of-self-in-Err c =
+    let vs = c.self.inside.ends.items in
+    let journal = c.self.inside.journal.entries in
+    let layout = layout_in c.self.inside.settings c.self.inside.faults.items (map kept vs) in
+    let now = applied.found_here vs c.args.end c.in-Some.place c.index_mut.result.now (sym (c.place_of.ensures ∙ ap (position (is_of c.args.end)) c.deref.ensures.value) ∙ c.in-Some.is) c.index_mut.ensures.value in
+    let same = kept_same vs c.in-Some.place c.index_mut.result.now c.want.new.self now.at (λ i. record { settings = c.in-Err.ensures.settings i; log = c.in-Err.ensures.err i }) in
+    applied.tied_same c.self.inside.settings c.self.inside.faults.items (map kept vs) _ journal c.room.new.self.entries same c.room.ensures.entries c.self.invariant
+
+pub returns-in-Err : goal.returns-in-Err
+returns-in-Err c =
+    let vs = c.self.inside.ends.items in
+    let journal = c.self.inside.journal.entries in
+    let layout = layout_in c.self.inside.settings c.self.inside.faults.items (map kept vs) in
+    let now = applied.found_here vs c.args.end c.in-Some.place c.index_mut.result.now (sym (c.place_of.ensures ∙ ap (position (is_of c.args.end)) c.deref.ensures.value) ∙ c.in-Some.is) c.index_mut.ensures.value in
+    let same = kept_same vs c.in-Some.place c.index_mut.result.now c.want.new.self now.at (λ i. record { settings = c.in-Err.ensures.settings i; log = c.in-Err.ensures.err i }) in
+    applied.seen_same c.self.inside.settings c.self.inside.faults.items (map kept vs) _ journal c.room.new.self.entries c.args.self.now same c.room.ensures.entries c.self.view_is

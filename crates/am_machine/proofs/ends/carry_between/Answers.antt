@@ -1,6 +1,5 @@
-use Rattle.std.proofs.Common.{◌≡◌, false, refl, sym, arith, slice_index_or, slice_set, length, ◌<◌}
-use Rattle.am_endpoint.specs.View.{EndpointView}
-use Rattle.am_machine.specs.Carries.{At, ArrivesAt, CarriesFrom, is_place}
+use Rattle.std.proofs.Common.{◌≡◌, false, sym, arith, slice_index_or, slice_set, length, ◌<◌}
+use Rattle.am_machine.specs.Carries.{ArrivesAt, CarriesFrom, is_place}
 use Rattle.am_machine.proofs.Places.{at_read, index_got, place_apart, set_length, set_other, still_at, carried_one, carried_two}
 use Rattle.am_machine.proofs.ends.carry_between.Goals as goal
 

@@ -1,4 +1,4 @@
-use Rattle.std.proofs.Common.{◌≡◌, false, sym}
+use Rattle.std.proofs.Common.{◌≡◌, false}
 use Rattle.am_machine.specs.Carries.{At, IsReady, is_place}
 use Rattle.am_machine.proofs.Places.{on_ok_any, place_apart, still_at}
 use Rattle.am_machine.proofs.ends.room_for_both.Goals as goal

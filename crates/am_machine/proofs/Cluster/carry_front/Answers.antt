@@ -1,12 +1,12 @@
-use Rattle.std.proofs.Common.{◌≡◌, ℕ, ◌+◌, ◌<◌, ◌≤◌, ◌++◌, ◌∷◌, [], List, false, true, map, length, Some, None, position, vec_len, take, drop, subst, refl, sym, ap, ◌∙◌, arith}
+use Rattle.std.proofs.Common.{◌≡◌, ℕ, ◌+◌, ◌++◌, ◌∷◌, [], List, true, map, length, Some, None, position, vec_len, take, drop, subst, refl, sym, ap, ◌∙◌}
 use Rattle.std.specs.Prelude.{slice_get}
 use Rattle.am_endpoint.specs.View.{EndpointView}
 use Rattle.am_office.specs.declared.Entry.{Entry}
 use Rattle.am_office.specs.declared.Event.TheVariants as Events
 use Rattle.am_model.specs.History.{is_in_range}
 use Rattle.am_model.specs.Steps.{stop}
-use Rattle.am_machine.specs.Carries.{At, IsReady, carried_at}
-use Rattle.am_machine.specs.Ends.{EndLog, is_of, kept}
+use Rattle.am_machine.specs.Carries.{IsReady, carried_at}
+use Rattle.am_machine.specs.Ends.{is_of, kept}
 use Rattle.am_machine.specs.Kept.{IsTied, layout_in}
 use Rattle.am_machine.specs.View.{ClusterView}
 use Rattle.am_machine.proofs.Applied as applied
@@ -14,12 +14,12 @@ use Rattle.am_machine.proofs.Carriages as carriages
 use Rattle.am_machine.proofs.Carriages.{Carriage, IsEntryOf}
 use Rattle.am_machine.proofs.Events.{carry_idle, carry_stop, stop_of}
 use Rattle.am_machine.proofs.Places.{lent_back, not_found, still_at}
-use Rattle.am_machine.proofs.Cluster.carry.Goals as goal
+use Rattle.am_machine.proofs.Cluster.carry_front.Goals as goal
 
 pub unreachable-requires : goal.unreachable-requires
 unreachable-requires c =
     let vs = c.self.inside.ends.items in
-    let journal = c.self.inside.journal.items in
+    let journal = c.self.inside.journal.entries in
     let layout = layout_in c.self.inside.settings c.self.inside.faults.items (map kept vs) in
     let direct : layout.direct ≡ true = ap (λ (v : ClusterView). v.layout.direct) c.self.view_is ∙ c.requires.direct in
     let range : is_in_range layout (Events.Carry c.args.end) ≡ true = ap (λ (v : ClusterView). is_in_range v.layout (Events.Carry c.args.end)) c.self.view_is ∙ c.requires.in_range in
@@ -28,7 +28,7 @@ unreachable-requires c =
 pub front-requires : goal.front-requires
 front-requires c =
     let vs = c.self.inside.ends.items in
-    let journal = c.self.inside.journal.items in
+    let journal = c.self.inside.journal.entries in
     let layout = layout_in c.self.inside.settings c.self.inside.faults.items (map kept vs) in
     let direct : layout.direct ≡ true = ap (λ (v : ClusterView). v.layout.direct) c.self.view_is ∙ c.requires.direct in
     let range : is_in_range layout (Events.Carry c.args.end) ≡ true = ap (λ (v : ClusterView). is_in_range v.layout (Events.Carry c.args.end)) c.self.view_is ∙ c.requires.in_range in
@@ -39,7 +39,7 @@ front-requires c =
 pub returns-in_default-front : goal.returns-in_default-front
 returns-in_default-front c =
     let vs = c.self.inside.ends.items in
-    let journal = c.self.inside.journal.items in
+    let journal = c.self.inside.journal.entries in
     let layout = layout_in c.self.inside.settings c.self.inside.faults.items (map kept vs) in
     let direct : layout.direct ≡ true = ap (λ (v : ClusterView). v.layout.direct) c.self.view_is ∙ c.requires.direct in
     let range : is_in_range layout (Events.Carry c.args.end) ≡ true = ap (λ (v : ClusterView). is_in_range v.layout (Events.Carry c.args.end)) c.self.view_is ∙ c.requires.in_range in
@@ -51,7 +51,7 @@ returns-in_default-front c =
 pub unreachable-requires-in_default-place_of : goal.unreachable-requires-in_default-place_of
 unreachable-requires-in_default-place_of c =
     let vs = c.self.inside.ends.items in
-    let journal = c.self.inside.journal.items in
+    let journal = c.self.inside.journal.entries in
     let layout = layout_in c.self.inside.settings c.self.inside.faults.items (map kept vs) in
     let direct : layout.direct ≡ true = ap (λ (v : ClusterView). v.layout.direct) c.self.view_is ∙ c.requires.direct in
     let range : is_in_range layout (Events.Carry c.args.end) ≡ true = ap (λ (v : ClusterView). is_in_range v.layout (Events.Carry c.args.end)) c.self.view_is ∙ c.requires.in_range in
@@ -64,7 +64,7 @@ unreachable-requires-in_default-place_of c =
 pub returns-in-Some-least_full : goal.returns-in-Some-least_full
 returns-in-Some-least_full c =
     let vs = c.self.inside.ends.items in
-    let journal = c.self.inside.journal.items in
+    let journal = c.self.inside.journal.entries in
     let layout = layout_in c.self.inside.settings c.self.inside.faults.items (map kept vs) in
     let direct : layout.direct ≡ true = ap (λ (v : ClusterView). v.layout.direct) c.self.view_is ∙ c.requires.direct in
     let range : is_in_range layout (Events.Carry c.args.end) ≡ true = ap (λ (v : ClusterView). is_in_range v.layout (Events.Carry c.args.end)) c.self.view_is ∙ c.requires.in_range in
@@ -86,7 +86,7 @@ returns-in-Some-least_full c =
 pub carry_between-requires-clause-carries : goal.carry_between-requires-clause-carries
 carry_between-requires-clause-carries c =
     let vs = c.self.inside.ends.items in
-    let journal = c.self.inside.journal.items in
+    let journal = c.self.inside.journal.entries in
     let layout = layout_in c.self.inside.settings c.self.inside.faults.items (map kept vs) in
     let direct : layout.direct ≡ true = ap (λ (v : ClusterView). v.layout.direct) c.self.view_is ∙ c.requires.direct in
     let range : is_in_range layout (Events.Carry c.args.end) ≡ true = ap (λ (v : ClusterView). is_in_range v.layout (Events.Carry c.args.end)) c.self.view_is ∙ c.requires.in_range in
@@ -120,7 +120,7 @@ carry_between-requires-clause-carries c =
       source_room = sym c.is_full-is_source_full.ensures ∙ none.0;
       dest_room = sym c.is_full-is_dest_full.ensures ∙ none.1;
     } in
-    let is : IsEntryOf carriage (record { stamp = c.last_stamp.result + 1; event = Events.Carry c.args.end; outcome = c.judged.result }) = record { stamp = ap (λ (n : ℕ). n + 1) (c.last_stamp.ensures ∙ ap length c.reserve.ensures.items); event = refl; outcome = c.judged.ensures } in
+    let is : IsEntryOf carriage (record { stamp = c.len.result + 1; event = Events.Carry c.args.end; outcome = c.judged.result }) = record { stamp = ap (λ (n : ℕ). n + 1) (c.len.ensures.value ∙ ap length c.room.ensures.entries); event = refl; outcome = c.judged.ensures } in
     let us = c.deref_mut-2.result.now in
     let roomed : length c.room_for_both.new.ends ≡ vec_len c.self.inside.ends = c.room_for_both.auto.ends ∙ c.deref_mut.ensures.len in
     let back : us ≡ c.room_for_both.new.ends = c.deref_mut-2.ensures.value ∙ lent_back (vec_len c.self.inside.ends) c.room_for_both.new.ends vs roomed in
@@ -130,7 +130,7 @@ carry_between-requires-clause-carries c =
 pub carry_between-requires-clause-arrives : goal.carry_between-requires-clause-arrives
 carry_between-requires-clause-arrives c =
     let vs = c.self.inside.ends.items in
-    let journal = c.self.inside.journal.items in
+    let journal = c.self.inside.journal.entries in
     let layout = layout_in c.self.inside.settings c.self.inside.faults.items (map kept vs) in
     let direct : layout.direct ≡ true = ap (λ (v : ClusterView). v.layout.direct) c.self.view_is ∙ c.requires.direct in
     let range : is_in_range layout (Events.Carry c.args.end) ≡ true = ap (λ (v : ClusterView). is_in_range v.layout (Events.Carry c.args.end)) c.self.view_is ∙ c.requires.in_range in
@@ -164,7 +164,7 @@ carry_between-requires-clause-arrives c =
       source_room = sym c.is_full-is_source_full.ensures ∙ none.0;
       dest_room = sym c.is_full-is_dest_full.ensures ∙ none.1;
     } in
-    let is : IsEntryOf carriage (record { stamp = c.last_stamp.result + 1; event = Events.Carry c.args.end; outcome = c.judged.result }) = record { stamp = ap (λ (n : ℕ). n + 1) (c.last_stamp.ensures ∙ ap length c.reserve.ensures.items); event = refl; outcome = c.judged.ensures } in
+    let is : IsEntryOf carriage (record { stamp = c.len.result + 1; event = Events.Carry c.args.end; outcome = c.judged.result }) = record { stamp = ap (λ (n : ℕ). n + 1) (c.len.ensures.value ∙ ap length c.room.ensures.entries); event = refl; outcome = c.judged.ensures } in
     let us = c.deref_mut-2.result.now in
     let roomed : length c.room_for_both.new.ends ≡ vec_len c.self.inside.ends = c.room_for_both.auto.ends ∙ c.deref_mut.ensures.len in
     let back : us ≡ c.room_for_both.new.ends = c.deref_mut-2.ensures.value ∙ lent_back (vec_len c.self.inside.ends) c.room_for_both.new.ends vs roomed in
@@ -174,7 +174,7 @@ carry_between-requires-clause-arrives c =
 pub invariant_of-self-2 : goal.invariant_of-self-2
 invariant_of-self-2 c =
     let vs = c.self.inside.ends.items in
-    let journal = c.self.inside.journal.items in
+    let journal = c.self.inside.journal.entries in
     let layout = layout_in c.self.inside.settings c.self.inside.faults.items (map kept vs) in
     let direct : layout.direct ≡ true = ap (λ (v : ClusterView). v.layout.direct) c.self.view_is ∙ c.requires.direct in
     let range : is_in_range layout (Events.Carry c.args.end) ≡ true = ap (λ (v : ClusterView). is_in_range v.layout (Events.Carry c.args.end)) c.self.view_is ∙ c.requires.in_range in
@@ -208,25 +208,25 @@ invariant_of-self-2 c =
       source_room = sym c.is_full-is_source_full.ensures ∙ none.0;
       dest_room = sym c.is_full-is_dest_full.ensures ∙ none.1;
     } in
-    let is : IsEntryOf carriage (record { stamp = c.last_stamp.result + 1; event = Events.Carry c.args.end; outcome = c.judged.result }) = record { stamp = ap (λ (n : ℕ). n + 1) (c.last_stamp.ensures ∙ ap length c.reserve.ensures.items); event = refl; outcome = c.judged.ensures } in
+    let is : IsEntryOf carriage (record { stamp = c.len.result + 1; event = Events.Carry c.args.end; outcome = c.judged.result }) = record { stamp = ap (λ (n : ℕ). n + 1) (c.len.ensures.value ∙ ap length c.room.ensures.entries); event = refl; outcome = c.judged.ensures } in
     let us = c.deref_mut-2.result.now in
     let roomed : length c.room_for_both.new.ends ≡ vec_len c.self.inside.ends = c.room_for_both.auto.ends ∙ c.deref_mut.ensures.len in
     let back : us ≡ c.room_for_both.new.ends = c.deref_mut-2.ensures.value ∙ lent_back (vec_len c.self.inside.ends) c.room_for_both.new.ends vs roomed in
     let same : map kept us ≡ map kept vs = ap (λ (l : List EndpointView). map kept l) back ∙ c.in-Ok.ensures.same ∙ ap (λ (l : List EndpointView). map kept l) c.deref_mut.ensures.value in
-    let x : Entry = record { stamp = c.last_stamp.result + 1; event = Events.Carry c.args.end; outcome = c.judged.result } in
-    let next = carriages.carriage_next carriage x is (map kept c.carry_between.new.ends) c.log_entry.new.journal.items
+    let x : Entry = record { stamp = c.len.result + 1; event = Events.Carry c.args.end; outcome = c.judged.result } in
+    let next = carriages.carriage_next carriage x is (map kept c.carry_between.new.ends) c.log.new.self.entries
     (c.carry_between.ensures ∙ ap (carried_at c.in-Some.source c.in-Some-place_of.dest x) same)
-    (c.log_entry.ensures ∙ ap (λ (xs : List Entry). xs ++ x ∷ []) c.reserve.ensures.items) in
+    (c.log.ensures ∙ ap (λ (xs : List Entry). xs ++ x ∷ []) c.room.ensures.entries) in
     let n = vec_len c.self.inside.ends in
     let last = c.carry_between.new.ends in
     let whole : take n (last ++ drop (length last) (take n (c.room_for_both.new.ends ++ drop (length c.room_for_both.new.ends) vs))) ≡ last = lent_back n last (take n (c.room_for_both.new.ends ++ drop (length c.room_for_both.new.ends) vs)) (c.carry_between.auto.ends ∙ c.deref_mut-2.ensures.len) in
-    let final = applied.tied_next c.self.inside.settings c.self.inside.faults.items (map kept vs) journal (Events.Carry c.args.end) x (map kept last) c.log_entry.new.journal.items next in
-    subst (λ (es : List EndpointView). IsTied (layout_in c.self.inside.settings c.self.inside.faults.items (map kept es)) (map kept es) c.log_entry.new.journal.items) (sym whole) final
+    let final = applied.tied_next c.self.inside.settings c.self.inside.faults.items (map kept vs) journal (Events.Carry c.args.end) x (map kept last) c.log.new.self.entries next in
+    subst (λ (es : List EndpointView). IsTied (layout_in c.self.inside.settings c.self.inside.faults.items (map kept es)) (map kept es) c.log.new.self.entries) (sym whole) final
 
 pub returns : goal.returns
 returns c =
     let vs = c.self.inside.ends.items in
-    let journal = c.self.inside.journal.items in
+    let journal = c.self.inside.journal.entries in
     let layout = layout_in c.self.inside.settings c.self.inside.faults.items (map kept vs) in
     let direct : layout.direct ≡ true = ap (λ (v : ClusterView). v.layout.direct) c.self.view_is ∙ c.requires.direct in
     let range : is_in_range layout (Events.Carry c.args.end) ≡ true = ap (λ (v : ClusterView). is_in_range v.layout (Events.Carry c.args.end)) c.self.view_is ∙ c.requires.in_range in
@@ -260,20 +260,20 @@ returns c =
       source_room = sym c.is_full-is_source_full.ensures ∙ none.0;
       dest_room = sym c.is_full-is_dest_full.ensures ∙ none.1;
     } in
-    let is : IsEntryOf carriage (record { stamp = c.last_stamp.result + 1; event = Events.Carry c.args.end; outcome = c.judged.result }) = record { stamp = ap (λ (n : ℕ). n + 1) (c.last_stamp.ensures ∙ ap length c.reserve.ensures.items); event = refl; outcome = c.judged.ensures } in
+    let is : IsEntryOf carriage (record { stamp = c.len.result + 1; event = Events.Carry c.args.end; outcome = c.judged.result }) = record { stamp = ap (λ (n : ℕ). n + 1) (c.len.ensures.value ∙ ap length c.room.ensures.entries); event = refl; outcome = c.judged.ensures } in
     let us = c.deref_mut-2.result.now in
     let roomed : length c.room_for_both.new.ends ≡ vec_len c.self.inside.ends = c.room_for_both.auto.ends ∙ c.deref_mut.ensures.len in
     let back : us ≡ c.room_for_both.new.ends = c.deref_mut-2.ensures.value ∙ lent_back (vec_len c.self.inside.ends) c.room_for_both.new.ends vs roomed in
     let same : map kept us ≡ map kept vs = ap (λ (l : List EndpointView). map kept l) back ∙ c.in-Ok.ensures.same ∙ ap (λ (l : List EndpointView). map kept l) c.deref_mut.ensures.value in
-    let x : Entry = record { stamp = c.last_stamp.result + 1; event = Events.Carry c.args.end; outcome = c.judged.result } in
-    let next = carriages.carriage_next carriage x is (map kept c.carry_between.new.ends) c.log_entry.new.journal.items
+    let x : Entry = record { stamp = c.len.result + 1; event = Events.Carry c.args.end; outcome = c.judged.result } in
+    let next = carriages.carriage_next carriage x is (map kept c.carry_between.new.ends) c.log.new.self.entries
     (c.carry_between.ensures ∙ ap (carried_at c.in-Some.source c.in-Some-place_of.dest x) same)
-    (c.log_entry.ensures ∙ ap (λ (xs : List Entry). xs ++ x ∷ []) c.reserve.ensures.items) in
+    (c.log.ensures ∙ ap (λ (xs : List Entry). xs ++ x ∷ []) c.room.ensures.entries) in
     let n = vec_len c.self.inside.ends in
     let last = c.carry_between.new.ends in
     let whole : take n (last ++ drop (length last) (take n (c.room_for_both.new.ends ++ drop (length c.room_for_both.new.ends) vs))) ≡ last = lent_back n last (take n (c.room_for_both.new.ends ++ drop (length c.room_for_both.new.ends) vs)) (c.carry_between.auto.ends ∙ c.deref_mut-2.ensures.len) in
-    let final = applied.seen_next c.self.inside.settings c.self.inside.faults.items (map kept vs) journal (Events.Carry c.args.end) x (map kept last) c.log_entry.new.journal.items c.args.self.now c.self.view_is next in
-    (final.0, final.1, ap (λ (es : List EndpointView). applied.seen c.self.inside.settings c.self.inside.faults.items (map kept es) c.log_entry.new.journal.items) whole ∙ final.2)
+    let final = applied.seen_next c.self.inside.settings c.self.inside.faults.items (map kept vs) journal (Events.Carry c.args.end) x (map kept last) c.log.new.self.entries c.args.self.now c.self.view_is next in
+    (final.0, final.1, ap (λ (es : List EndpointView). applied.seen c.self.inside.settings c.self.inside.faults.items (map kept es) c.log.new.self.entries) whole ∙ final.2)
 
 pub invariant_of-self-in_default-room_for_both : goal.invariant_of-self-in_default-room_for_both
 invariant_of-self-in_default-room_for_both c =
@@ -283,7 +283,7 @@ invariant_of-self-in_default-room_for_both c =
     let same : map kept back ≡ map kept vs = c.room_for_both.ensures.same ∙ ap (λ (l : List EndpointView). map kept l) c.deref_mut.ensures.value in
     let whole : take n (back ++ drop (length back) vs) ≡ back = lent_back n back vs (c.room_for_both.auto.ends ∙ c.deref_mut.ensures.len) in
     let kept' : map kept (take n (back ++ drop (length back) vs)) ≡ map kept vs = ap (λ (l : List EndpointView). map kept l) whole ∙ same in
-    applied.tied_same c.self.inside.settings c.self.inside.faults.items (map kept vs) (map kept (take n (back ++ drop (length back) vs))) c.self.inside.journal.items c.reserve.new.self.items kept' c.reserve.ensures.items c.self.invariant
+    applied.tied_same c.self.inside.settings c.self.inside.faults.items (map kept vs) (map kept (take n (back ++ drop (length back) vs))) c.self.inside.journal.entries c.room.new.self.entries kept' c.room.ensures.entries c.self.invariant
 
 pub returns-in_default-room_for_both : goal.returns-in_default-room_for_both
 returns-in_default-room_for_both c =
@@ -293,4 +293,4 @@ returns-in_default-room_for_both c =
     let same : map kept back ≡ map kept vs = c.room_for_both.ensures.same ∙ ap (λ (l : List EndpointView). map kept l) c.deref_mut.ensures.value in
     let whole : take n (back ++ drop (length back) vs) ≡ back = lent_back n back vs (c.room_for_both.auto.ends ∙ c.deref_mut.ensures.len) in
     let kept' : map kept (take n (back ++ drop (length back) vs)) ≡ map kept vs = ap (λ (l : List EndpointView). map kept l) whole ∙ same in
-    applied.seen_same c.self.inside.settings c.self.inside.faults.items (map kept vs) (map kept (take n (back ++ drop (length back) vs))) c.self.inside.journal.items c.reserve.new.self.items c.args.self.now kept' c.reserve.ensures.items c.self.view_is
+    applied.seen_same c.self.inside.settings c.self.inside.faults.items (map kept vs) (map kept (take n (back ++ drop (length back) vs))) c.self.inside.journal.entries c.room.new.self.entries c.args.self.now kept' c.room.ensures.entries c.self.view_is

@@ -1,0 +1,238 @@
+-- What is read off a journal, one entry more.
+use Rattle.std.specs.Prelude.{slice_get, slice_set, slice_index_or, replicate, IfSome}
+use Rattle.std.specs.List.{filter, cons_option, All}
+use Rattle.std.proofs.Common.{◌≡◌, ⊎_elim, ℕ, zero, suc, ◌+◌, ◌*◌, ◌<◌, ◌≤◌, ◌^◌, ◌==◌, Bool, true, false, cond, ◌&&◌, List, [], ◌∷◌, ◌++◌, map, length, Option, Some, None, true≢false, refl, sym, ap, ◌∙◌, arith, eq-eqb, eqb-true, if◌then◌else◌}
+use Rattle.std.proofs.lemmas.List.{append-nil}
+use Rattle.std.proofs.lemmas.List.Sums.{sum_by_push, count_by-le-length}
+use Rattle.std.proofs.lemmas.Option.{slice_get_within}
+use Rattle.std.specs.Global.{Vec}
+use Rattle.am_names.specs.declared.NodeId.{NodeId}
+use Rattle.am_names.specs.declared.Packet.{Packet}
+use Rattle.am_names.specs.declared.Packet.TheVariants as Packets
+use Rattle.am_office.specs.declared.Event.{Event}
+use Rattle.am_office.specs.declared.Event.TheVariants as Events
+use Rattle.am_office.specs.declared.Entry.{Entry}
+use Rattle.am_office.specs.Entries.{emitted_of}
+use Rattle.am_model.specs.Channels.{emitted, is_on_link}
+use Rattle.am_model.specs.History.{is_page_call}
+use Rattle.am_model.proofs.Received.{bit}
+use Rattle.am_local.specs.Interface.{receiver_of}
+use Rattle.am_local.specs.Readings.{page_calls}
+use Rattle.am_local.specs.Together.{from_of}
+use Rattle.am_local.proofs.Growing.{emitted_append, readings_push}
+use Rattle.am_journal.specs.Kept.{AreRead, items_of, node_of}
+use Rattle.am_journal.specs.Places.{link, link_of, page_place, receipt_place, counted, delivered}
+use Rattle.am_journal.specs.View.{AreNodes, HasRoomFor, JournalView, is_receipt, receipts}
+use Rattle.am_journal.proofs.Lists.{got_set, index_got, got_mapped, got_all, set_length}
+
+-- ---- one more at a place
+
+abbrev is_there : Option ℕ → ℕ → Bool
+is_there None k = false
+is_there (Some j) k = k == j
+
+abbrev one_if : Bool → ℕ
+one_if b = if b then 1 else 0
+
+same_number : (k j : ℕ) → (k ≡ j → ⊥) → (k == j) ≡ false
+same_number k j apart = by_test (k == j) refl
+  where
+    by_test : (t : Bool) → (k == j) ≡ t → t ≡ false
+    by_test true is = absurd (apart (eqb-true k j is))
+    by_test false is = refl
+
+counted_got : (place : Option ℕ) (ns : List ℕ) (k n : ℕ) → slice_get (counted place ns) k ≡ Some n → (m : ℕ) × (slice_get ns k ≡ Some m) × (n ≡ m + one_if (is_there place k))
+counted_got None ns k n h = (n, h, omega arith)
+counted_got (Some j) ns k n h = ⊎_elim here there (got_set ns j k (slice_index_or ns j 0 + 1) n h)
+  where
+    within : k < length ns
+    within = let lt = slice_get_within (slice_set ns j (slice_index_or ns j 0 + 1)) k n h in let same = set_length ns j (slice_index_or ns j 0 + 1) in omega (arith, lt, same)
+
+    here : (k ≡ j) × (n ≡ slice_index_or ns j 0 + 1) → (m : ℕ) × (slice_get ns k ≡ Some m) × (n ≡ m + one_if (k == j))
+    here both =
+        (slice_index_or ns k 0, index_got ns k 0 within, both.1 ∙ ap (λ (i : ℕ). slice_index_or ns i 0 + 1) (sym both.0) ∙ ap (λ (b : Bool). slice_index_or ns k 0 + one_if b) (sym (eq-eqb k j both.0)))
+
+    there : (k ≡ j → ⊥) × (slice_get ns k ≡ Some n) → (m : ℕ) × (slice_get ns k ≡ Some m) × (n ≡ m + one_if (k == j))
+    there both =
+        let none : n ≡ n + one_if false = omega arith in
+        (n, both.1, none ∙ ap (λ (b : Bool). n + one_if b) (sym (same_number k j both.0)))
+
+same_page : (node : ℕ) (e : Event) → is_there (page_place e) node ≡ is_page_call (node_of node) e
+same_page node (Events.PageOut at end) = refl
+same_page node (Events.PageIn at end) = refl
+same_page node e = refl
+
+-- two links are one where both nodes are
+pub same_link : (a b c d : ℕ) → b < 16 → d < 16 → ((16 * a + b) == (16 * c + d)) ≡ ((b == d) && (a == c))
+same_link a b c d lt below = by_tests ((16 * a + b) == (16 * c + d)) (b == d) (a == c) refl refl refl
+  where
+    by_tests : (t s r : Bool) → ((16 * a + b) == (16 * c + d)) ≡ t → (b == d) ≡ s → (a == c) ≡ r → t ≡ (s && r)
+    by_tests true true true whole low high = refl
+    by_tests true false r whole low high =
+        let same = eqb-true (16 * a + b) (16 * c + d) whole in
+        absurd (true≢false (sym (eq-eqb b d (omega (arith, same, lt, below))) ∙ low))
+    by_tests true true false whole low high =
+        let same = eqb-true (16 * a + b) (16 * c + d) whole in
+        absurd (true≢false (sym (eq-eqb a c (omega (arith, same, lt, below))) ∙ high))
+    by_tests false true true whole low high =
+        let one = eqb-true b d low in
+        let other = eqb-true a c high in
+        absurd (true≢false (sym (eq-eqb (16 * a + b) (16 * c + d) (omega (arith, one, other))) ∙ whole))
+    by_tests false false r whole low high = refl
+    by_tests false true false whole low high = refl
+
+same_receipt : (from to : ℕ) (e : Event) → to < 16 → AreNodes e → is_there (receipt_place e) (16 * from + to) ≡ is_receipt (node_of from) (node_of to) e
+same_receipt from to (Events.Receive node peer number) lt nodes = same_link from to peer.0 node.0 lt nodes.0
+same_receipt from to e lt nodes = refl
+
+-- ---- packets
+
+abbrev on_link : NodeId → NodeId → Option Packet → List Packet
+on_link node peer p = filter (is_on_link node peer) (cons_option p [])
+
+abbrev put_on : Option Packet → ℕ → List Packet
+put_on None k = []
+put_on (Some p) k = cond (k == link_of p) (p ∷ []) []
+
+delivered_got : (p : Option Packet) (ls : List (List Packet)) (k : ℕ) (ps : List Packet) → slice_get (delivered p ls) k ≡ Some ps → (qs : List Packet) × (slice_get ls k ≡ Some qs) × (ps ≡ qs ++ put_on p k)
+delivered_got None ls k ps h = (ps, h, sym (append-nil ps))
+delivered_got (Some p) ls k ps h = ⊎_elim here there (got_set ls (link_of p) k (slice_index_or ls (link_of p) [] ++ p ∷ []) ps h)
+  where
+    within : k < length ls
+    within =
+        let lt = slice_get_within (slice_set ls (link_of p) (slice_index_or ls (link_of p) [] ++ p ∷ [])) k ps h in
+        let same = set_length ls (link_of p) (slice_index_or ls (link_of p) [] ++ p ∷ []) in
+        omega (arith, lt, same)
+
+    here : (k ≡ link_of p) × (ps ≡ slice_index_or ls (link_of p) [] ++ p ∷ []) → (qs : List Packet) × (slice_get ls k ≡ Some qs) × (ps ≡ qs ++ cond (k == link_of p) (p ∷ []) [])
+    here both = (
+      slice_index_or ls k [],
+      index_got ls k [] within,
+      both.1
+          ∙ ap (λ (i : ℕ). slice_index_or ls i [] ++ p ∷ []) (sym both.0)
+          ∙ ap (λ (b : Bool). slice_index_or ls k [] ++ cond b (p ∷ []) []) (sym (eq-eqb k (link_of p) both.0)),
+    )
+
+    there : (k ≡ link_of p → ⊥) × (slice_get ls k ≡ Some ps) → (qs : List Packet) × (slice_get ls k ≡ Some qs) × (ps ≡ qs ++ cond (k == link_of p) (p ∷ []) [])
+    there both = (ps, both.1, sym (append-nil ps) ∙ ap (λ (b : Bool). ps ++ cond b (p ∷ []) []) (sym (same_number k (link_of p) both.0)))
+
+and_commutes : (a b : Bool) → (a && b) ≡ (b && a)
+and_commutes true true = refl
+and_commutes true false = refl
+and_commutes false true = refl
+and_commutes false false = refl
+
+-- the nodes of a packet, if there is one
+abbrev pub IsWithin : Option Packet → Type 0
+IsWithin None = Unit {0}
+IsWithin (Some p) = ((from_of p).0 < 16) × ((receiver_of p).0 < 16)
+
+put_same : (from to : ℕ) (p : Option Packet) → to < 16 → IsWithin p → put_on p (16 * from + to) ≡ on_link (node_of from) (node_of to) p
+put_same from to None lt nodes = refl
+put_same from to (Some (Packets.Parcel p)) lt nodes =
+    ap (λ (b : Bool). cond b (Packets.Parcel p ∷ []) []) (same_link from to p.from.0 p.to.0 lt nodes.1 ∙ and_commutes (to == p.to.0) (from == p.from.0))
+put_same from to (Some (Packets.Answer p)) lt nodes =
+    ap (λ (b : Bool). cond b (Packets.Answer p ∷ []) []) (same_link from to p.from.0 p.to.0 lt nodes.1 ∙ and_commutes (to == p.to.0) (from == p.from.0))
+
+-- ---- one entry more
+
+counted_length : (place : Option ℕ) (ns : List ℕ) → length (counted place ns) ≡ length ns
+counted_length None ns = refl
+counted_length (Some k) ns = set_length ns k (slice_index_or ns k 0 + 1)
+
+delivered_length : (p : Option Packet) (ls : List (List Packet)) → length (delivered p ls) ≡ length ls
+delivered_length None ls = refl
+delivered_length (Some p) ls = set_length ls (link_of p) (slice_index_or ls (link_of p) [] ++ p ∷ [])
+
+pub read_more : (entries : List Entry) (pages received : List ℕ) (links : List (List Packet)) (x : Entry) (packet : Option Packet) → AreRead entries pages received links → packet ≡ emitted_of x → IsWithin packet → AreNodes x.event → AreRead (entries ++ x ∷ []) (counted (page_place x.event) pages) (counted (receipt_place x.event) received) (delivered packet links)
+read_more entries pages received links x packet are is nodes at =
+    record {
+      pages = λ node n h.
+          (let g = counted_got (page_place x.event) pages node n h in
+          g.2
+          ∙ (λ i. are.pages node g.0 g.1 i + one_if (same_page node x.event i))
+          ∙ sym ((readings_push entries x).pages (node_of node)));
+      received = λ from to n lt h.
+          (let g = counted_got (receipt_place x.event) received (16 * from + to) n h in
+          g.2
+          ∙ (λ i. are.received from to g.0 lt g.1 i + one_if (same_receipt from to x.event lt at i))
+          ∙ sym (sum_by_push (λ (y : Entry). bit (is_receipt (node_of from) (node_of to) y.event)) entries x));
+      emitted = λ from to ps lt h.
+          (let g = delivered_got packet links (16 * from + to) ps h in
+          g.2
+          ∙ (λ i. are.emitted from to g.0 lt g.1 i ++ put_same from to packet lt nodes i)
+          ∙ (λ i. emitted (node_of from) (node_of to) entries ++ on_link (node_of from) (node_of to) (is i))
+          ∙ sym (emitted_append (node_of from) (node_of to) entries (x ∷ [])));
+      all_pages = counted_length (page_place x.event) pages ∙ are.all_pages;
+      all_received = counted_length (receipt_place x.event) received ∙ are.all_received;
+      all_links = delivered_length packet links ∙ are.all_links;
+    }
+
+-- ---- the beginning
+
+replicated : (k : ℕ) (i n : ℕ) → slice_get (replicate k 0) i ≡ Some n → n ≡ 0
+replicated zero i n h = absurd (cc)
+replicated (suc k) zero n h = cc
+replicated (suc k) (suc i) n h = replicated k i n h
+
+pub read_none : (links : List (Vec Packet)) → length links ≡ 256 → All (λ packets. packets.items ≡ []) links → AreRead [] (replicate 16 0) (replicate 256 0) (map items_of links)
+read_none links many none =
+    record {
+      pages = λ node n h. replicated 16 node n h;
+      received = λ from to n lt h. replicated 256 (16 * from + to) n h;
+      emitted = λ from to ps lt h.
+          (let g = got_mapped items_of links (16 * from + to) ps h in
+          sym g.2 ∙ got_all (λ (v : Vec Packet). v.items ≡ []) links (16 * from + to) g.0 none g.1);
+      all_pages = refl;
+      all_received = refl;
+      all_links = map_length' links ∙ many;
+    }
+  where
+    map_length' : (vs : List (Vec Packet)) → length (map items_of vs) ≡ length vs
+    map_length' [] = refl
+    map_length' (v ∷ vs) = ap suc (map_length' vs)
+
+-- a number at a place is that of a node
+pub page_count : (entries : List Entry) (pages received : List ℕ) (links : List (List Packet)) (node : NodeId) (n : ℕ) → AreRead entries pages received links → node.0 < 16 → n ≡ slice_index_or pages node.0 n → n ≡ page_calls node entries
+page_count entries pages received links node n are lt at =
+    are.pages node.0 n (index_got pages node.0 n (let all = are.all_pages in omega (arith, lt, all)) ∙ ap (λ (m : ℕ). Some m) (sym at))
+
+pub receipt_count : (entries : List Entry) (pages received : List ℕ) (links : List (List Packet)) (from to : NodeId) (n : ℕ) → AreRead entries pages received links → from.0 < 16 → to.0 < 16 → n ≡ slice_index_or received (link from to) n → n ≡ receipts from to entries
+receipt_count entries pages received links from to n are lt below at =
+    are.received from.0 to.0 n below
+    (index_got received (link from to) n (let all = are.all_received in omega (arith, lt, below, all)) ∙ ap (λ (m : ℕ). Some m) (sym at))
+
+pub emitted_here : (entries : List Entry) (pages received : List ℕ) (links : List (List Packet)) (from to : NodeId) (ps : List Packet) → AreRead entries pages received links → from.0 < 16 → to.0 < 16 → ps ≡ slice_index_or links (link from to) ps → ps ≡ emitted from to entries
+emitted_here entries pages received links from to ps are lt below at =
+    are.emitted from.0 to.0 ps below
+    (index_got links (link from to) ps (let all = are.all_links in omega (arith, lt, below, all)) ∙ ap (λ (qs : List Packet). Some qs) (sym at))
+
+-- no count is more than there are entries
+pub page_bound : (entries : List Entry) (pages received : List ℕ) (links : List (List Packet)) (k : ℕ) → AreRead entries pages received links → k < 16 → slice_index_or pages k 0 ≤ length entries
+page_bound entries pages received links k are lt =
+    let is = are.pages k (slice_index_or pages k 0) (index_got pages k 0 (let all = are.all_pages in omega (arith, lt, all))) in
+    let most = count_by-le-length (λ (x : Entry). is_page_call (node_of k) x.event) entries in
+    omega (arith, is, most)
+
+pub receipt_bound : (entries : List Entry) (pages received : List ℕ) (links : List (List Packet)) (from to : NodeId) → AreRead entries pages received links → from.0 < 16 → to.0 < 16 → slice_index_or received (link from to) 0 ≤ length entries
+receipt_bound entries pages received links from to are lt below =
+    let is = are.received from.0 to.0 (slice_index_or received (link from to) 0) below (index_got received (link from to) 0 (let all = are.all_received in omega (arith, lt, below, all))) in
+    let most = count_by-le-length (λ (x : Entry). is_receipt from to x.event) entries in
+    omega (arith, is, most)
+
+-- so a count one more is small
+pub page_small : (entries : List Entry) (pages received : List ℕ) (links : List (List Packet)) (e : Event) → AreRead entries pages received links → AreNodes e → length entries + 1 < 2 ^ 64 → IfSome (page_place e) (λ k. slice_index_or pages k 0 + 1 < 2 ^ 64)
+page_small entries pages received links (Events.PageOut node end) are at small = let most = page_bound entries pages received links node.0 are at in omega (arith, most, small)
+page_small entries pages received links (Events.PageIn node end) are at small = let most = page_bound entries pages received links node.0 are at in omega (arith, most, small)
+page_small entries pages received links e are at small = tt
+
+pub receipt_small : (entries : List Entry) (pages received : List ℕ) (links : List (List Packet)) (e : Event) → AreRead entries pages received links → AreNodes e → length entries + 1 < 2 ^ 64 → IfSome (receipt_place e) (λ k. slice_index_or received k 0 + 1 < 2 ^ 64)
+receipt_small entries pages received links (Events.Receive node peer number) are at small = let most = receipt_bound entries pages received links peer node are at.1 at.0 in omega (arith, most, small)
+receipt_small entries pages received links e are at small = tt
+
+pub nodes_within : (v : JournalView) (p : Option Packet) → HasRoomFor v p → IsWithin p
+nodes_within v None h = tt
+nodes_within v (Some p) h = (h.0, h.1)
+
+pub read_same : (entries : List Entry) (pages received : List ℕ) (links : List (List Packet)) (es : List Entry) (ps rs : List ℕ) (ls : List (List Packet)) → es ≡ entries → ps ≡ pages → rs ≡ received → ls ≡ links → AreRead entries pages received links → AreRead es ps rs ls
+read_same entries pages received links es ps rs ls a b c d are = coe 0 1 (i. AreRead (sym a i) (sym b i) (sym c i) (sym d i)) are

@@ -1,0 +1,70 @@
+// Calls and wants of applications.
+ghost use Rattle.am_machine.specs.View.{Applies};
+ghost use Rattle.am_model.specs.History.{is_in_range};
+ghost use Rattle.am_office.specs.declared.Event.TheVariants as Events;
+ghost use Rattle.std.specs.Prelude.{◌≡◌, true};
+
+use crate::Cluster;
+use crate::ends::{is_full, is_on_disk, place_of};
+use crate::settings::ApplyFault;
+use am_names::EndpointId;
+use am_office::{Actor, Call, Condition, Entry, Part};
+
+impl Cluster {
+    /// Makes a call of an application.
+    pub(crate) fn call(
+        &mut self,
+        actor: Actor,
+        end: EndpointId,
+        call: Call,
+    ) -> Result<Entry, ApplyFault>
+        requires { is_in_range self.old.layout (Events.Call actor end call) ≡ true }
+        ensures { Applies self.old self.new (Events.Call actor end call) result }
+    {
+        let Some(place) = place_of(&self.ends, end) else {
+            unreachable!()
+        };
+        if is_on_disk(&self.ends[place]) {
+            return Err(ApplyFault::NotEnabled(Condition::OnDisk));
+        }
+        if is_full(&self.ends[place], self.settings.log) {
+            return Err(ApplyFault::LogFull(Part::Endpoint(end)));
+        }
+        if self.journal.room().is_err() {
+            return Err(ApplyFault::NoMemory);
+        }
+        match self.ends[place].call(self.journal.len(), actor, call) {
+            Ok(entry) => {
+                self.journal.log(entry, None);
+                Ok(entry)
+            }
+            Err(_) => Err(ApplyFault::NoMemory),
+        }
+    }
+
+    /// Wants an endpoint that is on disk.
+    pub(crate) fn want(&mut self, actor: Actor, end: EndpointId) -> Result<Entry, ApplyFault>
+        requires { is_in_range self.old.layout (Events.Want actor end) ≡ true }
+        ensures { Applies self.old self.new (Events.Want actor end) result }
+    {
+        let Some(place) = place_of(&self.ends, end) else {
+            unreachable!()
+        };
+        if !is_on_disk(&self.ends[place]) {
+            return Err(ApplyFault::NotEnabled(Condition::NotOnDisk));
+        }
+        if is_full(&self.ends[place], self.settings.log) {
+            return Err(ApplyFault::LogFull(Part::Endpoint(end)));
+        }
+        if self.journal.room().is_err() {
+            return Err(ApplyFault::NoMemory);
+        }
+        match self.ends[place].want(self.journal.len(), actor) {
+            Ok(entry) => {
+                self.journal.log(entry, None);
+                Ok(entry)
+            }
+            Err(_) => Err(ApplyFault::NoMemory),
+        }
+    }
+}

@@ -1,0 +1,64 @@
+// Carries of the direct network.
+ghost use Rattle.am_machine.specs.View.{Applies};
+ghost use Rattle.am_model.specs.History.{is_in_range};
+ghost use Rattle.am_office.specs.declared.Event.TheVariants as Events;
+ghost use Rattle.std.specs.Prelude.{◌≡◌, true};
+
+use crate::Cluster;
+use crate::ends::{carry_between, is_full, judged, least_full, place_of, room_for_both};
+use crate::settings::ApplyFault;
+use am_names::EndpointId;
+use am_office::{Condition, Entry, Event, Part};
+use am_scenario_types::Network;
+
+impl Cluster {
+    /// Carries the front message of an endpoint to its destination, where the network is direct.
+    pub(crate) fn carry(&mut self, end: EndpointId) -> Result<Entry, ApplyFault>
+        requires { is_in_range self.old.layout (Events.Carry end) ≡ true }
+        ensures { Applies self.old self.new (Events.Carry end) result }
+    {
+        match self.settings.network {
+            Network::Packet => Err(ApplyFault::NotEnabled(Condition::NotDirect)),
+            Network::Direct => self.carry_front(end),
+        }
+    }
+
+    /// Carries the front message of an endpoint of the direct network to its destination.
+    fn carry_front(&mut self, end: EndpointId) -> Result<Entry, ApplyFault>
+        requires direct { self.old.layout.direct ≡ true }
+        requires in_range { is_in_range self.old.layout (Events.Carry end) ≡ true }
+        ensures { Applies self.old self.new (Events.Carry end) result }
+    {
+        let Some(source) = place_of(&self.ends, end) else {
+            unreachable!()
+        };
+        let Some(front) = self.ends[source].front() else {
+            return Err(ApplyFault::NotEnabled(Condition::NoMessage));
+        };
+        let message = front.message;
+        let Some(dest) = place_of(&self.ends, message.dest) else {
+            unreachable!()
+        };
+        let verdict = self.ends[dest].verdict(&message);
+        let limit = self.settings.log;
+        let is_source_full = is_full(&self.ends[source], limit);
+        let is_dest_full = is_full(&self.ends[dest], limit);
+        if let Some(full) = least_full(end, is_source_full, message.dest, is_dest_full) {
+            return Err(ApplyFault::LogFull(Part::Endpoint(full)));
+        }
+        if self.journal.room().is_err() {
+            return Err(ApplyFault::NoMemory);
+        }
+        let Ok(()) = room_for_both(&mut self.ends, source, dest) else {
+            return Err(ApplyFault::NoMemory);
+        };
+        let entry = Entry {
+            stamp: self.journal.len() + 1,
+            event: Event::Carry { end },
+            outcome: judged(self.settings.bounces, message, front.bounces, verdict),
+        };
+        carry_between(&mut self.ends, source, dest, entry);
+        self.journal.log(entry, None);
+        Ok(entry)
+    }
+}

@@ -1,0 +1,135 @@
+// What a driver's move asks of the endpoint that it moves, of the frames and of the failing page calls.
+ghost use Rattle.am_endpoint.specs.View.{state_after};
+ghost use Rattle.am_machine.specs.Moves.{IsPaged, failing_on, failing_unload, is_fault, is_in_frame_of, is_taken};
+ghost use Rattle.am_local.specs.Granted.{MayMove};
+ghost use Rattle.am_model.specs.Endpoint as model;
+ghost use Rattle.am_model.specs.History as history;
+ghost use Rattle.std.specs.Prelude.{◌≡◌, ◌<◌, ◌∷◌, ◌++◌, [], length, true};
+ghost use Rattle.std.specs.List.{list_any};
+
+use am_endpoint::Endpoint;
+use am_names::NodeId;
+use am_office::{Condition, Entry, Event, Outcome, Place};
+use am_scenario_types::FaultLine;
+
+/// Whether what lies there is resident.
+fn is_resident(place: Place) -> bool
+    ensures { result ≡ model.is_resident place }
+{
+    match place {
+        Place::Frame(_) | Place::Direct => true,
+        Place::Host | Place::Disk => false,
+    }
+}
+
+/// Whether it is this frame.
+fn is_in_frame(frame: u8, place: Place) -> bool
+    ensures { result ≡ history.is_in_frame frame place }
+{
+    match place {
+        Place::Frame(other) => frame == other,
+        Place::Host | Place::Disk | Place::Direct => false,
+    }
+}
+
+/// Whether an endpoint of the node lies in the frame.
+fn is_frame_held(ends: &[Endpoint], node: NodeId, frame: u8) -> bool
+    ensures { result ≡ list_any (is_in_frame_of node frame) ends.now }
+{
+    ends.iter().any(|end| node.0 == end.node().0 && is_in_frame(frame, end.place()))
+}
+
+/// Whether the event loads into a frame that is held.
+pub(crate) fn is_taken(ends: &[Endpoint], event: Event) -> bool
+    ensures { result ≡ is_taken ends.now event }
+{
+    match event {
+        Event::Load { node, frame, .. } => is_frame_held(ends, node, frame),
+        _ => false,
+    }
+}
+
+/// The first condition of a move that an endpoint of the driver's node doesn't meet, where the frame may be taken.
+pub(crate) fn failing_on(end: &Endpoint, event: Event, is_taken: bool) -> Option<Condition>
+    ensures { result ≡ failing_on (state_after end.now) event is_taken }
+{
+    match event {
+        Event::Drain { .. } => {
+            if !is_resident(end.place()) {
+                Some(Condition::NotResident)
+            } else if end.draining() {
+                Some(Condition::Draining)
+            } else {
+                None
+            }
+        }
+        Event::Unload { .. } => failing_unload(end),
+        Event::Load { .. } => {
+            if end.place() != Place::Host {
+                Some(Condition::NotOnHost)
+            } else if end.closed() {
+                Some(Condition::Closed)
+            } else if is_taken {
+                Some(Condition::FrameHeld)
+            } else {
+                None
+            }
+        }
+        Event::PageOut { .. } => {
+            if end.place() != Place::Host {
+                Some(Condition::NotOnHost)
+            } else if end.closed() {
+                Some(Condition::Closed)
+            } else {
+                None
+            }
+        }
+        Event::PageIn { .. } if end.place() != Place::Disk => Some(Condition::NotOnDisk),
+        _ => None,
+    }
+}
+
+/// The first condition of an unload that an endpoint doesn't meet.
+fn failing_unload(end: &Endpoint) -> Option<Condition>
+    ensures { result ≡ failing_unload (state_after end.now) }
+{
+    if !is_resident(end.place()) {
+        Some(Condition::NotResident)
+    } else if !end.draining() {
+        Some(Condition::NotDraining)
+    } else if end.in_flight_len() != 0 {
+        Some(Condition::InFlight)
+    } else {
+        None
+    }
+}
+
+/// Whether a page call of the node with this number fails.
+pub(crate) fn is_listed(faults: &[FaultLine], node: NodeId, number: u64) -> bool
+    ensures { result ≡ list_any (is_fault node number) faults.now }
+{
+    faults.iter().any(|fault| node.0 == fault.node.0 && u64::from(fault.number) == number)
+}
+
+/// Gives the entry of a move to the endpoint that it moves.
+pub(crate) fn move_end(end: &mut Endpoint, entry: Entry)
+    requires ready { end.old.ready ≡ true }
+    requires room { length end.old.log < end.old.settings.log }
+    requires allowed { MayMove end.old.settings.node end.old.settings.id (state_after end.old) entry entry.event }
+    requires paged { IsPaged entry.event entry.outcome }
+    ensures settings { end.new.settings ≡ end.old.settings }
+    ensures log { end.new.log ≡ end.old.log ++ entry ∷ [] }
+{
+    match entry.event {
+        Event::Drain { .. } => end.begin_drain(entry),
+        Event::Unload { .. } => end.unload(entry),
+        Event::Load { .. } => end.load(entry),
+        Event::PageOut { .. } => end.page_out(entry),
+        Event::PageIn { .. } => match entry.outcome {
+            Outcome::Done => end.page_in(entry),
+            Outcome::Failed => end.page_failed(entry),
+            _ => unreachable!(),
+        },
+        _ => unreachable!(),
+    }
+}
