@@ -79,7 +79,7 @@ some_part part here e = cc
 cut_alike : (scenario : ScenarioLists) (past one other : List Entry) (part here : Part) (c : IsDrainCutOff scenario past part one) (d : IsDrainCutOff scenario past here other) (more : List Entry) → past ++ (d.added ++ d.next ∷ d.later) ≡ (past ++ (c.added ++ c.next ∷ c.later)) ++ more → IsOne part here one other
 cut_alike scenario past one other part here c d more e =
     let whole : past ++ (c.added ++ c.next ∷ (c.later ++ more)) ≡ past ++ (d.added ++ d.next ∷ d.later) =
-        sym (e ∙ (append_assoc past (c.added ++ c.next ∷ c.later) more ∙ ap (λ (xs : List Entry). past ++ xs) (append_assoc c.added (c.next ∷ c.later) more))) in
+    sym (e ∙ (append_assoc past (c.added ++ c.next ∷ c.later) more ∙ ap (λ (xs : List Entry). past ++ xs) (append_assoc c.added (c.next ∷ c.later) more))) in
     let lists : c.added ++ c.next ∷ (c.later ++ more) ≡ d.added ++ d.next ∷ d.later = cancelled past (c.added ++ c.next ∷ (c.later ++ more)) (d.added ++ d.next ∷ d.later) whole in
     let full_c : Meets scenario (past ++ c.added) c.next part = ap (λ (xs : List Entry). full_for scenario xs c.next) (sym c.made) ∙ c.full in
     let full_d : Meets scenario (past ++ d.added) d.next here = ap (λ (xs : List Entry). full_for scenario xs d.next) (sym d.made) ∙ d.full in
