@@ -1,12 +1,12 @@
 -- What a body is after a free slot took a message.
-use Rattle.std.proofs.Common.{◌≡◌, ℕ, ◌+◌, ◌<◌, Bool, true, false, List, [], ◌∷◌, ◌++◌, length, map, drop, refl, sym, ap, ◌∙◌, subst, arith}
+use Rattle.std.proofs.Common.{◌≡◌, ℕ, ◌<◌, true, false, List, [], ◌∷◌, ◌++◌, length, drop, refl, sym, ap, ◌∙◌, subst, arith}
 use Rattle.std.proofs.lemmas.List.{length-map}
 use Rattle.am_names.specs.Names.{has_serial, is_answer, is_request}
 use Rattle.am_names.specs.declared.Serial.{Serial}
 use Rattle.am_names.specs.declared.Message.{Message}
 use Rattle.am_names.specs.declared.Tag.{Tag}
 use Rattle.am_office.specs.declared.HandlerKind.{HandlerKind}
-use Rattle.am_block.specs.Pools.{Pools, IsBlock, size, total, without}
+use Rattle.am_block.specs.Pools.{Pools, IsBlock, size, without}
 use Rattle.am_block.specs.declared.Descriptor.{Descriptor}
 use Rattle.am_block.specs.declared.List.TheVariants.{Requests, Replies, InFlight, Notices, Received}
 use Rattle.am_model.specs.declared.Flying.{Flying}
@@ -23,7 +23,7 @@ use Rattle.am_body.specs.declared.walks.Sought.TheVariants as Soughts
 use Rattle.am_body.specs.Kept.{IsSound, view_of}
 use Rattle.am_body.specs.declared.Body.TheInside.{Inside}
 use Rattle.am_body.specs.Views.{View, body_over, descriptor_at, flying_in, message_in, notice_in, queued_in, seen, slots_held}
-use Rattle.am_body.proofs.Seen.{IsFree, first_free, grown, kept, none-seen, without-front, without-seen}
+use Rattle.am_body.proofs.Seen.{first_free, grown, kept, none-seen, without-front, without-seen}
 
 -- a body with other lists
 abbrev pub with_lists : Body → List Queued → List Queued → List Flying → List Notice → List Message → Body
@@ -131,7 +131,7 @@ held_before : (i : Inside) (v : View) → view_of i ≡ v → slots_held v.body 
 held_before i v e h = subst (λ (w : View). slots_held w.body < 80) (sym e) h
 
 -- a body with another block, where its new view is known
-viewed : (i : Inside) (v : View) (q r : Pools) (change : Body → Body) → view_of i ≡ v → q ≡ r → (view_of (record i { block = r })).body ≡ change (view_of i).body → view_of (record i { block = q }) ≡ record v { body = change v.body }
+pub viewed : (i : Inside) (v : View) (q r : Pools) (change : Body → Body) → view_of i ≡ v → q ≡ r → (view_of (record i { block = r })).body ≡ change (view_of i).body → view_of (record i { block = q }) ≡ record v { body = change v.body }
 viewed i v q r change e is to =
     ap (λ (p : Pools). view_of (record i { block = p })) is ∙ ap (λ (b : Body). record (view_of i) { body = b }) to ∙ ap (λ (w : View). record w { body = change w.body }) e
 

@@ -3,3 +3,4 @@ pub mod Filed
 pub mod Walking
 pub mod Counted
 pub mod Gone
+pub mod Marked

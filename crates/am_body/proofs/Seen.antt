@@ -1,7 +1,7 @@
 -- The descriptors of some slots, where one of them is written.
 use Rattle.std.specs.Prelude.{slice_get, slice_set, not}
 use Rattle.std.proofs.lemmas.Option.{get_or_from_slice_get}
-use Rattle.std.proofs.Common.{suc, Option, Some, None, sym, true≢false, ◌≡◌, ℕ, ◌+◌, ◌<◌, ◌≤◌, ◌==◌, Bool, true, false, cond, List, [], ◌∷◌, ◌++◌, length, map, refl, ap, ◌∙◌, arith}
+use Rattle.std.proofs.Common.{suc, Some, None, sym, true≢false, ◌≡◌, ℕ, ◌+◌, ◌<◌, ◌≤◌, ◌==◌, Bool, true, false, cond, List, [], ◌∷◌, ◌++◌, length, refl, ap, ◌∙◌, arith}
 use Rattle.std.specs.List.{count_by, find, remove}
 use Rattle.std.specs.Option.{option_map}
 use Rattle.std.proofs.lemmas.List.Sums.{sum_by-cons}
@@ -10,7 +10,7 @@ use Rattle.am_model.proofs.Records.{found_is}
 use Rattle.std.proofs.lemmas.Bool.{eqb-false, eqb-true}
 use Rattle.std.proofs.lemmas.List.{get_or-set_same, get_or-set_other, map-append}
 use Rattle.am_block.specs.declared.Descriptor.{Descriptor}
-use Rattle.am_block.specs.Pools.{Pools, IsBlock, place, size, slots, standings, times, without}
+use Rattle.am_block.specs.Pools.{Pools, IsBlock, place, size, slots, times, without}
 use Rattle.am_block.specs.declared.List.{List as Which}
 use Rattle.am_block.proofs.Moves.{times-le-standings}
 use Rattle.am_block.specs.declared.List.TheVariants.{Free}

@@ -1,17 +1,17 @@
 -- A walk along a list of a block.
 use Rattle.std.specs.Prelude.{slice_get}
-use Rattle.std.proofs.Common.{◌≡◌, ℕ, ◌+◌, ◌<◌, ◌≤◌, Bool, true, false, cond, List, [], ◌∷◌, length, drop, suc, Option, None, Some, refl, sym, ap, ◌∙◌, subst, arith}
+use Rattle.std.proofs.Common.{◌≡◌, ℕ, ◌+◌, ◌≤◌, Bool, true, false, cond, List, ◌∷◌, length, Option, None, Some, refl, sym, ap, ◌∙◌, subst, arith}
 use Rattle.std.specs.List.{count_by, find}
 use Rattle.std.proofs.lemmas.List.Sums.{sum_by-cons, count_by-le-length}
 use Rattle.std.proofs.lemmas.Option.{get_or_from_slice_get}
 use Rattle.am_block.specs.declared.Descriptor.{Descriptor}
 use Rattle.am_block.specs.declared.List.{List as Which}
 use Rattle.am_block.specs.declared.Slot.{Slot}
-use Rattle.am_block.specs.Pools.{Pools, IsBlock, slots, total}
-use Rattle.am_block.specs.Walk.{StandsIn, from_slot}
+use Rattle.am_block.specs.Pools.{Pools, IsBlock, slots}
+use Rattle.am_block.specs.Walk.{StandsIn}
 use Rattle.am_block.proofs.Moves.{length-le-total}
 use Rattle.am_body.specs.declared.walks.Sought.{Sought}
-use Rattle.am_body.specs.Views.{blank, descriptor_at}
+use Rattle.am_body.specs.Views.{blank}
 use Rattle.am_body.specs.Walks.{is_sought, is_sought_at}
 
 pub find-here : (g : ℕ → Bool) (ys : List ℕ) (s : ℕ) (zs : List ℕ) → ys ≡ s ∷ zs → g s ≡ true → find g ys ≡ Some s

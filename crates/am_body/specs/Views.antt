@@ -11,7 +11,8 @@ use Rattle.am_model.specs.declared.Flying.{Flying}
 use Rattle.am_model.specs.declared.Notice.{Notice}
 use Rattle.am_model.specs.declared.Queued.{Queued}
 use Rattle.am_model.specs.Calls.{messages_held}
-use Rattle.am_model.specs.Endpoint.{Body}
+use Rattle.am_office.specs.declared.Place.TheVariants.{Host}
+use Rattle.am_model.specs.Endpoint.{Body, State, fresh}
 use Rattle.am_translate.specs.Tables.{Table}
 
 -- the credits that the indexes share, if they share any, and the body
@@ -78,3 +79,7 @@ body_over tag sum accepted table handlers p =
 -- how many slots hold a message
 abbrev pub slots_held : Body → ℕ
 slots_held b = messages_held b + length b.received
+
+-- an endpoint on the host that has this body
+abbrev pub on_host : Body → State
+on_host b = record { head = (fresh b.tag Host).head; body = b }

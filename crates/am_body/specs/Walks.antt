@@ -1,5 +1,6 @@
 -- What is looked for in a list of a block.
-use Rattle.std.specs.Prelude.{ℕ, Bool, Option, None, Some}
+use Rattle.std.specs.Prelude.{ℕ, Bool, ◌||◌, Option, None, Some, List, [], ◌∷◌, slice_set}
+use Rattle.am_names.specs.declared.Serial.{Serial}
 use Rattle.am_names.specs.Names.{has_serial, is_answer, is_request}
 use Rattle.am_block.specs.Pools.{Pools, moved}
 use Rattle.am_block.specs.declared.Descriptor.{Descriptor}
@@ -21,3 +22,12 @@ is_sought_at sought p s = is_sought sought (descriptor_at p.descriptors s)
 abbrev pub taken_out : Pools → Which → Option ℕ → Pools
 taken_out p from None = p
 taken_out p from (Some s) = moved p from s Free
+
+-- the descriptor, as answered where its message has this serial
+abbrev pub answered_by : Serial → Descriptor → Descriptor
+answered_by request d = record d { answered = d.answered || has_serial request d.message }
+
+-- the descriptors, where those of these slots that have this serial are answered
+abbrev pub answered_at : Serial → List ℕ → List Descriptor → List Descriptor
+answered_at request [] ds = ds
+answered_at request (s ∷ xs) ds = answered_at request xs (slice_set ds s (answered_by request (descriptor_at ds s)))

@@ -1,11 +1,11 @@
 // Messages of its own that an endpoint has in flight.
 ghost use Rattle.am_body.specs.Views.{flying_in, slots_held};
-ghost use Rattle.am_model.specs.Changes.{flying_of, landed};
-ghost use Rattle.std.specs.Prelude.{◌≡◌, ◌<◌, [], ◌∷◌, ◌++◌, false, length};
+ghost use Rattle.am_model.specs.Changes.{flying_of, landed, marked};
+ghost use Rattle.std.specs.Prelude.{◌≡◌, ◌<◌, [], ◌∷◌, ◌++◌, false, length, map};
 
 use crate::Body;
 use crate::moves::file_free;
-use crate::walks::{Sought, find, free_found};
+use crate::walks::{Sought, answer_flights, find, free_found};
 use am_block::{Descriptor, List};
 use am_model::Flying;
 use am_names::{Message, Serial, Why};
@@ -57,5 +57,12 @@ impl Body {
             why: Why::Unknown,
         };
         file_free(&mut self.block, List::InFlight, descriptor);
+    }
+
+    /// The request is answered, where it is in flight.
+    pub fn mark_answered(&mut self, request: Serial)
+        ensures { self.new ≡ record self.old { body = record self.old.body { in_flight = map (marked request) self.old.body.in_flight } } }
+    {
+        answer_flights(&mut self.block, request);
     }
 }

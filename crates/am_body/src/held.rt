@@ -1,13 +1,11 @@
-// What an endpoint holds, in numbers, and the records of its requests.
+// What an endpoint holds, in numbers.
 ghost use Rattle.am_model.specs.Calls.{messages_held};
-ghost use Rattle.am_model.specs.Changes.{not_awaited};
 ghost use Rattle.am_model.specs.Endpoint.{replies_held, requests_held};
 ghost use Rattle.std.specs.Prelude.{◌≡◌, ◌+◌, ◌≤◌};
 
 use crate::Body;
 use crate::walks::{Sought, count};
 use am_block::List;
-use am_names::Serial;
 
 impl Body {
     /// How many messages of its own are queued, in flight or noticed.
@@ -40,15 +38,5 @@ impl Body {
         let flying = count(&self.block, List::InFlight, Sought::Answer);
         let back = count(&self.block, List::Notices, Sought::Answer);
         queued + flying + back
-    }
-
-    /// The waiting record of a request, if there is one, goes.
-    pub fn give_up(&mut self, request: Serial)
-        ensures { self.new ≡ record self.old { body = record self.old.body { awaited = not_awaited request self.old.body.awaited } } }
-    {
-        match self.translate.give_up(request) {
-            Ok(()) => {}
-            Err(_) => {}
-        }
     }
 }

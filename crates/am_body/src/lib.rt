@@ -4,12 +4,15 @@
 ghost use Rattle.am_model.specs.Endpoint.{fresh};
 ghost use Rattle.std.specs.Prelude.{◌≡◌, IfOk};
 
+mod changes;
 mod flights;
 mod held;
 mod moves;
 mod notices;
 mod queues;
 mod received;
+mod records;
+mod runs;
 mod settings;
 mod walks;
 

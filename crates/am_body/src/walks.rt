@@ -1,6 +1,6 @@
 // Walks along a list of a block.
 ghost use Rattle.am_block.specs.Pools.{IsBlock, size, slots};
-ghost use Rattle.am_body.specs.Walks.{is_sought, is_sought_at, taken_out};
+ghost use Rattle.am_body.specs.Walks.{answered_at, answered_by, is_sought, is_sought_at, taken_out};
 ghost use Rattle.am_names.specs.Names.{has_serial};
 ghost use Rattle.std.specs.List.{find};
 ghost use Rattle.std.specs.Option.{option_map};
@@ -80,5 +80,29 @@ pub(crate) fn free_found(block: &mut Block, from: List, sought: Sought)
     match find(block, from, sought) {
         None => {}
         Some(slot) => block.move_slot(slot, List::Free),
+    }
+}
+
+/// The descriptor, as answered where its message has this serial.
+fn as_answered(request: Serial, descriptor: Descriptor) -> Descriptor
+    ensures { result ≡ answered_by request descriptor }
+{
+    Descriptor {
+        answered: descriptor.answered || has_serial(request, &descriptor.message),
+        ..descriptor
+    }
+}
+
+/// Each message in flight that has this serial is answered from now on.
+pub(crate) fn answer_flights(block: &mut Block, request: Serial)
+    ensures answered { block.new ≡ record block.old { descriptors = answered_at request block.old.in_flight block.old.descriptors } }
+    ensures block { IsBlock block.new }
+    ensures size { size block.new ≡ size block.old }
+{
+    let mut next = block.front(List::InFlight);
+    while let Some(slot) = next {
+        let answered = as_answered(request, *block.get(slot));
+        *block.get_mut(slot) = answered;
+        next = block.after(slot);
     }
 }

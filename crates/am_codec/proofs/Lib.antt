@@ -1,2 +1,5 @@
 mod Turns
 mod Loop
+mod Shares
+mod Validity
+mod Decoding

@@ -1,5 +1,5 @@
 -- Which lists of a body have few enough elements to be counted in a byte.
-use Rattle.std.specs.Prelude.{ℕ, ◌<◌, length}
+use Rattle.std.specs.Prelude.{◌<◌, length}
 use Rattle.am_model.specs.Endpoint.{Body}
 
 -- the lists that an image counts have fewer than 256 elements

@@ -1,3 +1,5 @@
 pub mod Answers
 pub mod Counts
 pub mod Lists
+pub mod Tests
+pub mod Decodes

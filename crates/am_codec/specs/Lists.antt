@@ -1,5 +1,4 @@
 -- A body as lists, and which lists have few enough elements to be counted in a byte.
-use Rattle.std.specs.Prelude.{ℕ, ◌<◌, length}
 use Rattle.am_model.specs.Endpoint.{Body}
 use Rattle.am_image.specs.Reading.{body_of}
 use Rattle.am_codec.specs.declared.lists.BodyLists.TheInside.{Inside}

@@ -4,9 +4,14 @@
 mod fault;
 mod lists;
 mod many;
+mod messages;
 mod part;
 mod reading;
+mod valid;
 mod writing;
 
 pub use fault::ReadFault;
 pub use lists::BodyLists;
+
+#[cfg(test)]
+mod tests;

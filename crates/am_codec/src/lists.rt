@@ -1,5 +1,6 @@
 ghost use Rattle.am_codec.specs.Answers.{Finds};
 ghost use Rattle.am_codec.specs.Counts.{AreCounted};
+ghost use Rattle.am_codec.specs.Decodes.{Decodes};
 ghost use Rattle.am_image.specs.Image.{image};
 ghost use Rattle.am_image.specs.Reading.{body_at, whole_body};
 ghost use Rattle.std.specs.Prelude.{◌≡◌, ◌++◌, IfOk, OnOk};
@@ -75,6 +76,31 @@ impl BodyLists {
         match put_image(&mut out, self) {
             Ok(()) => Ok(out),
             Err(_) => Err(NoMemory),
+        }
+    }
+}
+
+impl BodyLists {
+    /// The valid body of the endpoint, with this pool or none, whose image the bytes are. `None` exactly where there is
+    /// none.
+    pub fn decoded(
+        alloc: Global,
+        id: EndpointId,
+        pool: Option<u8>,
+        bytes: &[u8],
+    ) -> Result<Option<BodyLists>, NoMemory>
+        ensures { IfOk result (λ found. Decodes id pool bytes.now found) }
+    {
+        match take_whole(alloc, id, bytes) {
+            Err(ReadFault::NoMemory) => Err(NoMemory),
+            Err(ReadFault::NoBody) => Ok(None),
+            Ok(lists) => {
+                if lists.is_valid(id, pool) {
+                    Ok(Some(lists))
+                } else {
+                    Ok(None)
+                }
+            }
         }
     }
 }

@@ -1,13 +1,13 @@
 -- A drain is cut off in one way, and not where it has room.
 use Rattle.std.proofs.Common.{◌≡◌, ◌⊎◌, inl, inr, ⊎_elim, ℕ, zero, suc, List, [], ◌∷◌, ◌++◌, Option, Some, None, refl, sym, ◌∙◌, ap, subst, append_assoc, append-nil}
-use Rattle.std.specs.Prelude.{option_map, option_and_then}
+use Rattle.std.specs.Prelude.{option_and_then}
 use Rattle.am_office.specs.declared.Part.{Part}
 use Rattle.am_office.specs.declared.Entry.{Entry}
 use Rattle.am_scenario_types.specs.Lists.{ScenarioLists}
 use Rattle.am_model.proofs.Each.{each_at}
 use Rattle.am_drain.specs.Rules.{next_turn}
 use Rattle.am_drain.specs.Drain.{turn, after_turns}
-use Rattle.am_drain.specs.Cut.{full_for, HasRoom, IsDrainCutOff, IsDrainedWithRoom}
+use Rattle.am_drain.specs.Cut.{full_for, HasRoom, IsDrainCutOff}
 use Rattle.am_drain.specs.Laws.{CutIsDetermined}
 use Rattle.am_drain.proofs.Turns.{Extends, turns_extend}
 use Rattle.am_drain.proofs.Determined.{no_more}

@@ -1,5 +1,5 @@
 -- The events of a drain are those of a run.
-use Rattle.std.proofs.Common.{◌≡◌, List, [], ◌∷◌, ◌++◌, Bool, true, refl, sym, ◌∙◌, ap, subst}
+use Rattle.std.proofs.Common.{◌≡◌, List, [], ◌∷◌, ◌++◌, true, refl, sym, ◌∙◌, subst}
 use Rattle.std.specs.Prelude.{is_some}
 use Rattle.std.specs.List.{list_all}
 use Rattle.std.proofs.lemmas.Bool.{and_from}
@@ -15,7 +15,6 @@ use Rattle.am_drain.specs.declared.Turn.TheVariants.{Once, Make}
 use Rattle.am_drain.specs.Made.{next_entry}
 use Rattle.am_drain.specs.Drain.{after_turn}
 use Rattle.am_drain.specs.Laws.{EventsAreOfRun}
-use Rattle.am_drain.proofs.Quiet.{is_driven}
 use Rattle.am_drain.proofs.Turns.{Grows, turn_grows, event_of, over_turns, ready_keeps}
 use Rattle.am_drain.proofs.TurnKinds.{IsDueReceipt, Kind, Receipt, Plain, Call, kind_of}
 

@@ -1,5 +1,5 @@
 -- What a drain makes of a phase keeps the last tries for the end.
-use Rattle.std.proofs.Common.{◌≡◌, ℕ, List, [], ◌∷◌, ◌++◌, length, map, Option, Some, None, Bool, true, false, refl, sym, ◌∙◌, ap, subst, append-nil}
+use Rattle.std.proofs.Common.{◌≡◌, ℕ, List, [], ◌∷◌, ◌++◌, length, map, Option, None, Bool, true, false, refl, sym, ◌∙◌, ap, subst, append-nil}
 use Rattle.std.specs.Prelude.{◌||◌, not, is_some, is_none, filter, slice_get}
 use Rattle.std.specs.List.{cons_option}
 use Rattle.am_names.specs.declared.NodeId.{NodeId}
@@ -8,7 +8,7 @@ use Rattle.am_office.specs.declared.Event.{Event}
 use Rattle.am_office.specs.declared.Event.TheVariants as Events
 use Rattle.am_office.specs.declared.Outcome.{Outcome}
 use Rattle.am_office.specs.declared.Entry.{Entry}
-use Rattle.am_office.specs.Entries.{emitted_in, emitted_of}
+use Rattle.am_office.specs.Entries.{emitted_in}
 use Rattle.am_model.specs.Channels.{emitted, is_on_link}
 use Rattle.am_model.specs.History.{EachAfter}
 use Rattle.am_model.proofs.Each.{each_push}
@@ -19,12 +19,11 @@ use Rattle.am_scripts.specs.Links.{first_some, nodes_of, number_received, receiv
 use Rattle.am_scripts.specs.Follows.{driver_of, is_last_in, is_last, KeepsLastTries}
 use Rattle.am_scripts.proofs.Links.{emitted_push, received_push}
 use Rattle.am_drain.specs.declared.Turn.{Turn}
-use Rattle.am_drain.specs.declared.Turn.TheVariants.{Once}
 use Rattle.am_drain.specs.Made.{next_entry}
 use Rattle.am_drain.specs.Drain.{after_turn}
 use Rattle.am_drain.specs.Laws.{LastTriesComeLast}
 use Rattle.am_drain.proofs.Quiet.{is_driven}
-use Rattle.am_drain.proofs.Turns.{Grows, turn_grows, event_of, IsTurnBy, over_turns, ready_keeps}
+use Rattle.am_drain.proofs.Turns.{Grows, turn_grows, event_of, over_turns, ready_keeps}
 use Rattle.am_drain.proofs.TurnKinds.{IsDueReceipt, Kind, Receipt, Plain, Call, kind_of}
 
 -- an entry is none of those that are left to the end, or all was received before it

@@ -1,22 +1,20 @@
 -- The drain receives each packet in its turn.
-use Rattle.std.proofs.Common.{◌≡◌, List, [], ◌∷◌, ◌++◌, Bool, true, refl, sym, subst}
+use Rattle.std.proofs.Common.{◌≡◌, List, [], ◌∷◌, ◌++◌, true, sym, subst}
 use Rattle.std.specs.Prelude.{is_some}
 use Rattle.am_office.specs.declared.Event.{Event}
 use Rattle.am_office.specs.declared.Event.TheVariants as Events
 use Rattle.am_office.specs.declared.Entry.{Entry}
-use Rattle.am_model.specs.History.{EachAfter}
 use Rattle.am_model.proofs.Each.{each_push}
 use Rattle.am_scenario_types.specs.Lists.{ScenarioLists}
 use Rattle.am_follow.specs.Layout.{layout_of}
 use Rattle.am_scripts.specs.Links.{IsReceiptInOrder, ReceivesInOrder}
 use Rattle.am_scripts.specs.Follows.{driver_of}
 use Rattle.am_drain.specs.declared.Turn.{Turn}
-use Rattle.am_drain.specs.declared.Turn.TheVariants.{Once, Make}
+use Rattle.am_drain.specs.declared.Turn.TheVariants.{Make}
 use Rattle.am_drain.specs.Made.{next_entry}
 use Rattle.am_drain.specs.Drain.{after_turn}
 use Rattle.am_drain.specs.Laws.{ReceiptsGoOn}
-use Rattle.am_drain.proofs.Quiet.{is_driven}
-use Rattle.am_drain.proofs.Turns.{Grows, turn_grows, event_of, IsTurnBy, TurnKeeps, over_turns, ready_keeps}
+use Rattle.am_drain.proofs.Turns.{Grows, turn_grows, event_of, over_turns, ready_keeps}
 use Rattle.am_drain.proofs.TurnKinds.{IsDueReceipt, IsNoReceipt, Kind, Receipt, Plain, Call, kind_of}
 
 no_receipt : (scenario : ScenarioLists) (past : List Entry) (event : Event) → IsNoReceipt event → IsReceiptInOrder scenario past event

@@ -1,6 +1,6 @@
 -- Where no rule of the drain applies, all is at rest.
 use Rattle.std.proofs.Common.{◌≡◌, ℕ, ◌+◌, List, [], ◌∷◌, length, map, Option, Some, None, Bool, true, false, refl, ap, subst, cond, arith, eqb-true}
-use Rattle.std.specs.Prelude.{◌==◌, ◌&&◌, ◌||◌, not, nat_lt, is_some, find, count_by, filter_map, fold, slice_get, option_map}
+use Rattle.std.specs.Prelude.{◌==◌, ◌||◌, not, nat_lt, is_some, find, count_by, filter_map, fold, slice_get, option_map}
 use Rattle.std.specs.List.{list_all, range_with_len, cons_option, AllByRecursion}
 use Rattle.std.proofs.lemmas.Bool.{and_parts, and_from}
 use Rattle.am_names.specs.declared.NodeId.{NodeId}
@@ -14,7 +14,7 @@ use Rattle.am_scenario_types.specs.declared.parts.ThreadLine.{ThreadLine}
 use Rattle.am_scenario_types.specs.declared.parts.ScriptCall.{ScriptCall}
 use Rattle.am_scenario_types.specs.Lists.{ScenarioLists}
 use Rattle.am_follow.specs.Layout.{layout_of}
-use Rattle.am_scripts.specs.Links.{first_some, nodes_of, next_receipt, EachLink}
+use Rattle.am_scripts.specs.Links.{first_some, nodes_of, next_receipt}
 use Rattle.am_scripts.specs.Scripts.{calls_of, call_left}
 use Rattle.am_scripts.specs.Standings.{Standing, standings, is_standing_of, is_missed, holds_nothing, is_idle}
 use Rattle.am_scripts.proofs.Lists.{first_none, none_mapped, none_all, found_in, found_true}

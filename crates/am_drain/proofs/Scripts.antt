@@ -1,5 +1,5 @@
 -- The drain goes on with each thread's script.
-use Rattle.std.proofs.Common.{◌≡◌, ℕ, List, [], ◌∷◌, ◌++◌, length, take, Option, Some, None, Bool, true, false, refl, sym, ◌∙◌, ap, subst, cond, append-nil, eqb-true}
+use Rattle.std.proofs.Common.{◌≡◌, ℕ, List, [], ◌∷◌, ◌++◌, length, Option, Some, None, Bool, true, false, refl, sym, ◌∙◌, ap, subst, cond, append-nil, eqb-true}
 use Rattle.std.specs.Prelude.{◌==◌, is_some, filter, filter_map, slice_get}
 use Rattle.std.specs.List.{AllByRecursion, cons_option}
 use Rattle.std.proofs.lemmas.List.Elements.{filter-append, filter_map-append}
@@ -18,9 +18,9 @@ use Rattle.am_drain.specs.declared.Turn.TheVariants.{Once, Make}
 use Rattle.am_drain.specs.Made.{next_entry}
 use Rattle.am_drain.specs.Drain.{after_turn}
 use Rattle.am_drain.specs.Laws.{ScriptsGoOn}
-use Rattle.am_drain.proofs.Quiet.{is_driven, Quiet}
-use Rattle.am_drain.proofs.Turns.{Grows, turn_grows, event_of, IsTurnBy, over_turns, ready_keeps}
-use Rattle.am_drain.proofs.TurnKinds.{IsDueReceipt, IsCallDue, IsDueMake, Kind, Receipt, Plain, Call, kind_of}
+use Rattle.am_drain.proofs.Quiet.{Quiet}
+use Rattle.am_drain.proofs.Turns.{Grows, turn_grows, event_of, over_turns, ready_keeps}
+use Rattle.am_drain.proofs.TurnKinds.{IsDueReceipt, IsCallDue, Kind, Receipt, Plain, Call, kind_of}
 
 calls_push : (thread : ℕ) (past : List Entry) (x : Entry) (o : Option ScriptCall) → call_made x.event ≡ o → calls_of thread (past ++ x ∷ []) ≡ calls_of thread past ++ filter (is_of_thread thread) (cons_option o [])
 calls_push thread past x o is =

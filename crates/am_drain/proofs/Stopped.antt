@@ -1,5 +1,5 @@
 -- A drain that is cut off after a good phase is stopped for the part.
-use Rattle.std.proofs.Common.{◌≡◌, ℕ, ◌≤◌, List, [], ◌∷◌, ◌++◌, length, Option, Some, None, Bool, true, false, refl, sym, ◌∙◌, ap, subst, arith, eq-eqb}
+use Rattle.std.proofs.Common.{◌≡◌, ℕ, ◌≤◌, List, [], ◌∷◌, length, Option, Some, None, Bool, true, false, refl, ◌∙◌, ap, subst, arith, eq-eqb}
 use Rattle.std.specs.Prelude.{◌||◌, nat_lt, nat_le, filter, count_by, if◌then◌else◌}
 use Rattle.std.specs.List.{list_any}
 use Rattle.std.proofs.lemmas.Bool.{leb-true}
@@ -11,7 +11,6 @@ use Rattle.am_office.specs.declared.Part.{Part}
 use Rattle.am_office.specs.declared.Part.TheVariants as Parts
 use Rattle.am_office.specs.declared.Entry.{Entry}
 use Rattle.am_office.specs.Entries.{ends_touched, node_touched, is_node, touches, touches_node}
-use Rattle.am_model.specs.Layout.{Layout}
 use Rattle.am_model.specs.Steps.{is_end_full, is_node_full, lesser, least_such, full_by}
 use Rattle.am_model.proofs.Names.{same_end-refl}
 use Rattle.am_scenario_types.specs.Lists.{ScenarioLists}

@@ -3,7 +3,6 @@ use Rattle.std.proofs.Common.{◌≡◌, ℕ, zero, suc, List, [], ◌∷◌, ma
 use Rattle.std.specs.Prelude.{◌==◌, ◌||◌, nat_lt, filter, filter_map, find, fold, slice_get, option_map, MatchOption, if◌then◌else◌}
 use Rattle.std.specs.List.{list_any, cons_option, range_with_len, AllByRecursion}
 use Rattle.am_names.specs.declared.NodeId.{NodeId}
-use Rattle.am_office.specs.declared.Actor.TheVariants.{Thread}
 use Rattle.am_office.specs.declared.Event.{Event}
 use Rattle.am_office.specs.declared.Event.TheVariants as Events
 use Rattle.am_office.specs.declared.Entry.{Entry}
@@ -15,11 +14,11 @@ use Rattle.am_scenario_types.specs.declared.parts.ScriptCall.{ScriptCall}
 use Rattle.am_scenario_types.specs.Lists.{ScenarioLists}
 use Rattle.am_follow.specs.Layout.{layout_of}
 use Rattle.am_scripts.specs.Links.{first_some, nodes_of, due, receipt, receipt_at, next_receipt}
-use Rattle.am_scripts.specs.Scripts.{call_made, is_of_thread, calls_of, script_of, call_left}
+use Rattle.am_scripts.specs.Scripts.{call_made, is_of_thread, calls_of, call_left}
 use Rattle.am_scripts.specs.Standings.{Standing, standings, is_missed}
 use Rattle.am_scripts.specs.Follows.{is_thread, is_of_run}
 use Rattle.am_drain.specs.declared.Turn.{Turn}
-use Rattle.am_drain.specs.declared.Turn.TheVariants.{Once, Send, Make}
+use Rattle.am_drain.specs.declared.Turn.TheVariants.{Once, Make}
 use Rattle.am_drain.specs.Rules.{time_out, time_out_to, time_out_at, next_time_out, page_in_of, next_page_in, next_sender, send_front, send_of, next_send, Left, left_after, left_to, fewer, make_of, next_call, poll_of, is_pollable, next_poll}
 use Rattle.am_drain.proofs.Turns.{IsTurnBy, Receives, TimesOut, PagesIn, Sends, Makes, Polls, event_of}
 

@@ -1,6 +1,6 @@
 -- A turn adds entries of drivers, and then the entry of its event. What each turn keeps, the drain keeps.
-use Rattle.std.proofs.Common.{◌≡◌, ℕ, zero, suc, ◌+◌, ◌<◌, List, [], ◌∷◌, ◌++◌, Option, Some, None, Bool, true, false, refl, sym, ◌∙◌, ap, subst, append_assoc, append-nil, length-append, arith}
-use Rattle.std.specs.Prelude.{◌&&◌, length, option_map, option_and_then}
+use Rattle.std.proofs.Common.{◌≡◌, ℕ, zero, suc, ◌+◌, ◌<◌, List, [], ◌∷◌, ◌++◌, Option, Some, None, true, refl, sym, ◌∙◌, ap, subst, append_assoc, append-nil, length-append, arith}
+use Rattle.std.specs.Prelude.{length, option_map, option_and_then}
 use Rattle.std.specs.List.{list_all}
 use Rattle.std.proofs.lemmas.Bool.{and_parts}
 use Rattle.am_office.specs.declared.Actor.TheVariants.{Thread}
@@ -11,14 +11,14 @@ use Rattle.am_model.specs.Layout.{Layout, home}
 use Rattle.am_scenario_types.specs.Lists.{ScenarioLists}
 use Rattle.am_follow.specs.Layout.{layout_of}
 use Rattle.am_scripts.specs.Links.{first_some, next_receipt}
-use Rattle.am_scripts.specs.Standings.{Standing, standings}
+use Rattle.am_scripts.specs.Standings.{standings}
 use Rattle.am_scripts.proofs.Lists.{some_mapped}
 use Rattle.am_drain.specs.declared.Turn.{Turn}
 use Rattle.am_drain.specs.declared.Turn.TheVariants.{Once, Send, Make}
 use Rattle.am_drain.specs.Made.{next_entry}
 use Rattle.am_drain.specs.Rules.{next_time_out, next_page_in, next_send, next_call, next_poll, next_turn}
 use Rattle.am_drain.specs.Ready.{ready, ready_dest, off_disk_at}
-use Rattle.am_drain.specs.Drain.{after_turn, turn, after_turns, IsDrained, DrainAdds}
+use Rattle.am_drain.specs.Drain.{after_turn, after_turns, DrainAdds}
 use Rattle.am_drain.specs.Laws.{TurnsMakeEntries}
 use Rattle.am_drain.proofs.Quiet.{is_driven, Quiet, same, then, ready-quiet, ready_dest-quiet, off_disk_at-quiet}
 

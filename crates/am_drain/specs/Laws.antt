@@ -1,5 +1,5 @@
 -- What is so of every drain.
-use Rattle.std.specs.Prelude.{◌≡◌, Bool, true, false, ◌==◌, Option, Some, None, List, ◌++◌, length, find, is_some, ◌<◌, ◌≤◌, count_by}
+use Rattle.std.specs.Prelude.{◌≡◌, Bool, true, ◌==◌, Option, Some, None, List, length, find, is_some, ◌<◌, ◌≤◌, count_by}
 use Rattle.std.specs.List.{list_all}
 use Rattle.am_office.specs.declared.Entry.{Entry}
 use Rattle.am_office.specs.declared.Part.{Part}
@@ -7,7 +7,7 @@ use Rattle.am_model.specs.declared.Queued.{Queued}
 use Rattle.am_model.specs.Endpoint.{front}
 use Rattle.am_scenario_types.specs.Lists.{ScenarioLists}
 use Rattle.am_follow.specs.Layout.{layout_of}
-use Rattle.am_scripts.specs.Links.{ReceivesInOrder, next_receipt}
+use Rattle.am_scripts.specs.Links.{ReceivesInOrder}
 use Rattle.am_scripts.specs.Scripts.{BeginsScripts}
 use Rattle.am_scripts.specs.Standings.{Standing, standings, is_standing_of, IsAtRest}
 use Rattle.am_scripts.specs.Follows.{KeepsLastTries, KeepsToEvents, IsPhase, touches_part}

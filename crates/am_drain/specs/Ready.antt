@@ -1,5 +1,5 @@
 -- Making endpoints ready to send and to receive: off disk, not draining, in a frame.
-use Rattle.std.specs.Prelude.{ℕ, zero, suc, ◌+◌, Bool, true, false, ◌&&◌, not, nat_lt, Option, Some, None, is_none, List, [], ◌∷◌, length, find, filter}
+use Rattle.std.specs.Prelude.{ℕ, zero, suc, ◌+◌, Bool, true, false, ◌&&◌, not, nat_lt, Option, Some, None, is_none, List, length, find, filter}
 use Rattle.std.specs.List.{list_any, range_with_len}
 use Rattle.am_names.specs.declared.EndpointId.{EndpointId}
 use Rattle.am_names.specs.declared.NodeId.{NodeId}

@@ -1,5 +1,5 @@
 -- The six rules of the drain, and the turn that the first of them gives.
-use Rattle.std.specs.Prelude.{ℕ, Bool, true, false, ◌==◌, ◌||◌, not, nat_lt, Option, Some, None, List, [], ◌∷◌, map, length, find, filter_map, count_by, fold, slice_get, option_map, if◌then◌else◌}
+use Rattle.std.specs.Prelude.{ℕ, Bool, false, ◌==◌, ◌||◌, not, nat_lt, Option, Some, None, List, [], ◌∷◌, map, length, find, filter_map, count_by, fold, slice_get, option_map, if◌then◌else◌}
 use Rattle.std.specs.List.{range_with_len}
 use Rattle.am_names.specs.declared.NodeId.{NodeId}
 use Rattle.am_names.specs.Names.{is_request}

@@ -21,7 +21,7 @@ mod settings;
 
 use crate::fields::Fields;
 pub use crate::settings::{EndFault, EndSettings};
-use am_model::Queued;
+use am_model::{Flying, Queued};
 pub use am_names::NoMemory;
 use am_names::{EndpointId, Message, NodeId, Serial, Verdict};
 use am_office::{Actor, Call, Entry, Event, Outcome, Place};
@@ -178,6 +178,14 @@ impl Endpoint {
         ensures { result ≡ is_some (flying_of serial (state_after self.now).body.in_flight) }
     {
         self.fields.flight(serial).is_some()
+    }
+
+    /// The message in flight with this serial, how often it bounced and whether its reply was put. None exactly where no
+    /// message with this serial is in flight.
+    pub fn flight(&self, serial: Serial) -> Option<Flying>
+        ensures { result ≡ flying_of serial (state_after self.now).body.in_flight }
+    {
+        self.fields.flight(serial)
     }
 
     /// How many messages are in flight.

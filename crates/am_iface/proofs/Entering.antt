@@ -147,3 +147,14 @@ entered_seen i v peer channel n m new x log seen is to on room made at one items
     let all = entered (settings_in i) i.ends.items i.emissions.items i.log.items peer channel n new x is to_here on_here room made_here at in
     subst (λ (k : ℕ). AreOfLog (settings_in i) (slice_set i.ends.items (4 * peer.0 + channel) new) (slice_set i.emissions.items peer.0 (n + k)) log) (sym one)
     (subst (λ (xs : List Entry). AreOfLog (settings_in i) (slice_set i.ends.items (4 * peer.0 + channel) new) (slice_set i.emissions.items peer.0 (n + bit (is_some (emitted_of x)))) xs) (sym items) all)
+
+-- the log is short
+pub log_within : (i : Inside) (v : InterfaceView) → view_of i ≡ v → IsCounted i → length v.log ≤ 65536
+log_within i v seen is = subst (λ (w : InterfaceView). length w.log ≤ 65536) seen (omega (arith, is.bounded, is.lawful.log))
+
+-- the ends of each channel are kept
+pub ends_within : (i : Inside) (v : InterfaceView) (peer : NodeId) (channel : ℕ) → view_of i ≡ v → IsCounted i → peer.0 < v.settings.nodes → channel < v.settings.channels → 4 * peer.0 + channel < length i.ends.items
+ends_within i v peer channel seen is to on =
+    let to_here : peer.0 < i.limits.nodes = subst (λ (w : InterfaceView). peer.0 < w.settings.nodes) (sym seen) to in
+    let on_here : channel < i.limits.channels = subst (λ (w : InterfaceView). channel < w.settings.channels) (sym seen) on in
+    omega (arith, is.all_ends, is.lawful.nodes, is.lawful.channels)

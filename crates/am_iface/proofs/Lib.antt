@@ -9,3 +9,5 @@ pub mod Frees
 pub mod Homes
 pub mod Settling
 pub mod GivingUp
+pub mod Binding
+pub mod Touching

@@ -22,6 +22,7 @@ use Rattle.am_office.specs.declared.Place.TheVariants.{Host}
 use Rattle.am_model.specs.Changes.{flying_of}
 use Rattle.am_model.specs.Channels.{Channel, Arrival, Stale, Again, Fresh, sequence, bound_message, attempt, arrival}
 use Rattle.am_model.specs.History.{channel_to, bounced, counts, decided, is_answered, next_number, sent, settle_by}
+use Rattle.am_block.specs.declared.Slot.{Slot}
 use Rattle.am_channel.specs.declared.ends.Ends.{Ends}
 use Rattle.am_channel.specs.declared.sending.Bound.{Bound}
 use Rattle.am_channel.specs.declared.sending.Settled.{Settled}
@@ -29,7 +30,7 @@ use Rattle.am_channel.specs.declared.sending.Settled.TheVariants as Settles
 use Rattle.am_channel.specs.declared.sending.TimedOut.{TimedOut}
 use Rattle.am_channel.specs.declared.sending.TimedOut.TheVariants as Times
 use Rattle.am_channel.specs.Sending.{bound_after, settled, settled_by, settled_if, timed_out}
-use Rattle.am_channel_laws.specs.Calls.{Arrive, Answer, TimeOut, Tells, TellsTimedOut, TellsTimeOut, after, arrived_as, settled_as, mark_later}
+use Rattle.am_channel_laws.specs.Calls.{Arrive, Answer, Bind, TimeOut, Tells, TellsTimedOut, TellsTimeOut, after, arrived_as, settled_as, mark_later}
 use Rattle.am_channel_laws.specs.Counted.{AreCounted}
 use Rattle.am_local.specs.declared.work.Work.TheVariants as Works
 use Rattle.am_local.specs.Interface.{InterfaceLog, channel_in, arrive_at, expire_at, failing_at, has_try_left, needs, needs_arrival, needs_bound, outcome_at, settle_at, settles}
@@ -191,4 +192,15 @@ fresh_made c log s p e new answer v x is on said leaves event outcome =
       call = Arrive p (verdict s p.message);
       tells = parcel_tells c s p e answer x on event outcome;
       leaves = leaves ∙ ap (λ (w : Verdict). after e (Arrive p w)) said;
+    }
+
+-- a bind's entry tells of a bind
+pub bind_made : (c : Channel) (log : List Entry) (e new : Ends) (m : Message) (slot : Slot) (end : EndpointId) (number : ℕ) (x : Entry) → AreCounted c log e → new ≡ after e (Bind m slot) → x.event ≡ Events.Bind c.node end → x.outcome ≡ Out.Sent m c.peer c.number (e.sending.seq + 1) 0 number → IsMade c log new x
+bind_made c log e new m slot end number x is leaves event outcome =
+    record {
+      old = e;
+      counted = is;
+      call = Bind m slot;
+      tells = record { end = end; number = number; event = event; outcome = outcome };
+      leaves = leaves;
     }

@@ -1,16 +1,17 @@
 -- What a turn with an endpoint answers, by what logging its entry answers.
 use Rattle.std.specs.Prelude.{◌↔◌, Result, Ok, Err, IfOk, OnOk, OnErr}
-use Rattle.std.proofs.Common.{◌≡◌, ◌≢◌, ⊎_elim, ℕ, ◌<◌, [], ◌∷◌, ◌++◌, length, Some, None, sym, ap, ◌∙◌, arith}
+use Rattle.std.proofs.Common.{◌≡◌, ◌≢◌, ⊎_elim, ℕ, ◌<◌, [], ◌∷◌, ◌++◌, length, Some, None, refl, sym, ap, ◌∙◌, arith}
 use Rattle.am_office.specs.declared.Condition.{Condition}
 use Rattle.am_office.specs.declared.Part.{Part}
 use Rattle.am_office.specs.declared.Entry.{Entry}
 use Rattle.am_office.specs.Entries.{emitted_of}
 use Rattle.am_endpoint.specs.View.{EndpointView, state_after}
+use Rattle.am_local.specs.Interface.{failing_at}
 use Rattle.am_local.specs.declared.work.Work.{Work}
 use Rattle.am_iface.specs.declared.Turned.{Turned}
 use Rattle.am_iface.specs.declared.IfaceFault.{IfaceFault}
 use Rattle.am_iface.specs.declared.IfaceFault.TheVariants as Faults
-use Rattle.am_iface.specs.View.{InterfaceView}
+use Rattle.am_iface.specs.View.{InterfaceView, own}
 use Rattle.am_iface.specs.With.{IsFullOf, TurnsWith}
 use Rattle.am_iface.proofs.Turning.{IsEntryOf}
 
@@ -62,4 +63,21 @@ turns_with old new e f stamp w x (Err fault) is enters follows =
       full = λ p. ((λ h. (is.enabled, (enters.full p).0 h)), (λ h. (enters.full p).1 h.1));
       err = enters.err;
       err_there = follows.err;
+    }
+
+-- a turn that a condition keeps from being made
+pub turns_with_by_failing : (old : InterfaceView) (e : EndpointView) (stamp : ℕ) (w : Work) (why : Condition) → failing_at (own old) (state_after e) w ≡ Some why → TurnsWith old old e e stamp w (Err (Faults.NotEnabled why))
+turns_with_by_failing old e stamp w why fails =
+    record {
+      event = tt;
+      outcome = tt;
+      stamped = tt;
+      out = tt;
+      logged = tt;
+      there = tt;
+      same = refl;
+      disabled = λ c. ((λ h. fails ∙ ap (λ (k : Condition). Some k) (let same : why ≡ c = cc in same)), (λ h. let same : why ≡ c = (let both : Some why ≡ Some c = sym fails ∙ h in cc) in ap (λ (k : Condition). Err (Faults.NotEnabled k)) same));
+      full = λ p. ((λ h. absurd (cc)), (λ h. absurd (let both : Some why ≡ None = sym fails ∙ h.0 in cc)));
+      err = refl;
+      err_there = refl;
     }

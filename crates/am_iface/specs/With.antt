@@ -6,11 +6,12 @@ use Rattle.am_office.specs.declared.Part.TheVariants as Parts
 use Rattle.am_office.specs.Entries.{emitted_of}
 use Rattle.am_endpoint.specs.View.{EndpointView, state_after}
 use Rattle.am_local.specs.declared.work.Work.{Work}
+use Rattle.am_local.specs.declared.work.Work.TheVariants as Works
 use Rattle.am_names.specs.declared.Message.{Message}
 use Rattle.am_model.specs.declared.Flying.{Flying}
 use Rattle.am_model.specs.declared.Queued.{Queued}
 use Rattle.am_model.specs.Changes.{flying_of}
-use Rattle.am_model.specs.Endpoint.{State}
+use Rattle.am_model.specs.Endpoint.{State, front}
 use Rattle.am_local.specs.Interface.{InterfaceLog, event_of, failing_at, home_in, outcome_at}
 use Rattle.am_iface.specs.declared.Turned.{Turned}
 use Rattle.am_iface.specs.declared.IfaceFault.{IfaceFault}
@@ -44,3 +45,9 @@ IsHomeKnown i (Some q) = IsSome (home_in i q.message.dest)
 abbrev pub IsFlightOf : State → Option Message → Flying → Type 0
 IsFlightOf s None flight = ⊥
 IsFlightOf s (Some m) flight = flying_of m.serial s.body.in_flight ≡ Some flight
+
+-- where the work is a bind, the front message's destination has a home
+abbrev pub KnowsHome : InterfaceLog → State → Work → Type 0
+KnowsHome i s (Works.Receive p) = Unit {0}
+KnowsHome i s (Works.Bind end) = IsHomeKnown i (front s)
+KnowsHome i s (Works.Expire peer channel) = Unit {0}

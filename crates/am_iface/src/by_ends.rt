@@ -5,10 +5,10 @@ ghost use Rattle.am_channel_laws.specs.Calls as Calls;
 ghost use Rattle.am_channel_laws.specs.Calls.{after};
 ghost use Rattle.am_local.specs.Interface.{answers_to, needs_arrival};
 ghost use Rattle.am_model.specs.Channels.{Fresh, arrival};
-ghost use Rattle.std.specs.Prelude.{◌≡◌, ◌≤◌, IfSome, IsSome};
+ghost use Rattle.std.specs.Prelude.{◌≡◌, ◌+◌, ◌-◌, ◌<◌, ◌≤◌, ◌^◌, IfSome, IsNone, IsSome};
 
-use am_channel::{Arrival, Ends, Settled, TimedOut};
-use am_names::{AnswerPacket, EndpointId, NodeId, Parcel, Verdict};
+use am_channel::{Arrival, Ends, Sent, Settled, Slot, TimedOut};
+use am_names::{AnswerPacket, EndpointId, Message, NodeId, Parcel, Verdict};
 
 /// The endpoint that a parcel touches.
 pub(crate) fn needs_parcel(ends: &Ends, p: &Parcel) -> Option<EndpointId>
@@ -94,4 +94,15 @@ pub(crate) fn answer(ends: &mut Ends, p: &AnswerPacket) -> Settled
     ensures after { ends.new ≡ after ends.old (Calls.Answer p.now) }
 {
     ends.sending.answer(p)
+}
+
+/// Binds a message under the next sequence, for its first try. It is found at its endpoint by its serial, so the slot says
+/// nothing.
+pub(crate) fn bind(ends: &mut Ends, message: Message) -> Sent
+    requires idle { IsNone ends.old.sending.bound }
+    requires room { ends.old.sending.seq < 2 ^ 32 - 1 }
+    ensures sent { result ≡ record { seq = ends.old.sending.seq + 1; attempt = 0 } }
+    ensures after { ends.new ≡ after ends.old (Calls.Bind message (record { 0 = 0 })) }
+{
+    ends.sending.bind(message, Slot(0))
 }

@@ -6,7 +6,7 @@ ghost use Rattle.am_model.specs.History.{decided, settle_by};
 ghost use Rattle.std.specs.Prelude.{◌≡◌, ◌≤◌, None, if◌then◌else◌};
 
 use am_channel::{Arrival, Ends, Sent};
-use am_names::{AnswerPacket, Message, NodeId, Parcel, Verdict};
+use am_names::{AnswerPacket, EndpointId, Message, NodeId, Parcel, Verdict};
 use am_office::{Entry, Event, Outcome, Received};
 
 /// What comes of a parcel that is stale or comes again.
@@ -154,5 +154,30 @@ pub(crate) fn give_up(
         } else {
             Outcome::Unknown(message.serial)
         },
+    }
+}
+
+/// A message goes out to a peer.
+pub(crate) fn sent(message: Message, peer: NodeId, channel: u8, sent: Sent, number: u32) -> Outcome
+    ensures { result ≡ Outcome.Sent message peer channel sent.seq sent.attempt number }
+{
+    Outcome::Sent {
+        message,
+        peer,
+        channel,
+        seq: sent.seq,
+        attempt: sent.attempt,
+        number,
+    }
+}
+
+/// The bind of an endpoint's front message, with what came of it.
+pub(crate) fn bind_entry(node: NodeId, stamp: u64, end: EndpointId, outcome: Outcome) -> Entry
+    ensures { result ≡ record { stamp = stamp; event = Event.Bind node end; outcome = outcome } }
+{
+    Entry {
+        stamp,
+        event: Event::Bind { node, end },
+        outcome,
     }
 }

@@ -3,13 +3,17 @@
 #![tactic(auto)]
 
 ghost use Rattle.am_iface.specs.Settings.{AreLawful};
+ghost use Rattle.am_endpoint.specs.View as endpoints;
+ghost use Rattle.am_endpoint.specs.View.{state_after};
 ghost use Rattle.am_iface.specs.Turns.{IsFull, Turns, stamp_after, stamp_in};
 ghost use Rattle.am_iface.specs.View.{FitsAnswer, FitsInterface, FitsParcel, InterfaceView, IsChannelOf, last_stamp, own};
+ghost use Rattle.am_iface.specs.With.{IsFullOf, KnowsHome};
 ghost use Rattle.am_channel.specs.declared.sending.Bound.{Bound};
 ghost use Rattle.am_channel_laws.specs.Counted.{AreCounted};
-ghost use Rattle.am_local.specs.Interface.{arrival_in, channel_in, emits_to, event_of, failing_at, needs, needs_arrival, outcome_at};
+ghost use Rattle.am_local.specs.Granted.{FitsEndpoint};
+ghost use Rattle.am_local.specs.Interface.{arrival_in, channel_in, emits_to, event_of, failing_at, home_in, needs, needs_arrival, outcome_at};
 ghost use Rattle.am_local.specs.declared.work.Work.TheVariants as Works;
-ghost use Rattle.am_model.specs.Endpoint.{State};
+ghost use Rattle.am_model.specs.Endpoint.{State, is_direct};
 ghost use Rattle.am_model.specs.History.{next_number};
 ghost use Rattle.am_names.specs.declared.Packet.TheVariants as Packets;
 ghost use Rattle.am_model.specs.Channels.{attempt, bound_message, emitted};
@@ -18,8 +22,9 @@ ghost use Rattle.am_iface.specs.Made.{IsMade, bit};
 ghost use Rattle.am_office.specs.Entries.{emitted_of};
 ghost use Rattle.am_office.specs.declared.Condition.{Condition};
 ghost use Rattle.am_office.specs.declared.Part.{Part};
-ghost use Rattle.std.specs.Prelude.{◌≡◌, ◌≢◌, ◌↔◌, ◌+◌, ◌<◌, ◌≤◌, ◌^◌, IsTrue, None, Some, [], ◌∷◌, ◌++◌, length, IfOk, IfSome, OnOk, OnErr, Err};
+ghost use Rattle.std.specs.Prelude.{◌≡◌, ◌≢◌, ◌↔◌, ◌+◌, ◌<◌, ◌≤◌, ◌^◌, IsTrue, false, max, None, Some, [], ◌∷◌, ◌++◌, length, IfOk, IfSome, OnOk, OnErr, Err};
 
+mod binds;
 mod by_ends;
 mod entries;
 mod opening;
@@ -36,6 +41,7 @@ pub use crate::settings::IfaceSettings;
 use crate::settings::Limits;
 pub use am_channel::Bound;
 use am_channel::{Ends, TimedOut};
+use am_endpoint::Endpoint;
 pub use am_local::work::Work;
 use am_names::{AnswerPacket, EndpointId, NodeId, Packet, Parcel};
 pub use am_office::NoMemory;
@@ -161,7 +167,7 @@ impl Interface {
     }
 
     /// The message that is bound to the channel's sending end, and the attempt of its last packet. None exactly where the
-    /// end is idle.
+    /// end is idle. The place of a bound message is found at its source by its serial: the slot says nothing of it.
     pub fn bound(&self, peer: NodeId, channel: u8) -> Option<Bound>
         requires peer { peer.0 < self.now.settings.nodes }
         requires channel { channel < self.now.settings.channels }
@@ -376,6 +382,45 @@ impl Interface {
     {
         let stamp = self.stamp_after(floor, work);
         self.work_alone(stamp, work)
+    }
+
+    /// Does a work that touches this endpoint, and logs its entry here and in the endpoint. Room is made in both logs first.
+    /// Where it answers no entry, neither log has changed.
+    pub fn turn_with(
+        &mut self,
+        floor: u64,
+        work: &Work,
+        endpoint: &mut Endpoint,
+    ) -> Result<Turned, IfaceFault>
+        requires fits { FitsInterface self.old work.now }
+        requires needs { needs (own self.old) work.now ≡ Some endpoint.old.settings.id }
+        requires home { home_in (own self.old) endpoint.old.settings.id ≡ Some endpoint.old.settings.node }
+        requires network { is_direct (state_after endpoint.old).head.place ≡ false }
+        requires bounces { endpoint.old.settings.bounces ≡ self.old.settings.bounces }
+        requires known { KnowsHome (own self.old) (state_after endpoint.old) work.now }
+        requires flies { FitsEndpoint (own self.old) (state_after endpoint.old) work.now }
+        requires floor { floor + 1 < 2 ^ 64 }
+        requires last { last_stamp self.old.log + 1 < 2 ^ 64 }
+        requires last_there { endpoints.last_stamp endpoint.old.log + 1 < 2 ^ 64 }
+        requires packet { stamp_in work.now + 1 < 2 ^ 64 }
+
+        // the one entry of the work at the endpoint's state, and its packet
+        ensures event { IfOk result (λ t. t.entry.event ≡ event_of self.old.settings.node work.now) }
+        ensures outcome { IfOk result (λ t. t.entry.outcome ≡ outcome_at (own self.old) (state_after endpoint.old) work.now) }
+        ensures stamp { IfOk result (λ t. t.entry.stamp ≡ stamp_after (max floor (endpoints.last_stamp endpoint.old.log)) self.old.log work.now) }
+        ensures out { IfOk result (λ t. t.out ≡ emitted_of t.entry) }
+        ensures logged { IfOk result (λ t. self.new ≡ record self.old { log = self.old.log ++ t.entry ∷ [] }) }
+        ensures logged_there { IfOk result (λ t. endpoint.new.log ≡ endpoint.old.log ++ t.entry ∷ []) }
+        ensures settings_there { endpoint.new.settings ≡ endpoint.old.settings }
+
+        // the first condition that fails, or the first full log where none does
+        ensures disabled { (c : Condition) → (result ≡ Err (IfaceFault.NotEnabled c)) ↔ (failing_at (own self.old) (state_after endpoint.old) work.now ≡ Some c) }
+        ensures full { (p : Part) → (result ≡ Err (IfaceFault.LogFull p)) ↔ ((failing_at (own self.old) (state_after endpoint.old) work.now ≡ None) × IsFullOf self.old endpoint.old p) }
+        ensures err { OnErr result (self.new ≡ self.old) }
+        ensures err_there { OnErr result (endpoint.new.log ≡ endpoint.old.log) }
+    {
+        let stamp = self.stamp_after(floor.max(endpoint.last_stamp()), work);
+        self.work_with(stamp, work, endpoint)
     }
 }
 

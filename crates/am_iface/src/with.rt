@@ -2,89 +2,30 @@
 ghost use Rattle.am_endpoint.specs.View.{state_after};
 ghost use Rattle.am_iface.specs.Made.{IsMade};
 ghost use Rattle.am_iface.specs.Turns.{IsFull};
-ghost use Rattle.am_iface.specs.View.{FitsAnswer, FitsParcel, IsChannelOf, own};
-ghost use Rattle.am_iface.specs.With.{IsFlightOf, IsFullOf, IsHomeKnown, TurnsWith};
-ghost use Rattle.am_local.specs.Interface.{channel_in, channel_of_front, failing_at, home_in, needs};
+ghost use Rattle.am_iface.specs.View.{FitsAnswer, FitsInterface, FitsParcel, IsChannelOf, own};
+ghost use Rattle.am_iface.specs.With.{IsFlightOf, IsFullOf, KnowsHome, TurnsWith};
+ghost use Rattle.am_local.specs.Granted.{FitsEndpoint, IsInFlight};
+ghost use Rattle.am_local.specs.Interface.{channel_in, home_in, needs};
 ghost use Rattle.am_model.specs.Channels.{bound_message};
-ghost use Rattle.am_model.specs.Endpoint.{front, is_direct, is_resident};
-ghost use Rattle.am_model.specs.History.{free_from};
+ghost use Rattle.am_model.specs.Endpoint.{is_direct};
 ghost use Rattle.am_local.specs.declared.work.Work.TheVariants as Works;
 ghost use Rattle.am_names.specs.declared.Packet.TheVariants as Packets;
 ghost use Rattle.am_office.specs.Entries.{emitted_of};
 ghost use Rattle.am_office.specs.declared.Condition.{Condition};
 ghost use Rattle.am_office.specs.declared.Part.{Part};
-ghost use Rattle.std.specs.Prelude.{◌≡◌, ◌≢◌, ◌↔◌, ◌<◌, Err, Some, [], ◌∷◌, ◌++◌, false, true, length, IfOk, IfSome, OnErr, OnOk};
+ghost use Rattle.std.specs.Prelude.{◌≡◌, ◌≢◌, ◌↔◌, ◌<◌, Err, Some, [], ◌∷◌, ◌++◌, false, true, length, IfOk, IsSome, OnErr, OnOk};
 
 use crate::by_ends::{answer, decide, time_out};
 use crate::entries::{answer_receipt, decided, give_up, parcel_receipt, settled_by};
 use crate::{IfaceFault, Interface, Turned};
 use am_channel::{Ends, Settled, TimedOut};
 use am_endpoint::{EndFault, Endpoint};
-use am_model::{Flying, Queued};
-use am_names::{AnswerPacket, EndpointId, NodeId, Parcel};
-use am_office::{Condition, Entry, Part, Place};
+use am_local::work::Work;
+use am_model::Flying;
+use am_names::{AnswerPacket, NodeId, Packet, Parcel};
+use am_office::{Entry, Part};
 
 impl Interface {
-    /// The node of an endpoint, if it is declared.
-    fn home(&self, end: EndpointId) -> Option<NodeId>
-        ensures home { result ≡ home_in (own self.now) end }
-        ensures within { IfSome result (λ node. node.0 < self.now.settings.nodes) }
-    {
-        self.homes[end.0 as usize]
-    }
-
-    /// The lowest free channel to a peer, if one is free.
-    fn free_channel(&self, peer: NodeId) -> Option<u8>
-        requires { peer.0 < self.now.settings.nodes }
-        ensures { result ≡ free_from self.now.settings.node peer self.now.log 0 self.now.settings.channels }
-    {
-        let channels = self.channels();
-        for channel in 0..channels {
-            if self.bound(peer, channel).is_none() {
-                return Some(channel);
-            }
-        }
-        None
-    }
-
-    /// The lowest free channel for an endpoint's front message, if there is one.
-    fn channel_for(&self, front: Option<Queued>) -> Option<u8>
-        requires { IsHomeKnown (own self.now) front }
-        ensures { result ≡ channel_of_front (own self.now) front }
-    {
-        match front {
-            Some(queued) => match self.home(queued.message.dest) {
-                Some(peer) => self.free_channel(peer),
-                None => None,
-            },
-            None => None,
-        }
-    }
-
-    /// The first condition that keeps an endpoint's front message from being bound.
-    fn disabled_bind(&self, end: EndpointId, endpoint: &Endpoint) -> Option<Condition>
-        requires { IsHomeKnown (own self.now) (front (state_after endpoint.now)) }
-        ensures { result ≡ failing_at (own self.now) (state_after endpoint.now) (Works.Bind end) }
-    {
-        if self.home(end) != Some(self.node()) {
-            return Some(Condition::OtherNode);
-        }
-        if !is_resident(endpoint.place()) {
-            return Some(Condition::NotResident);
-        }
-        if endpoint.draining() {
-            return Some(Condition::Draining);
-        }
-        let front = endpoint.front();
-        if front.is_none() {
-            return Some(Condition::NoMessage);
-        }
-        if self.channel_for(front).is_none() {
-            return Some(Condition::NoChannel);
-        }
-        None
-    }
-
     /// Makes room for one more entry in an endpoint's log and finds it in the interface's. Neither log changes.
     fn room_with(&self, endpoint: &mut Endpoint) -> Result<(), IfaceFault>
         ensures ready { OnOk result (endpoint.new.ready ≡ true) }
@@ -110,7 +51,7 @@ impl Interface {
 
     /// Logs the entry of a call on a channel, which leaves these ends, once there is room for it in both logs. The endpoint
     /// is as it was, and ready for the entry.
-    fn enter_with(
+    pub(crate) fn enter_with(
         &mut self,
         peer: NodeId,
         channel: u8,
@@ -232,14 +173,100 @@ impl Interface {
             Err(fault) => Err(fault),
         }
     }
-}
 
-/// Whether an endpoint that lies there is resident.
-fn is_resident(place: Place) -> bool
-    ensures { result ≡ is_resident place }
-{
-    match place {
-        Place::Frame(_) | Place::Direct => true,
-        Place::Host | Place::Disk => false,
+    /// The flight of a channel's bound message at its source.
+    fn flight(&self, peer: NodeId, channel: u8, endpoint: &Endpoint) -> Flying
+        requires on { IsChannelOf self.now.settings peer channel }
+        requires bound { IsSome (bound_message (channel_in (own self.now) peer channel) self.now.log) }
+        requires flies { IsInFlight (state_after endpoint.now) (bound_message (channel_in (own self.now) peer channel) self.now.log) }
+        ensures { IsFlightOf (state_after endpoint.now) (bound_message (channel_in (own self.now) peer channel) self.now.log) result }
+    {
+        let Some(bound) = self.bound(peer, channel) else {
+            unreachable!()
+        };
+        let Some(flight) = endpoint.flight(bound.message.serial) else {
+            unreachable!()
+        };
+        flight
+    }
+
+    /// Receives an answer that settles the bound message.
+    fn receive_answer(
+        &mut self,
+        stamp: u64,
+        p: &AnswerPacket,
+        endpoint: &mut Endpoint,
+    ) -> Result<Turned, IfaceFault>
+        requires fits { FitsAnswer self.old.settings p.now }
+        requires needs { needs (own self.old) (Works.Receive (Packets.Answer p.now)) ≡ Some endpoint.old.settings.id }
+        requires packet { is_direct (state_after endpoint.old).head.place ≡ false }
+        requires bounces { endpoint.old.settings.bounces ≡ self.old.settings.bounces }
+        requires flies { IsInFlight (state_after endpoint.old) (bound_message (channel_in (own self.old) p.now.from p.now.channel) self.old.log) }
+        ensures { TurnsWith self.old self.new endpoint.old endpoint.new stamp (Works.Receive (Packets.Answer p.now)) result }
+    {
+        let flight = self.flight(p.from, p.channel, endpoint);
+        self.receive_settling(stamp, p, flight, endpoint)
+    }
+
+    /// Receives a packet that touches an endpoint.
+    fn receive_with(
+        &mut self,
+        stamp: u64,
+        packet: Packet,
+        endpoint: &mut Endpoint,
+    ) -> Result<Turned, IfaceFault>
+        requires fits { FitsInterface self.old (Works.Receive packet) }
+        requires needs { needs (own self.old) (Works.Receive packet) ≡ Some endpoint.old.settings.id }
+        requires packet { is_direct (state_after endpoint.old).head.place ≡ false }
+        requires bounces { endpoint.old.settings.bounces ≡ self.old.settings.bounces }
+        requires flies { FitsEndpoint (own self.old) (state_after endpoint.old) (Works.Receive packet) }
+        ensures { TurnsWith self.old self.new endpoint.old endpoint.new stamp (Works.Receive packet) result }
+    {
+        match packet {
+            Packet::Parcel(p) => self.receive_fresh(stamp, &p, endpoint),
+            Packet::Answer(p) => self.receive_answer(stamp, &p, endpoint),
+        }
+    }
+
+    /// Lets a channel time out that has no try left.
+    fn give_up_with(
+        &mut self,
+        stamp: u64,
+        peer: NodeId,
+        channel: u8,
+        endpoint: &mut Endpoint,
+    ) -> Result<Turned, IfaceFault>
+        requires on { IsChannelOf self.old.settings peer channel }
+        requires needs { needs (own self.old) (Works.Expire peer channel) ≡ Some endpoint.old.settings.id }
+        requires packet { is_direct (state_after endpoint.old).head.place ≡ false }
+        requires bounces { endpoint.old.settings.bounces ≡ self.old.settings.bounces }
+        requires flies { IsInFlight (state_after endpoint.old) (bound_message (channel_in (own self.old) peer channel) self.old.log) }
+        ensures { TurnsWith self.old self.new endpoint.old endpoint.new stamp (Works.Expire peer channel) result }
+    {
+        let flight = self.flight(peer, channel, endpoint);
+        self.expire_with(stamp, peer, channel, flight, endpoint)
+    }
+
+    /// Does a work that touches this endpoint.
+    pub(crate) fn work_with(
+        &mut self,
+        stamp: u64,
+        work: &Work,
+        endpoint: &mut Endpoint,
+    ) -> Result<Turned, IfaceFault>
+        requires fits { FitsInterface self.old work.now }
+        requires needs { needs (own self.old) work.now ≡ Some endpoint.old.settings.id }
+        requires at { home_in (own self.old) endpoint.old.settings.id ≡ Some endpoint.old.settings.node }
+        requires packet { is_direct (state_after endpoint.old).head.place ≡ false }
+        requires bounces { endpoint.old.settings.bounces ≡ self.old.settings.bounces }
+        requires known { KnowsHome (own self.old) (state_after endpoint.old) work.now }
+        requires flies { FitsEndpoint (own self.old) (state_after endpoint.old) work.now }
+        ensures { TurnsWith self.old self.new endpoint.old endpoint.new stamp work.now result }
+    {
+        match *work {
+            Work::Receive(packet) => self.receive_with(stamp, packet, endpoint),
+            Work::Bind(_) => self.bind_with(stamp, endpoint),
+            Work::Expire { peer, channel } => self.give_up_with(stamp, peer, channel, endpoint),
+        }
     }
 }

@@ -6,7 +6,7 @@ ghost use Rattle.am_journal.specs.View.{AreNodes, HasRoomFor, is_ready_on, recei
 ghost use Rattle.am_local.specs.Readings.{page_calls};
 ghost use Rattle.am_model.specs.Channels.{emitted};
 ghost use Rattle.am_office.specs.Entries.{emitted_of};
-ghost use Rattle.std.specs.Prelude.{◌≡◌, ◌+◌, ◌<◌, ◌^◌, [], ◌∷◌, ◌++◌, length, true, IfOk, OnOk};
+ghost use Rattle.std.specs.Prelude.{◌≡◌, ◌+◌, ◌<◌, ◌^◌, [], ◌∷◌, ◌++◌, length, true, IfOk, IfSome, OnOk};
 
 mod links;
 mod places;
@@ -111,8 +111,22 @@ impl IndexedJournal {
         }
     }
 
+    /// Makes room for one more entry and for the packet that it emits on a link from a node, if it is to emit one.
+    pub fn room_to(&mut self, from: NodeId, to: Option<NodeId>) -> Result<(), NoMemory>
+        requires from { from.0 < 16 }
+        requires to { IfSome to (λ node. node.0 < 16) }
+        ensures entries { self.new.entries ≡ self.old.entries }
+        ensures ready { OnOk result (self.new.ready ≡ true) }
+        ensures link { OnOk result (IfSome to (λ node. is_ready_on self.new from node ≡ true)) }
+    {
+        match to {
+            Some(to) => self.room_on(from, to),
+            None => self.room(),
+        }
+    }
+
     /// Makes room for one more entry and for the packet that it emits on a link.
-    pub fn room_on(&mut self, from: NodeId, to: NodeId) -> Result<(), NoMemory>
+    fn room_on(&mut self, from: NodeId, to: NodeId) -> Result<(), NoMemory>
         requires from { from.0 < 16 }
         requires to { to.0 < 16 }
         ensures entries { self.new.entries ≡ self.old.entries }

@@ -31,7 +31,10 @@ use Rattle.am_laws_steps.specs.Laws.{AreBelow}
 use Rattle.am_machine.specs.declared.settings.Settings.{Settings}
 use Rattle.am_machine.specs.Carries.{is_place}
 use Rattle.am_machine.specs.Ends.{EndLog, is_of, kept, grown, logged_at}
-use Rattle.am_machine.specs.Kept.{IsOwn, IsTied, layout_in}
+use Rattle.am_iface.specs.View.{InterfaceView}
+use Rattle.am_machine.specs.Interfaces.{AreInterfaces}
+use Rattle.am_machine.proofs.InterfaceLogs.{interfaces_moved, interfaces_same}
+use Rattle.am_machine.specs.Kept.{IsKept, IsOwn, IsTied, layout_in}
 use Rattle.am_machine.specs.View.{ClusterView}
 use Rattle.am_machine.proofs.Direct.{off_disk}
 use Rattle.am_machine.proofs.Events.{call_enabled}
@@ -71,6 +74,31 @@ tied_next s faults es journal event x new longer n =
     let ends : IsTied (layout_in s faults new) new (journal ++ x ∷ []) = subst (λ (ns : List EndLog). IsTied (layout_in s faults ns) ns (journal ++ x ∷ [])) (sym n.ends) whole in
     subst (λ (j : List Entry). IsTied (layout_in s faults new) new j) (sym n.journal') ends
 
+-- where neither settings nor logs changed
+pub tied_same : (s : Settings) (faults : List FaultLine) (es new : List EndLog) (journal other : List Entry) → new ≡ es → other ≡ journal → IsTied (layout_in s faults es) es journal → IsTied (layout_in s faults new) new other
+tied_same s faults es new journal other ends same tied =
+    subst (λ (ns : List EndLog). IsTied (layout_in s faults ns) ns other) (sym ends)
+    (subst (λ (j : List Entry). IsTied (layout_in s faults es) es j) (sym same) tied)
+
+-- what it keeps, where the event touches no interface
+pub kept_next : (s : Settings) (faults : List FaultLine) (es : List EndLog) (journal : List Entry) (event : Event) (x : Entry) (new : List EndLog) (longer : List Entry) (is : List InterfaceView) → IsNext s faults es journal event x new longer → node_touched event ≡ None → AreInterfaces (layout_in s faults es) journal is → IsKept (layout_in s faults new) new longer is
+kept_next s faults es journal event x new longer is n alone are =
+    record {
+      tied = tied_next s faults es journal event x new longer n;
+      interfaces' =
+          interfaces_moved (layout_in s faults es) (layout_in s faults new) (journal ++ x ∷ []) longer is
+          (sym (layout_kept s faults es x) ∙ ap (λ (ns : List EndLog). layout_in s faults ns) (sym n.ends)) (sym n.journal')
+          (interfaces_same (layout_in s faults es) journal x is (ap (λ (y : Entry). node_touched y.event) n.entry ∙ alone) are);
+    }
+
+-- and where neither settings nor logs changed
+pub kept_still : (s : Settings) (faults : List FaultLine) (es new : List EndLog) (journal other : List Entry) (is : List InterfaceView) → new ≡ es → other ≡ journal → IsKept (layout_in s faults es) es journal is → IsKept (layout_in s faults new) new other is
+kept_still s faults es new journal other is ends same kept' =
+    record {
+      tied = tied_same s faults es new journal other ends same kept'.tied;
+      interfaces' = interfaces_moved (layout_in s faults es) (layout_in s faults new) journal other is (ap (λ (ns : List EndLog). layout_in s faults ns) (sym ends)) (sym same) kept'.interfaces';
+    }
+
 pub seen_next : (s : Settings) (faults : List FaultLine) (es : List EndLog) (journal : List Entry) (event : Event) (x : Entry) (new : List EndLog) (longer : List Entry) (v : ClusterView) → seen s faults es journal ≡ v → IsNext s faults es journal event x new longer → (stop v.layout v.journal event ≡ None) × (x ≡ step_entry v.layout v.journal event) × (seen s faults new longer ≡ record v { journal = v.journal ++ x ∷ [] })
 seen_next s faults es journal event x new longer v is n = (
   ap (λ (w : ClusterView). stop w.layout w.journal event) (sym is) ∙ n.runs,
@@ -78,12 +106,6 @@ seen_next s faults es journal event x new longer v is n = (
   (λ i. record { layout = (ap (λ (ns : List EndLog). layout_in s faults ns) n.ends ∙ layout_kept s faults es x) i; journal = n.journal' i })
       ∙ ap (λ (w : ClusterView). record w { journal = w.journal ++ x ∷ [] }) is,
 )
-
--- where neither settings nor logs changed
-pub tied_same : (s : Settings) (faults : List FaultLine) (es new : List EndLog) (journal other : List Entry) → new ≡ es → other ≡ journal → IsTied (layout_in s faults es) es journal → IsTied (layout_in s faults new) new other
-tied_same s faults es new journal other ends same tied =
-    subst (λ (ns : List EndLog). IsTied (layout_in s faults ns) ns other) (sym ends)
-    (subst (λ (j : List Entry). IsTied (layout_in s faults es) es j) (sym same) tied)
 
 pub seen_same : (s : Settings) (faults : List FaultLine) (es new : List EndLog) (journal other : List Entry) (v : ClusterView) → new ≡ es → other ≡ journal → seen s faults es journal ≡ v → seen s faults new other ≡ v
 seen_same s faults es new journal other v ends same is = (λ i. seen s faults (ends i) (same i)) ∙ is

@@ -1,11 +1,11 @@
 -- A cluster as it begins.
-use Rattle.std.specs.Prelude.{slice_get, slice_index_or, IsTrue}
+use Rattle.std.specs.Prelude.{slice_get, slice_index_or, IfSome, IsTrue}
 use Rattle.std.specs.List.{AllPairs, All, find}
-use Rattle.std.proofs.Common.{◌≡◌, ℕ, zero, suc, ◌<◌, Bool, true, false, cond, List, [], ◌∷◌, map, length, Some, refl, sym, ap, ◌∙◌, subst, arith, eqb-true}
+use Rattle.std.proofs.Common.{Option, None, ◌≤◌, ◌≡◌, ℕ, zero, suc, ◌<◌, Bool, true, false, cond, List, [], ◌∷◌, map, length, Some, refl, sym, ap, ◌∙◌, subst, arith, eqb-true}
 use Rattle.am_names.specs.declared.EndpointId.{EndpointId}
 use Rattle.am_names.specs.Names.{same_end}
 use Rattle.am_model.specs.Endpoint.{is_on_disk}
-use Rattle.am_model.specs.Layout.{Layout, AllAre, IsLawful, has_id, opening_by, opening_place}
+use Rattle.am_model.specs.Layout.{Layout, EndSetting, AllAre, IsLawful, IsPoolLawful, has_id, home_by, opening_by, opening_place}
 use Rattle.am_model.proofs.Names.{same_end-refl}
 use Rattle.am_scenario_types.specs.declared.parts.EndLine.{EndLine}
 use Rattle.am_scenario_types.specs.declared.parts.FaultLine.{FaultLine}
@@ -16,7 +16,11 @@ use Rattle.am_follow.specs.Layout.{is_direct, setting_of}
 use Rattle.am_machine.specs.declared.settings.Settings.{Settings}
 use Rattle.am_machine.specs.Ends.{EndLog, setting_in}
 use Rattle.am_machine.specs.Kept.{IsOwn, IsTied, layout_in}
+use Rattle.am_iface.specs.View.{InterfaceView}
 use Rattle.am_machine.specs.Beginnings.{opened}
+use Rattle.am_machine.specs.Homes.{AreFresh}
+use Rattle.am_machine.specs.Interfaces.{AreInterfaces}
+use Rattle.am_machine.proofs.Homes.{home_told}
 
 -- the lines rise by their numbers
 abbrev pub Rise : List EndLine → Type 0
@@ -134,3 +138,28 @@ begins s faults nodes lines es is lawful rise whole =
           bounces = refl;
           pool = refl;
         })
+
+-- and so do its interfaces
+pub fresh_interfaces : (s : Settings) (faults : List FaultLine) (lines : List EndLine) (es : List EndLog) (is : List InterfaceView) → All (IsLawfulEnd s.network s.nodes) lines → map setting_in es ≡ map setting_of lines → AreFresh s lines is → AreInterfaces (layout_in s faults es) [] is
+fresh_interfaces s faults lines es is lawful ends fresh' =
+    record {
+      each = λ k i at.
+          (let f = fresh'.each k i at in
+          let none = ap length f.log in
+          record {
+            is_node = f.is_node;
+            nodes = f.nodes;
+            channels = f.channels;
+            tries = f.tries;
+            bounces = f.bounces;
+            limit = f.limit;
+            homes = λ e. home_told s.network s.nodes lines i.settings.homes e lawful f.homes ∙ ap (λ (ss : List EndSetting). home_by (find (has_id e) ss)) (sym ends);
+            part = f.log;
+            bounded = omega (arith, none);
+          });
+      all = fresh'.all;
+    }
+
+pub pool_lawful : (pool : Option ℕ) → IfSome pool (λ (p : ℕ). p ≤ 32) → IsPoolLawful pool
+pool_lawful None h = tt
+pool_lawful (Some pool) h = h

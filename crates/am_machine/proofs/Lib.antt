@@ -4,5 +4,9 @@ pub mod Carriages
 pub mod Direct
 pub mod Events
 pub mod Beginnings
+pub mod Joint
+pub mod Turning
 pub mod Places
 pub mod Tied
+pub mod Homes
+pub mod InterfaceLogs

@@ -86,7 +86,7 @@ TouchesAt x es at = (j : ℕ) (e : EndLog) → slice_get es j ≡ Some e → tou
 grown_at : (x : Entry) (e : EndLog) (t : Bool) → touches e.settings.id x ≡ t → grown x e ≡ record { settings = e.settings; log = with_entry t x e.log }
 grown_at x e t is = ap (λ (b : Bool). record { settings = e.settings; log = with_entry b x e.log }) is
 
-none_grown : (x : Entry) (es : List EndLog) → TouchesAt x es (λ j. false) → map (grown x) es ≡ es
+pub none_grown : (x : Entry) (es : List EndLog) → TouchesAt x es (λ j. false) → map (grown x) es ≡ es
 none_grown x [] h = refl
 none_grown x (e ∷ es) h = λ i. grown_at x e false (h zero e refl) i ∷ none_grown x es (λ j d at. h (suc j) d at) i
 

@@ -8,6 +8,8 @@ use Rattle.am_model.specs.Layout.{Layout, AllAre, IsLawful, opening}
 use Rattle.am_scenario_types.specs.declared.parts.FaultLine.{FaultLine}
 use Rattle.am_follow.specs.Layout.{is_direct, fault_of}
 use Rattle.am_laws_steps.specs.Laws.{Walked}
+use Rattle.am_iface.specs.View.{InterfaceView}
+use Rattle.am_machine.specs.Interfaces.{AreInterfaces}
 use Rattle.am_machine.specs.View.{ClusterView}
 use Rattle.am_machine.specs.Ends.{EndLog, kept, setting_in}
 use Rattle.am_machine.specs.declared.settings.Settings.{Settings}
@@ -43,6 +45,11 @@ pub record IsTied (layout : Layout) (es : List EndLog) (journal : List Entry) : 
   pub own : AllAre (IsOwn layout journal) es
   pub apart : (j k : ℕ) (d e : EndLog) → slice_get es j ≡ Some d → slice_get es k ≡ Some e → d.settings.id ≡ e.settings.id → j ≡ k
 
+-- what a cluster keeps, by its parts
+pub record IsKept (layout : Layout) (es : List EndLog) (journal : List Entry) (interfaces : List InterfaceView) : Type 0 where
+  pub tied : IsTied layout es journal
+  pub interfaces' : AreInterfaces layout journal interfaces
+
 abbrev pub ends_in : Inside → List EndLog
 ends_in c = map kept c.ends.items
 
@@ -50,4 +57,4 @@ abbrev pub cluster_in : Inside → ClusterView
 cluster_in c = record { layout = layout_in c.settings c.faults.items (ends_in c); journal = c.journal.entries }
 
 abbrev pub IsCluster : Inside → Type 0
-IsCluster c = IsTied (layout_in c.settings c.faults.items (ends_in c)) (ends_in c) c.journal.entries
+IsCluster c = IsKept (layout_in c.settings c.faults.items (ends_in c)) (ends_in c) c.journal.entries c.interfaces.items

@@ -12,14 +12,17 @@ mod calls;
 mod carries;
 mod ends;
 mod frames;
+mod interfaces;
 mod moves;
 mod opening;
 mod settings;
 
+use crate::interfaces::open_interfaces;
 use crate::opening::open_ends;
 pub use crate::settings::ApplyFault;
 use crate::settings::Settings;
 use am_endpoint::Endpoint;
+use am_iface::Interface;
 use am_journal::IndexedJournal;
 pub use am_office::NoMemory;
 use am_office::{Condition, Entry, Event, Journal};
@@ -34,6 +37,8 @@ pub struct Cluster {
     faults: Vec<FaultLine>,
     ends: Vec<Endpoint>,
     journal: IndexedJournal,
+    /// One for each node of the packet network, by its number; none in the direct network.
+    interfaces: Vec<Interface>,
 }
 
 impl Model for Cluster {
@@ -70,11 +75,13 @@ impl Cluster {
             return Err(NoMemory);
         };
         let journal = IndexedJournal::new(alloc)?;
+        let interfaces = open_interfaces(alloc, &settings, &scenario.ends)?;
         Ok(Cluster {
             settings,
             faults,
             ends,
             journal,
+            interfaces,
         })
     }
 

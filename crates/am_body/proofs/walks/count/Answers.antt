@@ -1,9 +1,9 @@
-use Rattle.std.proofs.Common.{◌≡◌, ◌+◌, cond, ap, sym, ◌∙◌, arith, length, refl, Some, ℕ, Bool, List}
+use Rattle.std.proofs.Common.{◌≡◌, cond, ap, sym, ◌∙◌, arith, length, refl, Some, ℕ, Bool}
 use Rattle.std.specs.List.{count_by}
 use Rattle.std.proofs.lemmas.List.Sums.{count_by-le-length}
 use Rattle.am_block.proofs.Fresh.{below-get}
 use Rattle.am_block.proofs.Callers.{walk-start, walk-after, walk-here}
-use Rattle.am_block.specs.Pools.{place, size, slots}
+use Rattle.am_block.specs.Pools.{place, slots}
 use Rattle.am_block.specs.Walk.{from_slot}
 use Rattle.am_body.specs.Walks.{is_sought_at}
 use Rattle.am_body.proofs.Walking.{count-here, count_small, not_Some, sought_told, stands_of}

@@ -1,8 +1,8 @@
-use Rattle.std.proofs.Common.{◌≡◌, ap, sym, ◌∙◌, arith, length, true, false, Some, ℕ, Bool, List}
+use Rattle.std.proofs.Common.{◌≡◌, ap, sym, ◌∙◌, arith, length, true, false, Some, ℕ, Bool}
 use Rattle.std.specs.List.{find}
 use Rattle.am_block.proofs.Fresh.{below-get}
 use Rattle.am_block.proofs.Callers.{walk-start, walk-after, walk-here}
-use Rattle.am_block.specs.Pools.{place, size, slots}
+use Rattle.am_block.specs.Pools.{place, slots}
 use Rattle.am_block.specs.Walk.{from_slot}
 use Rattle.am_body.specs.Walks.{is_sought_at}
 use Rattle.am_body.proofs.Walking.{find-here, find-past, not_Some, sought_told, stands_of}

@@ -1,5 +1,5 @@
 use Rattle.std.proofs.Common.{◌≤◌, sym, ap, ◌∙◌}
-use Rattle.am_block.specs.Pools.{moved, size, slots, times}
+use Rattle.am_block.specs.Pools.{moved, slots, times}
 use Rattle.am_block.specs.declared.List.TheVariants.{Free}
 use Rattle.am_block.proofs.Callers.{home_is}
 use Rattle.am_body.specs.Walks.{is_sought_at, taken_out}

@@ -1,4 +1,3 @@
-use Rattle.std.proofs.Common.{◌≡◌, sym, ap, ◌∙◌}
 use Rattle.am_image.specs.Reading.{many_at}
 use Rattle.am_codec.proofs.Loop.{goes_on, ends, is_done}
 use Rattle.am_codec.proofs.many.take_many.Goals as goal

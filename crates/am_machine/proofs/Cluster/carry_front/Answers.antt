@@ -7,7 +7,7 @@ use Rattle.am_model.specs.History.{is_in_range}
 use Rattle.am_model.specs.Steps.{stop}
 use Rattle.am_machine.specs.Carries.{IsReady, carried_at}
 use Rattle.am_machine.specs.Ends.{is_of, kept}
-use Rattle.am_machine.specs.Kept.{IsTied, layout_in}
+use Rattle.am_machine.specs.Kept.{IsKept, layout_in}
 use Rattle.am_machine.specs.View.{ClusterView}
 use Rattle.am_machine.proofs.Applied as applied
 use Rattle.am_machine.proofs.Carriages as carriages
@@ -34,7 +34,7 @@ front-requires c =
     let range : is_in_range layout (Events.Carry c.args.end) ≡ true = ap (λ (v : ClusterView). is_in_range v.layout (Events.Carry c.args.end)) c.self.view_is ∙ c.requires.in_range in
     let one = c.index.result.now in
     let here = applied.found_here vs c.args.end c.in-Some.source one (sym (c.place_of.ensures ∙ ap (position (is_of c.args.end)) c.deref.ensures.value) ∙ c.in-Some.is) c.index.ensures in
-    applied.off_disk_here layout vs journal c.args.end c.in-Some.source one direct c.self.invariant here
+    applied.off_disk_here layout vs journal c.args.end c.in-Some.source one direct c.self.invariant.tied here
 
 pub returns-in_default-front : goal.returns-in_default-front
 returns-in_default-front c =
@@ -45,7 +45,7 @@ returns-in_default-front c =
     let range : is_in_range layout (Events.Carry c.args.end) ≡ true = ap (λ (v : ClusterView). is_in_range v.layout (Events.Carry c.args.end)) c.self.view_is ∙ c.requires.in_range in
     let one = c.index.result.now in
     let here = applied.found_here vs c.args.end c.in-Some.source one (sym (c.place_of.ensures ∙ ap (position (is_of c.args.end)) c.deref.ensures.value) ∙ c.in-Some.is) c.index.ensures in
-    let none = carriages.front_at layout vs journal c.args.end c.in-Some.source one None c.self.invariant here (sym c.front.ensures.value ∙ c.in_default-front.is) in
+    let none = carriages.front_at layout vs journal c.args.end c.in-Some.source one None c.self.invariant.tied here (sym c.front.ensures.value ∙ c.in_default-front.is) in
     (ap (λ (v : ClusterView). stop v.layout v.journal (Events.Carry c.args.end)) (sym c.self.view_is) ∙ carry_idle layout journal c.args.end direct none, refl)
 
 pub unreachable-requires-in_default-place_of : goal.unreachable-requires-in_default-place_of
@@ -57,9 +57,9 @@ unreachable-requires-in_default-place_of c =
     let range : is_in_range layout (Events.Carry c.args.end) ≡ true = ap (λ (v : ClusterView). is_in_range v.layout (Events.Carry c.args.end)) c.self.view_is ∙ c.requires.in_range in
     let one = c.index.result.now in
     let here = applied.found_here vs c.args.end c.in-Some.source one (sym (c.place_of.ensures ∙ ap (position (is_of c.args.end)) c.deref.ensures.value) ∙ c.in-Some.is) c.index.ensures in
-    let at = carriages.front_at layout vs journal c.args.end c.in-Some.source one (Some c.in-Some-front.front) c.self.invariant here (sym c.front.ensures.value ∙ c.in-Some-front.is) in
+    let at = carriages.front_at layout vs journal c.args.end c.in-Some.source one (Some c.in-Some-front.front) c.self.invariant.tied here (sym c.front.ensures.value ∙ c.in-Some-front.is) in
     not_found vs c.in-Some-front.front.message.dest (sym (c.place_of-2.ensures ∙ ap (position (is_of c.in-Some-front.front.message.dest)) c.deref-2.ensures.value) ∙ c.in_default-place_of.is)
-    (carriages.dest_declared layout journal c.args.end c.in-Some-front.front c.self.invariant at)
+    (carriages.dest_declared layout journal c.args.end c.in-Some-front.front c.self.invariant.tied at)
 
 pub returns-in-Some-least_full : goal.returns-in-Some-least_full
 returns-in-Some-least_full c =
@@ -74,11 +74,11 @@ returns-in-Some-least_full c =
     let there = applied.found_here vs c.in-Some-front.front.message.dest c.in-Some-place_of.dest two (sym (c.place_of-2.ensures ∙ ap (position (is_of c.in-Some-front.front.message.dest)) c.deref-2.ensures.value) ∙ c.in-Some-place_of.is) c.index-2.ensures in
     let three = applied.found_here vs c.args.end c.in-Some.source c.index-3.result.now (sym (c.place_of.ensures ∙ ap (position (is_of c.args.end)) c.deref.ensures.value) ∙ c.in-Some.is) c.index-3.ensures in
     let four = applied.found_here vs c.in-Some-front.front.message.dest c.in-Some-place_of.dest c.index-4.result.now (sym (c.place_of-2.ensures ∙ ap (position (is_of c.in-Some-front.front.message.dest)) c.deref-2.ensures.value) ∙ c.in-Some-place_of.is) c.index-4.ensures in
-    let at = carriages.front_at layout vs journal c.args.end c.in-Some.source one (Some c.in-Some-front.front) c.self.invariant here (sym c.front.ensures.value ∙ c.in-Some-front.is) in (
+    let at = carriages.front_at layout vs journal c.args.end c.in-Some.source one (Some c.in-Some-front.front) c.self.invariant.tied here (sym c.front.ensures.value ∙ c.in-Some-front.is) in (
       ap (λ (v : ClusterView). stop v.layout v.journal (Events.Carry c.args.end)) (sym c.self.view_is)
           ∙ carry_stop layout journal c.args.end c.in-Some-front.front c.is_full-is_source_full.result c.is_full-is_dest_full.result direct at
-          (applied.full_here layout vs journal c.args.end c.in-Some.source c.index-3.result.now c.is_full-is_source_full.result c.self.invariant three (sym c.is_full-is_source_full.ensures))
-          (applied.full_here layout vs journal c.in-Some-front.front.message.dest c.in-Some-place_of.dest c.index-4.result.now c.is_full-is_dest_full.result c.self.invariant four (sym c.is_full-is_dest_full.ensures))
+          (applied.full_here layout vs journal c.args.end c.in-Some.source c.index-3.result.now c.is_full-is_source_full.result c.self.invariant.tied three (sym c.is_full-is_source_full.ensures))
+          (applied.full_here layout vs journal c.in-Some-front.front.message.dest c.in-Some-place_of.dest c.index-4.result.now c.is_full-is_dest_full.result c.self.invariant.tied four (sym c.is_full-is_dest_full.ensures))
           ∙ ap stop_of (sym c.least_full.ensures ∙ c.in-Some-least_full.is),
       refl,
     )
@@ -109,7 +109,7 @@ carry_between-requires-clause-carries c =
       to = c.in-Some-place_of.dest;
       two = c.index-4.result.now;
       there = c.verdict-verdict.result;
-      tied = c.self.invariant;
+      tied = c.self.invariant.tied;
       direct = direct;
       in_range = range;
       source = three;
@@ -153,7 +153,7 @@ carry_between-requires-clause-arrives c =
       to = c.in-Some-place_of.dest;
       two = c.index-4.result.now;
       there = c.verdict-verdict.result;
-      tied = c.self.invariant;
+      tied = c.self.invariant.tied;
       direct = direct;
       in_range = range;
       source = three;
@@ -197,7 +197,7 @@ invariant_of-self-2 c =
       to = c.in-Some-place_of.dest;
       two = c.index-4.result.now;
       there = c.verdict-verdict.result;
-      tied = c.self.invariant;
+      tied = c.self.invariant.tied;
       direct = direct;
       in_range = range;
       source = three;
@@ -220,8 +220,8 @@ invariant_of-self-2 c =
     let n = vec_len c.self.inside.ends in
     let last = c.carry_between.new.ends in
     let whole : take n (last ++ drop (length last) (take n (c.room_for_both.new.ends ++ drop (length c.room_for_both.new.ends) vs))) ≡ last = lent_back n last (take n (c.room_for_both.new.ends ++ drop (length c.room_for_both.new.ends) vs)) (c.carry_between.auto.ends ∙ c.deref_mut-2.ensures.len) in
-    let final = applied.tied_next c.self.inside.settings c.self.inside.faults.items (map kept vs) journal (Events.Carry c.args.end) x (map kept last) c.log.new.self.entries next in
-    subst (λ (es : List EndpointView). IsTied (layout_in c.self.inside.settings c.self.inside.faults.items (map kept es)) (map kept es) c.log.new.self.entries) (sym whole) final
+    let final = applied.kept_next c.self.inside.settings c.self.inside.faults.items (map kept vs) journal (Events.Carry c.args.end) x (map kept last) c.log.new.self.entries c.self.inside.interfaces.items next refl c.self.invariant.interfaces' in
+    subst (λ (es : List EndpointView). IsKept (layout_in c.self.inside.settings c.self.inside.faults.items (map kept es)) (map kept es) c.log.new.self.entries c.self.inside.interfaces.items) (sym whole) final
 
 pub returns : goal.returns
 returns c =
@@ -249,7 +249,7 @@ returns c =
       to = c.in-Some-place_of.dest;
       two = c.index-4.result.now;
       there = c.verdict-verdict.result;
-      tied = c.self.invariant;
+      tied = c.self.invariant.tied;
       direct = direct;
       in_range = range;
       source = three;
@@ -283,7 +283,7 @@ invariant_of-self-in_default-room_for_both c =
     let same : map kept back ≡ map kept vs = c.room_for_both.ensures.same ∙ ap (λ (l : List EndpointView). map kept l) c.deref_mut.ensures.value in
     let whole : take n (back ++ drop (length back) vs) ≡ back = lent_back n back vs (c.room_for_both.auto.ends ∙ c.deref_mut.ensures.len) in
     let kept' : map kept (take n (back ++ drop (length back) vs)) ≡ map kept vs = ap (λ (l : List EndpointView). map kept l) whole ∙ same in
-    applied.tied_same c.self.inside.settings c.self.inside.faults.items (map kept vs) (map kept (take n (back ++ drop (length back) vs))) c.self.inside.journal.entries c.room.new.self.entries kept' c.room.ensures.entries c.self.invariant
+    applied.kept_still c.self.inside.settings c.self.inside.faults.items (map kept vs) (map kept (take n (back ++ drop (length back) vs))) c.self.inside.journal.entries c.room.new.self.entries c.self.inside.interfaces.items kept' c.room.ensures.entries c.self.invariant
 
 pub returns-in_default-room_for_both : goal.returns-in_default-room_for_both
 returns-in_default-room_for_both c =

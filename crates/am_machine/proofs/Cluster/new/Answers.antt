@@ -3,6 +3,7 @@ use Rattle.am_office.specs.declared.Entry.{Entry}
 use Rattle.am_model.specs.Layout.{EndSetting, Fault}
 use Rattle.am_model.specs.Layout as model
 use Rattle.am_follow.proofs.Lawful.{lawful_layout}
+use Rattle.am_machine.proofs.Beginnings.{pool_lawful}
 use Rattle.am_scenario_types.specs.declared.parts.EndLine.{EndLine}
 use Rattle.am_scenario_types.specs.declared.parts.FaultLine.{FaultLine}
 use Rattle.am_scenario_types.specs.Lawful.{IsLawful}
@@ -10,7 +11,9 @@ use Rattle.am_follow.specs.Layout.{fault_of, layout_of, setting_of}
 use Rattle.am_machine.specs.declared.settings.Settings.{Settings}
 use Rattle.am_machine.specs.Beginnings.{opened}
 use Rattle.am_machine.specs.Ends.{EndLog, kept, setting_in}
-use Rattle.am_machine.specs.Kept.{IsTied, layout_in}
+use Rattle.am_machine.specs.Kept.{IsKept, layout_in}
+use Rattle.am_machine.specs.Homes.{AreFresh, CanConnect}
+use Rattle.am_machine.proofs.Beginnings.{fresh_interfaces}
 use Rattle.am_machine.proofs.Beginnings.{begins, same_settings}
 use Rattle.am_machine.proofs.Cluster.new.Goals as goal
 
@@ -25,8 +28,25 @@ invariant_of-result c =
     let faults : map fault_of c.in-Ok.faults.items ≡ map fault_of s.faults.items = ap (λ (l : List FaultLine). map fault_of l) (c.in-Ok.ensures.items ∙ c.deref-2.ensures.value) in
     let layout : layout_in settings c.in-Ok.faults.items es ≡ layout_of c.args.scenario.now = (λ i. record (layout_in settings c.in-Ok.faults.items es) { ends = ends i; faults = faults i }) ∙ ap layout_of c.scenario.view_is in
     let whole = subst model.IsLawful (sym layout) (lawful_layout c.args.scenario.now c.requires) in
-    subst (λ (j : List Entry). IsTied (layout_in settings c.in-Ok.faults.items es) es j) (sym c.in_ok-journal.ensures)
-    (begins settings c.in-Ok.faults.items s.nodes s.ends.items es is lawful.ends lawful.ends_rise whole)
+    subst (λ (j : List Entry). IsKept (layout_in settings c.in-Ok.faults.items es) es j c.in_ok-interfaces.interfaces.items) (sym c.in_ok-journal.ensures)
+    (record {
+      tied = begins settings c.in-Ok.faults.items s.nodes s.ends.items es is lawful.ends lawful.ends_rise whole;
+      interfaces' = fresh_interfaces settings c.in-Ok.faults.items s.ends.items es c.in_ok-interfaces.interfaces.items lawful.ends ends (subst (λ (lines : List EndLine). AreFresh settings lines c.in_ok-interfaces.interfaces.items) c.deref-3.ensures.value c.in_ok-interfaces.ensures);
+    })
+
+pub open_interfaces-requires : goal.open_interfaces-requires
+open_interfaces-requires c =
+    let s = c.scenario.inside in
+    let lawful = subst IsLawful (sym c.scenario.view_is) c.requires in
+    let settings : Settings = record { network = s.network; nodes = s.nodes; frames = s.frames; channels = s.channels; tries = s.tries; bounces = s.bounces; pool = s.pool; log = s.log } in
+    subst (λ (lines : List EndLine). CanConnect settings lines) (sym c.deref-3.ensures.value)
+    (record {
+      can_open = record { log = lawful.settings.log; bounces = lawful.settings.bounces; pool = pool_lawful s.pool lawful.settings.pool };
+      nodes = lawful.settings.nodes.1;
+      channels = lawful.settings.channels;
+      tries = lawful.settings.tries;
+      ends = lawful.ends;
+    })
 
 pub returns-clause-layout : goal.returns-clause-layout
 returns-clause-layout c =

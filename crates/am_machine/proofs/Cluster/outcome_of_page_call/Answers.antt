@@ -10,7 +10,7 @@ use Rattle.am_machine.proofs.Cluster.outcome_of_page_call.Goals as goal
 
 pub page_calls-number-requires : goal.page_calls-number-requires
 page_calls-number-requires c =
-    let nodes = c.self.invariant.lawful.nodes in
+    let nodes = c.self.invariant.tied.lawful.nodes in
     let few = ap (λ (v : ClusterView). v.layout.nodes) c.self.view_is in
     omega (arith, nodes, few, c.requires)
 

@@ -30,7 +30,7 @@ returns-then-not-is_on_disk c =
     let journal = c.self.inside.journal.entries in
     let layout = layout_in c.self.inside.settings c.self.inside.faults.items (map kept vs) in
     let here = applied.found_here vs c.args.end c.in-Some.place c.index.result.now (sym (c.place_of.ensures ∙ ap (position (is_of c.args.end)) c.deref.ensures.value) ∙ c.in-Some.is) c.index.ensures in
-    let disk = applied.disk_here layout vs journal c.args.end c.in-Some.place c.index.result.now false c.self.invariant here (sym c.is_on_disk.ensures ∙ c.if-not-is_on_disk.true) in
+    let disk = applied.disk_here layout vs journal c.args.end c.in-Some.place c.index.result.now false c.self.invariant.tied here (sym c.is_on_disk.ensures ∙ c.if-not-is_on_disk.true) in
     (ap (λ (v : ClusterView). stop v.layout v.journal (Events.Want c.args.actor c.args.end)) (sym c.self.view_is) ∙ want_refused layout journal c.args.actor c.args.end disk, refl)
 
 pub returns-then-is_full : goal.returns-then-is_full
@@ -40,8 +40,8 @@ returns-then-is_full c =
     let layout = layout_in c.self.inside.settings c.self.inside.faults.items (map kept vs) in
     let here = applied.found_here vs c.args.end c.in-Some.place c.index.result.now (sym (c.place_of.ensures ∙ ap (position (is_of c.args.end)) c.deref.ensures.value) ∙ c.in-Some.is) c.index.ensures in
     let again = applied.found_here vs c.args.end c.in-Some.place c.index-2.result.now (sym (c.place_of.ensures ∙ ap (position (is_of c.args.end)) c.deref.ensures.value) ∙ c.in-Some.is) c.index-2.ensures in
-    let disk = applied.disk_here layout vs journal c.args.end c.in-Some.place c.index.result.now true c.self.invariant here (sym c.is_on_disk.ensures ∙ c.if-not-is_on_disk.false) in
-    let full = applied.full_here layout vs journal c.args.end c.in-Some.place c.index-2.result.now true c.self.invariant again (sym c.is_full.ensures ∙ c.if-is_full.true) in
+    let disk = applied.disk_here layout vs journal c.args.end c.in-Some.place c.index.result.now true c.self.invariant.tied here (sym c.is_on_disk.ensures ∙ c.if-not-is_on_disk.false) in
+    let full = applied.full_here layout vs journal c.args.end c.in-Some.place c.index-2.result.now true c.self.invariant.tied again (sym c.is_full.ensures ∙ c.if-is_full.true) in
     (ap (λ (v : ClusterView). stop v.layout v.journal (Events.Want c.args.actor c.args.end)) (sym c.self.view_is) ∙ want_stopped layout journal c.args.actor c.args.end disk full, refl)
 
 pub want-requires-clause-place : goal.want-requires-clause-place
@@ -51,8 +51,8 @@ want-requires-clause-place c =
     let layout = layout_in c.self.inside.settings c.self.inside.faults.items (map kept vs) in
     let here = applied.found_here vs c.args.end c.in-Some.place c.index.result.now (sym (c.place_of.ensures ∙ ap (position (is_of c.args.end)) c.deref.ensures.value) ∙ c.in-Some.is) c.index.ensures in
     let now = applied.found_here vs c.args.end c.in-Some.place c.index_mut.result.now (sym (c.place_of.ensures ∙ ap (position (is_of c.args.end)) c.deref.ensures.value) ∙ c.in-Some.is) c.index_mut.ensures.value in
-    let disk = applied.disk_here layout vs journal c.args.end c.in-Some.place c.index.result.now true c.self.invariant here (sym c.is_on_disk.ensures ∙ c.if-not-is_on_disk.false) in
-    applied.disk_there layout vs journal c.args.end c.in-Some.place c.index_mut.result.now true c.self.invariant now disk
+    let disk = applied.disk_here layout vs journal c.args.end c.in-Some.place c.index.result.now true c.self.invariant.tied here (sym c.is_on_disk.ensures ∙ c.if-not-is_on_disk.false) in
+    applied.disk_there layout vs journal c.args.end c.in-Some.place c.index_mut.result.now true c.self.invariant.tied now disk
 
 pub want-requires-clause-last : goal.want-requires-clause-last
 want-requires-clause-last c =
@@ -60,7 +60,7 @@ want-requires-clause-last c =
     let journal = c.self.inside.journal.entries in
     let layout = layout_in c.self.inside.settings c.self.inside.faults.items (map kept vs) in
     let now = applied.found_here vs c.args.end c.in-Some.place c.index_mut.result.now (sym (c.place_of.ensures ∙ ap (position (is_of c.args.end)) c.deref.ensures.value) ∙ c.in-Some.is) c.index_mut.ensures.value in
-    let late = applied.last_here layout vs journal c.args.end c.in-Some.place c.index_mut.result.now c.self.invariant now in
+    let late = applied.last_here layout vs journal c.args.end c.in-Some.place c.index_mut.result.now c.self.invariant.tied now in
     let same : c.len.result ≡ length journal = c.len.ensures.value ∙ ap length c.room.ensures.entries in
     omega (arith, late, same, c.len.ensures.more)
 
@@ -79,13 +79,13 @@ invariant_of-self-in-Ok c =
     let here = applied.found_here vs c.args.end c.in-Some.place c.index.result.now (sym (c.place_of.ensures ∙ ap (position (is_of c.args.end)) c.deref.ensures.value) ∙ c.in-Some.is) c.index.ensures in
     let again = applied.found_here vs c.args.end c.in-Some.place c.index-2.result.now (sym (c.place_of.ensures ∙ ap (position (is_of c.args.end)) c.deref.ensures.value) ∙ c.in-Some.is) c.index-2.ensures in
     let now = applied.found_here vs c.args.end c.in-Some.place c.index_mut.result.now (sym (c.place_of.ensures ∙ ap (position (is_of c.args.end)) c.deref.ensures.value) ∙ c.in-Some.is) c.index_mut.ensures.value in
-    let disk = applied.disk_here layout vs journal c.args.end c.in-Some.place c.index.result.now true c.self.invariant here (sym c.is_on_disk.ensures ∙ c.if-not-is_on_disk.false) in
+    let disk = applied.disk_here layout vs journal c.args.end c.in-Some.place c.index.result.now true c.self.invariant.tied here (sym c.is_on_disk.ensures ∙ c.if-not-is_on_disk.false) in
     let room = ap (λ w. nat_le c.self.inside.settings.log (length w.log)) (applied.same_here vs c.args.end c.in-Some.place c.index-2.result.now c.index_mut.result.now again now) ∙ sym c.is_full.ensures ∙ c.if-is_full.false in
     let next =
     applied.want_next c.self.inside.settings c.self.inside.faults.items vs journal c.args.actor c.args.end c.in-Some.place c.index_mut.result.now c.want.new.self c.in-Ok.entry c.log.new.self.entries c.len.result
-    c.self.invariant range now disk room c.in-Ok.ensures.event c.in-Ok.ensures.outcome c.in-Ok.ensures.stamp (c.len.ensures.value ∙ ap length c.room.ensures.entries) c.in-Ok.ensures.settings c.in-Ok.ensures.logged
+    c.self.invariant.tied range now disk room c.in-Ok.ensures.event c.in-Ok.ensures.outcome c.in-Ok.ensures.stamp (c.len.ensures.value ∙ ap length c.room.ensures.entries) c.in-Ok.ensures.settings c.in-Ok.ensures.logged
     (c.log.ensures ∙ ap (λ (xs : List Entry). xs ++ c.in-Ok.entry ∷ []) c.room.ensures.entries) in
-    applied.tied_next c.self.inside.settings c.self.inside.faults.items (map kept vs) journal _ c.in-Ok.entry _ c.log.new.self.entries next
+    applied.kept_next c.self.inside.settings c.self.inside.faults.items (map kept vs) journal _ c.in-Ok.entry _ c.log.new.self.entries c.self.inside.interfaces.items next refl c.self.invariant.interfaces'
 
 pub returns-in-Ok : goal.returns-in-Ok
 returns-in-Ok c =
@@ -96,11 +96,11 @@ returns-in-Ok c =
     let here = applied.found_here vs c.args.end c.in-Some.place c.index.result.now (sym (c.place_of.ensures ∙ ap (position (is_of c.args.end)) c.deref.ensures.value) ∙ c.in-Some.is) c.index.ensures in
     let again = applied.found_here vs c.args.end c.in-Some.place c.index-2.result.now (sym (c.place_of.ensures ∙ ap (position (is_of c.args.end)) c.deref.ensures.value) ∙ c.in-Some.is) c.index-2.ensures in
     let now = applied.found_here vs c.args.end c.in-Some.place c.index_mut.result.now (sym (c.place_of.ensures ∙ ap (position (is_of c.args.end)) c.deref.ensures.value) ∙ c.in-Some.is) c.index_mut.ensures.value in
-    let disk = applied.disk_here layout vs journal c.args.end c.in-Some.place c.index.result.now true c.self.invariant here (sym c.is_on_disk.ensures ∙ c.if-not-is_on_disk.false) in
+    let disk = applied.disk_here layout vs journal c.args.end c.in-Some.place c.index.result.now true c.self.invariant.tied here (sym c.is_on_disk.ensures ∙ c.if-not-is_on_disk.false) in
     let room = ap (λ w. nat_le c.self.inside.settings.log (length w.log)) (applied.same_here vs c.args.end c.in-Some.place c.index-2.result.now c.index_mut.result.now again now) ∙ sym c.is_full.ensures ∙ c.if-is_full.false in
     let next =
     applied.want_next c.self.inside.settings c.self.inside.faults.items vs journal c.args.actor c.args.end c.in-Some.place c.index_mut.result.now c.want.new.self c.in-Ok.entry c.log.new.self.entries c.len.result
-    c.self.invariant range now disk room c.in-Ok.ensures.event c.in-Ok.ensures.outcome c.in-Ok.ensures.stamp (c.len.ensures.value ∙ ap length c.room.ensures.entries) c.in-Ok.ensures.settings c.in-Ok.ensures.logged
+    c.self.invariant.tied range now disk room c.in-Ok.ensures.event c.in-Ok.ensures.outcome c.in-Ok.ensures.stamp (c.len.ensures.value ∙ ap length c.room.ensures.entries) c.in-Ok.ensures.settings c.in-Ok.ensures.logged
     (c.log.ensures ∙ ap (λ (xs : List Entry). xs ++ c.in-Ok.entry ∷ []) c.room.ensures.entries) in
     applied.seen_next c.self.inside.settings c.self.inside.faults.items (map kept vs) journal _ c.in-Ok.entry _ c.log.new.self.entries c.args.self.now c.self.view_is next
 
@@ -111,7 +111,7 @@ invariant_of-self-in-Err c =
     let layout = layout_in c.self.inside.settings c.self.inside.faults.items (map kept vs) in
     let now = applied.found_here vs c.args.end c.in-Some.place c.index_mut.result.now (sym (c.place_of.ensures ∙ ap (position (is_of c.args.end)) c.deref.ensures.value) ∙ c.in-Some.is) c.index_mut.ensures.value in
     let same = kept_same vs c.in-Some.place c.index_mut.result.now c.want.new.self now.at (λ i. record { settings = c.in-Err.ensures.settings i; log = c.in-Err.ensures.err i }) in
-    applied.tied_same c.self.inside.settings c.self.inside.faults.items (map kept vs) _ journal c.room.new.self.entries same c.room.ensures.entries c.self.invariant
+    applied.kept_still c.self.inside.settings c.self.inside.faults.items (map kept vs) _ journal c.room.new.self.entries c.self.inside.interfaces.items same c.room.ensures.entries c.self.invariant
 
 pub returns-in-Err : goal.returns-in-Err
 returns-in-Err c =

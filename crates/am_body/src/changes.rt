@@ -1,0 +1,83 @@
+// What arrivals, runs and answers make of a body.
+ghost use Rattle.am_body.specs.Views.{on_host, slots_held};
+ghost use Rattle.am_model.specs.Changes.{answer_ran, noticed, put, request_ran, requeued_flight, returned_flight};
+ghost use Rattle.std.specs.Prelude.{◌≡◌, ◌+◌, ◌<◌, ◌^◌};
+
+use crate::Body;
+use am_model::Flying;
+use am_names::{Message, Serial, Why};
+
+impl Body {
+    /// A message arrives and is accepted: where it is the reply to a request, the record of that request is arrived, and
+    /// the request is answered where it is in flight.
+    pub fn put(&mut self, message: Message)
+        requires { slots_held self.old.body < 80 }
+        ensures { self.new ≡ record self.old { body = (put message (on_host self.old.body)).body } }
+    {
+        self.add_received(message);
+        match message.about {
+            None => {}
+            Some(request) => {
+                self.reply_arrives(request);
+                self.mark_answered(request);
+            }
+        }
+    }
+
+    /// The first reply or empty reply that was received runs, by this handler, if by any.
+    pub fn run_answer(&mut self, message: &Message, handler: Option<u8>)
+        ensures { self.new ≡ record self.old { body = answer_ran message.now handler self.old.body } }
+    {
+        self.run(handler, message.words);
+        self.drop_answer();
+        match message.about {
+            None => {}
+            Some(request) => self.settle(request),
+        }
+    }
+
+    /// The front of the received messages, a request, runs, by this handler, and this is sent back.
+    pub fn run_request(&mut self, message: &Message, handler: Option<u8>, reply: Message)
+        requires held { slots_held self.old.body < 80 }
+        requires count { self.old.body.accepted + 1 < 2 ^ 32 }
+        ensures { self.new ≡ record self.old { body = request_ran message.now handler reply self.old.body } }
+    {
+        self.accepted += 1;
+        self.run(handler, message.words);
+        self.queue(reply, 0);
+        self.drop_received();
+    }
+
+    /// A message that bounced so often comes back, for this reason, and its waiting record, if there is one, goes.
+    pub fn come_back(&mut self, message: Message, bounces: u8, why: Why)
+        requires { slots_held self.old.body < 80 }
+        ensures { self.new ≡ record self.old { body = noticed message bounces why self.old.body } }
+    {
+        self.add_notice(message, bounces, why);
+        self.give_up(message.serial);
+    }
+
+    /// A message that was in flight, if there was one, goes back to its queue, having bounced so often.
+    pub fn requeue_flight(&mut self, flight: Option<Flying>, bounces: u8)
+        requires { slots_held self.old.body < 80 }
+        ensures { self.new ≡ record self.old { body = requeued_flight flight bounces self.old.body } }
+    {
+        match flight {
+            None => {}
+            Some(flight) => self.queue(flight.message, bounces),
+        }
+    }
+
+    /// A message that was in flight, if there was one, comes back, for this reason, and the waiting record of the
+    /// request with this serial, if there is one, goes.
+    pub fn return_flight(&mut self, serial: Serial, flight: Option<Flying>, why: Why)
+        requires { slots_held self.old.body < 80 }
+        ensures { self.new ≡ record self.old { body = returned_flight serial flight why self.old.body } }
+    {
+        self.give_up(serial);
+        match flight {
+            None => {}
+            Some(flight) => self.add_notice(flight.message, flight.bounces, why),
+        }
+    }
+}

@@ -1,0 +1,172 @@
+// Binds of an endpoint's front message to a channel.
+ghost use Rattle.am_channel_laws.specs.Counted.{AreCounted};
+ghost use Rattle.am_endpoint.specs.View.{state_after};
+ghost use Rattle.am_iface.specs.View.{own};
+ghost use Rattle.am_iface.specs.With.{IsHomeKnown, TurnsWith};
+ghost use Rattle.am_local.specs.Interface.{channel_in, channel_of_front, failing_at, home_in};
+ghost use Rattle.am_local.specs.declared.work.Work.TheVariants as Works;
+ghost use Rattle.am_model.specs.Endpoint.{front, is_direct, is_resident};
+ghost use Rattle.am_model.specs.History.{free_from};
+ghost use Rattle.std.specs.Prelude.{◌≡◌, ◌-◌, ◌<◌, ◌^◌, None, Some, false, IfSome, IsNone};
+
+use crate::by_ends::bind;
+use crate::entries::{bind_entry, sent};
+use crate::{IfaceFault, Interface, Turned};
+use am_channel::Ends;
+use am_endpoint::Endpoint;
+use am_model::Queued;
+use am_names::{EndpointId, NodeId};
+use am_office::{Condition, Place};
+
+impl Interface {
+    /// The node of an endpoint, if it is declared.
+    fn home(&self, end: EndpointId) -> Option<NodeId>
+        ensures home { result ≡ home_in (own self.now) end }
+        ensures within { IfSome result (λ node. node.0 < self.now.settings.nodes) }
+    {
+        self.homes[end.0 as usize]
+    }
+
+    /// The lowest free channel to a peer, if one is free.
+    fn free_channel(&self, peer: NodeId) -> Option<u8>
+        requires { peer.0 < self.now.settings.nodes }
+        ensures { result ≡ free_from self.now.settings.node peer self.now.log 0 self.now.settings.channels }
+    {
+        let channels = self.channels();
+        for channel in 0..channels {
+            if self.bound(peer, channel).is_none() {
+                return Some(channel);
+            }
+        }
+        None
+    }
+
+    /// The lowest free channel for an endpoint's front message, if there is one.
+    fn channel_for(&self, front: Option<Queued>) -> Option<u8>
+        requires { IsHomeKnown (own self.now) front }
+        ensures { result ≡ channel_of_front (own self.now) front }
+    {
+        match front {
+            Some(queued) => match self.home(queued.message.dest) {
+                Some(peer) => self.free_channel(peer),
+                None => None,
+            },
+            None => None,
+        }
+    }
+
+    /// The first condition that keeps an endpoint's front message from being bound.
+    fn disabled_bind(&self, end: EndpointId, endpoint: &Endpoint) -> Option<Condition>
+        requires { IsHomeKnown (own self.now) (front (state_after endpoint.now)) }
+        ensures { result ≡ failing_at (own self.now) (state_after endpoint.now) (Works.Bind end) }
+    {
+        if self.home(end) != Some(self.node()) {
+            return Some(Condition::OtherNode);
+        }
+        if !is_resident(endpoint.place()) {
+            return Some(Condition::NotResident);
+        }
+        if endpoint.draining() {
+            return Some(Condition::Draining);
+        }
+        let front = endpoint.front();
+        if front.is_none() {
+            return Some(Condition::NoMessage);
+        }
+        if self.channel_for(front).is_none() {
+            return Some(Condition::NoChannel);
+        }
+        None
+    }
+
+    /// Both ends of the lowest free channel to a peer. The sending end is idle, and was bound at most as often as the log
+    /// has entries.
+    fn free_ends(&self, peer: NodeId, channel: u8) -> Ends
+        requires peer { peer.0 < self.now.settings.nodes }
+        requires free { free_from self.now.settings.node peer self.now.log 0 self.now.settings.channels ≡ Some channel }
+        ensures counted { AreCounted (channel_in (own self.now) peer channel) self.now.log result }
+        ensures idle { IsNone result.sending.bound }
+        ensures room { result.sending.seq < 2 ^ 32 - 1 }
+        ensures within { channel < self.now.settings.channels }
+    {
+        self.ends[4 * peer.0 as usize + channel as usize]
+    }
+
+    /// Binds the front message to the lowest free channel to its destination's node.
+    fn bind_to(
+        &mut self,
+        stamp: u64,
+        queued: Queued,
+        peer: NodeId,
+        channel: u8,
+        endpoint: &mut Endpoint,
+    ) -> Result<Turned, IfaceFault>
+        requires enabled { failing_at (own self.old) (state_after endpoint.old) (Works.Bind endpoint.old.settings.id) ≡ None }
+        requires at { home_in (own self.old) endpoint.old.settings.id ≡ Some endpoint.old.settings.node }
+        requires packet { is_direct (state_after endpoint.old).head.place ≡ false }
+        requires front { front (state_after endpoint.old) ≡ Some queued }
+        requires home { home_in (own self.old) queued.message.dest ≡ Some peer }
+        requires peer { peer.0 < self.old.settings.nodes }
+        requires free { free_from self.old.settings.node peer self.old.log 0 self.old.settings.channels ≡ Some channel }
+        ensures { TurnsWith self.old self.new endpoint.old endpoint.new stamp (Works.Bind endpoint.old.settings.id) result }
+    {
+        let mut ends = self.free_ends(peer, channel);
+        let numbers = bind(&mut ends, queued.message);
+        let number = self.next_number(peer);
+        let outcome = sent(queued.message, peer, channel, numbers, number);
+        let entry = bind_entry(self.node(), stamp, endpoint.id(), outcome);
+        match self.enter_with(peer, channel, ends, entry, endpoint) {
+            Ok(turned) => {
+                endpoint.take(entry);
+                Ok(turned)
+            }
+            Err(fault) => Err(fault),
+        }
+    }
+
+    /// Binds the front message, which nothing keeps from being bound.
+    fn bind_front(&mut self, stamp: u64, endpoint: &mut Endpoint) -> Result<Turned, IfaceFault>
+        requires enabled { failing_at (own self.old) (state_after endpoint.old) (Works.Bind endpoint.old.settings.id) ≡ None }
+        requires at { home_in (own self.old) endpoint.old.settings.id ≡ Some endpoint.old.settings.node }
+        requires packet { is_direct (state_after endpoint.old).head.place ≡ false }
+        ensures { TurnsWith self.old self.new endpoint.old endpoint.new stamp (Works.Bind endpoint.old.settings.id) result }
+    {
+        let Some(queued) = endpoint.front() else {
+            unreachable!()
+        };
+        let Some(peer) = self.home(queued.message.dest) else {
+            unreachable!()
+        };
+        let Some(channel) = self.free_channel(peer) else {
+            unreachable!()
+        };
+        self.bind_to(stamp, queued, peer, channel, endpoint)
+    }
+
+    /// Binds the front message, if it can be bound.
+    pub(crate) fn bind_with(
+        &mut self,
+        stamp: u64,
+        endpoint: &mut Endpoint,
+    ) -> Result<Turned, IfaceFault>
+        requires at { home_in (own self.old) endpoint.old.settings.id ≡ Some endpoint.old.settings.node }
+        requires packet { is_direct (state_after endpoint.old).head.place ≡ false }
+        requires known { IsHomeKnown (own self.old) (front (state_after endpoint.old)) }
+        ensures { TurnsWith self.old self.new endpoint.old endpoint.new stamp (Works.Bind endpoint.old.settings.id) result }
+    {
+        match self.disabled_bind(endpoint.id(), endpoint) {
+            Some(why) => Err(IfaceFault::NotEnabled(why)),
+            None => self.bind_front(stamp, endpoint),
+        }
+    }
+}
+
+/// Whether an endpoint that lies there is resident.
+fn is_resident(place: Place) -> bool
+    ensures { result ≡ is_resident place }
+{
+    match place {
+        Place::Frame(_) | Place::Direct => true,
+        Place::Host | Place::Disk => false,
+    }
+}

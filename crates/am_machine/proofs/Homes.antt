@@ -1,0 +1,118 @@
+-- The homes of endpoints, as an interface is told.
+use Rattle.std.specs.Prelude.{slice_get, slice_index_or, IfSome}
+use Rattle.std.specs.List.{All, find}
+use Rattle.std.specs.Option.{option_map}
+use Rattle.std.proofs.Common.{◌≡◌, ◌⊎◌, inl, inr, ⊎_elim, ℕ, zero, suc, ◌+◌, ◌<◌, ◌≤◌, ◌==◌, Bool, true, false, cond, List, [], ◌∷◌, ◌++◌, map, length, Option, Some, None, refl, sym, ap, ◌∙◌, subst, arith, eqb-true}
+use Rattle.std.proofs.lemmas.List.{length_push}
+use Rattle.am_names.specs.declared.EndpointId.{EndpointId}
+use Rattle.am_names.specs.declared.NodeId.{NodeId}
+use Rattle.am_model.specs.Endpoint.{entry_at}
+use Rattle.am_model.specs.Layout.{has_id, home_by}
+use Rattle.am_scenario_types.specs.declared.parts.EndLine.{EndLine}
+use Rattle.am_scenario_types.specs.declared.parts.Network.{Network}
+use Rattle.am_scenario_types.specs.Lawful.{IsLawfulEnd}
+use Rattle.am_follow.specs.Layout.{setting_of}
+use Rattle.am_iface.specs.View.{InterfaceView}
+use Rattle.am_journal.proofs.Lists.{got_index, index_got}
+use Rattle.am_machine.specs.declared.settings.Settings.{Settings}
+use Rattle.am_machine.specs.Homes.{AreFreshUpTo, AreHomes, IsFresh, home_line}
+
+-- what stands in a list with one more
+pub got_push : {X : Type 0} (xs : List X) (y : X) (k : ℕ) (x : X) → slice_get (xs ++ y ∷ []) k ≡ Some x → (slice_get xs k ≡ Some x) ⊎ ((k ≡ length xs) × (x ≡ y))
+got_push [] y zero x h = inr (refl, cc)
+got_push [] y (suc k) x h = absurd (cc)
+got_push (z ∷ xs) y zero x h = inl h
+got_push (z ∷ xs) y (suc k) x h = ⊎_elim (λ here. inl here) (λ (last : (k ≡ length xs) × (x ≡ y)). inr (ap suc last.0, last.1)) (got_push xs y k x h)
+
+-- the homes so far
+pub record AreHomesUpTo (lines : List EndLine) (count : ℕ) (homes : List (Option NodeId)) : Type 0 where
+  pub all : length homes ≡ count
+  pub each : (k : ℕ) (home : Option NodeId) → slice_get homes k ≡ Some home → home ≡ home_line lines k
+
+pub homes_begin : (lines : List EndLine) → AreHomesUpTo lines 0 []
+homes_begin lines = record { all = refl; each = λ k home h. absurd (cc) }
+
+pub homes_more : (lines : List EndLine) (count : ℕ) (homes : List (Option NodeId)) (next : Option NodeId) → AreHomesUpTo lines count homes → next ≡ home_line lines count → AreHomesUpTo lines (count + 1) (homes ++ next ∷ [])
+homes_more lines count homes next are is =
+    record {
+      all = length_push homes next ∙ ap (λ (n : ℕ). n + 1) are.all;
+      each = λ k home h.
+          ⊎_elim (are.each k home)
+          (λ (last : (k ≡ length homes) × (home ≡ next)). last.1 ∙ is ∙ ap (home_line lines) (sym (last.0 ∙ are.all)))
+          (got_push homes next k home h);
+    }
+
+pub fresh_begin : (s : Settings) (lines : List EndLine) → AreFreshUpTo s lines 0 []
+fresh_begin s lines = record { all = refl; each = λ k i h. absurd (cc) }
+
+pub fresh_more : (s : Settings) (lines : List EndLine) (count : ℕ) (is : List InterfaceView) (i : InterfaceView) → AreFreshUpTo s lines count is → IsFresh s lines (record { 0 = count }) i → AreFreshUpTo s lines (count + 1) (is ++ i ∷ [])
+fresh_more s lines count is i are fresh =
+    record {
+      all = length_push is i ∙ ap (λ (n : ℕ). n + 1) are.all;
+      each = λ k d h.
+          ⊎_elim (are.each k d)
+          (λ (last : (k ≡ length is) × (d ≡ i)).
+          subst (λ (n : ℕ). IsFresh s lines (record { 0 = n }) d) (sym (last.0 ∙ are.all)) (subst (IsFresh s lines (record { 0 = count })) (sym last.1) fresh))
+          (got_push is i k d h);
+    }
+
+-- ---- what the homes say
+
+all_rest : (network : Network) (nodes : ℕ) (line : EndLine) (lines : List EndLine) → All (IsLawfulEnd network nodes) (line ∷ lines) → All (IsLawfulEnd network nodes) lines
+all_rest network nodes line lines all k d lt = all (suc k) d (omega (arith, lt))
+
+home_within : (network : Network) (nodes : ℕ) (lines : List EndLine) (k : ℕ) → All (IsLawfulEnd network nodes) lines → IfSome (home_line lines k) (λ (node : NodeId). node.0 < nodes)
+home_within network nodes [] k all = tt
+home_within network nodes (line ∷ lines) k all = by_test (k == line.id.0) (home_within network nodes lines k (all_rest network nodes line lines all))
+  where
+    by_test : (b : Bool) → IfSome (home_line lines k) (λ (node : NodeId). node.0 < nodes) → IfSome (option_map (λ (l : EndLine). l.node) (cond b (Some line) (find (λ (l : EndLine). k == l.id.0) lines))) (λ (node : NodeId). node.0 < nodes)
+    by_test true more = (all zero line (omega arith)).node
+    by_test false more = more
+
+pub homes_within : (network : Network) (nodes : ℕ) (lines : List EndLine) (homes : List (Option NodeId)) → All (IsLawfulEnd network nodes) lines → AreHomes lines homes → All (λ home. IfSome home (λ (node : NodeId). node.0 < nodes)) homes
+homes_within network nodes lines homes all are k d lt =
+    subst (λ (home : Option NodeId). IfSome home (λ (node : NodeId). node.0 < nodes)) (sym (are.each k (slice_index_or homes k d) (index_got homes k d lt)))
+    (home_within network nodes lines k all)
+
+-- the home of an endpoint, as the layout has it
+line_home : (lines : List EndLine) (e : EndpointId) → home_line lines e.0 ≡ home_by (find (has_id e) (map setting_of lines))
+line_home [] e = refl
+line_home (line ∷ lines) e = by_test (e.0 == line.id.0) (line_home lines e)
+  where
+    by_test : (b : Bool) → home_line lines e.0 ≡ home_by (find (has_id e) (map setting_of lines)) → option_map (λ (l : EndLine). l.node) (cond b (Some line) (find (λ (l : EndLine). e.0 == l.id.0) lines)) ≡ home_by (cond b (Some (setting_of line)) (find (has_id e) (map setting_of lines)))
+    by_test true more = refl
+    by_test false more = more
+
+none_past : (network : Network) (nodes : ℕ) (lines : List EndLine) (k : ℕ) → All (IsLawfulEnd network nodes) lines → 256 ≤ k → home_line lines k ≡ None
+none_past network nodes [] k all far = refl
+none_past network nodes (line ∷ lines) k all far = by_test (k == line.id.0) refl (none_past network nodes lines k (all_rest network nodes line lines all) far)
+  where
+    by_test : (b : Bool) → (k == line.id.0) ≡ b → home_line lines k ≡ None → option_map (λ (l : EndLine). l.node) (cond b (Some line) (find (λ (l : EndLine). k == l.id.0) lines)) ≡ None
+    by_test true is more =
+        let same = eqb-true k line.id.0 is in
+        let low = (all zero line (omega arith)).id in
+        absurd (omega (arith, same, low, far))
+    by_test false is more = more
+
+read_past : {X : Type 0} (xs : List X) (k : ℕ) (d : X) → length xs ≤ k → slice_index_or xs k d ≡ d
+read_past [] k d h = refl
+read_past (x ∷ xs) zero d h = absurd (omega (arith, h))
+read_past (x ∷ xs) (suc k) d h = read_past xs k d (omega (arith, h))
+
+pub home_told : (network : Network) (nodes : ℕ) (lines : List EndLine) (homes : List (Option NodeId)) (e : EndpointId) → All (IsLawfulEnd network nodes) lines → AreHomes lines homes → entry_at homes e.0 ≡ home_by (find (has_id e) (map setting_of lines))
+home_told network nodes lines homes e all are = by_place (slice_get homes e.0) refl
+  where
+    far_of : slice_get homes e.0 ≡ None → length homes ≤ e.0
+    far_of none = past homes e.0 none
+      where
+        past : (xs : List (Option NodeId)) (k : ℕ) → slice_get xs k ≡ None → length xs ≤ k
+        past [] k h = omega arith
+        past (x ∷ xs) zero h = absurd (cc)
+        past (x ∷ xs) (suc k) h = let more = past xs k h in omega (arith, more)
+
+    by_place : (o : Option (Option NodeId)) → slice_get homes e.0 ≡ o → entry_at homes e.0 ≡ home_by (find (has_id e) (map setting_of lines))
+    by_place (Some home) at = got_index homes e.0 home None at ∙ are.each e.0 home at ∙ line_home lines e
+    by_place None at =
+        let far = far_of at in
+        let all_there = are.all in
+        read_past homes e.0 None far ∙ sym (none_past network nodes lines e.0 all (omega (arith, far, all_there))) ∙ line_home lines e

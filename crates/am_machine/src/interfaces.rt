@@ -1,0 +1,88 @@
+// The interfaces of a cluster, as they begin.
+ghost use Rattle.am_follow.specs.Layout.{is_direct};
+ghost use Rattle.am_machine.specs.Homes.{AreFresh, AreHomes, CanConnect, IsFresh, home_line};
+ghost use Rattle.std.specs.Prelude.{◌≡◌, ◌<◌, if◌then◌else◌, IfOk};
+
+use crate::settings::Settings;
+use am_iface::{IfaceSettings, Interface};
+use am_names::NodeId;
+use am_office::NoMemory;
+use am_scenario_types::{EndLine, Network};
+use std::alloc::Global;
+
+/// The node of the endpoint with this number, if it is declared.
+fn home_line(lines: &[EndLine], id: u16) -> Option<NodeId>
+    ensures { result ≡ home_line lines.now id }
+{
+    match lines.iter().find(|line| id == u16::from(line.id.0)) {
+        Some(line) => Some(line.node),
+        None => None,
+    }
+}
+
+/// The node of the endpoint with each number, 0 to 255.
+fn all_homes(alloc: Global, lines: &[EndLine]) -> Result<Vec<Option<NodeId>>, NoMemory>
+    ensures { IfOk result (λ homes. AreHomes lines.now homes.items) }
+{
+    let mut homes = Vec::new(alloc);
+    for id in 0..256u16 {
+        if homes.push(home_line(lines, id)).is_err() {
+            return Err(NoMemory);
+        }
+    }
+    Ok(homes)
+}
+
+/// A fresh interface of a node.
+fn open_interface(
+    alloc: Global,
+    settings: &Settings,
+    lines: &[EndLine],
+    node: NodeId,
+) -> Result<Interface, NoMemory>
+    requires can_connect { CanConnect settings.now lines.now }
+    requires node { node.0 < settings.now.nodes }
+    ensures { IfOk result (λ interface. IsFresh settings.now lines.now node interface) }
+{
+    let homes = all_homes(alloc, lines)?;
+    let set = IfaceSettings {
+        node,
+        nodes: settings.nodes,
+        channels: settings.channels,
+        tries: settings.tries,
+        bounces: settings.bounces,
+        log: settings.log,
+        homes,
+    };
+    Interface::new(alloc, set)
+}
+
+/// How many interfaces there are.
+fn interfaces_of(settings: &Settings) -> u8
+    ensures { result ≡ (if is_direct settings.now.network then 0 else settings.now.nodes) }
+{
+    match settings.network {
+        Network::Direct => 0,
+        Network::Packet => settings.nodes,
+    }
+}
+
+/// The fresh interfaces of a cluster: one for each node of the packet network.
+pub(crate) fn open_interfaces(
+    alloc: Global,
+    settings: &Settings,
+    lines: &[EndLine],
+) -> Result<Vec<Interface>, NoMemory>
+    requires { CanConnect settings.now lines.now }
+    ensures { IfOk result (λ interfaces. AreFresh settings.now lines.now interfaces.items) }
+{
+    let mut all = Vec::new(alloc);
+    let count = interfaces_of(settings);
+    for node in 0..count {
+        let interface = open_interface(alloc, settings, lines, NodeId(node))?;
+        if all.push(interface).is_err() {
+            return Err(NoMemory);
+        }
+    }
+    Ok(all)
+}
