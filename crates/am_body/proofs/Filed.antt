@@ -13,7 +13,7 @@ use Rattle.am_model.specs.declared.Flying.{Flying}
 use Rattle.am_model.specs.declared.Notice.{Notice}
 use Rattle.am_model.specs.declared.Queued.{Queued}
 use Rattle.am_model.specs.Endpoint.{Body}
-use Rattle.am_model.specs.Changes.{appended, landed, queued}
+use Rattle.am_model.specs.Changes.{appended, without_flight, queued}
 use Rattle.am_model.specs.Choice.{without_first}
 use Rattle.am_translate.specs.Tables.{Table}
 use Rattle.std.specs.Prelude.{Option, None, Some, find, if◌then◌else◌}
@@ -190,10 +190,10 @@ pub answer_gone : (i : Inside) (v : View) (q : Pools) → view_of i ≡ v → q 
 answer_gone i v q e is =
     viewed i v q (taken_out i.block Received (find (λ s. is_sought_at Soughts.Answer i.block s) i.block.received)) (λ b. record b { received = without_first is_answer b.received }) e is (answer_out i _ refl)
 
-flight_out : (serial : Serial) (i : Inside) (r : Option ℕ) → find (λ s. is_sought_at (Soughts.Of serial) i.block s) i.block.in_flight ≡ r → (view_of (record i { block = taken_out i.block InFlight r })).body ≡ landed serial (view_of i).body
+flight_out : (serial : Serial) (i : Inside) (r : Option ℕ) → find (λ s. is_sought_at (Soughts.Of serial) i.block s) i.block.in_flight ≡ r → (view_of (record i { block = taken_out i.block InFlight r })).body ≡ without_flight serial (view_of i).body
 flight_out serial i None found = ap (λ (fs : List Flying). record (view_of i).body { in_flight = fs }) (sym (none-seen flying_in (λ (f : Flying). has_serial serial f.message) i.block.descriptors i.block.in_flight found))
 flight_out serial i (Some s) found = ap (λ (fs : List Flying). record (view_of i).body { in_flight = fs }) (without-seen flying_in (λ (f : Flying). has_serial serial f.message) i.block.descriptors i.block.in_flight s found)
 
-pub flight_gone : (serial : Serial) (i : Inside) (v : View) (q : Pools) → view_of i ≡ v → q ≡ taken_out i.block InFlight (find (λ s. is_sought_at (Soughts.Of serial) i.block s) i.block.in_flight) → view_of (record i { block = q }) ≡ record v { body = landed serial v.body }
+pub flight_gone : (serial : Serial) (i : Inside) (v : View) (q : Pools) → view_of i ≡ v → q ≡ taken_out i.block InFlight (find (λ s. is_sought_at (Soughts.Of serial) i.block s) i.block.in_flight) → view_of (record i { block = q }) ≡ record v { body = without_flight serial v.body }
 flight_gone serial i v q e is =
-    viewed i v q (taken_out i.block InFlight (find (λ s. is_sought_at (Soughts.Of serial) i.block s) i.block.in_flight)) (landed serial) e is (flight_out serial i _ refl)
+    viewed i v q (taken_out i.block InFlight (find (λ s. is_sought_at (Soughts.Of serial) i.block s) i.block.in_flight)) (without_flight serial) e is (flight_out serial i _ refl)

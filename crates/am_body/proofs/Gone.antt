@@ -6,7 +6,7 @@ use Rattle.am_names.specs.declared.Serial.{Serial}
 use Rattle.am_model.specs.declared.Awaited.{Awaited}
 use Rattle.am_model.specs.Choice.{without_first}
 use Rattle.am_names.specs.Names.{same_serial}
-use Rattle.am_model.specs.Changes.{arrived, not_awaited, settled, with_arrived}
+use Rattle.am_model.specs.Changes.{arrived, without_waiting, without_record, with_arrived}
 use Rattle.am_model.specs.Valid.{has_arrived}
 use Rattle.am_model.specs.Endpoint.{waits_for}
 use Rattle.am_translate.specs.Tables.{Table, is_waiting, with_awaited}
@@ -19,7 +19,7 @@ unpassed p (x ∷ xs) none = by_test p x xs (p x) none (unpassed p xs)
     by_test p x xs true none more = absurd (cc)
     by_test p x xs false none more = ap (λ ys. x ∷ ys) (more none)
 
-pub record_gone : {T E : Type 0} (t u : Table) (request : Serial) (r : Result T E) → OnOk r (u ≡ with_awaited t (not_awaited request t.awaited)) → OnErr r (u ≡ t) → (IsErr r ↔ (is_waiting t request ≡ false)) → u ≡ with_awaited t (not_awaited request t.awaited)
+pub record_gone : {T E : Type 0} (t u : Table) (request : Serial) (r : Result T E) → OnOk r (u ≡ with_awaited t (without_waiting request t.awaited)) → OnErr r (u ≡ t) → (IsErr r ↔ (is_waiting t request ≡ false)) → u ≡ with_awaited t (without_waiting request t.awaited)
 record_gone t u request (Ok done) ok err missing = ok
 record_gone t u request (Err fault) ok err missing = err ∙ ap (λ (xs : List Awaited). with_awaited t xs) (sym (unpassed (waits_for request) t.awaited (missing.0 refl)))
 
@@ -50,8 +50,8 @@ waits true true rest none = absurd (cc)
 waits true false rest none = refl
 waits false was rest none = refl
 
-pub waits_or_not : (request : Serial) (xs : List Awaited) → list_any (has_arrived request) xs ≡ false → not_awaited request xs ≡ settled (Some request) xs
+pub waits_or_not : (request : Serial) (xs : List Awaited) → list_any (has_arrived request) xs ≡ false → without_waiting request xs ≡ without_record (Some request) xs
 waits_or_not request [] none = refl
 waits_or_not request (a ∷ xs) none =
-    ap (λ b. cond b xs (a ∷ not_awaited request xs)) (waits (same_serial request a.serial) a.arrived (list_any (has_arrived request) xs) none)
+    ap (λ b. cond b xs (a ∷ without_waiting request xs)) (waits (same_serial request a.serial) a.arrived (list_any (has_arrived request) xs) none)
     ∙ ap (λ ys. cond (same_serial request a.serial) xs (a ∷ ys)) (waits_or_not request xs (none_more (has_arrived request a) (list_any (has_arrived request) xs) none))

@@ -1,6 +1,6 @@
 // Messages of its own that an endpoint has in flight.
 ghost use Rattle.am_body.specs.Views.{flying_in, slots_held};
-ghost use Rattle.am_model.specs.Changes.{flying_of, landed, marked};
+ghost use Rattle.am_model.specs.Changes.{flying_of, without_flight, marked};
 ghost use Rattle.std.specs.Prelude.{◌≡◌, ◌<◌, [], ◌∷◌, ◌++◌, false, length, map};
 
 use crate::Body;
@@ -40,7 +40,7 @@ impl Body {
 
     /// The message in flight with this serial, if any, is in flight no more.
     pub fn land(&mut self, serial: Serial)
-        ensures { self.new ≡ record self.old { body = landed serial self.old.body } }
+        ensures { self.new ≡ record self.old { body = without_flight serial self.old.body } }
     {
         free_found(&mut self.block, List::InFlight, Sought::Of(serial));
     }

@@ -1,5 +1,5 @@
 // The records of the requests whose replies an endpoint awaits.
-ghost use Rattle.am_model.specs.Changes.{not_awaited, settled, with_arrived};
+ghost use Rattle.am_model.specs.Changes.{without_waiting, without_record, with_arrived};
 ghost use Rattle.am_translate.specs.Tables.{IsTable, with_awaited};
 ghost use Rattle.std.specs.Prelude.{◌≡◌, Some};
 
@@ -10,7 +10,7 @@ use am_translate::Translate;
 /// The waiting record of a request, if there is one, goes.
 fn drop_waiting(table: &mut Translate, request: Serial)
     requires { IsTable table.old }
-    ensures gone { table.new ≡ with_awaited table.old (not_awaited request table.old.awaited) }
+    ensures gone { table.new ≡ with_awaited table.old (without_waiting request table.old.awaited) }
     ensures table { IsTable table.new }
 {
     match table.give_up(request) {
@@ -22,7 +22,7 @@ fn drop_waiting(table: &mut Translate, request: Serial)
 /// The record of a request, if there is one, goes.
 fn drop_record(table: &mut Translate, request: Serial)
     requires { IsTable table.old }
-    ensures gone { table.new ≡ with_awaited table.old (settled (Some request) table.old.awaited) }
+    ensures gone { table.new ≡ with_awaited table.old (without_record (Some request) table.old.awaited) }
     ensures table { IsTable table.new }
 {
     match table.reply_taken(request) {
@@ -34,7 +34,7 @@ fn drop_record(table: &mut Translate, request: Serial)
 impl Body {
     /// The waiting record of a request, if there is one, goes.
     pub fn give_up(&mut self, request: Serial)
-        ensures { self.new ≡ record self.old { body = record self.old.body { awaited = not_awaited request self.old.body.awaited } } }
+        ensures { self.new ≡ record self.old { body = record self.old.body { awaited = without_waiting request self.old.body.awaited } } }
     {
         match self.translate.give_up(request) {
             Ok(()) => {}
@@ -54,7 +54,7 @@ impl Body {
 
     /// The record of a request, if there is one, goes, whether its reply arrived or not.
     pub fn settle(&mut self, request: Serial)
-        ensures { self.new ≡ record self.old { body = record self.old.body { awaited = settled (Some request) self.old.body.awaited } } }
+        ensures { self.new ≡ record self.old { body = record self.old.body { awaited = without_record (Some request) self.old.body.awaited } } }
     {
         drop_record(&mut self.translate, request);
     }

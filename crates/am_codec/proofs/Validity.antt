@@ -14,7 +14,8 @@ use Rattle.am_model.specs.declared.Awaited.{Awaited}
 use Rattle.am_model.specs.Allowed.{is_formed_as, is_well_formed}
 use Rattle.am_model.specs.Calls.{excess, shares}
 use Rattle.am_model.specs.Endpoint.{Body, entry_at, is_arrived, requests_held, replies_held}
-use Rattle.am_model.specs.Valid.{answers, has_arrived, is_about, is_handler_in_range, is_mapping_in_range, is_own_answer, is_own_flight, is_own_notice, is_own_request, is_received_here, is_record, rise, FitsPool}
+use Rattle.am_office.specs.Entries.{is_serial}
+use Rattle.am_model.specs.Valid.{answers, has_arrived, is_handler_in_range, is_mapping_in_range, is_own_answer, is_own_flight, is_own_notice, is_own_request, is_received_here, is_record, rise, FitsPool}
 use Rattle.am_model.proofs.Names.{same_serial-is, same_serial-refl}
 use Rattle.am_model.proofs.Records.{any_counts, arrives_or_waits, one_record}
 use Rattle.am_image.specs.Range.{fits_record}
@@ -96,7 +97,7 @@ not_off false b is h = absurd (no_way is)
     no_way e = cc
 
 -- an answer to a request that is expected has the record of it
-expected_is : (r : Serial) (awaited : List Awaited) (about : Option Serial) → is_about r about ≡ true → is_expected awaited about ≡ true → list_any (has_arrived r) awaited ≡ true
+expected_is : (r : Serial) (awaited : List Awaited) (about : Option Serial) → is_serial r about ≡ true → is_expected awaited about ≡ true → list_any (has_arrived r) awaited ≡ true
 expected_is r awaited None is h = absurd (no_way h)
   where
     no_way : false ≡ true → ⊥
@@ -117,7 +118,7 @@ each_matches last received awaited rises expected once r = by_test (list_any (ha
     unasked : list_any (has_arrived r) awaited ≡ false → Passes (answers r) received → true ≡ false
     unasked none found =
         let m : Message = found.value in
-        let parts = and_parts (is_answer m) (is_about r m.about) found.holds in
+        let parts = and_parts (is_answer m) (is_serial r m.about) found.holds in
         let known : is_expected awaited m.about ≡ true = not_off (is_answer m) (is_expected awaited m.about) parts.0 (found.each (answers_expected awaited) expected) in
         sym (expected_is r awaited m.about parts.1 known) ∙ none
 
@@ -156,8 +157,8 @@ all_expected e received awaited here matches =
         no_way : false ≡ true → ⊥
         no_way e = cc
     of_request m among is (Some r) at h =
-        let about : is_about r m.about ≡ true = ap (is_about r) at ∙ same_serial-refl r in
-        let counted : 1 ≤ count_by (answers r) received = any_counts (answers r) received (among (answers r) (and_from (is_answer m) (is_about r m.about) is about)) in
+        let about : is_serial r m.about ≡ true = ap (is_serial r) at ∙ same_serial-refl r in
+        let counted : 1 ≤ count_by (answers r) received = any_counts (answers r) received (among (answers r) (and_from (is_answer m) (is_serial r m.about) is about)) in
         let some : list_any (has_arrived r) awaited ≡ true = counts_any (has_arrived r) awaited (omega (arith, counted, matches r)) in
         ap (is_expected awaited) at ∙ some
 
@@ -244,7 +245,7 @@ passes_valid e pool b written h =
             credits = fits_pool pool b r3.1;
             requests = u1.0;
             replies = u2.0;
-            in_flight = ap (list_all (is_own_flight e b.accepted)) written.landed;
+            in_flight = ap (list_all (is_own_flight e b.accepted)) written.none_in_flight;
             notices = u3.0;
             received = a1.0;
             each_answer = each_matches b.accepted b.received b.awaited r2.0 a3.0 a4.0;
@@ -258,7 +259,7 @@ passes_valid e pool b written h =
             received = leb-true (count_by is_request b.received) 16 a2.0;
             answers = omega (arith, equal);
           };
-      landed = written.landed;
+      none_in_flight = written.none_in_flight;
       in_range =
           record {
             tag = ltb-true _ _ written.tag;

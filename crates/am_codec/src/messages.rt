@@ -1,7 +1,8 @@
 // Tests of messages.
 ghost use Rattle.am_codec.specs.Tests.{answers_expected, is_answered_once, is_expected};
 ghost use Rattle.am_model.specs.Allowed.{are_zero, is_formed_as, is_well_formed};
-ghost use Rattle.am_model.specs.Valid.{answers, has_arrived, is_about, is_own, is_own_answer, is_own_notice, is_own_request, is_received_here};
+ghost use Rattle.am_office.specs.Entries.{is_serial};
+ghost use Rattle.am_model.specs.Valid.{answers, has_arrived, is_own, is_own_answer, is_own_notice, is_own_request, is_received_here};
 ghost use Rattle.am_names.specs.Names.{is_answer, is_request, is_request_kind, same_end, same_serial};
 ghost use Rattle.std.specs.List.{list_all, list_any};
 ghost use Rattle.std.specs.Prelude.{◌≡◌, count_by};
@@ -136,8 +137,8 @@ pub(crate) fn answers_expected(awaited: &[Awaited], message: &Message) -> bool
     !is_answer(message) || is_expected(awaited, message.about)
 }
 
-fn is_about(request: Serial, about: Option<Serial>) -> bool
-    ensures { result ≡ is_about request about }
+fn is_serial(request: Serial, about: Option<Serial>) -> bool
+    ensures { result ≡ is_serial request about }
 {
     match about {
         None => false,
@@ -148,7 +149,7 @@ fn is_about(request: Serial, about: Option<Serial>) -> bool
 fn answers(request: Serial, message: &Message) -> bool
     ensures { result ≡ answers request message.now }
 {
-    is_answer(message) && is_about(request, message.about)
+    is_answer(message) && is_serial(request, message.about)
 }
 
 fn answers_to(received: &[Message], request: Serial) -> usize

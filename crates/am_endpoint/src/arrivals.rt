@@ -2,7 +2,7 @@
 ghost use Rattle.am_endpoint.specs.Seen.{state_in};
 ghost use Rattle.am_model.specs.Changes.{after, arrived, marked, put, received, with_arrived, with_marked};
 ghost use Rattle.am_model.specs.Channels.{decides_by};
-ghost use Rattle.am_model.specs.Endpoint.{is_awaited, verdict, is_resident};
+ghost use Rattle.am_model.specs.Endpoint.{is_waited_for, verdict, is_resident};
 ghost use Rattle.am_names.specs.Names.{is_request};
 ghost use Rattle.std.specs.Prelude.{◌≡◌, ◌<◌, map, vec_len, vec_capacity, nat_le, count_by, true, OnOk};
 
@@ -82,11 +82,11 @@ impl Fields {
     }
 
     fn is_about_awaited(&self, about: Option<Serial>) -> bool
-        ensures { result ≡ is_awaited self.now.awaited.items about }
+        ensures { result ≡ is_waited_for self.now.awaited.items about }
     {
         match about {
             None => false,
-            Some(request) => self.is_awaited(request),
+            Some(request) => self.is_waited_for(request),
         }
     }
 

@@ -6,11 +6,11 @@ ghost use Rattle.am_model.specs.Changes.{
   called,
   request_accepted,
   kind_run,
-  not_awaited,
+  without_waiting,
   queued,
   request_ran,
   is_of,
-  settled,
+  without_record,
   wanted_on_host,
   with_body,
   with_mapped,
@@ -73,7 +73,7 @@ fn waiting_place(awaited: &[Awaited], serial: Serial) -> Option<usize>
 
 /// Takes the waiting record of a request out.
 pub fn drop_waiting(awaited: &mut Vec<Awaited>, serial: Serial)
-    ensures { awaited.new.items ≡ not_awaited serial awaited.old.items }
+    ensures { awaited.new.items ≡ without_waiting serial awaited.old.items }
 {
     match waiting_place(awaited.as_slice(), serial) {
         Some(place) => {
@@ -85,7 +85,7 @@ pub fn drop_waiting(awaited: &mut Vec<Awaited>, serial: Serial)
 
 /// Takes the record of the request that is answered out.
 fn settle(awaited: &mut Vec<Awaited>, about: Option<Serial>)
-    ensures { awaited.new.items ≡ settled about awaited.old.items }
+    ensures { awaited.new.items ≡ without_record about awaited.old.items }
 {
     match about {
         Some(serial) => drop_record(awaited, serial),

@@ -2,7 +2,7 @@
 ghost use Rattle.am_endpoint.specs.Seen.{IsSmall, state_in};
 ghost use Rattle.am_model.specs.Calls.{
   answer,
-  awaited_at,
+  records_at,
   excess,
   excess_at,
   has_no_credit,
@@ -158,8 +158,8 @@ impl Fields {
             >= 16
     }
 
-    fn awaited_at(&self, index: u8) -> usize
-        ensures { result ≡ awaited_at (state_in self.now).body index }
+    fn records_at(&self, index: u8) -> usize
+        ensures { result ≡ records_at (state_in self.now).body index }
     {
         self.awaited.iter().filter(|a| a.index == index).count()
     }
@@ -173,7 +173,7 @@ impl Fields {
         match self.mapped[index as usize] {
             None => 0,
             Some(mapping) => self
-                .awaited_at(index)
+                .records_at(index)
                 .saturating_sub(mapping.credits as usize),
         }
     }
@@ -195,7 +195,7 @@ impl Fields {
         requires { IsSmall (state_in self.now).body }
         ensures { result ≡ has_no_credit pool (state_in self.now).body index (Some mapping) }
     {
-        let is_spent = self.awaited_at(index) >= mapping.credits as usize;
+        let is_spent = self.records_at(index) >= mapping.credits as usize;
         match pool {
             None => is_spent,
             Some(pool) => is_spent && self.excess() == pool as usize,
@@ -406,7 +406,7 @@ impl Fields {
         index < 16 && self.mapped[index as usize].is_some()
     }
 
-    pub fn is_awaited(&self, serial: Serial) -> bool
+    pub fn is_waited_for(&self, serial: Serial) -> bool
         ensures { result ≡ list_any (waits_for serial) self.now.awaited.items }
     {
         self.awaited.iter().any(|a| waits_for(serial, a))
@@ -474,7 +474,7 @@ impl Fields {
         if !self.is_mapped(index) {
             return Some(Refusal::NotMapped);
         }
-        let out = self.awaited_at(index);
+        let out = self.records_at(index);
         if out == 0 {
             None
         } else {
@@ -504,7 +504,7 @@ impl Fields {
         if self.head.closed {
             return Some(Refusal::Closed);
         }
-        if self.is_awaited(serial) {
+        if self.is_waited_for(serial) {
             None
         } else {
             Some(Refusal::NoRequest)

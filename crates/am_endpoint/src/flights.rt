@@ -1,6 +1,6 @@
 // What becomes of the messages that an endpoint has in flight.
 ghost use Rattle.am_endpoint.specs.Seen.{HasRoom, state_in};
-ghost use Rattle.am_model.specs.Changes.{expired, flying_of, landed, made_wanted, received, requeued_flight, returned_flight, with_body};
+ghost use Rattle.am_model.specs.Changes.{expired, flying_of, without_flight, made_wanted, received, requeued_flight, returned_flight, with_body};
 ghost use Rattle.am_model.specs.Choice.{without_first};
 ghost use Rattle.am_names.specs.Names.{has_serial};
 ghost use Rattle.std.specs.Prelude.{◌≡◌, ◌<◌, position, vec_len, vec_capacity};
@@ -52,7 +52,7 @@ impl Fields {
 
     /// A message is in flight no more.
     fn land(&mut self, serial: Serial)
-        ensures state { state_in self.new ≡ with_body (state_in self.old) (landed serial (state_in self.old).body) }
+        ensures state { state_in self.new ≡ with_body (state_in self.old) (without_flight serial (state_in self.old).body) }
         ensures room { HasRoom self.old → (vec_len self.new.requests < vec_capacity self.new.requests) × (vec_len self.new.replies < vec_capacity self.new.replies) × (vec_len self.new.notices < vec_capacity self.new.notices) }
     {
         drop_flight(&mut self.in_flight, serial);

@@ -25,7 +25,7 @@ use Rattle.am_scenario_types.specs.declared.parts.StepLine.{StepLine}
 use Rattle.am_scenario_types.specs.Lists.{ScenarioLists}
 use Rattle.am_scenario_types.specs.Lawful as lawful
 use Rattle.am_model.specs.Layout.{Layout, EndSetting, Fault, AllAre, AreApart, IsSettingLawful, IsFaultLawful, IsPoolLawful, IsLawful, has_id, declared}
-use Rattle.am_model.specs.History.{is_in_range, is_call_in_range, is_actor_in_range, are_words_in_range, are_credits_in_range, is_kind_in_range, is_byte, is_short, is_long}
+use Rattle.am_model.specs.History.{is_in_range, is_call_in_range, is_actor_in_range, are_words_in_range, are_credits_in_range, is_kind_in_range, is_byte, is_four_bytes, is_eight_bytes}
 use Rattle.am_model.proofs.Names.{same_end-refl}
 use Rattle.am_laws_steps.specs.Laws.{AreInRange}
 use Rattle.am_follow.specs.Layout.{is_direct, setting_of, fault_of, layout_of, events_of}

@@ -18,7 +18,7 @@ use Rattle.am_model.specs.declared.Queued.{Queued}
 use Rattle.am_model.specs.declared.Notice.{Notice}
 use Rattle.am_model.specs.Endpoint.{Body, requests_held, replies_held, is_arrived}
 use Rattle.am_model.specs.Valid.{is_record}
-use Rattle.am_model.specs.History.{is_byte, is_short, is_long}
+use Rattle.am_model.specs.History.{is_byte, is_four_bytes, is_eight_bytes}
 use Rattle.am_image.specs.Image.{in_turn, short, long, magic, counted, mapping_bytes, record_bytes, handler_bytes, queued_bytes, notice_bytes, received_bytes, image}
 use Rattle.am_image.specs.Range.{fits_mapping, fits_record, fits_handler, fits_queued, fits_notice, fits_message}
 use Rattle.am_image.specs.Valid.{IsValid}
@@ -32,10 +32,10 @@ use Rattle.am_image.proofs.Parts.{fits_own, mapping_reader, record_reader, handl
 -- ---- what a body must meet to be written and read again
 
 pub record IsWritten (e : EndpointId) (b : Body) : Type 0 where
-  pub landed : b.in_flight ≡ []
-  pub tag : is_long b.tag.0 ≡ true
-  pub sum : is_long b.sum ≡ true
-  pub accepted : is_short b.accepted ≡ true
+  pub none_in_flight : b.in_flight ≡ []
+  pub tag : is_eight_bytes b.tag.0 ≡ true
+  pub sum : is_eight_bytes b.sum ≡ true
+  pub accepted : is_four_bytes b.accepted ≡ true
   pub indexes : length b.mapped ≡ 16
   pub mapped : list_all fits_mapping b.mapped ≡ true
   pub awaited : fits_counted (fits_own e) b.awaited ≡ true
@@ -77,7 +77,7 @@ body_again e b is =
     (step _ _ _ _ ((counted_reader fits_queued queued_bytes message_at message_reader).again b.requests (in_turn p8) is.requests)
     (step _ _ _ _ ((counted_reader fits_queued queued_bytes message_at message_reader).again b.replies (in_turn p9) is.replies)
     (step _ _ _ _ ((counted_reader fits_notice notice_bytes notice_at notice_reader).again b.notices (in_turn p10) is.notices)
-    (step _ _ _ _ ((counted_reader fits_message received_bytes received_at received_reader).again b.received [] is.received) (ap made (sym is.landed))))))))))))
+    (step _ _ _ _ ((counted_reader fits_message received_bytes received_at received_reader).again b.received [] is.received) (ap made (sym is.none_in_flight))))))))))))
   where
     made : List Flying → Read Body
     made flying = Some (record b { in_flight = flying }, [])
@@ -111,7 +111,7 @@ is_written e pool b is =
     let notices : length b.notices < 256 = omega (arith, held, held_replies, noticed) in
     let received : length b.received < 256 = omega (arith, arrived, is.within.received, is.within.answers, is.within.awaited, count_by-le-length is_arrived b.awaited) in
     record {
-      landed = is.landed;
+      none_in_flight = is.none_in_flight;
       tag = lt-ltb _ _ is.in_range.tag;
       sum = lt-ltb _ _ is.in_range.sum;
       accepted = lt-ltb _ _ is.in_range.accepted;
@@ -206,7 +206,7 @@ body_takes e bytes x rest fits is =
       parts = body_parts bytes g t s a m w h q p n r (magic_takes bytes g eg) tf.parts sf.parts af.parts mf.took.parts wf.parts hf.took.parts qf.parts pf.parts nf.parts rf.parts;
       written =
           record {
-            landed = refl;
+            none_in_flight = refl;
             tag = tf.in_range;
             sum = sf.in_range;
             accepted = af.in_range;

@@ -27,7 +27,7 @@ fresh_is_valid =
             all_answers = refl;
           };
       within = record { requests = omega arith; replies = omega arith; awaited = omega arith; received = omega arith; answers = omega arith };
-      landed = refl;
+      none_in_flight = refl;
       in_range = record { tag = omega arith; sum = omega arith; accepted = omega arith; mapped = refl; awaited = refl; handlers = refl; requests = refl; replies = refl; notices = refl; received = refl };
     }
 
@@ -57,6 +57,6 @@ asking_is_valid =
             all_answers = refl;
           };
       within = record { requests = omega arith; replies = omega arith; awaited = omega arith; received = omega arith; answers = omega arith };
-      landed = refl;
+      none_in_flight = refl;
       in_range = record { tag = omega arith; sum = omega arith; accepted = omega arith; mapped = refl; awaited = refl; handlers = refl; requests = refl; replies = refl; notices = refl; received = refl };
     }

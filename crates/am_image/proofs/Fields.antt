@@ -5,7 +5,7 @@ use Rattle.std.specs.Int.{Width, w32, w64, byte_len, from_be_bytes, to_be_bytes}
 use Rattle.std.proofs.lemmas.Bool.{eqb-true, cases_lt, ltb-true, lt-ltb}
 use Rattle.std.proofs.lemmas.List.{take_at, drop_at, take-append-drop, length-append, length-take, get_or-drop, get_or-take, get_or_past}
 use Rattle.std.proofs.lemmas.Nat.{be_bytes_4, be_bytes_8, from_be_bytes-to_be_bytes_4, from_be_bytes-to_be_bytes_8}
-use Rattle.am_model.specs.History.{is_byte, is_short, is_long}
+use Rattle.am_model.specs.History.{is_byte, is_four_bytes, is_eight_bytes}
 use Rattle.am_image.specs.Image.{in_turn, byte, short, long}
 use Rattle.am_image.specs.Reading.{◌>>=◌, Read, number_at, byte_at, short_at, long_at}
 
@@ -159,24 +159,24 @@ number_again w limit wide n rest lt =
     let enough : nat_le (byte_len w) (length (to_be_bytes w n ++ rest)) ≡ true = enough_for _ _ (omega (arith, length-append (to_be_bytes w n) rest)) in
     rw (enough, take_at (to_be_bytes w n) rest (byte_len w) len, drop_at (to_be_bytes w n) rest (byte_len w) len, wide.again n (ltb-true _ _ lt)) refl
 
-short_takes : (bytes : List ℕ) (x : ℕ) (rest : List ℕ) → IsBytes bytes → short_at bytes ≡ Some (x, rest) → Took is_short short bytes x rest
+short_takes : (bytes : List ℕ) (x : ℕ) (rest : List ℕ) → IsBytes bytes → short_at bytes ≡ Some (x, rest) → Took is_four_bytes short bytes x rest
 unfolding short_at
 short_takes bytes x rest fits e = number_takes w32 (2 ^ 32) wide32 bytes x rest fits e
 
-short_again : (x : ℕ) (rest : List ℕ) → is_short x ≡ true → short_at (short x ++ rest) ≡ Some (x, rest)
+short_again : (x : ℕ) (rest : List ℕ) → is_four_bytes x ≡ true → short_at (short x ++ rest) ≡ Some (x, rest)
 unfolding short_at
 short_again x rest h = number_again w32 (2 ^ 32) wide32 x rest h
 
-pub short_reader : IsReader is_short short short_at
+pub short_reader : IsReader is_four_bytes short short_at
 short_reader = record { takes = short_takes; again = short_again }
 
-long_takes : (bytes : List ℕ) (x : ℕ) (rest : List ℕ) → IsBytes bytes → long_at bytes ≡ Some (x, rest) → Took is_long long bytes x rest
+long_takes : (bytes : List ℕ) (x : ℕ) (rest : List ℕ) → IsBytes bytes → long_at bytes ≡ Some (x, rest) → Took is_eight_bytes long bytes x rest
 unfolding long_at
 long_takes bytes x rest fits e = number_takes w64 (2 ^ 64) wide64 bytes x rest fits e
 
-long_again : (x : ℕ) (rest : List ℕ) → is_long x ≡ true → long_at (long x ++ rest) ≡ Some (x, rest)
+long_again : (x : ℕ) (rest : List ℕ) → is_eight_bytes x ≡ true → long_at (long x ++ rest) ≡ Some (x, rest)
 unfolding long_at
 long_again x rest h = number_again w64 (2 ^ 64) wide64 x rest h
 
-pub long_reader : IsReader is_long long long_at
+pub long_reader : IsReader is_eight_bytes long long_at
 long_reader = record { takes = long_takes; again = long_again }

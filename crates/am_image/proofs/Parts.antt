@@ -9,7 +9,7 @@ use Rattle.am_office.specs.declared.HandlerKind.{HandlerKind}
 use Rattle.am_office.specs.declared.HandlerKind.TheVariants.{Note, Echo, Add}
 use Rattle.am_model.specs.declared.Mapping.{Mapping}
 use Rattle.am_model.specs.declared.Awaited.{Awaited}
-use Rattle.am_model.specs.History.{is_byte, is_short, is_long}
+use Rattle.am_model.specs.History.{is_byte, is_four_bytes, is_eight_bytes}
 use Rattle.am_model.proofs.Names.{same_end-is, same_end-refl}
 use Rattle.am_image.specs.Image.{in_turn, byte, short, long, counted, mapping_bytes, record_bytes, state_number, handler_bytes}
 use Rattle.am_image.specs.Range.{fits_mapping, fits_record, fits_handler}
@@ -46,7 +46,7 @@ some_mapping_takes bytes x rest fits e =
     (record {
       parts = ap (λ (w : List ℕ). 1 ∷ w) pa;
       rest_fits = ct.rest_fits;
-      in_range = both (is_byte a.0) (is_long b.0 && is_byte c.0) at.in_range (both (is_long b.0) (is_byte c.0) bt.in_range ct.in_range);
+      in_range = both (is_byte a.0) (is_eight_bytes b.0 && is_byte c.0) at.in_range (both (is_eight_bytes b.0) (is_byte c.0) bt.in_range ct.in_range);
     }))))
 
 mapping_takes : (bytes : List ℕ) (x : Option Mapping) (rest : List ℕ) → IsBytes bytes → mapping_at bytes ≡ Some (x, rest) → Took fits_mapping mapping_bytes bytes x rest
@@ -61,11 +61,11 @@ mapping_again : (x : Option Mapping) (rest : List ℕ) → fits_mapping x ≡ tr
 unfolding mapping_at some_mapping_at
 mapping_again None rest h = step _ _ _ _ (byte_reader.again 0 rest refl) refl
 mapping_again (Some m) rest h =
-    let g : (is_long m.tag.0 && is_byte m.credits) ≡ true = and_right (is_byte m.name.0) (is_long m.tag.0 && is_byte m.credits) h in
+    let g : (is_eight_bytes m.tag.0 && is_byte m.credits) ≡ true = and_right (is_byte m.name.0) (is_eight_bytes m.tag.0 && is_byte m.credits) h in
     step _ _ _ _ (turn_again is_byte byte byte_at byte_reader 1 (byte m.name.0 ∷ long m.tag.0 ∷ byte m.credits ∷ []) rest refl)
-    (step _ _ _ _ (turn_again is_byte byte byte_at byte_reader m.name.0 (long m.tag.0 ∷ byte m.credits ∷ []) rest (and_left (is_byte m.name.0) (is_long m.tag.0 && is_byte m.credits) h))
-    (step _ _ _ _ (turn_again is_long long long_at long_reader m.tag.0 (byte m.credits ∷ []) rest (and_left (is_long m.tag.0) (is_byte m.credits) g))
-    (step _ _ _ _ (turn_again is_byte byte byte_at byte_reader m.credits [] rest (and_right (is_long m.tag.0) (is_byte m.credits) g)) refl)))
+    (step _ _ _ _ (turn_again is_byte byte byte_at byte_reader m.name.0 (long m.tag.0 ∷ byte m.credits ∷ []) rest (and_left (is_byte m.name.0) (is_eight_bytes m.tag.0 && is_byte m.credits) h))
+    (step _ _ _ _ (turn_again is_eight_bytes long long_at long_reader m.tag.0 (byte m.credits ∷ []) rest (and_left (is_eight_bytes m.tag.0) (is_byte m.credits) g))
+    (step _ _ _ _ (turn_again is_byte byte byte_at byte_reader m.credits [] rest (and_right (is_eight_bytes m.tag.0) (is_byte m.credits) g)) refl)))
 
 pub mapping_reader : IsReader fits_mapping mapping_bytes mapping_at
 mapping_reader = record { takes = mapping_takes; again = mapping_again }
@@ -108,7 +108,7 @@ record_takes own bytes x rest fits e =
     (record {
       parts = turn_parts bytes (byte a.0) a.1 (short b.0 ∷ byte (state_number s) ∷ []) c.1 at.parts pb;
       rest_fits = ct.rest_fits;
-      in_range = both (same_end own own) (fits_record made) (same_end-refl own) (both (is_byte a.0) (is_short b.0) at.in_range bt.in_range);
+      in_range = both (same_end own own) (fits_record made) (same_end-refl own) (both (is_byte a.0) (is_four_bytes b.0) at.in_range bt.in_range);
     })))))
 
 abbrev some_read : Awaited × List ℕ → Read Awaited
@@ -119,8 +119,8 @@ unfolding record_at
 record_again own x rest h =
     let source : own ≡ x.serial.source = same_end-is own x.serial.source (and_left (same_end own x.serial.source) (fits_record x) h) in
     let g : fits_record x ≡ true = and_right (same_end own x.serial.source) (fits_record x) h in
-    step _ _ _ _ (turn_again is_byte byte byte_at byte_reader x.index (short x.serial.count ∷ byte (state_number x.arrived) ∷ []) rest (and_left (is_byte x.index) (is_short x.serial.count) g))
-    (step _ _ _ _ (turn_again is_short short short_at short_reader x.serial.count (byte (state_number x.arrived) ∷ []) rest (and_right (is_byte x.index) (is_short x.serial.count) g))
+    step _ _ _ _ (turn_again is_byte byte byte_at byte_reader x.index (short x.serial.count ∷ byte (state_number x.arrived) ∷ []) rest (and_left (is_byte x.index) (is_four_bytes x.serial.count) g))
+    (step _ _ _ _ (turn_again is_four_bytes short short_at short_reader x.serial.count (byte (state_number x.arrived) ∷ []) rest (and_right (is_byte x.index) (is_four_bytes x.serial.count) g))
     (step _ _ _ _ (turn_again is_byte byte byte_at byte_reader (state_number x.arrived) [] rest (state_fits x.arrived))
     (step _ _ _ _ (state_back x.arrived) (of_source own source))))
   where

@@ -10,18 +10,18 @@ use Rattle.am_model.specs.declared.Awaited.{Awaited}
 use Rattle.am_model.specs.declared.Queued.{Queued}
 use Rattle.am_model.specs.declared.Notice.{Notice}
 use Rattle.am_model.specs.Endpoint.{Body}
-use Rattle.am_model.specs.History.{is_byte, is_short, is_long, are_words_in_range}
+use Rattle.am_model.specs.History.{is_byte, is_four_bytes, is_eight_bytes, are_words_in_range}
 
 abbrev pub fits_mapping : Option Mapping → Bool
 fits_mapping None = true
-fits_mapping (Some m) = is_byte m.name.0 && (is_long m.tag.0 && is_byte m.credits)
+fits_mapping (Some m) = is_byte m.name.0 && (is_eight_bytes m.tag.0 && is_byte m.credits)
 
 abbrev pub fits_serial : Serial → Bool
-fits_serial s = is_byte s.source.0 && is_short s.count
+fits_serial s = is_byte s.source.0 && is_four_bytes s.count
 
 -- a record's source is the endpoint, which the image doesn't repeat
 abbrev pub fits_record : Awaited → Bool
-fits_record a = is_byte a.index && is_short a.serial.count
+fits_record a = is_byte a.index && is_four_bytes a.serial.count
 
 abbrev pub fits_handler : Option HandlerKind → Bool
 fits_handler None = true
@@ -35,7 +35,7 @@ fits_about (Some request) = fits_serial request
 
 abbrev pub fits_message : Message → Bool
 fits_message m =
-    fits_serial m.serial && (is_byte m.dest.0 && (is_long m.tag.0 && (is_byte m.handler && (are_words_in_range m.words && (is_long m.reply_tag.0 && fits_about m.about)))))
+    fits_serial m.serial && (is_byte m.dest.0 && (is_eight_bytes m.tag.0 && (is_byte m.handler && (are_words_in_range m.words && (is_eight_bytes m.reply_tag.0 && fits_about m.about)))))
 
 abbrev pub fits_queued : Queued → Bool
 fits_queued q = fits_message q.message && is_byte q.bounces

@@ -10,5 +10,5 @@ use Rattle.am_image.specs.Range.{IsInRange}
 pub record IsValid (e : EndpointId) (pool : Option ℕ) (b : Body) : Type 0 where
   pub valid : endpoint.IsValid e pool b
   pub within : IsWithin b
-  pub landed : b.in_flight ≡ []
+  pub none_in_flight : b.in_flight ≡ []
   pub in_range : IsInRange b

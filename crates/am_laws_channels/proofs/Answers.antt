@@ -30,7 +30,7 @@ use Rattle.am_model.proofs.Received.{bit}
 use Rattle.std.proofs.lemmas.Bool.{eqb-false}
 use Rattle.am_office.specs.Entries.{emitted_of, emitted_in, answer_packet, answer_by}
 use Rattle.am_model.specs.Channels.{Mark, same_channel, frees, frees_by, binds}
-use Rattle.am_model.specs.Cluster.{took, takes_in, put_on, HasComeTo, AnswerSays, AnswersAreTrue, comes_back, comes_back_by, EndedSequencePutNothing}
+use Rattle.am_model.specs.Cluster.{has_put, puts_in, put_on, HasComeTo, AnswerSays, AnswersAreTrue, comes_back, comes_back_by, EndedSequencePutNothing}
 use Rattle.am_model.proofs.Ends.{EmittedIn, emitted_more, was_emitted, bound_push, sequence_push}
 use Rattle.am_laws_order.proofs.Senders.{SenderMoves, sender, sender_moves, same_channel-is}
 use Rattle.am_laws_order.proofs.Parcels.{IsOf, IsCurrent, channel_of, new_parcel, same_channel-refl}
@@ -130,9 +130,9 @@ accepted_past m a is h = by_test (a.seq == m.seq) refl
         inr (at, subst (λ (v : Verdict). Agrees v a.attempt m) is (h.agrees at))
     by_test false e = let apart : a.seq ≡ m.seq → ⊥ = eqb-false a.seq m.seq e in inl (omega (arith, h.seq, apart))
 
--- the receiving end took a message in the sequence of the answer, on some attempt
+-- the receiving end has_put a message in the sequence of the answer, on some attempt
 abbrev pub TookOnSome : List Entry → AnswerPacket → Type 0
-TookOnSome past a = (most : ℕ) × (took (end_of a) a.seq most past ≡ true)
+TookOnSome past a = (most : ℕ) × (has_put (end_of a) a.seq most past ≡ true)
 
 -- what is known of an answer
 pub record IsKnown (past : List Entry) (a : AnswerPacket) : Type 0 where
@@ -142,7 +142,7 @@ pub record IsKnown (past : List Entry) (a : AnswerPacket) : Type 0 where
   pub seq : by.seq ≡ a.seq
   pub attempt : by.attempt ≡ a.attempt
   pub accepts : a.verdict ≡ Verdicts.Accepted → TookOnSome past a
-  pub refuses : (cause : Cause) → a.verdict ≡ Verdicts.Refused cause → took (end_of a) a.seq a.attempt past ≡ false
+  pub refuses : (cause : Cause) → a.verdict ≡ Verdicts.Refused cause → has_put (end_of a) a.seq a.attempt past ≡ false
 
 pub record Replies (layout : Layout) (past : List Entry) : Type 0 where
   pub history : IsHistory layout past
@@ -158,8 +158,8 @@ now_known layout past x h may a e there =
       attempt = r.attempt;
       accepts = λ is.
           let v : (mark (end_of a) (past ++ x ∷ [])).verdict ≡ Verdicts.Accepted = subst (λ (w : Verdict). Agrees w a.attempt (mark (end_of a) (past ++ x ∷ []))) is (said.agrees (sym r.marked)) in
-          ((mark (end_of a) (past ++ x ∷ [])).attempt, subst (λ (k : ℕ). took (end_of a) k (mark (end_of a) (past ++ x ∷ [])).attempt (past ++ x ∷ []) ≡ true) r.marked (t.accepted (end_of a) v));
-      refuses = λ cause is. by_took cause is (took (end_of a) a.seq a.attempt (past ++ x ∷ [])) refl;
+          ((mark (end_of a) (past ++ x ∷ [])).attempt, subst (λ (k : ℕ). has_put (end_of a) k (mark (end_of a) (past ++ x ∷ [])).attempt (past ++ x ∷ []) ≡ true) r.marked (t.accepted (end_of a) v));
+      refuses = λ cause is. by_took cause is (has_put (end_of a) a.seq a.attempt (past ++ x ∷ [])) refl;
     }
   where
     now : IsHistory layout (past ++ x ∷ [])
@@ -174,7 +174,7 @@ now_known layout past x h may a e there =
     said : IsAnswered (mark (end_of a) (past ++ x ∷ [])) a
     said = (sendings layout (past ++ x ∷ []) now).channels.answers a there
 
-    by_took : (cause : Cause) → a.verdict ≡ Verdicts.Refused cause → (b : Bool) → took (end_of a) a.seq a.attempt (past ++ x ∷ []) ≡ b → b ≡ false
+    by_took : (cause : Cause) → a.verdict ≡ Verdicts.Refused cause → (b : Bool) → has_put (end_of a) a.seq a.attempt (past ++ x ∷ []) ≡ b → b ≡ false
     by_took cause is false is' = refl
     by_took cause is true is' =
         let agrees : Agrees (Verdicts.Refused cause) a.attempt (mark (end_of a) (past ++ x ∷ [])) = subst (λ (w : Verdict). Agrees w a.attempt (mark (end_of a) (past ++ x ∷ []))) is (said.agrees (sym r.marked)) in
@@ -196,10 +196,10 @@ later_known layout past x h may a there k =
       seq = k.seq;
       attempt = k.attempt;
       accepts = λ is. let s = k.accepts is in (s.0, took_later (end_of a) a.seq s.0 past x s.1);
-      refuses = λ cause is. took_push (end_of a) a.seq a.attempt past x ∙ ap (λ (b : Bool). b || takes_in (end_of a) a.seq a.attempt x.event x.outcome) (k.refuses cause is) ∙ by_now cause is (takes_in (end_of a) a.seq a.attempt x.event x.outcome) refl;
+      refuses = λ cause is. took_push (end_of a) a.seq a.attempt past x ∙ ap (λ (b : Bool). b || puts_in (end_of a) a.seq a.attempt x.event x.outcome) (k.refuses cause is) ∙ by_now cause is (puts_in (end_of a) a.seq a.attempt x.event x.outcome) refl;
     }
   where
-    by_now : (cause : Cause) → a.verdict ≡ Verdicts.Refused cause → (b : Bool) → takes_in (end_of a) a.seq a.attempt x.event x.outcome ≡ b → b ≡ false
+    by_now : (cause : Cause) → a.verdict ≡ Verdicts.Refused cause → (b : Bool) → puts_in (end_of a) a.seq a.attempt x.event x.outcome ≡ b → b ≡ false
     by_now cause is false e = refl
     by_now cause is true e =
         let g = takes_is layout past x may (end_of a) a.seq a.attempt e in
@@ -322,7 +322,7 @@ coming_back layout past x may c k last h =
 pub record IsDone (past : List Entry) (c : Channel) (k last : ℕ) : Type 0 where
   pub come : HasComeTo (mark (back c) past) k last
   pub attempts : (q : Parcel) → EmittedIn (Packets.Parcel q) past → channel_of q ≡ c → q.seq ≡ k → q.attempt ≤ last
-  pub nothing : (most : ℕ) → took (back c) k most past ≡ false
+  pub nothing : (most : ℕ) → has_put (back c) k most past ≡ false
   pub gone : (k < sequence c past) ⊎ ((k ≡ sequence c past) × (bound_message c past ≡ None))
 
 gone_more : (layout : Layout) (past : List Entry) (x : Entry) → MayFollow layout past x → (c : Channel) (k : ℕ) → (k < sequence c past) ⊎ ((k ≡ sequence c past) × (bound_message c past ≡ None)) → (k < sequence c (past ++ x ∷ [])) ⊎ ((k ≡ sequence c (past ++ x ∷ [])) × (bound_message c (past ++ x ∷ []) ≡ None))
@@ -358,10 +358,10 @@ attempts_more layout past x may c k last gone before q there on seq =
     (emitted_more (Packets.Parcel q) past x there)
 
 -- nothing of it is taken
-nothing_more : (layout : Layout) (past : List Entry) (x : Entry) → MayFollow layout past x → (c : Channel) (k last : ℕ) → HasComeTo (mark (back c) past) k last → ((q : Parcel) → EmittedIn (Packets.Parcel q) past → channel_of q ≡ c → q.seq ≡ k → q.attempt ≤ last) → ((most : ℕ) → took (back c) k most past ≡ false) → (most : ℕ) → took (back c) k most (past ++ x ∷ []) ≡ false
-nothing_more layout past x may c k last come attempts before most = took_push (back c) k most past x ∙ ap (λ (b : Bool). b || takes_in (back c) k most x.event x.outcome) (before most) ∙ by_now (takes_in (back c) k most x.event x.outcome) refl
+nothing_more : (layout : Layout) (past : List Entry) (x : Entry) → MayFollow layout past x → (c : Channel) (k last : ℕ) → HasComeTo (mark (back c) past) k last → ((q : Parcel) → EmittedIn (Packets.Parcel q) past → channel_of q ≡ c → q.seq ≡ k → q.attempt ≤ last) → ((most : ℕ) → has_put (back c) k most past ≡ false) → (most : ℕ) → has_put (back c) k most (past ++ x ∷ []) ≡ false
+nothing_more layout past x may c k last come attempts before most = took_push (back c) k most past x ∙ ap (λ (b : Bool). b || puts_in (back c) k most x.event x.outcome) (before most) ∙ by_now (puts_in (back c) k most x.event x.outcome) refl
   where
-    by_now : (b : Bool) → takes_in (back c) k most x.event x.outcome ≡ b → b ≡ false
+    by_now : (b : Bool) → puts_in (back c) k most x.event x.outcome ≡ b → b ≡ false
     by_now false e = refl
     by_now true e =
         let g = takes_is layout past x may (back c) k most e in
@@ -382,7 +382,7 @@ now_done layout past x h may c k last e =
     record {
       come = come_on past (back c) (mark (back c) past) (mark (back c) (past ++ x ∷ [])) k last (mark_moves layout (back c) past x may) come;
       attempts = attempts_more layout past x may c k last gone attempts;
-      nothing = nothing_more layout past x may c k last come attempts (λ most. by_took most (took (back c) k most past) refl);
+      nothing = nothing_more layout past x may c k last come attempts (λ most. by_took most (has_put (back c) k most past) refl);
       gone = gone;
     }
   where
@@ -421,7 +421,7 @@ now_done layout past x h may c k last e =
     gone : (k < sequence c (past ++ x ∷ [])) ⊎ ((k ≡ sequence c (past ++ x ∷ [])) × (bound_message c (past ++ x ∷ []) ≡ None))
     gone = inr (omega (arith, b.seq, b.refusal.seq, sequence_push c past x, ap bit b.unmoved), bound_push c past x true ((λ i. b.unmoved i || b.freed i)) ∙ b.unbound)
 
-    by_took : (most : ℕ) (t : Bool) → took (back c) k most past ≡ t → t ≡ false
+    by_took : (most : ℕ) (t : Bool) → has_put (back c) k most past ≡ t → t ≡ false
     by_took most false is = refl
     by_took most true is =
         absurd (⊎_elim

@@ -2,7 +2,7 @@
 #![tactic(auto)]
 
 ghost use Rattle.am_laws_channels.specs.LateAttempt as late;
-ghost use Rattle.am_model.specs.Cluster.{answer_channel, AnswersAreTrue, EndedSequencePutNothing, MarkIsOfParcel, ParcelsFitSender, put_on, took};
+ghost use Rattle.am_model.specs.Cluster.{answer_channel, AnswersAreTrue, EndedSequencePutNothing, MarkIsOfParcel, ParcelsFitSender, put_on, has_put};
 ghost use Rattle.am_model.specs.History.{IsHistory};
 ghost use Rattle.am_model.specs.Layout.{Layout};
 ghost use Rattle.am_model.specs.PostOffice.{Gave};
@@ -41,7 +41,7 @@ pub fn ended_sequence_put_nothing()
 pub fn a_late_first_attempt()
     ensures history { IsHistory late.layout late.journal }
     ensures answered { Gave emitted_of late.journal (Packets.Answer late.answer) }
-    ensures untaken { took (answer_channel late.answer) 1 0 late.journal ≡ false }
-    ensures taken { took (answer_channel late.answer) 1 1 late.journal ≡ true }
+    ensures untaken { has_put (answer_channel late.answer) 1 0 late.journal ≡ false }
+    ensures taken { has_put (answer_channel late.answer) 1 1 late.journal ≡ true }
     ensures put_once { filter_map (put_on (answer_channel late.answer) 1) late.journal ≡ late.request ∷ [] }
 {}

@@ -16,10 +16,12 @@ use Rattle.am_office.specs.declared.Entry.{Entry}
 use Rattle.am_names.specs.Names.{same_end, same_node, same_serial, has_serial}
 use Rattle.am_model.specs.Choice.{without_first}
 use Rattle.am_model.specs.declared.Flying.{Flying}
-use Rattle.am_model.specs.Endpoint.{State, is_resident}
+use Rattle.am_office.specs.declared.Place.{Place}
+use Rattle.am_office.specs.declared.Place.TheVariants.{Host, Disk, Frame, Direct}
+use Rattle.am_model.specs.Endpoint.{State, is_direct, is_in_a_frame, is_resident}
 use Rattle.am_model.specs.Changes.{changed}
 use Rattle.am_office.specs.Entries.{ends_touched, touches}
-use Rattle.am_model.specs.Layout.{Layout, AllAre, EndSetting, has_id, opening_by, home, IsLawful}
+use Rattle.am_model.specs.Layout.{Layout, AllAre, EndSetting, declared, has_id, opening_by, home, IsLawful}
 use Rattle.am_model.specs.Channels.{Channel, bound_message, attempt, sent_message}
 use Rattle.am_model.specs.History.{state_of, MayFollow, IsHistory}
 use Rattle.am_model.specs.PostOffice.{WasAccepted}
@@ -50,6 +52,7 @@ use Rattle.am_laws_fates.proofs.Balance.{balanced}
 use Rattle.am_laws_credits.proofs.Tables.{flights_kept}
 use Rattle.am_laws_credits.proofs.Marked.{all_both, every, flights_own}
 use Rattle.am_laws_replies.proofs.Gave.{accepted_one}
+use Rattle.am_laws_homes.proofs.Places.{fits_network}
 use Rattle.am_laws_cluster.proofs.Flights.{any_message, flights_of, all_aloft, open_aloft, third_none, not_false}
 
 -- the node that an endpoint is said to be of is its home
@@ -318,6 +321,13 @@ held_once layout packet past h e m b own =
       only = λ c is. one_channel m.serial past _ _ c b.channel m m ((kept_flights layout packet past h).kept.stands m.serial) is refl b.bound refl;
     }
 
+-- what is resident on the packet network lies in a frame
+in_a_frame : (p : Place) → is_resident p ≡ true → is_direct p ≡ false → is_in_a_frame p ≡ true
+in_a_frame (Frame frame) h k = refl
+in_a_frame Direct h k = absurd (true≢false k)
+in_a_frame Host h k = absurd (true≢false (sym h))
+in_a_frame Disk h k = absurd (true≢false (sym h))
+
 flies : (layout : Layout) → layout.direct ≡ false → (past : List Entry) → IsHistory layout past → Held layout past → (c : Channel) (m : Message) → bound_message c past ≡ Some m → IsFlying layout past c m
 flies layout packet past h k c m is =
     record {
@@ -327,7 +337,7 @@ flies layout packet past h k c m is =
           (λ f known same. accepted_one past m.serial f.message m ((each_once layout past h).accepted m.serial) known (d.bound c m is).accepted same refl)
           (d.sent m.serial.source).flights;
       node = k.home c m is;
-      frame = all_aloft layout past h m.serial.source some;
+      frame = in_a_frame (state_of layout past m.serial.source).head.place (all_aloft layout past h m.serial.source some) (fits_network layout past h m.serial.source ∙ ap (λ (b : Bool). b && declared layout m.serial.source) packet);
       opened = open_aloft layout past h m.serial.source some;
     }
   where

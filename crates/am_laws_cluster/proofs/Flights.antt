@@ -24,7 +24,7 @@ use Rattle.am_model.specs.declared.Flying.{Flying}
 use Rattle.am_model.specs.declared.Notice.{Notice}
 use Rattle.am_model.specs.Endpoint.{State, Body, is_resident}
 use Rattle.am_model.specs.Calls.{outcome_of_call, is_idle, messages_held, answer}
-use Rattle.am_model.specs.Changes.{called, left, reached, paged_out, paged_in, changed, put, received, expired, bound, landed}
+use Rattle.am_model.specs.Changes.{called, left, reached, paged_out, paged_in, changed, put, received, expired, bound, without_flight}
 use Rattle.am_office.specs.Entries.{accepted_by, put_of, run_by, ends_touched, touches}
 use Rattle.am_model.specs.Layout.{Layout, EndSetting, has_id, opening_by}
 use Rattle.am_model.specs.Channels.{attempt}
@@ -252,7 +252,7 @@ closings layout past h =
 abbrev pub flights_of : State → ℕ
 flights_of s = flight_weight (passing any_message) s.body.in_flight
 
-landed_fewer : (t : Serial) (b : Body) → flight_weight (passing any_message) (landed t b).in_flight ≤ flight_weight (passing any_message) b.in_flight
+landed_fewer : (t : Serial) (b : Body) → flight_weight (passing any_message) (without_flight t b).in_flight ≤ flight_weight (passing any_message) b.in_flight
 landed_fewer t b = omega (arith, landed_weighs (passing any_message) t b.in_flight)
 
 received_fewer : (e : EndpointId) (s : State) (r : Received) → flights_of (received e s r) ≤ flights_of s

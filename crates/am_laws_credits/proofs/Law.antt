@@ -19,7 +19,7 @@ use Rattle.am_model.specs.Choice.{first_holding}
 use Rattle.am_model.specs.declared.Awaited.{Awaited}
 use Rattle.am_model.specs.declared.Mapping.{Mapping}
 use Rattle.am_model.specs.Endpoint.{State, Body, entry_at, requests_held}
-use Rattle.am_model.specs.Calls.{outcome_of_call, unless, request_refusal, new_request, has_no_credit, is_at, awaited_at, excess_at, excess, share_of}
+use Rattle.am_model.specs.Calls.{outcome_of_call, unless, request_refusal, new_request, has_no_credit, is_at, records_at, excess_at, excess, share_of}
 use Rattle.am_office.specs.Entries.{ends_touched, touches}
 use Rattle.am_model.specs.Layout.{Layout, AllAre, IsLawful}
 use Rattle.am_model.specs.History.{state_of, MayFollow, IsHistory}
@@ -48,7 +48,7 @@ eqb_sym a b = by_tests (a == b) (b == a) refl refl
     by_tests false true h k = absurd (true≢false (sym (eq-eqb a b (sym (eqb-true b a k))) ∙ h))
 
 -- the held requests of an index are its records
-pub held_records : (layout : Layout) (past : List Entry) → IsHistory layout past → (e : EndpointId) (index : ℕ) → held_at past e index ≡ awaited_at (state_of layout past e).body index
+pub held_records : (layout : Layout) (past : List Entry) → IsHistory layout past → (e : EndpointId) (index : ℕ) → held_at past e index ≡ records_at (state_of layout past e).body index
 held_records layout past h e index =
     held_is layout past h e (λ at. index == at) ∙ (λ i. count_by (λ (a : Awaited). eqb_sym index a.index i) (state_of layout past e).body.awaited)
 
@@ -73,7 +73,7 @@ within_none layout past none h m e index =
     subst (λ (w : Option Mapping). MatchOption w (held_at past e index ≡ 0) (λ mapping. held_at past e index ≤ mapping.credits)) (m.mapped e index)
     (by_mapping (entry_at (state_of layout past e).body.mapped index) (records_credited layout past none h e index))
   where
-    by_mapping : (w : Option Mapping) → AreCredited w (awaited_at (state_of layout past e).body index) → MatchOption w (held_at past e index ≡ 0) (λ mapping. held_at past e index ≤ mapping.credits)
+    by_mapping : (w : Option Mapping) → AreCredited w (records_at (state_of layout past e).body index) → MatchOption w (held_at past e index ≡ 0) (λ mapping. held_at past e index ≤ mapping.credits)
     by_mapping None r = held_records layout past h e index ∙ r
     by_mapping (Some mapping) r = omega (arith, held_records layout past h e index, r)
 
@@ -118,7 +118,7 @@ each_counts (a ∷ xs) = (
 in_range : (b : Body) → length b.mapped ≡ 16 → UnmappedIsEmpty b → AllAre (λ (a : Awaited). a.index < 16) b.awaited
 in_range b size empty = all_map (λ (a : Awaited). 1 ≤ count_by (is_at a.index) b.awaited) (λ (a : Awaited). a.index < 16) b.awaited (λ a low. by_entry a low (entry_at b.mapped a.index) refl) (each_counts b.awaited)
   where
-    by_entry : (a : Awaited) → 1 ≤ awaited_at b a.index → (w : Option Mapping) → entry_at b.mapped a.index ≡ w → a.index < 16
+    by_entry : (a : Awaited) → 1 ≤ records_at b a.index → (w : Option Mapping) → entry_at b.mapped a.index ≡ w → a.index < 16
     by_entry a low None is = absurd (omega (arith, low, empty a.index is))
     by_entry a low (Some mapping) is = omega (arith, entry_in b.mapped a.index mapping is, size)
 
@@ -129,7 +129,7 @@ by_index n (a ∷ xs) h =
     omega (arith, split, below_plus (λ i. bit (a.index == i)) (λ i. count_by (is_at i) xs) n, below_one a.index n h.0, by_index n xs h.1)
 
 -- where an index has fewer records than its share, the table has room
-below_share : (pool : ℕ) (b : Body) (index : ℕ) (mapping : Mapping) → length b.mapped ≡ 16 → UnmappedIsEmpty b → IsPooled pool b → entry_at b.mapped index ≡ Some mapping → awaited_at b index < mapping.credits → length b.awaited < 32
+below_share : (pool : ℕ) (b : Body) (index : ℕ) (mapping : Mapping) → length b.mapped ≡ 16 → UnmappedIsEmpty b → IsPooled pool b → entry_at b.mapped index ≡ Some mapping → records_at b index < mapping.credits → length b.awaited < 32
 below_share pool b index mapping size empty p is low =
     omega (
       arith,
@@ -137,15 +137,15 @@ below_share pool b index mapping size empty p is low =
       p.sum,
       by_index 16 b.awaited (in_range b size empty),
       below_plus (share_at b) (over_at b) 16,
-      below_lt (awaited_at b) (λ i. share_at b i + over_at b i) index 16 (omega (arith, entry_in b.mapped index mapping is, size)) (λ i small. each i (entry_at b.mapped i) refl) here,
+      below_lt (records_at b) (λ i. share_at b i + over_at b i) index 16 (omega (arith, entry_in b.mapped index mapping is, size)) (λ i small. each i (entry_at b.mapped i) refl) here,
     )
   where
-    each : (i : ℕ) (w : Option Mapping) → entry_at b.mapped i ≡ w → awaited_at b i ≤ share_of (entry_at b.mapped i) + excess_at b i (entry_at b.mapped i)
+    each : (i : ℕ) (w : Option Mapping) → entry_at b.mapped i ≡ w → records_at b i ≤ share_of (entry_at b.mapped i) + excess_at b i (entry_at b.mapped i)
     each i None at = omega (arith, empty i at)
-    each i (Some mp) at = subst (λ (w : Option Mapping). awaited_at b i ≤ share_of w + excess_at b i w) (sym at) (omega arith)
+    each i (Some mp) at = subst (λ (w : Option Mapping). records_at b i ≤ share_of w + excess_at b i w) (sym at) (omega arith)
 
-    here : awaited_at b index < share_at b index + over_at b index
-    here = subst (λ (w : Option Mapping). awaited_at b index < share_of w + excess_at b index w) (sym is) (omega (arith, low))
+    here : records_at b index < share_at b index + over_at b index
+    here = subst (λ (w : Option Mapping). records_at b index < share_of w + excess_at b index w) (sym is) (omega (arith, low))
 
 -- what a refusal for want of credit tells, and one for want of a place
 refused_credit : (a b c d e f g : Bool) → first_holding ((a, No.Closed) ∷ (b, No.OwnTagNone) ∷ (c, No.BadIndex) ∷ (d, No.NotMapped) ∷ (e, No.NoCredit) ∷ (f, No.TableFull) ∷ (g, No.SendFull) ∷ []) ≡ Some No.NoCredit → e ≡ true
@@ -179,18 +179,18 @@ has_share layout past pool h k end p index why =
     subst (λ (w : Option Mapping). MatchOption w (Unit {0}) (λ mapping. mapping.credits ≤ held_at past end index)) (k.mapped.mapped end index)
     (by_mapping (entry_at (state_of layout past end).body.mapped index) refl why)
   where
-    by_low : (mapping : Mapping) → entry_at (state_of layout past end).body.mapped index ≡ Some mapping → 32 ≤ length (state_of layout past end).body.awaited → (b : Bool) → nat_le mapping.credits (awaited_at (state_of layout past end).body index) ≡ b → mapping.credits ≤ held_at past end index
-    by_low mapping is full true at = omega (arith, leb-true mapping.credits (awaited_at (state_of layout past end).body index) at, held_records layout past h end index)
-    by_low mapping is full false at = absurd (omega (arith, full, below_share pool (state_of layout past end).body index mapping (k.mapped.size end) (k.empty end) p is (leb-false mapping.credits (awaited_at (state_of layout past end).body index) at)))
+    by_low : (mapping : Mapping) → entry_at (state_of layout past end).body.mapped index ≡ Some mapping → 32 ≤ length (state_of layout past end).body.awaited → (b : Bool) → nat_le mapping.credits (records_at (state_of layout past end).body index) ≡ b → mapping.credits ≤ held_at past end index
+    by_low mapping is full true at = omega (arith, leb-true mapping.credits (records_at (state_of layout past end).body index) at, held_records layout past h end index)
+    by_low mapping is full false at = absurd (omega (arith, full, below_share pool (state_of layout past end).body index mapping (k.mapped.size end) (k.empty end) p is (leb-false mapping.credits (records_at (state_of layout past end).body index) at)))
 
     by_mapping : (w : Option Mapping) → entry_at (state_of layout past end).body.mapped index ≡ w → (has_no_credit (Some pool) (state_of layout past end).body index w ≡ true) ⊎ (nat_le 32 (length (state_of layout past end).body.awaited) ≡ true) → MatchOption w (Unit {0}) (λ mapping. mapping.credits ≤ held_at past end index)
     by_mapping None is why' = tt
     by_mapping (Some mapping) is why' =
         ⊎_elim
         (λ (c : has_no_credit (Some pool) (state_of layout past end).body index (Some mapping) ≡ true).
-        omega (arith, leb-true mapping.credits (awaited_at (state_of layout past end).body index) (and_parts (nat_le mapping.credits (awaited_at (state_of layout past end).body index)) (excess (state_of layout past end).body == pool) c).0, held_records layout past h end index))
+        omega (arith, leb-true mapping.credits (records_at (state_of layout past end).body index) (and_parts (nat_le mapping.credits (records_at (state_of layout past end).body index)) (excess (state_of layout past end).body == pool) c).0, held_records layout past h end index))
         (λ (t : nat_le 32 (length (state_of layout past end).body.awaited) ≡ true).
-        by_low mapping is (leb-true 32 (length (state_of layout past end).body.awaited) t) (nat_le mapping.credits (awaited_at (state_of layout past end).body index)) refl)
+        by_low mapping is (leb-true 32 (length (state_of layout past end).body.awaited) t) (nat_le mapping.credits (records_at (state_of layout past end).body index)) refl)
         why'
 
 refuses_above : (layout : Layout) (past : List Entry) (pool : Option ℕ) → IsHistory layout past → Shares layout past → ((e : EndpointId) → IsPooledBy pool (state_of layout past e).body) → (x : Entry) → ((e : EndpointId) → touches e x ≡ true → FitsCall pool (state_of layout past e) x.event x.outcome) → RefusesAboveShare pool past x.event x.outcome

@@ -23,7 +23,7 @@ use Rattle.am_model.specs.Choice.{without_first}
 use Rattle.am_model.specs.declared.Awaited.{Awaited}
 use Rattle.am_model.specs.Endpoint.{State, waits_for}
 use Rattle.am_model.specs.Calls.{answer}
-use Rattle.am_model.specs.Changes.{called, left, reached, paged_out, paged_in, changed, put, received, expired, bound, not_awaited, settled, is_of, arrived, with_arrived}
+use Rattle.am_model.specs.Changes.{called, left, reached, paged_out, paged_in, changed, put, received, expired, bound, without_waiting, without_record, is_of, arrived, with_arrived}
 use Rattle.am_office.specs.Entries.{run_in, returned_by, returned_in, unknown_in, given_up_in, passes, is_serial}
 use Rattle.am_model.specs.Layout.{AllAre}
 use Rattle.am_model.specs.Channels.{attempt}
@@ -170,7 +170,7 @@ pub record CanEnd (e : EndpointId) (event : Event) (o : Outcome) (xs : List Awai
   pub request : (actor : Actor) (end : EndpointId) (m reply : Message) (handler : Option ℕ) → event ≡ Events.Call actor end Calls.Poll → o ≡ Out.Ran m handler (Some reply) → m.about ≡ None
   pub away : (end : EndpointId) (m : Message) (cause : Cause) → event ≡ Events.Carry end → o ≡ Out.Returned m cause → same_end e end ≡ false → records_of m.serial xs ≡ 0
 
-not_awaited_where : (p : ℕ → Serial → Bool) (t : Serial) (xs : List Awaited) → AllAre (λ (a : Awaited). same_serial t a.serial ≡ true → a.arrived ≡ false) xs → records_of t xs ≤ 1 → records_where p (not_awaited t xs) ≡ records_where (but p (Some t)) xs
+not_awaited_where : (p : ℕ → Serial → Bool) (t : Serial) (xs : List Awaited) → AllAre (λ (a : Awaited). same_serial t a.serial ≡ true → a.arrived ≡ false) xs → records_of t xs ≤ 1 → records_where p (without_waiting t xs) ≡ records_where (but p (Some t)) xs
 not_awaited_where p t xs waits few =
     but_removed p (waits_for t) t xs (λ a h. (and_parts (same_serial t a.serial) (not a.arrived) h).0)
     (all_map (λ (a : Awaited). same_serial t a.serial ≡ true → a.arrived ≡ false) (λ (a : Awaited). same_serial t a.serial ≡ true → waits_for t a ≡ true) xs (λ a f same. λ i. both (same i) (f same i)) waits) few
@@ -178,7 +178,7 @@ not_awaited_where p t xs waits few =
     both : Bool → Bool → Bool
     both x y = x && not y
 
-settled_where : (p : ℕ → Serial → Bool) (about : Option Serial) (xs : List Awaited) → ((t : Serial) → records_of t xs ≤ 1) → records_where p (settled about xs) ≡ records_where (but p about) xs
+settled_where : (p : ℕ → Serial → Bool) (about : Option Serial) (xs : List Awaited) → ((t : Serial) → records_of t xs ≤ 1) → records_where p (without_record about xs) ≡ records_where (but p about) xs
 settled_where p None xs few = but_none p xs
 settled_where p (Some t) xs few = but_removed p (is_of t) t xs (λ a h. h) (itself xs) (few t)
   where

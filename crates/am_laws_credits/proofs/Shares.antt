@@ -19,7 +19,7 @@ use Rattle.am_office.specs.declared.Entry.{Entry}
 use Rattle.am_model.specs.declared.Awaited.{Awaited}
 use Rattle.am_model.specs.declared.Mapping.{Mapping}
 use Rattle.am_model.specs.Endpoint.{State, Body, waits_for, entry_at}
-use Rattle.am_model.specs.Calls.{outcome_of_call, unless, request_refusal, new_request, has_no_credit, is_over_share, is_at, awaited_at, excess_at, excess_from, excess, share_of, shares, map_refusal, unmap_refusal}
+use Rattle.am_model.specs.Calls.{outcome_of_call, unless, request_refusal, new_request, has_no_credit, is_over_share, is_at, records_at, excess_at, excess_from, excess, share_of, shares, map_refusal, unmap_refusal}
 use Rattle.am_model.specs.Changes.{called, changed}
 use Rattle.am_office.specs.Entries.{touches, is_serial}
 use Rattle.am_model.specs.Layout.{Layout, AllAre, EndSetting, has_id, opening_by, opening, home, IsLawful}
@@ -72,27 +72,27 @@ shares_is b size = shares_below_is b.mapped ∙ ap (below (share_at b)) size
 
 -- an index that is not mapped has no records
 abbrev pub UnmappedIsEmpty : Body → Type 0
-UnmappedIsEmpty b = (index : ℕ) → entry_at b.mapped index ≡ None → awaited_at b index ≡ 0
+UnmappedIsEmpty b = (index : ℕ) → entry_at b.mapped index ≡ None → records_at b index ≡ 0
 
 -- the records above the shares are within the pool, and the shares with the pool within the table
 pub record IsPooled (pool : ℕ) (b : Body) : Type 0 where
   pub over : below (over_at b) 16 ≤ pool
   pub sum : below (share_at b) 16 + pool ≤ 32
 
-over_le : (b c : Body) (i : ℕ) (mapping : Option Mapping) → awaited_at c i ≤ awaited_at b i → excess_at c i mapping ≤ excess_at b i mapping
+over_le : (b c : Body) (i : ℕ) (mapping : Option Mapping) → records_at c i ≤ records_at b i → excess_at c i mapping ≤ excess_at b i mapping
 over_le b c i None low = omega arith
 over_le b c i (Some mapping) low = omega (arith, low)
 
 -- fewer records under the same mappings
-fewer_pooled : (pool : ℕ) (b c : Body) → c.mapped ≡ b.mapped → ((i : ℕ) → awaited_at c i ≤ awaited_at b i) → IsPooled pool b → IsPooled pool c
+fewer_pooled : (pool : ℕ) (b c : Body) → c.mapped ≡ b.mapped → ((i : ℕ) → records_at c i ≤ records_at b i) → IsPooled pool b → IsPooled pool c
 fewer_pooled pool b c same low p =
     record {
       over = omega (arith, p.over, below_le (over_at c) (over_at b) 16 (λ i small. subst (λ (xs : List (Option Mapping)). excess_at c i (entry_at xs i) ≤ over_at b i) (sym same) (over_le b c i (entry_at b.mapped i) (low i))));
       sum = subst (λ (xs : List (Option Mapping)). below (λ i. share_of (entry_at xs i)) 16 + pool ≤ 32) (sym same) p.sum;
     }
 
-fewer_empty : (b c : Body) → c.mapped ≡ b.mapped → ((i : ℕ) → awaited_at c i ≤ awaited_at b i) → UnmappedIsEmpty b → UnmappedIsEmpty c
-fewer_empty b c same low h = λ i none. let before : awaited_at b i ≡ 0 = h i (ap (λ (xs : List (Option Mapping)). entry_at xs i) (sym same) ∙ none) in omega (arith, before, low i)
+fewer_empty : (b c : Body) → c.mapped ≡ b.mapped → ((i : ℕ) → records_at c i ≤ records_at b i) → UnmappedIsEmpty b → UnmappedIsEmpty c
+fewer_empty b c same low h = λ i none. let before : records_at b i ≡ 0 = h i (ap (λ (xs : List (Option Mapping)). entry_at xs i) (sym same) ∙ none) in omega (arith, before, low i)
 
 pub entry_in : (xs : List (Option Mapping)) (i : ℕ) (mapping : Mapping) → entry_at xs i ≡ Some mapping → i < length xs
 entry_in xs i mapping h = by_test (nat_lt i (length xs)) refl
@@ -130,25 +130,25 @@ had_credit pool end st index handler words m fits = by_parts (request_refusal po
         record { mapping = mapping; mapped = at; credit = ap (has_no_credit pool st.body index) (sym at) ∙ two.0; room = leb-false 32 (length st.body.awaited) two.1 }
 
 -- one record more
-pub push_at : (at index : ℕ) (serial : Serial) (b : Body) → count_by (is_at index) (b.awaited ++ record { index = at; serial = serial; arrived = false } ∷ []) ≡ awaited_at b index + bit (at == index)
+pub push_at : (at index : ℕ) (serial : Serial) (b : Body) → count_by (is_at index) (b.awaited ++ record { index = at; serial = serial; arrived = false } ∷ []) ≡ records_at b index + bit (at == index)
 push_at at index serial b = sum_by_push (λ (y : Awaited). bit (is_at index y)) b.awaited (record { index = at; serial = serial; arrived = false })
 
 abbrev one_more : Body → ℕ → Serial → Body
 one_more b at serial = record b { awaited = b.awaited ++ record { index = at; serial = serial; arrived = false } ∷ [] }
 
 requested_over : (pool at : ℕ) (serial : Serial) (b : Body) (mapping : Mapping) → length b.mapped ≡ 16 → entry_at b.mapped at ≡ Some mapping → has_no_credit (Some pool) b at (Some mapping) ≡ false → below (over_at b) 16 ≤ pool → below (over_at (one_more b at serial)) 16 ≤ pool
-requested_over pool at serial b mapping size is free low = by_tests (nat_le mapping.credits (awaited_at b at)) (excess b == pool) refl refl free
+requested_over pool at serial b mapping size is free low = by_tests (nat_le mapping.credits (records_at b at)) (excess b == pool) refl refl free
   where
-    here : over_at (one_more b at serial) at ≡ awaited_at b at + 1 - mapping.credits
-    here = ap (excess_at (one_more b at serial) at) is ∙ ap (λ (n : ℕ). n - mapping.credits) (push_at at at serial b ∙ ap (λ (t : Bool). awaited_at b at + bit t) (eq-eqb at at refl))
+    here : over_at (one_more b at serial) at ≡ records_at b at + 1 - mapping.credits
+    here = ap (excess_at (one_more b at serial) at) is ∙ ap (λ (n : ℕ). n - mapping.credits) (push_at at at serial b ∙ ap (λ (t : Bool). records_at b at + bit t) (eq-eqb at at refl))
 
-    before : over_at b at ≡ awaited_at b at - mapping.credits
+    before : over_at b at ≡ records_at b at - mapping.credits
     before = ap (excess_at b at) is
 
     away : (i : ℕ) → (i == at) ≡ false → over_at (one_more b at serial) i ≡ over_at b i
     away i apart = by_mapping (entry_at b.mapped i)
       where
-        same : count_by (is_at i) (one_more b at serial).awaited ≡ awaited_at b i
+        same : count_by (is_at i) (one_more b at serial).awaited ≡ records_at b i
         same = omega (arith, push_at at i serial b, ap bit (other (at == i) refl))
           where
             other : (t : Bool) → (at == i) ≡ t → t ≡ false
@@ -162,17 +162,17 @@ requested_over pool at serial b mapping size is free low = by_tests (nat_le mapp
     swap : below (over_at (one_more b at serial)) 16 + over_at b at ≡ below (over_at b) 16 + over_at (one_more b at serial) at
     swap = below_but (over_at (one_more b at serial)) (over_at b) at 16 (omega (arith, entry_in b.mapped at mapping is, size)) away
 
-    by_tests : (s t : Bool) → nat_le mapping.credits (awaited_at b at) ≡ s → (excess b == pool) ≡ t → (s && t) ≡ false → below (over_at (one_more b at serial)) 16 ≤ pool
+    by_tests : (s t : Bool) → nat_le mapping.credits (records_at b at) ≡ s → (excess b == pool) ≡ t → (s && t) ≡ false → below (over_at (one_more b at serial)) 16 ≤ pool
     by_tests true true hs ht h = absurd (true≢false h)
     by_tests true false hs ht h =
         let apart : excess b ≡ pool → ⊥ = eqb-false (excess b) pool ht in
         omega (arith, apart, excess_is b size, low, swap, here, before)
-    by_tests false t hs ht h = omega (arith, leb-false mapping.credits (awaited_at b at) hs, low, swap, here, before)
+    by_tests false t hs ht h = omega (arith, leb-false mapping.credits (records_at b at) hs, low, swap, here, before)
 
 requested_empty : (at : ℕ) (serial : Serial) (b : Body) (mapping : Mapping) → entry_at b.mapped at ≡ Some mapping → UnmappedIsEmpty b → UnmappedIsEmpty (one_more b at serial)
 requested_empty at serial b mapping is h = λ i none. by_test i none (at == i) refl
   where
-    by_test : (i : ℕ) → entry_at b.mapped i ≡ None → (t : Bool) → (at == i) ≡ t → awaited_at (one_more b at serial) i ≡ 0
+    by_test : (i : ℕ) → entry_at b.mapped i ≡ None → (t : Bool) → (at == i) ≡ t → records_at (one_more b at serial) i ≡ 0
     by_test i none true e =
         let both : ◌≡◌ {A = Option Mapping} (Some mapping) None = sym is ∙ ap (entry_at b.mapped) (eqb-true at i e) ∙ none in absurd (cc)
     by_test i none false e = omega (arith, push_at at i serial b, h i none, ap bit e)
@@ -181,15 +181,15 @@ requested_empty at serial b mapping is h = λ i none. by_test i none (at == i) r
 abbrev anew : Body → ℕ → Option Mapping → Body
 anew b at v = record b { mapped = slice_set b.mapped at v }
 
-anew_over : (b : Body) (at : ℕ) (v : Option Mapping) → at < length b.mapped → awaited_at b at ≡ 0 → (i : ℕ) → over_at (anew b at v) i ≤ over_at b i
+anew_over : (b : Body) (at : ℕ) (v : Option Mapping) → at < length b.mapped → records_at b at ≡ 0 → (i : ℕ) → over_at (anew b at v) i ≤ over_at b i
 anew_over b at v low none i = subst (λ (w : Option Mapping). excess_at b i w ≤ over_at b i) (sym (set_entry b.mapped at i v low)) (by_test (i == at) refl)
   where
-    nothing : (w : Option Mapping) (n : ℕ) → awaited_at b i ≡ 0 → excess_at b i w ≤ n
+    nothing : (w : Option Mapping) (n : ℕ) → records_at b i ≡ 0 → excess_at b i w ≤ n
     nothing None n is = omega arith
     nothing (Some mp) n is = omega (arith, is)
 
     by_test : (t : Bool) → (i == at) ≡ t → excess_at b i (unwrap_or (if t then Some v else None) (entry_at b.mapped i)) ≤ over_at b i
-    by_test true e = nothing v (over_at b i) (ap (awaited_at b) (eqb-true i at e) ∙ none)
+    by_test true e = nothing v (over_at b i) (ap (records_at b) (eqb-true i at e) ∙ none)
     by_test false e = omega arith
 
 anew_share : (b : Body) (at : ℕ) (v : Option Mapping) → at < length b.mapped → length b.mapped ≡ 16 → below (share_at (anew b at v)) 16 + share_at b at ≡ below (share_at b) 16 + share_of v
@@ -202,11 +202,11 @@ anew_share b at v low size =
     away : (i : ℕ) → (i == at) ≡ false → share_at (anew b at v) i ≡ share_at b i
     away i apart = ap share_of (set_entry b.mapped at i v low ∙ ap (λ (t : Bool). unwrap_or (if t then Some v else None) (entry_at b.mapped i)) apart)
 
-anew_empty : (b : Body) (at : ℕ) (v : Option Mapping) → at < length b.mapped → awaited_at b at ≡ 0 → UnmappedIsEmpty b → UnmappedIsEmpty (anew b at v)
+anew_empty : (b : Body) (at : ℕ) (v : Option Mapping) → at < length b.mapped → records_at b at ≡ 0 → UnmappedIsEmpty b → UnmappedIsEmpty (anew b at v)
 anew_empty b at v low none h = λ i is. by_test i (i == at) refl (sym (set_entry b.mapped at i v low) ∙ is)
   where
-    by_test : (i : ℕ) (t : Bool) → (i == at) ≡ t → unwrap_or (if t then Some v else None) (entry_at b.mapped i) ≡ None → awaited_at b i ≡ 0
-    by_test i true e is = ap (awaited_at b) (eqb-true i at e) ∙ none
+    by_test : (i : ℕ) (t : Bool) → (i == at) ≡ t → unwrap_or (if t then Some v else None) (entry_at b.mapped i) ≡ None → records_at b i ≡ 0
+    by_test i true e is = ap (records_at b) (eqb-true i at e) ∙ none
     by_test i false e is = h i is
 
 -- what a map that is done tells, and an unmap
@@ -220,8 +220,8 @@ unless_four false false false false x y z w h = (refl, refl)
 map_told : (pool : Option ℕ) (st : State) (at credits : ℕ) → map_refusal pool st at credits ≡ None → (is_some (entry_at st.body.mapped at) ≡ false) × (is_over_share pool st.body credits ≡ false)
 map_told pool st at credits h = unless_four st.head.closed (nat_le 16 at) (is_some (entry_at st.body.mapped at)) (is_over_share pool st.body credits) No.Closed No.BadIndex No.InUse (No.OverShare (shares st.body)) h
 
-unmap_told : (st : State) (at : ℕ) → unmap_refusal st at ≡ None → awaited_at st.body at ≡ 0
-unmap_told st at h = not_zero (awaited_at st.body at) (unless_four st.head.closed (nat_le 16 at) (is_none (entry_at st.body.mapped at)) (not (awaited_at st.body at == 0)) No.Closed No.BadIndex No.NotMapped (No.Outstanding (awaited_at st.body at)) h).1
+unmap_told : (st : State) (at : ℕ) → unmap_refusal st at ≡ None → records_at st.body at ≡ 0
+unmap_told st at h = not_zero (records_at st.body at) (unless_four st.head.closed (nat_le 16 at) (is_none (entry_at st.body.mapped at)) (not (records_at st.body at == 0)) No.Closed No.BadIndex No.NotMapped (No.Outstanding (records_at st.body at)) h).1
 
 none_is : (w : Option Mapping) → is_some w ≡ false → w ≡ None
 none_is None h = refl
@@ -266,7 +266,7 @@ called_pooled pool end st (Calls.Map at name tag credits) Out.Done fits size h p
     }
 called_pooled pool end st (Calls.Unmap at) Out.Done fits size h p =
     let low : at < length st.body.mapped = omega (arith, map_in (Some pool) end st (Calls.Unmap at) fits, size) in
-    let none : awaited_at st.body at ≡ 0 = unmap_told st at (unless_done (unmap_refusal st at) fits) in
+    let none : records_at st.body at ≡ 0 = unmap_told st at (unless_done (unmap_refusal st at) fits) in
     record {
       over = omega (arith, p.over, below_le (over_at (anew st.body at None)) (over_at st.body) 16 (λ i small. anew_over st.body at None low none i));
       sum = omega (arith, p.sum, anew_share st.body at None low size);
@@ -316,11 +316,11 @@ shares_more layout past x k may =
 shares_begin : (layout : Layout) → IsLawful layout → Shares layout []
 shares_begin layout lawful = record { mapped = mapped_begin layout; empty = λ e i none. empty (find (has_id e) layout.ends) i; pooled = λ e. pooled layout.pool lawful.pool e }
   where
-    empty : (setting : Option EndSetting) (i : ℕ) → awaited_at (opening_by layout setting).body i ≡ 0
+    empty : (setting : Option EndSetting) (i : ℕ) → records_at (opening_by layout setting).body i ≡ 0
     empty None i = refl
     empty (Some setting) i = refl
 
-    nothing : (b : Body) → ((i : ℕ) → awaited_at b i ≡ 0) → ((i : ℕ) → entry_at b.mapped i ≡ None) → (pool : ℕ) → pool ≤ 32 → IsPooled pool b
+    nothing : (b : Body) → ((i : ℕ) → records_at b i ≡ 0) → ((i : ℕ) → entry_at b.mapped i ≡ None) → (pool : ℕ) → pool ≤ 32 → IsPooled pool b
     nothing b zero' none pool low =
         let over : below (over_at b) 16 ≡ below (λ i. 0) 16 = (λ j. below (λ (i : ℕ). ap (excess_at b i) (none i) j) 16) in
         let sum' : below (share_at b) 16 ≡ below (λ i. 0) 16 = (λ j. below (λ (i : ℕ). ap share_of (none i) j) 16) in

@@ -18,7 +18,7 @@ use Rattle.am_model.specs.declared.Awaited.{Awaited}
 use Rattle.am_model.specs.declared.Flying.{Flying}
 use Rattle.am_model.specs.Endpoint.{State, Body, waits_for}
 use Rattle.am_model.specs.Calls.{answer}
-use Rattle.am_model.specs.Changes.{called, left, reached, paged_out, paged_in, changed, put, received, expired, bound, arrived, with_arrived, marked, with_marked, landed, bounces_of}
+use Rattle.am_model.specs.Changes.{called, left, reached, paged_out, paged_in, changed, put, received, expired, bound, arrived, with_arrived, marked, with_marked, without_flight, bounces_of}
 use Rattle.am_office.specs.Entries.{accepted_in, put_in}
 use Rattle.am_model.specs.Layout.{AllAre}
 use Rattle.am_model.specs.Channels.{attempt, sent_message}
@@ -97,7 +97,7 @@ reached_flights R e end st (Out.Accepted m) f h = by_test (same_end e m.dest)
     by_test false = h
 reached_flights R e end st o f h = h
 
-pub landed_all : (R : Flying → Type 0) (t : Serial) (b : Body) → AllAre R b.in_flight → AllAre R (landed t b).in_flight
+pub landed_all : (R : Flying → Type 0) (t : Serial) (b : Body) → AllAre R b.in_flight → AllAre R (without_flight t b).in_flight
 landed_all R t b h = all_without R (λ (g : Flying). has_serial t g.message) b.in_flight h
 
 received_flights : (R : Flying → Type 0) (e : EndpointId) (st : State) (node peer : NodeId) (number channel seq attempt : ℕ) (r : Received) → ((m : Message) (t : Serial) → put_in (Events.Receive node peer number) (Out.Received channel seq attempt r) ≡ Some m → m.about ≡ Some t → (f : Flying) → R f → R (marked t f)) → AllAre R st.body.in_flight → AllAre R (received e st r).body.in_flight

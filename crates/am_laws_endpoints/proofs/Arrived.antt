@@ -23,9 +23,9 @@ use Rattle.am_names.specs.Names.{same_end, same_serial, is_request}
 use Rattle.am_model.specs.Choice.{without_first}
 use Rattle.am_model.specs.declared.Awaited.{Awaited}
 use Rattle.am_model.specs.declared.Flying.{Flying}
-use Rattle.am_model.specs.Endpoint.{State, waits_for, is_awaited}
+use Rattle.am_model.specs.Endpoint.{State, waits_for, is_waited_for}
 use Rattle.am_model.specs.Calls.{answer}
-use Rattle.am_model.specs.Changes.{called, left, reached, paged_out, paged_in, changed, put, received, expired, bound, not_awaited, settled, is_of, arrived, with_arrived}
+use Rattle.am_model.specs.Changes.{called, left, reached, paged_out, paged_in, changed, put, received, expired, bound, without_waiting, without_record, is_of, arrived, with_arrived}
 use Rattle.am_office.specs.Entries.{put_of, run_by, ends_touched, touched_by_result, touches, passes, is_serial}
 use Rattle.am_model.specs.Layout.{Layout, EndSetting, has_id, opening_by}
 use Rattle.am_model.specs.Channels.{attempt}
@@ -79,14 +79,14 @@ new_arrived : (s : Serial) (xs : List Awaited) (index : ℕ) (t : Serial) → ar
 new_arrived s xs index t = omega (arith, sum_by_push (λ (y : Awaited). bit (y.arrived && same_serial s y.serial)) xs (record { index = index; serial = t; arrived = false }))
 
 -- what goes by waiting has not arrived
-waiting_goes : (s t : Serial) (xs : List Awaited) → arrived_of s (not_awaited t xs) ≡ arrived_of s xs
+waiting_goes : (s t : Serial) (xs : List Awaited) → arrived_of s (without_waiting t xs) ≡ arrived_of s xs
 waiting_goes s t [] = refl
 waiting_goes s t (a ∷ xs) = by_tests (same_serial t a.serial) a.arrived refl (waiting_goes s t xs)
   where
-    by_tests : (b c : Bool) → a.arrived ≡ c → arrived_of s (not_awaited t xs) ≡ arrived_of s xs → arrived_of s (cond (b && not c) xs (a ∷ not_awaited t xs)) ≡ arrived_of s (a ∷ xs)
+    by_tests : (b c : Bool) → a.arrived ≡ c → arrived_of s (without_waiting t xs) ≡ arrived_of s xs → arrived_of s (cond (b && not c) xs (a ∷ without_waiting t xs)) ≡ arrived_of s (a ∷ xs)
     by_tests true false is more = omega (arith, sum_by-cons (λ (y : Awaited). bit (y.arrived && same_serial s y.serial)) a xs, ap (λ (d : Bool). bit (d && same_serial s a.serial)) is)
-    by_tests true true is more = omega (arith, more, sum_by-cons (λ (y : Awaited). bit (y.arrived && same_serial s y.serial)) a xs, sum_by-cons (λ (y : Awaited). bit (y.arrived && same_serial s y.serial)) a (not_awaited t xs))
-    by_tests false c is more = omega (arith, more, sum_by-cons (λ (y : Awaited). bit (y.arrived && same_serial s y.serial)) a xs, sum_by-cons (λ (y : Awaited). bit (y.arrived && same_serial s y.serial)) a (not_awaited t xs))
+    by_tests true true is more = omega (arith, more, sum_by-cons (λ (y : Awaited). bit (y.arrived && same_serial s y.serial)) a xs, sum_by-cons (λ (y : Awaited). bit (y.arrived && same_serial s y.serial)) a (without_waiting t xs))
+    by_tests false c is more = omega (arith, more, sum_by-cons (λ (y : Awaited). bit (y.arrived && same_serial s y.serial)) a xs, sum_by-cons (λ (y : Awaited). bit (y.arrived && same_serial s y.serial)) a (without_waiting t xs))
 
 -- a reply that is put: the records of its request arrive, and no others
 all_arrive : (t : Serial) (xs : List Awaited) → arrived_of t (with_arrived (Some t) xs) ≡ records_of t xs
@@ -141,11 +141,11 @@ first_found t (b ∷ xs) h = by_test (same_serial t b.serial) refl (λ low. firs
     by_test true is more = (b, refl, is)
     by_test false is more = more (omega (arith, h, sum_by-cons (λ (y : Awaited). bit (same_serial t y.serial)) b xs, ap bit is))
 
-reply_settles : (s : Serial) (about : Option Serial) (xs : List Awaited) → ((t : Serial) → records_of t xs ≤ 1) → ((t : Serial) → about ≡ Some t → 1 ≤ arrived_of t xs) → arrived_of s (settled about xs) + about_bit s about ≡ arrived_of s xs
+reply_settles : (s : Serial) (about : Option Serial) (xs : List Awaited) → ((t : Serial) → records_of t xs ≤ 1) → ((t : Serial) → about ≡ Some t → 1 ≤ arrived_of t xs) → arrived_of s (without_record about xs) + about_bit s about ≡ arrived_of s xs
 reply_settles s None xs few there = omega arith
 reply_settles s (Some t) xs few there = by_found (first_found t xs (omega (arith, there t refl, both_of t xs)))
   where
-    by_found : (a : Awaited) × (find (is_of t) xs ≡ Some a) × (same_serial t a.serial ≡ true) → arrived_of s (settled (Some t) xs) + bit (same_serial s t) ≡ arrived_of s xs
+    by_found : (a : Awaited) × (find (is_of t) xs ≡ Some a) × (same_serial t a.serial ≡ true) → arrived_of s (without_record (Some t) xs) + bit (same_serial s t) ≡ arrived_of s xs
     by_found (a, at, mine) = omega (arith, first_goes (λ (y : Awaited). y.arrived && same_serial s y.serial) (is_of t) xs a at, by_tests a.arrived refl (same_serial s t) refl)
       where
         is : t ≡ a.serial
@@ -260,9 +260,9 @@ put_waits layout past x h may m t is about = (reply.dest, by_kind (is_request m)
     not_false true e = refl
     not_false false e = absurd (true≢false e)
 
-    by_kind : (b : Bool) → b ≡ false → ((if b then false else true) && not (is_awaited (state_of layout past m.dest).body.awaited m.about)) ≡ false → list_any (waits_for t) (state_of layout past m.dest).body.awaited ≡ true
+    by_kind : (b : Bool) → b ≡ false → ((if b then false else true) && not (is_waited_for (state_of layout past m.dest).body.awaited m.about)) ≡ false → list_any (waits_for t) (state_of layout past m.dest).body.awaited ≡ true
     by_kind true e f = absurd (true≢false e)
-    by_kind false e f = ap (is_awaited (state_of layout past m.dest).body.awaited) (sym about) ∙ not_false (is_awaited (state_of layout past m.dest).body.awaited m.about) f
+    by_kind false e f = ap (is_waited_for (state_of layout past m.dest).body.awaited) (sym about) ∙ not_false (is_waited_for (state_of layout past m.dest).body.awaited m.about) f
 
 -- at most one reply to a request is put
 pub record Arrivals (layout : Layout) (past : List Entry) : Type 0 where

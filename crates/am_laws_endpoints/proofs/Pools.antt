@@ -28,9 +28,9 @@ use Rattle.am_model.specs.declared.Awaited.{Awaited}
 use Rattle.am_model.specs.declared.Queued.{Queued}
 use Rattle.am_model.specs.declared.Flying.{Flying}
 use Rattle.am_model.specs.declared.Notice.{Notice}
-use Rattle.am_model.specs.Endpoint.{State, Body, waits_for, is_awaited, front, is_arrived, requests_held, replies_held, IsWithin}
+use Rattle.am_model.specs.Endpoint.{State, Body, waits_for, is_waited_for, front, is_arrived, requests_held, replies_held, IsWithin}
 use Rattle.am_model.specs.Calls.{outcome_of_call, answer}
-use Rattle.am_model.specs.Changes.{called, left, reached, paged_out, paged_in, changed, put, received, expired, bound, not_awaited, arrived, with_arrived, flying_of, landed, bounces_of}
+use Rattle.am_model.specs.Changes.{called, left, reached, paged_out, paged_in, changed, put, received, expired, bound, without_waiting, arrived, with_arrived, flying_of, without_flight, bounces_of}
 use Rattle.am_office.specs.Entries.{put_of, ends_touched, touched_by_result, touches}
 use Rattle.am_model.specs.Layout.{Layout, AllAre, EndSetting, has_id, opening_by}
 use Rattle.am_model.specs.Channels.{attempt}
@@ -128,7 +128,7 @@ received_sorted : (e : EndpointId) (s : State) (r : Received) → AreSorted s.bo
 received_sorted e s (Got.Accepted m answer) k = record { requests = k.requests; replies = k.replies }
 received_sorted e s (Got.Refused m NotResident answer) k = k
 received_sorted e s (Got.Delivered t) k = record { requests = k.requests; replies = k.replies }
-received_sorted e s (Got.Requeued t cause bounces) k = requeued_sorted (flying_of t s.body.in_flight) bounces (landed t s.body) (record { requests = k.requests; replies = k.replies })
+received_sorted e s (Got.Requeued t cause bounces) k = requeued_sorted (flying_of t s.body.in_flight) bounces (without_flight t s.body) (record { requests = k.requests; replies = k.replies })
 received_sorted e s (Got.Returned t cause) k = record { requests = k.requests; replies = k.replies }
 received_sorted e s r k = k
 
@@ -265,14 +265,14 @@ no_more p e s event o fits h =
 
 -- the arrived records
 
-waiting_stay : (s : Serial) (xs : List Awaited) → count_by is_arrived (not_awaited s xs) ≡ count_by is_arrived xs
+waiting_stay : (s : Serial) (xs : List Awaited) → count_by is_arrived (without_waiting s xs) ≡ count_by is_arrived xs
 waiting_stay s [] = refl
 waiting_stay s (a ∷ xs) = by_tests (same_serial s a.serial) a.arrived refl (waiting_stay s xs)
   where
-    by_tests : (b c : Bool) → a.arrived ≡ c → count_by is_arrived (not_awaited s xs) ≡ count_by is_arrived xs → count_by is_arrived (cond (b && not c) xs (a ∷ not_awaited s xs)) ≡ count_by is_arrived (a ∷ xs)
+    by_tests : (b c : Bool) → a.arrived ≡ c → count_by is_arrived (without_waiting s xs) ≡ count_by is_arrived xs → count_by is_arrived (cond (b && not c) xs (a ∷ without_waiting s xs)) ≡ count_by is_arrived (a ∷ xs)
     by_tests true false is more = omega (arith, sum_by-cons (λ (y : Awaited). cond y.arrived 1 0) a xs, ap bit is)
-    by_tests true true is more = omega (arith, more, sum_by-cons (λ (y : Awaited). cond y.arrived 1 0) a xs, sum_by-cons (λ (y : Awaited). cond y.arrived 1 0) a (not_awaited s xs))
-    by_tests false c is more = omega (arith, more, sum_by-cons (λ (y : Awaited). cond y.arrived 1 0) a xs, sum_by-cons (λ (y : Awaited). cond y.arrived 1 0) a (not_awaited s xs))
+    by_tests true true is more = omega (arith, more, sum_by-cons (λ (y : Awaited). cond y.arrived 1 0) a xs, sum_by-cons (λ (y : Awaited). cond y.arrived 1 0) a (without_waiting s xs))
+    by_tests false c is more = omega (arith, more, sum_by-cons (λ (y : Awaited). cond y.arrived 1 0) a xs, sum_by-cons (λ (y : Awaited). cond y.arrived 1 0) a (without_waiting s xs))
 
 more_arrive : (t : Serial) (xs : List Awaited) → count_by is_arrived xs + bit (list_any (waits_for t) xs) ≤ count_by is_arrived (with_arrived (Some t) xs)
 more_arrive t [] = omega arith
@@ -288,12 +288,12 @@ more_arrive t (a ∷ xs) = omega (arith, more_arrive t xs, sum_by-cons (λ (y : 
     one' false false true = omega arith
     one' false false false = omega arith
 
-about_arrives : (about : Option Serial) (xs : List Awaited) → count_by is_arrived xs + bit (is_awaited xs about) ≤ count_by is_arrived (with_arrived about xs)
+about_arrives : (about : Option Serial) (xs : List Awaited) → count_by is_arrived xs + bit (is_waited_for xs about) ≤ count_by is_arrived (with_arrived about xs)
 about_arrives None xs = omega arith
 about_arrives (Some t) xs = more_arrive t xs
 
-put_arrives : (m : Message) (xs : List Awaited) → (is_answer m && not (is_awaited xs m.about)) ≡ false → count_by is_arrived xs + bit (is_answer m) ≤ count_by is_arrived (with_arrived m.about xs)
-put_arrives m xs h = omega (arith, about_arrives m.about xs, by_tests (is_answer m) (is_awaited xs m.about) h)
+put_arrives : (m : Message) (xs : List Awaited) → (is_answer m && not (is_waited_for xs m.about)) ≡ false → count_by is_arrived xs + bit (is_answer m) ≤ count_by is_arrived (with_arrived m.about xs)
+put_arrives m xs h = omega (arith, about_arrives m.about xs, by_tests (is_answer m) (is_waited_for xs m.about) h)
   where
     by_tests : (a b : Bool) → (a && not b) ≡ false → bit a ≤ bit b
     by_tests true true e = omega arith
@@ -301,7 +301,7 @@ put_arrives m xs h = omega (arith, about_arrives m.about xs, by_tests (is_answer
     by_tests false b e = omega arith
 
 abbrev Welcomes : EndpointId → State → Event → Outcome → Type 0
-Welcomes e s event o = (m : Message) → put_at e event o ≡ Some m → (is_answer m && not (is_awaited s.body.awaited m.about)) ≡ false
+Welcomes e s event o = (m : Message) → put_at e event o ≡ Some m → (is_answer m && not (is_waited_for s.body.awaited m.about)) ≡ false
 
 left_arrives : (s : State) (o : Outcome) (t : Bool) → count_by is_arrived (if t then left s o else s).body.awaited ≡ count_by is_arrived s.body.awaited
 left_arrives s (Out.Accepted m) true = refl

@@ -23,7 +23,7 @@ use Rattle.am_model.specs.Choice.{without_first}
 use Rattle.am_model.specs.declared.Queued.{Queued}
 use Rattle.am_model.specs.declared.Flying.{Flying}
 use Rattle.am_model.specs.Endpoint.{State, Body, front, front_of}
-use Rattle.am_model.specs.Changes.{called, left, reached, queued, appended, requests_left, without_front, bounces_of, paged_out, paged_in, changed, put, received, expired, bound, flying_of, landed, requeued_flight, with_marked, marked}
+use Rattle.am_model.specs.Changes.{called, left, reached, queued, appended, requests_left, without_front, bounces_of, paged_out, paged_in, changed, put, received, expired, bound, flying_of, without_flight, requeued_flight, with_marked, marked}
 use Rattle.am_office.specs.Entries.{accepted_by}
 use Rattle.am_model.specs.History.{judged}
 use Rattle.am_model.proofs.Queues.{Judged}
@@ -192,7 +192,7 @@ landed_weighs v serial (f ∷ flying) = by_test (has_serial serial f.message) (l
     by_test true more = omega (arith, sum_by-cons (λ (g : Flying). v g.message g.bounces) f flying)
     by_test false more = omega (arith, more, sum_by-cons (λ (g : Flying). v g.message g.bounces) f flying, sum_by-cons (λ (g : Flying). v g.message g.bounces) f (without_first (λ (g : Flying). has_serial serial g.message) flying))
 
-landed_leaves : (v : Weight) (serial : Serial) (b : Body) → aloft v (landed serial b) + one_weight v (as_queued (flying_of serial b.in_flight)) ≡ aloft v b
+landed_leaves : (v : Weight) (serial : Serial) (b : Body) → aloft v (without_flight serial b) + one_weight v (as_queued (flying_of serial b.in_flight)) ≡ aloft v b
 landed_leaves v serial b = omega (arith, landed_weighs v serial b.in_flight)
 
 requeued_weighs : (v : Weight) (flight : Option Flying) (bounces : ℕ) (b : Body) → aloft v (requeued_flight flight bounces b) ≡ aloft v b + one_weight v (rebounced bounces flight)
@@ -202,15 +202,15 @@ requeued_weighs v (Some f) bounces b = omega (arith, both_appended v f.message b
 received_moves : (e : EndpointId) (s : State) (r : Received) → Moves s.body (received e s r).body (parts_by r s.body.in_flight) (comes_by r s.body.in_flight)
 received_moves e s (Got.Accepted m answer) = record { rest = s.body; leaves = λ v. omega arith; comes = λ v. omega (arith, put_weighs v m s) }
 received_moves e s (Got.Refused m NotResident answer) = stays s.body
-received_moves e s (Got.Delivered serial) = record { rest = landed serial s.body; leaves = λ v. landed_leaves v serial s.body; comes = λ v. omega arith }
+received_moves e s (Got.Delivered serial) = record { rest = without_flight serial s.body; leaves = λ v. landed_leaves v serial s.body; comes = λ v. omega arith }
 received_moves e s (Got.Requeued serial cause bounces) =
-    record { rest = landed serial s.body; leaves = λ v. landed_leaves v serial s.body; comes = λ v. requeued_weighs v (flying_of serial s.body.in_flight) bounces (landed serial s.body) }
-received_moves e s (Got.Returned serial cause) = record { rest = landed serial s.body; leaves = λ v. landed_leaves v serial s.body; comes = λ v. omega arith }
+    record { rest = without_flight serial s.body; leaves = λ v. landed_leaves v serial s.body; comes = λ v. requeued_weighs v (flying_of serial s.body.in_flight) bounces (without_flight serial s.body) }
+received_moves e s (Got.Returned serial cause) = record { rest = without_flight serial s.body; leaves = λ v. landed_leaves v serial s.body; comes = λ v. omega arith }
 received_moves e s r = stays s.body
 
 expired_moves : (s : State) (o : Outcome) → Moves s.body (expired s o).body (expiry_parts o s.body.in_flight) None
-expired_moves s (Out.Delivered serial) = record { rest = landed serial s.body; leaves = λ v. landed_leaves v serial s.body; comes = λ v. omega arith }
-expired_moves s (Out.Unknown serial) = record { rest = landed serial s.body; leaves = λ v. landed_leaves v serial s.body; comes = λ v. omega arith }
+expired_moves s (Out.Delivered serial) = record { rest = without_flight serial s.body; leaves = λ v. landed_leaves v serial s.body; comes = λ v. omega arith }
+expired_moves s (Out.Unknown serial) = record { rest = without_flight serial s.body; leaves = λ v. landed_leaves v serial s.body; comes = λ v. omega arith }
 expired_moves s o = stays s.body
 
 -- a bind moves the front message into flight

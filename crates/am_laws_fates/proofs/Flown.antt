@@ -18,7 +18,7 @@ use Rattle.am_office.specs.declared.Entry.{Entry}
 use Rattle.am_names.specs.Names.{same_end, same_serial, has_serial}
 use Rattle.am_model.specs.declared.Flying.{Flying}
 use Rattle.am_model.specs.Endpoint.{State, Body}
-use Rattle.am_model.specs.Changes.{bounces_of, called, left, reached, paged_out, paged_in, changed, put, received, expired, bound, flying_of, landed}
+use Rattle.am_model.specs.Changes.{bounces_of, called, left, reached, paged_out, paged_in, changed, put, received, expired, bound, flying_of, without_flight}
 use Rattle.am_office.specs.Entries.{touches, passes}
 use Rattle.am_model.specs.Layout.{Layout}
 use Rattle.am_model.specs.History.{state_of, MayFollow, IsHistory}
@@ -53,7 +53,7 @@ found_le s t flying = by_flight (flying_of t flying) refl
     by_flight None is = omega arith
     by_flight (Some f) is = omega (arith, found_one s t flying f is)
 
-landing : (s t : Serial) (b : Body) → flight_weight (one s) b.in_flight ≤ flight_weight (one s) (landed t b).in_flight + bit (same_serial s t)
+landing : (s t : Serial) (b : Body) → flight_weight (one s) b.in_flight ≤ flight_weight (one s) (without_flight t b).in_flight + bit (same_serial s t)
 landing s t b = omega (arith, landed_weighs (one s) t b.in_flight, found_le s t b.in_flight)
 
 pub called_flown : (v : Weight) (s : State) (c : Call) (o : Outcome) → flight_weight v (called s c o).body.in_flight ≡ flight_weight v s.body.in_flight

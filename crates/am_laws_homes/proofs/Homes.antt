@@ -21,7 +21,7 @@ use Rattle.am_model.specs.declared.Mapping.{Mapping}
 use Rattle.am_model.specs.declared.Queued.{Queued}
 use Rattle.am_model.specs.Endpoint.{front}
 use Rattle.am_model.specs.Layout.{Layout, declared}
-use Rattle.am_model.specs.History.{MayFollow, IsHistory, state_of, is_in_range, is_actor_in_range, is_call_in_range, is_byte, is_long, are_credits_in_range}
+use Rattle.am_model.specs.History.{MayFollow, IsHistory, state_of, is_in_range, is_actor_in_range, is_call_in_range, is_byte, is_eight_bytes, are_credits_in_range}
 use Rattle.am_model.specs.PostOffice.{WasAccepted, IsAcceptedBy, times, is_from, own_tag, mapping_of, mapping_set}
 use Rattle.am_model.proofs.Each.{over_each, each_push}
 use Rattle.am_model.proofs.Own.{last_given_push}
@@ -62,7 +62,7 @@ maps_more layout past x range known e index mapping h =
     by_event : (event : Event) (o : Outcome) → is_in_range layout event ≡ true → unwrap_or (mapping_set e index event o) (mapping_of past e index) ≡ Some mapping → declared layout mapping.name ≡ true
     by_event (Events.Call actor end (Calls.Map at name tag credits)) Out.Done r h =
         of_map (same_end e end && (index == at)) name (record { name = name; tag = tag; credits = credits }) refl
-        (name_declared layout (is_byte at) (declared layout name) (is_long tag.0) (are_credits_in_range layout.pool credits) (map_names layout actor end (Calls.Map at name tag credits) r).1) h
+        (name_declared layout (is_byte at) (declared layout name) (is_eight_bytes tag.0) (are_credits_in_range layout.pool credits) (map_names layout actor end (Calls.Map at name tag credits) r).1) h
     by_event (Events.Call actor end (Calls.Unmap at)) Out.Done r h = of_unmap (same_end e end && (index == at)) h
     by_event event o r h = known e index mapping h
 

@@ -20,7 +20,7 @@ use Rattle.am_office.specs.declared.Outcome.TheVariants as Out
 use Rattle.am_names.specs.Names.{same_end, is_request, is_answer}
 use Rattle.am_model.specs.Choice.{first_holding}
 use Rattle.am_model.specs.declared.Notice.{Notice}
-use Rattle.am_model.specs.Endpoint.{State, verdict, verdict_of, is_resident, entry_at, is_awaited, replies_held}
+use Rattle.am_model.specs.Endpoint.{State, verdict, verdict_of, is_resident, entry_at, is_waited_for, replies_held}
 use Rattle.am_model.specs.Calls.{outcome_of_call, unless, is_idle, still_held, messages_held, poll, poll_received, poll_requests, answer, is_reply_kind}
 use Rattle.am_model.specs.Changes.{called, left, reached, paged_out, paged_in, changed, put, received, expired, bound}
 use Rattle.am_office.specs.Entries.{ends_touched, put_in, run_by}
@@ -37,12 +37,12 @@ pub record IsWelcome (s : State) (m : Message) : Type 0 where
   pub tag : matches s.body.tag m.tag ≡ true
   pub handler : (is_request m && is_none (entry_at s.body.handlers m.handler)) ≡ false
   pub room : (is_request m && nat_le 16 (count_by is_request s.body.received)) ≡ false
-  pub awaited : (is_answer m && not (is_awaited s.body.awaited m.about)) ≡ false
+  pub awaited : (is_answer m && not (is_waited_for s.body.awaited m.about)) ≡ false
 
 pub welcome : (s : State) (m : Message) → verdict s m ≡ Verdicts.Accepted → IsWelcome s m
-welcome s m h = by_tests s.head.closed (is_resident s.head.place) (matches s.body.tag m.tag) (is_request m && is_none (entry_at s.body.handlers m.handler)) (is_request m && nat_le 16 (count_by is_request s.body.received)) (is_answer m && not (is_awaited s.body.awaited m.about)) refl refl refl refl refl refl h
+welcome s m h = by_tests s.head.closed (is_resident s.head.place) (matches s.body.tag m.tag) (is_request m && is_none (entry_at s.body.handlers m.handler)) (is_request m && nat_le 16 (count_by is_request s.body.received)) (is_answer m && not (is_waited_for s.body.awaited m.about)) refl refl refl refl refl refl h
   where
-    by_tests : (a b c d e f : Bool) → s.head.closed ≡ a → is_resident s.head.place ≡ b → matches s.body.tag m.tag ≡ c → (is_request m && is_none (entry_at s.body.handlers m.handler)) ≡ d → (is_request m && nat_le 16 (count_by is_request s.body.received)) ≡ e → (is_answer m && not (is_awaited s.body.awaited m.about)) ≡ f → verdict_of (first_holding ((a, NoEndpoint) ∷ (not b, NotResident) ∷ (not c, BadTag) ∷ (d, BadHandler) ∷ (e, QueueFull) ∷ (f, NoRequest) ∷ [])) ≡ Verdicts.Accepted → IsWelcome s m
+    by_tests : (a b c d e f : Bool) → s.head.closed ≡ a → is_resident s.head.place ≡ b → matches s.body.tag m.tag ≡ c → (is_request m && is_none (entry_at s.body.handlers m.handler)) ≡ d → (is_request m && nat_le 16 (count_by is_request s.body.received)) ≡ e → (is_answer m && not (is_waited_for s.body.awaited m.about)) ≡ f → verdict_of (first_holding ((a, NoEndpoint) ∷ (not b, NotResident) ∷ (not c, BadTag) ∷ (d, BadHandler) ∷ (e, QueueFull) ∷ (f, NoRequest) ∷ [])) ≡ Verdicts.Accepted → IsWelcome s m
     by_tests true b c d e f h1 h2 h3 h4 h5 h6 h = absurd (cc)
     by_tests false false c d e f h1 h2 h3 h4 h5 h6 h = absurd (cc)
     by_tests false true false d e f h1 h2 h3 h4 h5 h6 h = absurd (cc)

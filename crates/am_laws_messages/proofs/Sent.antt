@@ -23,7 +23,7 @@ use Rattle.am_names.specs.Names.{same_end, has_serial, is_request, is_answer}
 use Rattle.am_model.specs.declared.Queued.{Queued}
 use Rattle.am_model.specs.declared.Flying.{Flying}
 use Rattle.am_model.specs.Endpoint.{State, Body, front, front_of, is_resident}
-use Rattle.am_model.specs.Changes.{called, left, reached, queued, appended, requests_left, without_front, paged_out, paged_in, changed, put, received, expired, bound, flying_of, landed, requeued_flight, with_marked}
+use Rattle.am_model.specs.Changes.{called, left, reached, queued, appended, requests_left, without_front, paged_out, paged_in, changed, put, received, expired, bound, flying_of, without_flight, requeued_flight, with_marked}
 use Rattle.am_office.specs.Entries.{accepted_by, accepted_in, ends_touched, touches}
 use Rattle.am_model.specs.Layout.{Layout, AllAre}
 use Rattle.am_model.specs.History.{state_of, judged, MayFollow, failing, outcome_of, is_home, channel_for}
@@ -150,7 +150,7 @@ carried_are P e s o false fits h = reached_are P e s o h
 pub found_is : (P : Message → Type 0) (serial : Serial) (flying : List Flying) (f : Flying) → flying_of serial flying ≡ Some f → FlightsAre P flying → P f.message
 found_is P serial flying f e h = all_found (λ (g : Flying). P g.message) (λ (g : Flying). has_serial serial g.message) flying f e h
 
-landed_are : (P : Message → Type 0) (serial : Serial) (b : Body) → SentAre P b → SentAre P (landed serial b)
+landed_are : (P : Message → Type 0) (serial : Serial) (b : Body) → SentAre P b → SentAre P (without_flight serial b)
 landed_are P serial b h = record { requests = h.requests; replies = h.replies; flights = all_without (λ (g : Flying). P g.message) (λ (g : Flying). has_serial serial g.message) b.in_flight h.flights }
 
 requeued_are : (P : Message → Type 0) (flight : Option Flying) (bounces : ℕ) (b : Body) → ((f : Flying) → flight ≡ Some f → P f.message) → SentAre P b → SentAre P (requeued_flight flight bounces b)
@@ -163,7 +163,7 @@ received_are P e s (Got.Accepted m answer) h = put_are P m s h
 received_are P e s (Got.Refused m NotResident answer) h = h
 received_are P e s (Got.Delivered serial) h = landed_are P serial s.body h
 received_are P e s (Got.Requeued serial cause bounces) h =
-    requeued_are P (flying_of serial s.body.in_flight) bounces (landed serial s.body) (λ f is. found_is P serial s.body.in_flight f is h.flights) (landed_are P serial s.body h)
+    requeued_are P (flying_of serial s.body.in_flight) bounces (without_flight serial s.body) (λ f is. found_is P serial s.body.in_flight f is h.flights) (landed_are P serial s.body h)
 received_are P e s (Got.Returned serial cause) h = let w = landed_are P serial s.body h in record { requests = w.requests; replies = w.replies; flights = w.flights }
 received_are P e s r h = h
 

@@ -7,7 +7,7 @@ use Rattle.am_model.proofs.Queues.{to_send, called_sends, front_leaves, paged_ou
 use Rattle.am_model.proofs.Received.{bit, one_touched}
 use Rattle.am_laws_order.proofs.Senders.{sender}
 use Rattle.am_laws_order.proofs.Waiting.{requeued_in, bound_at, FitsPacket, IsFront, packet_sends, weight_serial, flight_sends, flight_weight, found_has, bound_sends, expired_sends}
-use Rattle.am_model.specs.Changes.{changed, flying_of, received, landed}
+use Rattle.am_model.specs.Changes.{changed, flying_of, received, without_flight}
 use Rattle.am_model.specs.Channels.{Channel, bound_message, attempt, sent_message}
 use Rattle.am_model.specs.Endpoint.{State, front, is_resident}
 use Rattle.am_office.specs.Entries.{accepted_by, ends_touched, accepted_in, put_of, touched_by_result, touches, accepted_of, passes}
@@ -104,7 +104,7 @@ foreign_received e s (Got.Accepted m answer) t = refl
 foreign_received e s (Got.Refused m NotResident answer) t = refl
 foreign_received e s (Got.Delivered serial) t = refl
 foreign_received e s (Got.Requeued serial cause used) t =
-    omega (arith, flight_sends (is_foreign e) used (landed serial s.body) (flying_of serial s.body.in_flight), by_flight (flying_of serial s.body.in_flight) refl)
+    omega (arith, flight_sends (is_foreign e) used (without_flight serial s.body) (flying_of serial s.body.in_flight), by_flight (flying_of serial s.body.in_flight) refl)
   where
     by_flight : (f : Option Flying) → flying_of serial s.body.in_flight ≡ f → flight_weight (is_foreign e) f ≡ 0
     by_flight None is = refl

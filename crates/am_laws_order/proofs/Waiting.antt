@@ -10,7 +10,7 @@ use Rattle.am_office.specs.declared.Outcome.TheVariants as Out
 use Rattle.am_names.specs.Names.{same_end, is_request, has_serial, same_serial}
 use Rattle.am_model.specs.declared.Queued.{Queued}
 use Rattle.am_model.specs.Endpoint.{State, Body, front}
-use Rattle.am_model.specs.Changes.{changed, received, expired, bound, flying_of, requeued_flight, landed}
+use Rattle.am_model.specs.Changes.{changed, received, expired, bound, flying_of, requeued_flight, without_flight}
 use Rattle.am_office.specs.Entries.{ends_touched, passes, accepted_in}
 use Rattle.am_names.specs.declared.Serial.{Serial}
 use Rattle.am_names.specs.declared.Cause.TheVariants.{NotResident}
@@ -88,7 +88,7 @@ received_sends t e s (Got.Accepted m answer) = omega arith
 received_sends t e s (Got.Refused m NotResident answer) = omega arith
 received_sends t e s (Got.Delivered serial) = omega arith
 received_sends t e s (Got.Requeued serial cause used) =
-    omega (arith, flight_sends (has_serial t) used (landed serial s.body) (flying_of serial s.body.in_flight), by_flight (flying_of serial s.body.in_flight) refl)
+    omega (arith, flight_sends (has_serial t) used (without_flight serial s.body) (flying_of serial s.body.in_flight), by_flight (flying_of serial s.body.in_flight) refl)
   where
     by_flight : (f : Option Flying) → flying_of serial s.body.in_flight ≡ f → flight_weight (has_serial t) f ≤ bit (same_serial t serial)
     by_flight None is = omega arith

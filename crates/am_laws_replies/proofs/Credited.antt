@@ -34,9 +34,9 @@ use Rattle.am_model.specs.Choice.{first_holding}
 use Rattle.am_model.specs.declared.Awaited.{Awaited}
 use Rattle.am_model.specs.declared.Mapping.{Mapping}
 use Rattle.am_model.specs.declared.Queued.{Queued}
-use Rattle.am_model.specs.Endpoint.{State, verdict, verdict_of, waits_for, is_awaited, is_resident, entry_at, front}
+use Rattle.am_model.specs.Endpoint.{State, verdict, verdict_of, waits_for, is_waited_for, is_resident, entry_at, front}
 use Rattle.am_model.specs.Calls.{outcome_of_call, unless, request_refusal, new_request, request_message, is_idle, messages_held}
-use Rattle.am_model.specs.Changes.{called, left, reached, paged_out, paged_in, changed, put, received, expired, bound, settled, is_of, arrived, with_arrived, flying_of}
+use Rattle.am_model.specs.Changes.{called, left, reached, paged_out, paged_in, changed, put, received, expired, bound, without_record, is_of, arrived, with_arrived, flying_of}
 use Rattle.am_office.specs.Entries.{accepted_in, accepted_of, run_in, refusal_in, refusal_by, refusal_of, touches}
 use Rattle.am_model.specs.Layout.{Layout, AllAre, EndSetting, has_id, opening_by}
 use Rattle.am_model.specs.Channels.{Channel, Arrival, Stale, Again, Fresh, bound_message, emitted, arrival, mark, sequence, attempt}
@@ -193,7 +193,7 @@ called_records R st (Calls.Request index handler words) (Out.Requested m) h new 
 called_records R st Calls.Poll (Out.Zero serial why) h new = h
 called_records R st Calls.Poll (Out.Ran m handler None) h new = by_about m.about
   where
-    by_about : (about : Option Serial) → AllAre R (settled about st.body.awaited)
+    by_about : (about : Option Serial) → AllAre R (without_record about st.body.awaited)
     by_about None = h
     by_about (Some t) = all_without R (is_of t) st.body.awaited h
 called_records R st Calls.Poll (Out.Ran m handler (Some reply)) h new = h
@@ -438,8 +438,8 @@ matches_itself own some = rw some (by_all (own.0 == 18446744073709551615))
     by_all true = refl
     by_all false = eq-eqb own.0 own.0 refl
 
-only_resident : (st : State) (m : Message) (cause : Cause) → st.head.closed ≡ false → matches st.body.tag m.tag ≡ true → is_request m ≡ false → is_awaited st.body.awaited m.about ≡ true → verdict st m ≡ Verdicts.Refused cause → cause ≡ NotResident
-only_resident st m cause h1 h2 h3 h4 v = by_tests st.head.closed (is_resident st.head.place) (matches st.body.tag m.tag) (is_request m) (is_awaited st.body.awaited m.about) h1 h2 h3 h4 v
+only_resident : (st : State) (m : Message) (cause : Cause) → st.head.closed ≡ false → matches st.body.tag m.tag ≡ true → is_request m ≡ false → is_waited_for st.body.awaited m.about ≡ true → verdict st m ≡ Verdicts.Refused cause → cause ≡ NotResident
+only_resident st m cause h1 h2 h3 h4 v = by_tests st.head.closed (is_resident st.head.place) (matches st.body.tag m.tag) (is_request m) (is_waited_for st.body.awaited m.about) h1 h2 h3 h4 v
   where
     by_tests : (a b c d e : Bool) → a ≡ false → c ≡ true → d ≡ false → e ≡ true → verdict_of (first_holding ((a, NoEndpoint) ∷ (not b, NotResident) ∷ (not c, BadTag) ∷ (d && is_none (entry_at st.body.handlers m.handler), BadHandler) ∷ (d && nat_le 16 (count_by is_request st.body.received), QueueFull) ∷ ((if d then false else true) && not e, NoRequest) ∷ [])) ≡ Verdicts.Refused cause → cause ≡ NotResident
     by_tests false false true false true ha hc hd he e = let same : Verdicts.Refused NotResident ≡ Verdicts.Refused cause = e in let is : NotResident ≡ cause = cc in sym is
@@ -460,7 +460,7 @@ is_credited layout past x h may m cause is s about out =
     let same : there.2.request ≡ reply.request = accepted_one past s there.2.request reply.request ((each_once layout past h).accepted s) there.2.accepted reply.accepted (there.2.serial ∙ there.1) reply.serial in
     let tag : m.tag ≡ (state_of layout past s.source).body.tag = reply.tag ∙ ap (λ (w : Message). w.reply_tag) (sym same) ∙ there.2.reply in
     let own : matches (state_of layout past s.source).body.tag m.tag ≡ true = subst (λ (w : Tag). matches (state_of layout past s.source).body.tag w ≡ true) (sym tag) (matches_itself (state_of layout past s.source).body.tag there.2.some) in
-    let awaited : is_awaited (state_of layout past s.source).body.awaited m.about ≡ true = subst (λ (w : Option Serial). is_awaited (state_of layout past s.source).body.awaited w ≡ true) (sym about) held in
+    let awaited : is_waited_for (state_of layout past s.source).body.awaited m.about ≡ true = subst (λ (w : Option Serial). is_waited_for (state_of layout past s.source).body.awaited w ≡ true) (sym about) held in
     let opened : (state_of layout past s.source).head.closed ≡ false = by_closed layout past s held (k.under s.source) (state_of layout past s.source).head.closed refl in
     only_resident (state_of layout past s.source) m cause opened own reply.kind awaited
     (subst (λ (w : EndpointId). verdict (state_of layout past w) m ≡ Verdicts.Refused cause) reply.dest r.verdict)

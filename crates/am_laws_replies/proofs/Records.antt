@@ -23,8 +23,8 @@ use Rattle.am_names.specs.Names.{same_end}
 use Rattle.am_model.specs.declared.Awaited.{Awaited}
 use Rattle.am_model.specs.declared.Mapping.{Mapping}
 use Rattle.am_model.specs.Endpoint.{State, entry_at, waits_for}
-use Rattle.am_model.specs.Calls.{outcome_of_call, unless, request_refusal, new_request, has_no_credit, is_at, awaited_at, map_refusal, unmap_refusal}
-use Rattle.am_model.specs.Changes.{called, left, reached, paged_out, paged_in, changed, put, received, expired, bound, not_awaited, settled, is_of, arrived, with_arrived}
+use Rattle.am_model.specs.Calls.{outcome_of_call, unless, request_refusal, new_request, has_no_credit, is_at, records_at, map_refusal, unmap_refusal}
+use Rattle.am_model.specs.Changes.{called, left, reached, paged_out, paged_in, changed, put, received, expired, bound, without_waiting, without_record, is_of, arrived, with_arrived}
 use Rattle.am_office.specs.Entries.{touches}
 use Rattle.am_model.specs.Layout.{Layout, EndSetting, has_id, opening_by}
 use Rattle.am_model.specs.History.{state_of, MayFollow, IsHistory}
@@ -48,7 +48,7 @@ arrived_count index None xs = refl
 arrived_count index (Some t) [] = refl
 arrived_count index (Some t) (a ∷ xs) = omega (arith, arrived_count index (Some t) xs, sum_by-cons (λ (y : Awaited). bit (is_at index y)) a xs, sum_by-cons (λ (y : Awaited). bit (is_at index y)) (arrived t a) (with_arrived (Some t) xs))
 
-pub settled_count : (index : ℕ) (about : Option Serial) (xs : List Awaited) → records_of index (settled about xs) ≤ records_of index xs
+pub settled_count : (index : ℕ) (about : Option Serial) (xs : List Awaited) → records_of index (without_record about xs) ≤ records_of index xs
 settled_count index None xs = omega arith
 settled_count index (Some t) xs = (count_le (is_at index) (is_of t) xs).0
 
@@ -121,45 +121,45 @@ third_fails false false true x y z rest h = absurd (cc)
 third_fails false false false x y z rest h = refl
 
 -- a request that is accepted had a credit
-had_credit : (end : EndpointId) (st : State) (index handler : ℕ) (words : Words) (m : Message) → Out.Requested m ≡ outcome_of_call None end st (Calls.Request index handler words) → (mapping : Mapping) × (entry_at st.body.mapped index ≡ Some mapping) × (awaited_at st.body index < mapping.credits)
+had_credit : (end : EndpointId) (st : State) (index handler : ℕ) (words : Words) (m : Message) → Out.Requested m ≡ outcome_of_call None end st (Calls.Request index handler words) → (mapping : Mapping) × (entry_at st.body.mapped index ≡ Some mapping) × (records_at st.body index < mapping.credits)
 had_credit end st index handler words m fits = by_parts (request_refusal None st index) (entry_at st.body.mapped index) refl refl fits
   where
-    by_parts : (r : Option Refusal) (mapping : Option Mapping) → request_refusal None st index ≡ r → entry_at st.body.mapped index ≡ mapping → Out.Requested m ≡ unless r (new_request end st mapping handler words) → (mp : Mapping) × (entry_at st.body.mapped index ≡ Some mp) × (awaited_at st.body index < mp.credits)
+    by_parts : (r : Option Refusal) (mapping : Option Mapping) → request_refusal None st index ≡ r → entry_at st.body.mapped index ≡ mapping → Out.Requested m ≡ unless r (new_request end st mapping handler words) → (mp : Mapping) × (entry_at st.body.mapped index ≡ Some mp) × (records_at st.body index < mp.credits)
     by_parts (Some r) mapping is at e = absurd (cc)
     by_parts None None is at e = absurd (cc)
     by_parts None (Some mapping) is at e =
         let free : has_no_credit None st.body index (entry_at st.body.mapped index) ≡ false = five_fail st.head.closed (st.body.tag.0 == 0) (nat_le 16 index) (is_none (entry_at st.body.mapped index)) (has_no_credit None st.body index (entry_at st.body.mapped index)) No.Closed No.OwnTagNone No.BadIndex No.NotMapped No.NoCredit _ is in
-        let low : nat_le mapping.credits (awaited_at st.body index) ≡ false = ap (has_no_credit None st.body index) (sym at) ∙ free in
-        (mapping, at, leb-false mapping.credits (awaited_at st.body index) low)
+        let low : nat_le mapping.credits (records_at st.body index) ≡ false = ap (has_no_credit None st.body index) (sym at) ∙ free in
+        (mapping, at, leb-false mapping.credits (records_at st.body index) low)
 
-one_more : (at index : ℕ) (st : State) (serial : Serial) (mapping : Mapping) → entry_at st.body.mapped at ≡ Some mapping → awaited_at st.body at < mapping.credits → AreCredited (entry_at st.body.mapped index) (awaited_at st.body index) → AreCredited (entry_at st.body.mapped index) (records_of index (st.body.awaited ++ record { index = at; serial = serial; arrived = false } ∷ []))
+one_more : (at index : ℕ) (st : State) (serial : Serial) (mapping : Mapping) → entry_at st.body.mapped at ≡ Some mapping → records_at st.body at < mapping.credits → AreCredited (entry_at st.body.mapped index) (records_at st.body index) → AreCredited (entry_at st.body.mapped index) (records_of index (st.body.awaited ++ record { index = at; serial = serial; arrived = false } ∷ []))
 one_more at index st serial mapping is low h = by_test (at == index) refl
   where
-    push : records_of index (st.body.awaited ++ record { index = at; serial = serial; arrived = false } ∷ []) ≡ awaited_at st.body index + bit (at == index)
+    push : records_of index (st.body.awaited ++ record { index = at; serial = serial; arrived = false } ∷ []) ≡ records_at st.body index + bit (at == index)
     push = sum_by_push (λ (y : Awaited). bit (is_at index y)) st.body.awaited (record { index = at; serial = serial; arrived = false })
 
     by_test : (t : Bool) → (at == index) ≡ t → AreCredited (entry_at st.body.mapped index) (records_of index (st.body.awaited ++ record { index = at; serial = serial; arrived = false } ∷ []))
     by_test true e =
         let same : at ≡ index = eqb-true at index e in
         let here : entry_at st.body.mapped index ≡ Some mapping = subst (λ (i : ℕ). entry_at st.body.mapped i ≡ Some mapping) same is in
-        let small : awaited_at st.body index < mapping.credits = subst (λ (i : ℕ). awaited_at st.body i < mapping.credits) same low in
+        let small : records_at st.body index < mapping.credits = subst (λ (i : ℕ). records_at st.body i < mapping.credits) same low in
         subst (λ (w : Option Mapping). AreCredited w (records_of index (st.body.awaited ++ record { index = at; serial = serial; arrived = false } ∷ []))) (sym here) (omega (arith, small, push, ap bit e))
-    by_test false e = fewer (entry_at st.body.mapped index) (awaited_at st.body index) (records_of index (st.body.awaited ++ record { index = at; serial = serial; arrived = false } ∷ [])) (omega (arith, push, ap bit e)) h
+    by_test false e = fewer (entry_at st.body.mapped index) (records_at st.body index) (records_of index (st.body.awaited ++ record { index = at; serial = serial; arrived = false } ∷ [])) (omega (arith, push, ap bit e)) h
 
 none_there : (mapping : Option Mapping) (n : ℕ) → is_some mapping ≡ false → AreCredited mapping n → n ≡ 0
 none_there None n is h = h
 none_there (Some mapping) n is h = absurd (true≢false is)
 
 -- another mapping of an index that has no records
-mapped_anew : (st : State) (at index : ℕ) (v : Option Mapping) → at < length st.body.mapped → awaited_at st.body at ≡ 0 → AreCredited (entry_at st.body.mapped index) (awaited_at st.body index) → AreCredited (entry_at (slice_set st.body.mapped at v) index) (awaited_at st.body index)
-mapped_anew st at index v low none h = subst (λ (w : Option Mapping). AreCredited w (awaited_at st.body index)) (sym (set_entry st.body.mapped at index v low)) (by_test (index == at) refl)
+mapped_anew : (st : State) (at index : ℕ) (v : Option Mapping) → at < length st.body.mapped → records_at st.body at ≡ 0 → AreCredited (entry_at st.body.mapped index) (records_at st.body index) → AreCredited (entry_at (slice_set st.body.mapped at v) index) (records_at st.body index)
+mapped_anew st at index v low none h = subst (λ (w : Option Mapping). AreCredited w (records_at st.body index)) (sym (set_entry st.body.mapped at index v low)) (by_test (index == at) refl)
   where
     nothing : (w : Option Mapping) (n : ℕ) → n ≡ 0 → AreCredited w n
     nothing None n is = is
     nothing (Some mapping) n is = omega (arith, is)
 
-    by_test : (t : Bool) → (index == at) ≡ t → AreCredited (unwrap_or (if t then Some v else None) (entry_at st.body.mapped index)) (awaited_at st.body index)
-    by_test true e = nothing v (awaited_at st.body index) (ap (awaited_at st.body) (eqb-true index at e) ∙ none)
+    by_test : (t : Bool) → (index == at) ≡ t → AreCredited (unwrap_or (if t then Some v else None) (entry_at st.body.mapped index)) (records_at st.body index)
+    by_test true e = nothing v (records_at st.body index) (ap (records_at st.body) (eqb-true index at e) ∙ none)
     by_test false e = h
 
 pub unless_done : (r : Option Refusal) → Out.Done ≡ unless r Out.Done → r ≡ None
@@ -183,21 +183,21 @@ not_zero n h = by_test (n == 0) refl h
 called_credited : (end : EndpointId) (st : State) (c : Call) (o : Outcome) → o ≡ outcome_of_call None end st c → length st.body.mapped ≡ 16 → RecordsAreCredited st.body → RecordsAreCredited (called st c o).body
 called_credited end st (Calls.Request at handler words) (Out.Requested m) fits size h = λ index. let k = had_credit end st at handler words m fits in one_more at index st m.serial k.0 k.1 k.2 (h index)
 called_credited end st Calls.Poll (Out.Zero serial why) fits size h = h
-called_credited end st Calls.Poll (Out.Ran m handler None) fits size h = λ index. fewer (entry_at st.body.mapped index) (awaited_at st.body index) (records_of index (settled m.about st.body.awaited)) (settled_count index m.about st.body.awaited) (h index)
+called_credited end st Calls.Poll (Out.Ran m handler None) fits size h = λ index. fewer (entry_at st.body.mapped index) (records_at st.body index) (records_of index (without_record m.about st.body.awaited)) (settled_count index m.about st.body.awaited) (h index)
 called_credited end st Calls.Poll (Out.Ran m handler (Some reply)) fits size h = h
 called_credited end st (Calls.SetTag tag) Out.Done fits size h = h
 called_credited end st (Calls.Map at name tag credits) Out.Done fits size h =
     let none : map_refusal None st at credits ≡ None = unless_done (map_refusal None st at credits) fits in
     let free : is_some (entry_at st.body.mapped at) ≡ false = third_fails st.head.closed (nat_le 16 at) (is_some (entry_at st.body.mapped at)) No.Closed No.BadIndex No.InUse _ none in
     let low : at < 16 = subst (λ (v : Outcome). IsInTable (Calls.Map at name tag credits) v) (sym fits) (in_table None end st (Calls.Map at name tag credits)) in
-    λ index. mapped_anew st at index (Some (record { name = name; tag = tag; credits = credits })) (omega (arith, low, size)) (none_there (entry_at st.body.mapped at) (awaited_at st.body at) free (h at)) (h index)
+    λ index. mapped_anew st at index (Some (record { name = name; tag = tag; credits = credits })) (omega (arith, low, size)) (none_there (entry_at st.body.mapped at) (records_at st.body at) free (h at)) (h index)
 called_credited end st (Calls.Unmap at) Out.Done fits size h =
     let none : unmap_refusal st at ≡ None = unless_done (unmap_refusal st at) fits in
-    let free = fourth_fails st.head.closed (nat_le 16 at) (is_none (entry_at st.body.mapped at)) (not (awaited_at st.body at == 0)) No.Closed No.BadIndex No.NotMapped (No.Outstanding (awaited_at st.body at)) None none in
+    let free = fourth_fails st.head.closed (nat_le 16 at) (is_none (entry_at st.body.mapped at)) (not (records_at st.body at == 0)) No.Closed No.BadIndex No.NotMapped (No.Outstanding (records_at st.body at)) None none in
     let low : at < 16 = subst (λ (v : Outcome). IsInTable (Calls.Unmap at) v) (sym fits) (in_table None end st (Calls.Unmap at)) in
-    λ index. mapped_anew st at index None (omega (arith, low, size)) (not_zero (awaited_at st.body at) free) (h index)
+    λ index. mapped_anew st at index None (omega (arith, low, size)) (not_zero (records_at st.body at) free) (h index)
 called_credited end st (Calls.SetHandler at kind) Out.Done fits size h = h
-called_credited end st (Calls.GiveUp serial) Out.Done fits size h = λ index. fewer (entry_at st.body.mapped index) (awaited_at st.body index) (records_of index (not_awaited serial st.body.awaited)) (count_le (is_at index) (waits_for serial) st.body.awaited).0 (h index)
+called_credited end st (Calls.GiveUp serial) Out.Done fits size h = λ index. fewer (entry_at st.body.mapped index) (records_at st.body index) (records_of index (without_waiting serial st.body.awaited)) (count_le (is_at index) (waits_for serial) st.body.awaited).0 (h index)
 called_credited end st Calls.Close Out.Done fits size h = h
 called_credited end st c o fits size h = h
 
@@ -205,7 +205,7 @@ touched_credited : (e : EndpointId) (st : State) (event : Event) (o : Outcome) �
 touched_credited e st (Events.Call actor end call) o fits size h = called_credited end st call o fits size h
 touched_credited e st event o fits size h = λ index.
     subst (λ (w : List (Option Mapping)). AreCredited (entry_at w index) (records_of index (changed e st event o).body.awaited)) (sym (ap (λ (w : Own). w.mapped) (own_kept e st event o refl)))
-    (fewer (entry_at st.body.mapped index) (awaited_at st.body index) (records_of index (changed e st event o).body.awaited) (other_count index e st event o refl) (h index))
+    (fewer (entry_at st.body.mapped index) (records_at st.body index) (records_of index (changed e st event o).body.awaited) (other_count index e st event o refl) (h index))
 
 record Credited (layout : Layout) (past : List Entry) : Type 0 where
   pub mapped : IsMapped layout past
@@ -223,7 +223,7 @@ records_credited layout past none h =
         (touched_credited e (state_of layout xs e) x.event x.outcome (subst (λ (p : Option ℕ). FitsCall p (state_of layout xs e) x.event x.outcome) none (fits_call layout xs e x may at)) (m.size e) (r e))
     more xs x r m may e false at = rw (state_of_push layout xs x e false at) (r e)
 
-    empty : (setting : Option EndSetting) (index : ℕ) → awaited_at (opening_by layout setting).body index ≡ 0
+    empty : (setting : Option EndSetting) (index : ℕ) → records_at (opening_by layout setting).body index ≡ 0
     empty None index = refl
     empty (Some setting) index = refl
 
@@ -231,5 +231,5 @@ records_credited layout past none h =
     nothing None n is = is
     nothing (Some mapping) n is = omega (arith, is)
 
-    fewer_none : (e : EndpointId) (index : ℕ) → AreCredited (entry_at (opening_by layout (find (has_id e) layout.ends)).body.mapped index) (awaited_at (opening_by layout (find (has_id e) layout.ends)).body index)
-    fewer_none e index = nothing (entry_at (opening_by layout (find (has_id e) layout.ends)).body.mapped index) (awaited_at (opening_by layout (find (has_id e) layout.ends)).body index) (empty (find (has_id e) layout.ends) index)
+    fewer_none : (e : EndpointId) (index : ℕ) → AreCredited (entry_at (opening_by layout (find (has_id e) layout.ends)).body.mapped index) (records_at (opening_by layout (find (has_id e) layout.ends)).body index)
+    fewer_none e index = nothing (entry_at (opening_by layout (find (has_id e) layout.ends)).body.mapped index) (records_at (opening_by layout (find (has_id e) layout.ends)).body index) (empty (find (has_id e) layout.ends) index)

@@ -24,7 +24,7 @@ use Rattle.am_model.specs.Choice.{without_first}
 use Rattle.am_model.specs.declared.Awaited.{Awaited}
 use Rattle.am_model.specs.Endpoint.{State, waits_for}
 use Rattle.am_model.specs.Calls.{new_serial}
-use Rattle.am_model.specs.Changes.{called, left, reached, paged_out, paged_in, changed, put, received, expired, bound, not_awaited, settled, is_of, arrived, with_arrived}
+use Rattle.am_model.specs.Changes.{called, left, reached, paged_out, paged_in, changed, put, received, expired, bound, without_waiting, without_record, is_of, arrived, with_arrived}
 use Rattle.am_office.specs.Entries.{accepted_by, accepted_in, accepted_of, put_in, put_of, run_by, run_in, run_of, returned_in, returned_of, returned_by, unknown_in, unknown_of, given_up_in, given_up_of, ends_touched, touches, passes, is_serial}
 use Rattle.am_model.specs.Layout.{Layout, AllAre, EndSetting, has_id, opening_by}
 use Rattle.am_model.specs.History.{state_of, MayFollow, IsHistory, outcome_of}
@@ -66,13 +66,13 @@ any_without p q (a ∷ xs) apart h = by_test (λ e. any_without p q xs apart e) 
 other_serial : (s t : Serial) (a : Awaited) → same_serial s t ≡ false → same_serial t a.serial ≡ true → same_serial s a.serial ≡ false
 other_serial s t a apart is = subst (λ (w : Serial). same_serial s w ≡ false) (same_serial-is t a.serial is) apart
 
-pub waits_without : (s t : Serial) (xs : List Awaited) → same_serial s t ≡ false → waits s xs ≡ true → waits s (not_awaited t xs) ≡ true
+pub waits_without : (s t : Serial) (xs : List Awaited) → same_serial s t ≡ false → waits s xs ≡ true → waits s (without_waiting t xs) ≡ true
 waits_without s t xs apart h = any_without (waits_for s) (waits_for t) xs off h
   where
     off : (a : Awaited) → waits_for t a ≡ true → waits_for s a ≡ false
     off a is = let o : same_serial s a.serial ≡ false = other_serial s t a apart (and_parts (same_serial t a.serial) (not a.arrived) is).0 in rw o refl
 
-waits_settled : (s : Serial) (about : Option Serial) (xs : List Awaited) → is_serial s about ≡ false → waits s xs ≡ true → waits s (settled about xs) ≡ true
+waits_settled : (s : Serial) (about : Option Serial) (xs : List Awaited) → is_serial s about ≡ false → waits s xs ≡ true → waits s (without_record about xs) ≡ true
 waits_settled s None xs apart h = h
 waits_settled s (Some t) xs apart h = any_without (waits_for s) (is_of t) xs off h
   where

@@ -290,7 +290,7 @@ move_granted d e s x m = by_event x.event refl m.driver m.end m.enabled m.outcom
           outcome = o;
           framed = in_a_frame s.head.place (not_not (is_resident s.head.place) b.0) m.packet;
           draining = not_not s.head.draining c.0;
-          landed = eqb-true (length s.body.in_flight) 0 (not_not (length s.body.in_flight == 0) f.0);
+          none_in_flight = eqb-true (length s.body.in_flight) 0 (not_not (length s.body.in_flight == 0) f.0);
         }
 
     loads : (at : NodeId) (end : EndpointId) (frame : ℕ) → x.event ≡ Events.Load at end frame → at ≡ node → end ≡ e → failing_move d s (Events.Load at end frame) ≡ None → x.outcome ≡ Out.Silent → MayLoad node e s x

@@ -14,7 +14,7 @@ use Rattle.am_office.specs.declared.Outcome.TheVariants as Out
 use Rattle.am_office.specs.declared.Entry.{Entry}
 use Rattle.am_names.specs.Names.{same_node}
 use Rattle.am_office.specs.Entries.{touches_node, is_node, node_touched, emitted_of, emitted_in, parcel, answer_packet, answer_by}
-use Rattle.am_model.specs.Channels.{Channel, same_channel, sends_on, binds, sends, frees, frees_by, gives_up, decides, decides_by, last_such, sequence, bound_by, bound_message, attempt_by, attempt, mark_by, mark, emitted, is_on_link}
+use Rattle.am_model.specs.Channels.{Channel, same_channel, sends_on, binds, sends, frees, frees_by, ends_tries, decides, decides_by, last_such, sequence, bound_by, bound_message, attempt_by, attempt, mark_by, mark, emitted, is_on_link}
 use Rattle.am_model.specs.History.{free_from, channel_to, next_number}
 use Rattle.am_local.proofs.Within.{count_within, find_within, filter-reverse}
 
@@ -35,7 +35,7 @@ sends_here c (Events.Expire node peer channel) o h = sent_on_node c node o h
 sends_here c e o h = absurd (cc)
 
 frees_here : (c : Channel) (e : Event) (o : Outcome) → frees c e o ≡ true → is_node c.node (node_touched e) ≡ true
-frees_here c (Events.Expire node peer channel) o h = on_node c node peer channel ((and_parts (gives_up o) _ h).1)
+frees_here c (Events.Expire node peer channel) o h = on_node c node peer channel ((and_parts (ends_tries o) _ h).1)
 frees_here c (Events.Receive node peer number) (Out.Received channel seq attempt result) h = on_node c node peer channel ((and_parts (frees_by result) _ h).1)
 frees_here c e o h = absurd (cc)
 

@@ -4,8 +4,6 @@ pub mod Carriages
 pub mod Direct
 pub mod Events
 pub mod Beginnings
-pub mod Joint
-pub mod Turning
 pub mod Places
 pub mod Tied
 pub mod Homes

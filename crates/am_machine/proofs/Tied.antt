@@ -15,7 +15,8 @@ use Rattle.am_scenario_types.specs.declared.parts.FaultLine.{FaultLine}
 use Rattle.am_endpoint.specs.View.{EndpointView}
 use Rattle.am_laws_steps.proofs.Steps.{walked_more}
 use Rattle.am_machine.specs.declared.settings.Settings.{Settings}
-use Rattle.am_machine.specs.Ends.{EndLog, kept, state_in, setting_in, with_entry, grown, logged_at}
+use Rattle.am_local.specs.Readings.{with_entry}
+use Rattle.am_machine.specs.Ends.{EndLog, kept, state_in, setting_in, grown, logged_at}
 use Rattle.am_machine.specs.Carries.{is_place}
 use Rattle.am_machine.specs.Kept.{IsOwn, IsTied, layout_in}
 

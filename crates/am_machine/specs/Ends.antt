@@ -1,11 +1,12 @@
 -- The endpoints of a cluster, each by its settings and its log.
-use Rattle.std.specs.Prelude.{ℕ, zero, suc, Bool, true, false, List, [], ◌∷◌, ◌++◌}
+use Rattle.std.specs.Prelude.{ℕ, zero, suc, List, [], ◌∷◌, ◌++◌}
 use Rattle.am_names.specs.declared.EndpointId.{EndpointId}
 use Rattle.am_names.specs.Names.{same_end}
 use Rattle.am_office.specs.declared.Entry.{Entry}
 use Rattle.am_office.specs.Entries.{touches}
 use Rattle.am_model.specs.Endpoint.{State, is_on_disk}
 use Rattle.am_model.specs.Layout.{EndSetting}
+use Rattle.am_local.specs.Readings.{with_entry}
 use Rattle.am_endpoint.specs.declared.settings.EndSettings.{EndSettings}
 use Rattle.am_endpoint.specs.View.{EndpointView, state_by}
 
@@ -27,10 +28,6 @@ state_in e = state_by e.settings e.log
 -- how an endpoint is declared that has these settings
 abbrev pub setting_in : EndLog → EndSetting
 setting_in e = record { id = e.settings.id; node = e.settings.node; tag = e.settings.tag; disk = is_on_disk e.settings.place }
-
-abbrev pub with_entry : Bool → Entry → List Entry → List Entry
-with_entry true x log = log ++ x ∷ []
-with_entry false x log = log
 
 -- an endpoint after an entry, which stands in its log where it touches it
 abbrev pub grown : Entry → EndLog → EndLog

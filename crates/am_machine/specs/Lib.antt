@@ -5,5 +5,4 @@ pub mod Interfaces
 pub mod Kept
 pub mod Beginnings
 pub mod Moves
-pub mod Turned
 pub mod View

@@ -14,7 +14,7 @@ use Rattle.am_office.specs.declared.Call.TheVariants as Calls
 use Rattle.am_office.specs.declared.Event.TheVariants as Events
 use Rattle.am_office.specs.declared.Outcome.TheVariants as Out
 use Rattle.am_model.specs.Endpoint.{State, is_direct, verdict}
-use Rattle.am_model.specs.History.{are_credits_in_range, decided, is_byte, is_call_in_range, is_kind_in_range, is_long, judged}
+use Rattle.am_model.specs.History.{are_credits_in_range, decided, is_byte, is_call_in_range, is_kind_in_range, is_eight_bytes, judged}
 use Rattle.am_model.specs.Layout.{Layout, declared}
 use Rattle.am_model.specs.Allowed.{MayArrive, are_numbers_in_range, arrival_verdict, arrived_message, is_well_formed, message_in, verdict_in}
 
@@ -62,6 +62,6 @@ receipt_arrives stamp node peer number channel seq attempt answer e s m here for
 -- a call whose numbers are in range in a layout may be made there
 pub numbers_in_range : (layout : Layout) (c : Call) → is_call_in_range layout c ≡ true → are_numbers_in_range layout.pool c ≡ true
 numbers_in_range layout (Calls.Map index name tag credits) h =
-    (and_parts (is_byte index && declared layout name && is_long tag.0) (are_credits_in_range layout.pool credits) h).1
+    (and_parts (is_byte index && declared layout name && is_eight_bytes tag.0) (are_credits_in_range layout.pool credits) h).1
 numbers_in_range layout (Calls.SetHandler index kind) h = (and_parts (is_byte index) (is_kind_in_range kind) h).1
 numbers_in_range layout c h = refl

@@ -4,16 +4,16 @@ use Rattle.std.specs.Prelude.{slice_set}
 use Rattle.std.proofs.lemmas.Bool.{eqb-true}
 use Rattle.am_model.specs.declared.Mapping.{Mapping}
 use Rattle.am_model.specs.Endpoint.{Body, entry_at}
-use Rattle.am_model.specs.Calls.{awaited_at, excess_at, excess_from}
+use Rattle.am_model.specs.Calls.{records_at, excess_at, excess_from}
 use Rattle.am_model.proofs.Received.{bit}
 
 -- no index has more records than before
 abbrev pub IsFewer : Body → Body → Type 0
-IsFewer a b = (j : ℕ) → awaited_at a j ≤ awaited_at b j
+IsFewer a b = (j : ℕ) → records_at a j ≤ records_at b j
 
 -- no index has more records than before, but for one more of this index
 abbrev pub IsOneMore : ℕ → Body → Body → Type 0
-IsOneMore index a b = (j : ℕ) → awaited_at a j ≤ awaited_at b j + bit (index == j)
+IsOneMore index a b = (j : ℕ) → records_at a j ≤ records_at b j + bit (index == j)
 
 excess_at_fewer : (a b : Body) (i : ℕ) (x : Option Mapping) → IsFewer a b → excess_at a i x ≤ excess_at b i x
 excess_at_fewer a b i None fewer = omega arith
@@ -54,14 +54,14 @@ excess_one index a b i (x ∷ xs) more = by_test index a b i x xs (index == i) r
     by_test index a b i x xs false is more rest = omega (arith, excess_at_more index a b i x more, ap bit is, rest)
 
 -- an index that has fewer records than its share has none above it after one more
-excess_at_spare : (index : ℕ) (a b : Body) (m : Mapping) → IsOneMore index a b → awaited_at b index < m.credits → excess_at a index (Some m) ≡ 0
+excess_at_spare : (index : ℕ) (a b : Body) (m : Mapping) → IsOneMore index a b → records_at b index < m.credits → excess_at a index (Some m) ≡ 0
 excess_at_spare index a b m more lt = omega (arith, more index, at_most_one (index == index), lt)
   where
     at_most_one : (t : Bool) → bit t ≤ 1
     at_most_one true = omega arith
     at_most_one false = omega arith
 
-pub excess_spare : (index : ℕ) (a b : Body) (m : Mapping) (i k : ℕ) (xs : List (Option Mapping)) → index ≡ i + k → entry_at xs k ≡ Some m → IsOneMore index a b → awaited_at b index < m.credits → excess_from a i xs ≤ excess_from b i xs
+pub excess_spare : (index : ℕ) (a b : Body) (m : Mapping) (i k : ℕ) (xs : List (Option Mapping)) → index ≡ i + k → entry_at xs k ≡ Some m → IsOneMore index a b → records_at b index < m.credits → excess_from a i xs ≤ excess_from b i xs
 excess_spare index a b m i k [] at is more lt = absurd (cc)
 excess_spare index a b m i zero (x ∷ xs) at is more lt =
     let here : index ≡ i = omega (arith, at) in

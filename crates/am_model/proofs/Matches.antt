@@ -11,10 +11,11 @@ use Rattle.am_names.specs.declared.MsgKind.TheVariants as Kind
 use Rattle.am_names.specs.declared.Serial.{Serial}
 use Rattle.am_model.specs.declared.Awaited.{Awaited}
 use Rattle.am_model.specs.Choice.{without_first}
-use Rattle.am_model.specs.Endpoint.{is_arrived, is_awaited, waits_for}
-use Rattle.am_model.specs.Changes.{arrived, is_of, not_awaited, settled, with_arrived}
+use Rattle.am_model.specs.Endpoint.{is_arrived, is_waited_for, waits_for}
+use Rattle.am_model.specs.Changes.{arrived, is_of, without_waiting, without_record, with_arrived}
 use Rattle.am_model.specs.Allowed.{are_zero, is_formed_as, is_well_formed}
-use Rattle.am_model.specs.Valid.{answers, has_arrived, is_about, rise}
+use Rattle.am_office.specs.Entries.{is_serial}
+use Rattle.am_model.specs.Valid.{answers, has_arrived, rise}
 use Rattle.am_model.proofs.Names.{same_serial-is, same_serial-refl}
 use Rattle.am_model.proofs.Received.{bit, find_counts}
 use Rattle.am_model.proofs.Records.{any_counts, arrived_counts, arrives_all, arrives_only, arrives_or_waits, found_is, none_found, one_record, passing, without_counts}
@@ -49,14 +50,14 @@ has_arrived_waits r q a waits = by_test (same_serial r a.serial) a.arrived refl
     by_test true false is = refl
     by_test false c is = refl
 
-pub each_waiting : (r q : Serial) (xs : List Awaited) → count_by (has_arrived r) (not_awaited q xs) ≡ count_by (has_arrived r) xs
+pub each_waiting : (r q : Serial) (xs : List Awaited) → count_by (has_arrived r) (without_waiting q xs) ≡ count_by (has_arrived r) xs
 each_waiting r q xs = by_found (find (waits_for q) xs) refl (without_counts (has_arrived r) (waits_for q) xs)
   where
-    by_found : (f : Option Awaited) → find (waits_for q) xs ≡ f → count_by (has_arrived r) (not_awaited q xs) + passing (has_arrived r) (find (waits_for q) xs) ≡ count_by (has_arrived r) xs → count_by (has_arrived r) (not_awaited q xs) ≡ count_by (has_arrived r) xs
+    by_found : (f : Option Awaited) → find (waits_for q) xs ≡ f → count_by (has_arrived r) (without_waiting q xs) + passing (has_arrived r) (find (waits_for q) xs) ≡ count_by (has_arrived r) xs → count_by (has_arrived r) (without_waiting q xs) ≡ count_by (has_arrived r) xs
     by_found None is counts = omega (arith, counts, ap (passing (has_arrived r)) is)
     by_found (Some a) is counts = omega (arith, counts, ap (passing (has_arrived r)) is, has_arrived_waits r q a (found_is (waits_for q) xs a is))
 
-pub matched_waiting : (q : Serial) (received : List Message) (xs : List Awaited) → AreMatched received xs → AreMatched received (not_awaited q xs)
+pub matched_waiting : (q : Serial) (received : List Message) (xs : List Awaited) → AreMatched received xs → AreMatched received (without_waiting q xs)
 matched_waiting q received xs matched = record { each = λ r. matched.each r ∙ sym (each_waiting r q xs); all = matched.all ∙ sym (waiting_kept q xs) }
 
 pub matched_more : (index : ℕ) (q : Serial) (received : List Message) (xs : List Awaited) → AreMatched received xs → AreMatched received (xs ++ record { index = index; serial = q; arrived = false } ∷ [])
@@ -76,7 +77,7 @@ matched_request : (m : Message) (received : List Message) (xs : List Awaited) �
 matched_request m received xs kind about matched =
     subst (λ (w : Option Serial). AreMatched (received ++ m ∷ []) (with_arrived w xs)) (sym about)
     (record {
-      each = λ r. omega (arith, matched.each r, sum_by_push (λ (n : Message). cond (answers r n) 1 0) received m, ap (λ b. bit ((if b then false else true) && is_about r m.about)) kind);
+      each = λ r. omega (arith, matched.each r, sum_by_push (λ (n : Message). cond (answers r n) 1 0) received m, ap (λ b. bit ((if b then false else true) && is_serial r m.about)) kind);
       all = omega (arith, matched.all, sum_by_push (λ (n : Message). cond (is_answer n) 1 0) received m, ap (λ b. bit (if b then false else true)) kind);
     })
 
@@ -93,7 +94,7 @@ matched_answer last q m received xs kind about rising waits matched =
     one_waits = omega (arith, any_counts (waits_for q) xs waits, one_record 0 last q xs rising, arrives_or_waits q xs)
 
     said : (r : Serial) → bit (answers r m) ≡ bit (same_serial r q)
-    said r = ap (λ b. bit ((if b then false else true) && is_about r m.about)) kind ∙ ap (λ w. bit (is_about r w)) about
+    said r = ap (λ b. bit ((if b then false else true) && is_serial r m.about)) kind ∙ ap (λ w. bit (is_serial r w)) about
 
     by_request : (r : Serial) (b : Bool) → same_serial r q ≡ b → count_by (answers r) (received ++ m ∷ []) ≡ count_by (has_arrived r) (map (arrived q) xs)
     by_request r true is =
@@ -105,26 +106,26 @@ matched_answer last q m received xs kind about rising waits matched =
         omega (arith, matched.each r, sum_by_push (λ (n : Message). cond (answers r n) 1 0) received m, said r, ap bit is, arrives_only q r xs is)
 
 -- a message that is accepted arrives
-pub matched_put : (last : ℕ) (m : Message) (received : List Message) (xs : List Awaited) → is_well_formed m ≡ true → (is_answer m && not (is_awaited xs m.about)) ≡ false → rise 0 last xs ≡ true → AreMatched received xs → AreMatched (received ++ m ∷ []) (with_arrived m.about xs)
+pub matched_put : (last : ℕ) (m : Message) (received : List Message) (xs : List Awaited) → is_well_formed m ≡ true → (is_answer m && not (is_waited_for xs m.about)) ≡ false → rise 0 last xs ≡ true → AreMatched received xs → AreMatched (received ++ m ∷ []) (with_arrived m.about xs)
 matched_put last m received xs formed accepts rising matched = by_kind (is_request m) refl m.about refl
   where
-    awaited_is : (b t : Bool) → is_request m ≡ b → b ≡ false → is_awaited xs m.about ≡ t → t ≡ true
+    awaited_is : (b t : Bool) → is_request m ≡ b → b ≡ false → is_waited_for xs m.about ≡ t → t ≡ true
     awaited_is b true is at about = refl
-    awaited_is b false is at about = absurd (true≢false (sym (ap (λ w. (if w then false else true) && not (is_awaited xs m.about)) (is ∙ at) ∙ ap not about) ∙ accepts))
+    awaited_is b false is at about = absurd (true≢false (sym (ap (λ w. (if w then false else true) && not (is_waited_for xs m.about)) (is ∙ at) ∙ ap not about) ∙ accepts))
 
     by_kind : (b : Bool) → is_request m ≡ b → (about : Option Serial) → m.about ≡ about → AreMatched (received ++ m ∷ []) (with_arrived m.about xs)
     by_kind true is None about = matched_request m received xs is about matched
     by_kind true is (Some q) about = absurd (true≢false (sym (formed_request m.kind m is formed) ∙ ap is_none about))
     by_kind false is None about = absurd (true≢false (sym (formed_answer m.kind m is formed) ∙ ap is_some about))
     by_kind false is (Some q) about =
-        matched_answer last q m received xs is about rising (sym (ap (is_awaited xs) about) ∙ awaited_is (is_request m) (is_awaited xs m.about) refl is refl) matched
+        matched_answer last q m received xs is about rising (sym (ap (is_waited_for xs) about) ∙ awaited_is (is_request m) (is_waited_for xs m.about) refl is refl) matched
 
 -- the reply to a request runs
 matched_settled : (last : ℕ) (q : Serial) (m : Message) (received : List Message) (xs : List Awaited) → find is_answer received ≡ Some m → is_answer m ≡ true → m.about ≡ Some q → rise 0 last xs ≡ true → AreMatched received xs → AreMatched (without_first is_answer received) (without_first (is_of q) xs)
 matched_settled last q m received xs found kind about rising matched = by_record (find (is_of q) xs) refl
   where
     said : (r : Serial) → bit (answers r m) ≡ bit (same_serial r q)
-    said r = ap (λ b. bit (b && is_about r m.about)) kind ∙ ap (λ w. bit (is_about r w)) about
+    said r = ap (λ b. bit (b && is_serial r m.about)) kind ∙ ap (λ w. bit (is_serial r w)) about
 
     one_arrived : 1 ≤ count_by (has_arrived q) xs
     one_arrived = omega (arith, matched.each q, find_counts (answers q) is_answer received m found, said q, ap bit (same_serial-refl q))
@@ -155,7 +156,7 @@ matched_settled last q m received xs found kind about rising matched = by_record
         and_true true = refl
         and_true false = refl
 
-pub matched_ran : (last : ℕ) (m : Message) (received : List Message) (xs : List Awaited) → find is_answer received ≡ Some m → is_well_formed m ≡ true → rise 0 last xs ≡ true → AreMatched received xs → AreMatched (without_first is_answer received) (settled m.about xs)
+pub matched_ran : (last : ℕ) (m : Message) (received : List Message) (xs : List Awaited) → find is_answer received ≡ Some m → is_well_formed m ≡ true → rise 0 last xs ≡ true → AreMatched received xs → AreMatched (without_first is_answer received) (without_record m.about xs)
 matched_ran last m received xs found formed rising matched = by_about m.about refl
   where
     kind : is_answer m ≡ true
@@ -165,7 +166,7 @@ matched_ran last m received xs found formed rising matched = by_about m.about re
     request_is true is h = absurd (true≢false (sym h))
     request_is false is h = is
 
-    by_about : (about : Option Serial) → m.about ≡ about → AreMatched (without_first is_answer received) (settled m.about xs)
+    by_about : (about : Option Serial) → m.about ≡ about → AreMatched (without_first is_answer received) (without_record m.about xs)
     by_about None about = absurd (true≢false (sym (formed_answer m.kind m (request_is (is_request m) refl kind) formed) ∙ ap is_some about))
     by_about (Some q) about = rw about (matched_settled last q m received xs found kind about rising matched)
 
@@ -191,4 +192,4 @@ matched_front m ms received xs at none matched =
 
     no_answer : (r : Serial) (b : Bool) → is_answer m ≡ b → bit b ≡ 0 → bit (answers r m) ≡ 0
     no_answer r true is h = absurd (cc)
-    no_answer r false is h = ap (λ b. bit (b && is_about r m.about)) is
+    no_answer r false is h = ap (λ b. bit (b && is_serial r m.about)) is

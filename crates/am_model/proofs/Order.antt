@@ -207,7 +207,7 @@ empty_list [] is = refl
 empty_list (x ∷ xs) is = absurd (cc)
 
 pub order_unloaded : (limit : ℕ) (pool : Option ℕ) (node : NodeId) (e : EndpointId) (s : State) (x : Entry) → MayUnload node e s x → KeepsOrder limit pool e s x
-order_unloaded limit pool node e s x may le order = rw may.event (record { within = order.within; valid = order.valid; grounded = λ there. empty_list s.body.in_flight may.landed })
+order_unloaded limit pool node e s x may le order = rw may.event (record { within = order.within; valid = order.valid; grounded = λ there. empty_list s.body.in_flight may.none_in_flight })
 
 pub order_loaded : (limit : ℕ) (pool : Option ℕ) (node : NodeId) (e : EndpointId) (s : State) (x : Entry) → MayLoad node e s x → KeepsOrder limit pool e s x
 order_loaded limit pool node e s x may le order = rw may.event (record { within = order.within; valid = order.valid; grounded = λ there. absurd (resident_only true refl there) })

@@ -19,7 +19,7 @@ use Rattle.am_model.specs.Choice.{without_first, first_holding}
 use Rattle.am_model.specs.declared.Notice.{Notice}
 use Rattle.am_model.specs.Endpoint.{State, replies_held, Body, IsWithin, is_arrived, requests_held, waits_for, entry_at}
 use Rattle.am_model.specs.Calls.{outcome_of_call, poll, poll_received, poll_requests, request_refusal, unless, new_request, request_message, has_no_credit, answer, handler_run}
-use Rattle.am_model.specs.Changes.{called, appended, settled, is_of, not_awaited, answer_ran, request_ran, request_accepted}
+use Rattle.am_model.specs.Changes.{called, appended, without_record, is_of, without_waiting, answer_ran, request_ran, request_accepted}
 use Rattle.am_office.specs.Entries.{run_by, accepted_by}
 use Rattle.std.proofs.lemmas.List.{length_push}
 use Rattle.am_office.specs.declared.Refusal.TheVariants as No
@@ -41,14 +41,14 @@ count_le p t (x ∷ xs) = by_test p t x xs (t x) (p x) (count_le p t xs)
     by_test p t x xs false c more = (omega (arith, more.0, sum_by-cons (λ y. cond (p y) 1 0) x xs, sum_by-cons (λ y. cond (p y) 1 0) x (without_first t xs)), omega (arith, more.1, sum_by-cons (λ y. cond (p y) 1 0) x xs, sum_by-cons (λ y. cond (p y) 1 0) x (without_first t xs)), omega (arith, more.2))
 
 -- a waiting record is not arrived
-pub waiting_kept : (s : Serial) (xs : List Awaited) → count_by is_arrived (not_awaited s xs) ≡ count_by is_arrived xs
+pub waiting_kept : (s : Serial) (xs : List Awaited) → count_by is_arrived (without_waiting s xs) ≡ count_by is_arrived xs
 waiting_kept s [] = refl
 waiting_kept s (a ∷ xs) = by_test (same_serial s a.serial) a.arrived refl (waiting_kept s xs)
   where
-    by_test : (b c : Bool) → a.arrived ≡ c → count_by is_arrived (not_awaited s xs) ≡ count_by is_arrived xs → count_by is_arrived (cond (b && not c) xs (a ∷ not_awaited s xs)) ≡ count_by is_arrived (a ∷ xs)
+    by_test : (b c : Bool) → a.arrived ≡ c → count_by is_arrived (without_waiting s xs) ≡ count_by is_arrived xs → count_by is_arrived (cond (b && not c) xs (a ∷ without_waiting s xs)) ≡ count_by is_arrived (a ∷ xs)
     by_test true false is more = omega (arith, sum_by-cons (λ (y : Awaited). cond y.arrived 1 0) a xs, ap bit is)
-    by_test true true is more = omega (arith, more, sum_by-cons (λ (y : Awaited). cond y.arrived 1 0) a xs, sum_by-cons (λ (y : Awaited). cond y.arrived 1 0) a (not_awaited s xs))
-    by_test false c is more = omega (arith, more, sum_by-cons (λ (y : Awaited). cond y.arrived 1 0) a xs, sum_by-cons (λ (y : Awaited). cond y.arrived 1 0) a (not_awaited s xs))
+    by_test true true is more = omega (arith, more, sum_by-cons (λ (y : Awaited). cond y.arrived 1 0) a xs, sum_by-cons (λ (y : Awaited). cond y.arrived 1 0) a (without_waiting s xs))
+    by_test false c is more = omega (arith, more, sum_by-cons (λ (y : Awaited). cond y.arrived 1 0) a xs, sum_by-cons (λ (y : Awaited). cond y.arrived 1 0) a (without_waiting s xs))
 
 found_passes : (t : Message → Bool) (xs : List Message) (m : Message) → find t xs ≡ Some m → t m ≡ true
 found_passes t [] m e = absurd (cc)
@@ -58,7 +58,7 @@ found_passes t (x ∷ xs) m e = by_test (t x) refl e (found_passes t xs m)
     by_test true is h more = let same : x ≡ m = cc in subst (λ (w : Message). t w ≡ true) same is
     by_test false is h more = more h
 
-settled_le : (about : Option Serial) (xs : List Awaited) → (count_by is_arrived xs ≤ count_by is_arrived (settled about xs) + 1) × (length (settled about xs) ≤ length xs)
+settled_le : (about : Option Serial) (xs : List Awaited) → (count_by is_arrived xs ≤ count_by is_arrived (without_record about xs) + 1) × (length (without_record about xs) ≤ length xs)
 settled_le None xs = (omega arith, omega arith)
 settled_le (Some s) xs = let l = count_le is_arrived (is_of s) xs in (l.1, l.2)
 

@@ -39,11 +39,11 @@ use Rattle.am_model.specs.declared.Mapping.{Mapping}
 use Rattle.am_model.specs.declared.Notice.{Notice}
 use Rattle.am_model.specs.declared.Queued.{Queued}
 use Rattle.am_model.specs.Choice.{first_holding, without_first}
-use Rattle.am_model.specs.Endpoint.{State, Body, IsWithin, fresh, front, front_of, is_arrived, is_awaited, is_resident, entry_at, requests_held, replies_held, verdict, verdict_of, waits_for}
+use Rattle.am_model.specs.Endpoint.{State, Body, IsWithin, fresh, front, front_of, is_arrived, is_waited_for, is_resident, entry_at, requests_held, replies_held, verdict, verdict_of, waits_for}
 use Rattle.am_model.specs.Calls.{outcome_of_call, answer, poll, poll_received, poll_requests, request_refusal, unless, new_request, request_message, sum_after}
-use Rattle.am_model.specs.Changes.{appended, kind_run, arrived, called, left, marked, put, queued, reached, with_arrived, with_marked, without_front, noticed, bounces_of, flying_of, landed, requeued_flight, returned_flight, received, expired, bound, changed, after}
+use Rattle.am_model.specs.Changes.{appended, kind_run, arrived, called, left, marked, put, queued, reached, with_arrived, with_marked, without_front, noticed, bounces_of, flying_of, without_flight, requeued_flight, returned_flight, received, expired, bound, changed, after}
 use Rattle.am_model.specs.History.{judged, settle_by}
-use Rattle.am_model.specs.Allowed.{EndsFlight, MayArrive, MayCarry, are_numbers_in_range, arrival_verdict, arrived_message, given_up, is_carry_from, is_well_formed}
+use Rattle.am_model.specs.Allowed.{EndsFlight, MayArrive, MayCarry, are_numbers_in_range, arrival_verdict, arrived_message, tries_used_up, is_carry_from, is_well_formed}
 use Rattle.am_model.specs.Valid.{is_mapping_in_range}
 use Rattle.am_model.proofs.Counts.{call_counts_one}
 use Rattle.am_model.proofs.Names.{same_end-refl}
@@ -235,9 +235,9 @@ sound_fresh pool tag place =
 
 -- arrivals
 
-pub verdict_accepts : (s : State) (m : Message) → verdict s m ≡ Verdicts.Accepted → ((is_request m && nat_le 16 (count_by is_request s.body.received)) ≡ false) × ((is_answer m && not (is_awaited s.body.awaited m.about)) ≡ false)
+pub verdict_accepts : (s : State) (m : Message) → verdict s m ≡ Verdicts.Accepted → ((is_request m && nat_le 16 (count_by is_request s.body.received)) ≡ false) × ((is_answer m && not (is_waited_for s.body.awaited m.about)) ≡ false)
 verdict_accepts s m h =
-    by_tests s.head.closed (not (is_resident s.head.place)) (not (matches s.body.tag m.tag)) (is_request m && is_none (entry_at s.body.handlers m.handler)) (is_request m && nat_le 16 (count_by is_request s.body.received)) (is_answer m && not (is_awaited s.body.awaited m.about)) h
+    by_tests s.head.closed (not (is_resident s.head.place)) (not (matches s.body.tag m.tag)) (is_request m && is_none (entry_at s.body.handlers m.handler)) (is_request m && nat_le 16 (count_by is_request s.body.received)) (is_answer m && not (is_waited_for s.body.awaited m.about)) h
   where
     by_tests : (a b c d f g : Bool) → verdict_of (first_holding ((a, Causes.NoEndpoint) ∷ (b, Causes.NotResident) ∷ (c, Causes.BadTag) ∷ (d, Causes.BadHandler) ∷ (f, Causes.QueueFull) ∷ (g, Causes.NoRequest) ∷ [])) ≡ Verdicts.Accepted → (f ≡ false) × (g ≡ false)
     by_tests true b c d f g h = absurd (cc)
@@ -291,7 +291,7 @@ arrived_more r (a ∷ xs) h = by_test r a xs a.arrived (same_serial r a.serial) 
     by_test r a xs true true is same h more =
         omega (arith, more h, sum_by-cons (λ (y : Awaited). cond y.arrived 1 0) a xs, sum_by-cons (λ (y : Awaited). cond y.arrived 1 0) (arrived r a) (map (arrived r) xs), ap bit is, ap (λ b. bit (b || same_serial r a.serial)) is)
 
-arrived_about : (about : Option Serial) (xs : List Awaited) (b : Bool) → is_awaited xs about ≡ b → count_by is_arrived xs + bit b ≤ count_by is_arrived (with_arrived about xs)
+arrived_about : (about : Option Serial) (xs : List Awaited) (b : Bool) → is_waited_for xs about ≡ b → count_by is_arrived xs + bit b ≤ count_by is_arrived (with_arrived about xs)
 arrived_about None xs true h = absurd (cc)
 arrived_about None xs false h = omega arith
 arrived_about (Some r) xs true h = arrived_more r xs h
@@ -303,9 +303,9 @@ arrived_length (Some r) [] = refl
 arrived_length (Some r) (a ∷ xs) = ap suc (arrived_length (Some r) xs)
 
 within_put : (m : Message) (s : State) → verdict s m ≡ Verdicts.Accepted → IsWithin s.body → IsWithin (put m s).body
-within_put m s accepts w = by_kind (is_request m) (is_awaited s.body.awaited m.about) refl refl (verdict_accepts s m accepts)
+within_put m s accepts w = by_kind (is_request m) (is_waited_for s.body.awaited m.about) refl refl (verdict_accepts s m accepts)
   where
-    by_kind : (request awaited : Bool) → is_request m ≡ request → is_awaited s.body.awaited m.about ≡ awaited → ((is_request m && nat_le 16 (count_by is_request s.body.received)) ≡ false) × ((is_answer m && not (is_awaited s.body.awaited m.about)) ≡ false) → IsWithin (put m s).body
+    by_kind : (request awaited : Bool) → is_request m ≡ request → is_waited_for s.body.awaited m.about ≡ awaited → ((is_request m && nat_le 16 (count_by is_request s.body.received)) ≡ false) × ((is_answer m && not (is_waited_for s.body.awaited m.about)) ≡ false) → IsWithin (put m s).body
     by_kind true awaited is about h =
         record {
           requests = omega (arith, w.requests, marked_counts is_request m.about s.body.in_flight);
@@ -322,7 +322,7 @@ within_put m s accepts w = by_kind (is_request m) (is_awaited s.body.awaited m.a
           received = omega (arith, w.received, sum_by_push (λ (n : Message). cond (is_request n) 1 0) s.body.received m, ap bit is);
           answers = omega (arith, w.answers, sum_by_push (λ (n : Message). cond (is_answer n) 1 0) s.body.received m, ap (λ b. bit (if b then false else true)) is, arrived_about m.about s.body.awaited true about);
         }
-    by_kind false false is about h = absurd (true_not (sym (ap (λ b. (if b then false else true) && not (is_awaited s.body.awaited m.about)) is ∙ ap not about) ∙ h.1))
+    by_kind false false is about h = absurd (true_not (sym (ap (λ b. (if b then false else true) && not (is_waited_for s.body.awaited m.about)) is ∙ ap not about) ∙ h.1))
       where
         true_not : true ≡ false → ⊥
         true_not e = cc
@@ -465,10 +465,10 @@ sound_arrived pool e s x may sound = arrival_sound pool e s may.message x.event 
 
 -- flights end
 
-sound_landed : (pool : Option ℕ) (serial : Serial) (b : Body) → IsSound pool b → IsSound pool (landed serial b)
+sound_landed : (pool : Option ℕ) (serial : Serial) (b : Body) → IsSound pool b → IsSound pool (without_flight serial b)
 sound_landed pool serial b sound =
     let w = sound.within in
-    sound_by pool (landed serial b)
+    sound_by pool (without_flight serial b)
     (record {
       requests = omega (arith, w.requests, (count_le (λ (f : Flying). is_request f.message) (λ (f : Flying). has_serial serial f.message) b.in_flight).0);
       replies = omega (arith, w.replies, (count_le (λ (f : Flying). is_answer f.message) (λ (f : Flying). has_serial serial f.message) b.in_flight).0);
@@ -494,12 +494,12 @@ landed_counts p serial (g ∷ fs) f e = by_test p serial g fs f (has_serial seri
         omega (arith, more is, sum_by-cons (λ (h : Flying). cond (p h.message) 1 0) g fs, sum_by-cons (λ (h : Flying). cond (p h.message) 1 0) g (without_first (λ (h : Flying). has_serial serial h.message) fs))
 
 -- a flight goes back to its queue
-sound_flight_requeued : (pool : Option ℕ) (serial : Serial) (n : ℕ) (b : Body) (flight : Option Flying) → flying_of serial b.in_flight ≡ flight → IsSound pool b → IsSound pool (requeued_flight flight n (landed serial b))
+sound_flight_requeued : (pool : Option ℕ) (serial : Serial) (n : ℕ) (b : Body) (flight : Option Flying) → flying_of serial b.in_flight ≡ flight → IsSound pool b → IsSound pool (requeued_flight flight n (without_flight serial b))
 sound_flight_requeued pool serial n b None is sound = sound_landed pool serial b sound
 sound_flight_requeued pool serial n b (Some f) is sound =
     let w = sound.within in
     let lands = sound_landed pool serial b sound in
-    sound_by pool (requeued_flight (Some f) n (landed serial b))
+    sound_by pool (requeued_flight (Some f) n (without_flight serial b))
     (record {
       requests = omega (arith, w.requests, landed_counts is_request serial b.in_flight f is, length_appended (is_request f.message) f.message n b.requests);
       replies = omega (arith, w.replies, landed_counts is_answer serial b.in_flight f is, length_appended (is_answer f.message) f.message n b.replies);
@@ -507,16 +507,16 @@ sound_flight_requeued pool serial n b (Some f) is sound =
       received = w.received;
       answers = w.answers;
     })
-    (queues_queued f.message n (landed serial b) (all_found is_flight_formed (λ (g : Flying). has_serial serial g.message) b.in_flight f sound.in_flight is) (queues_of pool (landed serial b) lands))
+    (queues_queued f.message n (without_flight serial b) (all_found is_flight_formed (λ (g : Flying). has_serial serial g.message) b.in_flight f sound.in_flight is) (queues_of pool (without_flight serial b) lands))
     (record { indexes = lands.indexes; credits = lands.credits; in_flight = lands.in_flight })
 
 -- a flight comes back
-sound_flight_returned : (pool : Option ℕ) (serial : Serial) (why : Why) (b : Body) (flight : Option Flying) → flying_of serial b.in_flight ≡ flight → IsSound pool b → IsSound pool (returned_flight serial flight why (landed serial b))
+sound_flight_returned : (pool : Option ℕ) (serial : Serial) (why : Why) (b : Body) (flight : Option Flying) → flying_of serial b.in_flight ≡ flight → IsSound pool b → IsSound pool (returned_flight serial flight why (without_flight serial b))
 sound_flight_returned pool serial why b None is sound =
     let lands = sound_landed pool serial b sound in
     let w = lands.within in
     let same : b.notices ++ [] ≡ b.notices = append-nil b.notices in
-    sound_by pool (returned_flight serial None why (landed serial b))
+    sound_by pool (returned_flight serial None why (without_flight serial b))
     (record {
       requests = rw same w.requests;
       replies = rw same w.replies;
@@ -530,7 +530,7 @@ sound_flight_returned pool serial why b (Some f) is sound =
     let lands = sound_landed pool serial b sound in
     let w = sound.within in
     let back : Notice = record { message = f.message; bounces = f.bounces; why = why } in
-    sound_by pool (returned_flight serial (Some f) why (landed serial b))
+    sound_by pool (returned_flight serial (Some f) why (without_flight serial b))
     (record {
       requests = omega (arith, w.requests, landed_counts is_request serial b.in_flight f is, sum_by_push (λ (x : Notice). cond (is_request x.message) 1 0) b.notices back);
       replies = omega (arith, w.replies, landed_counts is_answer serial b.in_flight f is, sum_by_push (λ (x : Notice). cond (is_answer x.message) 1 0) b.notices back);
@@ -550,7 +550,7 @@ sound_settled pool limit e s m bounces (Verdicts.Refused cause) sound = by_again
     by_again true = sound_flight_requeued pool m.serial (bounces + 1) s.body (flying_of m.serial s.body.in_flight) refl sound
     by_again false = sound_flight_returned pool m.serial (Whys.Refused cause) s.body (flying_of m.serial s.body.in_flight) refl sound
 
-sound_given_up : (pool : Option ℕ) (s : State) (f : Flying) → IsSound pool s.body → IsSound pool (expired s (given_up f)).body
+sound_given_up : (pool : Option ℕ) (s : State) (f : Flying) → IsSound pool s.body → IsSound pool (expired s (tries_used_up f)).body
 sound_given_up pool s f sound = by_test f.answered
   where
     by_test : (b : Bool) → IsSound pool (expired s (if b then Out.Delivered f.message.serial else Out.Unknown f.message.serial)).body

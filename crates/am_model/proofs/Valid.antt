@@ -41,11 +41,11 @@ use Rattle.am_model.specs.declared.Notice.{Notice}
 use Rattle.am_model.specs.declared.Queued.{Queued}
 use Rattle.am_model.specs.Choice.{first_holding}
 use Rattle.am_model.specs.Endpoint.{State, Body, entry_at, fresh, front, front_of, replies_held, requests_held, verdict, waits_for}
-use Rattle.am_model.specs.Calls.{answer, awaited_at, busy_refusal, give_up_refusal, handler_refusal, handler_run, has_no_credit, is_over_share, map_refusal, new_request, outcome_of_call, poll, poll_received, poll_requests, request_message, request_refusal, shares, sum_after, unless, unmap_refusal}
-use Rattle.am_model.specs.Changes.{after, answer_ran, bound, bounces_of, called, changed, expired, flying_of, kind_run, landed, left, noticed, put, queued, reached, received, request_accepted, request_ran, requeued_flight, returned_flight, is_of, marked, not_awaited, settled, with_arrived, with_marked, without_front}
+use Rattle.am_model.specs.Calls.{answer, records_at, busy_refusal, give_up_refusal, handler_refusal, handler_run, has_no_credit, is_over_share, map_refusal, new_request, outcome_of_call, poll, poll_received, poll_requests, request_message, request_refusal, shares, sum_after, unless, unmap_refusal}
+use Rattle.am_model.specs.Changes.{after, answer_ran, bound, bounces_of, called, changed, expired, flying_of, kind_run, without_flight, left, noticed, put, queued, reached, received, request_accepted, request_ran, requeued_flight, returned_flight, is_of, marked, without_waiting, without_record, with_arrived, with_marked, without_front}
 use Rattle.am_model.specs.History.{is_kind_in_range, judged, settle_by}
 use Rattle.am_model.specs.Layout.{IsPoolLawful}
-use Rattle.am_model.specs.Allowed.{EndsFlight, MayArrive, MayCarry, are_numbers_in_range, arrival_verdict, arrived_message, given_up, is_carry_from, is_well_formed}
+use Rattle.am_model.specs.Allowed.{EndsFlight, MayArrive, MayCarry, are_numbers_in_range, arrival_verdict, arrived_message, tries_used_up, is_carry_from, is_well_formed}
 use Rattle.am_model.specs.Valid.{FitsPool, is_handler_in_range, is_own, is_own_flight, is_own_notice, is_received_here}
 use Rattle.am_model.proofs.Matches.{AreMatched, matched_front, matched_more, matched_put, matched_ran, matched_waiting}
 use Rattle.am_model.proofs.Names.{same_end-refl}
@@ -141,7 +141,7 @@ notice_parts pool e b p =
       matched = p.matched;
     }
 
-settled_records : (pool : Option ℕ) (e : EndpointId) (about : Option Serial) (b : Body) → OwnRecords e pool b → OwnRecords e pool (record b { awaited = settled about b.awaited })
+settled_records : (pool : Option ℕ) (e : EndpointId) (about : Option Serial) (b : Body) → OwnRecords e pool b → OwnRecords e pool (record b { awaited = without_record about b.awaited })
 settled_records pool e None b own = records_same e pool (record b { awaited = b.awaited }) b refl refl refl own
 settled_records pool e (Some r) b own = records_without e pool (is_of r) b own
 
@@ -152,7 +152,7 @@ answer_parts : (pool : Option ℕ) (e : EndpointId) (m : Message) (handler : Opt
 answer_parts pool e m handler b found p =
     record {
       handlers = p.handlers;
-      records = records_same e pool (answer_ran m handler b) (record b { awaited = settled m.about b.awaited }) refl refl refl (settled_records pool e m.about b p.records);
+      records = records_same e pool (answer_ran m handler b) (record b { awaited = without_record m.about b.awaited }) refl refl refl (settled_records pool e m.about b p.records);
       messages = record { requests = p.messages.requests; replies = p.messages.replies; in_flight = p.messages.in_flight; notices = p.messages.notices };
       received = all_without (is_received_here e) is_answer b.received p.received;
       matched = matched_ran b.accepted m b.received b.awaited found (received_formed e m (all_found (is_received_here e) is_answer b.received m p.received found)) p.records.counts p.matched;
@@ -215,17 +215,17 @@ map_parts pool e s index m None slots is p =
       matched = p.matched;
     }
 
-unmap_fails : (s : State) (index : ℕ) → unmap_refusal s index ≡ None → (nat_le 16 index ≡ false) × (awaited_at s.body index ≡ 0)
+unmap_fails : (s : State) (index : ℕ) → unmap_refusal s index ≡ None → (nat_le 16 index ≡ false) × (records_at s.body index ≡ 0)
 unmap_fails s index h =
     let all =
     fails
     ((s.head.closed, No.Closed)
     ∷ (nat_le 16 index, No.BadIndex)
     ∷ (is_none (entry_at s.body.mapped index), No.NotMapped)
-    ∷ (not (awaited_at s.body index == 0), No.Outstanding (awaited_at s.body index))
+    ∷ (not (records_at s.body index == 0), No.Outstanding (records_at s.body index))
     ∷ [])
     h in
-    (all.1.0, zero_of (awaited_at s.body index) all.1.1.1.0)
+    (all.1.0, zero_of (records_at s.body index) all.1.1.1.0)
   where
     zero_of : (n : ℕ) → not (n == 0) ≡ false → n ≡ 0
     zero_of n h = by_test (n == 0) refl h
@@ -279,7 +279,7 @@ close_parts pool e s (Some refusal) p = p
 close_parts pool e s None p = p
 
 -- a waiting record goes
-waiting_parts : (pool : Option ℕ) (e : EndpointId) (serial : Serial) (b : Body) → Parts e pool b → Parts e pool (record b { awaited = not_awaited serial b.awaited })
+waiting_parts : (pool : Option ℕ) (e : EndpointId) (serial : Serial) (b : Body) → Parts e pool b → Parts e pool (record b { awaited = without_waiting serial b.awaited })
 waiting_parts pool e serial b p =
     record {
       handlers = p.handlers;
@@ -398,7 +398,7 @@ noticed_parts pool e m n why b mine p =
     let w = waiting_parts pool e m.serial b p in
     record {
       handlers = p.handlers;
-      records = records_same e pool (noticed m n why b) (record b { awaited = not_awaited m.serial b.awaited }) refl refl refl w.records;
+      records = records_same e pool (noticed m n why b) (record b { awaited = without_waiting m.serial b.awaited }) refl refl refl w.records;
       messages =
           record {
             requests = p.messages.requests;
@@ -464,11 +464,11 @@ bound_parts pool e s q peer channel seq attempt number is p =
 
 -- flights end
 
-landed_parts : (pool : Option ℕ) (e : EndpointId) (serial : Serial) (b : Body) → Parts e pool b → Parts e pool (landed serial b)
+landed_parts : (pool : Option ℕ) (e : EndpointId) (serial : Serial) (b : Body) → Parts e pool b → Parts e pool (without_flight serial b)
 landed_parts pool e serial b p =
     record {
       handlers = p.handlers;
-      records = records_same e pool (landed serial b) b refl refl refl p.records;
+      records = records_same e pool (without_flight serial b) b refl refl refl p.records;
       messages =
           record {
             requests = p.messages.requests;
@@ -480,13 +480,13 @@ landed_parts pool e serial b p =
       matched = p.matched;
     }
 
-returned_parts : (pool : Option ℕ) (e : EndpointId) (serial : Serial) (why : Why) (b : Body) (flight : Option Flying) → flying_of serial b.in_flight ≡ flight → Parts e pool b → Parts e pool (returned_flight serial flight why (landed serial b))
+returned_parts : (pool : Option ℕ) (e : EndpointId) (serial : Serial) (why : Why) (b : Body) (flight : Option Flying) → flying_of serial b.in_flight ≡ flight → Parts e pool b → Parts e pool (returned_flight serial flight why (without_flight serial b))
 returned_parts pool e serial why b None is p =
     let lands = landed_parts pool e serial b p in
-    let w = waiting_parts pool e serial (landed serial b) lands in
+    let w = waiting_parts pool e serial (without_flight serial b) lands in
     record {
       handlers = p.handlers;
-      records = records_same e pool (returned_flight serial None why (landed serial b)) (record (landed serial b) { awaited = not_awaited serial b.awaited }) refl refl refl w.records;
+      records = records_same e pool (returned_flight serial None why (without_flight serial b)) (record (without_flight serial b) { awaited = without_waiting serial b.awaited }) refl refl refl w.records;
       messages =
           record {
             requests = p.messages.requests;
@@ -499,11 +499,11 @@ returned_parts pool e serial why b None is p =
     }
 returned_parts pool e serial why b (Some f) is p =
     let lands = landed_parts pool e serial b p in
-    let w = waiting_parts pool e serial (landed serial b) lands in
+    let w = waiting_parts pool e serial (without_flight serial b) lands in
     let own : is_own_flight e b.accepted f ≡ true = all_found (is_own_flight e b.accepted) (λ (g : Flying). has_serial serial g.message) b.in_flight f p.messages.in_flight is in
     record {
       handlers = p.handlers;
-      records = records_same e pool (returned_flight serial (Some f) why (landed serial b)) (record (landed serial b) { awaited = not_awaited serial b.awaited }) refl refl refl w.records;
+      records = records_same e pool (returned_flight serial (Some f) why (without_flight serial b)) (record (without_flight serial b) { awaited = without_waiting serial b.awaited }) refl refl refl w.records;
       messages =
           record {
             requests = p.messages.requests;
@@ -519,7 +519,7 @@ settled_parts : (pool : Option ℕ) (limit : ℕ) (e : EndpointId) (s : State) (
 settled_parts pool limit e s f Verdicts.Accepted le is p = landed_parts pool e f.message.serial s.body p
 settled_parts pool limit e s f (Verdicts.Refused cause) le is p = by_again (is_transient cause && nat_lt f.bounces limit) refl
   where
-    lands : Parts e pool (landed f.message.serial s.body)
+    lands : Parts e pool (without_flight f.message.serial s.body)
     lands = landed_parts pool e f.message.serial s.body p
 
     own : is_own_flight e s.body.accepted f ≡ true
@@ -527,11 +527,11 @@ settled_parts pool limit e s f (Verdicts.Refused cause) le is p = by_again (is_t
 
     by_again : (b : Bool) → (is_transient cause && nat_lt f.bounces limit) ≡ b → Parts e pool (received e s (if b then Got.Requeued f.message.serial cause (f.bounces + 1) else Got.Returned f.message.serial cause)).body
     by_again true again =
-        subst (λ (w : Option Flying). Parts e pool (requeued_flight w (f.bounces + 1) (landed f.message.serial s.body))) (sym is)
-        (queued_parts pool e f.message (f.bounces + 1) (landed f.message.serial s.body) (own_bounced e s.body.accepted f.message f.bounces (f.bounces + 1) (bounce_fits cause f.bounces limit le again) own) lands)
+        subst (λ (w : Option Flying). Parts e pool (requeued_flight w (f.bounces + 1) (without_flight f.message.serial s.body))) (sym is)
+        (queued_parts pool e f.message (f.bounces + 1) (without_flight f.message.serial s.body) (own_bounced e s.body.accepted f.message f.bounces (f.bounces + 1) (bounce_fits cause f.bounces limit le again) own) lands)
     by_again false again = returned_parts pool e f.message.serial (Whys.Refused cause) s.body (flying_of f.message.serial s.body.in_flight) refl p
 
-given_up_parts : (pool : Option ℕ) (e : EndpointId) (s : State) (f : Flying) → Parts e pool s.body → Parts e pool (expired s (given_up f)).body
+given_up_parts : (pool : Option ℕ) (e : EndpointId) (s : State) (f : Flying) → Parts e pool s.body → Parts e pool (expired s (tries_used_up f)).body
 given_up_parts pool e s f p = by_test f.answered
   where
     by_test : (b : Bool) → Parts e pool (expired s (if b then Out.Delivered f.message.serial else Out.Unknown f.message.serial)).body

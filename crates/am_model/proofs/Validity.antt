@@ -18,7 +18,7 @@ use Rattle.am_model.specs.declared.Notice.{Notice}
 use Rattle.am_model.specs.declared.Queued.{Queued}
 use Rattle.am_model.specs.Choice.{without_first}
 use Rattle.am_model.specs.Endpoint.{Body, entry_at, front_of}
-use Rattle.am_model.specs.Calls.{awaited_at, excess, excess_from, has_no_credit, is_at, is_over_share, shares, share_of}
+use Rattle.am_model.specs.Calls.{records_at, excess, excess_from, has_no_credit, is_at, is_over_share, shares, share_of}
 use Rattle.am_model.specs.Changes.{arrived, queued, with_arrived, without_front}
 use Rattle.am_model.specs.Allowed.{is_well_formed}
 use Rattle.am_model.specs.Valid.{FitsPool, is_own, is_own_answer, is_own_flight, is_own_notice, is_own_request, is_record, rise}
@@ -197,12 +197,12 @@ one_more index a b is j = omega (arith, sum_by_push (λ (y : Awaited). cond (is_
 -- an index with credit left has fewer records than its share, or the pool is not empty
 fits_more : (pool : Option ℕ) (index : ℕ) (m : Mapping) (a b : Body) → a.mapped ≡ b.mapped → IsOneMore index a b → entry_at b.mapped index ≡ Some m → has_no_credit pool b index (Some m) ≡ false → FitsPool pool b → FitsPool pool a
 fits_more None index m a b same more at credit fits =
-    omega (arith, excess_spare index a b m 0 index a.mapped (omega arith) (ap (λ xs. entry_at xs index) same ∙ at) more (leb-false m.credits (awaited_at b index) credit), ap (excess_from b 0) same, fits)
-fits_more (Some pool) index m a b same more at credit fits = by_spare (nat_le m.credits (awaited_at b index)) (excess b == pool) refl refl credit
+    omega (arith, excess_spare index a b m 0 index a.mapped (omega arith) (ap (λ xs. entry_at xs index) same ∙ at) more (leb-false m.credits (records_at b index) credit), ap (excess_from b 0) same, fits)
+fits_more (Some pool) index m a b same more at credit fits = by_spare (nat_le m.credits (records_at b index)) (excess b == pool) refl refl credit
   where
-    by_spare : (t u : Bool) → nat_le m.credits (awaited_at b index) ≡ t → (excess b == pool) ≡ u → (nat_le m.credits (awaited_at b index) && (excess b == pool)) ≡ false → (excess a ≤ pool) × (shares a + pool ≤ 32)
+    by_spare : (t u : Bool) → nat_le m.credits (records_at b index) ≡ t → (excess b == pool) ≡ u → (nat_le m.credits (records_at b index) && (excess b == pool)) ≡ false → (excess a ≤ pool) × (shares a + pool ≤ 32)
     by_spare false u is empty h = (
-      omega (arith, excess_spare index a b m 0 index a.mapped (omega arith) (ap (λ xs. entry_at xs index) same ∙ at) more (leb-false m.credits (awaited_at b index) is), ap (excess_from b 0) same, fits.0),
+      omega (arith, excess_spare index a b m 0 index a.mapped (omega arith) (ap (λ xs. entry_at xs index) same ∙ at) more (leb-false m.credits (records_at b index) is), ap (excess_from b 0) same, fits.0),
       omega (arith, ap (λ (xs : List (Option Mapping)). sum_by share_of xs) same, fits.1),
     )
     by_spare true false is empty h = (
@@ -212,7 +212,7 @@ fits_more (Some pool) index m a b same more at credit fits = by_spare (nat_le m.
       where
         below : (m n : ℕ) → m ≤ n → (m == n) ≡ false → m < n
         below m n le other = grind (arith, le, eqb-false m n other)
-    by_spare true true is empty h = absurd (true≢false (sym (and_from (nat_le m.credits (awaited_at b index)) (excess b == pool) is empty) ∙ h))
+    by_spare true true is empty h = absurd (true≢false (sym (and_from (nat_le m.credits (records_at b index)) (excess b == pool) is empty) ∙ h))
 
 pub records_more : (e : EndpointId) (pool : Option ℕ) (index : ℕ) (m : Mapping) (serial : Serial) (b : Body) → same_end e serial.source ≡ true → serial.count ≡ b.accepted + 1 → index < 16 → entry_at b.mapped index ≡ Some m → has_no_credit pool b index (Some m) ≡ false → OwnRecords e pool b → OwnRecords e pool (record b { accepted = b.accepted + 1; awaited = b.awaited ++ record { index = index; serial = serial; arrived = false } ∷ [] })
 records_more e pool index m serial b mine is lt at credit own =
@@ -277,7 +277,7 @@ shares_set mapped index x lt = sum_by-set share_of mapped index x None lt
 
 pub records_mapped : (e : EndpointId) (pool : Option ℕ) (index : ℕ) (m : Mapping) (b : Body) → index < length b.mapped → entry_at b.mapped index ≡ None → is_over_share pool b m.credits ≡ false → OwnRecords e pool b → OwnRecords e pool (record b { mapped = slice_set b.mapped index (Some m) })
 records_mapped e pool index m b lt at share own =
-    let none : awaited_at b index ≡ 0 = none_unmapped e b.mapped index b.awaited at own.records in
+    let none : records_at b index ≡ 0 = none_unmapped e b.mapped index b.awaited at own.records in
     let more : excess_from b 0 (slice_set b.mapped index (Some m)) ≤ excess b = excess_set b 0 index index b.mapped (Some m) (omega arith) (omega (arith, none)) in
     record {
       counts = own.counts;
@@ -292,7 +292,7 @@ records_mapped e pool index m b lt at share own =
       omega (arith, shares_set b.mapped index (Some m) lt, ltb-false 32 (shares b + m.credits + pool) share, ap share_of at),
     )
 
-pub records_off : (e : EndpointId) (pool : Option ℕ) (index : ℕ) (b : Body) → index < length b.mapped → awaited_at b index ≡ 0 → OwnRecords e pool b → OwnRecords e pool (record b { mapped = slice_set b.mapped index None })
+pub records_off : (e : EndpointId) (pool : Option ℕ) (index : ℕ) (b : Body) → index < length b.mapped → records_at b index ≡ 0 → OwnRecords e pool b → OwnRecords e pool (record b { mapped = slice_set b.mapped index None })
 records_off e pool index b lt none own =
     let more : excess_from b 0 (slice_set b.mapped index None) ≤ excess b = excess_set b 0 index index b.mapped None (omega arith) refl in
     record {

@@ -114,14 +114,14 @@ pub record MayBind (node : NodeId) (e : EndpointId) (s : State) (x : Entry) : Ty
   pub is_front : front s ≡ Some queued
   pub outcome : x.outcome ≡ Out.Sent queued.message peer channel seq 0 number
 
--- what comes of a flight that no answer ended, when its tries are used up
-abbrev pub given_up : Flying → Outcome
-given_up f = if f.answered then Out.Delivered f.message.serial else Out.Unknown f.message.serial
+-- what comes of a flight when its tries are used up
+abbrev pub tries_used_up : Flying → Outcome
+tries_used_up f = if f.answered then Out.Delivered f.message.serial else Out.Unknown f.message.serial
 
 -- the flight ends here, by an answer that counts or by giving up, where a message may bounce up to the limit
 abbrev pub EndsFlight : ℕ → Flying → Event → Outcome → Type 0
 EndsFlight limit f (Events.Receive node peer number) (Out.Received channel seq attempt result) = (v : Verdict) × (result ≡ settle_by limit f.message f.bounces v)
-EndsFlight limit f (Events.Expire node peer channel) outcome = outcome ≡ given_up f
+EndsFlight limit f (Events.Expire node peer channel) outcome = outcome ≡ tries_used_up f
 EndsFlight limit f event outcome = ⊥
 
 -- the entry settles a message that the endpoint e has in flight
@@ -144,7 +144,7 @@ pub record MayUnload (node : NodeId) (e : EndpointId) (s : State) (x : Entry) : 
   pub outcome : x.outcome ≡ Out.Silent
   pub framed : is_in_a_frame s.head.place ≡ true
   pub draining : s.head.draining ≡ true
-  pub landed : length s.body.in_flight ≡ 0
+  pub none_in_flight : length s.body.in_flight ≡ 0
 
 -- the entry loads the endpoint e of the node into a frame
 pub record MayLoad (node : NodeId) (e : EndpointId) (s : State) (x : Entry) : Type 0 where

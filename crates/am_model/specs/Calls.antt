@@ -32,21 +32,21 @@ unless (Some refusal) outcome = Out.Refused refusal
 abbrev pub is_at : ℕ → Awaited → Bool
 is_at index a = a.index == index
 
--- how many requests of the index are awaited
-abbrev pub awaited_at : Body → ℕ → ℕ
-awaited_at b index = count_by (is_at index) b.awaited
+-- how many records there are of the index, of requests whose reply is waited for or has arrived and not run
+abbrev pub records_at : Body → ℕ → ℕ
+records_at b index = count_by (is_at index) b.awaited
 
--- how many requests of an index are awaited above its share
+-- how many records there are of an index above its share
 abbrev pub excess_at : Body → ℕ → Option Mapping → ℕ
 excess_at b index None = 0
-excess_at b index (Some mapping) = awaited_at b index - mapping.credits
+excess_at b index (Some mapping) = records_at b index - mapping.credits
 
 -- the same of this index and those after it
 abbrev pub excess_from : Body → ℕ → List (Option Mapping) → ℕ
 excess_from b index [] = 0
 excess_from b index (mapping ∷ more) = excess_at b index mapping + excess_from b (index + 1) more
 
--- how many requests of all indexes are awaited above their shares
+-- how many records there are of all indexes above their shares
 abbrev pub excess : Body → ℕ
 excess b = excess_from b 0 b.mapped
 
@@ -62,8 +62,8 @@ shares b = sum_by share_of b.mapped
 -- and with one its share is out and the pool is empty
 abbrev pub has_no_credit : Option ℕ → Body → ℕ → Option Mapping → Bool
 has_no_credit pool b index None = false
-has_no_credit None b index (Some mapping) = nat_le mapping.credits (awaited_at b index)
-has_no_credit (Some pool) b index (Some mapping) = nat_le mapping.credits (awaited_at b index) && (excess b == pool)
+has_no_credit None b index (Some mapping) = nat_le mapping.credits (records_at b index)
+has_no_credit (Some pool) b index (Some mapping) = nat_le mapping.credits (records_at b index) && (excess b == pool)
 
 -- whether a further share is more than the table has left
 abbrev pub is_over_share : Option ℕ → Body → ℕ → Bool
@@ -197,7 +197,7 @@ unmap_refusal s index =
     (s.head.closed, No.Closed)
     ∷ (nat_le 16 index, No.BadIndex)
     ∷ (is_none (entry_at s.body.mapped index), No.NotMapped)
-    ∷ (not (awaited_at s.body index == 0), No.Outstanding (awaited_at s.body index))
+    ∷ (not (records_at s.body index == 0), No.Outstanding (records_at s.body index))
     ∷ [])
 
 abbrev pub handler_refusal : State → ℕ → Option Refusal

@@ -40,17 +40,17 @@ abbrev pub wanted_on_host : State → State
 wanted_on_host s = record s { head = record s.head { wanted = s.head.wanted || is_on_host s.head.place } }
 
 -- without the waiting record of the request
-abbrev pub not_awaited : Serial → List Awaited → List Awaited
-not_awaited serial awaited = without_first (waits_for serial) awaited
+abbrev pub without_waiting : Serial → List Awaited → List Awaited
+without_waiting serial awaited = without_first (waits_for serial) awaited
 
 -- whether the record is of this request
 abbrev pub is_of : Serial → Awaited → Bool
 is_of request a = same_serial request a.serial
 
 -- without the record of the request
-abbrev pub settled : Option Serial → List Awaited → List Awaited
-settled None awaited = awaited
-settled (Some request) awaited = without_first (is_of request) awaited
+abbrev pub without_record : Option Serial → List Awaited → List Awaited
+without_record None awaited = awaited
+without_record (Some request) awaited = without_first (is_of request) awaited
 
 -- the record of the request that is answered, as arrived
 abbrev pub arrived : Serial → Awaited → Awaited
@@ -98,10 +98,10 @@ requests_left (reply ∷ replies) requests = requests
 abbrev pub without_front : Body → Body
 without_front b = record b { replies = drop 1 b.replies; requests = requests_left b.replies b.requests }
 
--- a message comes back to its source
+-- a message is returned to its source, as a notice
 abbrev pub noticed : Message → ℕ → Why → Body → Body
 noticed m bounces why b =
-    record b { notices = b.notices ++ record { message = m; bounces = bounces; why = why } ∷ []; awaited = not_awaited m.serial b.awaited }
+    record b { notices = b.notices ++ record { message = m; bounces = bounces; why = why } ∷ []; awaited = without_waiting m.serial b.awaited }
 
 -- how often the front message bounced
 abbrev pub bounces_of : List Queued → List Queued → ℕ
@@ -119,7 +119,7 @@ abbrev pub answer_ran : Message → Option ℕ → Body → Body
 answer_ran m handler b =
     record b {
       received = without_first is_answer b.received;
-      awaited = settled m.about b.awaited;
+      awaited = without_record m.about b.awaited;
       sum = sum_after (kind_run b.handlers handler) m.words b.sum;
     }
 
@@ -147,7 +147,7 @@ called s (Calls.Map index name tag credits) Out.Done =
     with_body s (with_mapped s.body index (Some (record { name = name; tag = tag; credits = credits })))
 called s (Calls.Unmap index) Out.Done = with_body s (with_mapped s.body index None)
 called s (Calls.SetHandler index kind) Out.Done = with_body s (record s.body { handlers = slice_set s.body.handlers index (Some kind) })
-called s (Calls.GiveUp serial) Out.Done = with_body s (record s.body { awaited = not_awaited serial s.body.awaited })
+called s (Calls.GiveUp serial) Out.Done = with_body s (record s.body { awaited = without_waiting serial s.body.awaited })
 called s Calls.Close Out.Done = record s { head = record s.head { closed = true } }
 called s call outcome = s
 
@@ -167,12 +167,13 @@ reached e s outcome = s
 abbrev pub carried : EndpointId → EndpointId → State → Outcome → State
 carried e from s outcome = reached e (if same_end e from then left s outcome else s) outcome
 
--- the message that leaves in flight, and how often it bounced
+-- the flight of this serial
 abbrev pub flying_of : Serial → List Flying → Option Flying
 flying_of serial flying = find (λ (f : Flying). has_serial serial f.message) flying
 
-abbrev pub landed : Serial → Body → Body
-landed serial b = record b { in_flight = without_first (λ (f : Flying). has_serial serial f.message) b.in_flight }
+-- without the flight of this serial
+abbrev pub without_flight : Serial → Body → Body
+without_flight serial b = record b { in_flight = without_first (λ (f : Flying). has_serial serial f.message) b.in_flight }
 
 -- a flight at the tail of a queue that is for such messages
 abbrev pub flight_appended : (Message → Bool) → Option Flying → ℕ → List Queued → List Queued
@@ -188,23 +189,23 @@ abbrev pub notice_of : Why → Option Flying → List Notice
 notice_of why None = []
 notice_of why (Some f) = record { message = f.message; bounces = f.bounces; why = why } ∷ []
 
--- a flight comes back to its source
+-- a flight is returned to its source, as a notice
 abbrev pub returned_flight : Serial → Option Flying → Why → Body → Body
-returned_flight serial flight why b = record b { notices = b.notices ++ notice_of why flight; awaited = not_awaited serial b.awaited }
+returned_flight serial flight why b = record b { notices = b.notices ++ notice_of why flight; awaited = without_waiting serial b.awaited }
 
 -- after a receipt with this result
 abbrev pub received : EndpointId → State → Received → State
 received e s (Got.Accepted m answer) = put m s
 received e s (Got.Refused m NotResident answer) = made_wanted s
-received e s (Got.Delivered serial) = with_body s (landed serial s.body)
-received e s (Got.Requeued serial cause bounces) = with_body s (requeued_flight (flying_of serial s.body.in_flight) bounces (landed serial s.body))
-received e s (Got.Returned serial cause) = with_body s (returned_flight serial (flying_of serial s.body.in_flight) (Whys.Refused cause) (landed serial s.body))
+received e s (Got.Delivered serial) = with_body s (without_flight serial s.body)
+received e s (Got.Requeued serial cause bounces) = with_body s (requeued_flight (flying_of serial s.body.in_flight) bounces (without_flight serial s.body))
+received e s (Got.Returned serial cause) = with_body s (returned_flight serial (flying_of serial s.body.in_flight) (Whys.Refused cause) (without_flight serial s.body))
 received e s result = s
 
 -- after a time-out with this outcome
 abbrev pub expired : State → Outcome → State
-expired s (Out.Delivered serial) = with_body s (landed serial s.body)
-expired s (Out.Unknown serial) = with_body s (returned_flight serial (flying_of serial s.body.in_flight) Whys.Unknown (landed serial s.body))
+expired s (Out.Delivered serial) = with_body s (without_flight serial s.body)
+expired s (Out.Unknown serial) = with_body s (returned_flight serial (flying_of serial s.body.in_flight) Whys.Unknown (without_flight serial s.body))
 expired s outcome = s
 
 -- after the front message was bound to a channel

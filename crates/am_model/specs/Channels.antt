@@ -48,14 +48,15 @@ frees_by (Got.Requeued serial cause used) = true
 frees_by (Got.Returned serial cause) = true
 frees_by result = false
 
-abbrev pub gives_up : Outcome → Bool
-gives_up (Out.Delivered serial) = true
-gives_up (Out.Unknown serial) = true
-gives_up outcome = false
+-- whether a time-out found that all tries are used up
+abbrev pub ends_tries : Outcome → Bool
+ends_tries (Out.Delivered serial) = true
+ends_tries (Out.Unknown serial) = true
+ends_tries outcome = false
 
 -- whether the channel is freed here
 abbrev pub frees : Channel → Event → Outcome → Bool
-frees c (Events.Expire node peer channel) outcome = gives_up outcome && same_channel c node peer channel
+frees c (Events.Expire node peer channel) outcome = ends_tries outcome && same_channel c node peer channel
 frees c (Events.Receive node peer number) (Out.Received channel seq attempt result) = frees_by result && same_channel c node peer channel
 frees c event outcome = false
 
@@ -129,6 +130,9 @@ pub data Arrival : Type 0 where
   Again : Verdict → Arrival
   Fresh : Arrival
 
+-- after an accepted verdict: an earlier sequence is stale, the same one is answered again, a later one is fresh. After a
+-- refusal: an earlier sequence, or an earlier attempt in the same one, is stale, the same attempt is answered again, and a
+-- later attempt or a later sequence is fresh.
 abbrev pub arrival_at : Mark → Verdict → ℕ → ℕ → Arrival
 arrival_at m Verdicts.Accepted seq attempt =
     if nat_lt seq m.seq then Stale else (if seq == m.seq then Again Verdicts.Accepted else Fresh)

@@ -24,8 +24,8 @@ use Rattle.am_model.specs.declared.Queued.{Queued}
 use Rattle.am_model.specs.declared.Flying.{Flying}
 use Rattle.am_model.specs.declared.Notice.{Notice}
 use Rattle.am_model.specs.declared.Mapping.{Mapping}
-use Rattle.am_model.specs.Calls.{awaited_at}
-use Rattle.am_model.specs.Endpoint.{Body, IsWithin, is_resident, entry_at}
+use Rattle.am_model.specs.Calls.{records_at}
+use Rattle.am_model.specs.Endpoint.{Body, IsWithin, is_in_a_frame, entry_at}
 use Rattle.am_office.specs.Entries.{put_by, put_of, run_of, returned_of, unknown_of, requeue_of, emitted_of}
 use Rattle.am_model.specs.Layout.{Layout, AllAre, home}
 use Rattle.am_model.specs.Channels.{Channel, Mark, same_channel, sequence, bound_message, attempt, mark}
@@ -49,7 +49,7 @@ pub record IsFlying (layout : Layout) (past : List Entry) (c : Channel) (m : Mes
   pub one : count_by (λ (f : Flying). has_serial m.serial f.message) (in_flight layout past m.serial.source) ≡ 1
   pub message : AllAre (λ (f : Flying). f.message.serial ≡ m.serial → f.message ≡ m) (in_flight layout past m.serial.source)
   pub node : home layout m.serial.source ≡ Some c.node
-  pub frame : is_resident (state_of layout past m.serial.source).head.place ≡ true
+  pub frame : is_in_a_frame (state_of layout past m.serial.source).head.place ≡ true
   pub opened : (state_of layout past m.serial.source).head.closed ≡ false
 
 pub record InFlightIsBound (layout : Layout) (past : List Entry) : Type 0 where
@@ -96,18 +96,20 @@ pub record IsMarkOfParcel (past : List Entry) (c : Channel) : Type 0 where
 abbrev pub MarkIsOfParcel : List Entry → Type 0
 MarkIsOfParcel past = (c : Channel) → mark c past ≢ record { seq = 0; attempt = 0; verdict = Verdicts.Refused NoRequest } → IsMarkOfParcel past c
 
-abbrev pub takes_by : Received → Bool
-takes_by (Got.Accepted m answer) = true
-takes_by result = false
+-- whether a receipt with this result puts a message
+abbrev pub puts_by : Received → Bool
+puts_by (Got.Accepted m answer) = true
+puts_by result = false
 
-abbrev pub takes_in : Channel → ℕ → ℕ → Event → Outcome → Bool
-takes_in c k most (Events.Receive node peer number) (Out.Received channel seq attempt result) =
-    takes_by result && same_channel c node peer channel && (k == seq) && nat_le attempt most
-takes_in c k most event outcome = false
+-- whether the receiving end puts a message here, in this sequence and on an attempt up to this one
+abbrev pub puts_in : Channel → ℕ → ℕ → Event → Outcome → Bool
+puts_in c k most (Events.Receive node peer number) (Out.Received channel seq attempt result) =
+    puts_by result && same_channel c node peer channel && (k == seq) && nat_le attempt most
+puts_in c k most event outcome = false
 
 -- the receiving end put a message in this sequence, on an attempt up to this one
-abbrev pub took : Channel → ℕ → ℕ → List Entry → Bool
-took c k most past = list_any (λ (x : Entry). takes_in c k most x.event x.outcome) past
+abbrev pub has_put : Channel → ℕ → ℕ → List Entry → Bool
+has_put c k most past = list_any (λ (x : Entry). puts_in c k most x.event x.outcome) past
 
 -- a mark is past this sequence, or at it and at this attempt or a later one
 abbrev pub HasComeTo : Mark → ℕ → ℕ → Type 0
@@ -127,7 +129,7 @@ put_on c k x = put_on_in c k x.event x.outcome
 abbrev pub AnswerSays : List Entry → AnswerPacket → Verdict → Type 0
 AnswerSays past a Verdicts.Accepted =
     (a.seq < (mark (answer_channel a) past).seq) ⊎ ((a.seq ≡ (mark (answer_channel a) past).seq) × ((mark (answer_channel a) past).verdict ≡ Verdicts.Accepted))
-AnswerSays past a (Verdicts.Refused cause) = HasComeTo (mark (answer_channel a) past) a.seq a.attempt × (took (answer_channel a) a.seq a.attempt past ≡ false)
+AnswerSays past a (Verdicts.Refused cause) = HasComeTo (mark (answer_channel a) past) a.seq a.attempt × (has_put (answer_channel a) a.seq a.attempt past ≡ false)
 
 -- an answer is to a parcel that was sent. If it accepts, the parcel's message was put in the parcel's sequence, on whatever
 -- attempt.
@@ -143,7 +145,7 @@ pub record IsTrueAnswer (past : List Entry) (a : AnswerPacket) : Type 0 where
 abbrev pub AnswersAreTrue : List Entry → Type 0
 AnswersAreTrue past = (a : AnswerPacket) → Gave emitted_of past (Packets.Answer a) → IsTrueAnswer past a
 
--- the message comes back to its source: it is requeued or returned
+-- the message is refused for good in this sequence: it is requeued or returned
 abbrev pub comes_back_by : Received → Bool
 comes_back_by (Got.Requeued serial cause bounces) = true
 comes_back_by (Got.Returned serial cause) = true
@@ -158,7 +160,7 @@ comes_back c k last event outcome = false
 pub record IsOver (past : List Entry) (c : Channel) (k last : ℕ) : Type 0 where
   pub mark : HasComeTo (mark (other_end c) past) k last
   pub attempts : (q : Parcel) → WasSent past q → parcel_channel q ≡ c → q.seq ≡ k → q.attempt ≤ last
-  pub nothing : (most : ℕ) → took (other_end c) k most past ≡ false
+  pub nothing : (most : ℕ) → has_put (other_end c) k most past ≡ false
 
 -- a sequence that ended in a requeue or a return has a mark at or past its last attempt, and put nothing
 abbrev pub EndedSequencePutNothing : List Entry → Type 0
@@ -253,7 +255,7 @@ AreCredited (Some mapping) records = records ≤ mapping.credits
 
 -- without a pool, the records of each index are at most its credits, and an index that is not mapped has none
 abbrev pub RecordsAreCredited : Body → Type 0
-RecordsAreCredited b = (index : ℕ) → AreCredited (entry_at b.mapped index) (awaited_at b index)
+RecordsAreCredited b = (index : ℕ) → AreCredited (entry_at b.mapped index) (records_at b index)
 
 -- the invariant of the cluster on the packet network
 pub record ClusterInvariant (layout : Layout) (past : List Entry) : Type 0 where

@@ -118,10 +118,10 @@ replies_held b =
 abbrev pub waits_for : Serial → Awaited → Bool
 waits_for serial a = same_serial serial a.serial && not a.arrived
 
--- whether the request that the message answers is awaited
-abbrev pub is_awaited : List Awaited → Option Serial → Bool
-is_awaited awaited None = false
-is_awaited awaited (Some request) = list_any (waits_for request) awaited
+-- whether the reply to the request that the message answers is still waited for
+abbrev pub is_waited_for : List Awaited → Option Serial → Bool
+is_waited_for awaited None = false
+is_waited_for awaited (Some request) = list_any (waits_for request) awaited
 
 abbrev pub verdict_of : Option Cause → Verdict
 verdict_of None = Verdicts.Accepted
@@ -136,7 +136,7 @@ verdict s m =
     ∷ (not (matches s.body.tag m.tag), BadTag)
     ∷ (is_request m && is_none (entry_at s.body.handlers m.handler), BadHandler)
     ∷ (is_request m && nat_le 16 (count_by is_request s.body.received), QueueFull)
-    ∷ (is_answer m && not (is_awaited s.body.awaited m.about), NoRequest)
+    ∷ (is_answer m && not (is_waited_for s.body.awaited m.about), NoRequest)
     ∷ []))
 
 abbrev pub is_arrived : Awaited → Bool

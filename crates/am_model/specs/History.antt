@@ -70,11 +70,12 @@ abbrev pub channel_for : Layout → NodeId → List Entry → Option Queued → 
 channel_for layout node past None = None
 channel_for layout node past (Some q) = channel_by layout node past (home layout q.message.dest)
 
--- whether some endpoint of the node lies in this frame
+-- whether a place is this frame
 abbrev pub is_in_frame : ℕ → Place → Bool
 is_in_frame frame (Frame other) = frame == other
 is_in_frame frame place = false
 
+-- whether some endpoint of the node lies in this frame
 abbrev pub is_frame_held : Layout → List Entry → NodeId → ℕ → Bool
 is_frame_held layout past node frame =
     list_any (λ (s : EndSetting). same_node node s.node && is_in_frame frame (state_of layout past s.id).head.place) layout.ends
@@ -254,14 +255,14 @@ is_kind_in_range (Add to) = nat_le 1 to && nat_lt to 16
 abbrev pub is_byte : ℕ → Bool
 is_byte n = nat_lt n 256
 
-abbrev pub is_short : ℕ → Bool
-is_short n = nat_lt n (2 ^ 32)
+abbrev pub is_four_bytes : ℕ → Bool
+is_four_bytes n = nat_lt n (2 ^ 32)
 
-abbrev pub is_long : ℕ → Bool
-is_long n = nat_lt n (2 ^ 64)
+abbrev pub is_eight_bytes : ℕ → Bool
+is_eight_bytes n = nat_lt n (2 ^ 64)
 
 abbrev pub are_words_in_range : Words → Bool
-are_words_in_range words = is_long words.a && is_long words.b && is_long words.c && is_long words.d
+are_words_in_range words = is_eight_bytes words.a && is_eight_bytes words.b && is_eight_bytes words.c && is_eight_bytes words.d
 
 -- whether a number may be the credits of an index, or its share where there is a pool
 abbrev pub are_credits_in_range : Option ℕ → ℕ → Bool
@@ -271,12 +272,12 @@ are_credits_in_range (Some pool) share = nat_le share 8
 abbrev pub is_call_in_range : Layout → Call → Bool
 is_call_in_range layout (Calls.Request index handler words) = is_byte index && is_byte handler && are_words_in_range words
 is_call_in_range layout Calls.Poll = true
-is_call_in_range layout (Calls.SetTag tag) = is_long tag.0
+is_call_in_range layout (Calls.SetTag tag) = is_eight_bytes tag.0
 is_call_in_range layout (Calls.Map index name tag credits) =
-    is_byte index && declared layout name && is_long tag.0 && are_credits_in_range layout.pool credits
+    is_byte index && declared layout name && is_eight_bytes tag.0 && are_credits_in_range layout.pool credits
 is_call_in_range layout (Calls.Unmap index) = is_byte index
 is_call_in_range layout (Calls.SetHandler index kind) = is_byte index && is_kind_in_range kind
-is_call_in_range layout (Calls.GiveUp serial) = is_byte serial.source.0 && is_short serial.count
+is_call_in_range layout (Calls.GiveUp serial) = is_byte serial.source.0 && is_four_bytes serial.count
 is_call_in_range layout Calls.Close = true
 is_call_in_range layout (Calls.Test mask) = true
 
@@ -291,7 +292,7 @@ is_in_range layout (Events.Want actor end) = is_actor_in_range actor && declared
 is_in_range layout (Events.Carry end) = declared layout end
 is_in_range layout (Events.Bind node end) = declared layout end && nat_lt node.0 layout.nodes
 is_in_range layout (Events.Expire node peer channel) = nat_lt node.0 layout.nodes && nat_lt peer.0 layout.nodes && nat_lt channel layout.channels
-is_in_range layout (Events.Receive node peer number) = nat_lt node.0 layout.nodes && nat_lt peer.0 layout.nodes && nat_le 1 number && is_short number
+is_in_range layout (Events.Receive node peer number) = nat_lt node.0 layout.nodes && nat_lt peer.0 layout.nodes && nat_le 1 number && is_four_bytes number
 is_in_range layout (Events.Drain node end) = declared layout end && nat_lt node.0 layout.nodes
 is_in_range layout (Events.Unload node end) = declared layout end && nat_lt node.0 layout.nodes
 is_in_range layout (Events.Load node end frame) = declared layout end && nat_lt node.0 layout.nodes && nat_lt frame layout.frames

@@ -24,7 +24,7 @@ use Rattle.am_model.specs.declared.Mapping.{Mapping}
 use Rattle.am_model.specs.Layout.{Layout, home, opening}
 use Rattle.am_model.specs.Calls.{share_of}
 use Rattle.am_model.specs.History.{EachAfter}
-use Rattle.am_names.specs.Names.{same_end, same_serial, has_serial, is_request, is_answer}
+use Rattle.am_names.specs.Names.{same_end, has_serial, is_request, is_answer}
 use Rattle.am_office.specs.Entries.{passes, is_serial, accepted_of, put_of, run_of, returned_of, unknown_of, return_of, requeue_of, refusal_of, zero_of, given_up_of}
 
 -- how many entries have, in this role, a message that passes
@@ -263,10 +263,11 @@ abbrev pub IsWithinCredits : Option ℕ → List Entry → EndpointId → Type 0
 IsWithinCredits None past e = (index : ℕ) → MatchOption (mapping_of past e index) (held_at past e index ≡ 0) (λ mapping. held_at past e index ≤ mapping.credits)
 IsWithinCredits (Some pool) past e = (held_over past e 16 ≤ pool) × (shares_below past e 16 + pool ≤ 32)
 
--- where there is a pool, an index below its share gets its credit
+-- an index that is mapped has as many held requests as its share, or more
 abbrev pub HasItsShare : List Entry → EndpointId → ℕ → Type 0
 HasItsShare past e index = MatchOption (mapping_of past e index) (Unit {0}) (λ mapping. mapping.credits ≤ held_at past e index)
 
+-- where there is a pool, a request that is refused for want of a credit or of a record has its share held
 abbrev pub RefusesAboveShare : Option ℕ → List Entry → Event → Outcome → Type 0
 RefusesAboveShare (Some pool) past (Events.Call actor end (Calls.Request index handler words)) (Out.Refused No.NoCredit) = HasItsShare past end index
 RefusesAboveShare (Some pool) past (Events.Call actor end (Calls.Request index handler words)) (Out.Refused No.TableFull) = HasItsShare past end index
@@ -281,7 +282,7 @@ pub record CreditsHold (layout : Layout) (journal : List Entry) : Type 0 where
   pub table : (before later : List Entry) → journal ≡ before ++ later → (e : EndpointId) → held_by before e (λ (at : ℕ). true) ≤ 32
   pub shared : EachAfter (λ past x. RefusesAboveShare layout.pool past x.event x.outcome) [] journal
 
--- the serial came back so
+-- the serial was left unknown, or returned for this cause
 abbrev pub CameBack : List Entry → Serial → Why → Type 0
 CameBack past s Whys.Unknown = Gave unknown_of past s
 CameBack past s (Whys.Refused cause) = Gave return_of past (s, cause)

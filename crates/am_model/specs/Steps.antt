@@ -1,5 +1,5 @@
 -- Following the lines of a step script.
-use Rattle.std.specs.Prelude.{◌≡◌, ℕ, ◌+◌, Bool, nat_le, nat_lt, Option, Some, None, List, [], ◌∷◌, ◌++◌, map, length, filter, if◌then◌else◌}
+use Rattle.std.specs.Prelude.{◌≡◌, ◌+◌, Bool, nat_le, nat_lt, Option, Some, None, List, [], ◌∷◌, ◌++◌, map, length, filter, if◌then◌else◌}
 use Rattle.std.specs.List.{range_with_len}
 use Rattle.am_names.specs.declared.EndpointId.{EndpointId}
 use Rattle.am_names.specs.declared.NodeId.{NodeId}

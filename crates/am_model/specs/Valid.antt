@@ -1,11 +1,12 @@
 -- Which bodies an endpoint may have.
-use Rattle.std.specs.Prelude.{◌≡◌, ℕ, ◌+◌, ◌≤◌, Bool, true, false, ◌&&◌, nat_le, nat_lt, Option, Some, None, is_some, List, [], ◌∷◌, length, count_by}
+use Rattle.std.specs.Prelude.{◌≡◌, ℕ, ◌+◌, ◌≤◌, Bool, true, ◌&&◌, nat_le, nat_lt, Option, Some, None, is_some, List, [], ◌∷◌, length, count_by}
 use Rattle.std.specs.List.{list_all}
 use Rattle.am_names.specs.declared.EndpointId.{EndpointId}
 use Rattle.am_names.specs.declared.Serial.{Serial}
 use Rattle.am_names.specs.declared.Message.{Message}
 use Rattle.am_names.specs.Names.{same_end, same_serial, is_request, is_answer}
 use Rattle.am_office.specs.declared.HandlerKind.{HandlerKind}
+use Rattle.am_office.specs.Entries.{is_serial}
 use Rattle.am_model.specs.declared.Awaited.{Awaited}
 use Rattle.am_model.specs.declared.Flying.{Flying}
 use Rattle.am_model.specs.declared.Mapping.{Mapping}
@@ -60,13 +61,9 @@ is_own_notice e accepted n = is_own e accepted n.message n.bounces
 abbrev pub is_received_here : EndpointId → Message → Bool
 is_received_here e m = same_end e m.dest && is_well_formed m
 
-abbrev pub is_about : Serial → Option Serial → Bool
-is_about request None = false
-is_about request (Some about) = same_serial request about
-
 -- whether the message answers the request
 abbrev pub answers : Serial → Message → Bool
-answers request m = is_answer m && is_about request m.about
+answers request m = is_answer m && is_serial request m.about
 
 -- whether the record is of the request, and its reply has arrived
 abbrev pub has_arrived : Serial → Awaited → Bool

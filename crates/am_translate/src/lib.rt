@@ -3,7 +3,7 @@
 #![tactic(auto)]
 
 ghost use Rattle.am_model.specs.Calls.{excess, excess_at, has_no_credit, is_over_share, share_of, shares};
-ghost use Rattle.am_model.specs.Changes.{not_awaited, settled, with_arrived};
+ghost use Rattle.am_model.specs.Changes.{without_waiting, without_record, with_arrived};
 ghost use Rattle.am_model.specs.Endpoint.{entry_at};
 ghost use Rattle.am_model.specs.History.{are_credits_in_range};
 ghost use Rattle.am_model.specs.declared.Mapping.{Mapping as Mapped};
@@ -270,7 +270,7 @@ impl Translate {
     /// The reply to a request was polled: its arrived record goes. Without one the table is as it was.
     pub fn reply_taken(&mut self, request: Serial) -> Result<(), NoRequest>
         ensures no_request { IsErr result ↔ (is_answered self.old request ≡ false) }
-        ensures ok { OnOk result (self.new ≡ with_awaited self.old (settled (Some request) self.old.awaited)) }
+        ensures ok { OnOk result (self.new ≡ with_awaited self.old (without_record (Some request) self.old.awaited)) }
         ensures err { OnErr result (self.new ≡ self.old) }
         ensures table { OnOk result (IsTable self.new) }
     {
@@ -286,7 +286,7 @@ impl Translate {
     /// A request is given up, was returned or is unknown: its waiting record goes. Without one the table is as it was.
     pub fn give_up(&mut self, request: Serial) -> Result<(), NoRequest>
         ensures no_request { IsErr result ↔ (is_waiting self.old request ≡ false) }
-        ensures ok { OnOk result (self.new ≡ with_awaited self.old (not_awaited request self.old.awaited)) }
+        ensures ok { OnOk result (self.new ≡ with_awaited self.old (without_waiting request self.old.awaited)) }
         ensures err { OnErr result (self.new ≡ self.old) }
         ensures table { OnOk result (IsTable self.new) }
     {

@@ -1,6 +1,6 @@
 use Rattle.std.proofs.Common.{refl, sym, ap, ◌∙◌, true≢false}
 use Rattle.am_model.specs.Endpoint.{waits_for}
-use Rattle.am_model.specs.Changes.{not_awaited}
+use Rattle.am_model.specs.Changes.{without_waiting}
 use Rattle.am_translate.specs.Seen.{table_in}
 use Rattle.am_translate.proofs.Kept.{table_without}
 use Rattle.am_translate.specs.Tables.{with_awaited}
@@ -28,7 +28,7 @@ pub returns-in-Some-clause-ok : goal.returns-in-Some-clause-ok
 returns-in-Some-clause-ok c =
     ap (λ xs. with_awaited (table_in c.self.inside) xs)
     (c.remove.ensures ∙ sym (found (waits_for c.args.request) _ _ _ _ c.self.inside.awaited c.waiting_place.ensures c.in-Some.is c.as_slice.ensures.items refl).1)
-    ∙ ap (λ t. with_awaited t (not_awaited c.args.request t.awaited)) c.self.view_is
+    ∙ ap (λ t. with_awaited t (without_waiting c.args.request t.awaited)) c.self.view_is
 
 pub returns-in-Some-clause-table : goal.returns-in-Some-clause-table
 returns-in-Some-clause-table c = invariant_of-self c
