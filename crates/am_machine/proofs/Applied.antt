@@ -177,14 +177,14 @@ got_below n [] k x h at = absurd (cc)
 got_below n (y ∷ xs) zero x h at = let same : y ≡ x = cc in subst (λ (z : Entry). z.stamp < n) same h.0
 got_below n (y ∷ xs) (suc k) x h at = got_below n xs k x h.1 at
 
-last_below : (n : ℕ) (xs : List Entry) → AreBelow (n + 1) xs → last_stamp xs ≤ n
+pub last_below : (n : ℕ) (xs : List Entry) → AreBelow (n + 1) xs → last_stamp xs ≤ n
 last_below n xs h = by_entry (slice_get xs (length xs - 1)) refl
   where
     by_entry : (o : Option Entry) → slice_get xs (length xs - 1) ≡ o → stamp_by o ≤ n
     by_entry None at = omega arith
     by_entry (Some x) at = let below = got_below (n + 1) xs (length xs - 1) x h at in omega (arith, below)
 
-below_filter : (n : ℕ) (p : Entry → Bool) (xs : List Entry) → AreBelow n xs → AreBelow n (filter p xs)
+pub below_filter : (n : ℕ) (p : Entry → Bool) (xs : List Entry) → AreBelow n xs → AreBelow n (filter p xs)
 below_filter n p [] h = tt
 below_filter n p (x ∷ xs) h = by_test (p x) (below_filter n p xs h.1)
   where

@@ -8,3 +8,7 @@ pub mod Places
 pub mod Tied
 pub mod Homes
 pub mod InterfaceLogs
+pub mod Turning
+pub mod Joint
+pub mod Fitting
+pub mod Beside

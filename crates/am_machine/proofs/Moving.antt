@@ -164,7 +164,7 @@ taken_here layout journal event vs ends own = refl
 
 -- ---- the node of an endpoint
 
-setting_found : (vs : List EndpointView) (e : EndpointId) (one : EndpointView) → slice_get vs (position_or_len (is_of e) vs) ≡ Some one → find (has_id e) (map setting_in (map kept vs)) ≡ Some (setting_in (kept one))
+pub setting_found : (vs : List EndpointView) (e : EndpointId) (one : EndpointView) → slice_get vs (position_or_len (is_of e) vs) ≡ Some one → find (has_id e) (map setting_in (map kept vs)) ≡ Some (setting_in (kept one))
 setting_found [] e one at = absurd (cc)
 setting_found (v ∷ vs) e one at = by_test (is_of e v) at (setting_found vs e one)
   where

@@ -6,3 +6,5 @@ pub mod Kept
 pub mod Beginnings
 pub mod Moves
 pub mod View
+pub mod Turned
+pub mod Ways

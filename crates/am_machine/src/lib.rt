@@ -4,9 +4,8 @@
 ghost use Rattle.am_follow.specs.Layout.{layout_of};
 ghost use Rattle.am_machine.specs.View.{Applies};
 ghost use Rattle.am_model.specs.History.{IsHistory, is_in_range};
-ghost use Rattle.am_office.specs.Entries.{node_touched};
 ghost use Rattle.am_scenario_types.specs.Lawful.{IsLawful};
-ghost use Rattle.std.specs.Prelude.{◌≡◌, ◌||◌, true, [], IfOk, is_none};
+ghost use Rattle.std.specs.Prelude.{◌≡◌, true, [], IfOk};
 
 mod calls;
 mod carries;
@@ -16,6 +15,9 @@ mod interfaces;
 mod moves;
 mod opening;
 mod settings;
+mod turned;
+mod turns;
+mod ways;
 
 use crate::interfaces::open_interfaces;
 use crate::opening::open_ends;
@@ -25,7 +27,7 @@ use am_endpoint::Endpoint;
 use am_iface::Interface;
 use am_journal::IndexedJournal;
 pub use am_office::NoMemory;
-use am_office::{Condition, Entry, Event, Journal};
+use am_office::{Entry, Event, Journal};
 use am_scenario_types::{FaultLine, Scenario};
 use std::alloc::Global;
 use std::marker::Model;
@@ -88,7 +90,6 @@ impl Cluster {
     /// Applies an event: Ok is the one entry that the definitions give, and a refusal names the first condition that
     /// doesn't hold, or the log that is full. A refusal changes nothing.
     pub fn apply(&mut self, event: &Event) -> Result<Entry, ApplyFault>
-        requires built { (self.old.layout.direct || is_none (node_touched event.now)) ≡ true }
         requires in_range { is_in_range self.old.layout event.now ≡ true }
         ensures { Applies self.old self.new event.now result }
     {
@@ -96,9 +97,13 @@ impl Cluster {
             Event::Call { actor, end, call } => self.call(actor, end, call),
             Event::Want { actor, end } => self.want(actor, end),
             Event::Carry { end } => self.carry(end),
-            Event::Bind { .. } | Event::Expire { .. } | Event::Receive { .. } => Err(
-                ApplyFault::NotEnabled(Condition::NotPacket),
-            ),
+            Event::Bind { node, end } => self.bind(node, end),
+            Event::Expire {
+                node,
+                peer,
+                channel,
+            } => self.expire(node, peer, channel),
+            Event::Receive { node, peer, number } => self.receive(node, peer, number),
             Event::Drain { node, end }
             | Event::Unload { node, end }
             | Event::Load { node, end, .. }

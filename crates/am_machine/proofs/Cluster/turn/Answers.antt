@@ -1,0 +1,144 @@
+use Rattle.std.specs.Prelude.{IfSome}
+use Rattle.std.specs.List.{position}
+use Rattle.std.proofs.Common.{◌≡◌, ◌<◌, Option, refl, sym, ap, ◌∙◌, subst}
+use Rattle.am_names.specs.declared.NodeId.{NodeId}
+use Rattle.am_endpoint.specs.View.{state_after}
+use Rattle.am_iface.specs.View.{own}
+use Rattle.am_machine.specs.Ends.{is_of}
+use Rattle.am_machine.specs.Ways.{GoesTo, way}
+use Rattle.am_machine.proofs.Applied as applied
+use Rattle.am_machine.proofs.Beside as beside
+use Rattle.am_machine.proofs.Beside.{Beside}
+use Rattle.am_machine.proofs.Fitting as fitting
+use Rattle.am_machine.proofs.Joint as joint
+use Rattle.am_machine.proofs.Joint.{Joint}
+use Rattle.am_machine.proofs.Places.{not_found}
+use Rattle.am_machine.proofs.Cluster.turn.Goals as goal
+
+pub needs-requires : goal.needs-requires
+needs-requires c =
+    let one = c.index_mut-interface.result.now in
+    let j : Joint =
+    fitting.joint_at c.self.inside.settings c.self.inside.faults.items c.self.inside.ends.items c.self.inside.journal.entries c.self.inside.interfaces.items c.args.self.now
+    c.args.node one c.args.work c.self.invariant c.self.view_is c.requires.packet c.requires.in_range c.index_mut-interface.ensures.value c.requires.taken in
+    fitting.joint_fits j
+
+pub turn_alone-requires-clause-can : goal.turn_alone-requires-clause-can
+turn_alone-requires-clause-can c =
+    let one = c.index_mut-interface.result.now in
+    let j : Joint =
+    fitting.joint_at c.self.inside.settings c.self.inside.faults.items c.self.inside.ends.items c.self.inside.journal.entries c.self.inside.interfaces.items c.args.self.now
+    c.args.node one c.args.work c.self.invariant c.self.view_is c.requires.packet c.requires.in_range c.index_mut-interface.ensures.value c.requires.taken in
+    fitting.joint_can j
+
+pub invariant_of-self : goal.invariant_of-self
+invariant_of-self c =
+    let one = c.index_mut-interface.result.now in
+    let j : Joint =
+    fitting.joint_at c.self.inside.settings c.self.inside.faults.items c.self.inside.ends.items c.self.inside.journal.entries c.self.inside.interfaces.items c.args.self.now
+    c.args.node one c.args.work c.self.invariant c.self.view_is c.requires.packet c.requires.in_range c.index_mut-interface.ensures.value c.requires.taken in
+    let none = sym c.needs.ensures ∙ c.in_default.is in
+    joint.alone_keeps j c.turn_alone.new.interface c.turn_alone.new.journal.entries c.turn_alone.result none (c.turn_alone.ensures j.state)
+
+pub returns-in_default : goal.returns-in_default
+returns-in_default c =
+    let one = c.index_mut-interface.result.now in
+    let j : Joint =
+    fitting.joint_at c.self.inside.settings c.self.inside.faults.items c.self.inside.ends.items c.self.inside.journal.entries c.self.inside.interfaces.items c.args.self.now
+    c.args.node one c.args.work c.self.invariant c.self.view_is c.requires.packet c.requires.in_range c.index_mut-interface.ensures.value c.requires.taken in
+    let none = sym c.needs.ensures ∙ c.in_default.is in
+    joint.alone_applies j c.args.self.now c.turn_alone.new.interface c.turn_alone.new.journal.entries c.turn_alone.result c.self.view_is none (c.turn_alone.ensures j.state)
+
+pub unreachable-requires : goal.unreachable-requires
+unreachable-requires c =
+    let one = c.index_mut-interface.result.now in
+    let j : Joint =
+    fitting.joint_at c.self.inside.settings c.self.inside.faults.items c.self.inside.ends.items c.self.inside.journal.entries c.self.inside.interfaces.items c.args.self.now
+    c.args.node one c.args.work c.self.invariant c.self.view_is c.requires.packet c.requires.in_range c.index_mut-interface.ensures.value c.requires.taken in
+    let end = c.in-Some.end in
+    not_found c.self.inside.ends.items end (sym (c.place_of.ensures ∙ ap (position (is_of end)) c.deref.ensures.value) ∙ c.in_default-place_of.is)
+    (fitting.needed_declared j end (sym c.needs.ensures ∙ c.in-Some.is))
+
+pub way-to-requires : goal.way-to-requires
+way-to-requires c =
+    let one = c.index_mut-interface.result.now in
+    let j : Joint =
+    fitting.joint_at c.self.inside.settings c.self.inside.faults.items c.self.inside.ends.items c.self.inside.journal.entries c.self.inside.interfaces.items c.args.self.now
+    c.args.node one c.args.work c.self.invariant c.self.view_is c.requires.packet c.requires.in_range c.index_mut-interface.ensures.value c.requires.taken in
+    fitting.joint_fits j
+
+pub turn_with-requires-clause-can : goal.turn_with-requires-clause-can
+turn_with-requires-clause-can c =
+    let one = c.index_mut-interface.result.now in
+    let j : Joint =
+    fitting.joint_at c.self.inside.settings c.self.inside.faults.items c.self.inside.ends.items c.self.inside.journal.entries c.self.inside.interfaces.items c.args.self.now
+    c.args.node one c.args.work c.self.invariant c.self.view_is c.requires.packet c.requires.in_range c.index_mut-interface.ensures.value c.requires.taken in
+    let vs = c.self.inside.ends.items in
+    let end = c.in-Some.end in
+    let place = c.in-Some-place_of.place in
+    let endpoint = c.index_mut.result.now in
+    let found = sym (c.place_of.ensures ∙ ap (position (is_of end)) c.deref.ensures.value) ∙ c.in-Some-place_of.is in
+    let b : Beside j = beside.beside_of j end place endpoint refl (sym c.needs.ensures ∙ c.in-Some.is) found c.index_mut.ensures.value in
+    beside.beside_can j b
+
+pub turn_with-requires-clause-within : goal.turn_with-requires-clause-within
+turn_with-requires-clause-within c =
+    let one = c.index_mut-interface.result.now in
+    let j : Joint =
+    fitting.joint_at c.self.inside.settings c.self.inside.faults.items c.self.inside.ends.items c.self.inside.journal.entries c.self.inside.interfaces.items c.args.self.now
+    c.args.node one c.args.work c.self.invariant c.self.view_is c.requires.packet c.requires.in_range c.index_mut-interface.ensures.value c.requires.taken in
+    let vs = c.self.inside.ends.items in
+    let end = c.in-Some.end in
+    let place = c.in-Some-place_of.place in
+    let endpoint = c.index_mut.result.now in
+    let found = sym (c.place_of.ensures ∙ ap (position (is_of end)) c.deref.ensures.value) ∙ c.in-Some-place_of.is in
+    let b : Beside j = beside.beside_of j end place endpoint refl (sym c.needs.ensures ∙ c.in-Some.is) found c.index_mut.ensures.value in
+    let same : c.index.result.now ≡ endpoint =
+    applied.same_here vs end place endpoint c.index.result.now (applied.found_here vs end place endpoint found c.index_mut.ensures.value) (applied.found_here vs end place c.index.result.now found c.index.ensures) in
+    let to : c.way-to.result ≡ way one vs endpoint c.args.work = c.way-to.ensures ∙ λ i. way one (c.deref-2.ensures.value i) (same i) c.args.work in
+    subst (λ (o : Option NodeId). IfSome o (λ (n : NodeId). n.0 < 16)) (sym to) (beside.way_within j b)
+
+pub turn_with-requires-clause-goes : goal.turn_with-requires-clause-goes
+turn_with-requires-clause-goes c =
+    let one = c.index_mut-interface.result.now in
+    let j : Joint =
+    fitting.joint_at c.self.inside.settings c.self.inside.faults.items c.self.inside.ends.items c.self.inside.journal.entries c.self.inside.interfaces.items c.args.self.now
+    c.args.node one c.args.work c.self.invariant c.self.view_is c.requires.packet c.requires.in_range c.index_mut-interface.ensures.value c.requires.taken in
+    let vs = c.self.inside.ends.items in
+    let end = c.in-Some.end in
+    let place = c.in-Some-place_of.place in
+    let endpoint = c.index_mut.result.now in
+    let found = sym (c.place_of.ensures ∙ ap (position (is_of end)) c.deref.ensures.value) ∙ c.in-Some-place_of.is in
+    let b : Beside j = beside.beside_of j end place endpoint refl (sym c.needs.ensures ∙ c.in-Some.is) found c.index_mut.ensures.value in
+    let same : c.index.result.now ≡ endpoint =
+    applied.same_here vs end place endpoint c.index.result.now (applied.found_here vs end place endpoint found c.index_mut.ensures.value) (applied.found_here vs end place c.index.result.now found c.index.ensures) in
+    let to : c.way-to.result ≡ way one vs endpoint c.args.work = c.way-to.ensures ∙ λ i. way one (c.deref-2.ensures.value i) (same i) c.args.work in
+    subst (λ (o : Option NodeId). GoesTo (own one) (state_after endpoint) c.args.work o) (sym to) (beside.way_goes j b)
+
+pub invariant_of-self-2 : goal.invariant_of-self-2
+invariant_of-self-2 c =
+    let one = c.index_mut-interface.result.now in
+    let j : Joint =
+    fitting.joint_at c.self.inside.settings c.self.inside.faults.items c.self.inside.ends.items c.self.inside.journal.entries c.self.inside.interfaces.items c.args.self.now
+    c.args.node one c.args.work c.self.invariant c.self.view_is c.requires.packet c.requires.in_range c.index_mut-interface.ensures.value c.requires.taken in
+    let vs = c.self.inside.ends.items in
+    let end = c.in-Some.end in
+    let place = c.in-Some-place_of.place in
+    let endpoint = c.index_mut.result.now in
+    let found = sym (c.place_of.ensures ∙ ap (position (is_of end)) c.deref.ensures.value) ∙ c.in-Some-place_of.is in
+    let b : Beside j = beside.beside_of j end place endpoint refl (sym c.needs.ensures ∙ c.in-Some.is) found c.index_mut.ensures.value in
+    beside.beside_keeps j b c.turn_with.new.interface c.turn_with.new.endpoint c.turn_with.new.journal.entries c.turn_with.result c.turn_with.ensures
+
+pub returns : goal.returns
+returns c =
+    let one = c.index_mut-interface.result.now in
+    let j : Joint =
+    fitting.joint_at c.self.inside.settings c.self.inside.faults.items c.self.inside.ends.items c.self.inside.journal.entries c.self.inside.interfaces.items c.args.self.now
+    c.args.node one c.args.work c.self.invariant c.self.view_is c.requires.packet c.requires.in_range c.index_mut-interface.ensures.value c.requires.taken in
+    let vs = c.self.inside.ends.items in
+    let end = c.in-Some.end in
+    let place = c.in-Some-place_of.place in
+    let endpoint = c.index_mut.result.now in
+    let found = sym (c.place_of.ensures ∙ ap (position (is_of end)) c.deref.ensures.value) ∙ c.in-Some-place_of.is in
+    let b : Beside j = beside.beside_of j end place endpoint refl (sym c.needs.ensures ∙ c.in-Some.is) found c.index_mut.ensures.value in
+    beside.beside_applies j b c.args.self.now c.turn_with.new.interface c.turn_with.new.endpoint c.turn_with.new.journal.entries c.turn_with.result c.self.view_is c.turn_with.ensures

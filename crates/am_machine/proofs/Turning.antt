@@ -1,0 +1,191 @@
+-- A work of an interface, on its parts.
+use Rattle.std.specs.Prelude.{max, IfSome, OnOk, Result, Ok, Err, is_err}
+use Rattle.std.proofs.Common.{◌≡◌, ◌≢◌, inl, inr, ℕ, ◌+◌, ◌<◌, ◌≤◌, Bool, true, false, List, [], ◌∷◌, ◌++◌, length, Option, Some, None, refl, sym, ap, ◌∙◌, subst, arith}
+use Rattle.am_names.specs.declared.NodeId.{NodeId}
+use Rattle.am_names.specs.declared.Message.{Message}
+use Rattle.am_names.specs.declared.Packet.{Packet}
+use Rattle.am_names.specs.declared.Packet.TheVariants as Packets
+use Rattle.am_office.specs.declared.Condition.{Condition}
+use Rattle.am_office.specs.declared.Part.{Part}
+use Rattle.am_office.specs.declared.Part.TheVariants as Parts
+use Rattle.am_office.specs.declared.Event.{Event}
+use Rattle.am_office.specs.declared.Entry.{Entry}
+use Rattle.am_office.specs.Entries.{emitted_in, emitted_of}
+use Rattle.am_model.specs.Channels.{Again, Arrival, Fresh, Stale, bound_message}
+use Rattle.am_model.specs.Endpoint.{State}
+use Rattle.am_local.specs.declared.work.Work.{Work}
+use Rattle.am_local.specs.declared.work.Work.TheVariants as Works
+use Rattle.am_local.specs.Interface.{InterfaceLog, answers_to, arrival_in, channel_in, emits_to, event_of, failing_at, has_try_left, needs, outcome_at, receiver, receiver_of, sends_again_to}
+use Rattle.am_local.specs.Together.{from_of}
+use Rattle.am_local.proofs.Granting.{bind_emission}
+use Rattle.am_local.proofs.Numbering.{next_emitted}
+use Rattle.am_local.proofs.Touched.{emission_told}
+use Rattle.am_endpoint.specs.View.{EndpointView, state_after}
+use Rattle.am_iface.specs.declared.Turned.{Turned}
+use Rattle.am_iface.specs.declared.IfaceFault.{IfaceFault}
+use Rattle.am_iface.specs.declared.IfaceFault.TheVariants as Ifaces
+use Rattle.am_iface.specs.View.{InterfaceView, FitsInterface, own}
+use Rattle.am_iface.specs.Turns.{IsFull, stamp_in}
+use Rattle.am_iface.specs.With.{IsFullOf}
+use Rattle.am_journal.specs.View.{AreNodes, HasRoomFor, JournalView, is_ready_on}
+use Rattle.am_machine.specs.declared.settings.ApplyFault.{ApplyFault}
+use Rattle.am_machine.specs.Ends.{EndLog, kept}
+use Rattle.am_machine.specs.Turned.{IsGrown, IsTurned, TurnsAlone, TurnsWith, entry_of_work, refused}
+use Rattle.am_machine.specs.Ways.{GoesTo}
+
+-- a stamp above the greatest so far
+pub stamp_next : (floor last packet : ℕ) → last ≤ floor → packet ≤ floor → 1 + max (max floor last) packet ≡ floor + 1
+stamp_next floor last packet a b = omega arith
+
+pub max_floor : (a b : ℕ) → b ≤ a → max a b ≡ a
+max_floor a b le = omega arith
+
+-- what holds where a result is no error
+pub ok_then : {T E : Type 0} (r : Result T E) (P : Type 0) → is_err r ≡ false → OnOk r P → P
+ok_then (Ok x) P is h = h
+ok_then (Err e) P is h = absurd (cc)
+
+pub ready_from : (v : JournalView) (from node : NodeId) (to : Option NodeId) → from ≡ node → IfSome to (λ (n : NodeId). is_ready_on v from n ≡ true) → IfSome to (λ (n : NodeId). is_ready_on v node n ≡ true)
+ready_from v from node to is h = subst (λ (m : NodeId). IfSome to (λ (n : NodeId). is_ready_on v m n ≡ true)) is h
+
+-- nothing fails where no condition does
+pub none_fails : (o : Option Condition) → ((c : Condition) → o ≡ Some c → ⊥) → o ≡ None
+none_fails None h = refl
+none_fails (Some c) h = absurd (h c refl)
+
+pub enabled_by : (i : InterfaceView) (s : State) (w : Work) (t : Turned) (result : Result Turned IfaceFault) → result ≡ Ok t → ((c : Condition) → failing_at (own i) s w ≡ Some c → result ≡ Err (Ifaces.NotEnabled c)) → failing_at (own i) s w ≡ None
+enabled_by i s w t result ok disabled = none_fails (failing_at (own i) s w) (λ c h. (let both : ◌≡◌ {A = Result Turned IfaceFault} (Ok t) (Err (Ifaces.NotEnabled c)) = sym ok ∙ disabled c h in cc))
+
+-- ---- where the packet of a work goes
+
+pub goes_alone : (i : InterfaceLog) (s : State) (w : Work) → needs i w ≡ None → GoesTo i s w (emits_to i w)
+goes_alone i s (Works.Receive p) h = refl
+goes_alone i s (Works.Bind end) h = absurd (cc)
+goes_alone i s (Works.Expire peer channel) h = refl
+
+out_goes : (i : InterfaceLog) (s : State) (w : Work) (stamp : ℕ) (to : Option NodeId) → GoesTo i s w to → failing_at i s w ≡ None → receiver (emitted_in stamp (event_of i.settings.node w) (outcome_at i s w)) ≡ to
+out_goes i s (Works.Receive p) stamp to goes on = emission_told i s (Works.Receive p) stamp refl ∙ sym goes
+out_goes i s (Works.Bind end) stamp to goes on = bind_emission i s end stamp on ∙ sym (goes on)
+out_goes i s (Works.Expire peer channel) stamp to goes on = emission_told i s (Works.Expire peer channel) stamp refl ∙ sym goes
+
+answers_within : (peer : NodeId) (a : Arrival) → peer.0 < 16 → IfSome (answers_to peer a) (λ (n : NodeId). n.0 < 16)
+answers_within peer Stale lt = tt
+answers_within peer (Again v) lt = lt
+answers_within peer Fresh lt = lt
+
+again_within : (peer : NodeId) (m : Option Message) (again : Bool) → peer.0 < 16 → IfSome (sends_again_to peer m again) (λ (n : NodeId). n.0 < 16)
+again_within peer None again lt = tt
+again_within peer (Some m) false lt = tt
+again_within peer (Some m) true lt = lt
+
+pub emits_within : (i : InterfaceView) (w : Work) → FitsInterface i w → i.settings.nodes ≤ 16 → IfSome (emits_to (own i) w) (λ (n : NodeId). n.0 < 16)
+emits_within i (Works.Receive (Packets.Parcel p)) fits few =
+    let peer = fits.on.peer in answers_within p.from (arrival_in (own i) p.from p.channel p.seq p.attempt) (omega (arith, peer, few))
+emits_within i (Works.Receive (Packets.Answer p)) fits few = tt
+emits_within i (Works.Bind end) fits few = tt
+emits_within i (Works.Expire peer channel) fits few =
+    let lt = fits.peer in again_within peer (bound_message (channel_in (own i) peer channel) i.log) (has_try_left (own i) (channel_in (own i) peer channel)) (omega (arith, lt, few))
+
+-- the event names nodes of the cluster
+pub work_nodes : (i : InterfaceView) (w : Work) (event : Event) → event ≡ event_of i.settings.node w → FitsInterface i w → i.settings.node.0 < 16 → i.settings.nodes ≤ 16 → AreNodes event
+work_nodes i w event is fits own_node few = subst AreNodes (sym is) (by_work w fits)
+  where
+    by_work : (v : Work) → FitsInterface i v → AreNodes (event_of i.settings.node v)
+    by_work (Works.Receive (Packets.Parcel p)) fit = let peer = fit.on.peer in (own_node, omega (arith, peer, few))
+    by_work (Works.Receive (Packets.Answer p)) fit = let peer = fit.on.peer in (own_node, omega (arith, peer, few))
+    by_work (Works.Bind end) fit = tt
+    by_work (Works.Expire peer channel) fit = tt
+
+-- the packet, if there is one, goes over the link for which room was made
+room_made : (v : JournalView) (node : NodeId) (out : Option Packet) (to : Option NodeId) → node.0 < 16 → IfSome to (λ (n : NodeId). n.0 < 16) → IfSome to (λ (n : NodeId). is_ready_on v node n ≡ true) → receiver out ≡ to → ((p : Packet) → out ≡ Some p → from_of p ≡ node) → HasRoomFor v out
+room_made v node None to here within ready goes comes = tt
+room_made v node (Some p) None here within ready goes comes = absurd (cc)
+room_made v node (Some p) (Some n) here within ready goes comes =
+    let same : receiver_of p ≡ n = cc in
+    let from = comes p refl in (
+      subst (λ (m : NodeId). m.0 < 16) (sym from) here,
+      subst (λ (m : NodeId). m.0 < 16) (sym same) within,
+      (λ k. is_ready_on v (from k) (same k)) ∙ ready,
+    )
+
+pub out_has_room : (v : JournalView) (i : InterfaceView) (s : State) (w : Work) (x : Entry) (out : Option Packet) (to : Option NodeId) → GoesTo (own i) s w to → failing_at (own i) s w ≡ None → i.settings.node.0 < 16 → IfSome to (λ (n : NodeId). n.0 < 16) → IfSome to (λ (n : NodeId). is_ready_on v i.settings.node n ≡ true) → out ≡ emitted_of x → x.event ≡ event_of i.settings.node w → x.outcome ≡ outcome_at (own i) s w → HasRoomFor v out
+out_has_room v i s w x out to goes on here within ready out_is event outcome =
+    let told_out : out ≡ emitted_in x.stamp (event_of i.settings.node w) (outcome_at (own i) s w) = out_is ∙ λ k. emitted_in x.stamp (event k) (outcome k) in
+    room_made v i.settings.node out to here within ready
+    (ap receiver told_out ∙ out_goes (own i) s w x.stamp to goes on)
+    (λ p is. (next_emitted (own i) s w x.stamp p (sym told_out ∙ is)).from)
+
+-- ---- what it answers
+
+-- the entry that the interface logged is the work's
+pub logged_entry : (i : InterfaceView) (past : List Entry) (s : State) (w : Work) (x : Entry) (floor last : ℕ) → x.event ≡ event_of i.settings.node w → x.outcome ≡ outcome_at (own i) s w → x.stamp ≡ 1 + max (max floor last) (stamp_in w) → floor ≡ length past → last ≤ length past → stamp_in w ≤ length past → x ≡ entry_of_work i past s w
+logged_entry i past s w x floor last event outcome stamp at le packet =
+    let stamped : x.stamp ≡ length past + 1 = stamp ∙ ap (λ (n : ℕ). 1 + max (max n last) (stamp_in w)) at ∙ stamp_next (length past) last (stamp_in w) le packet in
+    λ k. record { stamp = stamped k; event = event k; outcome = outcome k }
+
+pub turned_ok : (i j : InterfaceView) (past now : List Entry) (s : State) (w : Work) (result : Result Turned IfaceFault) (t : Turned) → result ≡ Ok t
+    → ((c : Condition) → failing_at (own i) s w ≡ Some c → result ≡ Err (Ifaces.NotEnabled c))
+    → ((p : Part) → (failing_at (own i) s w ≡ None) × IsFull i p → result ≡ Err (Ifaces.LogFull p))
+    → t.entry ≡ entry_of_work i past s w → j ≡ record i { log = i.log ++ t.entry ∷ [] } → now ≡ past ++ t.entry ∷ [] → IsTurned i j past now s w t.entry
+turned_ok i j past now s w result t ok disabled full entry interface journal =
+    let enabled = enabled_by i s w t result ok disabled in
+    record {
+      enabled = enabled;
+      room = λ is_full. (let err : result ≡ Err (Ifaces.LogFull (Parts.Interface i.settings.node)) = full (Parts.Interface i.settings.node) (enabled, (refl, is_full)) in let both : ◌≡◌ {A = Result Turned IfaceFault} (Ok t) (Err (Ifaces.LogFull (Parts.Interface i.settings.node))) = sym ok ∙ err in cc);
+      entry = entry;
+      interface = interface;
+      journal = journal;
+    }
+
+pub turned_err : (i j : InterfaceView) (past now : List Entry) (s : State) (w : Work) (result : Result Turned IfaceFault) (fault : IfaceFault) → result ≡ Err fault
+    → ((c : Condition) → result ≡ Err (Ifaces.NotEnabled c) → failing_at (own i) s w ≡ Some c)
+    → ((p : Part) → result ≡ Err (Ifaces.LogFull p) → (failing_at (own i) s w ≡ None) × IsFull i p)
+    → j ≡ i → now ≡ past → TurnsAlone i j past now s w (Err (refused fault))
+turned_err i j past now s w result (Ifaces.NotEnabled c) err disabled full interface journal = (disabled c err, record { interface = interface; journal = journal })
+turned_err i j past now s w result (Ifaces.LogFull p) err disabled full interface journal = let f = full p err in (f.0, f.1, record { interface = interface; journal = journal })
+turned_err i j past now s w result Ifaces.NoMemory err disabled full interface journal = record { interface = interface; journal = journal }
+
+-- ---- what it answers beside an endpoint
+
+-- neither log is full
+with_room : (i : InterfaceView) (e : EndpointView) (s : State) (w : Work) (result : Result Turned IfaceFault) (t : Turned) → result ≡ Ok t → failing_at (own i) s w ≡ None → ((p : Part) → (failing_at (own i) s w ≡ None) × IsFullOf i e p → result ≡ Err (Ifaces.LogFull p)) → (length e.log ≢ e.settings.log) × (length i.log ≢ i.settings.log)
+with_room i e s w result t ok enabled full = (there, here)
+  where
+    never : (p : Part) → IsFullOf i e p → ⊥
+    never p is = let both : ◌≡◌ {A = Result Turned IfaceFault} (Ok t) (Err (Ifaces.LogFull p)) = sym ok ∙ full p (enabled, is) in cc
+
+    there : length e.log ≢ e.settings.log
+    there is = never (Parts.Endpoint e.settings.id) (inl (refl, is))
+
+    here : length i.log ≢ i.settings.log
+    here is = never (Parts.Interface i.settings.node) (inr (there, (refl, is)))
+
+pub less_than : (a b : ℕ) → a ≤ b → a ≢ b → a < b
+less_than a b le apart = omega arith
+
+pub turned_with_ok : (i j : InterfaceView) (e f : EndpointView) (past now : List Entry) (w : Work) (result : Result Turned IfaceFault) (t : Turned) → result ≡ Ok t
+    → length e.log ≤ e.settings.log
+    → ((c : Condition) → failing_at (own i) (state_after e) w ≡ Some c → result ≡ Err (Ifaces.NotEnabled c))
+    → ((p : Part) → (failing_at (own i) (state_after e) w ≡ None) × IsFullOf i e p → result ≡ Err (Ifaces.LogFull p))
+    → t.entry ≡ entry_of_work i past (state_after e) w → j ≡ record i { log = i.log ++ t.entry ∷ [] } → now ≡ past ++ t.entry ∷ []
+    → f.settings ≡ e.settings → f.log ≡ e.log ++ t.entry ∷ []
+    → IsTurned i j past now (state_after e) w t.entry × IsGrown (kept e) f t.entry
+turned_with_ok i j e f past now w result t ok bounded disabled full entry interface journal settings log =
+    let enabled = enabled_by i (state_after e) w t result ok disabled in
+    let room = with_room i e (state_after e) w result t ok enabled full in (
+      record { enabled = enabled; room = room.1; entry = entry; interface = interface; journal = journal },
+      record { room = less_than (length e.log) e.settings.log bounded room.0; settings = settings; log = log },
+    )
+
+pub turned_with_err : (i j : InterfaceView) (e f : EndpointView) (past now : List Entry) (w : Work) (result : Result Turned IfaceFault) (fault : IfaceFault) → result ≡ Err fault
+    → length e.log ≤ e.settings.log
+    → ((c : Condition) → result ≡ Err (Ifaces.NotEnabled c) → failing_at (own i) (state_after e) w ≡ Some c)
+    → ((p : Part) → result ≡ Err (Ifaces.LogFull p) → (failing_at (own i) (state_after e) w ≡ None) × IsFullOf i e p)
+    → j ≡ i → now ≡ past → kept f ≡ kept e → TurnsWith i j e f past now w (Err (refused fault))
+turned_with_err i j e f past now w result (Ifaces.NotEnabled c) err bounded disabled full interface journal same = (disabled c err, record { interface = interface; journal = journal }, same)
+turned_with_err i j e f past now w result (Ifaces.LogFull p) err bounded disabled full interface journal same = let g = full p err in (g.0, g.1, bounded, record { interface = interface; journal = journal }, same)
+turned_with_err i j e f past now w result Ifaces.NoMemory err bounded disabled full interface journal same = (record { interface = interface; journal = journal }, same)
+
+-- the same of the endpoint as it was before room was made
+pub turns_still : (i j : InterfaceView) (e one f : EndpointView) (past now : List Entry) (w : Work) (result : Result Entry ApplyFault) → kept one ≡ kept e → TurnsWith i j one f past now w result → TurnsWith i j e f past now w result
+turns_still i j e one f past now w result same turns = subst (λ (d : EndLog). TurnsWith i j (record { settings = d.settings; log = d.log; ready = e.ready }) f past now w result) same turns

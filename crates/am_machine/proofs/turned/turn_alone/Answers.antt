@@ -1,0 +1,48 @@
+use Rattle.std.specs.Prelude.{IfSome, Err}
+use Rattle.std.proofs.Common.{◌<◌, ◌++◌, ◌∷◌, [], List, Option, length, sym, ap, ◌∙◌, subst}
+use Rattle.am_names.specs.declared.NodeId.{NodeId}
+use Rattle.am_office.specs.declared.Entry.{Entry}
+use Rattle.am_office.specs.declared.Place.TheVariants.{Host}
+use Rattle.am_model.specs.Endpoint.{State, fresh}
+use Rattle.am_iface.specs.View.{last_stamp, own}
+use Rattle.am_machine.specs.declared.settings.ApplyFault.{ApplyFault}
+use Rattle.am_machine.specs.Turned.{TurnsAlone}
+use Rattle.am_machine.specs.Ways.{GoesTo}
+use Rattle.am_machine.proofs.Turning as turning
+use Rattle.am_machine.proofs.turned.turn_alone.Goals as goal
+
+pub log-requires-clause-room : goal.log-requires-clause-room
+log-requires-clause-room c =
+    let i = c.args.interface.now in
+    let w = c.args.work.now in
+    let s : State = fresh (record { 0 = 0 }) Host in
+    turning.out_has_room c.room_to.new.self i s w c.in-Ok.turned.entry c.in-Ok.turned.out c.emits_to-to.result
+    (subst (GoesTo (own i) s w) (sym c.emits_to-to.ensures) (turning.goes_alone (own i) s w c.requires.alone))
+    (turning.enabled_by i s w c.in-Ok.turned c.turn_alone.result c.in-Ok.is (λ k. (c.turn_alone.ensures.disabled s k).1))
+    c.requires.can.nodes.0
+    (subst (λ (o : Option NodeId). IfSome o (λ (n : NodeId). n.0 < 16)) (sym c.emits_to-to.ensures) (turning.emits_within i w c.requires.can.fits c.requires.can.nodes.1))
+    (turning.ready_from c.room_to.new.self c.node.result i.settings.node c.emits_to-to.result c.node.ensures
+    (turning.ok_then c.room_to.result _ (sym c.is_err.ensures.value ∙ c.if-is_err.false) c.room_to.ensures.link))
+    c.in-Ok.ensures.out c.in-Ok.ensures.event (c.in-Ok.ensures.outcome s)
+
+pub returns-in-Ok : goal.returns-in-Ok
+returns-in-Ok c s =
+    let i = c.args.interface.now in
+    let w = c.args.work.now in
+    let past = c.args.journal.now.entries in
+    let x = c.in-Ok.turned.entry in
+    turning.turned_ok i c.turn_alone.new.self past c.log.new.self.entries s w c.turn_alone.result c.in-Ok.turned c.in-Ok.is
+    (λ k. (c.turn_alone.ensures.disabled s k).1) (λ p. (c.turn_alone.ensures.full s p).1)
+    (turning.logged_entry i past s w x c.len.result (last_stamp i.log) c.in-Ok.ensures.event (c.in-Ok.ensures.outcome s) c.in-Ok.ensures.stamp
+    (c.len.ensures.value ∙ ap (λ (xs : List Entry). length xs) c.room_to.ensures.entries) c.requires.can.last c.requires.can.packet)
+    c.in-Ok.ensures.logged
+    (c.log.ensures ∙ ap (λ (xs : List Entry). xs ++ x ∷ []) c.room_to.ensures.entries)
+
+pub returns-in-Err : goal.returns-in-Err
+returns-in-Err c s =
+    let i = c.args.interface.now in
+    let w = c.args.work.now in
+    let past = c.args.journal.now.entries in
+    subst (λ (f : ApplyFault). TurnsAlone i c.turn_alone.new.self past c.room_to.new.self.entries s w (Err f)) (sym c.refused.ensures)
+    (turning.turned_err i c.turn_alone.new.self past c.room_to.new.self.entries s w c.turn_alone.result c.in-Err.fault c.in-Err.is
+    (λ k. (c.turn_alone.ensures.disabled s k).0) (λ p. (c.turn_alone.ensures.full s p).0) c.in-Err.ensures.err c.room_to.ensures.entries)

@@ -1,0 +1,94 @@
+use Rattle.std.specs.Prelude.{Err, Ok, max}
+use Rattle.std.proofs.Common.{◌≡◌, ◌+◌, ◌++◌, ◌∷◌, [], ℕ, List, length, sym, ap, ◌∙◌, subst, arith}
+use Rattle.am_office.specs.declared.Entry.{Entry}
+use Rattle.am_endpoint.specs.View.{EndpointView, state_after, state_by}
+use Rattle.am_endpoint.specs.View as endpoints
+use Rattle.am_iface.specs.View.{last_stamp, own}
+use Rattle.am_iface.specs.Turns.{stamp_in}
+use Rattle.am_machine.specs.declared.settings.ApplyFault.{ApplyFault}
+use Rattle.am_machine.specs.Ends.{EndLog, state_in}
+use Rattle.am_machine.specs.Turned.{CanTurnWith, TurnsWith}
+use Rattle.am_machine.specs.Ways.{GoesTo}
+use Rattle.am_machine.proofs.Turning as turning
+use Rattle.am_machine.proofs.turned.turn_with.Goals as goal
+
+pub turn_with-requires-clause-needs : goal.turn_with-requires-clause-needs
+turn_with-requires-clause-needs c = (subst (λ (d : EndLog). CanTurnWith c.args.interface.now d c.args.journal.now.entries c.args.work.now) (sym c.make_room.ensures.same) c.requires.can).needed
+
+pub turn_with-requires-clause-home : goal.turn_with-requires-clause-home
+turn_with-requires-clause-home c = (subst (λ (d : EndLog). CanTurnWith c.args.interface.now d c.args.journal.now.entries c.args.work.now) (sym c.make_room.ensures.same) c.requires.can).home
+
+pub turn_with-requires-clause-network : goal.turn_with-requires-clause-network
+turn_with-requires-clause-network c = (subst (λ (d : EndLog). CanTurnWith c.args.interface.now d c.args.journal.now.entries c.args.work.now) (sym c.make_room.ensures.same) c.requires.can).network
+
+pub turn_with-requires-clause-bounces : goal.turn_with-requires-clause-bounces
+turn_with-requires-clause-bounces c = (subst (λ (d : EndLog). CanTurnWith c.args.interface.now d c.args.journal.now.entries c.args.work.now) (sym c.make_room.ensures.same) c.requires.can).bounces
+
+pub turn_with-requires-clause-known : goal.turn_with-requires-clause-known
+turn_with-requires-clause-known c = (subst (λ (d : EndLog). CanTurnWith c.args.interface.now d c.args.journal.now.entries c.args.work.now) (sym c.make_room.ensures.same) c.requires.can).known
+
+pub turn_with-requires-clause-flies : goal.turn_with-requires-clause-flies
+turn_with-requires-clause-flies c = (subst (λ (d : EndLog). CanTurnWith c.args.interface.now d c.args.journal.now.entries c.args.work.now) (sym c.make_room.ensures.same) c.requires.can).flies
+
+pub turn_with-requires-clause-last_there : goal.turn_with-requires-clause-last_there
+turn_with-requires-clause-last_there c =
+    let late = (subst (λ (d : EndLog). CanTurnWith c.args.interface.now d c.args.journal.now.entries c.args.work.now) (sym c.make_room.ensures.same) c.requires.can).last in
+    let at = c.len.ensures.value ∙ ap (λ (xs : List Entry). length xs) c.room_to.ensures.entries in
+    let more = c.len.ensures.more in
+    omega (arith, late, at, more)
+
+pub log-requires-clause-room : goal.log-requires-clause-room
+log-requires-clause-room c =
+    let i = c.args.interface.now in
+    let w = c.args.work.now in
+    let one = c.make_room.new.endpoint in
+    turning.out_has_room c.room_to.new.self i (state_after one) w c.in-Ok.turned.entry c.in-Ok.turned.out c.args.to
+    (subst (λ (d : EndLog). GoesTo (own i) (state_in d) w c.args.to) (sym c.make_room.ensures.same) c.requires.goes)
+    (turning.enabled_by i (state_after one) w c.in-Ok.turned c.turn_with.result c.in-Ok.is (λ k. (c.turn_with.ensures.disabled k).1))
+    c.requires.can.turn.nodes.0 c.requires.within
+    (turning.ready_from c.room_to.new.self c.node.result i.settings.node c.args.to c.node.ensures
+    (turning.ok_then c.room_to.result _ (sym c.is_err-2.ensures.value ∙ c.if-is_err-2.false) c.room_to.ensures.link))
+    c.in-Ok.ensures.out c.in-Ok.ensures.event c.in-Ok.ensures.outcome
+
+pub log-requires-clause-nodes : goal.log-requires-clause-nodes
+log-requires-clause-nodes c =
+    turning.work_nodes c.args.interface.now c.args.work.now c.in-Ok.turned.entry.event c.in-Ok.ensures.event c.requires.can.turn.fits c.requires.can.turn.nodes.0 c.requires.can.turn.nodes.1
+
+pub returns-in-Ok : goal.returns-in-Ok
+returns-in-Ok c =
+    let i = c.args.interface.now in
+    let w = c.args.work.now in
+    let past = c.args.journal.now.entries in
+    let x = c.in-Ok.turned.entry in
+    let e = c.args.endpoint.now in
+    let one = c.make_room.new.endpoint in
+    let f = c.turn_with.new.endpoint in
+    let can = subst (λ (d : EndLog). CanTurnWith i d past w) (sym c.make_room.ensures.same) c.requires.can in
+    let at = c.len.ensures.value ∙ ap (λ (xs : List Entry). length xs) c.room_to.ensures.entries in
+    let late = can.last in
+    let floor : max c.len.result (endpoints.last_stamp one.log) ≡ c.len.result = turning.max_floor c.len.result (endpoints.last_stamp one.log) (omega (arith, late, at)) in
+    turning.turns_still i c.turn_with.new.self e one f past c.log.new.self.entries w (Ok x) c.make_room.ensures.same
+    (turning.turned_with_ok i c.turn_with.new.self one f past c.log.new.self.entries w c.turn_with.result c.in-Ok.turned c.in-Ok.is
+    (turning.ok_then c.make_room.result _ (sym c.is_err.ensures.value ∙ c.if-is_err.false) c.make_room.ensures.bounded)
+    (λ k. (c.turn_with.ensures.disabled k).1) (λ p. (c.turn_with.ensures.full p).1)
+    (turning.logged_entry i past (state_after one) w x c.len.result (last_stamp i.log) c.in-Ok.ensures.event c.in-Ok.ensures.outcome
+    (c.in-Ok.ensures.stamp ∙ ap (λ (n : ℕ). 1 + max (max n (last_stamp i.log)) (stamp_in w)) floor)
+    at can.turn.last can.turn.packet)
+    c.in-Ok.ensures.logged
+    (c.log.ensures ∙ ap (λ (xs : List Entry). xs ++ x ∷ []) c.room_to.ensures.entries)
+    c.in-Ok.ensures.settings_there c.in-Ok.ensures.logged_there)
+
+pub returns-in-Err : goal.returns-in-Err
+returns-in-Err c =
+    let i = c.args.interface.now in
+    let w = c.args.work.now in
+    let past = c.args.journal.now.entries in
+    let e = c.args.endpoint.now in
+    let one = c.make_room.new.endpoint in
+    let f = c.turn_with.new.endpoint in
+    turning.turns_still i c.turn_with.new.self e one f past c.room_to.new.self.entries w (Err c.refused.result) c.make_room.ensures.same
+    (subst (λ (g : ApplyFault). TurnsWith i c.turn_with.new.self one f past c.room_to.new.self.entries w (Err g)) (sym c.refused.ensures)
+    (turning.turned_with_err i c.turn_with.new.self one f past c.room_to.new.self.entries w c.turn_with.result c.in-Err.fault c.in-Err.is
+    (turning.ok_then c.make_room.result _ (sym c.is_err.ensures.value ∙ c.if-is_err.false) c.make_room.ensures.bounded)
+    (λ k. (c.turn_with.ensures.disabled k).0) (λ p. (c.turn_with.ensures.full p).0) c.in-Err.ensures.err c.room_to.ensures.entries
+    (λ k. record { settings = c.in-Err.ensures.settings_there k; log = c.in-Err.ensures.err_there k })))

@@ -1,0 +1,92 @@
+-- What a work of an interface makes of its parts: the interface, the endpoint that it touches, and the journal.
+use Rattle.std.specs.Prelude.{◌≡◌, ◌≢◌, ◌+◌, ◌-◌, ◌<◌, ◌≤◌, false, Some, None, Result, Ok, Err, List, [], ◌∷◌, ◌++◌, length, slice_get}
+use Rattle.am_names.specs.declared.NodeId.{NodeId}
+use Rattle.am_office.specs.declared.Entry.{Entry}
+use Rattle.am_model.specs.Channels.{emitted}
+use Rattle.am_model.specs.Endpoint.{State, is_direct}
+use Rattle.am_local.specs.declared.work.Work.{Work}
+use Rattle.am_local.specs.declared.work.Work.TheVariants as Works
+use Rattle.am_local.specs.Granted.{FitsEndpoint}
+use Rattle.am_local.specs.Interface.{event_of, failing_at, home_in, needs, outcome_at}
+use Rattle.am_local.specs.Together.{from_of, number_of}
+use Rattle.am_endpoint.specs.View.{EndpointView, state_after}
+use Rattle.am_endpoint.specs.View as endpoints
+use Rattle.am_iface.specs.View.{FitsInterface, InterfaceView, last_stamp, own}
+use Rattle.am_iface.specs.Turns.{IsFull, stamp_in}
+use Rattle.am_iface.specs.With.{IsFullOf, KnowsHome}
+use Rattle.am_iface.specs.declared.IfaceFault.{IfaceFault}
+use Rattle.am_iface.specs.declared.IfaceFault.TheVariants as Ifaces
+use Rattle.am_machine.specs.declared.settings.ApplyFault.{ApplyFault}
+use Rattle.am_machine.specs.declared.settings.ApplyFault.TheVariants as Faults
+use Rattle.am_machine.specs.Ends.{EndLog, kept, state_in}
+
+-- the entry of a work, with the next stamp
+abbrev pub entry_of_work : InterfaceView → List Entry → State → Work → Entry
+entry_of_work i past s w = record { stamp = length past + 1; event = event_of i.settings.node w; outcome = outcome_at (own i) s w }
+
+-- the interface and the journal are as they were
+pub record IsSame (i j : InterfaceView) (past now : List Entry) : Type 0 where
+  pub interface : j ≡ i
+  pub journal : now ≡ past
+
+pub record IsTurned (i j : InterfaceView) (past now : List Entry) (s : State) (w : Work) (x : Entry) : Type 0 where
+  pub enabled : failing_at (own i) s w ≡ None
+  pub room : length i.log ≢ i.settings.log
+  pub entry : x ≡ entry_of_work i past s w
+  pub interface : j ≡ record i { log = i.log ++ x ∷ [] }
+  pub journal : now ≡ past ++ x ∷ []
+
+-- a work that touches no endpoint, whatever the state of one
+abbrev pub TurnsAlone : InterfaceView → InterfaceView → List Entry → List Entry → State → Work → Result Entry ApplyFault → Type 0
+TurnsAlone i j past now s w (Ok x) = IsTurned i j past now s w x
+TurnsAlone i j past now s w (Err (Faults.NotEnabled condition)) = (failing_at (own i) s w ≡ Some condition) × IsSame i j past now
+TurnsAlone i j past now s w (Err (Faults.LogFull part)) = (failing_at (own i) s w ≡ None) × IsFull i part × IsSame i j past now
+TurnsAlone i j past now s w (Err Faults.NoMemory) = IsSame i j past now
+
+-- an endpoint had room in its log, and has the entry at the end of it
+pub record IsGrown (d : EndLog) (f : EndpointView) (x : Entry) : Type 0 where
+  pub room : length d.log < d.settings.log
+  pub settings : f.settings ≡ d.settings
+  pub log : f.log ≡ d.log ++ x ∷ []
+
+-- a work that touches this endpoint
+abbrev pub TurnsWith : InterfaceView → InterfaceView → EndpointView → EndpointView → List Entry → List Entry → Work → Result Entry ApplyFault → Type 0
+TurnsWith i j e f past now w (Ok x) = IsTurned i j past now (state_after e) w x × IsGrown (kept e) f x
+TurnsWith i j e f past now w (Err (Faults.NotEnabled condition)) = (failing_at (own i) (state_after e) w ≡ Some condition) × IsSame i j past now × (kept f ≡ kept e)
+TurnsWith i j e f past now w (Err (Faults.LogFull part)) =
+    (failing_at (own i) (state_after e) w ≡ None) × IsFullOf i e part × (length e.log ≤ e.settings.log) × IsSame i j past now × (kept f ≡ kept e)
+TurnsWith i j e f past now w (Err Faults.NoMemory) = IsSame i j past now × (kept f ≡ kept e)
+
+-- why a work was not done
+abbrev pub refused : IfaceFault → ApplyFault
+refused (Ifaces.NotEnabled condition) = Faults.NotEnabled condition
+refused (Ifaces.LogFull part) = Faults.LogFull part
+refused Ifaces.NoMemory = Faults.NoMemory
+
+-- the interface is of a cluster of at most 16 nodes
+abbrev pub IsOfCluster : InterfaceView → Type 0
+IsOfCluster i = (i.settings.node.0 < 16) × (i.settings.nodes ≤ 16)
+
+-- the packet in hand, if the work has one, is the one with its number on its link to the node
+abbrev pub IsTaken : List Entry → NodeId → Work → Type 0
+IsTaken past node (Works.Receive p) = slice_get (emitted (from_of p) node past) (number_of p - 1) ≡ Some p
+IsTaken past node (Works.Bind end) = Unit {0}
+IsTaken past node (Works.Expire peer channel) = Unit {0}
+
+-- the interface can be given the work after these entries
+pub record CanTurn (i : InterfaceView) (past : List Entry) (w : Work) : Type 0 where
+  pub fits : FitsInterface i w
+  pub last : last_stamp i.log ≤ length past
+  pub packet : stamp_in w ≤ length past
+  pub nodes : IsOfCluster i
+
+-- and the work touches this endpoint, which can be given its entry
+pub record CanTurnWith (i : InterfaceView) (d : EndLog) (past : List Entry) (w : Work) : Type 0 where
+  pub turn : CanTurn i past w
+  pub needed : needs (own i) w ≡ Some d.settings.id
+  pub home : home_in (own i) d.settings.id ≡ Some d.settings.node
+  pub network : is_direct (state_in d).head.place ≡ false
+  pub bounces : d.settings.bounces ≡ i.settings.bounces
+  pub known : KnowsHome (own i) (state_in d) w
+  pub flies : FitsEndpoint (own i) (state_in d) w
+  pub last : endpoints.last_stamp d.log ≤ length past

@@ -1,0 +1,89 @@
+// A work of an interface, on its parts: the interface, the endpoint that it touches, and the journal.
+ghost use Rattle.am_endpoint.specs.View.{state_after};
+ghost use Rattle.am_iface.specs.View.{own};
+ghost use Rattle.am_local.specs.Interface.{needs};
+ghost use Rattle.am_machine.specs.Ends.{kept};
+ghost use Rattle.am_machine.specs.Turned.{CanTurn, CanTurnWith, TurnsAlone, TurnsWith, refused};
+ghost use Rattle.am_machine.specs.Ways.{GoesTo};
+ghost use Rattle.am_model.specs.Endpoint.{State};
+ghost use Rattle.std.specs.Prelude.{◌≡◌, ◌<◌, ◌≤◌, None, IfSome, OnOk, length};
+
+use crate::settings::ApplyFault;
+use am_endpoint::{EndFault, Endpoint};
+use am_iface::{IfaceFault, Interface, Work};
+use am_journal::IndexedJournal;
+use am_names::NodeId;
+use am_office::{Entry, NoMemory};
+
+/// Why a work was not done.
+fn refused(fault: IfaceFault) -> ApplyFault
+    ensures { result ≡ refused fault }
+{
+    match fault {
+        IfaceFault::NotEnabled(condition) => ApplyFault::NotEnabled(condition),
+        IfaceFault::LogFull(part) => ApplyFault::LogFull(part),
+        IfaceFault::NoMemory => ApplyFault::NoMemory,
+    }
+}
+
+/// Does a work that touches no endpoint.
+pub(crate) fn turn_alone(
+    interface: &mut Interface,
+    journal: &mut IndexedJournal,
+    work: &Work,
+) -> Result<Entry, ApplyFault>
+    requires can { CanTurn interface.old journal.old.entries work.now }
+    requires alone { needs (own interface.old) work.now ≡ None }
+    ensures { (s : State) → TurnsAlone interface.old interface.new journal.old.entries journal.new.entries s work.now result }
+{
+    let to = interface.emits_to(work);
+    if journal.room_to(interface.node(), to).is_err() {
+        return Err(ApplyFault::NoMemory);
+    }
+    match interface.turn_alone(journal.len(), work) {
+        Ok(turned) => {
+            journal.log(turned.entry, turned.out);
+            Ok(turned.entry)
+        }
+        Err(fault) => Err(refused(fault)),
+    }
+}
+
+/// Makes room for one more entry in an endpoint's log, unless it has as many as it may.
+fn make_room(endpoint: &mut Endpoint) -> Result<(), NoMemory>
+    ensures same { kept endpoint.new ≡ kept endpoint.old }
+    ensures bounded { OnOk result (length endpoint.new.log ≤ endpoint.new.settings.log) }
+{
+    match endpoint.room() {
+        Ok(()) | Err(EndFault::LogFull) => Ok(()),
+        Err(EndFault::NoMemory) => Err(NoMemory),
+    }
+}
+
+/// Does a work that touches this endpoint, whose packet goes to this node, if it sends one.
+pub(crate) fn turn_with(
+    interface: &mut Interface,
+    endpoint: &mut Endpoint,
+    journal: &mut IndexedJournal,
+    work: &Work,
+    to: Option<NodeId>,
+) -> Result<Entry, ApplyFault>
+    requires can { CanTurnWith interface.old (kept endpoint.old) journal.old.entries work.now }
+    requires within { IfSome to (λ node. node.0 < 16) }
+    requires goes { GoesTo (own interface.old) (state_after endpoint.old) work.now to }
+    ensures { TurnsWith interface.old interface.new endpoint.old endpoint.new journal.old.entries journal.new.entries work.now result }
+{
+    if make_room(endpoint).is_err() {
+        return Err(ApplyFault::NoMemory);
+    }
+    if journal.room_to(interface.node(), to).is_err() {
+        return Err(ApplyFault::NoMemory);
+    }
+    match interface.turn_with(journal.len(), work, endpoint) {
+        Ok(turned) => {
+            journal.log(turned.entry, turned.out);
+            Ok(turned.entry)
+        }
+        Err(fault) => Err(refused(fault)),
+    }
+}

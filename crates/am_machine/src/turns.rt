@@ -1,0 +1,104 @@
+// Works of interfaces: binds, time-outs and receipts.
+ghost use Rattle.am_local.specs.Interface.{event_of};
+ghost use Rattle.am_local.specs.declared.work.Work.TheVariants as Works;
+ghost use Rattle.am_machine.specs.Turned.{IsTaken};
+ghost use Rattle.am_machine.specs.View.{Applies};
+ghost use Rattle.am_model.specs.Channels.{emitted};
+ghost use Rattle.am_model.specs.History.{is_in_range};
+ghost use Rattle.am_office.specs.declared.Event.TheVariants as Events;
+ghost use Rattle.std.specs.Prelude.{◌≡◌, ◌-◌, ◌<◌, ◌≤◌, false, slice_get, true};
+
+use crate::Cluster;
+use crate::ends::place_of;
+use crate::settings::ApplyFault;
+use crate::turned::{turn_alone, turn_with};
+use crate::ways::way;
+use am_iface::Work;
+use am_names::{EndpointId, NodeId, Packet};
+use am_office::{Condition, Entry};
+use am_scenario_types::Network;
+
+impl Cluster {
+    /// Binds the front message of an endpoint to a channel of a node, where the network is packet.
+    pub(crate) fn bind(&mut self, node: NodeId, end: EndpointId) -> Result<Entry, ApplyFault>
+        requires { is_in_range self.old.layout (Events.Bind node end) ≡ true }
+        ensures { Applies self.old self.new (Events.Bind node end) result }
+    {
+        match self.settings.network {
+            Network::Direct => Err(ApplyFault::NotEnabled(Condition::NotPacket)),
+            Network::Packet => self.turn(node, Work::Bind(end)),
+        }
+    }
+
+    /// Lets a channel of a node time out, where the network is packet.
+    pub(crate) fn expire(
+        &mut self,
+        node: NodeId,
+        peer: NodeId,
+        channel: u8,
+    ) -> Result<Entry, ApplyFault>
+        requires { is_in_range self.old.layout (Events.Expire node peer channel) ≡ true }
+        ensures { Applies self.old self.new (Events.Expire node peer channel) result }
+    {
+        match self.settings.network {
+            Network::Direct => Err(ApplyFault::NotEnabled(Condition::NotPacket)),
+            Network::Packet => self.turn(node, Work::Expire { peer, channel }),
+        }
+    }
+
+    /// Receives the packet with this number on the link from a peer, where the network is packet.
+    pub(crate) fn receive(
+        &mut self,
+        node: NodeId,
+        peer: NodeId,
+        number: u32,
+    ) -> Result<Entry, ApplyFault>
+        requires { is_in_range self.old.layout (Events.Receive node peer number) ≡ true }
+        ensures { Applies self.old self.new (Events.Receive node peer number) result }
+    {
+        match self.settings.network {
+            Network::Direct => Err(ApplyFault::NotEnabled(Condition::NotPacket)),
+            Network::Packet => match self.packet(peer, node, number) {
+                Some(packet) => self.turn(node, Work::Receive(packet)),
+                None => Err(ApplyFault::NotEnabled(Condition::NoPacket)),
+            },
+        }
+    }
+
+    /// The packet with this number on a link, if there is one.
+    fn packet(&self, from: NodeId, to: NodeId, number: u32) -> Option<Packet>
+        requires from { from.0 < 16 }
+        requires to { to.0 < 16 }
+        requires number { 1 ≤ number }
+        ensures { result ≡ slice_get (emitted from to self.now.journal) (number - 1) }
+    {
+        self.journal
+            .emitted(from, to)
+            .get(number as usize - 1)
+            .copied()
+    }
+
+    /// Does a work of a node's interface, on the packet network.
+    fn turn(&mut self, node: NodeId, work: Work) -> Result<Entry, ApplyFault>
+        requires packet { self.old.layout.direct ≡ false }
+        requires in_range { is_in_range self.old.layout (event_of node work) ≡ true }
+        requires taken { IsTaken self.old.journal node work }
+        ensures { Applies self.old self.new (event_of node work) result }
+    {
+        let interface = &mut self.interfaces[node.0 as usize];
+        let Some(end) = interface.needs(&work) else {
+            return turn_alone(interface, &mut self.journal, &work);
+        };
+        let Some(place) = place_of(&self.ends, end) else {
+            unreachable!()
+        };
+        let to = way(interface, &self.ends, &self.ends[place], &work);
+        turn_with(
+            interface,
+            &mut self.ends[place],
+            &mut self.journal,
+            &work,
+            to,
+        )
+    }
+}
