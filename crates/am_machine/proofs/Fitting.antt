@@ -184,7 +184,7 @@ picked layout journal node peer number p history least at =
     let place : number_of p ≡ number = placed.number ∙ next in
     ((λ i. slice_get (emitted (from i) node journal) (place i - 1)) ∙ at, received_event node p ∙ λ i. Events.Receive node (from i) (place i))
 
-got_none : {X : Type 0} (xs : List X) (k : ℕ) → slice_get xs k ≡ None → length xs ≤ k
+pub got_none : {X : Type 0} (xs : List X) (k : ℕ) → slice_get xs k ≡ None → length xs ≤ k
 got_none [] k h = omega arith
 got_none (x ∷ xs) zero h = absurd (cc)
 got_none (x ∷ xs) (suc k) h = let more = got_none xs k h in omega (arith, more)

@@ -12,3 +12,4 @@ pub mod Turning
 pub mod Joint
 pub mod Fitting
 pub mod Beside
+pub mod Looks

@@ -1,4 +1,4 @@
-//! The cluster: endpoints whose logs are the parts of one journal, and the events that may happen to them.
+//! The cluster: endpoints and interfaces whose logs are the parts of one journal, and the events that may happen to them.
 #![tactic(auto)]
 
 ghost use Rattle.am_follow.specs.Layout.{layout_of};
@@ -14,6 +14,7 @@ mod frames;
 mod interfaces;
 mod moves;
 mod opening;
+mod parts;
 mod settings;
 mod turned;
 mod turns;

@@ -1,0 +1,61 @@
+// The parts of a cluster, as its callers may look at them.
+ghost use Rattle.am_endpoint.specs.View.{state_after};
+ghost use Rattle.am_journal.specs.View.{receipts};
+ghost use Rattle.am_machine.specs.Interfaces.{IsInterface};
+ghost use Rattle.am_model.specs.Channels.{emitted};
+ghost use Rattle.am_model.specs.History.{state_of};
+ghost use Rattle.am_model.specs.Layout.{declared, home};
+ghost use Rattle.am_office.specs.Entries.{touches};
+ghost use Rattle.std.specs.List.{filter};
+ghost use Rattle.std.specs.Prelude.{◌≡◌, ◌<◌, IfSome, Some, false, is_some};
+
+use crate::Cluster;
+use crate::ends::place_of;
+use am_endpoint::Endpoint;
+use am_iface::Interface;
+use am_names::{EndpointId, NodeId, Packet};
+
+impl Cluster {
+    /// The endpoint with this number: its log is its part of the journal. None exactly where it isn't declared.
+    pub fn end(&self, id: EndpointId) -> Option<&Endpoint>
+        ensures known { is_some result ≡ declared self.now.layout id }
+        ensures id { IfSome result (λ end. end.now.settings.id ≡ id) }
+        ensures node { IfSome result (λ end. home self.now.layout id ≡ Some end.now.settings.node) }
+        ensures log { IfSome result (λ end. end.now.log ≡ filter (touches id) self.now.journal) }
+        ensures state { IfSome result (λ end. state_after end.now ≡ state_of self.now.layout self.now.journal id) }
+    {
+        match place_of(&self.ends, id) {
+            Some(place) => Some(&self.ends[place]),
+            None => None,
+        }
+    }
+
+    /// The interface of a node of the packet network: its log is its part of the journal.
+    pub fn iface(&self, node: NodeId) -> &Interface
+        requires packet { self.now.layout.direct ≡ false }
+        requires node { node.0 < self.now.layout.nodes }
+        ensures { IsInterface self.now.layout self.now.journal node result.now }
+    {
+        &self.interfaces[node.0 as usize]
+    }
+
+    /// The packets that a node of the packet network emitted to another, in order.
+    pub fn emitted(&self, from: NodeId, to: NodeId) -> &[Packet]
+        requires packet { self.now.layout.direct ≡ false }
+        requires from { from.0 < self.now.layout.nodes }
+        requires to { to.0 < self.now.layout.nodes }
+        ensures { result.now ≡ emitted from to self.now.journal }
+    {
+        self.journal.emitted(from, to)
+    }
+
+    /// How many receipts of packets there are on the link from one node of the packet network to another.
+    pub fn received(&self, from: NodeId, to: NodeId) -> u32
+        requires packet { self.now.layout.direct ≡ false }
+        requires from { from.0 < self.now.layout.nodes }
+        requires to { to.0 < self.now.layout.nodes }
+        ensures { result ≡ receipts from to self.now.journal }
+    {
+        self.journal.received(from, to) as u32
+    }
+}
