@@ -1,10 +1,9 @@
 -- Where no count of faults rises and the bytes aren't too many, the answer is given whole, unless memory runs out.
 use Rattle.std.specs.Prelude.{Bool, true, false, ◌==◌}
-use Rattle.std.specs.Io.KnownBytes.{Appends}
-use Rattle.std.proofs.Common.{◌≡◌, ◌≢◌, ◌⊎◌, inl, inr, ⊎_elim, ℕ, List, Option, refl, sym, ap, ◌∙◌, eqb-true}
+use Rattle.std.proofs.Common.{◌≡◌, ◌≢◌, ◌⊎◌, inl, inr, ⊎_elim, ℕ, List, Option, refl, ap, eqb-true}
 use Rattle.am_scenario.specs.Grammar.{grammar}
 use Rattle.am_scenario_types.specs.declared.parts.Form.TheVariants as Forms
-use Rattle.am_main.specs.Answer.{Answer, answer_of}
+use Rattle.am_main.specs.Answer.{answer_of}
 use Rattle.am_io.specs.Causes.{Rose}
 use Rattle.am_io.specs.Whole.{IsLonger}
 use Rattle.am_main.specs.Offers.{Completes, Finds, IsAnswered, IsOffered, no_memory}

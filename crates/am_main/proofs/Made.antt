@@ -1,9 +1,7 @@
 -- What the steps make, one after the other, and what their answers mean.
 use Rattle.std.specs.Prelude.{slice_get, slice_index_or, Result, Ok, Err}
-use Rattle.std.proofs.Common.{◌≡◌, ℕ, zero, suc, ◌+◌, ◌-◌, ◌<◌, ◌≤◌, true, List, [], ◌∷◌, ◌++◌, map, length, take, drop, Option, Some, None, refl, sym, ap, ◌∙◌, subst, arith, length-append, length-drop}
-use Rattle.am_names.specs.declared.Serial.{Serial}
+use Rattle.std.proofs.Common.{◌≡◌, ℕ, zero, suc, ◌+◌, ◌<◌, ◌≤◌, true, List, [], ◌∷◌, ◌++◌, length, take, drop, Option, Some, None, refl, sym, ap, ◌∙◌, subst, arith, length-append}
 use Rattle.am_office.specs.declared.Condition.{Condition}
-use Rattle.am_office.specs.declared.Part.{Part}
 use Rattle.am_office.specs.declared.Event.{Event}
 use Rattle.am_office.specs.declared.Entry.{Entry}
 use Rattle.am_report.specs.Report.{report}
@@ -12,24 +10,21 @@ use Rattle.am_scenario_types.specs.Lawful.{IsLawful}
 use Rattle.am_scenario_types.specs.Lists.{ScenarioLists}
 use Rattle.am_follow.specs.Layout.{layout_of, events_of}
 use Rattle.am_follow.proofs.Lawful.{lawful_layout, steps_in_range}
-use Rattle.am_laws.specs.Fates.{HasOneFate}
 use Rattle.am_laws.proofs.Laws.{post_office}
 use Rattle.am_laws.proofs.OneFate.{one_fate}
 use Rattle.am_laws_steps.specs.Laws.{AreInRange, IsMade}
 use Rattle.am_laws_steps.proofs.Steps.{is_made, histories_agree}
 use Rattle.am_model.specs.History.{is_in_range}
-use Rattle.am_model.specs.Layout.{Layout, AllAre}
+use Rattle.am_model.specs.Layout.{Layout}
 use Rattle.am_model.specs.Steps.{FollowsSteps, Made, Stop, NotEnabled, LogFull, stop, step_entry, made, made_by, made_from}
 use Rattle.std.specs.Global.{Vec}
 use Rattle.am_scenario_types.specs.declared.faults.ScenarioFault.{ScenarioFault}
-use Rattle.am_scenario_types.specs.declared.parts.Network.{Network}
-use Rattle.am_scenario_types.specs.declared.parts.Network.TheVariants as Networks
 use Rattle.am_machine.specs.declared.settings.ApplyFault.{ApplyFault}
 use Rattle.am_machine.specs.declared.settings.ApplyFault.TheVariants as Applied
 use Rattle.am_machine.specs.View.{ClusterView, Applies}
 use Rattle.am_main.specs.declared.faults.StepFault.{StepFault}
 use Rattle.am_main.specs.declared.faults.StepFault.TheVariants as Faults
-use Rattle.am_main.specs.Answer.{Answer, GivesText, Makes, TellsText, answer_of, answer_of_made, answer_of_stop, answer_on, fault_of, ids_of, line_at, not_enabled_line}
+use Rattle.am_main.specs.Answer.{Answer, GivesText, Makes, TellsText, answer_of, answer_of_made, answer_of_stop, fault_of, ids_of, line_at, not_enabled_line}
 use Rattle.am_main.specs.Meaning.{PrintsHistory, IsStopped, IsNotEnabled, TextMeans}
 
 pub step_made : (layout : Layout) (past : List Entry) (step : StepLine) (steps : List StepLine) → stop layout past step.event ≡ None → made_from layout past (events_of (step ∷ steps)) ≡ made_from layout (past ++ step_entry layout past step.event ∷ []) (events_of steps)
@@ -167,12 +162,11 @@ tells_means s read answer lawful is tells = subst (λ (r : Result ScenarioLists 
     by_answer (Err (Faults.Scenario fault)) t = absurd t
     by_answer (Err (Faults.NotEnabled line condition)) t = is_not_enabled s line condition lawful t.0 t.1
     by_answer (Err (Faults.LogFull part)) t = is_stopped s (LogFull part) lawful t
-    by_answer (Err Faults.NotBuilt) t = absurd t
     by_answer (Err Faults.NoMemory) t = tt
 
 -- and the status and the text that they stand for
-pub tells_gives : (s : ScenarioLists) (read : Result ScenarioLists ScenarioFault) (answer : Result (Vec ℕ) StepFault) → read ≡ Ok s → s.network ≡ Networks.Direct → TellsText s (made (layout_of s) (events_of s.steps)) answer → GivesText answer (answer_of read)
-tells_gives s read answer is direct tells = subst (λ (r : Answer). GivesText answer r) (sym (ap answer_of is ∙ ap (λ (n : Network). answer_on n s) direct)) (by_answer answer tells)
+pub tells_gives : (s : ScenarioLists) (read : Result ScenarioLists ScenarioFault) (answer : Result (Vec ℕ) StepFault) → read ≡ Ok s → TellsText s (made (layout_of s) (events_of s.steps)) answer → GivesText answer (answer_of read)
+tells_gives s read answer is tells = subst (λ (r : Answer). GivesText answer r) (sym (ap answer_of is)) (by_answer answer tells)
   where
     m : Made
     m = made (layout_of s) (events_of s.steps)
@@ -185,5 +179,4 @@ tells_gives s read answer is direct tells = subst (λ (r : Answer). GivesText an
     by_answer (Err (Faults.Scenario fault)) t = absurd t
     by_answer (Err (Faults.NotEnabled line condition)) t = at (Some (NotEnabled condition)) t.0 ∙ ap (λ (n : ℕ). record { status = 3; text = not_enabled_line n condition }) (sym t.1)
     by_answer (Err (Faults.LogFull part)) t = at (Some (LogFull part)) t
-    by_answer (Err Faults.NotBuilt) t = absurd t
     by_answer (Err Faults.NoMemory) t = tt

@@ -1,7 +1,6 @@
 -- What the command `step` answers to a text: a status and what is printed.
 use Rattle.std.specs.Prelude.{◌≡◌, ℕ, zero, suc, List, [], ◌∷◌, ◌++◌, codes, map, length, Option, Some, None, Result, Ok, Err}
 use Rattle.std.specs.Fmt.{decimal}
-use Rattle.std.specs.Str.{bytes_eq}
 use Rattle.std.specs.Global.{Vec}
 use Rattle.am_names.specs.declared.EndpointId.{EndpointId}
 use Rattle.am_office.specs.declared.Condition.{Condition}
@@ -9,8 +8,6 @@ use Rattle.am_office.specs.declared.Entry.{Entry}
 use Rattle.am_office.specs.declared.Part.{Part}
 use Rattle.am_report.specs.Report.{report}
 use Rattle.am_scenario_types.specs.declared.parts.EndLine.{EndLine}
-use Rattle.am_scenario_types.specs.declared.parts.Network.{Network}
-use Rattle.am_scenario_types.specs.declared.parts.Network.TheVariants as Networks
 use Rattle.am_scenario_types.specs.declared.parts.StepLine.{StepLine}
 use Rattle.am_scenario_types.specs.declared.faults.ScenarioFault.{ScenarioFault}
 use Rattle.am_scenario_types.specs.Lists.{ScenarioLists}
@@ -53,14 +50,9 @@ answer_of_stop s journal (Some (LogFull part)) = record { status = 6; text = ful
 abbrev pub answer_of_made : ScenarioLists → Made → Answer
 answer_of_made s m = answer_of_stop s m.journal m.stopped
 
--- the packet network is not built yet
-abbrev pub answer_on : Network → ScenarioLists → Answer
-answer_on Networks.Direct s = answer_of_made s (made (layout_of s) (events_of s.steps))
-answer_on Networks.Packet s = record { status = 9; text = codes "not built\n" }
-
 -- the answer to what the text spells, or to its first fault
 abbrev pub answer_of : Result ScenarioLists ScenarioFault → Answer
-answer_of (Ok s) = answer_on s.network s
+answer_of (Ok s) = answer_of_made s (made (layout_of s) (events_of s.steps))
 answer_of (Err fault) = record { status = 3; text = refused_line fault }
 
 -- the answer that a fault stands for
@@ -68,7 +60,6 @@ abbrev pub answer_of_fault : StepFault → Answer
 answer_of_fault (Faults.Scenario fault) = record { status = 3; text = refused_line fault }
 answer_of_fault (Faults.NotEnabled line condition) = record { status = 3; text = not_enabled_line line condition }
 answer_of_fault (Faults.LogFull part) = record { status = 6; text = full_line part }
-answer_of_fault Faults.NotBuilt = record { status = 9; text = codes "not built\n" }
 answer_of_fault Faults.NoMemory = record { status = 8; text = codes "no memory\n" }
 
 -- why the step in this line made no entry
@@ -83,7 +74,6 @@ Gives (Ok text) answer = answer ≡ record { status = 0; text = text }
 Gives (Err (Faults.Scenario fault)) answer = answer ≡ answer_of_fault (Faults.Scenario fault)
 Gives (Err (Faults.NotEnabled line condition)) answer = answer ≡ answer_of_fault (Faults.NotEnabled line condition)
 Gives (Err (Faults.LogFull part)) answer = answer ≡ answer_of_fault (Faults.LogFull part)
-Gives (Err Faults.NotBuilt) answer = answer ≡ answer_of_fault Faults.NotBuilt
 Gives (Err Faults.NoMemory) answer = Unit {0}
 
 -- the same, where the text is a vector
@@ -97,16 +87,16 @@ Makes steps journal m (Ok x) = m ≡ record { journal = journal; stopped = None 
 Makes steps journal m (Err (Faults.NotEnabled line condition)) = (m.stopped ≡ Some (NotEnabled condition)) × (line ≡ line_at steps (length m.journal))
 Makes steps journal m (Err (Faults.LogFull part)) = m.stopped ≡ Some (LogFull part)
 Makes steps journal m (Err Faults.NoMemory) = Unit {0}
-Makes steps journal m (Err fault) = ⊥
+Makes steps journal m (Err (Faults.Scenario fault)) = ⊥
 
--- What the text of a scenario of the direct network tells of what its steps made, unless memory ran out: the report of
--- their journal; or what stopped the first step that could not be made, and its line.
+-- What the text of a scenario tells of what its steps made, unless memory ran out: the report of their journal; or what
+-- stopped the first step that could not be made, and its line.
 abbrev pub Tells : ScenarioLists → Made → Result (List ℕ) StepFault → Type 0
 Tells s m (Ok text) = (m.stopped ≡ None) × (text ≡ report (ids_of s.ends) m.journal)
 Tells s m (Err (Faults.NotEnabled line condition)) = (m.stopped ≡ Some (NotEnabled condition)) × (line ≡ line_at s.steps (length m.journal))
 Tells s m (Err (Faults.LogFull part)) = m.stopped ≡ Some (LogFull part)
 Tells s m (Err Faults.NoMemory) = Unit {0}
-Tells s m (Err fault) = ⊥
+Tells s m (Err (Faults.Scenario fault)) = ⊥
 
 -- the same, where the text is a vector
 abbrev pub TellsText : ScenarioLists → Made → Result (Vec ℕ) StepFault → Type 0

@@ -1,11 +1,9 @@
 -- What each answer of `step` says of the machine.
-use Rattle.std.specs.Prelude.{◌≡◌, ℕ, List, [], length, take, Option, Some, None, Result, Ok, Err, slice_get}
+use Rattle.std.specs.Prelude.{◌≡◌, ℕ, List, [], length, take, Result, Ok, Err, slice_get}
 use Rattle.std.specs.Global.{Vec}
 use Rattle.am_names.specs.declared.Serial.{Serial}
 use Rattle.am_office.specs.declared.Condition.{Condition}
-use Rattle.am_office.specs.declared.Event.{Event}
 use Rattle.am_office.specs.declared.Entry.{Entry}
-use Rattle.am_office.specs.declared.Part.{Part}
 use Rattle.am_report.specs.Report.{report}
 use Rattle.am_scenario_types.specs.declared.faults.ScenarioFault.{ScenarioFault}
 use Rattle.am_scenario_types.specs.Lists.{ScenarioLists}
@@ -19,9 +17,9 @@ use Rattle.am_main.specs.declared.faults.StepFault.{StepFault}
 use Rattle.am_main.specs.declared.faults.StepFault.TheVariants as Faults
 use Rattle.am_main.specs.Answer.{ids_of, line_at}
 
--- THE HEADLINE, for the command `step` on the direct network: the text is the report of a journal that is a history of
--- the machine which the scenario describes, follows its lines as no other history does, and obeys all the laws of the post
--- office; and each message has its one fate.
+-- THE HEADLINE, for the command `step`: the text is the report of a journal that is a history of the machine which the
+-- scenario describes, follows its lines as no other history does, and obeys all the laws of the post office; and each
+-- message has its one fate.
 pub record PrintsHistory (scenario : ScenarioLists) (text : List ℕ) : Type 0 where
   pub journal : List Entry
   pub history : IsHistory (layout_of scenario) journal
@@ -48,7 +46,6 @@ abbrev pub TextMeansOf : Result (List ℕ) StepFault → Result ScenarioLists Sc
 TextMeansOf (Ok text) (Ok scenario) = PrintsHistory scenario text
 TextMeansOf (Err (Faults.NotEnabled line condition)) (Ok scenario) = IsNotEnabled scenario line condition
 TextMeansOf (Err (Faults.LogFull part)) (Ok scenario) = IsStopped scenario (LogFull part)
-TextMeansOf (Err Faults.NotBuilt) (Ok scenario) = Unit {0}
 TextMeansOf (Err Faults.NoMemory) read = Unit {0}
 TextMeansOf (Err (Faults.Scenario fault)) (Err first) = fault ≡ first
 TextMeansOf answer read = ⊥

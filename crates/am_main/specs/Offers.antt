@@ -1,15 +1,18 @@
 -- What the top call leaves in the sink.
-use Rattle.std.specs.Prelude.{◌≡◌, ◌≢◌, ◌⊎◌, ℕ, ◌≤◌, List, [], ◌∷◌, ◌++◌, codes, length, Option, Some, None, Result, Ok, Err, if◌then◌else◌}
+use Rattle.std.specs.Prelude.{◌≡◌, ◌≢◌, ◌⊎◌, ℕ, ◌≤◌, Bool, false, List, [], ◌∷◌, ◌++◌, codes, length, Option, Ok, Err}
 use Rattle.std.specs.Str.{bytes_eq}
 use Rattle.std.specs.Io.KnownBytes.{Appends}
 use Rattle.am_scenario.specs.Grammar.{grammar}
 use Rattle.am_scenario_types.specs.declared.parts.Form.TheVariants as Forms
 use Rattle.am_io.specs.Causes.{Rose}
 use Rattle.am_io.specs.Whole.{IsAll, IsLonger}
-use Rattle.am_main.specs.Answer.{Answer, answer_of}
-use Rattle.am_main.specs.Meaning.{PrintsHistory}
+use Rattle.am_main.specs.Answer.{Answer, answer_of, full_line, not_enabled_line, refused_line}
+use Rattle.am_main.specs.Meaning.{PrintsHistory, IsNotEnabled, IsStopped}
+use Rattle.am_model.specs.Steps.{LogFull}
+use Rattle.am_office.specs.declared.Condition.{Condition}
+use Rattle.am_office.specs.declared.Part.{Part}
+use Rattle.am_scenario_types.specs.declared.faults.ScenarioFault.{ScenarioFault}
 use Rattle.am_scenario_types.specs.Lists.{ScenarioLists}
-use Rattle.std.specs.Prelude.{Bool, true, false}
 
 -- the words are those of the command `step`
 unfoldable pub is_step : List (List ℕ) → Bool
@@ -75,6 +78,33 @@ pub record Reports (old new : Option (List ℕ)) (bytes : List ℕ) : Type 0 whe
   pub spells : grammar Forms.Step bytes ≡ Ok scenario
   pub prints : PrintsHistory scenario text
   pub given : Appends old new text
+
+-- the bytes spell no scenario, and the line that tells their first fault was appended
+pub record TellsFault (old new : Option (List ℕ)) (bytes : List ℕ) : Type 0 where
+  pub fault : ScenarioFault
+  pub first : grammar Forms.Step bytes ≡ Err fault
+  pub given : Appends old new (refused_line fault)
+
+-- the bytes spell a scenario, and the line that tells its first step that isn't enabled was appended
+pub record TellsStep (old new : Option (List ℕ)) (bytes : List ℕ) : Type 0 where
+  pub scenario : ScenarioLists
+  pub line : ℕ
+  pub condition : Condition
+  pub spells : grammar Forms.Step bytes ≡ Ok scenario
+  pub stops : IsNotEnabled scenario line condition
+  pub given : Appends old new (not_enabled_line line condition)
+
+-- one of the two
+abbrev pub Refuses : Option (List ℕ) → Option (List ℕ) → List ℕ → Type 0
+Refuses old new bytes = TellsFault old new bytes ⊎ TellsStep old new bytes
+
+-- the bytes spell a scenario, and the line that tells the log which its first step without room finds full was appended
+pub record TellsFullLog (old new : Option (List ℕ)) (bytes : List ℕ) : Type 0 where
+  pub scenario : ScenarioLists
+  pub part : Part
+  pub spells : grammar Forms.Step bytes ≡ Ok scenario
+  pub stops : IsStopped scenario (LogFull part)
+  pub given : Appends old new (full_line part)
 
 -- The status and the whole text are those that the bytes ask for, unless memory ran out.
 abbrev pub Completes : ℕ → ℕ → Option (List ℕ) → Option (List ℕ) → Option (List ℕ) → Type 0

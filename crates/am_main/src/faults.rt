@@ -10,8 +10,6 @@ pub enum StepFault {
     NotEnabled { line: u32, condition: Condition },
     /// This log has as many entries as it may, and the next step's entry would go into it.
     LogFull(Part),
-    /// The text spells a scenario of the packet network, which isn't built yet.
-    NotBuilt,
     /// There is no memory.
     NoMemory,
 }

@@ -1,5 +1,5 @@
 // The steps of a scenario, one after the other.
-ghost use Rattle.std.specs.Prelude.{◌≡◌, IfOk, [], true, map};
+ghost use Rattle.std.specs.Prelude.{◌≡◌, IfOk, [], map};
 ghost use Rattle.am_follow.specs.Layout.{events_of, layout_of};
 ghost use Rattle.am_laws_steps.specs.Laws.{AreInRange};
 ghost use Rattle.am_main.specs.Answer.{GivesText, Makes, TellsText, answer_of, fault_of, ids_of};
@@ -7,14 +7,13 @@ ghost use Rattle.am_main.specs.Meaning.{TextMeans};
 ghost use Rattle.am_model.specs.Steps.{made};
 ghost use Rattle.am_scenario.specs.Grammar.{grammar};
 ghost use Rattle.am_scenario_types.specs.declared.parts.Form.TheVariants as Forms;
-ghost use Rattle.am_scenario_types.specs.declared.parts.Network.TheVariants as Networks;
 ghost use Rattle.am_scenario_types.specs.Lawful.{IsLawful};
 
 use crate::faults::StepFault;
 use am_machine::{ApplyFault, Cluster};
 use am_names::EndpointId;
 use am_report::report;
-use am_scenario::{EndLine, Form, Network, ReadFault, Scenario, StepLine, read};
+use am_scenario::{EndLine, Form, ReadFault, Scenario, StepLine, read};
 use std::alloc::{AllocError, Global};
 
 /// Why the step in this line made no entry.
@@ -30,7 +29,6 @@ fn fault_of(line: u32, fault: ApplyFault) -> StepFault
 
 /// Applies the events of the steps in order, up to the first that can't be made.
 fn make_steps(cluster: &mut Cluster, steps: &[StepLine]) -> Result<(), StepFault>
-    requires direct { cluster.old.layout.direct ≡ true }
     requires fresh { cluster.old.journal ≡ [] }
     requires in_range { AreInRange cluster.old.layout (events_of steps.now) }
     ensures layout { cluster.new.layout ≡ cluster.old.layout }
@@ -56,10 +54,9 @@ fn ids_of(alloc: Global, ends: &[EndLine]) -> Result<Vec<EndpointId>, AllocError
     Ok(ids)
 }
 
-/// The report of a scenario of the direct network.
-fn direct_text(alloc: Global, scenario: &Scenario) -> Result<Vec<u8>, StepFault>
+/// The report of what the steps of a scenario make.
+fn scenario_text(alloc: Global, scenario: &Scenario) -> Result<Vec<u8>, StepFault>
     requires lawful { IsLawful scenario.now }
-    requires direct { scenario.now.network ≡ Networks.Direct }
     ensures { TellsText scenario.now (made (layout_of scenario.now) (events_of scenario.now.steps)) result }
 {
     let Ok(mut cluster) = Cluster::new(alloc, scenario) else {
@@ -84,16 +81,13 @@ fn direct_text(alloc: Global, scenario: &Scenario) -> Result<Vec<u8>, StepFault>
 /// The text that a step script makes: the report of the one history that follows its lines.
 ///
 /// It is refused with the first fault of the text; with the line and the condition of the first step that isn't enabled;
-/// with the log that is full where one more entry is due; for want of memory; and, for now, for the packet network.
+/// with the log that is full where one more entry is due; and for want of memory.
 pub fn step_text(alloc: Global, bytes: &[u8]) -> Result<Vec<u8>, StepFault>
     ensures answer { GivesText result (answer_of (grammar Forms.Step bytes.now)) }
     ensures meaning { TextMeans result (grammar Forms.Step bytes.now) }
 {
     match read(alloc, Form::Step, bytes) {
-        Ok(scenario) => match scenario.network {
-            Network::Direct => direct_text(alloc, &scenario),
-            Network::Packet => Err(StepFault::NotBuilt),
-        },
+        Ok(scenario) => scenario_text(alloc, &scenario),
         Err(ReadFault::Refused(fault)) => Err(StepFault::Scenario(fault)),
         Err(ReadFault::NoMemory) => Err(StepFault::NoMemory),
     }

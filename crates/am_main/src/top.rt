@@ -4,7 +4,7 @@ ghost use Rattle.std.specs.Prelude.{codes, ◌≡◌, ◌≢◌, ◌≤◌, map,
 ghost use Rattle.std.specs.Io.KnownBytes.{Appends};
 ghost use Rattle.am_io.specs.Causes.{Rose};
 ghost use Rattle.am_io.specs.Whole.{IsLonger};
-ghost use Rattle.am_main.specs.Offers.{Completes, Finds, IsAnswered, IsGiven, IsOffered, Reports, is_step, usage};
+ghost use Rattle.am_main.specs.Offers.{Completes, Finds, IsAnswered, IsGiven, IsOffered, Refuses, Reports, TellsFullLog, is_step, usage};
 
 use crate::steps::step_text;
 use crate::words::{fault_line, fault_status};
@@ -54,6 +54,8 @@ fn offer<K: Sink>(sink: &mut K, number: u8, text: &[u8]) -> Status
 fn answer<K: Sink>(alloc: Global, bytes: &[u8], sink: &mut K) -> Status
     ensures given { IsGiven bytes.now result.number (K.held sink.old) (K.held sink.new) }
     ensures reports { result.number ≡ 0 → Reports (K.held sink.old) (K.held sink.new) bytes.now }
+    ensures refuses { result.number ≡ 3 → Refuses (K.held sink.old) (K.held sink.new) bytes.now }
+    ensures full { result.number ≡ 6 → TellsFullLog (K.held sink.old) (K.held sink.new) bytes.now }
     ensures cause { result.number ≡ 5 → Rose (K.count sink.old) (K.count sink.new) }
     ensures later { K.count sink.old ≤ K.count sink.new }
 {
@@ -71,6 +73,8 @@ fn step<S: Source, K: Sink>(alloc: Global, source: &mut S, sink: &mut K) -> Stat
     requires { S.has_ended source.old ≡ false }
     ensures given { IsAnswered MOST_BYTES (S.left source.old) (S.count source.old) (S.count source.new) result.number (K.held sink.old) (K.held sink.new) }
     ensures reports { result.number ≡ 0 → Finds MOST_BYTES (S.left source.old) (Reports (K.held sink.old) (K.held sink.new)) }
+    ensures refuses { result.number ≡ 3 → Finds MOST_BYTES (S.left source.old) (Refuses (K.held sink.old) (K.held sink.new)) }
+    ensures full { result.number ≡ 6 → Finds MOST_BYTES (S.left source.old) (TellsFullLog (K.held sink.old) (K.held sink.new)) }
     ensures read { result.number ≡ 4 → Rose (S.count source.old) (S.count source.new) }
     ensures write { result.number ≡ 5 → Rose (K.count sink.old) (K.count sink.new) }
     ensures long { result.number ≡ 7 → IsLonger (S.left source.old) MOST_BYTES }
@@ -90,7 +94,7 @@ fn step<S: Source, K: Sink>(alloc: Global, source: &mut S, sink: &mut K) -> Stat
 ///
 /// The status says how it ended. Each has its cause in a clause, and a text of its own, which is offered to the sink:
 /// 0 the report, 2 wrong words, 3 a text that spells no scenario or a step that can't happen, 4 a read fault, 5 a write fault,
-/// 6 a full log, 7 too many bytes, 8 no memory, which may come at any time, and 9 the packet network, which isn't built yet.
+/// 6 a full log, 7 too many bytes, and 8 no memory, which may come at any time.
 pub fn am2<R: Threads + Sync, S: Source, K: Sink>(
     _rt: &R,
     alloc: Global,
@@ -109,6 +113,9 @@ pub fn am2<R: Threads + Sync, S: Source, K: Sink>(
     ensures given { is_step (map string_bytes words.now) ≡ true → IsAnswered MOST_BYTES (S.left source.old) (S.count source.old) (S.count source.new) result.number (K.held sink.old) (K.held sink.new) }
     // Where no read and no write fails and the bytes aren't too many, the answer is given whole, unless memory runs out.
     ensures complete { is_step (map string_bytes words.now) ≡ true → (Rose (S.count source.old) (S.count source.new) → ⊥) → (Rose (K.count sink.old) (K.count sink.new) → ⊥) → (IsLonger (S.left source.old) MOST_BYTES → ⊥) → Completes MOST_BYTES result.number (S.left source.old) (K.held sink.old) (K.held sink.new) }
+    // The bytes spell no scenario or have a step that isn't enabled; a step finds a log full.
+    ensures refuses { result.number ≡ 3 → Finds MOST_BYTES (S.left source.old) (Refuses (K.held sink.old) (K.held sink.new)) }
+    ensures full { result.number ≡ 6 → Finds MOST_BYTES (S.left source.old) (TellsFullLog (K.held sink.old) (K.held sink.new)) }
     ensures read { result.number ≡ 4 → Rose (S.count source.old) (S.count source.new) }
     ensures read_text { result.number ≡ 4 → Appends (K.held sink.old) (K.held sink.new) (codes "read fault\n") }
     ensures write { result.number ≡ 5 → Rose (K.count sink.old) (K.count sink.new) }

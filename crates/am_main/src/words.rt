@@ -113,7 +113,6 @@ pub fn fault_line(alloc: Global, fault: StepFault) -> Result<Vec<u8>, AllocError
         StepFault::Scenario(fault) => refused_line(alloc, fault),
         StepFault::NotEnabled { line, condition } => not_enabled_line(alloc, line, condition),
         StepFault::LogFull(part) => full_line(alloc, part),
-        StepFault::NotBuilt => Vec::from_slice(alloc, b"not built\n"),
         StepFault::NoMemory => Vec::from_slice(alloc, b"no memory\n"),
     }
 }
@@ -125,7 +124,6 @@ pub fn fault_status(fault: StepFault) -> u8
     match fault {
         StepFault::Scenario(_) | StepFault::NotEnabled { .. } => 3,
         StepFault::LogFull(_) => 6,
-        StepFault::NotBuilt => 9,
         StepFault::NoMemory => 8,
     }
 }

@@ -6,7 +6,7 @@ use Rattle.am_main.specs.Answer.{Makes}
 use Rattle.am_main.specs.declared.faults.StepFault.{StepFault}
 use Rattle.am_model.specs.Steps.{made}
 use Rattle.am_office.specs.declared.Entry.{Entry}
-use Rattle.std.proofs.Common.{◌≡◌, true, List, refl, sym, subst, ap, ◌∙◌}
+use Rattle.std.proofs.Common.{refl, sym, subst, ap, ◌∙◌}
 use Rattle.am_office.specs.declared.Actor.TheVariants as Actors
 use Rattle.am_office.specs.declared.Call.TheVariants as Calls
 use Rattle.am_office.specs.declared.Event.TheVariants as Events
@@ -16,14 +16,14 @@ use Rattle.am_scenario_types.specs.declared.parts.StepLine.{StepLine}
 use Rattle.am_main.proofs.Made.{event_in_range, step_got, stops_make}
 use Rattle.am_main.proofs.steps.make_steps.Goals as goal
 
-pub apply-requires-clause-in_range : goal.apply-requires-clause-in_range
-apply-requires-clause-in_range c =
+pub apply-requires : goal.apply-requires
+apply-requires c =
     let none : StepLine = record { line = 0; event = Events.Call (Actors.Thread 0) (record { 0 = 0 }) (Calls.Request 0 0 (record { a = 0; b = 0; c = 0; d = 0 })) } in
     let step = slice_index_or c.args.steps.now c.loop-step.step-index none in
     let at = step_got c.args.steps.now c.loop-step.step-index none c.loop-step-test.true in
     let layout = c.args.cluster.now.layout in
     let now = c.loop-step.cluster.layout in
-    ap (λ (l : Layout). is_in_range l step.event) c.loop-step.invariant.same ∙ event_in_range layout c.args.steps.now c.loop-step.step-index step c.requires.in_range at
+    record { in_range = ap (λ (l : Layout). is_in_range l step.event) c.loop-step.invariant.same ∙ event_in_range layout c.args.steps.now c.loop-step.step-index step c.requires.in_range at }
 
 pub returns-in-Err-clause-makes : goal.returns-in-Err-clause-makes
 returns-in-Err-clause-makes c =

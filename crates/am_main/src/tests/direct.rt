@@ -428,3 +428,268 @@ pub const POOLS_REPORT: &str = "am2 report 1\n\
     fate 0.2 request pending\n\
     fate 0.3 request pending\n\
     totals ran 0 returned 0 unknown 0 unknown-but-ran 0 pending 3\n";
+
+pub const CREDITS: &str = "am2 1\n\
+    network direct\n\
+    nodes 1\n\
+    endpoint 0 0 5\n\
+    endpoint 1 0 7\n\
+    endpoint 2 0 9\n\
+    x handler 1 1 note\n\
+    x handler 2 1 note\n\
+    x map 0 0 1 7 8\n\
+    x map 0 1 1 7 8\n\
+    x map 0 2 2 9 8\n\
+    x map 0 3 2 9 8\n\
+    x map 0 4 1 7 8\n\
+    x request 0 0 1 0 0 0 0\n\
+    x carry 0\n\
+    x request 0 0 1 0 0 0 0\n\
+    x carry 0\n\
+    x request 0 0 1 0 0 0 0\n\
+    x carry 0\n\
+    x request 0 0 1 0 0 0 0\n\
+    x carry 0\n\
+    x request 0 0 1 0 0 0 0\n\
+    x carry 0\n\
+    x request 0 0 1 0 0 0 0\n\
+    x carry 0\n\
+    x request 0 0 1 0 0 0 0\n\
+    x carry 0\n\
+    x request 0 0 1 0 0 0 0\n\
+    x carry 0\n\
+    x request 0 1 1 0 0 0 0\n\
+    x carry 0\n\
+    x request 0 1 1 0 0 0 0\n\
+    x carry 0\n\
+    x request 0 1 1 0 0 0 0\n\
+    x carry 0\n\
+    x request 0 1 1 0 0 0 0\n\
+    x carry 0\n\
+    x request 0 1 1 0 0 0 0\n\
+    x carry 0\n\
+    x request 0 1 1 0 0 0 0\n\
+    x carry 0\n\
+    x request 0 1 1 0 0 0 0\n\
+    x carry 0\n\
+    x request 0 1 1 0 0 0 0\n\
+    x carry 0\n\
+    x request 0 2 1 0 0 0 0\n\
+    x carry 0\n\
+    x request 0 2 1 0 0 0 0\n\
+    x carry 0\n\
+    x request 0 2 1 0 0 0 0\n\
+    x carry 0\n\
+    x request 0 2 1 0 0 0 0\n\
+    x carry 0\n\
+    x request 0 2 1 0 0 0 0\n\
+    x carry 0\n\
+    x request 0 2 1 0 0 0 0\n\
+    x carry 0\n\
+    x request 0 2 1 0 0 0 0\n\
+    x carry 0\n\
+    x request 0 2 1 0 0 0 0\n\
+    x carry 0\n\
+    x request 0 3 1 0 0 0 0\n\
+    x carry 0\n\
+    x request 0 3 1 0 0 0 0\n\
+    x carry 0\n\
+    x request 0 3 1 0 0 0 0\n\
+    x carry 0\n\
+    x request 0 3 1 0 0 0 0\n\
+    x carry 0\n\
+    x request 0 3 1 0 0 0 0\n\
+    x carry 0\n\
+    x request 0 3 1 0 0 0 0\n\
+    x carry 0\n\
+    x request 0 3 1 0 0 0 0\n\
+    x carry 0\n\
+    x request 0 3 1 0 0 0 0\n\
+    x carry 0\n\
+    x request 0 4 1 0 0 0 0\n\
+    x request 0 0 1 0 0 0 0\n\
+    x unmap 0 0\n\
+    x unmap 0 4\n\
+    x unmap 0 4\n\
+    x map 0 16 1 7 1\n";
+
+pub const CREDITS_REPORT: &str = "am2 report 1\n\
+    entries 77\n\
+    x handler 1 1 note -> ok\n\
+    x handler 2 1 note -> ok\n\
+    x map 0 0 1 7 8 -> ok\n\
+    x map 0 1 1 7 8 -> ok\n\
+    x map 0 2 2 9 8 -> ok\n\
+    x map 0 3 2 9 8 -> ok\n\
+    x map 0 4 1 7 8 -> ok\n\
+    x request 0 0 1 0 0 0 0 -> ok 0.1\n\
+    x carry 0 -> accepted 0.1\n\
+    x request 0 0 1 0 0 0 0 -> ok 0.2\n\
+    x carry 0 -> accepted 0.2\n\
+    x request 0 0 1 0 0 0 0 -> ok 0.3\n\
+    x carry 0 -> accepted 0.3\n\
+    x request 0 0 1 0 0 0 0 -> ok 0.4\n\
+    x carry 0 -> accepted 0.4\n\
+    x request 0 0 1 0 0 0 0 -> ok 0.5\n\
+    x carry 0 -> accepted 0.5\n\
+    x request 0 0 1 0 0 0 0 -> ok 0.6\n\
+    x carry 0 -> accepted 0.6\n\
+    x request 0 0 1 0 0 0 0 -> ok 0.7\n\
+    x carry 0 -> accepted 0.7\n\
+    x request 0 0 1 0 0 0 0 -> ok 0.8\n\
+    x carry 0 -> accepted 0.8\n\
+    x request 0 1 1 0 0 0 0 -> ok 0.9\n\
+    x carry 0 -> accepted 0.9\n\
+    x request 0 1 1 0 0 0 0 -> ok 0.10\n\
+    x carry 0 -> accepted 0.10\n\
+    x request 0 1 1 0 0 0 0 -> ok 0.11\n\
+    x carry 0 -> accepted 0.11\n\
+    x request 0 1 1 0 0 0 0 -> ok 0.12\n\
+    x carry 0 -> accepted 0.12\n\
+    x request 0 1 1 0 0 0 0 -> ok 0.13\n\
+    x carry 0 -> accepted 0.13\n\
+    x request 0 1 1 0 0 0 0 -> ok 0.14\n\
+    x carry 0 -> accepted 0.14\n\
+    x request 0 1 1 0 0 0 0 -> ok 0.15\n\
+    x carry 0 -> accepted 0.15\n\
+    x request 0 1 1 0 0 0 0 -> ok 0.16\n\
+    x carry 0 -> accepted 0.16\n\
+    x request 0 2 1 0 0 0 0 -> ok 0.17\n\
+    x carry 0 -> accepted 0.17\n\
+    x request 0 2 1 0 0 0 0 -> ok 0.18\n\
+    x carry 0 -> accepted 0.18\n\
+    x request 0 2 1 0 0 0 0 -> ok 0.19\n\
+    x carry 0 -> accepted 0.19\n\
+    x request 0 2 1 0 0 0 0 -> ok 0.20\n\
+    x carry 0 -> accepted 0.20\n\
+    x request 0 2 1 0 0 0 0 -> ok 0.21\n\
+    x carry 0 -> accepted 0.21\n\
+    x request 0 2 1 0 0 0 0 -> ok 0.22\n\
+    x carry 0 -> accepted 0.22\n\
+    x request 0 2 1 0 0 0 0 -> ok 0.23\n\
+    x carry 0 -> accepted 0.23\n\
+    x request 0 2 1 0 0 0 0 -> ok 0.24\n\
+    x carry 0 -> accepted 0.24\n\
+    x request 0 3 1 0 0 0 0 -> ok 0.25\n\
+    x carry 0 -> accepted 0.25\n\
+    x request 0 3 1 0 0 0 0 -> ok 0.26\n\
+    x carry 0 -> accepted 0.26\n\
+    x request 0 3 1 0 0 0 0 -> ok 0.27\n\
+    x carry 0 -> accepted 0.27\n\
+    x request 0 3 1 0 0 0 0 -> ok 0.28\n\
+    x carry 0 -> accepted 0.28\n\
+    x request 0 3 1 0 0 0 0 -> ok 0.29\n\
+    x carry 0 -> accepted 0.29\n\
+    x request 0 3 1 0 0 0 0 -> ok 0.30\n\
+    x carry 0 -> accepted 0.30\n\
+    x request 0 3 1 0 0 0 0 -> ok 0.31\n\
+    x carry 0 -> accepted 0.31\n\
+    x request 0 3 1 0 0 0 0 -> ok 0.32\n\
+    x carry 0 -> accepted 0.32\n\
+    x request 0 4 1 0 0 0 0 -> refused table-full\n\
+    x request 0 0 1 0 0 0 0 -> refused no-credit\n\
+    x unmap 0 0 -> refused outstanding 8\n\
+    x unmap 0 4 -> ok\n\
+    x unmap 0 4 -> refused not-mapped\n\
+    x map 0 16 1 7 1 -> refused bad-index\n\
+    endpoint 0 runs 0\n\
+    endpoint 1 runs 0\n\
+    endpoint 2 runs 0\n\
+    messages 32\n\
+    fate 0.1 request pending\n\
+    fate 0.2 request pending\n\
+    fate 0.3 request pending\n\
+    fate 0.4 request pending\n\
+    fate 0.5 request pending\n\
+    fate 0.6 request pending\n\
+    fate 0.7 request pending\n\
+    fate 0.8 request pending\n\
+    fate 0.9 request pending\n\
+    fate 0.10 request pending\n\
+    fate 0.11 request pending\n\
+    fate 0.12 request pending\n\
+    fate 0.13 request pending\n\
+    fate 0.14 request pending\n\
+    fate 0.15 request pending\n\
+    fate 0.16 request pending\n\
+    fate 0.17 request pending\n\
+    fate 0.18 request pending\n\
+    fate 0.19 request pending\n\
+    fate 0.20 request pending\n\
+    fate 0.21 request pending\n\
+    fate 0.22 request pending\n\
+    fate 0.23 request pending\n\
+    fate 0.24 request pending\n\
+    fate 0.25 request pending\n\
+    fate 0.26 request pending\n\
+    fate 0.27 request pending\n\
+    fate 0.28 request pending\n\
+    fate 0.29 request pending\n\
+    fate 0.30 request pending\n\
+    fate 0.31 request pending\n\
+    fate 0.32 request pending\n\
+    totals ran 0 returned 0 unknown 0 unknown-but-ran 0 pending 32\n";
+
+pub const LOG_JUST_LARGE_ENOUGH: &str = "am2 1\n\
+    network direct\n\
+    nodes 1\n\
+    log 3\n\
+    endpoint 0 0 5\n\
+    x poll 0\n\
+    x poll 0\n\
+    x poll 0\n";
+
+pub const LOG_JUST_LARGE_ENOUGH_REPORT: &str = "am2 report 1\n\
+    entries 3\n\
+    x poll 0 -> empty\n\
+    x poll 0 -> empty\n\
+    x poll 0 -> empty\n\
+    endpoint 0 runs 0\n\
+    messages 0\n\
+    totals ran 0 returned 0 unknown 0 unknown-but-ran 0 pending 0\n";
+
+pub const NO_MORE_MESSAGE: &str = "am2 1\n\
+    network direct\n\
+    nodes 1\n\
+    bounces 0\n\
+    endpoint 0 0 5\n\
+    endpoint 1 0 7\n\
+    x handler 1 1 note\n\
+    x map 0 0 1 7 8\n\
+    x map 0 1 1 7 8\n\
+    x map 0 2 1 7 8\n\
+    x request 0 0 1 0 0 0 0\n\
+    x carry 0\n\
+    x request 0 0 1 0 0 0 0\n\
+    x carry 0\n\
+    x request 0 0 1 0 0 0 0\n\
+    x carry 0\n\
+    x request 0 0 1 0 0 0 0\n\
+    x carry 0\n\
+    x request 0 0 1 0 0 0 0\n\
+    x carry 0\n\
+    x request 0 0 1 0 0 0 0\n\
+    x carry 0\n\
+    x request 0 0 1 0 0 0 0\n\
+    x carry 0\n\
+    x request 0 0 1 0 0 0 0\n\
+    x carry 0\n\
+    x request 0 1 1 0 0 0 0\n\
+    x carry 0\n\
+    x request 0 1 1 0 0 0 0\n\
+    x carry 0\n\
+    x request 0 1 1 0 0 0 0\n\
+    x carry 0\n\
+    x request 0 1 1 0 0 0 0\n\
+    x carry 0\n\
+    x request 0 1 1 0 0 0 0\n\
+    x carry 0\n\
+    x request 0 1 1 0 0 0 0\n\
+    x carry 0\n\
+    x request 0 1 1 0 0 0 0\n\
+    x carry 0\n\
+    x request 0 1 1 0 0 0 0\n\
+    x carry 0\n\
+    x request 0 2 1 0 0 0 0\n\
+    x carry 0\n\
+    x carry 0\n";

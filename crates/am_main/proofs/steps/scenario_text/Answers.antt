@@ -5,7 +5,7 @@ use Rattle.am_follow.specs.Layout.{events_of, layout_of}
 use Rattle.am_follow.proofs.Lawful.{steps_in_range}
 use Rattle.am_laws_steps.specs.Laws.{AreInRange}
 use Rattle.am_model.specs.Layout.{Layout}
-use Rattle.am_main.proofs.steps.direct_text.Goals as goal
+use Rattle.am_main.proofs.steps.scenario_text.Goals as goal
 
 pub make_steps-requires-clause-in_range : goal.make_steps-requires-clause-in_range
 make_steps-requires-clause-in_range c =
