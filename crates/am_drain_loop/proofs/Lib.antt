@@ -1,0 +1,5 @@
+pub mod Acting
+pub mod Ranges
+pub mod Finding
+pub mod Planned
+pub mod PageIns
