@@ -4,3 +4,4 @@ pub mod Walking
 pub mod Counted
 pub mod Gone
 pub mod Marked
+pub mod Copying

@@ -2,3 +2,4 @@ pub mod Views
 pub mod Kept
 pub mod Moves
 pub mod Walks
+pub mod Parts

@@ -4,7 +4,9 @@
 ghost use Rattle.am_model.specs.Endpoint.{fresh};
 ghost use Rattle.std.specs.Prelude.{◌≡◌, IfOk};
 
+mod bare;
 mod changes;
+mod copies;
 mod flights;
 mod held;
 mod moves;

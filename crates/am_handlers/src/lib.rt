@@ -57,6 +57,25 @@ impl Handlers {
         Handlers { kinds: [None; 16] }
     }
 
+    /// The table with these kinds, for the 16 indexes from 0 on.
+    pub fn restored(kinds: &[Option<HandlerKind>]) -> Handlers
+        requires { IsTable kinds.now }
+        ensures value { result ≡ kinds.now }
+        ensures table { IsTable result }
+    {
+        let mut table = [None; 16];
+        table.copy_from_slice(kinds);
+        Handlers { kinds: table }
+    }
+
+    /// The kinds of the 16 handlers, from index 0 on.
+    pub fn kinds(&self) -> &[Option<HandlerKind>]
+        ensures value { result.now ≡ self.now }
+        ensures table { IsTable self.now }
+    {
+        &self.kinds
+    }
+
     /// The kind of a handler.
     pub fn get(&self, index: u8) -> Option<HandlerKind>
         ensures value { result ≡ entry_at self.now index }

@@ -28,6 +28,7 @@ ghost use Rattle.am_translate.specs.Tables.{
 ghost use Rattle.std.specs.Prelude.{◌≡◌, ◌≤◌, ◌<◌, ◌↔◌, length, true, false, None, Some, IfOk, IsErr, OnErr, OnOk, slice_get, sum_by};
 ghost use Rattle.std.specs.Result.{result_err};
 
+mod parts;
 mod records;
 
 use crate::records::{Records, answered_place, waiting_place};

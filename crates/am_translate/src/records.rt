@@ -47,6 +47,17 @@ impl Records {
         }
     }
 
+    /// These records, in their order.
+    pub(crate) fn from_slice(awaited: &[Awaited]) -> Records
+        requires { length awaited.now ≤ 32 }
+        ensures { result ≡ awaited.now }
+    {
+        let count = awaited.len();
+        let mut places = [BLANK; 32];
+        places[..count].copy_from_slice(awaited);
+        Records { places, count }
+    }
+
     pub(crate) fn as_slice(&self) -> &[Awaited]
         ensures items { result.now ≡ self.now }
         ensures few { length result.now ≤ 32 }
