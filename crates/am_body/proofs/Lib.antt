@@ -4,3 +4,5 @@ pub mod Walking
 pub mod Counted
 pub mod Gone
 pub mod Marked
+pub mod Refused
+pub mod Slots

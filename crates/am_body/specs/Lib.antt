@@ -2,3 +2,5 @@ pub mod Views
 pub mod Kept
 pub mod Moves
 pub mod Walks
+pub mod Refusals
+pub mod Replies

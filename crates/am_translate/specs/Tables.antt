@@ -8,7 +8,7 @@ use Rattle.am_model.specs.declared.Awaited.{Awaited}
 use Rattle.am_model.specs.declared.Mapping.{Mapping}
 use Rattle.am_model.specs.Choice.{first_holding}
 use Rattle.am_model.specs.Endpoint.{Body, entry_at, fresh, waits_for}
-use Rattle.am_model.specs.Calls.{records_at, has_no_credit, is_over_share, shares}
+use Rattle.am_model.specs.Calls.{records_at as records_of, has_no_credit, is_over_share, shares}
 use Rattle.am_model.specs.Changes.{is_of}
 use Rattle.am_model.specs.Valid.{has_arrived, is_mapping_in_range}
 use Rattle.am_translate.specs.declared.Target.{Target}
@@ -35,7 +35,7 @@ body_with t = record (fresh (record { 0 = 0 }) Host).body { mapped = t.mapped; a
 
 -- how many records an index has
 abbrev pub records_at : Table → ℕ → ℕ
-records_at t index = records_at (body_with t) index
+records_at t index = records_of (body_with t) index
 
 -- what keeps an index from being mapped with this share
 abbrev pub map_fault : Table → ℕ → ℕ → Option MapFault
