@@ -5,3 +5,5 @@ pub mod Counted
 pub mod Gone
 pub mod Marked
 pub mod Copying
+pub mod Refused
+pub mod Slots

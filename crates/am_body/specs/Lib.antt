@@ -3,3 +3,5 @@ pub mod Kept
 pub mod Moves
 pub mod Walks
 pub mod Parts
+pub mod Refusals
+pub mod Replies

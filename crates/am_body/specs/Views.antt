@@ -1,5 +1,5 @@
 -- What contracts see of a body, and how the descriptors of a block are seen as lists of messages.
-use Rattle.std.specs.Prelude.{ℕ, ◌+◌, false, Option, None, List, map, length, slice_index_or}
+use Rattle.std.specs.Prelude.{ℕ, ◌+◌, ◌≤◌, false, Option, None, List, map, length, slice_index_or}
 use Rattle.am_names.specs.declared.Message.{Message}
 use Rattle.am_names.specs.declared.MsgKind.TheVariants.{Empty}
 use Rattle.am_names.specs.declared.Tag.{Tag}
@@ -79,6 +79,14 @@ body_over tag sum accepted table handlers p =
 -- how many slots hold a message
 abbrev pub slots_held : Body → ℕ
 slots_held b = messages_held b + length b.received
+
+-- each message of the body has a slot of its own
+abbrev pub Fits : Body → Type 0
+Fits b = slots_held b ≤ 80
+
+-- the translation table of a body
+abbrev pub table_of : View → Table
+table_of v = record { pool = v.pool; mapped = v.body.mapped; awaited = v.body.awaited }
 
 -- an endpoint on the host that has this body
 abbrev pub on_host : Body → State

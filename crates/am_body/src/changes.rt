@@ -1,5 +1,5 @@
 // What arrivals, runs and answers make of a body.
-ghost use Rattle.am_body.specs.Views.{on_host, slots_held};
+ghost use Rattle.am_body.specs.Views.{Fits, on_host, slots_held};
 ghost use Rattle.am_model.specs.Changes.{answer_ran, noticed, put, request_ran, requeued_flight, returned_flight};
 ghost use Rattle.std.specs.Prelude.{◌≡◌, ◌+◌, ◌<◌, ◌^◌};
 
@@ -59,7 +59,7 @@ impl Body {
 
     /// A message that was in flight, if there was one, goes back to its queue, having bounced so often.
     pub fn requeue_flight(&mut self, flight: Option<Flying>, bounces: u8)
-        requires { slots_held self.old.body < 80 }
+        requires { Fits (requeued_flight flight bounces self.old.body) }
         ensures { self.new ≡ record self.old { body = requeued_flight flight bounces self.old.body } }
     {
         match flight {
@@ -71,7 +71,7 @@ impl Body {
     /// A message that was in flight, if there was one, comes back, for this reason, and the waiting record of the
     /// request with this serial, if there is one, goes.
     pub fn return_flight(&mut self, serial: Serial, flight: Option<Flying>, why: Why)
-        requires { slots_held self.old.body < 80 }
+        requires { Fits (returned_flight serial flight why self.old.body) }
         ensures { self.new ≡ record self.old { body = returned_flight serial flight why self.old.body } }
     {
         self.give_up(serial);

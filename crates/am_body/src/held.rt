@@ -1,11 +1,14 @@
 // What an endpoint holds, in numbers.
-ghost use Rattle.am_model.specs.Calls.{messages_held};
+ghost use Rattle.am_body.specs.Views.{on_host};
+ghost use Rattle.am_model.specs.Calls.{busy_refusal, messages_held};
+ghost use Rattle.am_model.specs.Changes.{has_arrivals, has_queued};
 ghost use Rattle.am_model.specs.Endpoint.{replies_held, requests_held};
 ghost use Rattle.std.specs.Prelude.{◌≡◌, ◌+◌, ◌≤◌};
 
 use crate::Body;
 use crate::walks::{Sought, count};
 use am_block::List;
+use am_office::Refusal;
 
 impl Body {
     /// How many messages of its own are queued, in flight or noticed.
@@ -38,5 +41,38 @@ impl Body {
         let flying = count(&self.block, List::InFlight, Sought::Answer);
         let back = count(&self.block, List::Notices, Sought::Answer);
         queued + flying + back
+    }
+
+    /// Whether a message of its own is queued.
+    pub fn has_queued(&self) -> bool
+        ensures { result ≡ has_queued self.now.body }
+    {
+        self.block.len(List::Requests) != 0 || self.block.len(List::Replies) != 0
+    }
+
+    /// Whether a notice or a received message is there.
+    pub fn has_arrivals(&self) -> bool
+        ensures { result ≡ has_arrivals self.now.body }
+    {
+        self.block.len(List::Notices) != 0 || self.block.len(List::Received) != 0
+    }
+
+    /// What keeps an endpoint from a change for which it has to be idle: `Held`, with what it has received, its own
+    /// messages and its records, where it has any.
+    pub fn busy_refusal(&self) -> Option<Refusal>
+        ensures { result ≡ busy_refusal (on_host self.now.body) }
+    {
+        let received = self.received_len();
+        let messages = self.messages_held();
+        let outstanding = self.outstanding();
+        if received == 0 && messages == 0 && outstanding == 0 {
+            None
+        } else {
+            Some(Refusal::Held {
+                received,
+                messages,
+                outstanding,
+            })
+        }
     }
 }

@@ -12,7 +12,8 @@ use am_block::{Descriptor, List};
 use am_model::Queued;
 use am_names::{Message, MsgKind, Why};
 
-pub(crate) fn is_request(message: &Message) -> bool
+/// Whether the message is a request.
+pub fn is_request(message: &Message) -> bool
     ensures { result ≡ is_request message.now }
 {
     match message.kind {

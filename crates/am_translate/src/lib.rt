@@ -31,7 +31,7 @@ ghost use Rattle.std.specs.Result.{result_err};
 mod parts;
 mod records;
 
-use crate::records::{Records, answered_place, waiting_place};
+use crate::records::{Records, answered_place, some_waits, waiting_place};
 pub use am_model::Awaited as Held;
 use am_model::{Awaited, Mapping};
 use am_names::{EndpointId, Serial, Tag};
@@ -154,6 +154,13 @@ impl Translate {
         ensures none { (result ≡ None) ↔ (length self.now.awaited ≤ place) }
     {
         self.awaited.as_slice().get(place as usize).copied()
+    }
+
+    /// Whether the reply to a request is awaited: its record waits.
+    pub fn is_waiting(&self, request: Serial) -> bool
+        ensures { result ≡ is_waiting self.now request }
+    {
+        some_waits(self.awaited.as_slice(), request)
     }
 }
 

@@ -3,6 +3,7 @@ ghost use Rattle.am_model.specs.Changes.{arrived};
 ghost use Rattle.am_model.specs.Endpoint.{waits_for};
 ghost use Rattle.am_model.specs.Valid.{has_arrived};
 ghost use Rattle.am_names.specs.Names.{same_serial};
+ghost use Rattle.std.specs.List.{list_any};
 ghost use Rattle.std.specs.Prelude.{◌≡◌, ◌<◌, ◌≤◌, [], ◌∷◌, ◌++◌, length, map, position, remove};
 
 use am_model::Awaited;
@@ -104,6 +105,15 @@ pub(crate) fn waiting_place(awaited: &[Awaited], request: Serial) -> Option<usiz
     awaited
         .iter()
         .position(|a| same_serial(request, a.serial) && !a.arrived)
+}
+
+/// Whether some record of a request waits.
+pub(crate) fn some_waits(awaited: &[Awaited], request: Serial) -> bool
+    ensures { result ≡ list_any (waits_for request) awaited.now }
+{
+    awaited
+        .iter()
+        .any(|a| same_serial(request, a.serial) && !a.arrived)
 }
 
 /// The place of the record of a request whose reply has arrived.

@@ -3,10 +3,9 @@ use Rattle.am_model.specs.Changes.{without_waiting}
 use Rattle.am_translate.specs.Tables.{Table}
 use Rattle.am_body.specs.Kept.{view_of}
 use Rattle.am_body.specs.Views.{View}
-use Rattle.am_body.proofs.Gone.{record_gone}
 use Rattle.am_body.proofs.Body.give_up.Goals as goal
 
 pub returns : goal.returns
 returns c =
-    ap (λ (t : Table). view_of (record c.self.inside { translate = t })) (record_gone c.self.inside.translate c.give_up.new.self c.args.request c.give_up.result c.give_up.ensures.ok c.give_up.ensures.err c.give_up.ensures.no_request)
+    ap (λ (t : Table). view_of (record c.self.inside { translate = t })) c.drop_waiting.ensures.gone
     ∙ ap (λ (v : View). record v { body = record v.body { awaited = without_waiting c.args.request v.body.awaited } }) c.self.view_is

@@ -1,0 +1,120 @@
+// The requests that an endpoint makes.
+ghost use Rattle.am_body.specs.Refusals.{of_credit};
+ghost use Rattle.am_body.specs.Views.{on_host, table_of};
+ghost use Rattle.am_model.specs.Calls.{new_request, new_serial, request_refusal};
+ghost use Rattle.am_model.specs.Changes.{request_accepted};
+ghost use Rattle.am_model.specs.Endpoint.{IsWithin, entry_at};
+ghost use Rattle.am_office.specs.declared.Outcome.TheVariants as Out;
+ghost use Rattle.am_translate.specs.Tables.{credit_fault, is_known, target_at};
+ghost use Rattle.std.specs.Prelude.{◌≡◌, ◌+◌, ◌<◌, ◌^◌, [], ◌∷◌, ◌++◌, IfOk, None, OnErr, OnOk, Some, false};
+ghost use Rattle.std.specs.Result.{result_err};
+
+use crate::Body;
+use am_names::{EndpointId, Message, MsgKind, Serial, Words};
+use am_office::Refusal;
+use am_translate::{CreditFault, Target};
+
+fn of_credit(fault: CreditFault) -> Refusal
+    ensures { result ≡ of_credit fault }
+{
+    match fault {
+        CreditFault::BadIndex => Refusal::BadIndex,
+        CreditFault::NotMapped => Refusal::NotMapped,
+        CreditFault::NoCredit => Refusal::NoCredit,
+        CreditFault::TableFull => Refusal::TableFull,
+    }
+}
+
+impl Body {
+    /// The serial of the next message that the endpoint `e`, whose body this is, accepts.
+    pub fn new_serial(&self, e: EndpointId) -> Serial
+        requires { self.now.body.accepted + 1 < 2 ^ 32 }
+        ensures { result ≡ new_serial e (on_host self.now.body) }
+    {
+        Serial {
+            source: e,
+            count: self.accepted + 1,
+        }
+    }
+
+    /// Why no request can be made by an index: the first that holds of `OwnTagNone`, `BadIndex`, `NotMapped`, `NoCredit`,
+    /// `TableFull` and `SendFull`.
+    pub fn request_refusal(&self, index: u8) -> Option<Refusal>
+        ensures { result ≡ request_refusal self.now.pool (on_host self.now.body) index }
+    {
+        if self.is_tagless() {
+            return Some(Refusal::OwnTagNone);
+        }
+        match self.translate.can_take(index) {
+            Err(fault) => Some(of_credit(fault)),
+            Ok(_) => if self.requests_held() >= 16 {
+                Some(Refusal::SendFull)
+            } else {
+                None
+            },
+        }
+    }
+
+    /// Takes a credit of an index for a request that has no record yet: its record waits from now on. Tells where the
+    /// request goes. After a fault the body is as it was.
+    pub fn take_credit(&mut self, index: u8, request: Serial) -> Result<Target, CreditFault>
+        requires { is_known (table_of self.old) request ≡ false }
+        ensures fault { result_err result ≡ credit_fault (table_of self.old) index }
+        ensures target { IfOk result (λ target. target_at (table_of self.old) index ≡ Some target) }
+        ensures ok { OnOk result (self.new ≡ record self.old { body = record self.old.body { awaited = self.old.body.awaited ++ record { index = index; serial = request; arrived = false } ∷ [] } }) }
+        ensures err { OnErr result (self.new ≡ self.old) }
+    {
+        self.translate.take_credit(index, request)
+    }
+
+    /// One more message is accepted.
+    fn accept_next(&mut self)
+        requires { self.old.body.accepted + 1 < 2 ^ 32 }
+        ensures { self.new ≡ record self.old { body = record self.old.body { accepted = self.old.body.accepted + 1 } } }
+    {
+        self.accepted += 1;
+    }
+
+    /// Makes a request by an index, from the endpoint `e`, whose body this is. The refusal is that of `request_refusal`;
+    /// then the body is as it was.
+    pub fn request(
+        &mut self,
+        e: EndpointId,
+        index: u8,
+        handler: u8,
+        words: Words,
+    ) -> Result<Message, Refusal>
+        requires count { self.old.body.accepted + 1 < 2 ^ 32 }
+        requires unknown { is_known (table_of self.old) (new_serial e (on_host self.old.body)) ≡ false }
+        requires within { IsWithin self.old.body }
+        ensures refusal { result_err result ≡ request_refusal self.old.pool (on_host self.old.body) index }
+        ensures message { IfOk result (λ m. new_request e (on_host self.old.body) (entry_at self.old.body.mapped index) handler words ≡ Out.Requested m) }
+        ensures ok { IfOk result (λ m. self.new ≡ record self.old { body = (request_accepted index m (on_host self.old.body)).body }) }
+        ensures err { OnErr result (self.new ≡ self.old) }
+    {
+        match self.request_refusal(index) {
+            Some(refusal) => return Err(refusal),
+            None => {}
+        }
+        let serial = self.new_serial(e);
+        let reply_tag = self.tag;
+        match self.take_credit(index, serial) {
+            Err(fault) => Err(of_credit(fault)),
+            Ok(target) => {
+                let message = Message {
+                    serial,
+                    kind: MsgKind::Request,
+                    dest: target.name,
+                    tag: target.tag,
+                    reply_tag,
+                    handler,
+                    words,
+                    about: None,
+                };
+                self.accept_next();
+                self.queue(message, 0);
+                Ok(message)
+            }
+        }
+    }
+}
