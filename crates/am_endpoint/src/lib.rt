@@ -174,10 +174,9 @@ impl Endpoint {
 
     /// Whether a message with this serial is in flight.
     pub fn in_flight(&self, serial: Serial) -> bool
-        requires { is_on_disk (state_after self.now).head.place ≡ false }
         ensures { result ≡ is_some (flying_of serial (state_after self.now).body.in_flight) }
     {
-        self.fields.flight(serial).is_some()
+        self.flight(serial).is_some()
     }
 
     /// The message in flight with this serial, how often it bounced and whether its reply was put. None exactly where no
