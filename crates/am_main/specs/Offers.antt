@@ -106,8 +106,13 @@ pub record TellsFullLog (old new : Option (List ℕ)) (bytes : List ℕ) : Type 
   pub stops : IsStopped scenario (LogFull part)
   pub given : Appends old new (full_line part)
 
--- The status and the whole text are those that the bytes ask for, unless memory ran out.
+-- the status is one that the text asks for: the report, a refused text or step, a full log
+abbrev pub IsOfText : ℕ → Type 0
+IsOfText status = (status ≡ 0) ⊎ ((status ≡ 3) ⊎ (status ≡ 6))
+
+-- The status and the whole text are those that the bytes ask for, unless there are too many bytes or memory ran out.
 abbrev pub Completes : ℕ → ℕ → Option (List ℕ) → Option (List ℕ) → Option (List ℕ) → Type 0
 Completes most status left old new =
-    (status ≡ 8)
-    ⊎ Finds most left (λ bytes. (status ≡ (answer_of (grammar Forms.Step bytes)).status) × Appends old new (answer_of (grammar Forms.Step bytes)).text)
+    (status ≡ 7)
+    ⊎ ((status ≡ 8)
+    ⊎ Finds most left (λ bytes. (status ≡ (answer_of (grammar Forms.Step bytes)).status) × Appends old new (answer_of (grammar Forms.Step bytes)).text))

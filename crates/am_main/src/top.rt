@@ -4,7 +4,7 @@ ghost use Rattle.std.specs.Prelude.{codes, ◌≡◌, ◌≢◌, ◌≤◌, map,
 ghost use Rattle.std.specs.Io.KnownBytes.{Appends};
 ghost use Rattle.am_io.specs.Causes.{Rose};
 ghost use Rattle.am_io.specs.Whole.{IsLonger};
-ghost use Rattle.am_main.specs.Offers.{Completes, Finds, IsAnswered, IsGiven, IsOffered, Refuses, Reports, TellsFullLog, is_step, usage};
+ghost use Rattle.am_main.specs.Offers.{Completes, Finds, IsAnswered, IsGiven, IsOfText, IsOffered, Refuses, Reports, TellsFullLog, is_step, usage};
 
 use crate::steps::step_text;
 use crate::words::{fault_line, fault_status};
@@ -75,6 +75,7 @@ fn step<S: Source, K: Sink>(alloc: Global, source: &mut S, sink: &mut K) -> Stat
     ensures reports { result.number ≡ 0 → Finds MOST_BYTES (S.left source.old) (Reports (K.held sink.old) (K.held sink.new)) }
     ensures refuses { result.number ≡ 3 → Finds MOST_BYTES (S.left source.old) (Refuses (K.held sink.old) (K.held sink.new)) }
     ensures full { result.number ≡ 6 → Finds MOST_BYTES (S.left source.old) (TellsFullLog (K.held sink.old) (K.held sink.new)) }
+    ensures ended { IsOfText result.number → S.has_ended source.new ≡ true }
     ensures read { result.number ≡ 4 → Rose (S.count source.old) (S.count source.new) }
     ensures write { result.number ≡ 5 → Rose (K.count sink.old) (K.count sink.new) }
     ensures long { result.number ≡ 7 → IsLonger (S.left source.old) MOST_BYTES }
@@ -109,10 +110,16 @@ pub fn am2<R: Threads + Sync, S: Source, K: Sink>(
     ensures no_form { is_step (map string_bytes words.now) ≡ false → IsOffered usage result.number (K.held sink.old) (K.held sink.new) }
     ensures usage { result.number ≡ 2 → is_step (map string_bytes words.now) ≡ false }
     ensures usage_text { result.number ≡ 2 → Appends (K.held sink.old) (K.held sink.new) (codes "usage: am2 step\n") }
+    // Wrong words are answered before anything is read.
+    ensures unread { is_step (map string_bytes words.now) ≡ false → S.left source.new ≡ S.left source.old }
+    ensures not_ended { is_step (map string_bytes words.now) ≡ false → S.has_ended source.new ≡ false }
+    ensures not_counted { is_step (map string_bytes words.now) ≡ false → S.count source.new ≡ S.count source.old }
     // Else a read failed, the bytes are too many, memory ran out, or the answer is offered that the bytes ask for.
     ensures given { is_step (map string_bytes words.now) ≡ true → IsAnswered MOST_BYTES (S.left source.old) (S.count source.old) (S.count source.new) result.number (K.held sink.old) (K.held sink.new) }
-    // Where no read and no write fails and the bytes aren't too many, the answer is given whole, unless memory runs out.
-    ensures complete { is_step (map string_bytes words.now) ≡ true → (Rose (S.count source.old) (S.count source.new) → ⊥) → (Rose (K.count sink.old) (K.count sink.new) → ⊥) → (IsLonger (S.left source.old) MOST_BYTES → ⊥) → Completes MOST_BYTES result.number (S.left source.old) (K.held sink.old) (K.held sink.new) }
+    // Where no read and no write fails, the answer is given whole, unless the bytes are too many or memory runs out.
+    ensures complete { is_step (map string_bytes words.now) ≡ true → (Rose (S.count source.old) (S.count source.new) → ⊥) → (Rose (K.count sink.old) (K.count sink.new) → ⊥) → Completes MOST_BYTES result.number (S.left source.old) (K.held sink.old) (K.held sink.new) }
+    // Where the text is answered, the source was read to its end.
+    ensures ended { IsOfText result.number → S.has_ended source.new ≡ true }
     // The bytes spell no scenario or have a step that isn't enabled; a step finds a log full.
     ensures refuses { result.number ≡ 3 → Finds MOST_BYTES (S.left source.old) (Refuses (K.held sink.old) (K.held sink.new)) }
     ensures full { result.number ≡ 6 → Finds MOST_BYTES (S.left source.old) (TellsFullLog (K.held sink.old) (K.held sink.new)) }
