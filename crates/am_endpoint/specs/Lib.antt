@@ -1,4 +1,7 @@
 pub mod Settings
 pub mod View
 pub mod Seen
+pub mod Events
+pub mod Done
+pub mod Flights
 pub mod Kept

@@ -3,7 +3,7 @@ use Rattle.std.specs.Prelude.{ℕ, ◌-◌, Bool, Option, None, Some, List, leng
 use Rattle.am_office.specs.declared.Entry.{Entry}
 use Rattle.am_model.specs.Endpoint.{State, fresh}
 use Rattle.am_model.specs.Changes.{replay}
-use Rattle.am_endpoint.specs.declared.settings.EndSettings.{EndSettings}
+use Rattle.am_body.specs.declared.settings.EndSettings.{EndSettings}
 
 pub record EndpointView : Type 0 where
   pub settings : EndSettings

@@ -1,31 +1,19 @@
 // What it makes of the state of an endpoint that its front message leaves.
-ghost use Rattle.am_endpoint.specs.Seen.{HasRoom, state_in};
-ghost use Rattle.am_model.specs.Changes.{bound, bounces_of, carried, left, noticed, reached, with_body, without_front};
-ghost use Rattle.std.specs.Prelude.{◌≡◌, ◌<◌, vec_len, vec_capacity};
+ghost use Rattle.am_body.specs.Views.{Fits};
+ghost use Rattle.am_endpoint.specs.Seen.{state_in};
+ghost use Rattle.am_endpoint.specs.Flights.{in_the_air};
+ghost use Rattle.am_model.specs.Changes.{bounces_of, bound, carried, left, noticed, put, queued, reached, with_body, without_front};
+ghost use Rattle.am_names.specs.Names.{same_end};
+ghost use Rattle.std.specs.Prelude.{◌≡◌, cond};
 
-use crate::changes::drop_waiting;
 use crate::fields::Fields;
-use am_model::{Flying, Notice};
 use am_names::{EndpointId, Message, Why};
 use am_office::Outcome;
 
 impl Fields {
-    /// The front message leaves its queue.
-    fn drop_front(&mut self)
-        ensures state { state_in self.new ≡ with_body (state_in self.old) (without_front (state_in self.old).body) }
-        ensures room { HasRoom self.old → HasRoom self.new }
-        ensures received { self.new.received ≡ self.old.received }
-    {
-        if !self.replies.is_empty() {
-            let _ = self.replies.remove(0);
-        } else if !self.requests.is_empty() {
-            let _ = self.requests.remove(0);
-        }
-    }
-
     /// How often the front message bounced.
     fn front_bounces(&self) -> u8
-        ensures { result ≡ bounces_of (state_in self.now).body.replies (state_in self.now).body.requests }
+        ensures { result ≡ bounces_of self.now.body.body.replies self.now.body.body.requests }
     {
         match self.front() {
             None => 0,
@@ -33,47 +21,77 @@ impl Fields {
         }
     }
 
-    /// A message comes back.
-    fn notice(&mut self, m: Message, bounces: u8, why: Why)
-        requires { vec_len self.old.notices < vec_capacity self.old.notices }
-        ensures state { state_in self.new ≡ with_body (state_in self.old) (noticed m bounces why (state_in self.old).body) }
-        ensures received { self.new.received ≡ self.old.received }
+    /// A message arrives and is accepted.
+    pub fn put(&mut self, m: Message)
+        requires { Fits (put m (state_in self.old)).body }
+        ensures state { state_in self.new ≡ put m (state_in self.old) }
+        ensures pool { self.new.body.pool ≡ self.old.body.pool }
     {
-        drop_waiting(&mut self.awaited, m.serial);
-        self.notices
-            .push(Notice {
-                message: m,
-                bounces,
-                why,
-            })
-            .unwrap();
+        self.body.put(m);
+    }
+
+    /// The front message goes to the tail of its queue, having bounced so often.
+    fn requeue_front(&mut self, message: Message, bounces: u8)
+        requires { Fits (queued message bounces (without_front self.old.body.body)) }
+        ensures state { state_in self.new ≡ with_body (state_in self.old) (queued message bounces (without_front self.old.body.body)) }
+        ensures pool { self.new.body.pool ≡ self.old.body.pool }
+    {
+        self.body.drop_front();
+        self.body.queue(message, bounces);
+    }
+
+    /// The front message comes back, for this reason.
+    fn return_front(&mut self, message: Message, why: Why)
+        requires { Fits (noticed message (bounces_of self.old.body.body.replies self.old.body.body.requests) why (without_front self.old.body.body)) }
+        ensures state { state_in self.new ≡ with_body (state_in self.old) (noticed message (bounces_of self.old.body.body.replies self.old.body.body.requests) why (without_front self.old.body.body)) }
+        ensures pool { self.new.body.pool ≡ self.old.body.pool }
+    {
+        let bounces = self.front_bounces();
+        self.body.drop_front();
+        self.body.come_back(message, bounces, why);
+    }
+
+    /// The front message is in flight.
+    fn fly_front(&mut self, message: Message)
+        requires { Fits (in_the_air message self.old.body.body) }
+        ensures state { state_in self.new ≡ with_body (state_in self.old) (in_the_air message self.old.body.body) }
+        ensures pool { self.new.body.pool ≡ self.old.body.pool }
+    {
+        let bounces = self.front_bounces();
+        self.body.drop_front();
+        self.body.add_flight(message, bounces);
     }
 
     /// The source after a carry with this outcome.
     fn leave(&mut self, outcome: Outcome)
-        requires { HasRoom self.old }
+        requires { Fits (left (state_in self.old) outcome).body }
         ensures state { state_in self.new ≡ left (state_in self.old) outcome }
-        ensures received { self.new.received ≡ self.old.received }
+        ensures pool { self.new.body.pool ≡ self.old.body.pool }
     {
         match outcome {
-            Outcome::Accepted(_) => self.drop_front(),
-            Outcome::Requeued { message, used, .. } => {
-                self.drop_front();
-                self.queue(message, used);
-            }
-            Outcome::Returned { message, cause } => {
-                let bounces = self.front_bounces();
-                self.drop_front();
-                self.notice(message, bounces, Why::Refused(cause));
-            }
+            Outcome::Accepted(_) => self.body.drop_front(),
+            Outcome::Requeued { message, used, .. } => self.requeue_front(message, used),
+            Outcome::Returned { message, cause } => self.return_front(message, Why::Refused(cause)),
             _ => {}
+        }
+    }
+
+    /// The endpoint `e` after a carry from `from` with this outcome, but for what reaches it.
+    fn leave_from(&mut self, e: EndpointId, from: EndpointId, outcome: Outcome)
+        requires { Fits (cond (same_end e from) (left (state_in self.old) outcome) (state_in self.old)).body }
+        ensures state { state_in self.new ≡ cond (same_end e from) (left (state_in self.old) outcome) (state_in self.old) }
+        ensures pool { self.new.body.pool ≡ self.old.body.pool }
+    {
+        if e.0 == from.0 {
+            self.leave(outcome);
         }
     }
 
     /// The destination after a carry with this outcome.
     fn reach(&mut self, e: EndpointId, outcome: Outcome)
-        requires { vec_len self.old.received < vec_capacity self.old.received }
-        ensures { state_in self.new ≡ reached e (state_in self.old) outcome }
+        requires { Fits (reached e (state_in self.old) outcome).body }
+        ensures state { state_in self.new ≡ reached e (state_in self.old) outcome }
+        ensures pool { self.new.body.pool ≡ self.old.body.pool }
     {
         match outcome {
             Outcome::Accepted(m) => if e.0 == m.dest.0 {
@@ -85,32 +103,22 @@ impl Fields {
 
     /// After a carry from the endpoint `from` with this outcome.
     pub fn carry(&mut self, e: EndpointId, from: EndpointId, outcome: Outcome)
-        requires { HasRoom self.old }
-        ensures { state_in self.new ≡ carried e from (state_in self.old) outcome }
+        requires { Fits (carried e from (state_in self.old) outcome).body }
+        ensures state { state_in self.new ≡ carried e from (state_in self.old) outcome }
+        ensures pool { self.new.body.pool ≡ self.old.body.pool }
     {
-        if e.0 == from.0 {
-            self.leave(outcome);
-        }
+        self.leave_from(e, from, outcome);
         self.reach(e, outcome);
     }
 
     /// After the front message was bound to a channel.
     pub fn bind(&mut self, outcome: Outcome)
-        requires { HasRoom self.old }
-        ensures { state_in self.new ≡ bound (state_in self.old) outcome }
+        requires { Fits (bound (state_in self.old) outcome).body }
+        ensures state { state_in self.new ≡ bound (state_in self.old) outcome }
+        ensures pool { self.new.body.pool ≡ self.old.body.pool }
     {
         match outcome {
-            Outcome::Sent { message, .. } => {
-                let bounces = self.front_bounces();
-                self.drop_front();
-                self.in_flight
-                    .push(Flying {
-                        message,
-                        bounces,
-                        answered: false,
-                    })
-                    .unwrap();
-            }
+            Outcome::Sent { message, .. } => self.fly_front(message),
             _ => {}
         }
     }

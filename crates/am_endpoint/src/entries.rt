@@ -1,31 +1,22 @@
 // What each entry makes of the state of an endpoint.
-ghost use Rattle.am_endpoint.specs.Seen.{HasRoom, state_in};
+ghost use Rattle.am_body.specs.Views.{Fits};
+ghost use Rattle.am_endpoint.specs.Events.{is_call};
+ghost use Rattle.am_endpoint.specs.Seen.{state_in};
 ghost use Rattle.am_model.specs.Changes.{after, has_arrivals, has_queued, paged_in, paged_out, placed};
-ghost use Rattle.std.specs.Prelude.{◌≡◌, ◌+◌, ◌<◌, ◌^◌, ◌||◌, false};
+ghost use Rattle.std.specs.Prelude.{◌≡◌, ◌||◌, false};
 
 use crate::fields::Fields;
 use am_names::EndpointId;
 use am_office::{Entry, Event, Outcome, Place};
 
 impl Fields {
-    fn has_queued(&self) -> bool
-        ensures { result ≡ has_queued (state_in self.now).body }
-    {
-        !self.requests.is_empty() || !self.replies.is_empty()
-    }
-
-    pub fn has_arrivals(&self) -> bool
-        ensures { result ≡ has_arrivals (state_in self.now).body }
-    {
-        !self.notices.is_empty() || !self.received.is_empty()
-    }
-
     fn page_out(&mut self, outcome: Outcome)
-        ensures { state_in self.new ≡ paged_out (state_in self.old) outcome }
+        ensures body { self.new.body ≡ self.old.body }
+        ensures state { state_in self.new ≡ paged_out (state_in self.old) outcome }
     {
         match outcome {
             Outcome::Done => {
-                self.head.wanted = self.head.wanted || self.has_arrivals();
+                self.head.wanted = self.head.wanted || self.body.has_arrivals();
                 self.head.place = Place::Disk;
             }
             _ => {}
@@ -33,7 +24,8 @@ impl Fields {
     }
 
     fn page_in(&mut self, outcome: Outcome)
-        ensures { state_in self.new ≡ paged_in (state_in self.old) outcome }
+        ensures body { self.new.body ≡ self.old.body }
+        ensures state { state_in self.new ≡ paged_in (state_in self.old) outcome }
     {
         match outcome {
             Outcome::Done => self.head.place = Place::Host,
@@ -42,29 +34,32 @@ impl Fields {
     }
 
     fn unload(&mut self)
-        ensures { state_in self.new ≡ placed (state_in self.old) Place.Host ((state_in self.old).head.wanted || has_queued (state_in self.old).body) (state_in self.old).head.draining }
+        ensures body { self.new.body ≡ self.old.body }
+        ensures state { state_in self.new ≡ placed (state_in self.old) Place.Host ((state_in self.old).head.wanted || has_queued (state_in self.old).body) (state_in self.old).head.draining }
     {
-        self.head.wanted = self.head.wanted || self.has_queued();
+        self.head.wanted = self.head.wanted || self.body.has_queued();
         self.head.place = Place::Host;
     }
 
     fn load(&mut self, frame: u8)
-        ensures { state_in self.new ≡ placed (state_in self.old) (Place.Frame frame) false false }
+        ensures body { self.new.body ≡ self.old.body }
+        ensures state { state_in self.new ≡ placed (state_in self.old) (Place.Frame frame) false false }
     {
         self.head.place = Place::Frame(frame);
         self.head.wanted = false;
         self.head.draining = false;
     }
 
-    /// After an entry that touches it.
+    /// After an entry that touches it and isn't one of a call.
     pub fn apply(&mut self, e: EndpointId, entry: Entry)
-        requires room { HasRoom self.old }
-        requires count { self.old.accepted + 1 < 2 ^ 32 }
-        ensures { state_in self.new ≡ after e (state_in self.old) entry }
+        requires event { is_call entry.event ≡ false }
+        requires fits { Fits (after e (state_in self.old) entry).body }
+        ensures state { state_in self.new ≡ after e (state_in self.old) entry }
+        ensures pool { self.new.body.pool ≡ self.old.body.pool }
     {
         let outcome = entry.outcome;
         match entry.event {
-            Event::Call { call, .. } => self.change(call, outcome),
+            Event::Call { .. } => unreachable!(),
             Event::Want { .. } => self.head.wanted = true,
             Event::Carry { end } => self.carry(e, end, outcome),
             Event::Bind { .. } => self.bind(outcome),

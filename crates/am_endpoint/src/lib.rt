@@ -1,6 +1,7 @@
 //! Endpoints: what each entry makes of their state, and their log.
 #![tactic(auto)]
 
+ghost use Rattle.am_endpoint.specs.Events.{is_call};
 ghost use Rattle.am_endpoint.specs.Settings.{AreLawful};
 ghost use Rattle.am_endpoint.specs.View.{EndpointView, last_stamp, state_after};
 ghost use Rattle.am_model.specs.Allowed.{MayArrive, MayBind, MayCarry, MayDrain, MayLoad, MayPageIn, MayPageOut, MaySettle, MayUnload, are_numbers_in_range, is_well_formed};
@@ -12,7 +13,7 @@ ghost use Rattle.am_names.specs.Names.{is_request};
 ghost use Rattle.std.specs.Prelude.{◌≡◌, ◌+◌, ◌<◌, ◌≤◌, ◌^◌, [], ◌∷◌, ◌++◌, length, count_by, IfOk, OnErr, OnOk, IfSome, Err, is_some, max, true, false, ◌↔◌};
 
 mod arrivals;
-mod changes;
+mod calls;
 mod departures;
 mod entries;
 mod fields;
@@ -20,12 +21,13 @@ mod flights;
 mod settings;
 
 use crate::fields::Fields;
-pub use crate::settings::{EndFault, EndSettings};
+pub use crate::settings::EndFault;
+pub use am_body::{Body, EndSettings};
 use am_model::{Flying, Queued};
 pub use am_names::NoMemory;
 use am_names::{EndpointId, Message, NodeId, Serial, Verdict};
 use am_office::{Actor, Call, Entry, Event, Outcome, Place};
-use std::alloc::{AllocError, Global};
+use std::alloc::Global;
 use std::marker::Model;
 
 /// An endpoint with its log. Contracts see what it began with, its log, and whether it is ready
@@ -56,11 +58,14 @@ impl Endpoint {
         ensures settings { IfOk result (λ end. end.settings ≡ set) }
         ensures log { IfOk result (λ end. end.log ≡ []) }
     {
-        Ok(Endpoint {
-            settings: set,
-            fields: Fields::fresh(alloc, set.tag, set.place),
-            log: Vec::new(alloc),
-        })
+        match Fields::opening(alloc, &set) {
+            Ok(fields) => Ok(Endpoint {
+                settings: set,
+                fields,
+                log: Vec::new(alloc),
+            }),
+            Err(fault) => Err(fault),
+        }
     }
 }
 
@@ -161,7 +166,7 @@ impl Endpoint {
         requires { is_on_disk (state_after self.now).head.place ≡ false }
         ensures { result ≡ has_arrivals (state_after self.now).body }
     {
-        self.fields.has_arrivals()
+        self.fields.body.has_arrivals()
     }
 
     /// How many requests are received and not polled.
@@ -169,7 +174,7 @@ impl Endpoint {
         requires { is_on_disk (state_after self.now).head.place ≡ false }
         ensures { result ≡ count_by is_request (state_after self.now).body.received }
     {
-        self.fields.received_requests() as u8
+        self.fields.body.received_requests()
     }
 
     /// Whether a message with this serial is in flight.
@@ -184,28 +189,18 @@ impl Endpoint {
     pub fn flight(&self, serial: Serial) -> Option<Flying>
         ensures { result ≡ flying_of serial (state_after self.now).body.in_flight }
     {
-        self.fields.flight(serial)
+        self.fields.body.flight(serial)
     }
 
     /// How many messages are in flight.
     pub fn in_flight_len(&self) -> u8
         ensures { result ≡ length (state_after self.now).body.in_flight }
     {
-        self.fields.in_flight.len() as u8
+        self.fields.body.in_flight_len()
     }
 }
 
 impl Endpoint {
-    fn make_room(&mut self) -> Result<(), AllocError>
-        ensures settings { self.new.settings ≡ self.old.settings }
-        ensures log { self.new.log ≡ self.old.log }
-        ensures ok { OnOk result (self.new.ready ≡ true) }
-    {
-        self.log.reserve(1)?;
-        self.fields.make_room()?;
-        Ok(())
-    }
-
     /// Makes room for one more entry, so that the next logged change takes no memory.
     /// Whether it succeeds or not, the endpoint is as it was.
     pub fn room(&mut self) -> Result<(), EndFault>
@@ -218,7 +213,7 @@ impl Endpoint {
         if self.log.len() >= self.settings.log as usize {
             return Err(EndFault::LogFull);
         }
-        match self.make_room() {
+        match self.log.reserve(1) {
             Ok(()) => Ok(()),
             Err(_) => Err(EndFault::NoMemory),
         }
@@ -228,6 +223,7 @@ impl Endpoint {
     fn enter(&mut self, entry: Entry)
         requires ready { self.old.ready ≡ true }
         requires room { length self.old.log < self.old.settings.log }
+        requires event { is_call entry.event ≡ false }
         requires keeps { KeepsOrder self.old.settings.bounces self.old.settings.pool self.old.settings.id (state_after self.old) entry }
         ensures settings { self.new.settings ≡ self.old.settings }
         ensures log { self.new.log ≡ self.old.log ++ entry ∷ [] }
@@ -247,12 +243,26 @@ impl Endpoint {
         1 + floor.max(self.last_stamp())
     }
 
-    /// The outcome of a call at the present state.
-    fn outcome(&self, call: Call) -> Outcome
-        ensures { result ≡ outcome_of_call self.now.settings.pool self.now.settings.id (state_after self.now) call }
+    /// Makes a call, and logs it.
+    fn make(&mut self, stamp: u64, actor: Actor, call: Call) -> Entry
+        requires ready { self.old.ready ≡ true }
+        requires room { length self.old.log < self.old.settings.log }
+        requires numbers { are_numbers_in_range self.old.settings.pool call ≡ true }
+        ensures event { result.event ≡ Event.Call actor self.old.settings.id call }
+        ensures outcome { result.outcome ≡ outcome_of_call self.old.settings.pool self.old.settings.id (state_after self.old) call }
+        ensures stamp { result.stamp ≡ stamp }
+        ensures log { self.new.log ≡ self.old.log ++ result ∷ [] }
+        ensures settings { self.new.settings ≡ self.old.settings }
     {
-        self.fields
-            .outcome(self.settings.pool, self.settings.id, call)
+        let end = self.settings.id;
+        let outcome = self.fields.call(end, call);
+        let made = Entry {
+            stamp,
+            event: Event::Call { actor, end, call },
+            outcome,
+        };
+        self.log.push(made).unwrap();
+        made
     }
 
     /// Makes an application's call, and logs it with its outcome, a refusal included.
@@ -270,17 +280,7 @@ impl Endpoint {
         ensures err { OnErr result (self.new.log ≡ self.old.log) }
     {
         self.room()?;
-        let entry = Entry {
-            stamp: self.next_stamp(floor),
-            event: Event::Call {
-                actor,
-                end: self.settings.id,
-                call,
-            },
-            outcome: self.outcome(call),
-        };
-        self.enter(entry);
-        Ok(entry)
+        Ok(self.make(self.next_stamp(floor), actor, call))
     }
 
     /// What a message that arrives from elsewhere makes of it, by a carry or a receipt that gives

@@ -4,7 +4,7 @@ ghost use Rattle.std.specs.Prelude.{◌≡◌, true};
 
 use super::*;
 use am_names::{MsgKind, Tag, Words};
-use am_office::{HandlerKind, Refusal};
+use am_office::{HandlerKind, Mask, Refusal};
 use std::test::Fail;
 
 const SETTINGS: EndSettings = EndSettings {
@@ -84,6 +84,76 @@ fn one_credit_takes_one_request(rt: HostRuntime) -> Result<(), Fail> {
     assert_eq!(rt; end.last_stamp(), 5);
     assert_eq!(rt; end.log().len(), 5);
     assert_eq!(rt; end.room(), Err(EndFault::LogFull));
+    Ok(())
+}
+
+/// The calls of a table, each with the outcome that it has in this order.
+const CALLS: [(Call, Outcome); 14] = [
+    (
+        Call::SetHandler {
+            index: 0,
+            kind: HandlerKind::Note,
+        },
+        Outcome::Refused(Refusal::Reserved),
+    ),
+    (
+        Call::SetHandler {
+            index: 16,
+            kind: HandlerKind::Note,
+        },
+        Outcome::Refused(Refusal::BadIndex),
+    ),
+    (
+        Call::SetHandler {
+            index: 3,
+            kind: HandlerKind::Echo(2),
+        },
+        Outcome::Done,
+    ),
+    (MAP, Outcome::Done),
+    (MAP, Outcome::Refused(Refusal::InUse)),
+    (Call::Unmap(1), Outcome::Refused(Refusal::NotMapped)),
+    (REQUEST, Outcome::Requested(FIRST)),
+    (Call::Unmap(0), Outcome::Refused(Refusal::Outstanding(1))),
+    (Call::SetTag(Tag(9)), Outcome::Refused(HELD)),
+    (
+        Call::GiveUp(Serial {
+            source: EndpointId(0),
+            count: 2,
+        }),
+        Outcome::Refused(Refusal::NoRequest),
+    ),
+    (Call::GiveUp(FIRST.serial), Outcome::Done),
+    (Call::Unmap(0), Outcome::Done),
+    (Call::Poll, Outcome::Empty),
+    (Call::Test(Mask::NotEmpty), Outcome::Quiet),
+];
+
+const MAP: Call = Call::Map {
+    index: 0,
+    name: EndpointId(1),
+    tag: Tag(7),
+    credits: 2,
+};
+
+/// One message of its own, and one record.
+const HELD: Refusal = Refusal::Held {
+    received: 0,
+    messages: 1,
+    outstanding: 1,
+};
+
+#[test]
+fn each_call_has_its_outcome(rt: HostRuntime) -> Result<(), Fail> {
+    let settings = EndSettings {
+        log: 20,
+        ..SETTINGS
+    };
+    let mut end = Endpoint::new(rt.alloc(), settings)?;
+    for (call, outcome) in CALLS {
+        assert_eq!(rt; outcome_of(&mut end, call), Some(outcome));
+    }
+    assert_eq!(rt; end.log().len(), 14);
     Ok(())
 }
 

@@ -24,7 +24,7 @@ use Rattle.am_model.specs.History.{is_in_range, carry, judged, outcome_of, state
 use Rattle.am_model.specs.Steps.{stop, step_entry}
 use Rattle.am_model.proofs.Names.{same_end-is, same_end-refl}
 use Rattle.am_scenario_types.specs.declared.parts.FaultLine.{FaultLine}
-use Rattle.am_endpoint.specs.declared.settings.EndSettings.{EndSettings}
+use Rattle.am_body.specs.declared.settings.EndSettings.{EndSettings}
 use Rattle.am_endpoint.specs.View.{EndpointView, state_after, state_by}
 use Rattle.am_machine.specs.declared.settings.Settings.{Settings}
 use Rattle.am_machine.specs.Carries.{At, IsReady, CarriesFrom, ArrivesAt, carried_at, is_place, least_full}

@@ -30,7 +30,7 @@ use Rattle.am_laws_homes.proofs.Places.{fits_network}
 use Rattle.am_scenario_types.specs.declared.parts.FaultLine.{FaultLine}
 use Rattle.am_follow.specs.Layout.{fault_of}
 use Rattle.am_endpoint.specs.View.{EndpointView, state_after, state_by}
-use Rattle.am_endpoint.specs.declared.settings.EndSettings.{EndSettings}
+use Rattle.am_body.specs.declared.settings.EndSettings.{EndSettings}
 use Rattle.am_journal.specs.View.{AreNodes}
 use Rattle.am_machine.specs.Ends.{EndLog, is_of, kept, setting_in}
 use Rattle.am_machine.specs.Kept.{IsOwn, IsTied, layout_in}

@@ -1,0 +1,7 @@
+use Rattle.std.proofs.Common.{arith}
+use Rattle.am_body.proofs.Slots.{slots_put}
+use Rattle.am_endpoint.specs.Seen.{state_in}
+use Rattle.am_endpoint.proofs.fields.Fields.put.Goals as goal
+
+pub put-requires : goal.put-requires
+put-requires c = omega (arith, slots_put c.args.m (state_in c.args.self.now))
