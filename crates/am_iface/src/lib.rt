@@ -307,6 +307,17 @@ impl Interface {
         1 + floor.max(self.last_stamp()).max(stamp_in(work))
     }
 
+    /// The stamp of an entry that is made now, here and at an endpoint.
+    fn stamp_with(&self, floor: u64, work: &Work, endpoint: &Endpoint) -> u64
+        requires floor { floor + 1 < 2 ^ 64 }
+        requires last { last_stamp self.now.log + 1 < 2 ^ 64 }
+        requires last_there { endpoints.last_stamp endpoint.now.log + 1 < 2 ^ 64 }
+        requires packet { stamp_in work.now + 1 < 2 ^ 64 }
+        ensures { result ≡ stamp_after (max floor (endpoints.last_stamp endpoint.now.log)) self.now.log work.now }
+    {
+        self.stamp_after(floor.max(endpoint.last_stamp()), work)
+    }
+
     /// Lets a channel time out that is idle or has a try left.
     fn expire_alone(&mut self, stamp: u64, peer: NodeId, channel: u8) -> Result<Turned, IfaceFault>
         requires on { IsChannelOf self.old.settings peer channel }
@@ -419,7 +430,7 @@ impl Interface {
         ensures err { OnErr result (self.new ≡ self.old) }
         ensures err_there { OnErr result (endpoint.new.log ≡ endpoint.old.log) }
     {
-        let stamp = self.stamp_after(floor.max(endpoint.last_stamp()), work);
+        let stamp = self.stamp_with(floor, work, endpoint);
         self.work_with(stamp, work, endpoint)
     }
 }

@@ -8,6 +8,7 @@ ghost use Rattle.am_local.specs.Granted.{FitsEndpoint, IsInFlight};
 ghost use Rattle.am_local.specs.Interface.{channel_in, home_in, needs};
 ghost use Rattle.am_model.specs.Channels.{bound_message};
 ghost use Rattle.am_model.specs.Endpoint.{is_direct};
+ghost use Rattle.am_model.specs.History.{settle_by};
 ghost use Rattle.am_local.specs.declared.work.Work.TheVariants as Works;
 ghost use Rattle.am_names.specs.declared.Packet.TheVariants as Packets;
 ghost use Rattle.am_office.specs.Entries.{emitted_of};
@@ -22,8 +23,8 @@ use am_channel::{Ends, Settled, TimedOut};
 use am_endpoint::{EndFault, Endpoint};
 use am_local::work::Work;
 use am_model::Flying;
-use am_names::{AnswerPacket, NodeId, Packet, Parcel};
-use am_office::{Entry, Part};
+use am_names::{AnswerPacket, Message, NodeId, Packet, Parcel, Verdict};
+use am_office::{Entry, Event, Outcome, Part};
 
 impl Interface {
     /// Makes room for one more entry in an endpoint's log and finds it in the interface's. Neither log changes.
@@ -104,6 +105,21 @@ impl Interface {
         }
     }
 
+    /// The receipt of an answer with this verdict on a message, which is this flight of its source.
+    fn settling_entry(
+        &self,
+        stamp: u64,
+        p: &AnswerPacket,
+        message: Message,
+        flight: Flying,
+        verdict: Verdict,
+    ) -> Entry
+        ensures { result ≡ record { stamp = stamp; event = Event.Receive self.now.settings.node p.now.from p.now.number; outcome = Outcome.Received p.now.channel p.now.seq p.now.attempt (settle_by self.now.settings.bounces message flight.bounces verdict) } }
+    {
+        let came = settled_by(self.bounces(), message, flight.bounces, verdict);
+        answer_receipt(self.node(), stamp, p, came)
+    }
+
     /// Receives an answer that settles the bound message, which is this flight of its source.
     fn receive_settling(
         &mut self,
@@ -123,8 +139,7 @@ impl Interface {
         let Settled::Done(bound, verdict) = answer(&mut ends, p) else {
             unreachable!()
         };
-        let came = settled_by(self.bounces(), bound.message, flight.bounces, verdict);
-        let entry = answer_receipt(self.node(), stamp, p, came);
+        let entry = self.settling_entry(stamp, p, bound.message, flight, verdict);
         match self.enter_with(p.from, p.channel, ends, entry, endpoint) {
             Ok(turned) => {
                 endpoint.settle(entry);
