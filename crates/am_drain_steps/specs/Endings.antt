@@ -1,0 +1,95 @@
+-- What is so of every drain and its end, stated: it ends by itself, an unknown message stands only where the plan withholds packets
+-- of the last try, and where the plan withholds none nothing is unknown and what is returned is returned for good.
+use Rattle.std.specs.Prelude.{◌≡◌, ◌≢◌, ◌⊎◌, ℕ, ◌+◌, ◌<◌, ◌≤◌, ◌^◌, ◌==◌, Bool, true, false, Option, Some, None, List, ◌∷◌, ◌++◌, map, length, slice_get}
+use Rattle.std.specs.List.{All, list_any}
+use Rattle.am_names.specs.Rules.{is_transient}
+use Rattle.am_names.specs.declared.Cause.{Cause}
+use Rattle.am_names.specs.declared.NodeId.{NodeId}
+use Rattle.am_names.specs.declared.Serial.{Serial}
+use Rattle.am_names.specs.declared.Parcel.{Parcel}
+use Rattle.am_names.specs.declared.AnswerPacket.{AnswerPacket}
+use Rattle.am_names.specs.declared.Packet.{Packet}
+use Rattle.am_names.specs.declared.Packet.TheVariants as Packets
+use Rattle.am_office.specs.declared.Event.TheVariants as Events
+use Rattle.am_office.specs.declared.Outcome.TheVariants as Out
+use Rattle.am_office.specs.declared.Entry.{Entry}
+use Rattle.am_office.specs.declared.endings.Fate.TheVariants as Fates
+use Rattle.am_office.specs.Fates.{fate}
+use Rattle.am_office.specs.Entries.{emitted_of}
+use Rattle.am_model.specs.Channels.{sequence, attempt}
+use Rattle.am_model.specs.History.{channel_to}
+use Rattle.am_model.specs.PostOffice.{Gave}
+use Rattle.am_plan.specs.declared.plan.LinkFault.{LinkFault}
+use Rattle.am_plan.specs.declared.plan.LinkFault.TheVariants.{Lose, Repeat, Late}
+use Rattle.am_plan.specs.declared.plan.PlanLine.{PlanLine}
+use Rattle.am_plan.specs.Shape.{fault_at, number_of, shape}
+use Rattle.am_scenario_types.specs.Lists.{ScenarioLists}
+use Rattle.am_scripts.specs.Links.{ReceivesInOrder, numbers_released, received}
+use Rattle.am_drain.specs.Drain.{turn}
+use Rattle.am_drain.specs.Follows.{FollowsScripts}
+use Rattle.am_drain_steps.specs.Enabled.{IsOfRun}
+use Rattle.am_drain_steps.specs.Work.{work}
+
+-- the work that is left falls with each turn
+abbrev pub EachTurnFalls : Type 0
+EachTurnFalls =
+    (s : ScenarioLists) (past next : List Entry) → IsOfRun s past → ReceivesInOrder s past → length past < 2 ^ 32 → turn s past ≡ Some next → work s next < work s past
+
+-- whether a number is among these
+abbrev pub is_among : ℕ → List ℕ → Bool
+is_among number numbers = list_any (λ (n : ℕ). n == number) numbers
+
+-- the last try of the sequence that a channel is in
+pub record IsLastTry (past : List Entry) (node peer : NodeId) (channel : ℕ) (p : Parcel) : Type 0 where
+  pub sent : Gave emitted_of past (Packets.Parcel p)
+  pub on : channel_to p.from p.to p.channel ≡ channel_to node peer channel
+  pub seq' : p.seq ≡ sequence (channel_to node peer channel) past
+  pub attempt' : p.attempt ≡ attempt (channel_to node peer channel) past
+
+pub record IsAnswerTo (p : Parcel) (a : AnswerPacket) : Type 0 where
+  pub from' : a.from ≡ p.to
+  pub to' : a.to ≡ p.from
+  pub channel' : a.channel ≡ p.channel
+  pub seq' : a.seq ≡ p.seq
+  pub attempt' : a.attempt ≡ p.attempt
+
+abbrev pub IsUnanswered : ScenarioLists → List Entry → Parcel → Type 0
+IsUnanswered s past p =
+    (a : AnswerPacket) → Gave emitted_of past (Packets.Answer a) → IsAnswerTo p a → is_among a.number (numbers_released s a.from a.to past) ≡ false
+
+-- a parcel that was not released, or was received and no answer to it was released
+abbrev pub IsWithheld : ScenarioLists → List Entry → Parcel → Type 0
+IsWithheld s past p =
+    (is_among p.number (numbers_released s p.from p.to past) ≡ false) ⊎ ((is_among p.number (received p.from p.to past) ≡ true) × IsUnanswered s past p)
+
+-- a message is unknown only where the plan withholds packets of the last try
+abbrev pub UnknownIsWithheld : Type 0
+UnknownIsWithheld =
+    (s : ScenarioLists) (past later : List Entry) (x : Entry) (node peer : NodeId) (channel : ℕ) (serial : Serial) (p : Parcel) → IsOfRun s (past ++ x ∷ later) → FollowsScripts s (past ++ x ∷ later) → x.event ≡ Events.Expire node peer channel → x.outcome ≡ Out.Unknown serial → IsLastTry past node peer channel p → IsWithheld s past p
+
+-- the plan loses the packet at a place, or has it late beyond so many emissions
+abbrev pub IsFaultOf : ℕ → ℕ → Option LinkFault → Type 0
+IsFaultOf emissions place None = ⊥
+IsFaultOf emissions place (Some Repeat) = ⊥
+IsFaultOf emissions place (Some Lose) = Unit {0}
+IsFaultOf emissions place (Some (Late by)) = emissions < place + by
+
+-- where the emissions on a link are numbered in order and no packet is late by nothing, the plan withholds each packet that they have
+-- not released
+abbrev pub UnreleasedIsPlanned : Type 0
+UnreleasedIsPlanned =
+    (plan : List PlanLine) (from to : NodeId) (sent : List Packet) (number : ℕ) → ((i : ℕ) (p : Packet) → slice_get sent i ≡ Some p → number_of p ≡ i + 1) → ((place by : ℕ) → fault_at plan from to place ≡ Some (Late by) → 1 ≤ by) → 1 ≤ number → number ≤ length sent → is_among number (map number_of (shape plan from to sent)) ≡ false → IsFaultOf (length sent) number (fault_at plan from to number)
+
+-- the plan has no line that loses a packet or has it late
+abbrev pub WithholdsNothing : ScenarioLists → Type 0
+WithholdsNothing s = All (λ (line : PlanLine). line.fault ≡ Repeat) s.plan
+
+-- completeness: then nothing is unknown
+abbrev pub NoneIsUnknown : Type 0
+NoneIsUnknown =
+    (s : ScenarioLists) (journal : List Entry) → IsOfRun s journal → FollowsScripts s journal → WithholdsNothing s → (serial : Serial) → (fate journal serial ≢ Some Fates.Unknown) × (fate journal serial ≢ Some Fates.UnknownButRan)
+
+-- and what is returned is returned for good
+abbrev pub ReturnsAreForGood : Type 0
+ReturnsAreForGood =
+    (s : ScenarioLists) (journal : List Entry) → IsOfRun s journal → FollowsScripts s journal → WithholdsNothing s → (serial : Serial) (cause : Cause) → fate journal serial ≡ Some (Fates.Returned cause) → is_transient cause ≡ false

@@ -1,0 +1,5 @@
+pub mod Away
+pub mod Frames
+pub mod Enabled
+pub mod Work
+pub mod Endings
