@@ -6,7 +6,7 @@ use Rattle.std.proofs.lemmas.List.{length_push}
 use Rattle.am_office.specs.declared.Call.{Call}
 use Rattle.am_office.specs.declared.Entry.{Entry}
 use Rattle.am_office.specs.declared.Outcome.{Outcome}
-use Rattle.am_model.specs.Endpoint.{State, fresh}
+use Rattle.am_model.specs.Endpoint.{State, fresh, is_on_disk}
 use Rattle.am_model.specs.Allowed.{are_numbers_in_range}
 use Rattle.am_model.specs.Calls.{outcome_of_call}
 use Rattle.am_model.specs.Changes.{after, called}
@@ -59,3 +59,15 @@ outcome_made i v call o e kept is =
     ∙ ap (λ (p : Option ℕ). outcome_of_call p i.settings.id (state_in i.fields) call) kept.pool
     ∙ ap (λ (s : State). outcome_of_call i.settings.pool i.settings.id s call) (sym kept.replayed)
     ∙ ap (λ (w : EndpointView). outcome_of_call w.settings.pool w.settings.id (state_after w) call) e
+
+-- its body, and whether it is on disk, as its log tells
+
+pub body_told : (i : Inside) (v : EndpointView) → view_of i ≡ v → IsReplay i → i.fields.body ≡ record { pool = v.settings.pool; body = (state_after v).body }
+body_told i v e kept =
+    ap (λ (p : Option ℕ). record i.fields.body { pool = p }) kept.pool
+    ∙ ap (λ (s : State). record i.fields.body { pool = i.settings.pool; body = s.body }) (sym kept.replayed)
+    ∙ ap (λ (w : EndpointView). record i.fields.body { pool = w.settings.pool; body = (state_after w).body }) e
+
+pub disk_told : (i : Inside) (v : EndpointView) → view_of i ≡ v → IsReplay i → is_on_disk (state_after v).head.place ≡ is_on_disk i.fields.head.place
+disk_told i v e kept =
+    ap (λ (w : EndpointView). is_on_disk (state_after w).head.place) (sym e) ∙ ap (λ (s : State). is_on_disk s.head.place) kept.replayed

@@ -1,7 +1,7 @@
 // What it makes of the state of an endpoint that its front message leaves.
 ghost use Rattle.am_body.specs.Views.{Fits};
 ghost use Rattle.am_endpoint.specs.Seen.{state_in};
-ghost use Rattle.am_endpoint.specs.Flights.{in_the_air};
+ghost use Rattle.am_endpoint.specs.Flights.{front_flown};
 ghost use Rattle.am_model.specs.Changes.{bounces_of, bound, carried, left, noticed, put, queued, reached, with_body, without_front};
 ghost use Rattle.am_names.specs.Names.{same_end};
 ghost use Rattle.std.specs.Prelude.{◌≡◌, cond};
@@ -53,8 +53,8 @@ impl Fields {
 
     /// The front message is in flight.
     fn fly_front(&mut self, message: Message)
-        requires { Fits (in_the_air message self.old.body.body) }
-        ensures state { state_in self.new ≡ with_body (state_in self.old) (in_the_air message self.old.body.body) }
+        requires { Fits (front_flown message self.old.body.body) }
+        ensures state { state_in self.new ≡ with_body (state_in self.old) (front_flown message self.old.body.body) }
         ensures pool { self.new.body.pool ≡ self.old.body.pool }
     {
         let bounces = self.front_bounces();

@@ -1,7 +1,7 @@
 // Where an endpoint lies, and its body.
 ghost use Rattle.am_endpoint.specs.Seen.{state_in};
 ghost use Rattle.am_model.specs.Changes.{wanted_on_host};
-ghost use Rattle.am_model.specs.Endpoint.{fresh, front};
+ghost use Rattle.am_model.specs.Endpoint.{fresh, front, is_on_disk};
 ghost use Rattle.std.specs.Prelude.{◌≡◌, IfOk};
 
 use am_body::{Body, EndSettings};
@@ -34,6 +34,15 @@ impl Fields {
                 body,
             }),
             Err(fault) => Err(fault),
+        }
+    }
+
+    pub fn is_on_disk(&self) -> bool
+        ensures { result ≡ is_on_disk self.now.head.place }
+    {
+        match self.head.place {
+            Place::Disk => true,
+            Place::Host | Place::Frame(_) | Place::Direct => false,
         }
     }
 

@@ -10,7 +10,7 @@ ghost use Rattle.am_model.specs.Changes.{flying_of, has_arrivals};
 ghost use Rattle.am_model.specs.Endpoint.{front, is_on_disk, verdict};
 ghost use Rattle.am_model.specs.Order.{KeepsOrder};
 ghost use Rattle.am_names.specs.Names.{is_request};
-ghost use Rattle.std.specs.Prelude.{◌≡◌, ◌+◌, ◌<◌, ◌≤◌, ◌^◌, [], ◌∷◌, ◌++◌, length, count_by, IfOk, OnErr, OnOk, IfSome, Err, is_some, max, true, false, ◌↔◌};
+ghost use Rattle.std.specs.Prelude.{◌≡◌, ◌+◌, ◌<◌, ◌≤◌, ◌^◌, [], ◌∷◌, ◌++◌, length, count_by, IfOk, OnErr, OnOk, IfSome, Err, None, is_some, max, true, false, ◌↔◌};
 
 mod arrivals;
 mod calls;
@@ -145,6 +145,18 @@ impl Endpoint {
 }
 
 impl Endpoint {
+    /// Its body. None exactly where it is on disk.
+    pub fn body(&self) -> Option<&Body>
+        ensures none { (result ≡ None) ↔ (is_on_disk (state_after self.now).head.place ≡ true) }
+        ensures body { IfSome result (λ body. body.now ≡ record { pool = self.now.settings.pool; body = (state_after self.now).body }) }
+    {
+        if self.fields.is_on_disk() {
+            None
+        } else {
+            Some(&self.fields.body)
+        }
+    }
+
     /// The front message, and how often it bounced: the front of replies, and where there is none the front of requests.
     pub fn front(&self) -> Option<Queued>
         requires { is_on_disk (state_after self.now).head.place ≡ false }

@@ -2,6 +2,8 @@
 ghost use Rattle.am_model.specs.Allowed.{are_numbers_in_range};
 ghost use Rattle.std.specs.Prelude.{◌≡◌, true};
 
+mod places;
+
 use super::*;
 use am_names::{MsgKind, Tag, Words};
 use am_office::{HandlerKind, Mask, Refusal};
@@ -30,12 +32,14 @@ const REQUEST: Call = Call::Request {
     words: WORDS,
 };
 
+const FIRST_SERIAL: Serial = Serial {
+    source: EndpointId(0),
+    count: 1,
+};
+
 /// The message of the first request.
 const FIRST: Message = Message {
-    serial: Serial {
-        source: EndpointId(0),
-        count: 1,
-    },
+    serial: FIRST_SERIAL,
     kind: MsgKind::Request,
     dest: EndpointId(1),
     tag: Tag(7),
@@ -123,7 +127,7 @@ const CALLS: [(Call, Outcome); 14] = [
         }),
         Outcome::Refused(Refusal::NoRequest),
     ),
-    (Call::GiveUp(FIRST.serial), Outcome::Done),
+    (Call::GiveUp(FIRST_SERIAL), Outcome::Done),
     (Call::Unmap(0), Outcome::Done),
     (Call::Poll, Outcome::Empty),
     (Call::Test(Mask::NotEmpty), Outcome::Quiet),
