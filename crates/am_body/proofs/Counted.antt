@@ -15,7 +15,7 @@ use Rattle.am_body.specs.Views.{View, descriptor_at, flying_in, notice_in, queue
 use Rattle.am_body.specs.Walks.{is_sought_at}
 use Rattle.am_body.proofs.Seen.{count-seen}
 
-pub length-seen : {X : Type 0} (f : Descriptor → X) (ds : List Descriptor) (xs : List ℕ) → length (seen f ds xs) ≡ length xs
+length-seen : {X : Type 0} (f : Descriptor → X) (ds : List Descriptor) (xs : List ℕ) → length (seen f ds xs) ≡ length xs
 length-seen f ds xs = length-map xs (λ s. f (descriptor_at ds s))
 
 pub requests_counted : (i : Inside) (v : View) (a b c : ℕ) → view_of i ≡ v → a ≡ length i.block.requests → b ≡ count_by (λ s. is_sought_at Soughts.Request i.block s) i.block.in_flight → c ≡ count_by (λ s. is_sought_at Soughts.Request i.block s) i.block.notices → a + b + c ≡ requests_held v.body

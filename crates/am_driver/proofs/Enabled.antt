@@ -10,14 +10,14 @@ use Rattle.am_office.specs.declared.Condition.{Condition}
 use Rattle.am_office.specs.declared.Entry.{Entry}
 use Rattle.am_office.specs.declared.Place.{Place}
 use Rattle.am_office.specs.declared.Place.TheVariants.{Host, Disk, Frame, Direct}
-use Rattle.am_model.specs.Endpoint.{is_resident, is_on_disk, is_on_host}
+use Rattle.am_model.specs.Endpoint.{is_resident, is_in_a_frame, is_on_disk, is_on_host}
 use Rattle.am_model.specs.Layout.{Layout, EndSetting, declared, has_id}
 use Rattle.am_model.specs.History.{is_home, is_in_frame, is_frame_held, state_of}
 use Rattle.am_driver.specs.declared.EndView.{EndView}
 use Rattle.am_driver.specs.declared.Move.{Move}
 use Rattle.am_driver.specs.declared.Move.TheVariants as Moves
 use Rattle.am_driver.specs.Lists.{ViewLists}
-use Rattle.am_driver.specs.Moves.{is_framed, has_frame, is_leaving, is_next, is_after, may_unload, wants_memory, wants_frame, may_page_out, is_open_on_host, is_free, free_frame, next_framed, must_drain, is_crowded, given, load_into, unload, page_in, load, drain, page_out, first_move, next_move}
+use Rattle.am_driver.specs.Moves.{has_frame, is_leaving, is_next, is_after, may_unload, wants_memory, wants_frame, may_page_out, is_open_on_host, is_free, free_frame, next_framed, must_drain, is_crowded, given, load_into, unload, page_in, load, drain, page_out, first_move, next_move}
 use Rattle.am_driver.specs.Shown.{ShowsEnd, Shows, is_line_of, IsEnabledWhereShown}
 use Rattle.am_driver.proofs.Found.{IsFound, Finds, found, finds, weaker, is_anything, and_left, and_right, both, not_true, true_not}
 use Rattle.am_model.proofs.Names.{same_end-is, same_end-refl}
@@ -27,7 +27,7 @@ skip : (b : Bool) (word : Condition) (rest : Option Condition) → b ≡ false �
 skip true word rest e h = absurd (cc)
 skip false word rest e h = h
 
-framed_resident : (place : Place) → is_framed place ≡ true → is_resident place ≡ true
+framed_resident : (place : Place) → is_in_a_frame place ≡ true → is_resident place ≡ true
 framed_resident (Frame frame) h = refl
 framed_resident Host h = absurd (cc)
 framed_resident Disk h = absurd (cc)

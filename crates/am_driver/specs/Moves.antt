@@ -3,23 +3,15 @@ use Rattle.std.specs.Prelude.{◌≡◌, ℕ, Bool, true, false, ◌==◌, ◌&&
 use Rattle.std.specs.List.{list_any, range_with_len}
 use Rattle.std.specs.Option.{option_map, option_or}
 use Rattle.am_names.specs.declared.EndpointId.{EndpointId}
-use Rattle.am_office.specs.declared.Place.{Place}
-use Rattle.am_office.specs.declared.Place.TheVariants.{Host, Disk, Frame, Direct}
-use Rattle.am_model.specs.Endpoint.{is_on_disk, is_on_host}
+use Rattle.am_model.specs.Endpoint.{is_in_a_frame, is_on_disk, is_on_host}
 use Rattle.am_model.specs.History.{is_in_frame}
 use Rattle.am_driver.specs.declared.EndView.{EndView}
 use Rattle.am_driver.specs.declared.Move.{Move}
 use Rattle.am_driver.specs.declared.Move.TheVariants as Moves
 use Rattle.am_driver.specs.Lists.{ViewLists}
 
-abbrev pub is_framed : Place → Bool
-is_framed (Frame frame) = true
-is_framed Host = false
-is_framed Disk = false
-is_framed Direct = false
-
 abbrev pub has_frame : EndView → Bool
-has_frame e = is_framed e.place
+has_frame e = is_in_a_frame e.place
 
 -- on its way out of a frame
 abbrev pub is_leaving : EndView → Bool

@@ -1,6 +1,6 @@
 // The tests that the rules make of a view's lines.
 ghost use Rattle.am_driver.specs.Moves as rules;
-ghost use Rattle.am_model.specs.Endpoint.{is_on_disk, is_on_host};
+ghost use Rattle.am_model.specs.Endpoint.{is_in_a_frame, is_on_disk, is_on_host};
 ghost use Rattle.am_model.specs.History.{is_in_frame};
 ghost use Rattle.std.specs.Prelude.{◌≡◌, count_by, find};
 ghost use Rattle.std.specs.List.{list_any};
@@ -27,8 +27,8 @@ fn is_on_disk(place: Place) -> bool
     }
 }
 
-fn is_framed(place: Place) -> bool
-    ensures { result ≡ rules.is_framed place }
+fn is_in_a_frame(place: Place) -> bool
+    ensures { result ≡ is_in_a_frame place }
 {
     match place {
         Place::Frame(_) => true,
@@ -48,7 +48,7 @@ fn is_in_frame(frame: u8, place: Place) -> bool
 fn is_leaving(end: &EndView) -> bool
     ensures { result ≡ rules.is_leaving end.now }
 {
-    is_framed(end.place) && end.draining
+    is_in_a_frame(end.place) && end.draining
 }
 
 fn may_unload(end: &EndView) -> bool
@@ -93,7 +93,7 @@ fn is_after(last: Option<EndpointId>, end: &EndView) -> bool
 fn is_next(last: Option<EndpointId>, end: &EndView) -> bool
     ensures { result ≡ rules.is_next last end.now }
 {
-    is_framed(end.place) && is_after(last, end)
+    is_in_a_frame(end.place) && is_after(last, end)
 }
 
 pub(crate) fn first_to_unload(ends: &[EndView]) -> Option<EndView>
@@ -129,7 +129,7 @@ fn first_after(last: Option<EndpointId>, ends: &[EndView]) -> Option<EndView>
 fn first_framed(ends: &[EndView]) -> Option<EndView>
     ensures { result ≡ find rules.has_frame ends.now }
 {
-    ends.iter().copied().find(|end| is_framed(end.place))
+    ends.iter().copied().find(|end| is_in_a_frame(end.place))
 }
 
 /// The next endpoint in a frame after the last that was drained, and where there is none the least in a frame.

@@ -1,0 +1,4 @@
+pub mod Adding
+pub mod Decoding
+pub mod Encoding
+pub mod Making
