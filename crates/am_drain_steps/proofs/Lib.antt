@@ -5,3 +5,4 @@ pub mod Calls
 pub mod Receipts
 pub mod Frames
 pub mod Withheld
+pub mod Turning

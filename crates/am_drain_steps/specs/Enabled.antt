@@ -15,7 +15,7 @@ use Rattle.am_scripts.specs.Scripts.{call_left}
 use Rattle.am_scripts.specs.Standings.{standings}
 use Rattle.am_drain.specs.declared.Turn.{Turn}
 use Rattle.am_drain.specs.declared.Turn.TheVariants.{Once, Make}
-use Rattle.am_drain.specs.Rules.{next_time_out, next_page_in, next_poll}
+use Rattle.am_drain.specs.Rules.{next_time_out, next_page_in, next_send, next_poll, next_turn}
 use Rattle.am_drain.specs.Drain.{after_turn}
 
 -- a history of a lawful scenario of the packet network
@@ -51,3 +51,8 @@ CallsMayFollow = (s : ScenarioLists) (past : List Entry) (c : ScriptCall) → Is
 abbrev pub PollsMayFollow : Type 0
 PollsMayFollow =
     (s : ScenarioLists) (past : List Entry) (t : Turn) → IsOfRun s past → next_page_in (standings (layout_of s) past) ≡ None → next_poll (standings (layout_of s) past) ≡ Some t → IsHistory (layout_of s) (after_turn s past t)
+
+-- a turn makes a history of a history, where it does so as a send
+abbrev pub TurnsMayFollow : Type 0
+TurnsMayFollow =
+    (s : ScenarioLists) (past : List Entry) (t : Turn) → IsOfRun s past → length past < 2 ^ 32 → (next_send (standings (layout_of s) past) ≡ Some t → IsHistory (layout_of s) (after_turn s past t)) → next_turn s past ≡ Some t → IsHistory (layout_of s) (after_turn s past t)

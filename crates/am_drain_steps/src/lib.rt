@@ -5,7 +5,7 @@
 ghost use Rattle.am_drain_steps.specs.Away.{AwayIsSettled};
 ghost use Rattle.am_drain_steps.specs.Frames.{FramesAreApart};
 ghost use Rattle.am_drain_steps.specs.Endings.{UnreleasedIsPlanned};
-ghost use Rattle.am_drain_steps.specs.Enabled.{CallsMayFollow, DuesAreCounted, PageInsMayFollow, PollsMayFollow, ReceiptsMayFollow, TimeOutsMayFollow};
+ghost use Rattle.am_drain_steps.specs.Enabled.{CallsMayFollow, DuesAreCounted, PageInsMayFollow, PollsMayFollow, ReceiptsMayFollow, TimeOutsMayFollow, TurnsMayFollow};
 
 /// In each history of the packet network an endpoint on the host that isn't wanted has no message queued, and one on disk that
 /// isn't wanted holds no message at all.
@@ -46,6 +46,11 @@ pub fn calls_may_follow()
 /// So does a poll, while no wanted endpoint is on disk.
 pub fn polls_may_follow()
     ensures { PollsMayFollow }
+{}
+
+/// So does each turn, where it does so as a send.
+pub fn turns_may_follow()
+    ensures { TurnsMayFollow }
 {}
 
 /// What the emissions on a link have not released, the plan loses, or has late beyond them.
