@@ -40,7 +40,7 @@ pub record IsDrainedIn (turns : ℕ) (scenario : ScenarioLists) (past journal : 
 abbrev pub IsDrained : ScenarioLists → List Entry → List Entry → Type 0
 IsDrained scenario past journal = (turns : ℕ) × IsDrainedIn turns scenario past journal
 
--- the drain makes one journal of a journal
+-- the drain makes at most one journal of a journal
 abbrev pub DrainIsDetermined : Type 0
 DrainIsDetermined =
     (scenario : ScenarioLists) (past one other : List Entry) → IsDrained scenario past one → IsDrained scenario past other → one ≡ other

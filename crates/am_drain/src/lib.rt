@@ -36,7 +36,7 @@ pub fn entry_is_step()
     ensures { EntryIsStep }
 {}
 
-/// The drain makes one journal of a journal.
+/// The drain makes at most one journal of a journal.
 pub fn drain_is_determined()
     ensures { DrainIsDetermined }
 {}
@@ -51,17 +51,18 @@ pub fn turns_make_entries()
     ensures { TurnsMakeEntries }
 {}
 
-/// Where no rule of the drain applies, all is at rest.
+/// Where no rule of the drain applies to a sound journal, all is at rest. A journal is sound where the front messages go to
+/// endpoints that there are, and where nothing is in flight while no channel is bound; every history is.
 pub fn rests_at_end()
     ensures { RestsAtEnd }
 {}
 
-/// The drain goes on with each thread's script where the thread left it.
+/// Where the scripts have begun, the drain goes on with each of them where its thread left it.
 pub fn scripts_go_on()
     ensures { ScriptsGoOn }
 {}
 
-/// The drain receives each packet in its turn.
+/// Where the packets were received in their turn, the drain receives each in its turn.
 pub fn receipts_go_on()
     ensures { ReceiptsGoOn }
 {}
@@ -71,12 +72,12 @@ pub fn last_tries_come_last()
     ensures { LastTriesComeLast }
 {}
 
-/// The events that a drain adds are those of a run.
+/// The events that a drain adds are those of a run, as those before them are.
 pub fn events_are_of_run()
     ensures { EventsAreOfRun }
 {}
 
-/// What a drain makes of a good phase follows the scripts.
+/// What a drain makes of a good phase follows the scripts, where it is sound.
 pub fn drained_follows()
     ensures { DrainedFollows }
 {}
@@ -86,7 +87,8 @@ pub fn cut_is_determined()
     ensures { CutIsDetermined }
 {}
 
-/// A drain of a good phase that is cut off is stopped for the part whose full log it meets.
+/// A drain of a good phase that is cut off is stopped for the part whose full log it meets, where no log is longer than it may
+/// be.
 pub fn cut_off_is_stopped()
     ensures { CutOffIsStopped }
 {}

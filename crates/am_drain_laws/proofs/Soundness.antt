@@ -26,9 +26,9 @@ use Rattle.am_scripts.specs.Links.{first_some, node_at, nodes_of}
 use Rattle.am_scripts.specs.Standings.{Standing, standings, is_standing_of, is_idle}
 use Rattle.am_drain.specs.Rules.{next_time_out}
 use Rattle.am_drain.specs.Laws.{is_known, has_known_front, has_no_flight, IsSound}
-use Rattle.am_drain.proofs.Rest.{idle_nodes}
+use Rattle.am_drain.proofs.Rest.{idle_nodes, rests_at_end}
 use Rattle.am_drain.proofs.Follows.{drained_follows}
-use Rattle.am_drain_laws.specs.Laws.{HistoriesAreSound, DrainsFollow}
+use Rattle.am_drain_laws.specs.Laws.{HistoriesAreSound, DrainsFollow, DrainsRest}
 use Rattle.am_drain_laws.proofs.Channels.{channels_below, home_below}
 
 abbrev pub standing : Layout → List Entry → EndSetting → Standing
@@ -116,6 +116,9 @@ all_grounded s past ok h none (setting ∷ settings) =
 pub histories_are_sound : HistoriesAreSound
 histories_are_sound s journal ok h =
     record { known = all_known (layout_of s) journal h (layout_of s).ends; bound = λ none. all_grounded s journal ok h none (layout_of s).ends }
+
+pub drains_rest : DrainsRest
+drains_rest s past journal ok drained h = rests_at_end s journal (histories_are_sound s journal ok h) drained.1.ended
 
 pub drains_follow : DrainsFollow
 drains_follow s phase journal ok good drained h = drained_follows s phase journal good drained (histories_are_sound s journal ok h)

@@ -19,6 +19,10 @@ use Rattle.am_drain.specs.Laws.{IsSound}
 abbrev pub HistoriesAreSound : Type 0
 HistoriesAreSound = (s : ScenarioLists) (journal : List Entry) → IsLawful s → IsHistory (layout_of s) journal → IsSound s journal
 
+-- where what a drain makes is a history of a lawful scenario, all is at rest at its end
+abbrev pub DrainsRest : Type 0
+DrainsRest = (s : ScenarioLists) (past journal : List Entry) → IsLawful s → IsDrained s past journal → IsHistory (layout_of s) journal → IsAtRest s journal
+
 -- a history that a drain makes of a good phase of a lawful scenario follows its scripts
 abbrev pub DrainsFollow : Type 0
 DrainsFollow =

@@ -2,7 +2,7 @@
 //! and no message is pending. Each law is the contract of a function with an empty body.
 #![tactic(auto)]
 
-ghost use Rattle.am_drain_laws.specs.Laws.{DrainsFollow, HistoriesAreSound, NonePending};
+ghost use Rattle.am_drain_laws.specs.Laws.{DrainsFollow, DrainsRest, HistoriesAreSound, NonePending};
 
 /// In each history of a lawful scenario the front messages go to declared endpoints, and where no channel is bound nothing is
 /// in flight.
@@ -10,12 +10,17 @@ pub fn histories_are_sound()
     ensures { HistoriesAreSound }
 {}
 
+/// Where what a drain makes, of whatever journal, is a history of a lawful scenario, all is at rest at its end.
+pub fn drains_rest()
+    ensures { DrainsRest }
+{}
+
 /// A history that a drain makes of a good phase of a lawful scenario follows its scripts.
 pub fn drains_follow()
     ensures { DrainsFollow }
 {}
 
-/// At rest every accepted message has run, or is returned or unknown.
+/// In a history of a lawful scenario that ends at rest every accepted message has run, or is returned or unknown.
 pub fn none_pending()
     ensures { NonePending }
 {}

@@ -55,7 +55,7 @@ impl Model for View {
 /// What a driver may do with an endpoint.
 #[derive(Clone, Copy, PartialEq, Eq, Debug)]
 pub enum Move {
-    /// It binds no message from now on.
+    /// It binds no message until it is loaded again.
     Drain(EndpointId),
     /// It leaves its frame.
     Unload(EndpointId),

@@ -4,6 +4,8 @@
 ghost use Rattle.am_follow.specs.Layout.{layout_of};
 ghost use Rattle.am_machine.specs.View.{Applies};
 ghost use Rattle.am_model.specs.History.{IsHistory, is_in_range};
+ghost use Rattle.am_model.specs.Layout as layouts;
+ghost use Rattle.am_model.specs.PostOffice.{PostOffice};
 ghost use Rattle.am_scenario_types.specs.Lawful.{IsLawful};
 ghost use Rattle.std.specs.Prelude.{◌≡◌, true, [], IfOk};
 
@@ -27,6 +29,7 @@ use crate::settings::Settings;
 use am_endpoint::Endpoint;
 use am_iface::Interface;
 use am_journal::IndexedJournal;
+use am_laws::post_office;
 pub use am_office::NoMemory;
 use am_office::{Entry, Event, Journal};
 use am_scenario_types::{FaultLine, Scenario};
@@ -57,7 +60,7 @@ impl Model for Cluster {
 }
 
 impl Cluster {
-    /// The cluster of a lawful scenario, with an empty journal.
+    /// The cluster of a lawful scenario, with an empty journal. `NoMemory` comes where there is none for its parts.
     pub fn new(alloc: Global, scenario: &Scenario) -> Result<Cluster, NoMemory>
         requires { IsLawful scenario.now }
         ensures layout { IfOk result (λ cluster. cluster.layout ≡ layout_of scenario.now) }
@@ -89,7 +92,7 @@ impl Cluster {
     }
 
     /// Applies an event: Ok is the one entry that the definitions give, and a refusal names the first condition that
-    /// doesn't hold, or the log that is full. A refusal changes nothing.
+    /// doesn't hold, or the log that is full, or tells that there is no memory for the entry. A refusal changes nothing.
     pub fn apply(&mut self, event: &Event) -> Result<Entry, ApplyFault>
         requires in_range { is_in_range self.old.layout event.now ≡ true }
         ensures { Applies self.old self.new event.now result }
@@ -113,11 +116,15 @@ impl Cluster {
         }
     }
 
-    /// The entries in order, which are a history.
+    /// The entries in order, which are a history of a lawful layout and obey the laws of the post office. `NoMemory` comes
+    /// where there is none for a copy of them.
     pub fn journal(&self, alloc: Global) -> Result<Journal, NoMemory>
         ensures journal { IfOk result (λ journal. journal ≡ self.now.journal) }
+        ensures lawful { layouts.IsLawful self.now.layout }
         ensures history { IfOk result (λ journal. IsHistory self.now.layout journal) }
+        ensures laws { IfOk result (λ journal. PostOffice self.now.layout journal) }
     {
+        post_office();
         match Vec::from_slice(alloc, self.journal.entries()) {
             Ok(entries) => Ok(Journal { entries }),
             Err(_) => Err(NoMemory),

@@ -5,7 +5,7 @@
 ghost use Rattle.am_scripts.specs.Links.{AllIsReceived, ReceivesBeginning};
 ghost use Rattle.am_scripts.specs.Scripts.{ScriptsAreDone};
 
-/// Where no thread has a call left, the scripts are done.
+/// Where the scripts have begun and no thread has a call left, they are done.
 pub fn scripts_are_done()
     ensures { ScriptsAreDone }
 {}
