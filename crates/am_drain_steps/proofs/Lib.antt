@@ -4,5 +4,11 @@ pub mod Paging
 pub mod Calls
 pub mod Receipts
 pub mod Frames
+pub mod Moves
+pub mod Emptying
+pub mod Readying
+pub mod Sends
 pub mod Withheld
 pub mod Turning
+pub mod Unheard
+pub mod Unknown

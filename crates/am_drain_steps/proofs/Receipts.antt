@@ -110,6 +110,11 @@ event_next layout past stamp (Events.Expire node peer channel) = expire_next lay
 event_next layout past stamp (Events.Receive node peer number) = receive_next layout node peer number past stamp (slice_get (emitted peer node past) (number - 1))
 event_next layout past stamp event = tt
 
+-- an answer that an entry emits has the next number of its link
+pub answer_next : (layout : Layout) (past : List Entry) (x : Entry) → MayFollow layout past x → (a : AnswerPacket) → emitted_of x ≡ Some (Packets.Answer a) → a.number ≡ next_number a.from a.to past
+answer_next layout past x may a is =
+    subst (λ (o : Option Packet). AreNext past o) is (subst (λ (o : Outcome). AreNext past (emitted_in x.stamp x.event o)) (sym may.outcome) (event_next layout past x.stamp x.event))
+
 -- ---- the numbers of a link
 
 abbrev IsNumbered : ℕ → Packet → Type 0
