@@ -10,5 +10,8 @@ pub mod Readying
 pub mod Sends
 pub mod Withheld
 pub mod Turning
+pub mod Counted
 pub mod Unheard
+pub mod Answered
 pub mod Unknown
+pub mod Nothing

@@ -1,5 +1,5 @@
 -- A message is unknown only where the plan withholds packets of the last try.
-use Rattle.std.proofs.Common.{◌≡◌, inl, inr, ℕ, zero, suc, ◌+◌, ◌<◌, ◌≤◌, Bool, true, false, cond, ◌||◌, List, [], ◌∷◌, map, Option, Some, None, refl, sym, ap, ◌∙◌, subst, arith, true≢false, ltb-true, ltb-false, eqb-true}
+use Rattle.std.proofs.Common.{◌≡◌, inl, inr, ℕ, zero, suc, ◌+◌, ◌<◌, ◌≤◌, Bool, true, false, cond, ◌||◌, List, [], ◌∷◌, ◌++◌, map, Option, Some, None, refl, sym, ap, ◌∙◌, subst, arith, true≢false, ltb-true, ltb-false, eqb-true}
 use Rattle.std.specs.Prelude.{◌&&◌, ◌==◌, not, nat_lt, is_none, is_some}
 use Rattle.std.specs.List.{range_with_len, AllByRecursion}
 use Rattle.std.proofs.lemmas.Bool.{and_parts, eqb-false}
@@ -24,6 +24,8 @@ use Rattle.am_follow.specs.Layout.{layout_of}
 use Rattle.am_scripts.specs.Links.{node_at, nodes_of, received, numbers_released, next_receipt, is_all_received, IsReceiptInOrder, ReceivesInOrder, KeepsLinks}
 use Rattle.am_scripts.specs.Follows.{is_last_in, is_last}
 use Rattle.am_scripts.proofs.Links.{all_is_received}
+use Rattle.am_drain.specs.Follows.{FollowsScripts}
+use Rattle.am_drain_steps.specs.Enabled.{IsOfRun}
 use Rattle.am_drain_steps.specs.Endings.{is_among, IsLastTry, IsUnanswered, IsWithheld, UnknownIsWithheld}
 use Rattle.am_drain_steps.proofs.Unheard.{asked, unheard}
 
@@ -108,8 +110,14 @@ withheld s past node peer channel m p h links n r bound last = by_test (is_among
     by_test false is = inl is
     by_test true is = inr (ap (is_among p.number) (link_is_received s past p.from p.to links from_low to_low) ∙ is, unanswered)
 
-pub unknown_is_withheld : UnknownIsWithheld
-unknown_is_withheld s past later x node peer channel serial p run follows ev ou last =
+-- a time-out that leaves a message unknown: its channel is bound, and the plan withholds packets of the last try
+pub record Expired (s : ScenarioLists) (past : List Entry) (node peer : NodeId) (channel : ℕ) : Type 0 where
+  pub message : Message
+  pub bound : bound_message (channel_to node peer channel) past ≡ Some message
+  pub withheld : (p : Parcel) → IsLastTry past node peer channel p → IsWithheld s past p
+
+pub expired : (s : ScenarioLists) (past later : List Entry) (x : Entry) (node peer : NodeId) (channel : ℕ) (serial : Serial) → IsOfRun s (past ++ x ∷ later) → FollowsScripts s (past ++ x ∷ later) → x.event ≡ Events.Expire node peer channel → x.outcome ≡ Out.Unknown serial → Expired s past node peer channel
+expired s past later x node peer channel serial run follows ev ou =
     let layout : Layout = layout_of s in
     let h : IsHistory layout past = each_front (MayFollow layout) [] past (x ∷ later) run.history in
     let may : MayFollow layout past x = each_at (MayFollow layout) [] past x later run.history in
@@ -120,4 +128,8 @@ unknown_is_withheld s past later x node peer channel serial p run follows ev ou 
     let nodes = and_parts (nat_lt node.0 layout.nodes) (nat_lt peer.0 layout.nodes) (and_parts (nat_lt node.0 layout.nodes && nat_lt peer.0 layout.nodes) (nat_lt channel layout.channels) ranged).0 in
     let is : is_bound (channel_to node peer channel) past ≡ true = twice (is_bound (channel_to node peer channel) past) (second_none layout.direct (not (is_bound (channel_to node peer channel) past)) Needs.NotPacket Needs.Idle enabled) in
     let m = some_of (bound_message (channel_to node peer channel) past) is in
-    withheld s past node peer channel m.0 p h (last_after_all s past x node peer channel serial order comes_last ev ou) (ltb-true node.0 layout.nodes nodes.0) (ltb-true peer.0 layout.nodes nodes.1) m.1 last
+    let links : KeepsLinks s past = last_after_all s past x node peer channel serial order comes_last ev ou in
+    record { message = m.0; bound = m.1; withheld = λ p last. withheld s past node peer channel m.0 p h links (ltb-true node.0 layout.nodes nodes.0) (ltb-true peer.0 layout.nodes nodes.1) m.1 last }
+
+pub unknown_is_withheld : UnknownIsWithheld
+unknown_is_withheld s past later x node peer channel serial p run follows ev ou last = (expired s past later x node peer channel serial run follows ev ou).withheld p last

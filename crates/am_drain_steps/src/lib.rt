@@ -4,7 +4,7 @@
 
 ghost use Rattle.am_drain_steps.specs.Away.{AwayIsSettled};
 ghost use Rattle.am_drain_steps.specs.Frames.{FramesAreApart, FramesAreUsed};
-ghost use Rattle.am_drain_steps.specs.Endings.{UnknownIsWithheld, UnreleasedIsPlanned};
+ghost use Rattle.am_drain_steps.specs.Endings.{NoneIsUnknown, UnknownIsWithheld, UnreleasedIsPlanned};
 ghost use Rattle.am_drain_steps.specs.Readied.{OffDiskIsOff, ReadyIsReady};
 ghost use Rattle.am_drain_steps.specs.Enabled.{CallsMayFollow, DrainsMakeHistories, DuesAreCounted, PageInsMayFollow, PollsMayFollow, ReceiptsMayFollow, SendsMayFollow, TimeOutsMayFollow, TurnsMayFollow};
 
@@ -88,4 +88,9 @@ pub fn unreleased_is_planned()
 /// A message is unknown only where the packet of its last try was not released, or was received and no answer to it was released.
 pub fn unknown_is_withheld()
     ensures { UnknownIsWithheld }
+{}
+
+/// Where the plan has no line that loses a packet or has it late, nothing is unknown.
+pub fn none_is_unknown()
+    ensures { NoneIsUnknown }
 {}
