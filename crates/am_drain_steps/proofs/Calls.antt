@@ -57,7 +57,7 @@ declared_in e (x ∷ xs) k n = by_test (has_id e x) k n (declared_in e xs)
     by_test true k n later = cc
     by_test false k n later = later k n
 
-declared_home : (layout : Layout) (e : EndpointId) → declared layout e ≡ true → home layout e ≡ None → ⊥
+pub declared_home : (layout : Layout) (e : EndpointId) → declared layout e ≡ true → home layout e ≡ None → ⊥
 declared_home layout e known none = declared_in e layout.ends known none
 
 -- ---- a call of the script

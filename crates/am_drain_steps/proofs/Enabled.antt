@@ -109,7 +109,7 @@ pub record IsStanding (layout : Layout) (past : List Entry) (st : Standing) : Ty
   pub state : st.state ≡ state_of layout past st.setting.id
   pub seated : IsSeated layout st.setting.id st.setting.node
 
-abbrev stand : Layout → List Entry → EndSetting → Standing
+abbrev pub stand : Layout → List Entry → EndSetting → Standing
 stand layout past s = record { setting = s; state = state_of layout past s.id }
 
 pub is_standing : (layout : Layout) (past : List Entry) (p : Standing → Bool) (st : Standing) → IsLawful layout → find p (standings layout past) ≡ Some st → IsStanding layout past st

@@ -1,6 +1,6 @@
 -- No two endpoints of a node lie in one frame.
-use Rattle.std.proofs.Common.{◌≡◌, ℕ, Bool, true, false, cond, ◌||◌, List, [], ◌∷◌, ◌++◌, Option, Some, None, refl, sym, ap, ◌∙◌, true≢false, eqb-true, if◌then◌else◌}
-use Rattle.std.specs.Prelude.{◌&&◌, not}
+use Rattle.std.proofs.Common.{◌≡◌, ℕ, ◌<◌, Bool, true, false, cond, ◌||◌, List, [], ◌∷◌, ◌++◌, Option, Some, None, refl, sym, ap, ◌∙◌, arith, true≢false, eqb-true, ltb-true, if◌then◌else◌}
+use Rattle.std.specs.Prelude.{◌&&◌, not, nat_lt}
 use Rattle.std.specs.List.{list_any, find}
 use Rattle.std.proofs.lemmas.Bool.{and_from, and_parts}
 use Rattle.am_names.specs.declared.EndpointId.{EndpointId}
@@ -20,12 +20,12 @@ use Rattle.am_office.specs.declared.Entry.{Entry}
 use Rattle.am_office.specs.Entries.{touches, ends_touched}
 use Rattle.am_model.specs.Endpoint.{State, is_on_host}
 use Rattle.am_model.specs.Changes.{called, left, reached, received, expired, bound, paged_out, paged_in, put, changed}
-use Rattle.am_model.specs.Layout.{Layout, EndSetting, AreApart, IsLawful, has_id, opening_by, opening_place}
-use Rattle.am_model.specs.History.{MayFollow, state_of, failing, is_home, is_in_frame, is_frame_held}
+use Rattle.am_model.specs.Layout.{Layout, EndSetting, AreApart, IsLawful, has_id, declared, opening_by, opening_place}
+use Rattle.am_model.specs.History.{MayFollow, state_of, failing, is_in_range, is_home, is_in_frame, is_frame_held}
 use Rattle.am_model.proofs.Each.{over_each, state_of_push}
 use Rattle.am_model.proofs.Books.{same_end-is}
 use Rattle.am_scripts.proofs.Links.{same_node-is}
-use Rattle.am_drain_steps.specs.Frames.{AreApartInFrames, FramesAreApart}
+use Rattle.am_drain_steps.specs.Frames.{AreApartInFrames, FramesAreApart, UsesItsFrames, FramesAreUsed}
 use Rattle.am_drain_steps.proofs.Enabled.{same_self}
 use Rattle.am_drain_steps.proofs.Away.{one_touched}
 
@@ -223,15 +223,35 @@ apart_more layout past x ok k may e f node frame he hf ie if' =
         let same : e ≡ f = one_load layout e f frame frame x.event ((lay layout past x e frame ie).loaded ae) ((lay layout past x f frame if').loaded af) in
         ap (same_end e) (sym same) ∙ same_self e
 
+-- an endpoint begins in no frame
+begins_in_none : (layout : Layout) (frame : ℕ) (o : Option EndSetting) → is_in_frame frame (opening_by layout o).head.place ≡ true → ⊥
+begins_in_none layout frame None i = true≢false (sym i)
+begins_in_none layout frame (Some s) i = by_place layout.direct s.disk i
+  where
+    by_place : (direct disk : Bool) → is_in_frame frame (opening_place direct disk) ≡ true → ⊥
+    by_place true disk j = true≢false (sym j)
+    by_place false true j = true≢false (sym j)
+    by_place false false j = true≢false (sym j)
+
 pub frames_are_apart : FramesAreApart
 frames_are_apart layout past ok h =
-    over_each (MayFollow layout) (λ xs. AreApartInFrames layout xs) (λ xs x k may. apart_more layout xs x ok k may) [] past (λ e f node frame he hf ie if'. absurd (none e frame (find (has_id e) layout.ends) ie)) h
+    over_each (MayFollow layout) (λ xs. AreApartInFrames layout xs) (λ xs x k may. apart_more layout xs x ok k may) [] past (λ e f node frame he hf ie if'. absurd (begins_in_none layout frame (find (has_id e) layout.ends) ie)) h
+
+-- ---- frames in use are the layout's
+
+loaded_below : (layout : Layout) (e : EndpointId) (frame : ℕ) (event : Event) → is_in_range layout event ≡ true → is_load_of e frame event → frame < layout.frames
+loaded_below layout e frame (Events.Load node end into) ranged (own, same) =
+    let low : into < layout.frames = ltb-true into layout.frames (and_parts (declared layout end && nat_lt node.0 layout.nodes) (nat_lt into layout.frames) ranged).1 in
+    omega (arith, low, same)
+loaded_below layout e frame event ranged load = absurd load
+
+below_more : (layout : Layout) (past : List Entry) (x : Entry) → UsesItsFrames layout past → MayFollow layout past x → UsesItsFrames layout (past ++ x ∷ [])
+below_more layout past x k may e frame i = by_before (is_in_frame frame (state_of layout past e).head.place) refl
   where
-    none : (e : EndpointId) (frame : ℕ) (o : Option EndSetting) → is_in_frame frame (opening_by layout o).head.place ≡ true → ⊥
-    none e frame None i = true≢false (sym i)
-    none e frame (Some s) i = by_place layout.direct s.disk i
-      where
-        by_place : (direct disk : Bool) → is_in_frame frame (opening_place direct disk) ≡ true → ⊥
-        by_place true disk j = true≢false (sym j)
-        by_place false true j = true≢false (sym j)
-        by_place false false j = true≢false (sym j)
+    by_before : (b : Bool) → is_in_frame frame (state_of layout past e).head.place ≡ b → frame < layout.frames
+    by_before true is = k e frame is
+    by_before false is = loaded_below layout e frame x.event may.in_range ((lay layout past x e frame i).loaded is)
+
+pub frames_are_used : FramesAreUsed
+frames_are_used layout past h =
+    over_each (MayFollow layout) (λ xs. UsesItsFrames layout xs) (λ xs x k may. below_more layout xs x k may) [] past (λ e frame i. absurd (begins_in_none layout frame (find (has_id e) layout.ends) i)) h

@@ -4,5 +4,14 @@ pub mod Paging
 pub mod Calls
 pub mod Receipts
 pub mod Frames
+pub mod Moves
+pub mod Emptying
+pub mod Readying
+pub mod Sends
 pub mod Withheld
 pub mod Turning
+pub mod Counted
+pub mod Unheard
+pub mod Answered
+pub mod Unknown
+pub mod Nothing

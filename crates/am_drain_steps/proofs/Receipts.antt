@@ -46,6 +46,15 @@ use Rattle.am_drain_steps.proofs.Enabled.{no_fail, event_follows, of_packets, no
 
 -- ---- the number of a packet that is emitted
 
+-- the nodes of a packet's link
+abbrev pub from_of : Packet → NodeId
+from_of (Packets.Parcel p) = p.from
+from_of (Packets.Answer p) = p.from
+
+abbrev pub to_of : Packet → NodeId
+to_of (Packets.Parcel p) = p.to
+to_of (Packets.Answer p) = p.to
+
 -- a packet has the next number of its link
 abbrev IsNext : List Entry → Packet → Type 0
 IsNext past (Packets.Parcel p) = p.number ≡ next_number p.from p.to past
@@ -109,6 +118,14 @@ event_next layout past stamp (Events.Bind node end) = front_next layout node pas
 event_next layout past stamp (Events.Expire node peer channel) = expire_next layout node peer channel past stamp (bound_message (channel_to node peer channel) past)
 event_next layout past stamp (Events.Receive node peer number) = receive_next layout node peer number past stamp (slice_get (emitted peer node past) (number - 1))
 event_next layout past stamp event = tt
+
+-- a packet that an entry emits has the next number of its link
+pub packet_next : (layout : Layout) (past : List Entry) (x : Entry) → MayFollow layout past x → (p : Packet) → emitted_of x ≡ Some p → number_of p ≡ next_number (from_of p) (to_of p) past
+packet_next layout past x may p is = of_kind p (subst (λ (o : Option Packet). AreNext past o) is (subst (λ (o : Outcome). AreNext past (emitted_in x.stamp x.event o)) (sym may.outcome) (event_next layout past x.stamp x.event)))
+  where
+    of_kind : (q : Packet) → IsNext past q → number_of q ≡ next_number (from_of q) (to_of q) past
+    of_kind (Packets.Parcel q) h = h
+    of_kind (Packets.Answer q) h = h
 
 -- ---- the numbers of a link
 

@@ -11,7 +11,7 @@ use Rattle.am_drain_steps.specs.Endings.{is_among, IsFaultOf, UnreleasedIsPlanne
 
 -- ---- among
 
-among_left : (n : ℕ) (xs ys : List Packet) → is_among n (map number_of xs) ≡ true → is_among n (map number_of (xs ++ ys)) ≡ true
+pub among_left : (n : ℕ) (xs ys : List Packet) → is_among n (map number_of xs) ≡ true → is_among n (map number_of (xs ++ ys)) ≡ true
 among_left n [] ys h = absurd (true≢false (sym h))
 among_left n (x ∷ xs) ys h = by_test (number_of x == n) h (among_left n xs ys)
   where
@@ -19,7 +19,7 @@ among_left n (x ∷ xs) ys h = by_test (number_of x == n) h (among_left n xs ys)
     by_test true k later = refl
     by_test false k later = later k
 
-among_right : (n : ℕ) (xs ys : List Packet) → is_among n (map number_of ys) ≡ true → is_among n (map number_of (xs ++ ys)) ≡ true
+pub among_right : (n : ℕ) (xs ys : List Packet) → is_among n (map number_of ys) ≡ true → is_among n (map number_of (xs ++ ys)) ≡ true
 among_right n [] ys h = h
 among_right n (x ∷ xs) ys h = by_test (number_of x == n) (among_right n xs ys h)
   where
@@ -27,7 +27,7 @@ among_right n (x ∷ xs) ys h = by_test (number_of x == n) (among_right n xs ys 
     by_test true k = refl
     by_test false k = k
 
-among_first : (n : ℕ) (p : Packet) (ps : List Packet) → number_of p ≡ n → is_among n (map number_of (p ∷ ps)) ≡ true
+pub among_first : (n : ℕ) (p : Packet) (ps : List Packet) → number_of p ≡ n → is_among n (map number_of (p ∷ ps)) ≡ true
 among_first n p ps same = ap (λ (b : Bool). b || is_among n (map number_of ps)) (eq-eqb (number_of p) n same)
 
 among_later : (n : ℕ) (p : Packet) (ps : List Packet) → is_among n (map number_of ps) ≡ true → is_among n (map number_of (p ∷ ps)) ≡ true

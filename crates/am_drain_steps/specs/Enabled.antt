@@ -16,7 +16,7 @@ use Rattle.am_scripts.specs.Standings.{standings}
 use Rattle.am_drain.specs.declared.Turn.{Turn}
 use Rattle.am_drain.specs.declared.Turn.TheVariants.{Once, Make}
 use Rattle.am_drain.specs.Rules.{next_time_out, next_page_in, next_send, next_poll, next_turn}
-use Rattle.am_drain.specs.Drain.{after_turn}
+use Rattle.am_drain.specs.Drain.{after_turn, IsDrained}
 
 -- a history of a lawful scenario of the packet network
 pub record IsOfRun (s : ScenarioLists) (past : List Entry) : Type 0 where
@@ -52,7 +52,15 @@ abbrev pub PollsMayFollow : Type 0
 PollsMayFollow =
     (s : ScenarioLists) (past : List Entry) (t : Turn) → IsOfRun s past → next_page_in (standings (layout_of s) past) ≡ None → next_poll (standings (layout_of s) past) ≡ Some t → IsHistory (layout_of s) (after_turn s past t)
 
--- a turn makes a history of a history, where it does so as a send
+-- and a send with the making ready of its two endpoints, while no channel is bound
+abbrev pub SendsMayFollow : Type 0
+SendsMayFollow =
+    (s : ScenarioLists) (past : List Entry) (t : Turn) → IsOfRun s past → next_time_out s past ≡ None → next_send (standings (layout_of s) past) ≡ Some t → IsHistory (layout_of s) (after_turn s past t)
+
+-- so does each turn
 abbrev pub TurnsMayFollow : Type 0
-TurnsMayFollow =
-    (s : ScenarioLists) (past : List Entry) (t : Turn) → IsOfRun s past → length past < 2 ^ 32 → (next_send (standings (layout_of s) past) ≡ Some t → IsHistory (layout_of s) (after_turn s past t)) → next_turn s past ≡ Some t → IsHistory (layout_of s) (after_turn s past t)
+TurnsMayFollow = (s : ScenarioLists) (past : List Entry) (t : Turn) → IsOfRun s past → length past < 2 ^ 32 → next_turn s past ≡ Some t → IsHistory (layout_of s) (after_turn s past t)
+
+-- so a drain makes a history of a history, where its journal is shorter than the numbers that there are
+abbrev pub DrainsMakeHistories : Type 0
+DrainsMakeHistories = (s : ScenarioLists) (past journal : List Entry) → IsOfRun s past → IsDrained s past journal → length journal < 2 ^ 32 → IsHistory (layout_of s) journal

@@ -3,9 +3,10 @@
 #![tactic(auto)]
 
 ghost use Rattle.am_drain_steps.specs.Away.{AwayIsSettled};
-ghost use Rattle.am_drain_steps.specs.Frames.{FramesAreApart};
-ghost use Rattle.am_drain_steps.specs.Endings.{UnreleasedIsPlanned};
-ghost use Rattle.am_drain_steps.specs.Enabled.{CallsMayFollow, DuesAreCounted, PageInsMayFollow, PollsMayFollow, ReceiptsMayFollow, TimeOutsMayFollow, TurnsMayFollow};
+ghost use Rattle.am_drain_steps.specs.Frames.{FramesAreApart, FramesAreUsed};
+ghost use Rattle.am_drain_steps.specs.Endings.{NoneIsUnknown, UnknownIsWithheld, UnreleasedIsPlanned};
+ghost use Rattle.am_drain_steps.specs.Readied.{OffDiskIsOff, ReadyIsReady};
+ghost use Rattle.am_drain_steps.specs.Enabled.{CallsMayFollow, DrainsMakeHistories, DuesAreCounted, PageInsMayFollow, PollsMayFollow, ReceiptsMayFollow, SendsMayFollow, TimeOutsMayFollow, TurnsMayFollow};
 
 /// In each history of the packet network an endpoint on the host that isn't wanted has no message queued, and one on disk that
 /// isn't wanted holds no message at all.
@@ -16,6 +17,11 @@ pub fn away_is_settled()
 /// In each history of a lawful layout no two endpoints of a node lie in one frame.
 pub fn frames_are_apart()
     ensures { FramesAreApart }
+{}
+
+/// In each history every frame that an endpoint lies in is one of the layout's.
+pub fn frames_are_used()
+    ensures { FramesAreUsed }
 {}
 
 /// A packet that is due has a number from 1 on, and so many were emitted on its link.
@@ -48,12 +54,43 @@ pub fn polls_may_follow()
     ensures { PollsMayFollow }
 {}
 
-/// So does each turn, where it does so as a send.
+/// So does a send with the making ready of its two endpoints, while no channel is bound: each of them goes into a frame, an
+/// endpoint that the message isn't about leaves its frame where none is free, and there is a channel for the message.
+pub fn sends_may_follow()
+    ensures { SendsMayFollow }
+{}
+
+/// So does each turn.
 pub fn turns_may_follow()
     ensures { TurnsMayFollow }
+{}
+
+/// So does a whole drain, where its journal is shorter than the numbers that there are.
+pub fn drains_make_histories()
+    ensures { DrainsMakeHistories }
+{}
+
+/// An endpoint that is taken off the disk is off it, whatever page calls fail.
+pub fn off_disk_is_off()
+    ensures { OffDiskIsOff }
+{}
+
+/// An open endpoint that is made ready for a message of its own lies in a frame and doesn't drain, while no channel is bound.
+pub fn ready_is_ready()
+    ensures { ReadyIsReady }
 {}
 
 /// What the emissions on a link have not released, the plan loses, or has late beyond them.
 pub fn unreleased_is_planned()
     ensures { UnreleasedIsPlanned }
+{}
+
+/// A message is unknown only where the packet of its last try was not released, or was received and no answer to it was released.
+pub fn unknown_is_withheld()
+    ensures { UnknownIsWithheld }
+{}
+
+/// Where the plan has no line that loses a packet or has it late, nothing is unknown.
+pub fn none_is_unknown()
+    ensures { NoneIsUnknown }
 {}

@@ -22,7 +22,7 @@ use Rattle.am_names.specs.Names.{same_end}
 use Rattle.am_model.specs.declared.Queued.{Queued}
 use Rattle.am_model.specs.declared.Flying.{Flying}
 use Rattle.am_model.specs.declared.Notice.{Notice}
-use Rattle.am_model.specs.Endpoint.{State, Body, is_resident}
+use Rattle.am_model.specs.Endpoint.{State, Body, is_resident, front_of, front}
 use Rattle.am_model.specs.Calls.{outcome_of_call, is_idle, messages_held, answer}
 use Rattle.am_model.specs.Changes.{called, left, reached, paged_out, paged_in, changed, put, received, expired, bound, without_flight}
 use Rattle.am_office.specs.Entries.{accepted_by, put_of, run_by, ends_touched, touches}
@@ -415,3 +415,17 @@ open_aloft layout past h e low = by_closed (state_of layout past e).head.closed 
     by_closed : (b : Bool) → (state_of layout past e).head.closed ≡ b → b ≡ false
     by_closed false is = refl
     by_closed true is = absurd (omega (arith, low, ((closings layout past h).empty e is).0))
+
+some_queued : (replies requests : List Queued) (q : Queued) → front_of replies requests ≡ Some q → 1 ≤ length replies + length requests
+some_queued [] [] q is = absurd (cc)
+some_queued [] (request ∷ requests) q is = omega arith
+some_queued (reply ∷ replies) requests q is = omega arith
+
+-- an endpoint with a message to send is open
+pub open_queued : (layout : Layout) (past : List Entry) → IsHistory layout past → (e : EndpointId) (q : Queued) → front (state_of layout past e) ≡ Some q → (state_of layout past e).head.closed ≡ false
+open_queued layout past h e q is = by_closed (state_of layout past e).head.closed refl
+  where
+    by_closed : (b : Bool) → (state_of layout past e).head.closed ≡ b → b ≡ false
+    by_closed false closed = refl
+    by_closed true closed =
+        absurd (omega (arith, some_queued (state_of layout past e).body.replies (state_of layout past e).body.requests q is, ones_queue (state_of layout past e).body.replies, ones_queue (state_of layout past e).body.requests, ((closings layout past h).empty e closed).0))
