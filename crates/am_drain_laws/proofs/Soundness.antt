@@ -68,7 +68,7 @@ node_step : (P : NodeId → Type 0) (a k : ℕ) (b : Bool) → (k == a) ≡ b �
 node_step P a k true is here later = subst (λ (i : ℕ). P (node_at i)) (sym (eqb-true k a is)) here
 node_step P a k false is here later = later (eqb-false k a is)
 
-node_holds : (P : NodeId → Type 0) (a n k : ℕ) → AllByRecursion P (map node_at (range_with_len a n)) → a ≤ k → k < a + n → P (node_at k)
+pub node_holds : (P : NodeId → Type 0) (a n k : ℕ) → AllByRecursion P (map node_at (range_with_len a n)) → a ≤ k → k < a + n → P (node_at k)
 node_holds P a zero k all low high = absurd (omega (arith, low, high))
 node_holds P a (suc n) k all low high =
     node_step P a k (k == a) refl all.0 (λ (apart : k ≡ a → ⊥). node_holds P (a + 1) n k all.1 (above a k low apart) (omega (arith, high)))

@@ -71,7 +71,7 @@ placed_more layout past x may k p h =
     ap (λ (ps : List Packet). slice_get (emitted (from_of p) (to_of p) past ++ ps) (number_of p - 1)) (own_emission p x new) ∙ slice_last (emitted (from_of p) (to_of p) past) (number_of p - 1) p (omega (arith, number)))
     (emitted_more p past x h)
 
-second_none : (a b : Bool) (u v : Condition) → cond a (Some u) (cond b (Some v) None) ≡ None → b ≡ false
+pub second_none : (a b : Bool) (u v : Condition) → cond a (Some u) (cond b (Some v) None) ≡ None → b ≡ false
 second_none true b u v h = absurd (cc)
 second_none false true u v h = absurd (cc)
 second_none false false u v h = refl

@@ -15,3 +15,4 @@ pub mod Unheard
 pub mod Answered
 pub mod Unknown
 pub mod Nothing
+pub mod Falling

@@ -76,7 +76,7 @@ one_call_more layout node e past =
     let pushed = sum_by_push (λ (y : Entry). cond (is_page_call node y.event) 1 0) past x in
     omega (arith, own, pushed)
 
-after_page_in : (layout : Layout) (node : NodeId) (e : EndpointId) (past : List Entry) → state_of layout (after_event layout (Events.PageIn node e) past) e ≡ paged_in (state_of layout past e) (page layout node past)
+pub after_page_in : (layout : Layout) (node : NodeId) (e : EndpointId) (past : List Entry) → state_of layout (after_event layout (Events.PageIn node e) past) e ≡ paged_in (state_of layout past e) (page layout node past)
 after_page_in layout node e past =
     state_of_push layout past (next_entry layout past (Events.PageIn node e)) e true (ap (λ (b : Bool). b || false) (same_self e))
 

@@ -13,6 +13,10 @@ use Rattle.am_drain.specs.Drain.{after_turn}
 use Rattle.am_drain.specs.Rules.{left_to, fewer, make_of}
 use Rattle.am_drain.proofs.Turns.{IsTurnBy, Receives, TimesOut, PagesIn, Sends, Makes, Polls, turn_by, over_turns, turn_longer}
 use Rattle.am_drain.proofs.TurnKinds.{Kind, Receipt, Plain, Call, kind_of}
+use Rattle.am_drain.specs.Follows.{FollowsScripts}
+use Rattle.am_drain_laws.proofs.Pending.{none_pending}
+use Rattle.am_drain_laws.proofs.Soundness.{drains_follow}
+use Rattle.am_drain_steps.specs.Runs.{DrainsMakeRuns}
 use Rattle.am_drain_steps.specs.Enabled.{IsOfRun, TurnsMayFollow, DrainsMakeHistories}
 use Rattle.am_drain_steps.proofs.Enabled.{MakesHistory, time_outs_may_follow, page_ins_may_follow, polls_may_follow}
 use Rattle.am_drain_steps.proofs.Calls.{calls_may_follow}
@@ -47,3 +51,9 @@ drains_make_histories s past journal run (n, d) short =
     let less : length xs < 2 ^ 32 = omega (arith, longer, low) in
     by_rule s xs t (record { lawful = run.lawful; packet = run.packet; history = h less }) less rule)
     past journal (λ low. run.history) d.made short
+
+pub drains_make_runs : DrainsMakeRuns
+drains_make_runs s phase journal ok packet good drained short =
+    let h : IsHistory (layout_of s) journal = drains_make_histories s phase journal (record { lawful = ok; packet = packet; history = good.history }) drained short in
+    let follows : FollowsScripts s journal = drains_follow s phase journal ok good drained h in
+    record { history = h; follows = follows; settled = λ m accepted. none_pending s journal ok h follows.rest m accepted }

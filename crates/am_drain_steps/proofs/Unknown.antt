@@ -1,14 +1,13 @@
 -- A message is unknown only where the plan withholds packets of the last try.
-use Rattle.std.proofs.Common.{◌≡◌, inl, inr, ℕ, zero, suc, ◌+◌, ◌<◌, ◌≤◌, Bool, true, false, cond, ◌||◌, List, [], ◌∷◌, ◌++◌, map, Option, Some, None, refl, sym, ap, ◌∙◌, subst, arith, true≢false, ltb-true, ltb-false, eqb-true}
-use Rattle.std.specs.Prelude.{◌&&◌, ◌==◌, not, nat_lt, is_none, is_some}
-use Rattle.std.specs.List.{range_with_len, AllByRecursion}
-use Rattle.std.proofs.lemmas.Bool.{and_parts, eqb-false}
+use Rattle.std.proofs.Common.{◌≡◌, inl, inr, ℕ, ◌<◌, Bool, true, false, ◌||◌, List, [], ◌∷◌, ◌++◌, Option, Some, None, refl, sym, ap, ◌∙◌, subst, arith, true≢false, ltb-true}
+use Rattle.std.specs.Prelude.{◌&&◌, not, nat_lt, is_none, is_some}
+use Rattle.std.specs.List.{AllByRecursion}
+use Rattle.std.proofs.lemmas.Bool.{and_parts}
 use Rattle.am_names.specs.declared.NodeId.{NodeId}
 use Rattle.am_names.specs.declared.Message.{Message}
 use Rattle.am_names.specs.declared.Serial.{Serial}
 use Rattle.am_names.specs.declared.Parcel.{Parcel}
 use Rattle.am_names.specs.declared.Packet.TheVariants as Packets
-use Rattle.am_office.specs.declared.Condition.{Condition}
 use Rattle.am_office.specs.declared.Condition.TheVariants as Needs
 use Rattle.am_office.specs.declared.Event.{Event}
 use Rattle.am_office.specs.declared.Event.TheVariants as Events
@@ -21,31 +20,18 @@ use Rattle.am_model.proofs.Each.{each_front, each_at}
 use Rattle.am_laws_channels.proofs.Sent.{gave_emitted}
 use Rattle.am_scenario_types.specs.Lists.{ScenarioLists}
 use Rattle.am_follow.specs.Layout.{layout_of}
-use Rattle.am_scripts.specs.Links.{node_at, nodes_of, received, numbers_released, next_receipt, is_all_received, IsReceiptInOrder, ReceivesInOrder, KeepsLinks}
+use Rattle.am_scripts.specs.Links.{nodes_of, received, numbers_released, next_receipt, is_all_received, IsReceiptInOrder, ReceivesInOrder, KeepsLinks}
 use Rattle.am_scripts.specs.Follows.{is_last_in, is_last}
 use Rattle.am_scripts.proofs.Links.{all_is_received}
+use Rattle.am_drain_laws.proofs.Soundness.{node_holds}
 use Rattle.am_drain.specs.Follows.{FollowsScripts}
 use Rattle.am_drain_steps.specs.Enabled.{IsOfRun}
 use Rattle.am_drain_steps.specs.Endings.{is_among, IsLastTry, IsUnanswered, IsWithheld, UnknownIsWithheld}
+use Rattle.am_drain_steps.proofs.Away.{not_false}
+use Rattle.am_drain_steps.proofs.Counted.{second_none}
 use Rattle.am_drain_steps.proofs.Unheard.{asked, unheard}
 
 -- ---- of each node
-
-above : (a k : ℕ) → a ≤ k → (k ≡ a → ⊥) → a + 1 ≤ k
-above a k low apart = by_test (nat_lt a k) refl
-  where
-    by_test : (b : Bool) → nat_lt a k ≡ b → a + 1 ≤ k
-    by_test true lt = omega (arith, ltb-true a k lt)
-    by_test false le = absurd (apart (omega (arith, low, ltb-false a k le)))
-
-node_step : (P : NodeId → Type 0) (a k : ℕ) (b : Bool) → (k == a) ≡ b → P (node_at a) → ((k ≡ a → ⊥) → P (node_at k)) → P (node_at k)
-node_step P a k true is here later = subst (λ (i : ℕ). P (node_at i)) (sym (eqb-true k a is)) here
-node_step P a k false is here later = later (eqb-false k a is)
-
-node_holds : (P : NodeId → Type 0) (a n k : ℕ) → AllByRecursion P (map node_at (range_with_len a n)) → a ≤ k → k < a + n → P (node_at k)
-node_holds P a zero k all low high = absurd (omega (arith, low, high))
-node_holds P a (suc n) k all low high =
-    node_step P a k (k == a) refl all.0 (λ (apart : k ≡ a → ⊥). node_holds P (a + 1) n k all.1 (above a k low apart) (omega (arith, high)))
 
 link_is_received : (s : ScenarioLists) (past : List Entry) (from to : NodeId) → KeepsLinks s past → from.0 < s.nodes → to.0 < s.nodes → received from to past ≡ numbers_released s from to past
 link_is_received s past from to k f t =
@@ -54,15 +40,6 @@ link_is_received s past from to k f t =
     (omega arith) (omega (arith, f))
 
 -- ---- a time-out that leaves a message unknown
-
-second_none : (a b : Bool) (u v : Condition) → cond a (Some u) (cond b (Some v) None) ≡ None → b ≡ false
-second_none true b u v h = absurd (cc)
-second_none false true u v h = absurd (cc)
-second_none false false u v h = refl
-
-twice : (b : Bool) → not b ≡ false → b ≡ true
-twice true h = refl
-twice false h = absurd (true≢false h)
 
 some_of : (o : Option Message) → is_some o ≡ true → (m : Message) × (o ≡ Some m)
 some_of None h = absurd (true≢false (sym h))
@@ -126,7 +103,7 @@ expired s past later x node peer channel serial run follows ev ou =
     let ranged : is_in_range layout (Events.Expire node peer channel) ≡ true = sym (ap (is_in_range layout) ev) ∙ may.in_range in
     let enabled : failing layout past (Events.Expire node peer channel) ≡ None = sym (ap (failing layout past) ev) ∙ may.enabled in
     let nodes = and_parts (nat_lt node.0 layout.nodes) (nat_lt peer.0 layout.nodes) (and_parts (nat_lt node.0 layout.nodes && nat_lt peer.0 layout.nodes) (nat_lt channel layout.channels) ranged).0 in
-    let is : is_bound (channel_to node peer channel) past ≡ true = twice (is_bound (channel_to node peer channel) past) (second_none layout.direct (not (is_bound (channel_to node peer channel) past)) Needs.NotPacket Needs.Idle enabled) in
+    let is : is_bound (channel_to node peer channel) past ≡ true = not_false (is_bound (channel_to node peer channel) past) (second_none layout.direct (not (is_bound (channel_to node peer channel) past)) Needs.NotPacket Needs.Idle enabled) in
     let m = some_of (bound_message (channel_to node peer channel) past) is in
     let links : KeepsLinks s past = last_after_all s past x node peer channel serial order comes_last ev ou in
     record { message = m.0; bound = m.1; withheld = λ p last. withheld s past node peer channel m.0 p h links (ltb-true node.0 layout.nodes nodes.0) (ltb-true peer.0 layout.nodes nodes.1) m.1 last }

@@ -1,5 +1,6 @@
--- What is so of every drain and its end, stated: it ends by itself, an unknown message stands only where the plan withholds packets
--- of the last try, and where the plan withholds none nothing is unknown and what is returned is returned for good.
+-- What is so of every drain and its end: an unknown message stands only where the plan withholds packets of the last try, and where
+-- the plan withholds none nothing is unknown. Two more are stated, and not proved: that it ends by itself (`EachTurnFalls`), and that
+-- where the plan withholds none what is returned is returned for good (`ReturnsAreForGood`).
 use Rattle.std.specs.Prelude.{◌≡◌, ◌≢◌, ◌⊎◌, ℕ, ◌+◌, ◌<◌, ◌≤◌, ◌^◌, ◌==◌, Bool, true, false, Option, Some, None, List, ◌∷◌, ◌++◌, map, length, slice_get}
 use Rattle.std.specs.List.{All, list_any}
 use Rattle.am_names.specs.Rules.{is_transient}
@@ -25,7 +26,11 @@ use Rattle.am_plan.specs.declared.plan.PlanLine.{PlanLine}
 use Rattle.am_plan.specs.Shape.{fault_at, number_of, shape}
 use Rattle.am_scenario_types.specs.Lists.{ScenarioLists}
 use Rattle.am_scripts.specs.Links.{ReceivesInOrder, numbers_released, received}
-use Rattle.am_drain.specs.Drain.{turn}
+use Rattle.am_follow.specs.Layout.{layout_of}
+use Rattle.am_scripts.specs.Standings.{standings}
+use Rattle.am_drain.specs.declared.Turn.{Turn}
+use Rattle.am_drain.specs.Rules.{next_page_in}
+use Rattle.am_drain.specs.Drain.{turn, after_turn}
 use Rattle.am_drain.specs.Follows.{FollowsScripts}
 use Rattle.am_drain_steps.specs.Enabled.{IsOfRun}
 use Rattle.am_drain_steps.specs.Work.{work}
@@ -34,6 +39,11 @@ use Rattle.am_drain_steps.specs.Work.{work}
 abbrev pub EachTurnFalls : Type 0
 EachTurnFalls =
     (s : ScenarioLists) (past next : List Entry) → IsOfRun s past → ReceivesInOrder s past → length past < 2 ^ 32 → turn s past ≡ Some next → work s next < work s past
+
+-- so with a page-in that the drain names
+abbrev pub PageInsFall : Type 0
+PageInsFall =
+    (s : ScenarioLists) (past : List Entry) (t : Turn) → IsOfRun s past → next_page_in (standings (layout_of s) past) ≡ Some t → work s (after_turn s past t) < work s past
 
 -- whether a number is among these
 abbrev pub is_among : ℕ → List ℕ → Bool

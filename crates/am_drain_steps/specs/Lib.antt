@@ -4,3 +4,4 @@ pub mod Enabled
 pub mod Readied
 pub mod Work
 pub mod Endings
+pub mod Runs

@@ -4,7 +4,8 @@
 
 ghost use Rattle.am_drain_steps.specs.Away.{AwayIsSettled};
 ghost use Rattle.am_drain_steps.specs.Frames.{FramesAreApart, FramesAreUsed};
-ghost use Rattle.am_drain_steps.specs.Endings.{NoneIsUnknown, UnknownIsWithheld, UnreleasedIsPlanned};
+ghost use Rattle.am_drain_steps.specs.Endings.{NoneIsUnknown, PageInsFall, UnknownIsWithheld, UnreleasedIsPlanned};
+ghost use Rattle.am_drain_steps.specs.Runs.{DrainsMakeRuns};
 ghost use Rattle.am_drain_steps.specs.Readied.{OffDiskIsOff, ReadyIsReady};
 ghost use Rattle.am_drain_steps.specs.Enabled.{CallsMayFollow, DrainsMakeHistories, DuesAreCounted, PageInsMayFollow, PollsMayFollow, ReceiptsMayFollow, SendsMayFollow, TimeOutsMayFollow, TurnsMayFollow};
 
@@ -93,4 +94,15 @@ pub fn unknown_is_withheld()
 /// Where the plan has no line that loses a packet or has it late, nothing is unknown.
 pub fn none_is_unknown()
     ensures { NoneIsUnknown }
+{}
+
+/// A drain of a good phase makes a history that follows the scripts and leaves no accepted message pending, where its journal is
+/// shorter than the numbers that there are.
+pub fn drains_make_runs()
+    ensures { DrainsMakeRuns }
+{}
+
+/// A page-in that the drain names leaves less work: an endpoint less on disk, or a fault less that is left.
+pub fn page_ins_fall()
+    ensures { PageInsFall }
 {}
