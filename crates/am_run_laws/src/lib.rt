@@ -2,6 +2,7 @@
 //! contract of a function with an empty body.
 #![tactic(auto)]
 
+ghost use Rattle.am_run_laws.specs.Drained.{RoomKeepsLogs};
 ghost use Rattle.am_run_laws.specs.Short.{JournalsAreNumbered, JournalsAreShort};
 
 /// A history of a lawful layout with no log longer than it may be has at most 272 times as many entries as a log.
@@ -13,3 +14,9 @@ pub fn journals_are_short()
 pub fn journals_are_numbered()
     ensures { JournalsAreNumbered }
 {}
+
+/// Entries that meet no full log leave no log longer than it may be.
+pub fn room_keeps_logs()
+    ensures { RoomKeepsLogs }
+{}
+
