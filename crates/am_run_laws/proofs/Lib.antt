@@ -4,3 +4,6 @@ pub mod Logs
 pub mod Fits
 pub mod Zone
 pub mod Received
+pub mod Queues
+pub mod Heard
+pub mod Still
