@@ -1,9 +1,7 @@
 -- A parcel that was received isn't taken for fresh again.
 use Rattle.std.specs.Prelude.{slice_get, nat_lt, ◌==◌, ◌||◌, if◌then◌else◌}
 use Rattle.std.specs.List.{cons_option}
-use Rattle.std.proofs.Common.{◌≡◌, ◌≢◌, ◌⊎◌, ⊎_elim, ℕ, ◌+◌, ◌-◌, ◌<◌, Bool, true, false, List, [], ◌∷◌, ◌++◌, Option, Some, refl, sym, ap, ◌∙◌, subst, arith, ltb-true, eqb-true}
-use Rattle.std.proofs.lemmas.Bool.{eqb-false, ltb-false}
-use Rattle.am_names.specs.declared.Packet.{Packet}
+use Rattle.std.proofs.Common.{◌≡◌, ◌≢◌, ⊎_elim, ℕ, ◌-◌, ◌<◌, Bool, true, false, List, [], ◌∷◌, ◌++◌, Some, refl, sym, ap, ◌∙◌, subst, arith, ltb-true, eqb-true}
 use Rattle.am_names.specs.declared.Packet.TheVariants as Packets
 use Rattle.am_names.specs.declared.Parcel.{Parcel}
 use Rattle.am_names.specs.declared.Verdict.{Verdict}
@@ -11,7 +9,6 @@ use Rattle.am_names.specs.declared.Verdict.TheVariants as Verdicts
 use Rattle.am_office.specs.declared.Entry.{Entry}
 use Rattle.am_office.specs.declared.Event.{Event}
 use Rattle.am_office.specs.declared.Event.TheVariants as Events
-use Rattle.am_office.specs.declared.Outcome.{Outcome}
 use Rattle.am_office.specs.declared.Outcome.TheVariants as Out
 use Rattle.am_office.specs.Entries.{emitted_of}
 use Rattle.am_model.specs.Channels.{Channel, Mark, Arrival, Stale, Again, Fresh, arrival, arrival_at, mark, mark_in, decides, emitted}
@@ -20,8 +17,7 @@ use Rattle.am_model.specs.History.{MayFollow, IsHistory, state_of, outcome_of, r
 use Rattle.am_model.specs.Layout.{Layout}
 use Rattle.am_model.proofs.Each.{over_each, each_push}
 use Rattle.am_model.proofs.Ends.{EmittedIn, emitted_more, mark_push}
-use Rattle.am_laws_order.proofs.Marks.{IsPast, back}
-use Rattle.am_laws_order.proofs.Parcels.{channel_of}
+use Rattle.am_laws_order.proofs.Marks.{IsPast}
 use Rattle.am_laws_order.proofs.Puts.{IsFresh, fresh_before}
 use Rattle.am_scripts.specs.Links.{number_received, received}
 use Rattle.am_scripts.proofs.Links.{received_push}

@@ -1,9 +1,7 @@
 -- The replies of an endpoint are answers, and what is in flight is as low in bounces as what is bound.
-use Rattle.std.specs.Prelude.{not, ◌==◌, ◌||◌, ◌&&◌, if◌then◌else◌}
-use Rattle.std.proofs.Common.{◌≡◌, ◌≢◌, ◌⊎◌, ⊎_elim, ℕ, ◌+◌, ◌<◌, ◌≤◌, Bool, true, false, cond, List, [], ◌∷◌, ◌++◌, map, drop, Option, Some, None, refl, sym, ap, ◌∙◌, subst, arith, true≢false}
-use Rattle.std.specs.List.{find, list_any}
-use Rattle.am_names.specs.Names.{same_end, same_serial, has_serial, is_request, is_answer}
-use Rattle.am_names.specs.declared.Cause.{Cause}
+use Rattle.std.proofs.Common.{◌≡◌, ◌≢◌, ℕ, Bool, true, false, List, [], ◌∷◌, ◌++◌, map, Option, Some, None, refl, sym, subst}
+use Rattle.std.specs.List.{find}
+use Rattle.am_names.specs.Names.{has_serial, is_answer}
 use Rattle.am_names.specs.declared.Cause.TheVariants.{NotResident}
 use Rattle.am_names.specs.declared.EndpointId.{EndpointId}
 use Rattle.am_names.specs.declared.Message.{Message}
@@ -18,16 +16,16 @@ use Rattle.am_office.specs.declared.Outcome.{Outcome}
 use Rattle.am_office.specs.declared.Outcome.TheVariants as Out
 use Rattle.am_office.specs.declared.Received.{Received}
 use Rattle.am_office.specs.declared.Received.TheVariants as Got
-use Rattle.am_office.specs.Entries.{touches, ends_touched}
+use Rattle.am_office.specs.Entries.{touches}
 use Rattle.am_model.specs.declared.Flying.{Flying}
 use Rattle.am_model.specs.declared.Queued.{Queued}
 use Rattle.am_model.specs.Choice.{without_first}
 use Rattle.am_model.specs.Changes.{appended, bounces_of, bound, called, changed, expired, flight_appended, flying_of, marked, paged_in, paged_out, received, with_marked}
 use Rattle.am_model.specs.Endpoint.{Body, State}
 use Rattle.am_model.specs.History.{MayFollow, IsHistory, state_of}
-use Rattle.am_model.specs.Layout.{Layout, EndSetting, AllAre, has_id, opening, opening_by}
+use Rattle.am_model.specs.Layout.{Layout, EndSetting, AllAre, has_id, opening_by}
 use Rattle.am_model.proofs.Each.{over_each, state_of_push}
-use Rattle.am_laws_messages.proofs.Alls.{all_push, all_tail, all_without, all_found}
+use Rattle.am_laws_messages.proofs.Alls.{all_push, all_tail, all_without}
 use Rattle.am_laws_order.proofs.Packets.{not_carry}
 
 abbrev pub Answers : Queued → Type 0

@@ -1,8 +1,7 @@
 -- Where nothing is to be received and the plan withholds nothing, nothing is on its way and no channel is bound.
 use Rattle.std.specs.Prelude.{slice_get, find, is_some, if◌then◌else◌}
 use Rattle.std.specs.List.{All, AllByRecursion, range_with_len}
-use Rattle.std.proofs.Common.{◌≡◌, ◌⊎◌, inl, inr, ⊎_elim, ℕ, zero, suc, ◌+◌, ◌-◌, ◌<◌, ◌≤◌, Bool, true, false, cond, List, [], ◌∷◌, ◌++◌, map, length, Option, Some, None, refl, sym, ap, ◌∙◌, subst, arith, true≢false}
-use Rattle.am_names.specs.declared.AnswerPacket.{AnswerPacket}
+use Rattle.std.proofs.Common.{◌≡◌, ◌⊎◌, inl, inr, ⊎_elim, ℕ, zero, suc, ◌+◌, ◌-◌, ◌<◌, Bool, true, false, cond, List, [], ◌∷◌, ◌++◌, map, length, Option, Some, None, refl, sym, ap, ◌∙◌, subst, arith, true≢false}
 use Rattle.am_names.specs.declared.Message.{Message}
 use Rattle.am_names.specs.declared.NodeId.{NodeId}
 use Rattle.am_names.specs.declared.Packet.{Packet}
@@ -10,15 +9,15 @@ use Rattle.am_names.specs.declared.Packet.TheVariants as Packets
 use Rattle.am_names.specs.declared.Parcel.{Parcel}
 use Rattle.am_office.specs.declared.Entry.{Entry}
 use Rattle.am_office.specs.declared.Event.TheVariants as Events
-use Rattle.am_model.specs.Channels.{Channel, sequence, attempt, bound_message, mark, emitted}
-use Rattle.am_model.specs.History.{MayFollow, IsHistory, is_bound, channel_to}
+use Rattle.am_model.specs.Channels.{Channel, sequence, attempt, bound_message, emitted}
+use Rattle.am_model.specs.History.{MayFollow, IsHistory, channel_to}
 use Rattle.am_model.specs.Layout.{Layout, IsLawful}
 use Rattle.am_model.proofs.Each.{over_each}
 use Rattle.am_model.proofs.Ends.{EmittedIn}
 use Rattle.am_laws_cluster.proofs.Bound.{in_flight_bound}
 use Rattle.am_laws_messages.proofs.Delivered.{delivers}
 use Rattle.am_laws_order.proofs.Puts.{IsFresh}
-use Rattle.am_laws_order.proofs.Marks.{ChannelsKept, channels_more, channels_begin, back, end_of}
+use Rattle.am_laws_order.proofs.Marks.{ChannelsKept, channels_more, channels_begin, end_of}
 use Rattle.am_plan.specs.declared.plan.LinkFault.{LinkFault}
 use Rattle.am_plan.specs.declared.plan.LinkFault.TheVariants.{Repeat}
 use Rattle.am_plan.specs.declared.plan.PlanLine.{PlanLine}
