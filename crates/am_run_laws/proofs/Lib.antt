@@ -9,3 +9,5 @@ pub mod Received
 pub mod Queues
 pub mod Heard
 pub mod Still
+pub mod Room
+pub mod Low
