@@ -11,3 +11,4 @@ pub mod Heard
 pub mod Still
 pub mod Room
 pub mod Low
+pub mod Returns

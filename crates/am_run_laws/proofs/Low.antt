@@ -1,8 +1,8 @@
 -- Before a message is bound for its last time each message in flight may bounce again.
 use Rattle.std.specs.Prelude.{nat_lt, ◌==◌, ◌||◌, count_by}
 use Rattle.std.specs.List.{find, list_any}
-use Rattle.std.proofs.Common.{◌≡◌, ◌⊎◌, ⊎_elim, ℕ, ◌+◌, ◌<◌, ◌≤◌, Bool, true, false, cond, List, [], ◌∷◌, ◌++◌, Option, Some, None, refl, sym, ap, ◌∙◌, subst, arith, true≢false, lt-ltb, append-nil}
-use Rattle.std.proofs.lemmas.Bool.{or_parts, eqb-false, or_cases}
+use Rattle.std.proofs.Common.{◌≡◌, ℕ, ◌+◌, ◌<◌, Bool, true, false, cond, List, [], ◌∷◌, ◌++◌, Option, Some, None, refl, sym, ap, ◌∙◌, subst, arith, true≢false, lt-ltb}
+use Rattle.std.proofs.lemmas.Bool.{or_parts, eqb-false}
 use Rattle.std.proofs.lemmas.List.Sums.{sum_by-cons}
 use Rattle.am_names.specs.Names.{same_end, has_serial}
 use Rattle.am_names.specs.declared.EndpointId.{EndpointId}
@@ -12,16 +12,15 @@ use Rattle.am_office.specs.declared.Event.{Event}
 use Rattle.am_office.specs.declared.Event.TheVariants as Events
 use Rattle.am_office.specs.declared.Outcome.{Outcome}
 use Rattle.am_office.specs.declared.Outcome.TheVariants as Out
-use Rattle.am_office.specs.Entries.{ends_touched, touches}
+use Rattle.am_office.specs.Entries.{ends_touched}
 use Rattle.am_model.specs.declared.Flying.{Flying}
 use Rattle.am_model.specs.declared.Queued.{Queued}
 use Rattle.am_model.specs.Changes.{bounces_of, flying_of}
 use Rattle.am_model.specs.Channels.{Channel, bound_message}
 use Rattle.am_model.specs.Cluster.{BouncesAreRequeues, HasBounced}
 use Rattle.am_model.specs.Endpoint.{front_of, front}
-use Rattle.am_model.specs.History.{MayFollow, EachAfter, IsHistory, state_of, bind, bounced, outcome_of}
+use Rattle.am_model.specs.History.{MayFollow, IsHistory, state_of, bind, bounced, outcome_of}
 use Rattle.am_model.specs.Layout.{Layout, AllAre}
-use Rattle.am_model.proofs.Each.{over_each, each_push}
 use Rattle.am_model.proofs.Names.{same_end-is}
 use Rattle.am_laws_cluster.proofs.Bound.{in_flight_bound}
 use Rattle.am_laws_endpoints.proofs.Bounced.{bounces_are}
@@ -32,7 +31,7 @@ use Rattle.am_follow.proofs.Lawful.{lawful_layout}
 use Rattle.am_scripts.specs.Follows.{is_bounced_out, is_last_in, is_last}
 use Rattle.am_drain_steps.specs.Enabled.{IsOfRun}
 use Rattle.am_drain_steps.proofs.Enabled.{of_packets}
-use Rattle.am_run_laws.proofs.Queues.{BindsLow, AreFine, fine_more, opening_fine, IsLow}
+use Rattle.am_run_laws.proofs.Queues.{BindsLow, AreFine, fine_more, IsLow}
 
 -- so few bounces that one more is within the limit
 abbrev pub MayBounce : ScenarioLists → ℕ → Type 0

@@ -1,23 +1,20 @@
 -- A send finds its destination closed, or resident with room for the message.
 use Rattle.std.specs.Prelude.{◌&&◌, ◌||◌, ◌==◌, not, nat_le, nat_lt, count_by, find, slice_get}
 use Rattle.std.specs.List.{list_all}
-use Rattle.std.proofs.Common.{◌≡◌, ◌⊎◌, ⊎_elim, ℕ, ◌+◌, ◌<◌, ◌≤◌, Bool, true, false, cond, List, [], ◌∷◌, ◌++◌, length, Option, Some, None, refl, sym, ap, ◌∙◌, subst, arith, true≢false, eqb-true, ltb-true}
+use Rattle.std.proofs.Common.{◌≡◌, ⊎_elim, ℕ, Bool, true, false, cond, List, [], ◌∷◌, ◌++◌, length, Option, Some, None, refl, sym, ap, ◌∙◌, subst, arith, true≢false, eqb-true, ltb-true}
 use Rattle.std.proofs.lemmas.Bool.{and_parts, and_from, and_right, or_cases, lt-leb}
 use Rattle.am_names.specs.Names.{same_end, is_request, is_answer}
 use Rattle.am_names.specs.declared.EndpointId.{EndpointId}
 use Rattle.am_names.specs.declared.Message.{Message}
 use Rattle.am_names.specs.declared.NodeId.{NodeId}
-use Rattle.am_names.specs.declared.Packet.{Packet}
 use Rattle.am_names.specs.declared.Packet.TheVariants as Packets
 use Rattle.am_names.specs.declared.Parcel.{Parcel}
 use Rattle.am_office.specs.declared.Entry.{Entry}
 use Rattle.am_office.specs.declared.Event.TheVariants as Events
-use Rattle.am_office.specs.declared.Outcome.{Outcome}
 use Rattle.am_office.specs.Entries.{emitted_of, parcel, touches}
 use Rattle.am_model.specs.declared.Queued.{Queued}
-use Rattle.am_model.specs.Changes.{bound}
 use Rattle.am_model.specs.Endpoint.{Body, State, front, front_of, is_in_a_frame, is_resident}
-use Rattle.am_model.specs.History.{IsHistory, state_of, bind, bind_to, channel_for}
+use Rattle.am_model.specs.History.{state_of, bind, bind_to, channel_for}
 use Rattle.am_model.specs.Layout.{Layout, AllAre, IsLawful, home}
 use Rattle.am_model.proofs.Each.{state_of_push}
 use Rattle.am_model.proofs.Names.{same_end-is}

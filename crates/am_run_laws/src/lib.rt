@@ -2,7 +2,9 @@
 //! contract of a function with an empty body.
 #![tactic(auto)]
 
+ghost use Rattle.am_drain_steps.specs.Endings.{ReturnsAreForGood};
 ghost use Rattle.am_run_laws.specs.Drained.{BeginningsAreHistories, CutOffRunsAreStopped, CutOffsAreHistories, CutOffsAreShort, DrainsAreNotRefused, DrainsAreShort, EmptyIsGoodPhase, NoneIsRefused, RoomKeepsLogs, RunsAreShort, RunsAreWhole, RunsWithRoomAreWhole};
+ghost use Rattle.am_run_laws.specs.Returns.{DrainedReturnsAreForGood, NoneTimesOut};
 ghost use Rattle.am_run_laws.specs.Short.{JournalsAreNumbered, JournalsAreShort};
 
 /// A history of a lawful layout with no log longer than it may be has at most 272 times as many entries as a log.
@@ -73,4 +75,20 @@ pub fn runs_are_whole()
 /// Or where no entry meets a full log.
 pub fn runs_with_room_are_whole()
     ensures { RunsWithRoomAreWhole }
+{}
+
+/// Where the plan has no line that loses a packet or has it late, no channel is bound where nothing is to be received: in a drain
+/// none times out.
+pub fn none_times_out()
+    ensures { NoneTimesOut }
+{}
+
+/// And what is returned in a history that follows the scripts is returned for a cause that isn't transient.
+pub fn returns_are_for_good()
+    ensures { ReturnsAreForGood }
+{}
+
+/// So is what is returned in a run without threads.
+pub fn drained_returns_are_for_good()
+    ensures { DrainedReturnsAreForGood }
 {}
