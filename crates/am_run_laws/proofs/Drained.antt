@@ -41,14 +41,14 @@ runs_are_short s journal run logs = journals_are_short (layout_of s) journal (la
 -- ---- what is made with room
 
 -- a list as one that is cut at a place, or is no longer
-record IsCut (most : ℕ) (xs : List Entry) : Type 0 where
-  front : List Entry
-  rest : List Entry
-  is : xs ≡ front ++ rest
-  low : length front ≤ most
-  ends : length front < most → rest ≡ []
+pub record IsCut (most : ℕ) (xs : List Entry) : Type 0 where
+  pub front : List Entry
+  pub rest : List Entry
+  pub is : xs ≡ front ++ rest
+  pub low : length front ≤ most
+  pub ends : length front < most → rest ≡ []
 
-cut : (most : ℕ) (xs : List Entry) → IsCut most xs
+pub cut : (most : ℕ) (xs : List Entry) → IsCut most xs
 cut zero xs = record { front = []; rest = xs; is = refl; low = omega arith; ends = λ less. absurd (omega (arith, less)) }
 cut (suc most) [] = record { front = []; rest = []; is = refl; low = omega arith; ends = λ less. refl }
 cut (suc most) (x ∷ xs) =
@@ -61,7 +61,7 @@ cut (suc most) (x ∷ xs) =
       ends = λ less. c.ends (omega (arith, less));
     }
 
-far_below : (n log : ℕ) → n ≤ 272 * log → log ≤ 65536 → n < 2 ^ 31
+pub far_below : (n log : ℕ) → n ≤ 272 * log → log ≤ 65536 → n < 2 ^ 31
 far_below n log short low = omega (arith, short, low)
 
 room_front : (s : ScenarioLists) (past xs ys : List Entry) → HasRoom s past (xs ++ ys) → HasRoom s past xs
@@ -131,7 +131,7 @@ empty_is_good_phase s =
       events = refl;
     }
 
-no_logs : (s : ScenarioLists) → HasShortLogs s []
+pub no_logs : (s : ScenarioLists) → HasShortLogs s []
 no_logs s part = omega arith
 
 pub cut_off_runs_are_stopped : CutOffRunsAreStopped

@@ -12,3 +12,5 @@ pub mod Still
 pub mod Room
 pub mod Low
 pub mod Returns
+pub mod Known
+pub mod Phases

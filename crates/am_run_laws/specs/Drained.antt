@@ -15,6 +15,7 @@ use Rattle.am_drain.specs.Cut.{HasRoom, IsDrainedWithRoom, IsDrainCutOff}
 use Rattle.am_drain_steps.specs.Enabled.{IsOfRun}
 use Rattle.am_drain_steps.specs.Runs.{IsWholeRun}
 use Rattle.am_drain_loop.specs.Stops.{IsDrainBeginning, IsDrainRefused}
+use Rattle.am_run_laws.specs.Short.{IsWithinLogs}
 
 -- a beginning of what some turns of a history make is a history, where it is shorter than the numbers that there are
 abbrev pub BeginningsAreHistories : Type 0
@@ -34,6 +35,10 @@ CutOffsAreHistories =
 -- the log of each part has at most as many entries as a log of the scenario
 abbrev pub HasShortLogs : ScenarioLists → List Entry → Type 0
 HasShortLogs s journal = (part : Part) → count_by (touches_part part) journal ≤ s.log
+
+-- where that is so of the endpoints that there are and of the nodes', it is so of each part of a history
+abbrev pub RunsHaveShortLogs : Type 0
+RunsHaveShortLogs = (s : ScenarioLists) (journal : List Entry) → IsOfRun s journal → IsWithinLogs (layout_of s) journal → HasShortLogs s journal
 
 -- entries that meet no full log leave each log as short as it is to be
 abbrev pub RoomKeepsLogs : Type 0
@@ -58,6 +63,11 @@ CutOffsAreShort =
 abbrev pub DrainsAreShort : Type 0
 DrainsAreShort = (s : ScenarioLists) (past journal : List Entry) → IsOfRun s past → HasShortLogs s past → IsDrainedWithRoom s past journal → IsShortHistory s journal
 
+-- and so is each beginning of a drain with short logs
+abbrev pub BeginningsAreShort : Type 0
+BeginningsAreShort =
+    (s : ScenarioLists) (past journal : List Entry) → IsOfRun s past → IsWithinLogs (layout_of s) journal → IsDrainBeginning s past journal → IsShortHistory s journal
+
 -- nor is an entry of it refused
 abbrev pub NoneIsRefused : Type 0
 NoneIsRefused = (s : ScenarioLists) (past journal : List Entry) (condition : Condition) → IsOfRun s past → HasShortLogs s past → IsDrainRefused s past condition journal → ⊥
@@ -65,6 +75,16 @@ NoneIsRefused = (s : ScenarioLists) (past journal : List Entry) (condition : Con
 -- the empty phase of a scenario is a good one
 abbrev pub EmptyIsGoodPhase : Type 0
 EmptyIsGoodPhase = (s : ScenarioLists) → IsGoodPhase s []
+
+-- a drain of a good phase with short logs that is cut off is stopped for the part
+abbrev pub CutOffPhasesAreStopped : Type 0
+CutOffPhasesAreStopped =
+    (s : ScenarioLists) (phase journal : List Entry) (part : Part) → IsLawful s → s.network ≡ Packet → IsGoodPhase s phase → IsWithinLogs (layout_of s) phase → IsDrainCutOff s phase part journal → IsStoppedFor s part journal
+
+-- and one on which no entry meets a full log is whole
+abbrev pub PhasesWithRoomAreWhole : Type 0
+PhasesWithRoomAreWhole =
+    (s : ScenarioLists) (phase journal : List Entry) → IsLawful s → s.network ≡ Packet → IsGoodPhase s phase → IsWithinLogs (layout_of s) phase → IsDrainedWithRoom s phase journal → IsWholeRun s journal
 
 -- a run without threads that is cut off is stopped for the part
 abbrev pub CutOffRunsAreStopped : Type 0
@@ -78,3 +98,7 @@ RunsAreWhole = (s : ScenarioLists) (journal : List Entry) → IsLawful s → s.n
 -- or where no entry meets a full log
 abbrev pub RunsWithRoomAreWhole : Type 0
 RunsWithRoomAreWhole = (s : ScenarioLists) (journal : List Entry) → IsLawful s → s.network ≡ Packet → IsDrainedWithRoom s [] journal → IsWholeRun s journal
+
+-- and no entry of it has a condition against it
+abbrev pub RunsAreNotRefused : Type 0
+RunsAreNotRefused = (s : ScenarioLists) (journal : List Entry) (condition : Condition) → IsLawful s → s.network ≡ Packet → IsDrainRefused s [] condition journal → ⊥

@@ -3,7 +3,7 @@
 #![tactic(auto)]
 
 ghost use Rattle.am_drain_steps.specs.Endings.{ReturnsAreForGood};
-ghost use Rattle.am_run_laws.specs.Drained.{BeginningsAreHistories, CutOffRunsAreStopped, CutOffsAreHistories, CutOffsAreShort, DrainsAreNotRefused, DrainsAreShort, EmptyIsGoodPhase, NoneIsRefused, RoomKeepsLogs, RunsAreShort, RunsAreWhole, RunsWithRoomAreWhole};
+ghost use Rattle.am_run_laws.specs.Drained.{BeginningsAreHistories, BeginningsAreShort, CutOffPhasesAreStopped, CutOffRunsAreStopped, CutOffsAreHistories, CutOffsAreShort, DrainsAreNotRefused, DrainsAreShort, EmptyIsGoodPhase, NoneIsRefused, PhasesWithRoomAreWhole, RoomKeepsLogs, RunsAreNotRefused, RunsAreShort, RunsAreWhole, RunsHaveShortLogs, RunsWithRoomAreWhole};
 ghost use Rattle.am_run_laws.specs.Returns.{DrainedReturnsAreForGood, NoneTimesOut};
 ghost use Rattle.am_run_laws.specs.Short.{JournalsAreNumbered, JournalsAreShort};
 
@@ -32,6 +32,11 @@ pub fn cut_offs_are_histories()
     ensures { CutOffsAreHistories }
 {}
 
+/// Where no log of a declared endpoint or of an interface of the layout is longer than it may be, none is of any part of a history.
+pub fn runs_have_short_logs()
+    ensures { RunsHaveShortLogs }
+{}
+
 /// Entries that meet no full log leave no log longer than it may be.
 pub fn room_keeps_logs()
     ensures { RoomKeepsLogs }
@@ -52,6 +57,11 @@ pub fn drains_are_short()
     ensures { DrainsAreShort }
 {}
 
+/// So is each beginning of a drain with no log longer than it may be, as one that is left for want of memory.
+pub fn beginnings_are_short()
+    ensures { BeginningsAreShort }
+{}
+
 /// And no entry of it has a condition against it.
 pub fn none_is_refused()
     ensures { NoneIsRefused }
@@ -60,6 +70,16 @@ pub fn none_is_refused()
 /// The empty phase is a good one.
 pub fn empty_is_good_phase()
     ensures { EmptyIsGoodPhase }
+{}
+
+/// A drain of a good phase with no log longer than it may be is stopped for the part whose full log it meets.
+pub fn cut_off_phases_are_stopped()
+    ensures { CutOffPhasesAreStopped }
+{}
+
+/// And it is whole where it meets no full log.
+pub fn phases_with_room_are_whole()
+    ensures { PhasesWithRoomAreWhole }
 {}
 
 /// A run without threads that is cut off for a full log is stopped for its part.
@@ -75,6 +95,11 @@ pub fn runs_are_whole()
 /// Or where no entry meets a full log.
 pub fn runs_with_room_are_whole()
     ensures { RunsWithRoomAreWhole }
+{}
+
+/// And no entry of a run without threads has a condition against it.
+pub fn runs_are_not_refused()
+    ensures { RunsAreNotRefused }
 {}
 
 /// Where the plan has no line that loses a packet or has it late, no channel is bound where nothing is to be received: in a drain
