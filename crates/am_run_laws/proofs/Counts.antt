@@ -1,5 +1,5 @@
 -- How many elements a list has where each passes one of so many tests, and few pass each.
-use Rattle.std.proofs.Common.{◌≡◌, ◌⊎◌, ⊎_elim, ℕ, zero, suc, ◌+◌, ◌*◌, ◌≤◌, ◌<◌, Bool, true, cond, List, [], ◌∷◌, length, refl, sym, ap, ◌∙◌, arith}
+use Rattle.std.proofs.Common.{◌≡◌, ◌⊎◌, ⊎_elim, ℕ, zero, suc, ◌+◌, ◌*◌, ◌≤◌, ◌<◌, Bool, true, cond, List, ◌∷◌, length, refl, sym, ap, ◌∙◌, arith}
 use Rattle.std.specs.Prelude.{count_by}
 use Rattle.std.proofs.lemmas.Bool.{cases_order}
 use Rattle.std.proofs.lemmas.List.Sums.{sum_by-cons}
@@ -12,10 +12,6 @@ passed p (suc n) xs = count_by (p n) xs + passed p n xs
 abbrev pub passed_by : {X : Type 0} → (ℕ → X → Bool) → ℕ → X → ℕ
 passed_by p zero x = 0
 passed_by p (suc n) x = cond (p n x) 1 0 + passed_by p n x
-
-pub passed-none : {X : Type 0} (p : ℕ → X → Bool) (n : ℕ) → passed p n [] ≡ 0
-passed-none p zero = refl
-passed-none p (suc n) = omega (arith, passed-none p n)
 
 pub passed-cons : {X : Type 0} (p : ℕ → X → Bool) (n : ℕ) (x : X) (xs : List X) → passed p n (x ∷ xs) ≡ passed_by p n x + passed p n xs
 passed-cons p zero x xs = refl

@@ -154,9 +154,6 @@ parcel_stays layout from past x node peer number o p r is z = by_arrival (arriva
     d : Channel
     d = channel_to node peer p.channel
 
-    n : ℕ
-    n = next_number node peer past
-
     outcome' : x.outcome ≡ Out.Received p.channel p.seq p.attempt (arrive layout past p.message (next_number node peer past) (arrival (mark (channel_to node peer p.channel) past) p.seq p.attempt))
     outcome' = r.outcome' ∙ ap (receive layout node peer past) is
 

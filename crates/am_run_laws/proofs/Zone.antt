@@ -176,9 +176,6 @@ room_more : (layout : Layout) (past : List Entry) (x : Entry) (node peer : NodeI
 room_more layout past x node peer number None ev none room = tt
 room_more layout past x node peer number (Some p) ev none room = by_test (touches p.message.dest x) refl
   where
-    e : EndpointId
-    e = p.message.dest
-
     by_test : (b : Bool) → touches p.message.dest x ≡ b → fits (state_of layout (past ++ x ∷ []) p.message.dest) p.message ≡ true
     by_test true is =
         ap (λ (s : State). fits s p.message) (state_of_push layout past x p.message.dest true is)

@@ -1,5 +1,6 @@
-//! What is so of every run without threads: its journal is short, it is not refused, and it is whole or cut off. Each law is the
-//! contract of a function with an empty body.
+//! What is so of every run, mostly where no thread runs: its journal is short, the drain is not refused, and the run is whole or
+//! stopped for a full log; and where the plan withholds nothing, what comes back comes back for good. Each law is the contract of a
+//! function with an empty body.
 #![tactic(auto)]
 
 ghost use Rattle.am_drain_steps.specs.Endings.{ReturnsAreForGood};
@@ -57,12 +58,12 @@ pub fn drains_are_short()
     ensures { DrainsAreShort }
 {}
 
-/// So is each beginning of a drain with no log longer than it may be, as one that is left for want of memory.
+/// So is each beginning of a drain with no log longer than it may be, as what is left for want of memory.
 pub fn beginnings_are_short()
     ensures { BeginningsAreShort }
 {}
 
-/// And no entry of it has a condition against it.
+/// And no entry that such a drain names has a condition against it.
 pub fn none_is_refused()
     ensures { NoneIsRefused }
 {}
