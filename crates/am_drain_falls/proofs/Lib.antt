@@ -11,3 +11,4 @@ pub mod Moving
 pub mod Calling
 pub mod Sending
 pub mod Turning
+pub mod Ending

@@ -28,7 +28,7 @@ make_falls s past call run (Plain none plain) =
     let made = plain.no_call in absurd (cc)
 make_falls s past call run (Call none due) = subst (λ (t : Turn). Falls s past t) due.1 (calls_fall s past due.0 run due.2.thread due.2.left)
 
-by_rule : (s : ScenarioLists) (past : List Entry) (t : Turn) → IsOfRun s past → IsTurnBy s past t → Falls s past t
+pub by_rule : (s : ScenarioLists) (past : List Entry) (t : Turn) → IsOfRun s past → IsTurnBy s past t → Falls s past t
 by_rule s past t run (Receives event r same) = receipts_fall s past t run (ap (option_map Once) r ∙ ap (λ (u : Turn). Some u) same)
 by_rule s past t run (TimesOut r o) = time_outs_fall s past t run o
 by_rule s past t run (PagesIn r o p) = page_ins_fall s past t run p

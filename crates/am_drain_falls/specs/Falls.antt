@@ -1,5 +1,5 @@
 -- Each turn of a drain leaves less work, so a drain ends by itself.
-use Rattle.std.specs.Prelude.{◌≡◌, ℕ, ◌<◌, ◌≤◌, ◌^◌, true, None, Some, List, length, option_map}
+use Rattle.std.specs.Prelude.{◌≡◌, ℕ, ◌+◌, ◌*◌, ◌<◌, ◌≤◌, ◌^◌, true, None, Some, List, length, option_map}
 use Rattle.am_office.specs.declared.Entry.{Entry}
 use Rattle.am_scenario_types.specs.declared.parts.ScriptCall.{ScriptCall}
 use Rattle.am_scenario_types.specs.Lists.{ScenarioLists}
@@ -11,7 +11,7 @@ use Rattle.am_scripts.specs.Follows.{is_thread}
 use Rattle.am_drain.specs.declared.Turn.{Turn}
 use Rattle.am_drain.specs.declared.Turn.TheVariants.{Once, Make}
 use Rattle.am_drain.specs.Rules.{next_time_out, next_send, next_poll}
-use Rattle.am_drain.specs.Drain.{after_turn, after_turns}
+use Rattle.am_drain.specs.Drain.{after_turn, after_turns, IsDrainedIn}
 use Rattle.am_drain_steps.specs.Enabled.{IsOfRun}
 use Rattle.am_drain_steps.specs.Work.{work}
 
@@ -46,3 +46,23 @@ PollsFall =
 abbrev pub DrainsEnd : Type 0
 DrainsEnd =
     (s : ScenarioLists) (past journal : List Entry) (n : ℕ) → IsOfRun s past → after_turns n s past ≡ Some journal → length journal < 2 ^ 32 → n ≤ work s past
+
+-- so many entries a turn adds at most: page-ins of two endpoints, one more of each than there are faults, five moves that make each
+-- of them ready, and the bind
+abbrev pub turn_entries : ScenarioLists → ℕ
+turn_entries s = 2 * length s.faults + 13
+
+abbrev pub TurnsAddFew : Type 0
+TurnsAddFew = (s : ScenarioLists) (past : List Entry) (t : Turn) → length (after_turn s past t) ≤ length past + turn_entries s
+
+-- what a drain comes to, in at most as many turns as there is work
+pub record ComesToEnd (s : ScenarioLists) (past : List Entry) : Type 0 where
+  pub turns : ℕ
+  pub journal : List Entry
+  pub drained : IsDrainedIn turns s past journal
+  pub few : turns ≤ work s past
+  pub short : length journal < 2 ^ 32
+
+-- a drain comes to an end, where the entries that so many turns may add leave its journal shorter than the numbers that there are
+abbrev pub DrainsComeToEnd : Type 0
+DrainsComeToEnd = (s : ScenarioLists) (past : List Entry) → IsOfRun s past → length past + work s past * turn_entries s < 2 ^ 32 → ComesToEnd s past
