@@ -44,15 +44,15 @@ use Rattle.am_drain_steps.proofs.Moves.{Spares, spares, move_keeps}
 -- ---- what no driver changes
 
 -- what the messages, the links and the threads are as they were
-record IsStill (layout : Layout) (past next : List Entry) : Type 0 where
-  body' : (f : EndpointId) → (state_of layout next f).body ≡ (state_of layout past f).body
-  bound' : (c : Channel) → bound_message c next ≡ bound_message c past
-  attempt' : (c : Channel) → attempt c next ≡ attempt c past
-  emitted' : (from to : NodeId) → emitted from to next ≡ emitted from to past
-  received' : (from to : NodeId) → received from to next ≡ received from to past
-  calls' : (thread : ℕ) → calls_of thread next ≡ calls_of thread past
+pub record IsStill (layout : Layout) (past next : List Entry) : Type 0 where
+  pub body' : (f : EndpointId) → (state_of layout next f).body ≡ (state_of layout past f).body
+  pub bound' : (c : Channel) → bound_message c next ≡ bound_message c past
+  pub attempt' : (c : Channel) → attempt c next ≡ attempt c past
+  pub emitted' : (from to : NodeId) → emitted from to next ≡ emitted from to past
+  pub received' : (from to : NodeId) → received from to next ≡ received from to past
+  pub calls' : (thread : ℕ) → calls_of thread next ≡ calls_of thread past
 
-calls_push : (thread : ℕ) (past : List Entry) (x : Entry) → call_made x.event ≡ None → calls_of thread (past ++ x ∷ []) ≡ calls_of thread past
+pub calls_push : (thread : ℕ) (past : List Entry) (x : Entry) → call_made x.event ≡ None → calls_of thread (past ++ x ∷ []) ≡ calls_of thread past
 calls_push thread past x none =
     ap (filter (is_of_thread thread)) (filter_map-append (λ (y : Entry). call_made y.event) past (x ∷ []) ∙ (ap (λ (o : Option ScriptCall). filter_map (λ (y : Entry). call_made y.event) past ++ cons_option o []) none ∙ append-nil (filter_map (λ (y : Entry). call_made y.event) past)))
 
@@ -71,7 +71,7 @@ page_in_still layout past node e =
 
 -- ---- the work of the messages
 
-ends_same : (s : ScenarioLists) (past next : List Entry) → IsStill (layout_of s) past next → (xs : List EndSetting) → sum_by (end_work s) (map (stand (layout_of s) next) xs) ≡ sum_by (end_work s) (map (stand (layout_of s) past) xs)
+pub ends_same : (s : ScenarioLists) (past next : List Entry) → IsStill (layout_of s) past next → (xs : List EndSetting) → sum_by (end_work s) (map (stand (layout_of s) next) xs) ≡ sum_by (end_work s) (map (stand (layout_of s) past) xs)
 ends_same s past next k [] = refl
 ends_same s past next k (x ∷ xs) =
     sum_by-cons (end_work s) (stand (layout_of s) next x) (map (stand (layout_of s) next) xs)
@@ -90,28 +90,28 @@ link_same : (s : ScenarioLists) (past next : List Entry) → IsStill (layout_of 
 link_same s past next k from to =
     λ i. sum_by (packet_copy s) (drop (length (k.received' from to i)) (shape s.plan from to (k.emitted' from to i))) + sum_by (packet_copy s) (still_late (fault_at s.plan from to) (length (k.emitted' from to i)) 1 (k.emitted' from to i))
 
-nodes_same : (s : ScenarioLists) (past next : List Entry) → IsStill (layout_of s) past next → sum_by (node_work s next) (nodes_of s) ≡ sum_by (node_work s past) (nodes_of s)
+pub nodes_same : (s : ScenarioLists) (past next : List Entry) → IsStill (layout_of s) past next → sum_by (node_work s next) (nodes_of s) ≡ sum_by (node_work s past) (nodes_of s)
 nodes_same s past next k =
     λ i. sum_by (λ (node : NodeId). sum_by (λ (peer : NodeId). link_same s past next k node peer i + sum_by (λ (number : ℕ). channel_same s past next k (channel_to node peer number) i) (range_with_len 0 s.channels)) (nodes_of s)) (nodes_of s)
 
-threads_same : (s : ScenarioLists) (past next : List Entry) → IsStill (layout_of s) past next → sum_by (thread_work s next) s.threads ≡ sum_by (thread_work s past) s.threads
+pub threads_same : (s : ScenarioLists) (past next : List Entry) → IsStill (layout_of s) past next → sum_by (thread_work s next) s.threads ≡ sum_by (thread_work s past) s.threads
 threads_same s past next k = λ i. sum_by (λ (t : ThreadLine). (length (script_of s t.id) - length (k.calls' t.id i)) * (1 + new_request s)) s.threads
 
 -- ---- endpoints on disk
 
-bit_le : (a b : Bool) → (a ≡ true → b ≡ true) → cond a 1 0 ≤ cond b 1 0
+pub bit_le : (a b : Bool) → (a ≡ true → b ≡ true) → cond a 1 0 ≤ cond b 1 0
 bit_le true true h = omega arith
 bit_le true false h = absurd (true≢false (sym (h refl)))
 bit_le false b h = omega arith
 
-abbrev IsOnDiskBefore : Layout → List Entry → List Entry → Type 0
+abbrev pub IsOnDiskBefore : Layout → List Entry → List Entry → Type 0
 IsOnDiskBefore layout past next =
     (f : EndpointId) → is_on_disk (state_of layout next f).head.place ≡ true → is_on_disk (state_of layout past f).head.place ≡ true
 
-abbrev on_disk_bit : Standing → ℕ
+abbrev pub on_disk_bit : Standing → ℕ
 on_disk_bit st = cond (is_standing_on_disk st) 1 0
 
-disk_fewer : (layout : Layout) (past next : List Entry) → IsOnDiskBefore layout past next → (xs : List EndSetting) → count_by is_standing_on_disk (map (stand layout next) xs) ≤ count_by is_standing_on_disk (map (stand layout past) xs)
+pub disk_fewer : (layout : Layout) (past next : List Entry) → IsOnDiskBefore layout past next → (xs : List EndSetting) → count_by is_standing_on_disk (map (stand layout next) xs) ≤ count_by is_standing_on_disk (map (stand layout past) xs)
 disk_fewer layout past next h [] = omega arith
 disk_fewer layout past next h (x ∷ xs) =
     omega (arith, sum_by-cons on_disk_bit (stand layout next x) (map (stand layout next) xs), sum_by-cons on_disk_bit (stand layout past x) (map (stand layout past) xs), bit_le (is_on_disk (state_of layout next x.id).head.place) (is_on_disk (state_of layout past x.id).head.place) (h x.id), disk_fewer layout past next h xs)
@@ -130,10 +130,10 @@ disk_less layout past next e h on off (x ∷ xs) known = by_test (same_end e x.i
 
 -- ---- faults that are left
 
-abbrev page_calls : NodeId → List Entry → ℕ
+abbrev pub page_calls : NodeId → List Entry → ℕ
 page_calls node past = count_by (λ (x : Entry). is_page_call node x.event) past
 
-abbrev fault_bit : List Entry → Fault → ℕ
+abbrev pub fault_bit : List Entry → Fault → ℕ
 fault_bit past f = cond (is_fault_left past f) 1 0
 
 calls_more : (layout : Layout) (past : List Entry) (node on : NodeId) (e : EndpointId) → page_calls on (after_event layout (Events.PageIn node e) past) ≡ page_calls on past + cond (same_node on node) 1 0

@@ -1,0 +1,14 @@
+pub mod Sums
+pub mod Flights
+pub mod Links
+pub mod Ends
+pub mod Parts
+pub mod Channels
+pub mod TimeOuts
+pub mod Receiving
+pub mod Polling
+pub mod Moving
+pub mod Calling
+pub mod Sending
+pub mod Turning
+pub mod Ending
