@@ -1,6 +1,6 @@
 -- What is so of every drain and its end: an unknown message stands only where the plan withholds packets of the last try, and where
--- the plan withholds none nothing is unknown. That it ends by itself (`EachTurnFalls`) is proved above, in am_drain_falls. One more is
--- stated, and not proved: that where the plan withholds none what is returned is returned for good (`ReturnsAreForGood`).
+-- the plan withholds none nothing is unknown. Two more are proved in crates above: that it ends by itself (`EachTurnFalls`) in
+-- am_drain_falls, and that where the plan withholds none what is returned is returned for good (`ReturnsAreForGood`) in am_run_laws.
 use Rattle.std.specs.Prelude.{◌≡◌, ◌≢◌, ◌⊎◌, ℕ, ◌+◌, ◌<◌, ◌≤◌, ◌^◌, ◌==◌, Bool, true, false, Option, Some, None, List, ◌∷◌, ◌++◌, map, length, slice_get}
 use Rattle.std.specs.List.{All, list_any}
 use Rattle.am_names.specs.Rules.{is_transient}
