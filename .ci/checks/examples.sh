@@ -1,10 +1,15 @@
 #!/usr/bin/env bash
-# Each example against its stored report. bin/am2 builds the program where it isn't built; without one this fails.
+# Each example against its stored report: those named run-* by the command run, the others by step. bin/am2 builds the program where it
+# isn't built; without one this fails.
 set -u
 failed=0
 compared=0
 for example in examples/*.am2; do
-    bin/am2 step < "$example" | cmp -s - "${example%.am2}.out" || { echo "example differs: $example"; failed=1; }
+    case $example in
+        examples/run-*) command=run ;;
+        *) command=step ;;
+    esac
+    bin/am2 "$command" < "$example" | cmp -s - "${example%.am2}.out" || { echo "example differs: $example"; failed=1; }
     compared=$((compared + 1))
 done
 echo "examples: $compared compared"
