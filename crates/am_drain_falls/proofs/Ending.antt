@@ -1,5 +1,5 @@
 -- A turn adds few entries, so a drain comes to an end before its journal is too long.
-use Rattle.std.proofs.Common.{◌≡◌, ℕ, zero, suc, ◌+◌, ◌*◌, ◌<◌, ◌≤◌, ◌^◌, Bool, true, false, List, [], ◌∷◌, ◌++◌, map, length, Option, Some, None, refl, sym, ap, ◌∙◌, arith, length-append}
+use Rattle.std.proofs.Common.{◌≡◌, ℕ, zero, suc, ◌+◌, ◌*◌, ◌<◌, ◌≤◌, ◌^◌, Bool, true, false, List, [], ◌∷◌, map, length, Option, Some, None, refl, ap, ◌∙◌, arith, length-append}
 use Rattle.std.specs.Prelude.{◌&&◌, not, is_none, find, option_map, option_and_then}
 use Rattle.am_names.specs.declared.EndpointId.{EndpointId}
 use Rattle.am_names.specs.declared.NodeId.{NodeId}
@@ -18,14 +18,14 @@ use Rattle.am_scripts.specs.Standings.{Standing, standings}
 use Rattle.am_drain.specs.declared.Turn.{Turn}
 use Rattle.am_drain.specs.declared.Turn.TheVariants.{Once, Send, Make}
 use Rattle.am_drain.specs.Made.{next_entry, after_event, after_event_if}
-use Rattle.am_drain.specs.Ready.{paged_in, off_disk, off_disk_at, is_draining_in_frame, not_draining, free_frame, may_leave, unloaded, paged_out, spare, emptied, emptied_if, with_frame, loaded_into, ready, ready_at, ready_dest_if, ready_dest}
+use Rattle.am_drain.specs.Ready.{paged_in, off_disk, off_disk_at, is_draining_in_frame, not_draining, free_frame, may_leave, unloaded, paged_out, spare, emptied_if, with_frame, loaded_into, ready, ready_at, ready_dest_if, ready_dest}
 use Rattle.am_drain.specs.Rules.{next_turn}
 use Rattle.am_drain.specs.Drain.{after_turn, after_turns}
 use Rattle.am_drain.proofs.Turns.{turn_by}
 use Rattle.am_drain_steps.specs.Enabled.{IsOfRun}
 use Rattle.am_drain_steps.specs.Work.{work}
 use Rattle.am_drain_steps.proofs.Turning.{turns_may_follow}
-use Rattle.am_drain_falls.specs.Falls.{turn_entries, TurnsAddFew, ComesToEnd, DrainsComeToEnd}
+use Rattle.am_drain_falls.specs.Falls.{turn_entries, TurnsAddFew, DrainsComeToEnd}
 use Rattle.am_drain_falls.proofs.Turning.{by_rule}
 
 -- ---- the entries of a turn
@@ -72,9 +72,13 @@ ready_most layout keep node e source dest past =
     let one : List Entry = off_disk layout node e past in
     let two : List Entry = not_draining layout node e one in
     let three : List Entry = with_frame layout keep node e source dest two in
-    omega (arith, page_ins_most (length layout.faults + 1) layout node e past, event_if_most (is_draining_in_frame (state_of layout one e)) layout (Events.Unload node e) one,
-    emptied_if_most (is_on_host (state_of layout two e).head.place && is_none (free_frame layout node (standings layout two))) layout keep node source dest two,
-    loaded_into_most (free_frame layout node (standings layout three)) layout node e three)
+    omega (
+      arith,
+      page_ins_most (length layout.faults + 1) layout node e past,
+      event_if_most (is_draining_in_frame (state_of layout one e)) layout (Events.Unload node e) one,
+      emptied_if_most (is_on_host (state_of layout two e).head.place && is_none (free_frame layout node (standings layout two))) layout keep node source dest two,
+      loaded_into_most (free_frame layout node (standings layout three)) layout node e three,
+    )
 
 ready_at_most : (o : Option NodeId) (layout : Layout) (keep : ℕ) (source dest : EndpointId) (past : List Entry) → length (ready_at o layout keep source dest past) ≤ length past + (length layout.faults + 6)
 ready_at_most None layout keep source dest past = omega arith
@@ -93,9 +97,13 @@ turns_add_few s past (Once event) = omega (arith, event_one (layout_of s) event 
 turns_add_few s past (Send node e m) =
     let one : List Entry = ready (layout_of s) s.keep node e e m.dest past in
     let two : List Entry = ready_dest (layout_of s) s.keep e m.dest one in
-    omega (arith, faults_mapped s.faults, ready_most (layout_of s) s.keep node e e m.dest past,
-    ready_if_most (not (same_end e m.dest) && not (state_of (layout_of s) one m.dest).head.closed) (layout_of s) s.keep e m.dest one,
-    event_one (layout_of s) (Events.Bind node e) two)
+    omega (
+      arith,
+      faults_mapped s.faults,
+      ready_most (layout_of s) s.keep node e e m.dest past,
+      ready_if_most (not (same_end e m.dest) && not (state_of (layout_of s) one m.dest).head.closed) (layout_of s) s.keep e m.dest one,
+      event_one (layout_of s) (Events.Bind node e) two,
+    )
 turns_add_few s past (Make c) =
     let one : List Entry = off_disk_at (home (layout_of s) c.endpoint) (layout_of s) c.endpoint past in
     omega (arith, faults_mapped s.faults, off_disk_at_most (home (layout_of s) c.endpoint) (layout_of s) c.endpoint past, event_one (layout_of s) (Events.Call (Thread c.thread) c.endpoint c.call) one)
