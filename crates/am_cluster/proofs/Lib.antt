@@ -1,0 +1,4 @@
+pub mod Calling
+pub mod Emitting
+pub mod Feeding
+pub mod Rooms
