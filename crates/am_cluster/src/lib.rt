@@ -3,6 +3,7 @@
 
 ghost use Rattle.am_cluster.specs.Runs.{IsDrainHalted, IsRunStopped};
 ghost use Rattle.am_drain.specs.Cut.{IsDrainedWithRoom};
+ghost use Rattle.am_drain_loop.specs.Stops.{IsDrainStopped};
 ghost use Rattle.am_drain_steps.specs.Runs.{IsWholeRun};
 ghost use Rattle.am_follow.specs.Layout.{layout_of};
 ghost use Rattle.am_model.specs.History.{IsHistory};
@@ -14,13 +15,17 @@ ghost use Rattle.am_scripts.specs.Links.{ReceivesInOrder};
 ghost use Rattle.am_scripts.specs.Scripts.{BeginsScripts, calls_of};
 ghost use Rattle.std.specs.Prelude.{◌≡◌, [], IfErr, IfOk, OnOk, length, map};
 
+mod emissions;
 mod links;
+mod looks;
 mod reads;
+mod scripted;
 mod threads;
 
 use am_machine::Cluster;
 use am_office::{Journal, Part};
 use am_scenario_types::Scenario;
+use scripted::ScriptedCluster;
 use std::alloc::Global;
 use std::thread::Threads;
 
@@ -65,11 +70,7 @@ impl Gate for OpenGate {
 /// thread made, in the order of the threads, before and after. Ok: the journal is what the drain makes of the one before,
 /// and no entry met a full log. LogFull: it is what the drain makes before the first entry that meets a full log, which is
 /// the part's. NoMemory: it is a beginning of what the drain makes.
-pub fn drain(
-    cluster: &mut Cluster,
-    scenario: &Scenario,
-    made: &mut [u32],
-) -> Result<(), DrainFault>
+pub fn drain(cluster: &mut Cluster, scenario: &Scenario, made: &mut [u32]) -> Result<(), DrainFault>
     requires lawful { IsLawful scenario.now }
     requires packet { scenario.now.network ≡ Packet }
     requires layout { cluster.old.layout ≡ layout_of scenario.now }
@@ -85,6 +86,30 @@ pub fn drain(
     Err(DrainFault::NoMemory)
 }
 
+/// What the drain of an empty journal comes to, by what it answered and the journal that it left.
+fn run_of(
+    scenario: &Scenario,
+    result: Result<(), am_drain_loop::DrainFault>,
+    journal: Journal,
+) -> Result<Finished, RunFault>
+    requires lawful { IsLawful scenario.now }
+    requires packet { scenario.now.network ≡ Packet }
+    requires laws { PostOffice (layout_of scenario.now) journal }
+    requires drained { OnOk result (IsDrainedWithRoom scenario.now [] journal) }
+    requires stopped { IfErr result (λ fault. IsDrainStopped scenario.now [] fault journal) }
+    ensures drained { IfOk result (λ finished. IsDrainedWithRoom scenario.now [] finished.journal) }
+    ensures whole { IfOk result (λ finished. IsWholeRun scenario.now finished.journal) }
+    ensures laws { IfOk result (λ finished. PostOffice (layout_of scenario.now) finished.journal) }
+    ensures stopped { IfErr result (IsRunStopped scenario.now) }
+{
+    match result {
+        Ok(()) => Ok(Finished { journal }),
+        Err(am_drain_loop::DrainFault::LogFull(part)) => Err(RunFault::LogFull { part, journal }),
+        Err(am_drain_loop::DrainFault::NoMemory) => Err(RunFault::NoMemory),
+        Err(am_drain_loop::DrainFault::NotEnabled(_)) => unreachable!(),
+    }
+}
+
 /// Runs a scenario of the packet network without threads: the drain of an empty journal. Ok: the journal is what that drain
 /// makes with no entry meeting a full log, a history that follows the scripts and obeys the laws of the post office, and no
 /// message that was accepted is pending. LogFull: it is what the drain makes before the first entry that meets a full log,
@@ -97,7 +122,15 @@ pub fn alone(alloc: Global, scenario: &Scenario) -> Result<Finished, RunFault>
     ensures laws { IfOk result (λ finished. PostOffice (layout_of scenario.now) finished.journal) }
     ensures stopped { IfErr result (IsRunStopped scenario.now) }
 {
-    Err(RunFault::NoMemory)
+    let mut machine = match ScriptedCluster::new(alloc, scenario) {
+        Ok(machine) => machine,
+        Err(_) => return Err(RunFault::NoMemory),
+    };
+    let result = am_drain_loop::drain(&mut machine);
+    match machine.journal(alloc) {
+        Ok(journal) => run_of(scenario, result, journal),
+        Err(_) => Err(RunFault::NoMemory),
+    }
 }
 
 /// Runs a scenario of the packet network. It does what `alone` does.
