@@ -17,7 +17,7 @@ use Rattle.am_cluster.specs.Links.{AreFed, Released, nothing, released_of}
 
 -- ---- the received packets are the receipts
 
-one_more : Option ℕ → ℕ
+abbrev one_more : Option ℕ → ℕ
 one_more None = 0
 one_more (Some n) = 1
 

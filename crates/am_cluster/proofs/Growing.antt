@@ -79,10 +79,10 @@ expire_between layout past node peer channel stamp (Some m) from to =
     by_tries false true = none_between layout
     by_tries false false = none_between layout
 
-answer_between : (layout : Layout) (node peer : NodeId) (channel seq attempt stamp : ℕ) (a : Option (ℕ × Verdict)) → node.0 < layout.nodes → peer.0 < layout.nodes → AllBetween layout (answer_packet node peer channel seq attempt stamp a)
-answer_between layout node peer channel seq attempt stamp None from to = none_between layout
-answer_between layout node peer channel seq attempt stamp (Some (number, verdict)) from to p h =
-    subst (λ (q : Packet). IsBetween layout q) (let same : Packets.Answer (record { from = node; to = peer; channel = channel; seq = seq; attempt = attempt; number = number; stamp = stamp; verdict = verdict }) ≡ p = cc in same) (record { from = from; to = to })
+answer_between : (layout : Layout) (node peer : NodeId) (channel seq tries stamp : ℕ) (a : Option (ℕ × Verdict)) → node.0 < layout.nodes → peer.0 < layout.nodes → AllBetween layout (answer_packet node peer channel seq tries stamp a)
+answer_between layout node peer channel seq tries stamp None from to p h = absurd (cc)
+answer_between layout node peer channel seq tries stamp (Some (number, verdict)) from to p h =
+    subst (λ (q : Packet). IsBetween layout q) (let same : Packets.Answer (record { from = node; to = peer; channel = channel; seq = seq; attempt = tries; number = number; stamp = stamp; verdict = verdict }) ≡ p = cc in same) (record { from = from; to = to })
 
 receipt_between : (layout : Layout) (node peer : NodeId) (number stamp : ℕ) (o : Outcome) → node.0 < layout.nodes → peer.0 < layout.nodes → AllBetween layout (emitted_in stamp (Events.Receive node peer number) o)
 receipt_between layout node peer number stamp (Out.Received channel seq attempt r) from to = answer_between layout node peer channel seq attempt stamp (answer_by r) from to
@@ -194,6 +194,6 @@ calls_few thread (x ∷ past) =
 pub made_small : (s : ScenarioLists) (past : List Entry) (all : List Scripted) → all ≡ map (scripted_of s past) s.threads → length past ≤ 272 * s.log → s.log ≤ 65536 → AreSmall all
 made_small s past all is short low k t at =
     let found = got_mapped (scripted_of s past) s.threads k t (ap (λ (ts : List Scripted). slice_get ts k) (sym is) ∙ at) in
-    let made : length (calls_of found.0.id past) ≡ t.made = ap (λ (x : Scripted). x.made) found.1.1 in
+    let made : length (calls_of found.0.id past) ≡ t.made = ap (λ (x : Scripted). x.made) found.2 in
     let few = calls_few found.0.id past in
     omega (arith, made, few, short, low)

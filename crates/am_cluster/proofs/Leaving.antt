@@ -19,7 +19,13 @@ use Rattle.am_scripts.specs.Scripts.{is_of_thread}
 use Rattle.am_drain.specs.Rules.{Left, left_to}
 use Rattle.am_drain_loop.specs.Reads.{call_event}
 use Rattle.am_cluster.specs.Threads.{Scripted, left_in, scripted_of}
-use Rattle.am_cluster.proofs.Looking.{got_map}
+
+pub got_map : {X Y : Type 0} (f : X → Y) (xs : List X) (k : ℕ) (x : X) → slice_get xs k ≡ Some x → slice_get (map f xs) k ≡ Some (f x)
+got_map f [] k x h = absurd (cc)
+got_map f (y ∷ xs) zero x h =
+    let same : y ≡ x = cc in
+    ap (λ z. Some (f z)) same
+got_map f (y ∷ xs) (suc k) x h = got_map f xs k x h
 
 -- ---- what is left
 

@@ -8,3 +8,4 @@ pub mod Leaving
 pub mod Looking
 pub mod Rooms
 pub mod Starting
+pub mod Stepping

@@ -36,15 +36,9 @@ use Rattle.am_drain_loop.specs.Reads.{head_of, is_seat, mail_of}
 use Rattle.am_drain_steps.specs.Away.{AwayIsSettled, is_settled, is_settled_at}
 use Rattle.am_drain_steps.proofs.Enabled.{IsSeatedSetting, all_seated, seat_in_range}
 use Rattle.am_drain_steps.proofs.Calls.{home_seated}
+use Rattle.am_cluster.proofs.Leaving.{got_map}
 
 -- ---- lists
-
-pub got_map : {X Y : Type 0} (f : X → Y) (xs : List X) (k : ℕ) (x : X) → slice_get xs k ≡ Some x → slice_get (map f xs) k ≡ Some (f x)
-got_map f [] k x h = absurd (cc)
-got_map f (y ∷ xs) zero x h =
-    let same : y ≡ x = cc in
-    ap (λ z. Some (f z)) same
-got_map f (y ∷ xs) (suc k) x h = got_map f xs k x h
 
 all_are_got : {X : Type 0} (P : X → Type 0) (xs : List X) (k : ℕ) (x : X) → AllAre P xs → slice_get xs k ≡ Some x → P x
 all_are_got P [] k x all h = absurd (cc)

@@ -18,4 +18,4 @@ fed_nothing plan links all none =
     here : (from to : ℕ) (r : Released) → slice_get (map released_in links) (16 * from + to) ≡ Some r → r ≡ released_of plan (node_at from) (node_at to) (emitted (node_at from) (node_at to) [])
     here from to r h =
         let l = got_mapped released_in links (16 * from + to) r h in
-        sym l.1.1 ∙ got_all (λ (x : Link). released_in x ≡ nothing) links (16 * from + to) l.0 none l.1.0
+        sym l.2 ∙ got_all (λ (x : Link). released_in x ≡ nothing) links (16 * from + to) l.0 none l.1
