@@ -1,6 +1,11 @@
 pub mod Counts
 pub mod Short
+pub mod Beginnings
 pub mod Logs
+pub mod Drained
 pub mod Fits
 pub mod Zone
 pub mod Received
+pub mod Queues
+pub mod Heard
+pub mod Still

@@ -1,6 +1,6 @@
 -- A receipt keeps what is so where one message at most is on its way, and what it returns is returned for good.
 use Rattle.std.specs.Prelude.{slice_get, nat_lt, nat_le, ◌&&◌, not, ◌==◌, if◌then◌else◌}
-use Rattle.std.proofs.Common.{◌≡◌, ◌⊎◌, ⊎_elim, ℕ, ◌+◌, ◌-◌, ◌<◌, Bool, true, false, cond, List, [], ◌∷◌, ◌++◌, Option, Some, None, refl, sym, ap, ◌∙◌, subst, arith, true≢false, eqb-true, ltb-true}
+use Rattle.std.proofs.Common.{◌≡◌, ℕ, ◌+◌, ◌-◌, ◌<◌, Bool, true, false, List, [], ◌∷◌, ◌++◌, Option, Some, None, refl, sym, ap, ◌∙◌, subst, arith, eqb-true, ltb-true}
 use Rattle.std.proofs.lemmas.Bool.{and_parts}
 use Rattle.am_names.specs.Rules.{is_transient}
 use Rattle.am_names.specs.Names.{same_serial}
@@ -25,14 +25,14 @@ use Rattle.am_office.specs.Fates.{cause_by, cause_of, cause_if}
 use Rattle.am_model.specs.Channels.{Channel, Mark, Arrival, Stale, Again, Fresh, arrival, arrival_at, sequence, attempt, bound_message, mark, emitted, is_on_link}
 use Rattle.am_model.specs.Changes.{flying_of}
 use Rattle.am_model.specs.Endpoint.{verdict}
-use Rattle.am_model.specs.History.{MayFollow, state_of, is_in_range, is_four_bytes, receive, arrive, decided, settle, settle_by, counts, bounced, next_number, channel_to}
+use Rattle.am_model.specs.History.{state_of, is_in_range, is_four_bytes, receive, arrive, decided, settle, settle_by, counts, bounced, next_number, channel_to}
 use Rattle.am_model.specs.Layout.{Layout}
-use Rattle.am_model.proofs.Ends.{EmittedIn, was_emitted}
+use Rattle.am_model.proofs.Ends.{was_emitted}
 use Rattle.am_laws_order.proofs.Effects.{link_of_answer}
 use Rattle.am_laws_order.proofs.Marks.{IsPast, back, end_of, fresh_means, link_of, no_answer, settle_answers, settle_decides}
 use Rattle.am_laws_order.proofs.Parcels.{channel_of}
 use Rattle.am_run_laws.proofs.Fits.{IsForGood, fits_for_good}
-use Rattle.am_run_laws.proofs.Zone.{FitsOf, IsWithin, Zone, Receives, AnswersForGood, Comes, undeciding, undecided_more, decided_more}
+use Rattle.am_run_laws.proofs.Zone.{FitsOf, Zone, Receives, Comes, undeciding, undecided_more, decided_more}
 
 -- what is answered again is what the mark says, on the sequence that it is at
 again_is : (m : Mark) (v : Verdict) (seq attempt : ℕ) (w : Verdict) → arrival_at m v seq attempt ≡ Again w → (w ≡ v) × (seq ≡ m.seq)

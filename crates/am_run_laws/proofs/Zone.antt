@@ -225,15 +225,15 @@ pub record Comes (layout : Layout) (past : List Entry) (node peer : NodeId) (p :
   pub on : back (channel_of p) ≡ channel_to node peer p.channel
   pub fresh : IsFresh past p
 
-not_past : (v : Verdict) (seq attempt : ℕ) → IsPast (record { seq = seq; attempt = attempt; verdict = v }) seq attempt → ⊥
+pub not_past : (v : Verdict) (seq attempt : ℕ) → IsPast (record { seq = seq; attempt = attempt; verdict = v }) seq attempt → ⊥
 not_past v seq attempt h =
     ⊎_elim (λ (above : seq < seq). omega (arith, above)) (λ (same : (seq ≡ seq) × (attempt < attempt) × (v ≢ Verdicts.Accepted)). omega (arith, same.1)) h
 
-decides_now : (node peer : NodeId) (number channel seq attempt : ℕ) (m : Message) (n : ℕ) (v : Verdict) → decides (channel_to node peer channel) (Events.Receive node peer number) (Out.Received channel seq attempt (decided m n v)) ≡ true
+pub decides_now : (node peer : NodeId) (number channel seq attempt : ℕ) (m : Message) (n : ℕ) (v : Verdict) → decides (channel_to node peer channel) (Events.Receive node peer number) (Out.Received channel seq attempt (decided m n v)) ≡ true
 decides_now node peer number channel seq attempt m n Verdicts.Accepted = same_channel-refl (channel_to node peer channel)
 decides_now node peer number channel seq attempt m n (Verdicts.Refused cause) = same_channel-refl (channel_to node peer channel)
 
-decided_mark : (channel seq attempt : ℕ) (m : Message) (n : ℕ) (v : Verdict) → mark_in (Out.Received channel seq attempt (decided m n v)) ≡ record { seq = seq; attempt = attempt; verdict = v }
+pub decided_mark : (channel seq attempt : ℕ) (m : Message) (n : ℕ) (v : Verdict) → mark_in (Out.Received channel seq attempt (decided m n v)) ≡ record { seq = seq; attempt = attempt; verdict = v }
 decided_mark channel seq attempt m n Verdicts.Accepted = refl
 decided_mark channel seq attempt m n (Verdicts.Refused cause) = refl
 
