@@ -41,7 +41,7 @@ pub has_room : (s : ScenarioLists) (past : List Entry) (event : Event) (x : Entr
 has_room s past event x h is =
     (ap (full_for s past) is ∙ (stop_none (failing (layout_of s) past event) (full_log (layout_of s) past event) h).1, tt)
 
-pub acts_ok : {U : Type 0} (s : ScenarioLists) (past now : List Entry) (event : Event) (x : Entry) (u : U) → Walked (layout_of s) past → stop (layout_of s) past event ≡ None → x ≡ step_entry (layout_of s) past event → now ≡ past ++ x ∷ [] → Acts s (Ok {E = DrainFault} u) past (after_event (layout_of s) event past) now
+pub acts_ok : {U : Type 0} (s : ScenarioLists) (past now : List Entry) (event : Event) (x : Entry) (u : U) → Walked (layout_of s) past → stop (layout_of s) past event ≡ None → x ≡ step_entry (layout_of s) past event → now ≡ past ++ x ∷ [] → Acts s (Ok u) past (after_event (layout_of s) event past) now
 acts_ok s past now event x u walked free is made =
     record {
       does = made ∙ ap (λ (y : Entry). past ++ y ∷ []) (is ∙ sym (entry_is_step (layout_of s) past event walked));

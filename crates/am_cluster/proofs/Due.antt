@@ -1,7 +1,7 @@
 -- The packet that is due on a link.
-use Rattle.std.specs.Prelude.{slice_get, slice_index_or, if◌then◌else◌}
+use Rattle.std.specs.Prelude.{slice_get, slice_index_or, if◌then◌else◌, IfSome}
 use Rattle.std.specs.List.{cons_option}
-use Rattle.std.proofs.Common.{◌≡◌, ℕ, ◌+◌, ◌*◌, ◌<◌, Bool, true, false, cond, ◌&&◌, List, [], ◌∷◌, length, Option, Some, None, refl, sym, ap, ◌∙◌, arith}
+use Rattle.std.proofs.Common.{◌≡◌, ℕ, ◌+◌, ◌*◌, ◌<◌, ◌≤◌, Bool, true, false, cond, ◌&&◌, List, [], ◌∷◌, length, Option, Some, None, refl, sym, ap, ◌∙◌, arith}
 use Rattle.std.proofs.lemmas.List.Sums.{sum_by-cons}
 use Rattle.am_names.specs.declared.NodeId.{NodeId}
 use Rattle.am_names.specs.Names.{same_node}
@@ -9,9 +9,12 @@ use Rattle.am_office.specs.declared.Event.{Event}
 use Rattle.am_office.specs.declared.Event.TheVariants as Events
 use Rattle.am_office.specs.declared.Entry.{Entry}
 use Rattle.am_model.specs.Channels.{emitted}
+use Rattle.am_model.specs.History.{IsHistory}
 use Rattle.am_journal.specs.View.{is_receipt, receipts}
 use Rattle.am_journal.proofs.Lists.{index_got}
 use Rattle.am_scenario_types.specs.Lists.{ScenarioLists}
+use Rattle.am_follow.specs.Layout.{layout_of}
+use Rattle.am_drain_steps.specs.Enabled.{DuesAreCounted}
 use Rattle.am_scripts.specs.Links.{due, number_received, received}
 use Rattle.am_cluster.specs.Links.{AreFed, Released, nothing, released_of}
 
@@ -55,3 +58,7 @@ due_read s past rs from to n fed low lower count =
 
     counted : n ≡ length (received from to past)
     counted = count ∙ receipts_are from to past
+
+pub due_counted : (s : ScenarioLists) (past : List Entry) (node peer : NodeId) (o : Option ℕ) → DuesAreCounted → IsHistory (layout_of s) past → o ≡ due s peer node past → IfSome o (λ (n : ℕ). 1 ≤ n)
+due_counted s past node peer None counted history is = tt
+due_counted s past node peer (Some n) counted history is = (counted s past node peer n history (sym is)).0

@@ -1,5 +1,5 @@
 -- The call that is left to a thread is the one that its scenario names, and its numbers are in range.
-use Rattle.std.specs.Prelude.{slice_get, option_map, nat_lt, ◌&&◌, ◌==◌}
+use Rattle.std.specs.Prelude.{slice_get, option_map, nat_lt, ◌&&◌, ◌==◌, IfSome}
 use Rattle.std.specs.List.{All, filter, find}
 use Rattle.std.proofs.Common.{◌≡◌, ℕ, zero, suc, ◌<◌, Bool, true, false, cond, List, [], ◌∷◌, map, length, Option, Some, None, refl, sym, ap, ◌∙◌, subst, arith, lt-ltb, eqb-true}
 use Rattle.am_names.specs.declared.EndpointId.{EndpointId}
@@ -16,8 +16,10 @@ use Rattle.am_scenario_types.specs.Lists.{ScenarioLists}
 use Rattle.am_follow.specs.Layout.{layout_of}
 use Rattle.am_follow.proofs.Lawful.{event_in_range}
 use Rattle.am_scripts.specs.Scripts.{is_of_thread}
-use Rattle.am_drain.specs.Rules.{Left, left_to}
-use Rattle.am_drain_loop.specs.Reads.{call_event}
+use Rattle.am_drain.specs.Rules.{Left, left_after, left_to}
+use Rattle.am_drain_loop.specs.declared.LeftCall.{LeftCall}
+use Rattle.am_drain_loop.specs.Reads.{call_event, left_of}
+use Rattle.am_journal.proofs.Lists.{got_mapped}
 use Rattle.am_cluster.specs.Threads.{Scripted, left_in, scripted_of}
 
 pub got_map : {X Y : Type 0} (f : X → Y) (xs : List X) (k : ℕ) (x : X) → slice_get xs k ≡ Some x → slice_get (map f xs) k ≡ Some (f x)
@@ -73,3 +75,18 @@ call_in_range s c ok k =
 pub left_in_range : (s : ScenarioLists) (past : List Entry) (line : ThreadLine) (n : ℕ) (c : ScriptCall) → lawful.IsLawful s → slice_get (scripted_of s past line).calls n ≡ Some c → is_in_range (layout_of s) (call_event c) ≡ true
 left_in_range s past line n c ok at =
     call_in_range s c ok (all_at (lawful.IsLawfulScriptCall s.ends s.threads (lawful.least_credits s.pool)) (is_of_thread line.id) s.script n c ok.script at)
+
+pub left_ranged : (s : ScenarioLists) (past : List Entry) (all : List Scripted) (k : ℕ) (t : Scripted) (o : Option LeftCall) → lawful.IsLawful s → all ≡ map (scripted_of s past) s.threads → slice_get all k ≡ Some t → option_map left_of o ≡ left_in t → IfSome o (λ (l : LeftCall). is_in_range (layout_of s) (call_event l.call) ≡ true)
+left_ranged s past all k t None ok is at told = tt
+left_ranged s past all k t (Some l) ok is at told = by_call (slice_get t.calls t.made) refl told
+  where
+    line : (x : ThreadLine) × (slice_get s.threads k ≡ Some x) × (scripted_of s past x ≡ t)
+    line = got_mapped (scripted_of s past) s.threads k t (ap (λ (ts : List Scripted). slice_get ts k) (sym is) ∙ at)
+
+    by_call : (c : Option ScriptCall) → slice_get t.calls t.made ≡ c → Some (left_of l) ≡ left_after t.made c → is_in_range (layout_of s) (call_event l.call) ≡ true
+    by_call None here h = absurd (cc)
+    by_call (Some c) here h =
+        let both : left_of l ≡ record { after = t.made; call = c } = cc in
+        let same : l.call ≡ c = ap (λ (x : Left). x.call) both in
+        let there : slice_get (scripted_of s past line.0).calls t.made ≡ Some c = ap (λ (x : Scripted). slice_get x.calls t.made) line.2 ∙ here in
+        ap (λ (x : ScriptCall). is_in_range (layout_of s) (call_event x)) same ∙ left_in_range s past line.0 t.made c ok there

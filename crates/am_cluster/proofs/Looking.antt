@@ -27,14 +27,19 @@ use Rattle.am_iface.proofs.Frees.{bound_is}
 use Rattle.am_machine.specs.Ends.{kept, setting_in}
 use Rattle.am_machine.specs.Interfaces.{IsInterface}
 use Rattle.am_machine.specs.Moves.{is_in_frame_of}
+use Rattle.am_machine.specs.View.{ClusterView}
+use Rattle.am_scenario_types.specs.declared.parts.Network.TheVariants.{Packet}
+use Rattle.am_scenario_types.specs.Lists.{ScenarioLists}
+use Rattle.am_follow.specs.Layout.{layout_of}
+use Rattle.am_model.proofs.Books.{same_end-is}
 use Rattle.am_scripts.specs.Standings.{Standing, is_missed, standings}
-use Rattle.am_scripts.proofs.Lists.{none_all, none_mapped}
+use Rattle.am_scripts.proofs.Lists.{found_in, found_true, none_all, none_mapped}
 use Rattle.am_drain.specs.Rules.{has_reply, next_page_in, page_in_of}
 use Rattle.am_drain_loop.specs.declared.EndHead.{EndHead}
 use Rattle.am_drain_loop.specs.declared.EndMail.{EndMail}
 use Rattle.am_drain_loop.specs.Reads.{head_of, is_seat, mail_of}
 use Rattle.am_drain_steps.specs.Away.{AwayIsSettled, is_settled, is_settled_at}
-use Rattle.am_drain_steps.proofs.Enabled.{IsSeatedSetting, all_seated, seat_in_range}
+use Rattle.am_drain_steps.proofs.Enabled.{IsSeatedSetting, all_seated, of_packets, seat_in_range}
 use Rattle.am_drain_steps.proofs.Calls.{home_seated}
 use Rattle.am_cluster.proofs.Leaving.{got_map}
 
@@ -92,14 +97,26 @@ standing_in layout past s = record { setting = s; state = state_of layout past s
 standing_at : (layout : Layout) (past : List Entry) (k : ℕ) (one : EndpointView) → IsSeen layout past k one → slice_get (standings layout past) k ≡ Some (standing_in layout past (setting_in (kept one)))
 standing_at layout past k one seen = got_map (standing_in layout past) layout.ends k (setting_in (kept one)) seen.setting
 
-pub seat_at : (layout : Layout) (past : List Entry) (k : ℕ) (one : EndpointView) → IsLawful layout → IsSeen layout past k one → is_seat layout one.settings.node one.settings.id ≡ true
-seat_at layout past k one ok seen =
-    seat_in_range layout one.settings.id one.settings.node (all_are_got (IsSeatedSetting layout) layout.ends k (setting_in (kept one)) (all_seated layout ok) seen.setting)
+-- what the cluster of a scenario tells of an endpoint at a place
+pub seen_in : (s : ScenarioLists) (v : ClusterView) (k : ℕ) (one : EndpointView) → v.layout ≡ layout_of s → slice_get v.layout.ends k ≡ Some (setting_in (kept one)) → state_after one ≡ state_of v.layout v.journal one.settings.id → IsSeen (layout_of s) v.journal k one
+seen_in s v k one same setting state =
+    subst (λ (l : Layout). IsSeen l v.journal k one) same (record { setting = setting; state = state })
 
-pub head_read : (layout : Layout) (past : List Entry) (k : ℕ) (one : EndpointView) (h : Head) → IsSeen layout past k one → h ≡ (state_after one).head → slice_get (map head_of (standings layout past)) k ≡ Some (record { id = one.settings.id; node = one.settings.node; head = h })
-head_read layout past k one h seen is =
+pub seat_at : (layout : Layout) (past : List Entry) (k : ℕ) (one : EndpointView) (node : NodeId) (id : EndpointId) → IsLawful layout → IsSeen layout past k one → node ≡ one.settings.node → id ≡ one.settings.id → is_seat layout node id ≡ true
+seat_at layout past k one node id ok seen at of =
+    (λ i. is_seat layout (at i) (of i))
+    ∙ seat_in_range layout one.settings.id one.settings.node (all_are_got (IsSeatedSetting layout) layout.ends k (setting_in (kept one)) (all_seated layout ok) seen.setting)
+
+pub head_read : (layout : Layout) (past : List Entry) (k : ℕ) (one : EndpointView) (id : EndpointId) (node : NodeId) (h : Head) → IsSeen layout past k one → id ≡ one.settings.id → node ≡ one.settings.node → h ≡ (state_after one).head → slice_get (map head_of (standings layout past)) k ≡ Some (record { id = id; node = node; head = h })
+head_read layout past k one id node h seen of at is =
     got_map head_of (standings layout past) k (standing_in layout past (setting_in (kept one))) (standing_at layout past k one seen)
-    ∙ ap (λ (g : Head). Some (record { id = one.settings.id; node = one.settings.node; head = g })) (sym (is ∙ ap (λ (s : State). s.head) seen.state))
+    ∙ sym same
+  where
+    heads : h ≡ (state_of layout past one.settings.id).head
+    heads = is ∙ ap (λ (s : State). s.head) seen.state
+
+    same : Some (record { id = id; node = node; head = h }) ≡ Some (head_of (standing_in layout past (setting_in (kept one))))
+    same = λ i. Some (record { id = of i; node = at i; head = heads i })
 
 -- ---- what is on disk holds nothing, while no wanted endpoint is there
 
@@ -196,22 +213,25 @@ pub record ReadsMail (one : EndpointView) (front' : Option Queued) (reply arriva
   pub reply_is : reply ≡ (if is_on_disk (state_after one).head.place then false else not (length (state_after one).body.replies == 0))
   pub arrivals_is : arrivals ≡ (if is_on_disk (state_after one).head.place then false else has_arrivals (state_after one).body)
 
-pub mail_read : (layout : Layout) (past : List Entry) (k : ℕ) (one : EndpointView) (f : Option Queued) (r a : Bool) → IsSeen layout past k one → IsQuietOnDisk (state_of layout past one.settings.id) → ReadsMail one f r a → slice_get (map mail_of (standings layout past)) k ≡ Some (record { id = one.settings.id; node = one.settings.node; front = f; has_reply = r; has_arrivals = a })
-mail_read layout past k one f r a seen quiet read =
+pub mail_read : (layout : Layout) (past : List Entry) (k : ℕ) (one : EndpointView) (id : EndpointId) (node : NodeId) (f : Option Queued) (r a : Bool) → IsSeen layout past k one → IsQuietOnDisk (state_of layout past one.settings.id) → id ≡ one.settings.id → node ≡ one.settings.node → ReadsMail one f r a → slice_get (map mail_of (standings layout past)) k ≡ Some (record { id = id; node = node; front = f; has_reply = r; has_arrivals = a })
+mail_read layout past k one id node f r a seen still of at read =
     got_map mail_of (standings layout past) k (standing_in layout past (setting_in (kept one))) (standing_at layout past k one seen)
-    ∙ (λ i. Some (record { id = one.settings.id; node = one.settings.node; front = fronts (~ i); has_reply = replies (~ i); has_arrivals = arrived (~ i) }))
+    ∙ sym same
   where
     s : State
     s = state_of layout past one.settings.id
 
     fronts : f ≡ front s
-    fronts = read.front_is ∙ ap (λ (t : State). if is_on_disk t.head.place then None else front t) seen.state ∙ front_read s (is_on_disk s.head.place) quiet
+    fronts = read.front_is ∙ ap (λ (t : State). if is_on_disk t.head.place then None else front t) seen.state ∙ front_read s (is_on_disk s.head.place) still
 
     replies : r ≡ not (length s.body.replies == 0)
-    replies = read.reply_is ∙ ap (λ (t : State). if is_on_disk t.head.place then false else not (length t.body.replies == 0)) seen.state ∙ reply_read s (is_on_disk s.head.place) quiet
+    replies = read.reply_is ∙ ap (λ (t : State). if is_on_disk t.head.place then false else not (length t.body.replies == 0)) seen.state ∙ reply_read s (is_on_disk s.head.place) still
 
     arrived : a ≡ has_arrivals s.body
-    arrived = read.arrivals_is ∙ ap (λ (t : State). if is_on_disk t.head.place then false else has_arrivals t.body) seen.state ∙ arrivals_read s (is_on_disk s.head.place) quiet
+    arrived = read.arrivals_is ∙ ap (λ (t : State). if is_on_disk t.head.place then false else has_arrivals t.body) seen.state ∙ arrivals_read s (is_on_disk s.head.place) still
+
+    same : Some (record { id = id; node = node; front = f; has_reply = r; has_arrivals = a }) ≡ Some (mail_of (standing_in layout past (setting_in (kept one))))
+    same = λ i. Some (record { id = of i; node = at i; front = fronts i; has_reply = replies i; has_arrivals = arrived i })
 
 -- ---- an endpoint by its number
 
@@ -230,6 +250,26 @@ unfound e (x ∷ xs) h = by_test (has_id e x) h (unfound e xs)
     by_test : (b : Bool) → (b || list_any (has_id e) xs) ≡ false → (list_any (has_id e) xs ≡ false → find (has_id e) xs ≡ None) → cond b (Some x) (find (has_id e) xs) ≡ None
     by_test true k later = absurd (cc)
     by_test false k later = later k
+
+all_mapped : {X Y : Type 0} (f : X → Y) (p : Y → Bool) (xs : List X) → list_all (λ x. p (f x)) xs ≡ list_all p (map f xs)
+all_mapped f p [] = refl
+all_mapped f p (x ∷ xs) = ap (λ (b : Bool). p (f x) && b) (all_mapped f p xs)
+
+-- an endpoint that is declared holds nothing on disk, where none is missed
+pub quiet_of : (layout : Layout) (past : List Entry) (e : EndpointId) → AwayIsSettled → layout.direct ≡ false → IsHistory layout past → next_page_in (standings layout past) ≡ None → declared layout e ≡ true → IsQuietOnDisk (state_of layout past e)
+quiet_of layout past e away packet history none known =
+    let found = found_at e layout.ends known in
+    let own : e ≡ found.0.id = same_end-is e found.0.id (found_true (has_id e) layout.ends found.0 found.1) in
+    let all = none_all is_missed (standings layout past) (none_mapped page_in_of (find is_missed (standings layout past)) none) in
+    let free = found_in (has_id e) (λ (s : EndSetting). not (is_missed (standing_in layout past s))) layout.ends found.0 found.1 (all_mapped (standing_in layout past) (λ (s : Standing). not (is_missed s)) layout.ends ∙ all) in
+    quiet_where (state_of layout past e) (away layout past packet history e)
+    (subst (λ (d : EndpointId). not ((state_of layout past d).head.wanted && is_on_disk (state_of layout past d).head.place) ≡ true) (sym own) free)
+
+pub requests_at : (s : ScenarioLists) (v : ClusterView) (e : EndpointId) (one : EndpointView) (n : ℕ) → AwayIsSettled → s.network ≡ Packet → IsHistory v.layout v.journal → v.layout ≡ layout_of s → next_page_in (standings (layout_of s) v.journal) ≡ None → declared (layout_of s) e ≡ true → state_after one ≡ state_of v.layout v.journal e → n ≡ (if is_on_disk (state_after one).head.place then 0 else count_by is_request (state_after one).body.received) → n ≡ count_by is_request (state_of (layout_of s) v.journal e).body.received
+requests_at s v e one n away packet history same none known state is =
+    is
+    ∙ ap (λ (t : State). if is_on_disk t.head.place then 0 else count_by is_request t.body.received) (state ∙ ap (λ (l : Layout). state_of l v.journal e) same)
+    ∙ requests_read (state_of (layout_of s) v.journal e) (is_on_disk (state_of (layout_of s) v.journal e).head.place) (quiet_of (layout_of s) v.journal e away (of_packets s packet) (subst (λ (l : Layout). IsHistory l v.journal) same history) none known)
 
 pub no_home : (layout : Layout) (e : EndpointId) → declared layout e ≡ false → None ≡ home layout e
 no_home layout e h = sym (ap home_by (unfound e layout.ends h))
@@ -253,9 +293,11 @@ lies_in layout past node frame s = same_node node s.node && is_in_frame frame (s
 pub lies_read : (layout : Layout) (past : List Entry) (node : NodeId) (frame k : ℕ) (one : EndpointView) → IsSeen layout past k one → lies_in layout past node frame (setting_in (kept one)) ≡ is_in_frame_of node frame one
 lies_read layout past node frame k one seen = ap (λ (s : State). same_node node one.settings.node && is_in_frame frame s.head.place) (sym seen.state)
 
-pub held_more : (layout : Layout) (past : List Entry) (node : NodeId) (frame k : ℕ) (one : EndpointView) (b : Bool) → IsSeen layout past k one → b ≡ is_in_frame_of node frame one → list_any (lies_in layout past node frame) (take k layout.ends) ≡ false → list_any (lies_in layout past node frame) (take (suc k) layout.ends) ≡ b
+pub held_more : (layout : Layout) (past : List Entry) (node : NodeId) (frame k : ℕ) (one : EndpointView) (b : Bool) → IsSeen layout past k one → b ≡ is_in_frame_of node frame one → list_any (lies_in layout past node frame) (take k layout.ends) ≡ false → list_any (lies_in layout past node frame) (take (k + 1) layout.ends) ≡ b
 held_more layout past node frame k one b seen is before =
-    any_more (lies_in layout past node frame) layout.ends k (setting_in (kept one)) b seen.setting (lies_read layout past node frame k one seen ∙ sym is) before
+    let next : suc k ≡ k + 1 = omega arith in
+    subst (λ (n : ℕ). list_any (lies_in layout past node frame) (take n layout.ends) ≡ b) next
+    (any_more (lies_in layout past node frame) layout.ends k (setting_in (kept one)) b seen.setting (lies_read layout past node frame k one seen ∙ sym is) before)
 
 pub held_found : (layout : Layout) (past : List Entry) (node : NodeId) (frame k : ℕ) → list_any (lies_in layout past node frame) (take k layout.ends) ≡ true → list_any (lies_in layout past node frame) layout.ends ≡ true
 held_found layout past node frame k h = any_later (lies_in layout past node frame) layout.ends k h

@@ -24,6 +24,9 @@ mod threads;
 
 use am_machine::Cluster;
 use am_office::{Journal, Part};
+use am_run_laws::{
+    cut_off_runs_are_stopped, cut_offs_are_short, none_is_refused, runs_with_room_are_whole,
+};
 use am_scenario_types::Scenario;
 use scripted::ScriptedCluster;
 use std::alloc::Global;
@@ -89,20 +92,24 @@ pub fn drain(cluster: &mut Cluster, scenario: &Scenario, made: &mut [u32]) -> Re
 /// What the drain of an empty journal comes to, by what it answered and the journal that it left.
 fn run_of(
     scenario: &Scenario,
-    result: Result<(), am_drain_loop::DrainFault>,
+    drained: Result<(), am_drain_loop::DrainFault>,
     journal: Journal,
 ) -> Result<Finished, RunFault>
     requires lawful { IsLawful scenario.now }
     requires packet { scenario.now.network ≡ Packet }
     requires laws { PostOffice (layout_of scenario.now) journal }
-    requires drained { OnOk result (IsDrainedWithRoom scenario.now [] journal) }
-    requires stopped { IfErr result (λ fault. IsDrainStopped scenario.now [] fault journal) }
+    requires drained { OnOk drained (IsDrainedWithRoom scenario.now [] journal) }
+    requires stopped { IfErr drained (λ fault. IsDrainStopped scenario.now [] fault journal) }
     ensures drained { IfOk result (λ finished. IsDrainedWithRoom scenario.now [] finished.journal) }
     ensures whole { IfOk result (λ finished. IsWholeRun scenario.now finished.journal) }
     ensures laws { IfOk result (λ finished. PostOffice (layout_of scenario.now) finished.journal) }
     ensures stopped { IfErr result (IsRunStopped scenario.now) }
 {
-    match result {
+    none_is_refused();
+    runs_with_room_are_whole();
+    cut_off_runs_are_stopped();
+    cut_offs_are_short();
+    match drained {
         Ok(()) => Ok(Finished { journal }),
         Err(am_drain_loop::DrainFault::LogFull(part)) => Err(RunFault::LogFull { part, journal }),
         Err(am_drain_loop::DrainFault::NoMemory) => Err(RunFault::NoMemory),
@@ -126,9 +133,9 @@ pub fn alone(alloc: Global, scenario: &Scenario) -> Result<Finished, RunFault>
         Ok(machine) => machine,
         Err(_) => return Err(RunFault::NoMemory),
     };
-    let result = am_drain_loop::drain(&mut machine);
+    let drained = am_drain_loop::drain(&mut machine);
     match machine.journal(alloc) {
-        Ok(journal) => run_of(scenario, result, journal),
+        Ok(journal) => run_of(scenario, drained, journal),
         Err(_) => Err(RunFault::NoMemory),
     }
 }

@@ -1,10 +1,14 @@
 // A cluster that runs the scripts of a scenario: the machine of a drain.
-ghost use Rattle.am_cluster.specs.Scripted.{capacity_of};
+ghost use Rattle.am_cluster.specs.Links.{AreFed, released_in};
+ghost use Rattle.am_cluster.specs.Scripted.{AreParts, capacity_of};
+ghost use Rattle.am_cluster.specs.Threads.{scripted_in, scripted_of};
+ghost use Rattle.am_drain.specs.Cut.{IsDrainedWithRoom};
+ghost use Rattle.am_drain_loop.specs.Stops.{IsDrainStopped};
 ghost use Rattle.am_follow.specs.Layout.{layout_of};
 ghost use Rattle.am_model.specs.PostOffice.{PostOffice};
 ghost use Rattle.am_scenario_types.specs.Lawful.{IsLawful};
 ghost use Rattle.am_scenario_types.specs.declared.parts.Network.TheVariants.{Packet};
-ghost use Rattle.std.specs.Prelude.{◌≡◌, [], IfOk};
+ghost use Rattle.std.specs.Prelude.{◌≡◌, [], IfErr, IfOk, OnOk, map};
 
 use crate::emissions::{due_on, feed_entry};
 use crate::links::{Link, make_all_room, no_links};
@@ -73,6 +77,52 @@ impl<'a> ScriptedCluster<'a> {
     }
 }
 
+/// What is kept beside a cluster that has made entries.
+#[derive(Drop)]
+pub(crate) struct Beside<'a> {
+    pub(crate) scenario: &'a Scenario,
+    pub(crate) links: Vec<Link>,
+    pub(crate) threads: Vec<ThreadScript>,
+}
+
+/// How a drain ended, and what each thread is still to call.
+#[derive(Drop)]
+pub(crate) struct Drained {
+    pub(crate) result: Result<(), DrainFault>,
+    pub(crate) threads: Vec<ThreadScript>,
+}
+
+/// The drain of a cluster that has made entries.
+pub(crate) fn drain_owned<'a>(cluster: Cluster, beside: Beside<'a>) -> (Cluster, Drained)
+    requires parts { AreParts beside.scenario.now cluster }
+    requires fed { AreFed beside.scenario.now.plan cluster.journal (map released_in beside.links.items) }
+    requires threads { map scripted_in beside.threads.items ≡ map (scripted_of beside.scenario.now cluster.journal) beside.scenario.now.threads }
+    ensures parts { AreParts beside.entry.scenario.now result.0 }
+    ensures threads { map scripted_in result.1.threads.items ≡ map (scripted_of beside.entry.scenario.now result.0.journal) beside.entry.scenario.now.threads }
+    ensures drained { OnOk result.1.result (IsDrainedWithRoom beside.entry.scenario.now cluster.journal result.0.journal) }
+    ensures stopped { IfErr result.1.result (λ fault. IsDrainStopped beside.entry.scenario.now cluster.journal fault result.0.journal) }
+{
+    let Beside {
+        scenario,
+        links,
+        threads,
+    } = beside;
+    let mut machine = ScriptedCluster {
+        scenario,
+        cluster,
+        links,
+        threads,
+    };
+    let result = am_drain_loop::drain(&mut machine);
+    let ScriptedCluster {
+        scenario: _,
+        cluster,
+        links: _,
+        threads,
+    } = machine;
+    (cluster, Drained { result, threads })
+}
+
 impl<'a> Machine for ScriptedCluster<'a> {
     ghost scenario = { λ m. m.scenario };
 
@@ -81,23 +131,28 @@ impl<'a> Machine for ScriptedCluster<'a> {
     ghost capacity = { λ m. capacity_of m.scenario };
 
     fn nodes(&self) -> u8 {
-        self.scenario.nodes
+        let scenario = self.scenario;
+        scenario.nodes
     }
 
     fn channels(&self) -> u8 {
-        self.scenario.channels
+        let scenario = self.scenario;
+        scenario.channels
     }
 
     fn frames(&self) -> u8 {
-        self.scenario.frames
+        let scenario = self.scenario;
+        scenario.frames
     }
 
     fn keep(&self) -> u8 {
-        self.scenario.keep
+        let scenario = self.scenario;
+        scenario.keep
     }
 
     fn faults(&self) -> u32 {
-        self.scenario.faults.len() as u32
+        let scenario = self.scenario;
+        scenario.faults.len() as u32
     }
 
     fn due(&self, node: NodeId, peer: NodeId) -> Option<u32> {
@@ -109,7 +164,8 @@ impl<'a> Machine for ScriptedCluster<'a> {
     }
 
     fn ends_len(&self) -> usize {
-        self.scenario.ends.len()
+        let scenario = self.scenario;
+        scenario.ends.len()
     }
 
     fn head(&self, index: usize) -> EndHead {
@@ -145,6 +201,7 @@ impl<'a> Machine for ScriptedCluster<'a> {
     }
 
     fn apply(&mut self, event: Event) -> Result<(), DrainFault> {
+        let scenario = self.scenario;
         self.cluster.laws();
         if make_all_room(&mut self.links).is_err() {
             return Err(DrainFault::NoMemory);
@@ -152,7 +209,7 @@ impl<'a> Machine for ScriptedCluster<'a> {
         match self.cluster.apply(&event) {
             Ok(entry) => {
                 self.cluster.laws();
-                feed_entry(&mut self.links, &self.scenario.plan, &entry);
+                feed_entry(&mut self.links, &scenario.plan, &entry);
                 count_event(&mut self.threads, &event);
                 Ok(())
             }
