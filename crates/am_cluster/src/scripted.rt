@@ -1,6 +1,6 @@
 // A cluster that runs the scripts of a scenario: the machine of a drain.
 ghost use Rattle.am_cluster.specs.Links.{AreFed, released_in};
-ghost use Rattle.am_cluster.specs.Scripted.{AreParts, capacity_of};
+ghost use Rattle.am_cluster.specs.Scripted.{AreParts, as_fault, capacity_of};
 ghost use Rattle.am_cluster.specs.Threads.{scripted_in, scripted_of};
 ghost use Rattle.am_drain.specs.Cut.{IsDrainedWithRoom};
 ghost use Rattle.am_drain_loop.specs.Stops.{IsDrainStopped};
@@ -74,6 +74,17 @@ impl<'a> ScriptedCluster<'a> {
         ensures laws { IfOk result (λ journal. PostOffice (layout_of self.now.scenario) journal) }
     {
         self.cluster.journal(alloc)
+    }
+}
+
+/// Why a drain could not make an entry, by why the cluster could not.
+fn as_fault(fault: ApplyFault) -> DrainFault
+    ensures { result ≡ as_fault fault }
+{
+    match fault {
+        ApplyFault::NotEnabled(condition) => DrainFault::NotEnabled(condition),
+        ApplyFault::LogFull(part) => DrainFault::LogFull(part),
+        ApplyFault::NoMemory => DrainFault::NoMemory,
     }
 }
 
@@ -213,9 +224,7 @@ impl<'a> Machine for ScriptedCluster<'a> {
                 count_event(&mut self.threads, &event);
                 Ok(())
             }
-            Err(ApplyFault::NotEnabled(condition)) => Err(DrainFault::NotEnabled(condition)),
-            Err(ApplyFault::LogFull(part)) => Err(DrainFault::LogFull(part)),
-            Err(ApplyFault::NoMemory) => Err(DrainFault::NoMemory),
+            Err(fault) => Err(as_fault(fault)),
         }
     }
 }

@@ -1,5 +1,5 @@
 use Rattle.std.specs.Prelude.{slice_get, option_map, IfSome}
-use Rattle.std.proofs.Common.{◌≡◌, ◌<◌, ◌∙◌, ap, sym, map, length, subst, Some, true, arith}
+use Rattle.std.proofs.Common.{◌≡◌, ◌<◌, ◌∙◌, ap, sym, map, length, subst, Some, true, arith, List}
 use Rattle.am_model.specs.History.{is_in_range}
 use Rattle.am_journal.proofs.Lists.{index_got, map_length}
 use Rattle.am_follow.specs.Layout.{layout_of}
