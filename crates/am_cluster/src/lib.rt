@@ -8,6 +8,7 @@ ghost use Rattle.am_drain_steps.specs.Runs.{IsWholeRun};
 ghost use Rattle.am_follow.specs.Layout.{layout_of};
 ghost use Rattle.am_model.specs.History.{IsHistory};
 ghost use Rattle.am_model.specs.PostOffice.{PostOffice};
+ghost use Rattle.am_run_laws.specs.Drained.{HasShortLogs};
 ghost use Rattle.am_scenario_types.specs.Lawful.{IsLawful};
 ghost use Rattle.am_scenario_types.specs.declared.parts.Network.TheVariants.{Packet};
 ghost use Rattle.am_scenario_types.specs.declared.parts.ThreadLine.{ThreadLine};
@@ -28,9 +29,11 @@ use am_run_laws::{
     cut_off_runs_are_stopped, cut_offs_are_short, none_is_refused, runs_with_room_are_whole,
 };
 use am_scenario_types::Scenario;
-use scripted::ScriptedCluster;
+use emissions::links_after;
+use scripted::{Beside, ScriptedCluster, drain_in_place};
 use std::alloc::Global;
 use std::thread::Threads;
+use threads::{scripts_after, tell_made};
 
 /// A run that came to its end.
 #[derive(Debug, Drop)]
@@ -80,13 +83,38 @@ pub fn drain(cluster: &mut Cluster, scenario: &Scenario, made: &mut [u32]) -> Re
     requires scripts { BeginsScripts scenario.now cluster.old.journal }
     requires made { made.old ≡ map (λ (t : ThreadLine). length (calls_of t.id cluster.old.journal)) scenario.now.threads }
     requires in_order { ReceivesInOrder scenario.now cluster.old.journal }
+    requires logs { HasShortLogs scenario.now cluster.old.journal }
     ensures layout { cluster.new.layout ≡ cluster.old.layout }
     ensures history { IsHistory cluster.new.layout cluster.new.journal }
     ensures drained { OnOk result (IsDrainedWithRoom scenario.now cluster.old.journal cluster.new.journal) }
     ensures stopped { IfErr result (λ fault. IsDrainHalted scenario.now cluster.old.journal fault cluster.new.journal) }
     ensures made { made.new ≡ map (λ (t : ThreadLine). length (calls_of t.id cluster.new.journal)) scenario.now.threads }
 {
-    Err(DrainFault::NoMemory)
+    none_is_refused();
+    cluster.laws();
+    let alloc = *scenario.script.allocator();
+    let Ok(journal) = cluster.journal(alloc) else {
+        return Err(DrainFault::NoMemory);
+    };
+    let Ok(links) = links_after(alloc, scenario, &journal.entries) else {
+        return Err(DrainFault::NoMemory);
+    };
+    let Ok(threads) = scripts_after(alloc, scenario, &journal.entries) else {
+        return Err(DrainFault::NoMemory);
+    };
+    let beside = Beside {
+        scenario,
+        links,
+        threads,
+    };
+    let drained = drain_in_place(cluster, beside);
+    tell_made(&drained.threads, made);
+    match drained.result {
+        Ok(()) => Ok(()),
+        Err(am_drain_loop::DrainFault::LogFull(part)) => Err(DrainFault::LogFull(part)),
+        Err(am_drain_loop::DrainFault::NoMemory) => Err(DrainFault::NoMemory),
+        Err(am_drain_loop::DrainFault::NotEnabled(_)) => unreachable!(),
+    }
 }
 
 /// What the drain of an empty journal comes to, by what it answered and the journal that it left.

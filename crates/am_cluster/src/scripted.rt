@@ -20,6 +20,7 @@ use am_model::Head;
 use am_names::{EndpointId, NodeId};
 use am_office::{Event, Journal, NoMemory};
 use am_scenario_types::Scenario;
+use core::mem::replace_with;
 use std::alloc::Global;
 use std::marker::Model;
 
@@ -132,6 +133,19 @@ pub(crate) fn drain_owned<'a>(cluster: Cluster, beside: Beside<'a>) -> (Cluster,
         threads,
     } = machine;
     (cluster, Drained { result, threads })
+}
+
+/// The same, of a cluster that stays where it is.
+pub(crate) fn drain_in_place<'a>(cluster: &mut Cluster, beside: Beside<'a>) -> Drained
+    requires parts { AreParts beside.scenario.now cluster.old }
+    requires fed { AreFed beside.scenario.now.plan cluster.old.journal (map released_in beside.links.items) }
+    requires threads { map scripted_in beside.threads.items ≡ map (scripted_of beside.scenario.now cluster.old.journal) beside.scenario.now.threads }
+    ensures parts { AreParts beside.entry.scenario.now cluster.new }
+    ensures threads { map scripted_in result.threads.items ≡ map (scripted_of beside.entry.scenario.now cluster.new.journal) beside.entry.scenario.now.threads }
+    ensures drained { OnOk result.result (IsDrainedWithRoom beside.entry.scenario.now cluster.old.journal cluster.new.journal) }
+    ensures stopped { IfErr result.result (λ fault. IsDrainStopped beside.entry.scenario.now cluster.old.journal fault cluster.new.journal) }
+{
+    replace_with(cluster, beside, drain_owned)
 }
 
 impl<'a> Machine for ScriptedCluster<'a> {
