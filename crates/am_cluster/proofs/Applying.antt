@@ -30,7 +30,7 @@ use Rattle.am_drain.specs.Made.{after_event, next_entry}
 use Rattle.am_drain.proofs.Entries.{entry_is_step}
 use Rattle.am_drain_loop.specs.declared.DrainFault.{DrainFault}
 use Rattle.am_drain_loop.specs.declared.DrainFault.TheVariants as Faults
-use Rattle.am_drain_loop.specs.Stops.{Acts}
+use Rattle.am_drain_loop.specs.Stops.{Acts, IsDrainBeginning}
 
 stop_none : (f : Option Condition) (l : Option Part) → stop_by f l ≡ None → (f ≡ None) × (l ≡ None)
 stop_none None None h = (refl, refl)
@@ -170,3 +170,7 @@ pub step_called : (s : ScenarioLists) (old new : ClusterView) (event : Event) (x
 step_called s old new event x was now step before is =
     called_after s old.journal x event was now (ap (λ (y : Entry). y.event) step.entry) before is
     ∙ ap (λ (j : List Entry). map (scripted_of s j) s.threads) (sym step.made)
+
+-- a journal begins what the drain makes of it
+pub begun : (s : ScenarioLists) (past : List Entry) → IsDrainBeginning s past past
+begun s past = record { turns = 0; planned = past; is_planned = refl; begins = record { later = []; is_planned = nothing_more past } }

@@ -39,7 +39,8 @@ use Rattle.am_scripts.specs.Scripts.{call_made, calls_of, is_of_thread}
 use Rattle.am_drain_laws.proofs.Channels.{home_below}
 use Rattle.am_cluster.specs.Links.{AreFed, Released}
 use Rattle.am_cluster.specs.Scripted.{fed_by}
-use Rattle.am_cluster.specs.Threads.{AreSmall, Scripted, scripted_of, with_call_if}
+use Rattle.am_cluster.specs.declared.threads.ThreadScript.{ThreadScript}
+use Rattle.am_cluster.specs.Threads.{AreSmall, Scripted, made_in, scripted_in, scripted_of, with_call_if}
 use Rattle.am_cluster.proofs.Calling.{scripted_push}
 use Rattle.am_cluster.proofs.Emitting.{fed_none, fed_numbered}
 
@@ -197,3 +198,11 @@ made_small s past all is short low k t at =
     let made : length (calls_of found.0.id past) ≡ t.made = ap (λ (x : Scripted). x.made) found.2 in
     let few = calls_few found.0.id past in
     omega (arith, made, few, short, low)
+
+-- what the threads tell of their calls is what the journal says
+pub made_told : (s : ScenarioLists) (past : List Entry) (ts : List ThreadScript) (ms : List ℕ) → map scripted_in ts ≡ map (scripted_of s past) s.threads → ms ≡ map made_in ts → ms ≡ map (λ (t : ThreadLine). length (calls_of t.id past)) s.threads
+made_told s past ts ms is told =
+    told
+    ∙ sym (map_twice scripted_in (λ (t : Scripted). t.made) ts)
+    ∙ ap (λ (l : List Scripted). map (λ (t : Scripted). t.made) l) is
+    ∙ map_twice (scripted_of s past) (λ (t : Scripted). t.made) s.threads

@@ -1,6 +1,7 @@
 //! A whole cluster run by the scripts of its scenario.
 #![tactic(auto)]
 
+ghost use Rattle.am_cluster.specs.Threads.{scripted_in, scripted_of};
 ghost use Rattle.am_cluster.specs.Runs.{IsDrainHalted, IsRunStopped};
 ghost use Rattle.am_drain.specs.Cut.{IsDrainedWithRoom};
 ghost use Rattle.am_drain_loop.specs.Stops.{IsDrainStopped};
@@ -33,7 +34,7 @@ use emissions::links_after;
 use scripted::{Beside, ScriptedCluster, drain_in_place};
 use std::alloc::Global;
 use std::thread::Threads;
-use threads::{scripts_after, tell_made};
+use threads::{ThreadScript, scripts_after, tell_made};
 
 /// A run that came to its end.
 #[derive(Debug, Drop)]
@@ -72,6 +73,17 @@ impl Gate for OpenGate {
     fn pass(&self, _worker: u32, _turn: u32) {}
 }
 
+/// Tells how many calls each thread made in the journal of a cluster, which is a history.
+fn tell_of(scenario: &Scenario, cluster: &Cluster, threads: &[ThreadScript], made: &mut [u32])
+    requires threads { map scripted_in threads.now ≡ map (scripted_of scenario.now cluster.now.journal) scenario.now.threads }
+    requires len { length made.old ≡ length threads.now }
+    ensures made { made.new ≡ map (λ (t : ThreadLine). length (calls_of t.id cluster.now.journal)) scenario.now.threads }
+    ensures history { IsHistory cluster.now.layout cluster.now.journal }
+{
+    cluster.laws();
+    tell_made(threads, made);
+}
+
 /// Does what is left to do when no thread runs any more, until all is at rest. `made` has the number of calls that each
 /// thread made, in the order of the threads, before and after. Ok: the journal is what the drain makes of the one before,
 /// and no entry met a full log. LogFull: it is what the drain makes before the first entry that meets a full log, which is
@@ -108,7 +120,7 @@ pub fn drain(cluster: &mut Cluster, scenario: &Scenario, made: &mut [u32]) -> Re
         threads,
     };
     let drained = drain_in_place(cluster, beside);
-    tell_made(&drained.threads, made);
+    tell_of(scenario, cluster, &drained.threads, made);
     match drained.result {
         Ok(()) => Ok(()),
         Err(am_drain_loop::DrainFault::LogFull(part)) => Err(DrainFault::LogFull(part)),
