@@ -141,3 +141,15 @@ came i v x node end h b e event outcome head body =
       state = (λ k. record { head = record (heads k) { place = Host }; body = (bodies k).body }) ∙ sym back;
       pooled = ap (λ (w : View). w.pool) bodies;
     }
+
+-- and its body, which stays the one that the log gives
+
+pub noted_body : (i : Inside) (v : EndpointView) (log : Vec Entry Global) (x : Entry) (wanted : Bool) → view_of i ≡ v → log.items ≡ i.log.items ++ x ∷ [] → after v.settings.id (state_after v) x ≡ with_wanted (state_after v) wanted → (state_by i.settings log.items).body ≡ (state_after v).body
+noted_body i v log x wanted e items change =
+    ap (λ (s : State). s.body) (next i log x items) ∙ ap (λ (w : EndpointView). (after w.settings.id (state_after w) x).body) e ∙ ap (λ (s : State). s.body) change
+
+pub gave_body : (i : Inside) (v : EndpointView) (log : Vec Entry Global) (x : Entry) (node : NodeId) (end : EndpointId) → view_of i ≡ v → log.items ≡ i.log.items ++ x ∷ [] → x.event ≡ Events.PageOut node end → x.outcome ≡ Out.Done → (state_by i.settings log.items).body ≡ (state_after v).body
+gave_body i v log x node end e items event outcome =
+    ap (λ (s : State). s.body) (next i log x items)
+    ∙ (λ k. (changed i.settings.id (replayed i) (event k) (outcome k)).body)
+    ∙ ap (λ (w : EndpointView). (state_after w).body) e

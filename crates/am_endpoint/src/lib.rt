@@ -12,7 +12,7 @@ ghost use Rattle.am_model.specs.Changes.{after, flying_of, has_arrivals};
 ghost use Rattle.am_model.specs.Endpoint.{front, is_on_disk, verdict};
 ghost use Rattle.am_model.specs.Order.{IsInOrder, KeepsOrder};
 ghost use Rattle.am_names.specs.Names.{is_request};
-ghost use Rattle.std.specs.Prelude.{◌≡◌, ◌||◌, ◌+◌, ◌<◌, ◌≤◌, ◌^◌, [], ◌∷◌, ◌++◌, length, count_by, IfOk, OnErr, OnOk, IfSome, Err, None, is_some, max, true, false, ◌↔◌};
+ghost use Rattle.std.specs.Prelude.{◌≡◌, ◌||◌, ◌==◌, not, ◌+◌, ◌<◌, ◌≤◌, ◌^◌, [], ◌∷◌, ◌++◌, length, count_by, IfOk, OnErr, OnOk, IfSome, Err, None, is_some, max, true, false, ◌↔◌};
 
 mod arrivals;
 mod calls;
@@ -104,9 +104,10 @@ impl Endpoint {
         self.settings.pool
     }
 
-    /// The entries in order.
+    /// The entries in order: at most as many as the settings' limit, which is 1 to 65536.
     pub fn log(&self) -> &[Entry]
-        ensures { result.now ≡ self.now.log }
+        ensures log { result.now ≡ self.now.log }
+        ensures few { length self.now.log ≤ self.now.settings.log }
     {
         self.log.as_slice()
     }
@@ -218,6 +219,14 @@ impl Endpoint {
         self.fields().body.has_arrivals()
     }
 
+    /// Whether a reply or an empty reply is to be sent.
+    pub fn has_reply(&self) -> bool
+        requires { is_on_disk (state_after self.now).head.place ≡ false }
+        ensures { result ≡ not (length (state_after self.now).body.replies == 0) }
+    {
+        self.fields().body.has_reply()
+    }
+
     /// How many requests are received and not polled.
     pub fn received_requests(&self) -> u8
         requires { is_on_disk (state_after self.now).head.place ≡ false }
@@ -256,7 +265,8 @@ impl Endpoint {
 }
 
 impl Endpoint {
-    /// Makes room for one more entry, so that the next logged change takes no memory.
+    /// Makes room for one more entry, so that the next logged change takes no memory. `LogFull` comes exactly where the log
+    /// has as many entries as its limit, and `NoMemory` where there is none for one more entry.
     /// Whether it succeeds or not, the endpoint is as it was.
     pub fn room(&mut self) -> Result<(), EndFault>
         ensures ok { OnOk result (self.new.ready ≡ true) }
@@ -300,6 +310,7 @@ impl Endpoint {
         requires change { after self.old.settings.id (state_after self.old) entry ≡ with_wanted (state_after self.old) wanted }
         ensures settings { self.new.settings ≡ self.old.settings }
         ensures log { self.new.log ≡ self.old.log ++ entry ∷ [] }
+        ensures same { (state_after self.new).body ≡ (state_after self.old).body }
     {
         self.held.set_wanted(wanted);
         self.log.push(entry).unwrap();
@@ -342,7 +353,14 @@ impl Endpoint {
         made
     }
 
-    /// Makes an application's call, and logs it with its outcome, a refusal included.
+    /// Makes an application's call, and logs it with its outcome, a refusal included. A map's credits are 1 to 8, or a least
+    /// share of 0 to 8 where the endpoint has a pool; the handler that an echo or add replies to is 1 to 15.
+    ///
+    /// `floor` is the greatest stamp that the caller knows of, 0 where it knows none: the entry's stamp is one more than the
+    /// greater of it and the stamp of the endpoint's last entry.
+    ///
+    /// `LogFull` comes exactly where the log has as many entries as its limit, and `NoMemory` where there is none for one
+    /// more entry. Then the endpoint is as it was.
     pub fn call(&mut self, floor: u64, actor: Actor, call: Call) -> Result<Entry, EndFault>
         requires place { is_on_disk (state_after self.old).head.place ≡ false }
         requires numbers { are_numbers_in_range self.old.settings.pool call ≡ true }
@@ -398,7 +416,13 @@ impl Endpoint {
 }
 
 impl Endpoint {
-    /// Marks an endpoint on disk as wanted, and logs it.
+    /// Marks an endpoint on disk as wanted, and logs it. Its body, which is elsewhere, stays what it is.
+    ///
+    /// `floor` is the greatest stamp that the caller knows of, 0 where it knows none: the entry's stamp is one more than the
+    /// greater of it and the stamp of the endpoint's last entry.
+    ///
+    /// `LogFull` comes exactly where the log has as many entries as its limit, and `NoMemory` where there is none for one
+    /// more entry. Then the endpoint is as it was.
     pub fn want(&mut self, floor: u64, actor: Actor) -> Result<Entry, EndFault>
         requires place { is_on_disk (state_after self.old).head.place ≡ true }
         requires floor { floor + 1 < 2 ^ 64 }
@@ -410,6 +434,7 @@ impl Endpoint {
         ensures settings { self.new.settings ≡ self.old.settings }
         ensures full { (result ≡ Err EndFault.LogFull) ↔ (length self.old.log ≡ self.old.settings.log) }
         ensures err { OnErr result (self.new.log ≡ self.old.log) }
+        ensures same { (state_after self.new).body ≡ (state_after self.old).body }
     {
         self.room()?;
         let entry = Entry {
@@ -490,6 +515,7 @@ impl Endpoint {
         ensures body { result ≡ record { pool = self.old.settings.pool; body = (state_after self.old).body } }
         ensures settings { self.new.settings ≡ self.old.settings }
         ensures log { self.new.log ≡ self.old.log ++ entry ∷ [] }
+        ensures same { (state_after self.new).body ≡ (state_after self.old).body }
     {
         let head = self.fields().head_away();
         let Held::Here(fields) = replace(&mut self.held, Held::OnDisk(head)) else {
@@ -500,7 +526,8 @@ impl Endpoint {
     }
 
     /// It goes from the host to disk where the entry's outcome is done, and its body is given away: it is the one that it
-    /// has, with all its messages, records and mappings. Where the outcome is failed it stays as it was, and None is given.
+    /// has, with all its messages, records and mappings, and stays the one that the log's replay gives. Where the outcome is
+    /// failed it stays as it was, and None is given.
     pub fn page_out(&mut self, entry: Entry) -> Option<Body>
         requires ready { self.old.ready ≡ true }
         requires room { length self.old.log < self.old.settings.log }
@@ -509,6 +536,7 @@ impl Endpoint {
         ensures none { (result ≡ None) ↔ (entry.outcome ≡ Outcome.Failed) }
         ensures settings { self.new.settings ≡ self.old.settings }
         ensures log { self.new.log ≡ self.old.log ++ entry ∷ [] }
+        ensures same { (state_after self.new).body ≡ (state_after self.old).body }
     {
         match entry.outcome {
             Outcome::Done => Some(self.give_away(entry)),
@@ -539,13 +567,14 @@ impl Endpoint {
         self.log.push(entry).unwrap();
     }
 
-    /// Logs that it was not paged in.
+    /// Logs that it was not paged in. Its body, which is elsewhere, stays what it is.
     pub fn page_failed(&mut self, entry: Entry)
         requires ready { self.old.ready ≡ true }
         requires room { length self.old.log < self.old.settings.log }
         requires allowed { MayPageIn Outcome.Failed self.old.settings.node self.old.settings.id (state_after self.old) entry }
         ensures settings { self.new.settings ≡ self.old.settings }
         ensures log { self.new.log ≡ self.old.log ++ entry ∷ [] }
+        ensures same { (state_after self.new).body ≡ (state_after self.old).body }
     {
         let wanted = self.wanted();
         self.note(entry, wanted);
