@@ -3,7 +3,7 @@ ghost use Rattle.am_body.specs.Views.{on_host};
 ghost use Rattle.am_model.specs.Calls.{busy_refusal, messages_held};
 ghost use Rattle.am_model.specs.Changes.{has_arrivals, has_queued};
 ghost use Rattle.am_model.specs.Endpoint.{replies_held, requests_held};
-ghost use Rattle.std.specs.Prelude.{◌≡◌, ◌+◌, ◌≤◌};
+ghost use Rattle.std.specs.Prelude.{◌≡◌, ◌+◌, ◌≤◌, ◌==◌, length, not};
 
 use crate::Body;
 use crate::walks::{Sought, count};
@@ -48,6 +48,13 @@ impl Body {
         ensures { result ≡ has_queued self.now.body }
     {
         self.block.len(List::Requests) != 0 || self.block.len(List::Replies) != 0
+    }
+
+    /// Whether a reply or an empty reply is to be sent.
+    pub fn has_reply(&self) -> bool
+        ensures { result ≡ not (length self.now.body.replies == 0) }
+    {
+        self.block.len(List::Replies) != 0
     }
 
     /// Whether a notice or a received message is there.

@@ -3,6 +3,7 @@ ghost use Rattle.am_model.specs.Allowed.{are_numbers_in_range};
 ghost use Rattle.std.specs.Prelude.{◌≡◌, true};
 
 mod places;
+mod turns;
 
 use super::*;
 use am_names::{MsgKind, Tag, Words};
@@ -54,7 +55,7 @@ fn outcome_of(end: &mut Endpoint, call: Call) -> Option<Outcome>
     requires { are_numbers_in_range end.old.settings.pool call ≡ true }
     ensures { end.new.settings ≡ end.old.settings }
 {
-    if end.place() != Place::Direct || end.last_stamp() > 1000 {
+    if is_on_disk(end.place()) || end.last_stamp() > 1000 {
         return None;
     }
     match end.call(0, Actor::Outside, call) {
@@ -183,5 +184,9 @@ fn an_endpoint_on_disk_is_wanted(rt: HostRuntime) -> Result<(), Fail> {
     };
     assert_eq!(rt; wanted, Ok(entry));
     assert_eq!(rt; end.wanted(), true);
+    let verdict = Verdict::Refused(Cause::NotResident);
+    assert_eq!(rt; end.verdict(&places::REPLY), verdict);
+    assert_eq!(rt; end.in_flight_len(), 0);
+    assert_eq!(rt; end.in_flight(FIRST_SERIAL), false);
     Ok(())
 }

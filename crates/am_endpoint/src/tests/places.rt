@@ -1,13 +1,13 @@
 // A walk of one endpoint of the packet network through all its places. Each step is made where it may be, and its entry
 // is given to the endpoint as an interface or a driver would.
-ghost use Rattle.std.specs.Prelude.{◌≡◌};
+ghost use Rattle.am_endpoint.specs.View.{state_after};
+ghost use Rattle.std.specs.Prelude.{◌≡◌, IfSome};
 
 use super::*;
 use am_names::Cause;
-use am_office::Received;
 
 /// An entry of this event. No outcome reads the stamp.
-fn entry_of(event: Event, outcome: Outcome) -> Entry
+pub fn entry_of(event: Event, outcome: Outcome) -> Entry
     ensures event { result.event ≡ event }
     ensures outcome { result.outcome ≡ outcome }
 {
@@ -18,7 +18,7 @@ fn entry_of(event: Event, outcome: Outcome) -> Entry
     }
 }
 
-fn load(end: &mut Endpoint) -> bool
+pub fn load(end: &mut Endpoint) -> bool
     ensures { end.new.settings ≡ end.old.settings }
 {
     let Place::Host = end.place() else {
@@ -42,7 +42,7 @@ fn load(end: &mut Endpoint) -> bool
 }
 
 /// The empty reply to the first request.
-const REPLY: Message = Message {
+pub const REPLY: Message = Message {
     serial: Serial {
         source: EndpointId(1),
         count: 1,
@@ -106,31 +106,66 @@ fn unload(end: &mut Endpoint) -> bool
     }
 }
 
-fn page_out(end: &mut Endpoint) -> bool
+/// From the host to disk, a page-in that fails, and one that doesn't.
+fn page_out_and_in(end: &mut Endpoint) -> bool
     ensures { end.new.settings ≡ end.old.settings }
 {
+    match page_out(end) {
+        None => false,
+        Some(body) => page_in(end, body),
+    }
+}
+
+/// The body of an endpoint that went to disk.
+fn page_out(end: &mut Endpoint) -> Option<Body>
+    ensures settings { end.new.settings ≡ end.old.settings }
+    ensures body { IfSome result (λ body. body ≡ record { pool = end.new.settings.pool; body = (state_after end.new).body }) }
+{
+    match end.room() {
+        Err(_) => return None,
+        Ok(()) => {}
+    }
     let Place::Host = end.place() else {
-        return false;
+        return None;
     };
     if end.closed() {
-        return false;
+        return None;
     }
     let event = Event::PageOut {
         node: end.node(),
         end: end.id(),
     };
-    match end.room() {
-        Err(_) => false,
-        Ok(()) => {
-            end.page_out(entry_of(event, Outcome::Done));
-            true
-        }
-    }
+    end.page_out(entry_of(event, Outcome::Done))
 }
 
-fn page_in(end: &mut Endpoint) -> bool
+/// Logs a page-in that failed.
+fn page_failed(end: &mut Endpoint)
+    ensures settings { end.new.settings ≡ end.old.settings }
+    ensures body { (state_after end.new).body ≡ (state_after end.old).body }
+{
+    match end.room() {
+        Err(_) => return,
+        Ok(()) => {}
+    }
+    let Place::Disk = end.place() else {
+        return;
+    };
+    let event = Event::PageIn {
+        node: end.node(),
+        end: end.id(),
+    };
+    end.page_failed(entry_of(event, Outcome::Failed));
+}
+
+fn page_in(end: &mut Endpoint, body: Body) -> bool
+    requires { body ≡ record { pool = end.old.settings.pool; body = (state_after end.old).body } }
     ensures { end.new.settings ≡ end.old.settings }
 {
+    page_failed(end);
+    match end.room() {
+        Err(_) => return false,
+        Ok(()) => {}
+    }
     let Place::Disk = end.place() else {
         return false;
     };
@@ -138,13 +173,8 @@ fn page_in(end: &mut Endpoint) -> bool
         node: end.node(),
         end: end.id(),
     };
-    match end.room() {
-        Err(_) => false,
-        Ok(()) => {
-            end.page_in(entry_of(event, Outcome::Done));
-            true
-        }
-    }
+    end.page_in(entry_of(event, Outcome::Done), body);
+    true
 }
 
 #[test]
@@ -159,19 +189,17 @@ fn an_endpoint_goes_through_its_places(rt: HostRuntime) -> Result<(), Fail> {
     assert_eq!(rt; load(&mut end), true);
     assert_eq!(rt; end.place(), Place::Frame(1));
     assert_eq!(rt; end.verdict(&REPLY), Verdict::Refused(Cause::NoRequest));
-    assert_eq!(rt; page_out(&mut end), false);
+    assert_eq!(rt; page_out_and_in(&mut end), false);
     assert_eq!(rt; drain(&mut end), true);
     assert_eq!(rt; drain(&mut end), false);
     assert_eq!(rt; unload(&mut end), true);
     assert_eq!(rt; end.place(), Place::Host);
     assert_eq!(rt; end.draining(), true);
-    assert_eq!(rt; page_out(&mut end), true);
-    assert_eq!(rt; end.place(), Place::Disk);
-    assert_eq!(rt; end.verdict(&REPLY), Verdict::Refused(Cause::NotResident));
-    assert_eq!(rt; load(&mut end), false);
-    assert_eq!(rt; page_in(&mut end), true);
+    assert_eq!(rt; page_out_and_in(&mut end), true);
+    assert_eq!(rt; end.place(), Place::Host);
+    assert_eq!(rt; end.draining(), true);
     assert_eq!(rt; load(&mut end), true);
     assert_eq!(rt; end.draining(), false);
-    assert_eq!(rt; end.log().len(), 6);
+    assert_eq!(rt; end.log().len(), 7);
     Ok(())
 }

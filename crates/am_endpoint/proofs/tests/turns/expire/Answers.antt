@@ -1,0 +1,32 @@
+use Rattle.std.specs.Prelude.{List, Some}
+use Rattle.std.proofs.Common.{◌≡◌, sym, ap, ◌∙◌, subst, arith, eq-eqb}
+use Rattle.am_names.specs.Names.{has_serial}
+use Rattle.am_names.specs.declared.EndpointId.{EndpointId}
+use Rattle.am_names.specs.declared.Serial.{Serial}
+use Rattle.am_office.specs.declared.Event.{Event}
+use Rattle.am_model.specs.declared.Flying.{Flying}
+use Rattle.am_model.specs.Allowed.{EndsFlight}
+use Rattle.am_model.specs.Changes.{flying_of}
+use Rattle.am_model.proofs.Names.{same_serial-is}
+use Rattle.am_model.proofs.Records.{found_is}
+use Rattle.am_endpoint.specs.View.{state_after}
+use Rattle.am_endpoint.proofs.tests.turns.expire.Goals as goal
+
+-- what is found by a serial has it
+flying_same : (serial : Serial) (fs : List Flying) (f : Flying) → flying_of serial fs ≡ Some f → flying_of f.message.serial fs ≡ Some f
+flying_same serial fs f found =
+    let is : serial ≡ f.message.serial = same_serial-is serial f.message.serial (found_is (λ (g : Flying). has_serial serial g.message) fs f found) in
+    ap (λ (t : Serial). flying_of t fs) (sym is) ∙ found
+
+pub settle-requires-clause-allowed : goal.settle-requires-clause-allowed
+settle-requires-clause-allowed c =
+    let v = c.room.new.self in
+    let f = c.in-Some.flight in
+    record {
+      flight = f;
+      own = eq-eqb v.settings.id.0 f.message.serial.source.0 (omega (arith, ap (λ (e : EndpointId). e.0) c.id.ensures, c.if-id-flight.false));
+      in_flight = flying_same c.args.serial (state_after v).body.in_flight f (sym c.in-Some.ensures);
+      ends =
+          subst (λ (event : Event). EndsFlight v.settings.bounces f event c.entry_of.result.outcome) (sym c.entry_of.ensures.event)
+          (c.entry_of.ensures.outcome ∙ c.used_up-outcome.ensures);
+    }
