@@ -1,10 +1,10 @@
 -- The call that is left to a thread is the one that its scenario names, and its numbers are in range.
 use Rattle.std.specs.Prelude.{slice_get, option_map, nat_lt, ◌&&◌, ◌==◌, IfSome}
 use Rattle.std.specs.List.{All, filter, find}
-use Rattle.std.proofs.Common.{◌≡◌, ℕ, zero, suc, ◌<◌, Bool, true, false, cond, List, [], ◌∷◌, map, length, Option, Some, None, refl, sym, ap, ◌∙◌, subst, arith, lt-ltb, eqb-true}
+use Rattle.std.proofs.Common.{◌≡◌, ℕ, zero, suc, ◌<◌, Bool, true, false, cond, List, [], ◌∷◌, map, Option, Some, None, refl, sym, ap, ◌∙◌, subst, arith, lt-ltb, eqb-true}
 use Rattle.am_names.specs.declared.EndpointId.{EndpointId}
 use Rattle.am_names.specs.declared.NodeId.{NodeId}
-use Rattle.am_office.specs.declared.Actor.TheVariants.{Thread, Outside}
+use Rattle.am_office.specs.declared.Actor.TheVariants.{Outside}
 use Rattle.am_office.specs.declared.Event.TheVariants as Events
 use Rattle.am_office.specs.declared.Entry.{Entry}
 use Rattle.am_model.specs.Layout.{declared}

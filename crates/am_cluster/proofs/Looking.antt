@@ -1,7 +1,7 @@
 -- What is read of the endpoints and channels of a cluster is what its journal says.
 use Rattle.std.specs.Prelude.{slice_get, option_map, not, ◌==◌, is_some, count_by, if◌then◌else◌}
-use Rattle.std.specs.List.{list_all, list_any, filter, find}
-use Rattle.std.proofs.Common.{◌≡◌, ℕ, zero, suc, ◌+◌, ◌<◌, Bool, true, false, cond, ◌&&◌, ◌||◌, List, [], ◌∷◌, map, take, length, Option, Some, None, refl, sym, ap, ◌∙◌, subst, arith, eqb-true}
+use Rattle.std.specs.List.{list_all, list_any, find}
+use Rattle.std.proofs.Common.{◌≡◌, ℕ, zero, suc, ◌+◌, Bool, true, false, cond, ◌&&◌, ◌||◌, List, [], ◌∷◌, map, take, length, Option, Some, None, refl, sym, ap, ◌∙◌, subst, arith, eqb-true}
 use Rattle.std.proofs.lemmas.Bool.{and_parts}
 use Rattle.am_names.specs.declared.EndpointId.{EndpointId}
 use Rattle.am_names.specs.declared.NodeId.{NodeId}
@@ -10,7 +10,6 @@ use Rattle.am_names.specs.Names.{is_request, same_node}
 use Rattle.am_office.specs.declared.Entry.{Entry}
 use Rattle.am_office.specs.declared.Place.{Place}
 use Rattle.am_office.specs.declared.Place.TheVariants.{Host, Disk, Frame, Direct}
-use Rattle.am_office.specs.Entries.{touches_node}
 use Rattle.am_model.specs.declared.Head.{Head}
 use Rattle.am_model.specs.declared.Queued.{Queued}
 use Rattle.am_model.specs.Changes.{has_arrivals, has_queued}
@@ -34,9 +33,7 @@ use Rattle.am_follow.specs.Layout.{layout_of}
 use Rattle.am_model.proofs.Books.{same_end-is}
 use Rattle.am_scripts.specs.Standings.{Standing, is_missed, standings}
 use Rattle.am_scripts.proofs.Lists.{found_in, found_true, none_all, none_mapped}
-use Rattle.am_drain.specs.Rules.{has_reply, next_page_in, page_in_of}
-use Rattle.am_drain_loop.specs.declared.EndHead.{EndHead}
-use Rattle.am_drain_loop.specs.declared.EndMail.{EndMail}
+use Rattle.am_drain.specs.Rules.{next_page_in, page_in_of}
 use Rattle.am_drain_loop.specs.Reads.{head_of, is_seat, mail_of}
 use Rattle.am_drain_steps.specs.Away.{AwayIsSettled, is_settled, is_settled_at}
 use Rattle.am_drain_steps.proofs.Enabled.{IsSeatedSetting, all_seated, of_packets, seat_in_range}

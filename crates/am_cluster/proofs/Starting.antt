@@ -1,7 +1,7 @@
 -- The links of a cluster that made no entry.
 use Rattle.std.specs.Prelude.{slice_get, count_by}
 use Rattle.std.specs.List.{All}
-use Rattle.std.proofs.Common.{◌≡◌, ℕ, ◌+◌, ◌*◌, ◌<◌, ◌≤◌, List, [], map, length, Some, sym, ◌∙◌, subst, arith}
+use Rattle.std.proofs.Common.{◌≡◌, ℕ, ◌+◌, ◌*◌, ◌≤◌, List, [], map, length, Some, sym, ◌∙◌, subst, arith}
 use Rattle.am_office.specs.declared.Entry.{Entry}
 use Rattle.am_model.specs.Channels.{emitted}
 use Rattle.am_journal.proofs.Lists.{got_all, got_mapped, map_length}

@@ -84,8 +84,9 @@ fn tell_of(scenario: &Scenario, cluster: &Cluster, threads: &[ThreadScript], mad
     tell_made(threads, made);
 }
 
-/// Does what is left to do when no thread runs any more, until all is at rest. `made` has the number of calls that each
-/// thread made, in the order of the threads, before and after. Ok: the journal is what the drain makes of the one before,
+/// Does what is left to do when no thread runs any more, until all is at rest. The cluster is that of the scenario, its
+/// journal begins the scripts and receives what the links released in order, and none of its logs has more entries than it
+/// may. `made` has the number of calls that each thread made, in the order of the threads, before and after. Ok: the journal is what the drain makes of the one before,
 /// and no entry met a full log. LogFull: it is what the drain makes before the first entry that meets a full log, which is
 /// the part's. NoMemory: it is a beginning of what the drain makes.
 pub fn drain(cluster: &mut Cluster, scenario: &Scenario, made: &mut [u32]) -> Result<(), DrainFault>

@@ -1,4 +1,4 @@
-use Rattle.std.proofs.Common.{◌≡◌, ap, arith, length, List}
+use Rattle.std.proofs.Common.{ap, arith, length, List}
 use Rattle.am_office.specs.declared.Entry.{Entry}
 use Rattle.am_cluster.proofs.Applying.{begun, short_of}
 use Rattle.am_cluster.proofs.drain.Goals as goal

@@ -1,8 +1,7 @@
 use Rattle.std.specs.Prelude.{slice_get, slice_index_or}
-use Rattle.std.proofs.Common.{◌≡◌, ◌<◌, ℕ, ◌∙◌, ap, map, subst, arith}
+use Rattle.std.proofs.Common.{ℕ, ◌∙◌, ap, map, subst, arith}
 use Rattle.am_model.specs.History.{IsHistory}
 use Rattle.am_model.specs.Layout.{Layout}
-use Rattle.am_scripts.specs.Links.{due}
 use Rattle.am_drain_steps.proofs.Receipts.{dues_are_counted}
 use Rattle.am_cluster.specs.Links.{nothing, released_in}
 use Rattle.am_cluster.proofs.Due.{due_counted, due_read}

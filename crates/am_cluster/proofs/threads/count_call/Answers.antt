@@ -1,4 +1,4 @@
-use Rattle.std.proofs.Common.{◌≡◌, ◌<◌, rules, ◌∙◌, arith, map, length}
+use Rattle.std.proofs.Common.{◌<◌, rules, ◌∙◌, arith, map, length}
 use Rattle.am_journal.proofs.Lists.{map_length}
 use Rattle.am_cluster.specs.Threads.{no_thread, scripted_in, with_call}
 use Rattle.am_cluster.proofs.Stepping.{counted_more}

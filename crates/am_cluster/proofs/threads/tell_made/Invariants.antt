@@ -1,4 +1,4 @@
-use Rattle.std.proofs.Common.{◌≡◌, ◌++◌, map, take, drop}
+use Rattle.std.proofs.Common.{◌≡◌, map, take}
 use Rattle.am_cluster.specs.Threads.{made_in}
 use Rattle.am_cluster.proofs.threads.tell_made.Given as goal
 

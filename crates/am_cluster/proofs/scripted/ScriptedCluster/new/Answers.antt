@@ -1,4 +1,4 @@
-use Rattle.std.proofs.Common.{◌≡◌, ◌∙◌, ap, sym, map, subst, List}
+use Rattle.std.proofs.Common.{◌∙◌, ap, sym, map, subst, List}
 use Rattle.am_office.specs.declared.Entry.{Entry}
 use Rattle.am_cluster.specs.Links.{AreFed, released_in}
 use Rattle.am_cluster.specs.Threads.{scripted_of}

@@ -1,5 +1,5 @@
 use Rattle.std.specs.Prelude.{Ok, Err}
-use Rattle.std.proofs.Common.{◌≡◌, ◌≤◌, ◌∙◌, ap, sym, map, length, subst}
+use Rattle.std.proofs.Common.{◌≤◌, ◌∙◌, ap, map, length, subst}
 use Rattle.am_follow.specs.Layout.{layout_of}
 use Rattle.am_follow.proofs.Lawful.{lawful_layout}
 use Rattle.am_scenario_types.specs.Lists.{ScenarioLists}
