@@ -1,0 +1,16 @@
+pub mod Counts
+pub mod Short
+pub mod Beginnings
+pub mod Logs
+pub mod Drained
+pub mod Fits
+pub mod Zone
+pub mod Received
+pub mod Queues
+pub mod Heard
+pub mod Still
+pub mod Room
+pub mod Low
+pub mod Returns
+pub mod Known
+pub mod Phases

@@ -1,0 +1,170 @@
+-- Where nothing is to be received and the plan withholds nothing, nothing is on its way and no channel is bound.
+use Rattle.std.specs.Prelude.{slice_get, find, is_some, if◌then◌else◌}
+use Rattle.std.specs.List.{All, AllByRecursion, range_with_len}
+use Rattle.std.proofs.Common.{◌≡◌, ◌⊎◌, inl, inr, ⊎_elim, ℕ, zero, suc, ◌+◌, ◌-◌, ◌<◌, Bool, true, false, cond, List, [], ◌∷◌, ◌++◌, map, length, Option, Some, None, refl, sym, ap, ◌∙◌, subst, arith, true≢false}
+use Rattle.am_names.specs.declared.Message.{Message}
+use Rattle.am_names.specs.declared.NodeId.{NodeId}
+use Rattle.am_names.specs.declared.Packet.{Packet}
+use Rattle.am_names.specs.declared.Packet.TheVariants as Packets
+use Rattle.am_names.specs.declared.Parcel.{Parcel}
+use Rattle.am_office.specs.declared.Entry.{Entry}
+use Rattle.am_office.specs.declared.Event.TheVariants as Events
+use Rattle.am_model.specs.Channels.{Channel, sequence, attempt, bound_message, emitted}
+use Rattle.am_model.specs.History.{MayFollow, IsHistory, channel_to}
+use Rattle.am_model.specs.Layout.{Layout, IsLawful}
+use Rattle.am_model.proofs.Each.{over_each}
+use Rattle.am_model.proofs.Ends.{EmittedIn}
+use Rattle.am_laws_cluster.proofs.Bound.{in_flight_bound}
+use Rattle.am_laws_messages.proofs.Delivered.{delivers}
+use Rattle.am_laws_order.proofs.Puts.{IsFresh}
+use Rattle.am_laws_order.proofs.Marks.{ChannelsKept, channels_more, channels_begin, end_of}
+use Rattle.am_plan.specs.declared.plan.LinkFault.{LinkFault}
+use Rattle.am_plan.specs.declared.plan.LinkFault.TheVariants.{Repeat}
+use Rattle.am_plan.specs.declared.plan.PlanLine.{PlanLine}
+use Rattle.am_plan.specs.Shape.{is_line_of, fault_in, fault_at, at_once, late_from, stamped, stamp_of, number_of, released_by, shape_after}
+use Rattle.am_scenario_types.specs.Lists.{ScenarioLists}
+use Rattle.am_follow.specs.Layout.{layout_of}
+use Rattle.am_follow.proofs.Lawful.{lawful_layout}
+use Rattle.am_scripts.specs.Links.{KeepsLinks, ReceivesInOrder, first_some, next_receipt, nodes_of, numbers_released, received}
+use Rattle.am_scripts.proofs.Links.{all_is_received}
+use Rattle.am_drain.specs.declared.Turn.TheVariants.{Once}
+use Rattle.am_drain.specs.Rules.{time_out, time_out_to, time_out_at, next_time_out}
+use Rattle.am_drain_laws.proofs.Channels.{home_below}
+use Rattle.am_drain_laws.proofs.Soundness.{node_holds}
+use Rattle.am_drain_steps.specs.Enabled.{IsOfRun}
+use Rattle.am_drain_steps.specs.Endings.{WithholdsNothing, is_among}
+use Rattle.am_drain_steps.proofs.Answered.{LastSent, last_are_sent, HasAnswer, last_are_answered}
+use Rattle.am_drain_steps.proofs.Counted.{counted}
+use Rattle.am_drain_steps.proofs.Receipts.{from_of, to_of}
+use Rattle.am_drain_steps.proofs.Unheard.{asked, unheard}
+use Rattle.am_drain_steps.proofs.Withheld.{among_left, among_right, among_first}
+use Rattle.am_run_laws.proofs.Heard.{are_heard}
+use Rattle.am_run_laws.proofs.Zone.{IsWithin, Zone}
+
+-- ---- each packet is released
+
+-- no packet is lost or late
+abbrev Passes : Option LinkFault → Type 0
+Passes o = (o ≡ None) ⊎ (o ≡ Some Repeat)
+
+fault_found : (plan : List PlanLine) (p : PlanLine → Bool) → All (λ (line : PlanLine). line.fault ≡ Repeat) plan → Passes (fault_in (find p plan))
+fault_found [] p all = inl refl
+fault_found (l ∷ ls) p all = by_test (p l) (fault_found ls p (λ i d lt. all (suc i) d (omega (arith, lt))))
+  where
+    by_test : (b : Bool) → Passes (fault_in (find p ls)) → Passes (fault_in (cond b (Some l) (find p ls)))
+    by_test true later = inr (ap (λ (f : LinkFault). Some f) (all zero l (omega arith)))
+    by_test false later = later
+
+at_once_has : (o : Option LinkFault) (p : Packet) → Passes o → is_among (number_of p) (map number_of (at_once o p)) ≡ true
+at_once_has o p h =
+    ⊎_elim
+    (λ (none : o ≡ None). ap (λ (l : Option LinkFault). is_among (number_of p) (map number_of (at_once l p))) none ∙ among_first (number_of p) p [] refl)
+    (λ (twice : o ≡ Some Repeat). ap (λ (l : Option LinkFault). is_among (number_of p) (map number_of (at_once l p))) twice ∙ among_first (number_of p) p (p ∷ []) refl)
+    h
+
+all_come : (fault : ℕ → Option LinkFault) → ((k : ℕ) → Passes (fault k)) → (before ps : List Packet) (i : ℕ) (p : Packet) → slice_get ps i ≡ Some p → is_among (number_of p) (map number_of (shape_after fault before ps)) ≡ true
+all_come fault passes before [] i p h = absurd (cc)
+all_come fault passes before (q ∷ qs) zero p h =
+    let same : q ≡ p = cc in
+    among_left (number_of p) (released_by fault before q) (shape_after fault (before ++ q ∷ []) qs)
+    (among_left (number_of p) (at_once (fault (length before + 1)) q) (map (stamped (stamp_of q)) (late_from fault (length before + 1) 1 before))
+    (subst (λ (r : Packet). is_among (number_of r) (map number_of (at_once (fault (length before + 1)) q)) ≡ true) same (at_once_has (fault (length before + 1)) q (passes (length before + 1)))))
+all_come fault passes before (q ∷ qs) (suc i) p h =
+    among_right (number_of p) (released_by fault before q) (shape_after fault (before ++ q ∷ []) qs) (all_come fault passes (before ++ q ∷ []) qs i p h)
+
+is_released : (s : ScenarioLists) (past : List Entry) → WithholdsNothing s → IsHistory (layout_of s) past → (p : Packet) → EmittedIn p past → is_among (number_of p) (numbers_released s (from_of p) (to_of p) past) ≡ true
+is_released s past nothing h p there =
+    all_come (fault_at s.plan (from_of p) (to_of p)) (λ (k : ℕ). fault_found s.plan (is_line_of (from_of p) (to_of p) k) nothing) [] (emitted (from_of p) (to_of p) past) (number_of p - 1) p ((counted (layout_of s) past h).placed p there)
+
+-- ---- nothing is to be received
+
+-- a history in which all that was released was received, where the plan withholds nothing
+pub record IsStill (s : ScenarioLists) (past : List Entry) : Type 0 where
+  pub run : IsOfRun s past
+  pub order : ReceivesInOrder s past
+  pub nothing : WithholdsNothing s
+  pub none : next_receipt s past ≡ None
+
+link_is_received : (s : ScenarioLists) (past : List Entry) (from to : NodeId) → KeepsLinks s past → from.0 < s.nodes → to.0 < s.nodes → received from to past ≡ numbers_released s from to past
+link_is_received s past from to k f t =
+    node_holds (λ (n : NodeId). received n to past ≡ numbers_released s n to past) 0 s.nodes from.0
+    (node_holds (λ (n : NodeId). AllByRecursion (λ (m : NodeId). received m n past ≡ numbers_released s m n past) (nodes_of s)) 0 s.nodes to.0 k.all (omega arith) (omega (arith, t)))
+    (omega arith) (omega (arith, f))
+
+-- each packet that went out was received
+all_got : (s : ScenarioLists) (past : List Entry) → IsStill s past → (p : Packet) → EmittedIn p past → (from_of p).0 < s.nodes → (to_of p).0 < s.nodes → is_among (number_of p) (received (from_of p) (to_of p) past) ≡ true
+all_got s past k p there from to =
+    ap (is_among (number_of p)) (link_is_received s past (from_of p) (to_of p) (all_is_received s past k.order k.none) from to)
+    ∙ is_released s past k.nothing k.run.history p there
+
+none_fresh : (s : ScenarioLists) (past : List Entry) → IsStill s past → (q : Parcel) → IsWithin (layout_of s) q → EmittedIn (Packets.Parcel q) past → IsFresh past q → ⊥
+none_fresh s past k q within there fresh =
+    are_heard (layout_of s) past k.run.history q there (all_got s past k (Packets.Parcel q) there within.from' within.to') fresh
+
+-- ---- no channel is bound
+
+-- the answer to the last try of a bound channel was not received
+unheard_of : (s : ScenarioLists) (past : List Entry) (c : Channel) (m : Message) (p : Parcel) → IsStill s past → c.node.0 < s.nodes → c.peer.0 < s.nodes → bound_message c past ≡ Some m → channel_to p.from p.to p.channel ≡ c → p.seq ≡ sequence c past → p.attempt ≡ attempt c past → HasAnswer past p → ⊥
+unheard_of s past c m p k node peer bound at seq tries a =
+    let r = a.to_parcel in
+    let on : asked a.answer ≡ c = (λ i. channel_to (r.to' i) (r.from' i) (r.channel' i)) ∙ at in
+    let none : is_among a.answer.number (received a.answer.from a.answer.to past) ≡ false = unheard (layout_of s) past k.run.history a.answer m a.there (ap (λ (d : Channel). bound_message d past) on ∙ bound)
+    (r.seq' ∙ (seq ∙ sym (ap (λ (d : Channel). sequence d past) on)))
+    (r.attempt' ∙ (tries ∙ sym (ap (λ (d : Channel). attempt d past) on))) in
+    let from : a.answer.from.0 < s.nodes = subst (λ (i : NodeId). i.0 < s.nodes) (sym (r.from' ∙ ap (λ (d : Channel). d.peer) at)) peer in
+    let to : a.answer.to.0 < s.nodes = subst (λ (i : NodeId). i.0 < s.nodes) (sym (r.to' ∙ ap (λ (d : Channel). d.node) at)) node in
+    true≢false (sym (all_got s past k (Packets.Answer a.answer) a.there from to) ∙ none)
+
+none_bound_on : (s : ScenarioLists) (past : List Entry) (c : Channel) (m : Message) → IsStill s past → c.node.0 < s.nodes → c.peer.0 < s.nodes → bound_message c past ≡ Some m → ⊥
+none_bound_on s past c m k node peer bound =
+    let l : LastSent past c = last_are_sent (layout_of s) past k.run.history c m bound in
+    let p : Parcel = l.parcel in
+    let from : p.from.0 < s.nodes = subst (λ (i : NodeId). i.0 < s.nodes) (sym (ap (λ (d : Channel). d.node) l.on)) node in
+    let to : p.to.0 < s.nodes = subst (λ (i : NodeId). i.0 < s.nodes) (sym (ap (λ (d : Channel). d.peer) l.on)) peer in
+    let got : is_among p.number (received p.from p.to past) ≡ true = all_got s past k (Packets.Parcel p) l.there from to in
+    unheard_of s past c m p k node peer bound l.on l.seq' l.attempt'
+    (last_are_answered (layout_of s) past k.run.history p l.there
+    (record { seq' = l.seq' ∙ sym (ap (λ (d : Channel). sequence d past) l.on); attempt' = l.attempt' ∙ sym (ap (λ (d : Channel). attempt d past) l.on) })
+    got)
+
+pub none_bound : (s : ScenarioLists) (past : List Entry) (c : Channel) (m : Message) → IsStill s past → bound_message c past ≡ Some m → ⊥
+none_bound s past c m k bound =
+    let layout : Layout = layout_of s in
+    let ok : IsLawful layout = lawful_layout s k.run.lawful in
+    let flies = (in_flight_bound layout ok past k.run.history).flies c m bound in
+    let routed = (delivers layout past k.run.history).bound c m bound in
+    none_bound_on s past c m k (home_below layout ok m.serial.source c.node flies.node) (home_below layout ok m.dest c.peer routed.home) bound
+
+-- so none times out
+no_time_out : (s : ScenarioLists) (past : List Entry) (node peer : NodeId) (number : ℕ) (o : Option Message) → bound_message (channel_to node peer number) past ≡ o → IsStill s past → time_out node peer past number ≡ None
+no_time_out s past node peer number None is k = ap (λ (b : Bool). if b then Some (Once (Events.Expire node peer number)) else None) (ap (λ (o : Option Message). is_some o) is)
+no_time_out s past node peer number (Some m) is k = absurd (none_bound s past (channel_to node peer number) m k is)
+
+first_of_none : {X Y : Type 0} (f : X → Option Y) (xs : List X) → ((x : X) → f x ≡ None) → first_some (map f xs) ≡ None
+first_of_none f [] none = refl
+first_of_none f (x ∷ xs) none = ap (λ o. first_some (o ∷ map f xs)) (none x) ∙ first_of_none f xs none
+
+pub none_times_out : (s : ScenarioLists) (past : List Entry) → IsStill s past → next_time_out s past ≡ None
+none_times_out s past k =
+    first_of_none (time_out_at s past) (nodes_of s)
+    (λ (node : NodeId). first_of_none (time_out_to s past node) (nodes_of s)
+    (λ (peer : NodeId). first_of_none (time_out node peer past) (range_with_len 0 s.channels)
+    (λ (number : ℕ). no_time_out s past node peer number (bound_message (channel_to node peer number) past) refl k)))
+
+-- ---- what is so from here on
+
+channels_kept : (layout : Layout) (past : List Entry) → IsHistory layout past → ChannelsKept past
+channels_kept layout past h = over_each (MayFollow layout) ChannelsKept (λ xs x k may. channels_more layout xs x k may) [] past channels_begin h
+
+pub zone_begins : (s : ScenarioLists) (past : List Entry) → IsStill s past → Zone (layout_of s) past past None
+zone_begins s past k =
+    let kept : ChannelsKept past = channels_kept (layout_of s) past k.run.history in
+    record {
+      fresh = record { only = λ q within there fresh. absurd (none_fresh s past k q within there fresh); room = tt };
+      good =
+          record {
+            marks = λ d above. (let low = kept.marks d in absurd (omega (arith, above, low.seq)));
+            answers = λ a there above. (let said = kept.answers a there in let low = kept.marks (end_of a) in absurd (omega (arith, above, said.seq, low.seq)));
+          };
+      since = record { later = λ c. omega arith; bound = λ c m is. absurd (none_bound s past c m k is) };
+    }

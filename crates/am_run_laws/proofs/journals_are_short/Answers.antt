@@ -1,0 +1,5 @@
+use Rattle.am_run_laws.proofs.Short.{journals_are_short}
+use Rattle.am_run_laws.proofs.journals_are_short.Goals as goal
+
+pub returns : goal.returns
+returns c = journals_are_short
