@@ -1,5 +1,6 @@
 -- What a whole drain of an empty journal says of a scenario's run.
 use Rattle.std.proofs.Common.{◌≡◌, ℕ, List, [], ◌∷◌, ◌++◌, length, inl, inr, refl, subst}
+use Rattle.am_names.specs.declared.Cause.{Cause}
 use Rattle.am_names.specs.declared.NodeId.{NodeId}
 use Rattle.am_names.specs.declared.Parcel.{Parcel}
 use Rattle.am_names.specs.declared.Serial.{Serial}
@@ -24,6 +25,7 @@ use Rattle.am_drain_steps.specs.Endings.{IsLastTry, IsWithheld, WithholdsNothing
 use Rattle.am_drain_steps.specs.Runs.{IsWholeRun}
 use Rattle.am_drain_steps.proofs.Nothing.{none_is_unknown}
 use Rattle.am_drain_steps.proofs.Unknown.{unknown_is_withheld}
+use Rattle.am_run_laws.proofs.Returns.{returns_are_for_good}
 use Rattle.am_cluster.specs.Runs.{IsRunCutOff}
 use Rattle.am_main.specs.Answer.{full_line, ids_of}
 use Rattle.am_main.specs.Runs.{IsRunAnswer, IsRunOf, MakeAnswers, UnknownIsPlanned, make_text}
@@ -45,6 +47,7 @@ is_run_of s journal lawful packet drained whole laws =
       settled = whole.settled;
       unknown = unknown_planned s journal run whole.follows;
       complete = λ (nothing : WithholdsNothing s) (serial : Serial). none_is_unknown s journal run whole.follows nothing serial;
+      for_good = λ (nothing : WithholdsNothing s) (serial : Serial) (cause : Cause) returned. returns_are_for_good s journal run whole.follows nothing serial cause returned;
       drained = drained;
       only = λ (other : List Entry) (is : IsDrained s [] other). drain_is_determined s [] other journal is drained.drained;
     }

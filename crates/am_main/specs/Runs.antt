@@ -1,6 +1,8 @@
 -- What the commands `run` and `make` answer, and what their answers say of the cluster.
-use Rattle.std.specs.Prelude.{◌≡◌, ◌≢◌, ◌⊎◌, ℕ, Some, List, [], ◌∷◌, ◌++◌, codes, length, Result, Ok, Err}
+use Rattle.std.specs.Prelude.{◌≡◌, ◌≢◌, ◌⊎◌, ℕ, false, Some, List, [], ◌∷◌, ◌++◌, codes, length, Result, Ok, Err}
 use Rattle.std.specs.Fmt.{decimal}
+use Rattle.am_names.specs.Rules.{is_transient}
+use Rattle.am_names.specs.declared.Cause.{Cause}
 use Rattle.am_names.specs.declared.Message.{Message}
 use Rattle.am_names.specs.declared.NodeId.{NodeId}
 use Rattle.am_names.specs.declared.Parcel.{Parcel}
@@ -37,10 +39,14 @@ UnknownIsPlanned s journal =
 abbrev pub NothingIsUnknown : List Entry → Type 0
 NothingIsUnknown journal = (serial : Serial) → (fate journal serial ≢ Some Fates.Unknown) × (fate journal serial ≢ Some Fates.UnknownButRan)
 
+-- what is returned is returned for a cause that isn't transient
+abbrev pub IsReturnedForGood : List Entry → Type 0
+IsReturnedForGood journal = (serial : Serial) (cause : Cause) → fate journal serial ≡ Some (Fates.Returned cause) → is_transient cause ≡ false
+
 -- A journal is that of the run of a scenario: a history of the machine which the scenario describes, that follows its scripts and
 -- obeys all the laws of the post office. Each message has its one fate, no message that was accepted is pending, and one is unknown
--- only where the plan withholds packets; where it withholds none, no message is unknown. And it is what the drain makes of the empty
--- journal, which makes no other.
+-- only where the plan withholds packets; where it withholds none, no message is unknown, and what is returned is returned for good.
+-- And it is what the drain makes of the empty journal, which makes no other.
 pub record IsRunOf (s : ScenarioLists) (journal : List Entry) : Type 0 where
   pub history : IsHistory (layout_of s) journal
   pub follows : FollowsScripts s journal
@@ -49,6 +55,7 @@ pub record IsRunOf (s : ScenarioLists) (journal : List Entry) : Type 0 where
   pub settled : (m : Message) → WasAccepted journal m → fate journal m.serial ≢ Some Fates.Pending
   pub unknown : UnknownIsPlanned s journal
   pub complete : WithholdsNothing s → NothingIsUnknown journal
+  pub for_good : WithholdsNothing s → IsReturnedForGood journal
   pub drained : IsDrainedWithRoom s [] journal
   pub only : (other : List Entry) → IsDrained s [] other → other ≡ journal
 

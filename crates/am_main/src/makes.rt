@@ -1,5 +1,8 @@
 // The run of a generated scenario.
-ghost use Rattle.std.specs.Prelude.{◌≡◌, ◌≢◌, IfOk};
+ghost use Rattle.std.specs.Prelude.{◌≡◌, ◌≢◌, IfOk, length};
+ghost use Rattle.am_generator.specs.Scenarios.{generated};
+ghost use Rattle.am_scenario_types.specs.Lawful.{IsLawful};
+ghost use Rattle.am_scenario_types.specs.declared.parts.Network.TheVariants as Networks;
 ghost use Rattle.am_main.specs.Runs.{MakeAnswers, answer_in, make_text};
 
 use crate::outputs::Output;
@@ -7,7 +10,7 @@ use crate::words::full_line;
 use am_cluster::{RunFault, alone};
 use am_office::Journal;
 use am_report::summary;
-use am_scenario::generate;
+use am_scenario::{Scenario, generate};
 use am_text::Piece::{Number, Text};
 use am_text::put_line;
 use std::alloc::{AllocError, Global};
@@ -27,20 +30,26 @@ fn make_text(alloc: Global, n: u64, calls: u64, journal: &Journal) -> Result<Vec
     Ok(text)
 }
 
-/// What `make` prints of a number: the summary of the run of the scenario that is generated from it, or the full log that the run met.
-/// The run has no threaded turns and starts no thread.
+// How many calls the scripts of a scenario have.
+fn call_count(scenario: &Scenario) -> u64
+    ensures { result ≡ length scenario.now.script }
+{
+    scenario.script.len() as u64
+}
+
+// What is printed of the run of the scenario of a number.
 #[tactic(auto, using(crate::proofs::RunMeaning::make_reported, crate::proofs::RunMeaning::make_cut))]
-pub fn make_output(alloc: Global, n: u64) -> Result<Output, AllocError>
+fn scenario_summary(alloc: Global, n: u64, scenario: &Scenario) -> Result<Output, AllocError>
+    requires made { scenario.now ≡ generated n }
+    requires lawful { IsLawful scenario.now }
+    requires packet { scenario.now.network ≡ Networks.Packet }
+    requires calls { length scenario.now.script ≡ 1744 }
     ensures answers { IfOk result (λ output. MakeAnswers n (answer_in output)) }
     ensures status { IfOk result (λ output. output.status ≢ 5) }
 {
-    let Ok(scenario) = generate(alloc, n) else {
-        return Err(AllocError);
-    };
-    match alone(alloc, &scenario) {
+    match alone(alloc, scenario) {
         Ok(finished) => {
-            let calls = scenario.script.len() as u64;
-            let text = make_text(alloc, n, calls, &finished.journal)?;
+            let text = make_text(alloc, n, call_count(scenario), &finished.journal)?;
             Ok(Output { status: 0, text })
         }
         Err(RunFault::LogFull { part, .. }) => {
@@ -48,5 +57,17 @@ pub fn make_output(alloc: Global, n: u64) -> Result<Output, AllocError>
             Ok(Output { status: 6, text })
         }
         Err(RunFault::NoMemory) => Err(AllocError),
+    }
+}
+
+/// What `make` prints of a number: the summary of the run of the scenario that is generated from it, or the full log that the run met.
+/// The run has no threaded turns and starts no thread.
+pub fn make_output(alloc: Global, n: u64) -> Result<Output, AllocError>
+    ensures answers { IfOk result (λ output. MakeAnswers n (answer_in output)) }
+    ensures status { IfOk result (λ output. output.status ≢ 5) }
+{
+    match generate(alloc, n) {
+        Ok(scenario) => scenario_summary(alloc, n, &scenario),
+        Err(_) => Err(AllocError),
     }
 }
