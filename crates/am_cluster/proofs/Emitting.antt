@@ -1,5 +1,5 @@
 -- The links after one entry more.
-use Rattle.std.proofs.Common.{◌≡◌, ⊎_elim, ℕ, ◌+◌, ◌*◌, ◌<◌, ◌==◌, Bool, true, false, cond, ◌&&◌, List, [], ◌∷◌, ◌++◌, length, Some, None, refl, sym, ap, ◌∙◌, arith, eq-eqb, eqb-true}
+use Rattle.std.proofs.Common.{◌≡◌, ⊎_elim, ℕ, ◌+◌, ◌*◌, ◌<◌, ◌==◌, Bool, true, false, cond, ◌&&◌, List, [], ◌∷◌, ◌++◌, length, Some, None, refl, sym, ap, ◌∙◌, arith, eq-eqb, eqb-true, subst}
 use Rattle.std.specs.Prelude.{slice_get, slice_index_or}
 use Rattle.std.specs.List.{filter, cons_option}
 use Rattle.std.proofs.lemmas.Bool.{and_parts}
@@ -17,6 +17,7 @@ use Rattle.am_journal.proofs.Lists.{got_set, set_length, index_got}
 use Rattle.am_plan.specs.declared.plan.PlanLine.{PlanLine}
 use Rattle.am_plan.specs.Shape.{fault_at, number_of}
 use Rattle.am_cluster.specs.Links.{AreFed, Released, fed, fed_at, node_at, nothing, released_of}
+use Rattle.am_cluster.specs.Scripted.{fed_by}
 use Rattle.am_cluster.proofs.Feeding.{fed_more}
 
 -- what is on the link of a packet that an entry emits, or doesn't
@@ -91,6 +92,12 @@ fed_packet plan past rs x p are is low lower =
         are.each f t r lt both.1
         ∙ ap (released_of plan (node_at f) (node_at t))
         (sym (emission (node_at f) (node_at t) past x p false is (other_link (node_at f) (node_at t) p (λ a b. both.0 (omega (arith, a, b)))) ∙ append-nil (emitted (node_at f) (node_at t) past)))
+
+-- the same, where the number of the packet is its place
+pub fed_numbered : (plan : List PlanLine) (past : List Entry) (rs : List Released) (x : Entry) (p : Packet) → AreFed plan past rs → emitted_of x ≡ Some p → (from_of p).0 < 16 → (receiver_of p).0 < 16 → number_of p ≡ length (emitted (from_of p) (receiver_of p) past) + 1 → AreFed plan (past ++ x ∷ []) (fed_by plan (Some p) rs)
+fed_numbered plan past rs x p fed is low lower numbered =
+    subst (λ (n : ℕ). AreFed plan (past ++ x ∷ []) (fed_at (16 * (from_of p).0 + (receiver_of p).0) n (fault_at plan (from_of p) (receiver_of p) n) (number_of p) rs)) (sym numbered)
+    (fed_packet plan past rs x p fed is low lower)
 
 -- the links after an entry that emits none
 pub fed_none : (plan : List PlanLine) (past : List Entry) (rs : List Released) (x : Entry) → AreFed plan past rs → emitted_of x ≡ None → AreFed plan (past ++ x ∷ []) rs

@@ -1,3 +1,4 @@
 pub mod Links
 pub mod Threads
 pub mod Runs
+pub mod Scripted

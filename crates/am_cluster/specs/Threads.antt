@@ -1,5 +1,5 @@
 -- The threads with their scripts, and how many calls of them were made.
-use Rattle.std.specs.Prelude.{ℕ, ◌+◌, Option, Some, None, List, length, slice_get, if◌then◌else◌}
+use Rattle.std.specs.Prelude.{◌≡◌, ℕ, ◌+◌, ◌<◌, ◌^◌, Option, Some, None, List, [], length, slice_get, slice_set, slice_index_or, if◌then◌else◌}
 use Rattle.am_office.specs.declared.Entry.{Entry}
 use Rattle.am_scenario_types.specs.declared.parts.ScriptCall.{ScriptCall}
 use Rattle.am_scenario_types.specs.declared.parts.ThreadLine.{ThreadLine}
@@ -17,6 +17,10 @@ pub record Scripted : Type 0 where
 abbrev pub scripted_in : ThreadScript → Scripted
 scripted_in t = record { id = t.id; calls = t.calls.items; made = t.made }
 
+-- how many it made
+abbrev pub made_in : ThreadScript → ℕ
+made_in t = t.made
+
 -- a declared thread after these entries
 abbrev pub scripted_of : ScenarioLists → List Entry → ThreadLine → Scripted
 scripted_of s past t = record { id = t.id; calls = script_of s t.id; made = length (calls_of t.id past) }
@@ -32,3 +36,18 @@ with_call c t = record { id = t.id; calls = t.calls; made = if is_of_thread t.id
 abbrev pub with_call_if : Option ScriptCall → Scripted → Scripted
 with_call_if None t = t
 with_call_if (Some c) t = with_call c t
+
+-- no thread
+abbrev pub no_thread : Scripted
+no_thread = record { id = 0; calls = []; made = 0 }
+
+-- one call more of the thread at a place
+abbrev pub with_call_at : ℕ → ScriptCall → List Scripted → List Scripted
+with_call_at k c ts = slice_set ts k (with_call c (slice_index_or ts k no_thread))
+
+-- the thread at a place, and each, can count one call more
+abbrev pub IsSmallAt : List Scripted → ℕ → Type 0
+IsSmallAt ts k = (t : Scripted) → slice_get ts k ≡ Some t → t.made + 1 < 2 ^ 32
+
+abbrev pub AreSmall : List Scripted → Type 0
+AreSmall ts = (k : ℕ) → IsSmallAt ts k

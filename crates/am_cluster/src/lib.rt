@@ -1,12 +1,15 @@
 //! A whole cluster run by the scripts of its scenario.
 #![tactic(auto)]
 
+ghost use Rattle.am_cluster.specs.Threads.{scripted_in, scripted_of};
 ghost use Rattle.am_cluster.specs.Runs.{IsDrainHalted, IsRunStopped};
 ghost use Rattle.am_drain.specs.Cut.{IsDrainedWithRoom};
+ghost use Rattle.am_drain_loop.specs.Stops.{IsDrainStopped};
 ghost use Rattle.am_drain_steps.specs.Runs.{IsWholeRun};
 ghost use Rattle.am_follow.specs.Layout.{layout_of};
 ghost use Rattle.am_model.specs.History.{IsHistory};
 ghost use Rattle.am_model.specs.PostOffice.{PostOffice};
+ghost use Rattle.am_run_laws.specs.Drained.{HasShortLogs};
 ghost use Rattle.am_scenario_types.specs.Lawful.{IsLawful};
 ghost use Rattle.am_scenario_types.specs.declared.parts.Network.TheVariants.{Packet};
 ghost use Rattle.am_scenario_types.specs.declared.parts.ThreadLine.{ThreadLine};
@@ -14,15 +17,24 @@ ghost use Rattle.am_scripts.specs.Links.{ReceivesInOrder};
 ghost use Rattle.am_scripts.specs.Scripts.{BeginsScripts, calls_of};
 ghost use Rattle.std.specs.Prelude.{◌≡◌, [], IfErr, IfOk, OnOk, length, map};
 
+mod emissions;
 mod links;
+mod looks;
 mod reads;
+mod scripted;
 mod threads;
 
 use am_machine::Cluster;
 use am_office::{Journal, Part};
+use am_run_laws::{
+    cut_off_runs_are_stopped, cut_offs_are_short, none_is_refused, runs_with_room_are_whole,
+};
 use am_scenario_types::Scenario;
+use emissions::links_after;
+use scripted::{Beside, ScriptedCluster, drain_in_place};
 use std::alloc::Global;
 use std::thread::Threads;
+use threads::{ThreadScript, scripts_after, tell_made};
 
 /// A run that came to its end.
 #[derive(Debug, Drop)]
@@ -61,28 +73,89 @@ impl Gate for OpenGate {
     fn pass(&self, _worker: u32, _turn: u32) {}
 }
 
-/// Does what is left to do when no thread runs any more, until all is at rest. `made` has the number of calls that each
-/// thread made, in the order of the threads, before and after. Ok: the journal is what the drain makes of the one before,
+/// Tells how many calls each thread made in the journal of a cluster, which is a history.
+fn tell_of(scenario: &Scenario, cluster: &Cluster, threads: &[ThreadScript], made: &mut [u32])
+    requires threads { map scripted_in threads.now ≡ map (scripted_of scenario.now cluster.now.journal) scenario.now.threads }
+    requires len { length made.old ≡ length threads.now }
+    ensures made { made.new ≡ map (λ (t : ThreadLine). length (calls_of t.id cluster.now.journal)) scenario.now.threads }
+    ensures history { IsHistory cluster.now.layout cluster.now.journal }
+{
+    cluster.laws();
+    tell_made(threads, made);
+}
+
+/// Does what is left to do when no thread runs any more, until all is at rest. The cluster is that of the scenario, its
+/// journal begins the scripts and receives what the links released in order, and none of its logs has more entries than it
+/// may. `made` has the number of calls that each thread made, in the order of the threads, before and after. Ok: the journal is what the drain makes of the one before,
 /// and no entry met a full log. LogFull: it is what the drain makes before the first entry that meets a full log, which is
 /// the part's. NoMemory: it is a beginning of what the drain makes.
-pub fn drain(
-    cluster: &mut Cluster,
-    scenario: &Scenario,
-    made: &mut [u32],
-) -> Result<(), DrainFault>
+pub fn drain(cluster: &mut Cluster, scenario: &Scenario, made: &mut [u32]) -> Result<(), DrainFault>
     requires lawful { IsLawful scenario.now }
     requires packet { scenario.now.network ≡ Packet }
     requires layout { cluster.old.layout ≡ layout_of scenario.now }
     requires scripts { BeginsScripts scenario.now cluster.old.journal }
     requires made { made.old ≡ map (λ (t : ThreadLine). length (calls_of t.id cluster.old.journal)) scenario.now.threads }
     requires in_order { ReceivesInOrder scenario.now cluster.old.journal }
+    requires logs { HasShortLogs scenario.now cluster.old.journal }
     ensures layout { cluster.new.layout ≡ cluster.old.layout }
     ensures history { IsHistory cluster.new.layout cluster.new.journal }
     ensures drained { OnOk result (IsDrainedWithRoom scenario.now cluster.old.journal cluster.new.journal) }
     ensures stopped { IfErr result (λ fault. IsDrainHalted scenario.now cluster.old.journal fault cluster.new.journal) }
     ensures made { made.new ≡ map (λ (t : ThreadLine). length (calls_of t.id cluster.new.journal)) scenario.now.threads }
 {
-    Err(DrainFault::NoMemory)
+    none_is_refused();
+    cluster.laws();
+    let alloc = *scenario.script.allocator();
+    let Ok(journal) = cluster.journal(alloc) else {
+        return Err(DrainFault::NoMemory);
+    };
+    let Ok(links) = links_after(alloc, scenario, &journal.entries) else {
+        return Err(DrainFault::NoMemory);
+    };
+    let Ok(threads) = scripts_after(alloc, scenario, &journal.entries) else {
+        return Err(DrainFault::NoMemory);
+    };
+    let beside = Beside {
+        scenario,
+        links,
+        threads,
+    };
+    let drained = drain_in_place(cluster, beside);
+    tell_of(scenario, cluster, &drained.threads, made);
+    match drained.result {
+        Ok(()) => Ok(()),
+        Err(am_drain_loop::DrainFault::LogFull(part)) => Err(DrainFault::LogFull(part)),
+        Err(am_drain_loop::DrainFault::NoMemory) => Err(DrainFault::NoMemory),
+        Err(am_drain_loop::DrainFault::NotEnabled(_)) => unreachable!(),
+    }
+}
+
+/// What the drain of an empty journal comes to, by what it answered and the journal that it left.
+fn run_of(
+    scenario: &Scenario,
+    drained: Result<(), am_drain_loop::DrainFault>,
+    journal: Journal,
+) -> Result<Finished, RunFault>
+    requires lawful { IsLawful scenario.now }
+    requires packet { scenario.now.network ≡ Packet }
+    requires laws { PostOffice (layout_of scenario.now) journal }
+    requires drained { OnOk drained (IsDrainedWithRoom scenario.now [] journal) }
+    requires stopped { IfErr drained (λ fault. IsDrainStopped scenario.now [] fault journal) }
+    ensures drained { IfOk result (λ finished. IsDrainedWithRoom scenario.now [] finished.journal) }
+    ensures whole { IfOk result (λ finished. IsWholeRun scenario.now finished.journal) }
+    ensures laws { IfOk result (λ finished. PostOffice (layout_of scenario.now) finished.journal) }
+    ensures stopped { IfErr result (IsRunStopped scenario.now) }
+{
+    none_is_refused();
+    runs_with_room_are_whole();
+    cut_off_runs_are_stopped();
+    cut_offs_are_short();
+    match drained {
+        Ok(()) => Ok(Finished { journal }),
+        Err(am_drain_loop::DrainFault::LogFull(part)) => Err(RunFault::LogFull { part, journal }),
+        Err(am_drain_loop::DrainFault::NoMemory) => Err(RunFault::NoMemory),
+        Err(am_drain_loop::DrainFault::NotEnabled(_)) => unreachable!(),
+    }
 }
 
 /// Runs a scenario of the packet network without threads: the drain of an empty journal. Ok: the journal is what that drain
@@ -97,7 +170,15 @@ pub fn alone(alloc: Global, scenario: &Scenario) -> Result<Finished, RunFault>
     ensures laws { IfOk result (λ finished. PostOffice (layout_of scenario.now) finished.journal) }
     ensures stopped { IfErr result (IsRunStopped scenario.now) }
 {
-    Err(RunFault::NoMemory)
+    let mut machine = match ScriptedCluster::new(alloc, scenario) {
+        Ok(machine) => machine,
+        Err(_) => return Err(RunFault::NoMemory),
+    };
+    let drained = am_drain_loop::drain(&mut machine);
+    match machine.journal(alloc) {
+        Ok(journal) => run_of(scenario, drained, journal),
+        Err(_) => Err(RunFault::NoMemory),
+    }
 }
 
 /// Runs a scenario of the packet network. It does what `alone` does.

@@ -131,7 +131,7 @@ pub(crate) fn link_place(from: NodeId, to: NodeId) -> usize
 
 /// The links of 16 nodes, which released nothing.
 pub(crate) fn no_links(alloc: Global) -> Result<Vec<Link>, NoMemory>
-    ensures len { IfOk result (λ links. vec_len links ≡ 256) }
+    ensures len { IfOk result (λ links. length links.items ≡ 256) }
     ensures none { IfOk result (λ links. All (λ link. released_in link ≡ nothing) links.items) }
 {
     let mut links = Vec::new(alloc);

@@ -4,7 +4,7 @@ ghost use Rattle.am_model.specs.Changes.{has_arrivals};
 ghost use Rattle.am_model.specs.Endpoint as endpoint;
 ghost use Rattle.am_model.specs.History as history;
 ghost use Rattle.am_names.specs.Names.{is_request};
-ghost use Rattle.std.specs.Prelude.{◌≡◌, false, if◌then◌else◌, None, count_by};
+ghost use Rattle.std.specs.Prelude.{◌≡◌, ◌==◌, not, length, false, if◌then◌else◌, None, count_by};
 
 use am_endpoint::Endpoint;
 use am_model::{Head, Queued};
@@ -65,4 +65,11 @@ pub(crate) fn has_arrivals_of(end: &Endpoint) -> bool
     ensures { result ≡ (if endpoint.is_on_disk (state_after end.now).head.place then false else has_arrivals (state_after end.now).body) }
 {
     !is_on_disk(end) && end.pollable()
+}
+
+/// Whether a reply is to be sent, and none where it is on disk.
+pub(crate) fn has_reply_of(end: &Endpoint) -> bool
+    ensures { result ≡ (if endpoint.is_on_disk (state_after end.now).head.place then false else not (length (state_after end.now).body.replies == 0)) }
+{
+    !is_on_disk(end) && end.has_reply()
 }

@@ -1,11 +1,12 @@
 // What each thread is still to call.
-ghost use Rattle.am_cluster.specs.Threads.{left_in, scripted_in, scripted_of, with_call};
+ghost use Rattle.am_cluster.specs.Threads.{AreSmall, IsSmallAt, left_in, made_in, scripted_in, scripted_of, with_call, with_call_at, with_call_if};
 ghost use Rattle.am_drain_loop.specs.Reads.{left_of};
-ghost use Rattle.am_scripts.specs.Scripts.{script_of};
-ghost use Rattle.std.specs.Prelude.{◌≡◌, ◌+◌, ◌<◌, ◌^◌, [], All, IfOk, filter, map, option_map, vec_len};
+ghost use Rattle.am_scenario_types.specs.Lawful.{IsLawful};
+ghost use Rattle.am_scripts.specs.Scripts.{call_made, script_of};
+ghost use Rattle.std.specs.Prelude.{◌≡◌, ◌+◌, ◌*◌, ◌≤◌, ◌<◌, ◌^◌, [], All, IfOk, filter, length, map, option_map, vec_len};
 
 use am_drain_loop::LeftCall;
-use am_office::NoMemory;
+use am_office::{Actor, Entry, Event, NoMemory};
 use am_scenario_types::{Scenario, ScriptCall, ThreadLine};
 use std::alloc::Global;
 
@@ -68,5 +69,83 @@ fn count_on(thread: &mut ThreadScript, call: ScriptCall)
 {
     if thread.id == call.thread {
         thread.made += 1;
+    }
+}
+
+/// The call of a thread that an event is, if it is one.
+fn call_made(event: &Event) -> Option<ScriptCall>
+    ensures { result ≡ call_made event.now }
+{
+    match *event {
+        Event::Call {
+            actor: Actor::Thread(thread),
+            end,
+            call,
+        } => Some(ScriptCall {
+            thread,
+            endpoint: end,
+            call,
+        }),
+        _ => None,
+    }
+}
+
+/// One call more on the thread at a place, where it is of that thread.
+fn count_at(threads: &mut Vec<ThreadScript>, index: usize, call: ScriptCall)
+    requires within { index < length threads.old.items }
+    requires small { IsSmallAt (map scripted_in threads.old.items) index }
+    ensures len { vec_len threads.new ≡ vec_len threads.old }
+    ensures here { map scripted_in threads.new.items ≡ with_call_at index call (map scripted_in threads.old.items) }
+{
+    count_on(&mut threads[index], call);
+}
+
+/// One call more on each thread whose it is.
+fn count_call(threads: &mut Vec<ThreadScript>, call: ScriptCall)
+    requires { AreSmall (map scripted_in threads.old.items) }
+    ensures { map scripted_in threads.new.items ≡ map (with_call call) (map scripted_in threads.old.items) }
+{
+    let count = threads.len();
+    for index in 0..count {
+        count_at(threads, index, call);
+    }
+}
+
+/// One call more on each thread whose it is, where the event is a call of a thread.
+pub(crate) fn count_event(threads: &mut Vec<ThreadScript>, event: &Event)
+    requires { AreSmall (map scripted_in threads.old.items) }
+    ensures { map scripted_in threads.new.items ≡ map (with_call_if (call_made event.now)) (map scripted_in threads.old.items) }
+{
+    match call_made(event) {
+        Some(call) => count_call(threads, call),
+        None => {}
+    }
+}
+
+/// The threads after the entries of a journal that is short.
+pub(crate) fn scripts_after(
+    alloc: Global,
+    scenario: &Scenario,
+    entries: &[Entry],
+) -> Result<Vec<ThreadScript>, NoMemory>
+    requires lawful { IsLawful scenario.now }
+    requires short { length entries.now ≤ 272 * scenario.now.log }
+    ensures { IfOk result (λ threads. map scripted_in threads.items ≡ map (scripted_of scenario.now entries.now) scenario.now.threads) }
+{
+    let mut threads = all_scripts(alloc, scenario)?;
+    for entry in entries {
+        count_event(&mut threads, &entry.event);
+    }
+    Ok(threads)
+}
+
+/// Tells how many calls each thread made.
+pub(crate) fn tell_made(threads: &[ThreadScript], made: &mut [u32])
+    requires { length made.old ≡ length threads.now }
+    ensures { made.new ≡ map made_in threads.now }
+{
+    let count = threads.len();
+    for index in 0..count {
+        made[index] = threads[index].made;
     }
 }

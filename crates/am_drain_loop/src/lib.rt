@@ -93,13 +93,18 @@ pub trait Machine {
         ensures value { result ≡ length (layout_of (scenario self.now)).faults }
         ensures small { result < 2 ^ 31 };
 
-    /// The number of the first released packet of a link that was not received.
+    /// The number of the first released packet of a link that was not received, of two nodes of the scenario.
     fn due(&self, node: NodeId, peer: NodeId) -> Option<u32>
+        requires node { node.0 < (scenario self.now).nodes }
+        requires peer { peer.0 < (scenario self.now).nodes }
         ensures value { result ≡ due (scenario self.now) peer node (journal self.now) }
         ensures counted { IfSome result (λ number. 1 ≤ number) };
 
-    /// Whether a channel from a node to a peer is bound.
+    /// Whether a channel from a node to a peer is bound, of those of the scenario.
     fn is_bound(&self, node: NodeId, peer: NodeId, channel: u8) -> bool
+        requires node { node.0 < (scenario self.now).nodes }
+        requires peer { peer.0 < (scenario self.now).nodes }
+        requires channel { channel < (scenario self.now).channels }
         ensures { result ≡ is_bound (channel_to node peer channel) (journal self.now) };
 
     /// How many endpoints there are.

@@ -10,7 +10,7 @@ ghost use Rattle.am_model.specs.Changes.{flying_of, has_arrivals};
 ghost use Rattle.am_model.specs.Endpoint.{front, is_on_disk, verdict};
 ghost use Rattle.am_model.specs.Order.{KeepsOrder};
 ghost use Rattle.am_names.specs.Names.{is_request};
-ghost use Rattle.std.specs.Prelude.{◌≡◌, ◌+◌, ◌<◌, ◌≤◌, ◌^◌, [], ◌∷◌, ◌++◌, length, count_by, IfOk, OnErr, OnOk, IfSome, Err, None, is_some, max, true, false, ◌↔◌};
+ghost use Rattle.std.specs.Prelude.{◌≡◌, ◌==◌, not, ◌+◌, ◌<◌, ◌≤◌, ◌^◌, [], ◌∷◌, ◌++◌, length, count_by, IfOk, OnErr, OnOk, IfSome, Err, None, is_some, max, true, false, ◌↔◌};
 
 mod arrivals;
 mod calls;
@@ -22,6 +22,7 @@ mod settings;
 
 use crate::fields::Fields;
 pub use crate::settings::EndFault;
+use am_body::is_request;
 pub use am_body::{Body, EndSettings};
 use am_model::{Flying, Queued};
 pub use am_names::NoMemory;
@@ -179,6 +180,17 @@ impl Endpoint {
         ensures { result ≡ has_arrivals (state_after self.now).body }
     {
         self.fields.body.has_arrivals()
+    }
+
+    /// Whether a reply or an empty reply is to be sent.
+    pub fn has_reply(&self) -> bool
+        requires { is_on_disk (state_after self.now).head.place ≡ false }
+        ensures { result ≡ not (length (state_after self.now).body.replies == 0) }
+    {
+        match self.fields.front() {
+            Some(queued) => !is_request(&queued.message),
+            None => false,
+        }
     }
 
     /// How many requests are received and not polled.

@@ -37,6 +37,7 @@ use crate::by_ends::{
 };
 use crate::entries::{answer_receipt, parcel_receipt, repeat, resend};
 use crate::opening::{no_emissions, unused_ends};
+pub use crate::packets::emitted_of;
 pub use crate::settings::IfaceSettings;
 use crate::settings::Limits;
 pub use am_channel::Bound;

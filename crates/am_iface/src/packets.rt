@@ -49,7 +49,7 @@ fn parcel(node: NodeId, stamp: u64, outcome: Outcome) -> Option<Packet>
 }
 
 /// The packet that an entry emits.
-pub(crate) fn emitted_of(entry: &Entry) -> Option<Packet>
+pub fn emitted_of(entry: &Entry) -> Option<Packet>
     ensures { result ≡ does.emitted_of entry.now }
 {
     match (entry.event, entry.outcome) {

@@ -1,18 +1,22 @@
 // The parts of a cluster, as its callers may look at them.
 ghost use Rattle.am_endpoint.specs.View.{state_after};
 ghost use Rattle.am_journal.specs.View.{receipts};
+ghost use Rattle.am_laws_steps.specs.Laws.{Walked};
+ghost use Rattle.am_machine.specs.Ends.{kept, setting_in};
 ghost use Rattle.am_machine.specs.Interfaces.{IsInterface};
 ghost use Rattle.am_model.specs.Channels.{emitted};
 ghost use Rattle.am_model.specs.History.{state_of};
-ghost use Rattle.am_model.specs.Layout.{declared, home};
+ghost use Rattle.am_model.specs.Layout.{IsLawful, declared, home};
+ghost use Rattle.am_model.specs.PostOffice.{PostOffice};
 ghost use Rattle.am_office.specs.Entries.{touches};
 ghost use Rattle.std.specs.List.{filter};
-ghost use Rattle.std.specs.Prelude.{◌≡◌, ◌<◌, IfSome, Some, false, is_some};
+ghost use Rattle.std.specs.Prelude.{◌≡◌, ◌<◌, IfSome, Some, false, is_some, length, slice_get};
 
 use crate::Cluster;
 use crate::ends::place_of;
 use am_endpoint::Endpoint;
 use am_iface::Interface;
+use am_laws::post_office;
 use am_names::{EndpointId, NodeId, Packet};
 
 impl Cluster {
@@ -28,6 +32,26 @@ impl Cluster {
             Some(place) => Some(&self.ends[place]),
             None => None,
         }
+    }
+
+    /// The endpoint at a place of the order in which they are declared: its log is its part of the journal.
+    pub fn end_at(&self, index: usize) -> &Endpoint
+        requires { index < length self.now.layout.ends }
+        ensures setting { slice_get self.now.layout.ends index ≡ Some (setting_in (kept result.now)) }
+        ensures state { state_after result.now ≡ state_of self.now.layout self.now.journal result.now.settings.id }
+    {
+        &self.ends[index]
+    }
+
+    /// Its journal is a history of the lawful layout in which it began, with stamps from 1 on, and obeys the laws of the post
+    /// office.
+    pub fn laws(&self)
+        ensures lawful { IsLawful self.now.layout }
+        ensures walked { Walked self.now.layout self.now.journal }
+        ensures laws { PostOffice self.now.layout self.now.journal }
+    {
+        post_office();
+        let _journal = &self.journal;
     }
 
     /// The interface of a node of the packet network: its log is its part of the journal.

@@ -1,0 +1,24 @@
+use Rattle.std.proofs.Common.{◌∙◌, ap}
+use Rattle.am_scenario_types.specs.Lists.{ScenarioLists}
+use Rattle.am_follow.specs.Layout.{layout_of}
+use Rattle.am_follow.proofs.Lawful.{lawful_layout}
+use Rattle.am_cluster.proofs.Starting.{fed_nothing}
+use Rattle.am_cluster.proofs.Stepping.{fed_step, from_at, to_at}
+use Rattle.am_cluster.proofs.emissions.links_after.Goals as goal
+
+pub loop-entry-init : goal.loop-entry-init
+loop-entry-init c = fed_nothing c.args.scenario.now.plan c.in_ok-links.links.items c.in_ok-links.ensures.len c.in_ok-links.ensures.none
+
+pub add_entry-requires-clause-from : goal.add_entry-requires-clause-from
+add_entry-requires-clause-from c =
+    from_at (layout_of c.args.scenario.now) c.args.entries.now c.loop-entry.entry-index _ (lawful_layout c.args.scenario.now c.requires.lawful) c.requires.history c.loop-entry-test.true
+
+pub add_entry-requires-clause-to : goal.add_entry-requires-clause-to
+add_entry-requires-clause-to c =
+    to_at (layout_of c.args.scenario.now) c.args.entries.now c.loop-entry.entry-index _ (lawful_layout c.args.scenario.now c.requires.lawful) c.requires.history c.loop-entry-test.true
+
+pub loop-entry-preserved : goal.loop-entry-preserved
+loop-entry-preserved c =
+    fed_step (layout_of c.args.scenario.now) c.args.scenario.now.plan _ c.args.entries.now c.loop-entry.entry-index _ _ _ (lawful_layout c.args.scenario.now c.requires.lawful) c.requires.history c.loop-entry-test.true c.loop-entry.invariant
+    (c.deref.ensures.value ∙ ap (λ (s : ScenarioLists). s.plan) c.scenario.view_is)
+    c.in_ok-add_entry.ensures.fed
