@@ -1,3 +1,6 @@
 pub mod Complete
 pub mod Made
+pub mod OneAnswer
 pub mod Refusals
+pub mod RunAnswers
+pub mod RunMeaning

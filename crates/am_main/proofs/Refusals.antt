@@ -13,13 +13,13 @@ use Rattle.am_main.specs.Meaning.{TextMeans}
 use Rattle.am_main.specs.Offers.{IsOffered, IsOr, Refuses, TellsFullLog}
 
 -- the status is the answer's, where it is none that a sink's fault or want of memory gives
-own_status : (answer number n : ℕ) → IsOr answer number → number ≡ n → n ≢ 5 → n ≢ 8 → answer ≡ n
+pub own_status : (answer number n : ℕ) → IsOr answer number → number ≡ n → n ≢ 5 → n ≢ 8 → answer ≡ n
 own_status answer number n (inl same) is write memory = sym same ∙ is
 own_status answer number n (inr (inl five)) is write memory = absurd (write (sym is ∙ five))
 own_status answer number n (inr (inr eight)) is write memory = absurd (memory (sym is ∙ eight))
 
 -- and then the text was given whole
-own_text : (answer : Answer) (number n : ℕ) (old new : Option (List ℕ)) → IsOffered answer number old new → number ≡ n → n ≢ 5 → n ≢ 8 → Appends old new answer.text
+pub own_text : (answer : Answer) (number n : ℕ) (old new : Option (List ℕ)) → IsOffered answer number old new → number ≡ n → n ≢ 5 → n ≢ 8 → Appends old new answer.text
 own_text answer number n old new offered is write memory =
     offered.whole (λ (five : number ≡ 5). write (sym is ∙ five)) (λ (eight : number ≡ 8). memory (sym is ∙ eight))
 
@@ -35,7 +35,7 @@ earns fault status number n text old new is printed offered same write memory =
       text = subst (λ (t : List ℕ). Appends old new t) printed (own_text (record { status = status; text = text }) number n old new offered same write memory);
     }
 
-refuses_by : (read : Result ScenarioLists ScenarioFault) (fault : StepFault) (bytes : List ℕ) (old new : Option (List ℕ)) → grammar Forms.Step bytes ≡ read → TextMeans (Err fault) read → Earns fault 3 old new → Refuses old new bytes
+refuses_by : (read : Result ScenarioLists ScenarioFault) (fault : StepFault) (bytes : List ℕ) (old new : Option (List ℕ)) → grammar Forms.Step bytes ≡ read → TextMeans (Err fault) read → Earns fault 3 old new → Refuses Forms.Step old new bytes
 refuses_by (Err first) (Faults.Scenario fault) bytes old new is means e =
     inl (record { fault = first; first = is; given = subst (λ (f : ScenarioFault). Appends old new (refused_line f)) means e.text })
 refuses_by (Ok scenario) (Faults.Scenario fault) bytes old new is means e = absurd means
@@ -45,7 +45,7 @@ refuses_by (Err first) (Faults.NotEnabled line condition) bytes old new is means
 refuses_by read (Faults.LogFull part) bytes old new is means e = let s = e.status in absurd (omega (arith, s))
 refuses_by read Faults.NoMemory bytes old new is means e = let s = e.status in absurd (omega (arith, s))
 
-pub refuses : (fault : StepFault) (bytes : List ℕ) (old new : Option (List ℕ)) → TextMeans (Err fault) (grammar Forms.Step bytes) → Earns fault 3 old new → Refuses old new bytes
+pub refuses : (fault : StepFault) (bytes : List ℕ) (old new : Option (List ℕ)) → TextMeans (Err fault) (grammar Forms.Step bytes) → Earns fault 3 old new → Refuses Forms.Step old new bytes
 refuses fault bytes old new means e = refuses_by (grammar Forms.Step bytes) fault bytes old new refl means e
 
 fills_by : (read : Result ScenarioLists ScenarioFault) (fault : StepFault) (bytes : List ℕ) (old new : Option (List ℕ)) → grammar Forms.Step bytes ≡ read → TextMeans (Err fault) read → Earns fault 6 old new → TellsFullLog old new bytes

@@ -1,4 +1,6 @@
 pub mod Answer
+pub mod Commands
 pub mod Meaning
 pub mod Offers
+pub mod Runs
 pub mod Words

@@ -1,24 +1,19 @@
 -- What the top call leaves in the sink.
-use Rattle.std.specs.Prelude.{◌≡◌, ◌≢◌, ◌⊎◌, ℕ, ◌≤◌, Bool, false, List, [], ◌∷◌, ◌++◌, codes, length, Option, Ok, Err}
-use Rattle.std.specs.Str.{bytes_eq}
+use Rattle.std.specs.Prelude.{◌≡◌, ◌≢◌, ◌⊎◌, ℕ, ◌≤◌, List, ◌++◌, codes, length, Option, Result, Ok, Err}
 use Rattle.std.specs.Io.KnownBytes.{Appends}
 use Rattle.am_scenario.specs.Grammar.{grammar}
+use Rattle.am_scenario_types.specs.declared.parts.Form.{Form}
 use Rattle.am_scenario_types.specs.declared.parts.Form.TheVariants as Forms
 use Rattle.am_io.specs.Causes.{Rose}
 use Rattle.am_io.specs.Whole.{IsAll, IsLonger}
 use Rattle.am_main.specs.Answer.{Answer, answer_of, full_line, not_enabled_line, refused_line}
 use Rattle.am_main.specs.Meaning.{PrintsHistory, IsNotEnabled, IsStopped}
+use Rattle.am_main.specs.Runs.{MakeAnswers, PrintsCutRun, PrintsRun, RunAnswers, Summarizes, TellsCutRun}
 use Rattle.am_model.specs.Steps.{LogFull}
 use Rattle.am_office.specs.declared.Condition.{Condition}
 use Rattle.am_office.specs.declared.Part.{Part}
 use Rattle.am_scenario_types.specs.declared.faults.ScenarioFault.{ScenarioFault}
 use Rattle.am_scenario_types.specs.Lists.{ScenarioLists}
-
--- the words are those of the command `step`
-unfoldable pub is_step : List (List ℕ) → Bool
-is_step [] = false
-is_step (word ∷ []) = bytes_eq word (codes "step")
-is_step (word ∷ other ∷ words) = false
 
 -- a front of the text was appended
 pub record IsFront (old new : Option (List ℕ)) (text : List ℕ) : Type 0 where
@@ -47,7 +42,7 @@ pub record IsOffered (answer : Answer) (status : ℕ) (old new : Option (List �
 
 -- the answers that don't look at the bytes: wrong words, a read fault, too many bytes, and want of memory
 abbrev pub usage : Answer
-usage = record { status = 2; text = codes "usage: am2 step\n" }
+usage = record { status = 2; text = codes "usage: am2 step | am2 run | am2 make N\n" }
 
 abbrev pub read_fault : Answer
 read_fault = record { status = 4; text = codes "read fault\n" }
@@ -58,31 +53,70 @@ too_long = record { status = 7; text = codes "input too long\n" }
 abbrev pub no_memory : Answer
 no_memory = record { status = 8; text = codes "no memory\n" }
 
+-- the answer of `run` to a text was offered
+pub record IsRunOffered (read : Result ScenarioLists ScenarioFault) (status : ℕ) (old new : Option (List ℕ)) : Type 0 where
+  pub answer : Answer
+  pub answers : RunAnswers read answer
+  pub offered : IsOffered answer status old new
+
+-- the answer of `make` to a number was offered
+pub record IsMakeOffered (n status : ℕ) (old new : Option (List ℕ)) : Type 0 where
+  pub answer : Answer
+  pub answers : MakeAnswers n answer
+  pub offered : IsOffered answer status old new
+
+-- the answer of `step` or `run` to a text was offered
+abbrev pub IsTextOffered : Form → List ℕ → ℕ → Option (List ℕ) → Option (List ℕ) → Type 0
+IsTextOffered Forms.Step bytes status old new = IsOffered (answer_of (grammar Forms.Step bytes)) status old new
+IsTextOffered Forms.Run bytes status old new = IsRunOffered (grammar Forms.Run bytes) status old new
+
 -- The answer that the bytes ask for was offered, or the line that says that the program found no memory.
-abbrev pub IsGiven : List ℕ → ℕ → Option (List ℕ) → Option (List ℕ) → Type 0
-IsGiven bytes status old new = IsOffered (answer_of (grammar Forms.Step bytes)) status old new ⊎ IsOffered no_memory status old new
+abbrev pub IsGiven : Form → List ℕ → ℕ → Option (List ℕ) → Option (List ℕ) → Type 0
+IsGiven form bytes status old new = IsTextOffered form bytes status old new ⊎ IsOffered no_memory status old new
+
+-- so with the answer that a number asks for
+abbrev pub IsMakeGiven : ℕ → ℕ → Option (List ℕ) → Option (List ℕ) → Type 0
+IsMakeGiven n status old new = IsMakeOffered n status old new ⊎ IsOffered no_memory status old new
 
 -- A script was answered: a read failed, the bytes are too many, no memory was found, or the bytes are those that the
 -- source had left and their answer was offered.
-abbrev pub IsAnswered : (most : ℕ) (left : Option (List ℕ)) (before now status : ℕ) (old new : Option (List ℕ)) → Type 0
-IsAnswered most left before now status old new =
+abbrev pub IsAnswered : (form : Form) (most : ℕ) (left : Option (List ℕ)) (before now status : ℕ) (old new : Option (List ℕ)) → Type 0
+IsAnswered form most left before now status old new =
     (Rose before now × IsOffered read_fault status old new)
     ⊎ ((IsLonger left most × IsOffered too_long status old new)
     ⊎ (IsOffered no_memory status old new
-    ⊎ Finds most left (λ bytes. IsOffered (answer_of (grammar Forms.Step bytes)) status old new)))
+    ⊎ Finds most left (λ bytes. IsTextOffered form bytes status old new)))
 
 -- the bytes spell a scenario of whose history the report was appended
-pub record Reports (old new : Option (List ℕ)) (bytes : List ℕ) : Type 0 where
+pub record ReportsSteps (old new : Option (List ℕ)) (bytes : List ℕ) : Type 0 where
   pub scenario : ScenarioLists
   pub text : List ℕ
   pub spells : grammar Forms.Step bytes ≡ Ok scenario
   pub prints : PrintsHistory scenario text
   pub given : Appends old new text
 
+-- the bytes spell a scenario of whose run the report was appended
+pub record ReportsRun (old new : Option (List ℕ)) (bytes : List ℕ) : Type 0 where
+  pub scenario : ScenarioLists
+  pub text : List ℕ
+  pub spells : grammar Forms.Run bytes ≡ Ok scenario
+  pub prints : PrintsRun scenario text
+  pub given : Appends old new text
+
+abbrev pub Reports : Form → Option (List ℕ) → Option (List ℕ) → List ℕ → Type 0
+Reports Forms.Step old new bytes = ReportsSteps old new bytes
+Reports Forms.Run old new bytes = ReportsRun old new bytes
+
+-- the summary of the run of the scenario that is generated from the number was appended
+pub record TellsSummary (n : ℕ) (old new : Option (List ℕ)) : Type 0 where
+  pub text : List ℕ
+  pub summarizes : Summarizes n text
+  pub given : Appends old new text
+
 -- the bytes spell no scenario, and the line that tells their first fault was appended
-pub record TellsFault (old new : Option (List ℕ)) (bytes : List ℕ) : Type 0 where
+pub record TellsFault (form : Form) (old new : Option (List ℕ)) (bytes : List ℕ) : Type 0 where
   pub fault : ScenarioFault
-  pub first : grammar Forms.Step bytes ≡ Err fault
+  pub first : grammar form bytes ≡ Err fault
   pub given : Appends old new (refused_line fault)
 
 -- the bytes spell a scenario, and the line that tells its first step that isn't enabled was appended
@@ -94,9 +128,10 @@ pub record TellsStep (old new : Option (List ℕ)) (bytes : List ℕ) : Type 0 w
   pub stops : IsNotEnabled scenario line condition
   pub given : Appends old new (not_enabled_line line condition)
 
--- one of the two
-abbrev pub Refuses : Option (List ℕ) → Option (List ℕ) → List ℕ → Type 0
-Refuses old new bytes = TellsFault old new bytes ⊎ TellsStep old new bytes
+-- one of the two; a run has no step
+abbrev pub Refuses : Form → Option (List ℕ) → Option (List ℕ) → List ℕ → Type 0
+Refuses Forms.Step old new bytes = TellsFault Forms.Step old new bytes ⊎ TellsStep old new bytes
+Refuses Forms.Run old new bytes = TellsFault Forms.Run old new bytes
 
 -- the bytes spell a scenario, and the line that tells the log which its first step without room finds full was appended
 pub record TellsFullLog (old new : Option (List ℕ)) (bytes : List ℕ) : Type 0 where
@@ -106,13 +141,62 @@ pub record TellsFullLog (old new : Option (List ℕ)) (bytes : List ℕ) : Type 
   pub stops : IsStopped scenario (LogFull part)
   pub given : Appends old new (full_line part)
 
+-- the bytes spell a scenario whose run meets a full log, and the line that tells the log was appended, with the report of what the
+-- run made before
+pub record ReportsFullLog (old new : Option (List ℕ)) (bytes : List ℕ) : Type 0 where
+  pub scenario : ScenarioLists
+  pub part : Part
+  pub text : List ℕ
+  pub spells : grammar Forms.Run bytes ≡ Ok scenario
+  pub prints : PrintsCutRun scenario part text
+  pub given : Appends old new text
+
+abbrev pub FillsLog : Form → Option (List ℕ) → Option (List ℕ) → List ℕ → Type 0
+FillsLog Forms.Step old new bytes = TellsFullLog old new bytes
+FillsLog Forms.Run old new bytes = ReportsFullLog old new bytes
+
+-- the line that tells the full log which the run of the generated scenario meets was appended
+pub record TellsMadeLog (n : ℕ) (old new : Option (List ℕ)) : Type 0 where
+  pub part : Part
+  pub text : List ℕ
+  pub tells : TellsCutRun n part text
+  pub given : Appends old new text
+
 -- the status is one that the text asks for: the report, a refused text or step, a full log
 abbrev pub IsOfText : ℕ → Type 0
 IsOfText status = (status ≡ 0) ⊎ ((status ≡ 3) ⊎ (status ≡ 6))
 
+-- the status is one that `make` ends with: the summary, a full log, a write fault, no memory
+abbrev pub IsOfMake : ℕ → Type 0
+IsOfMake status = (status ≡ 0) ⊎ ((status ≡ 6) ⊎ ((status ≡ 5) ⊎ (status ≡ 8)))
+
+-- the status and the whole text are those of the answer
+pub record IsWhole (answer : Answer) (status : ℕ) (old new : Option (List ℕ)) : Type 0 where
+  pub status' : status ≡ answer.status
+  pub given : Appends old new answer.text
+
+-- those of the answer of `run` to a text
+pub record IsWholeRunText (read : Result ScenarioLists ScenarioFault) (status : ℕ) (old new : Option (List ℕ)) : Type 0 where
+  pub answer : Answer
+  pub answers : RunAnswers read answer
+  pub whole : IsWhole answer status old new
+
+-- those of the answer of `make` to a number
+pub record IsWholeSummary (n status : ℕ) (old new : Option (List ℕ)) : Type 0 where
+  pub answer : Answer
+  pub answers : MakeAnswers n answer
+  pub whole : IsWhole answer status old new
+
+-- those of the answer of `step` or `run` to a text
+abbrev pub IsWholeText : Form → List ℕ → ℕ → Option (List ℕ) → Option (List ℕ) → Type 0
+IsWholeText Forms.Step bytes status old new = IsWhole (answer_of (grammar Forms.Step bytes)) status old new
+IsWholeText Forms.Run bytes status old new = IsWholeRunText (grammar Forms.Run bytes) status old new
+
 -- The status and the whole text are those that the bytes ask for, unless there are too many bytes or memory ran out.
-abbrev pub Completes : ℕ → ℕ → Option (List ℕ) → Option (List ℕ) → Option (List ℕ) → Type 0
-Completes most status left old new =
-    (status ≡ 7)
-    ⊎ ((status ≡ 8)
-    ⊎ Finds most left (λ bytes. (status ≡ (answer_of (grammar Forms.Step bytes)).status) × Appends old new (answer_of (grammar Forms.Step bytes)).text))
+abbrev pub Completes : Form → ℕ → ℕ → Option (List ℕ) → Option (List ℕ) → Option (List ℕ) → Type 0
+Completes form most status left old new =
+    (status ≡ 7) ⊎ ((status ≡ 8) ⊎ Finds most left (λ bytes. IsWholeText form bytes status old new))
+
+-- so with the number, unless memory ran out
+abbrev pub CompletesMake : ℕ → ℕ → Option (List ℕ) → Option (List ℕ) → Type 0
+CompletesMake n status old new = (status ≡ 8) ⊎ IsWholeSummary n status old new

@@ -44,7 +44,7 @@ fn make_steps(cluster: &mut Cluster, steps: &[StepLine]) -> Result<(), StepFault
 }
 
 /// The endpoints of a scenario, in ascending order.
-fn ids_of(alloc: Global, ends: &[EndLine]) -> Result<Vec<EndpointId>, AllocError>
+pub fn ids_of(alloc: Global, ends: &[EndLine]) -> Result<Vec<EndpointId>, AllocError>
     ensures { IfOk result (λ ids. ids.items ≡ ids_of ends.now) }
 {
     let mut ids = Vec::with_capacity(alloc, ends.len())?;

@@ -6,6 +6,8 @@ use std::test::Fail;
 
 mod direct;
 mod packet;
+mod running;
+mod scripts;
 
 const EMPTY: &str = "am2 1\nnetwork direct\nnodes 1\nendpoint 0 0 5\n";
 
@@ -252,19 +254,6 @@ fn a_text_without_a_sink(rt: HostRuntime) {
             })
         )
     );
-}
-
-#[test]
-fn other_words_are_usage(rt: HostRuntime) -> Result<(), Fail> {
-    let alloc = rt.alloc();
-    for word in ["stop", "run", ""] {
-        let words = vec![in alloc; String::from_str(alloc, word)?]?;
-        let mut source = MemorySource::new(Vec::new(alloc), 7, Vec::new(alloc));
-        let mut sink = MemorySink::new(alloc, 16, Vec::new(alloc));
-        assert_eq!(rt; am2(&rt, alloc, &words, &mut source, &mut sink).number, 2);
-        assert_eq!(rt; sink.bytes(), b"usage: am2 step\n".as_slice());
-    }
-    Ok(())
 }
 
 fn spaces(alloc: Global, count: usize) -> Result<Vec<u8>, AllocError> {

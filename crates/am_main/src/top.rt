@@ -1,18 +1,26 @@
 //! The top call.
 
-ghost use Rattle.std.specs.Prelude.{codes, ◌≡◌, ◌≢◌, ◌≤◌, map, string_bytes, true, false};
+ghost use Rattle.std.specs.Prelude.{codes, ◌≡◌, ◌≢◌, ◌≤◌, ℕ, map, string_bytes, true, false};
 ghost use Rattle.std.specs.Io.KnownBytes.{Appends};
 ghost use Rattle.am_io.specs.Causes.{Rose};
 ghost use Rattle.am_io.specs.Whole.{IsLonger};
-ghost use Rattle.am_main.specs.Offers.{Completes, Finds, IsAnswered, IsGiven, IsOfText, IsOffered, Refuses, Reports, TellsFullLog, is_step, usage};
+ghost use Rattle.am_main.specs.Commands.{Asks, HasNoForm, NeedsNoText, NeedsText};
+ghost use Rattle.am_main.specs.Offers.{Completes, CompletesMake, FillsLog, Finds, IsAnswered, IsGiven, IsMakeGiven, IsOfMake, IsOfText, IsOffered, Refuses, Reports, ReportsFullLog, ReportsRun, ReportsSteps, TellsFault, TellsFullLog, TellsMadeLog, TellsSummary, usage};
+ghost use Rattle.am_main.specs.Runs.{answer_in};
+ghost use Rattle.am_scenario_types.specs.declared.parts.Form.TheVariants as Forms;
 
+use crate::commands::{Command, command_of};
+use crate::makes::make_output;
+use crate::outputs::Output;
+use crate::runs::run_output;
 use crate::steps::step_text;
 use crate::words::{fault_line, fault_status};
 use am_io::{MOST_BYTES, Sink, SinkFault, Source, TakeFault, give_all, take_all};
+use am_scenario::Form;
 use std::alloc::Global;
 use std::thread::Threads;
 
-const USAGE: &[u8] = b"usage: am2 step\n";
+const USAGE: &[u8] = b"usage: am2 step | am2 run | am2 make N\n";
 
 const READ_FAULT: &[u8] = b"read fault\n";
 
@@ -24,17 +32,6 @@ const NO_MEMORY: &[u8] = b"no memory\n";
 #[derive(Clone, Copy, Debug, PartialEq, Eq)]
 pub struct Status {
     pub number: u8,
-}
-
-/// Whether the words are those of the command `step`.
-#[tactic(auto, unfolding(crate::specs::Offers::is_step))]
-fn is_step(words: &[String]) -> bool
-    ensures { result ≡ is_step (map string_bytes words.now) }
-{
-    match words {
-        [word] => word.as_str() == "step",
-        _ => false,
-    }
 }
 
 // Offers a text. The status is its own, or that of a fault of the sink.
@@ -50,11 +47,20 @@ fn offer<K: Sink>(sink: &mut K, number: u8, text: &[u8]) -> Status
     }
 }
 
-/// Answers bytes that were read to their end.
-fn answer<K: Sink>(alloc: Global, bytes: &[u8], sink: &mut K) -> Status
-    ensures given { IsGiven bytes.now result.number (K.held sink.old) (K.held sink.new) }
-    ensures reports { result.number ≡ 0 → Reports (K.held sink.old) (K.held sink.new) bytes.now }
-    ensures refuses { result.number ≡ 3 → Refuses (K.held sink.old) (K.held sink.new) bytes.now }
+// Offers what a command gives to print.
+fn offer_output<K: Sink>(sink: &mut K, output: &Output) -> Status
+    ensures offered { IsOffered (answer_in output.now) result.number (K.held sink.old) (K.held sink.new) }
+    ensures cause { output.now.status ≢ 5 → result.number ≡ 5 → Rose (K.count sink.old) (K.count sink.new) }
+    ensures later { K.count sink.old ≤ K.count sink.new }
+{
+    offer(sink, output.status, &output.text)
+}
+
+// Answers a step script.
+fn answer_steps<K: Sink>(alloc: Global, bytes: &[u8], sink: &mut K) -> Status
+    ensures given { IsGiven Forms.Step bytes.now result.number (K.held sink.old) (K.held sink.new) }
+    ensures reports { result.number ≡ 0 → ReportsSteps (K.held sink.old) (K.held sink.new) bytes.now }
+    ensures refuses { result.number ≡ 3 → Refuses Forms.Step (K.held sink.old) (K.held sink.new) bytes.now }
     ensures full { result.number ≡ 6 → TellsFullLog (K.held sink.old) (K.held sink.new) bytes.now }
     ensures cause { result.number ≡ 5 → Rose (K.count sink.old) (K.count sink.new) }
     ensures later { K.count sink.old ≤ K.count sink.new }
@@ -68,13 +74,59 @@ fn answer<K: Sink>(alloc: Global, bytes: &[u8], sink: &mut K) -> Status
     }
 }
 
+// Answers the scripts of a run.
+#[tactic(auto, using(crate::proofs::RunAnswers::run_given))]
+fn answer_run<R: Threads + Sync, K: Sink>(
+    rt: &R,
+    alloc: Global,
+    bytes: &[u8],
+    sink: &mut K,
+) -> Status
+    ensures given { IsGiven Forms.Run bytes.now result.number (K.held sink.old) (K.held sink.new) }
+    ensures cause { result.number ≡ 5 → Rose (K.count sink.old) (K.count sink.new) }
+    ensures later { K.count sink.old ≤ K.count sink.new }
+{
+    match run_output(rt, alloc, bytes) {
+        Ok(output) => offer_output(sink, &output),
+        Err(_) => offer(sink, 8, NO_MEMORY),
+    }
+}
+
+/// Answers bytes that were read to their end.
+#[tactic(auto, using(crate::proofs::RunAnswers::run_reports, crate::proofs::RunAnswers::run_refuses, crate::proofs::RunAnswers::run_fills))]
+fn answer<R: Threads + Sync, K: Sink>(
+    rt: &R,
+    alloc: Global,
+    form: Form,
+    bytes: &[u8],
+    sink: &mut K,
+) -> Status
+    ensures given { IsGiven form bytes.now result.number (K.held sink.old) (K.held sink.new) }
+    ensures reports { result.number ≡ 0 → Reports form (K.held sink.old) (K.held sink.new) bytes.now }
+    ensures refuses { result.number ≡ 3 → Refuses form (K.held sink.old) (K.held sink.new) bytes.now }
+    ensures full { result.number ≡ 6 → FillsLog form (K.held sink.old) (K.held sink.new) bytes.now }
+    ensures cause { result.number ≡ 5 → Rose (K.count sink.old) (K.count sink.new) }
+    ensures later { K.count sink.old ≤ K.count sink.new }
+{
+    match form {
+        Form::Step => answer_steps(alloc, bytes, sink),
+        Form::Run => answer_run(rt, alloc, bytes, sink),
+    }
+}
+
 /// Reads the source to its end, and answers.
-fn step<S: Source, K: Sink>(alloc: Global, source: &mut S, sink: &mut K) -> Status
+fn script<R: Threads + Sync, S: Source, K: Sink>(
+    rt: &R,
+    alloc: Global,
+    form: Form,
+    source: &mut S,
+    sink: &mut K,
+) -> Status
     requires { S.has_ended source.old ≡ false }
-    ensures given { IsAnswered MOST_BYTES (S.left source.old) (S.count source.old) (S.count source.new) result.number (K.held sink.old) (K.held sink.new) }
-    ensures reports { result.number ≡ 0 → Finds MOST_BYTES (S.left source.old) (Reports (K.held sink.old) (K.held sink.new)) }
-    ensures refuses { result.number ≡ 3 → Finds MOST_BYTES (S.left source.old) (Refuses (K.held sink.old) (K.held sink.new)) }
-    ensures full { result.number ≡ 6 → Finds MOST_BYTES (S.left source.old) (TellsFullLog (K.held sink.old) (K.held sink.new)) }
+    ensures given { IsAnswered form MOST_BYTES (S.left source.old) (S.count source.old) (S.count source.new) result.number (K.held sink.old) (K.held sink.new) }
+    ensures reports { result.number ≡ 0 → Finds MOST_BYTES (S.left source.old) (Reports form (K.held sink.old) (K.held sink.new)) }
+    ensures refuses { result.number ≡ 3 → Finds MOST_BYTES (S.left source.old) (Refuses form (K.held sink.old) (K.held sink.new)) }
+    ensures full { result.number ≡ 6 → Finds MOST_BYTES (S.left source.old) (FillsLog form (K.held sink.old) (K.held sink.new)) }
     ensures ended { IsOfText result.number → S.has_ended source.new ≡ true }
     ensures read { result.number ≡ 4 → Rose (S.count source.old) (S.count source.new) }
     ensures write { result.number ≡ 5 → Rose (K.count sink.old) (K.count sink.new) }
@@ -83,55 +135,84 @@ fn step<S: Source, K: Sink>(alloc: Global, source: &mut S, sink: &mut K) -> Stat
     ensures long_text { result.number ≡ 7 → Appends (K.held sink.old) (K.held sink.new) (codes "input too long\n") }
 {
     match take_all(alloc, source) {
-        Ok(bytes) => answer(alloc, &bytes, sink),
+        Ok(bytes) => answer(rt, alloc, form, &bytes, sink),
         Err(TakeFault::Failed) => offer(sink, 4, READ_FAULT),
         Err(TakeFault::TooLong) => offer(sink, 7, TOO_LONG),
         Err(TakeFault::NoMemory) => offer(sink, 8, NO_MEMORY),
     }
 }
 
-/// The program, over any source that hasn't ended and any sink: the one form of words is `step`, which reads a step script
-/// and prints the report of the one history that follows its lines.
+/// Answers a number.
+#[tactic(auto, using(crate::proofs::RunAnswers::make_given, crate::proofs::RunAnswers::make_summarizes, crate::proofs::RunAnswers::make_fills, crate::proofs::RunAnswers::make_ends))]
+fn make<K: Sink>(alloc: Global, n: u64, sink: &mut K) -> Status
+    ensures given { IsMakeGiven n result.number (K.held sink.old) (K.held sink.new) }
+    ensures summarizes { result.number ≡ 0 → TellsSummary n (K.held sink.old) (K.held sink.new) }
+    ensures full { result.number ≡ 6 → TellsMadeLog n (K.held sink.old) (K.held sink.new) }
+    ensures ends { IsOfMake result.number }
+    ensures write { result.number ≡ 5 → Rose (K.count sink.old) (K.count sink.new) }
+{
+    match make_output(alloc, n) {
+        Ok(output) => offer_output(sink, &output),
+        Err(_) => offer(sink, 8, NO_MEMORY),
+    }
+}
+
+/// The program, over any source that hasn't ended and any sink. Its words are `step`, which reads a step script and prints the report
+/// of the one history that follows its lines; `run`, which reads a scenario with the scripts of threads and prints the report of its
+/// run; or `make N`, which reads nothing and prints the summary of the run of a generated scenario.
 ///
 /// The status says how it ended. Each has its cause in a clause, and a text of its own, which is offered to the sink:
-/// 0 the report, 2 wrong words, 3 a text that spells no scenario or a step that can't happen, 4 a read fault, 5 a write fault,
-/// 6 a full log, 7 too many bytes, and 8 no memory, which may come at any time.
+/// 0 the report or the summary, 2 wrong words, 3 a text that spells no scenario or a step that can't happen, 4 a read fault, 5 a write
+/// fault, 6 a full log (behind its line stands for `run` the report of what was made before), 7 too many bytes, and 8 no memory, which
+/// may come at any time.
 pub fn am2<R: Threads + Sync, S: Source, K: Sink>(
-    _rt: &R,
+    rt: &R,
     alloc: Global,
     words: &[String],
     source: &mut S,
     sink: &mut K,
 ) -> Status
     requires { S.has_ended source.old ≡ false }
-    // The headline: the sink took the report of a history that follows the lines and obeys the laws.
-    ensures reports { result.number ≡ 0 → Finds MOST_BYTES (S.left source.old) (Reports (K.held sink.old) (K.held sink.new)) }
+    // The headlines: the sink took the report of a history that follows the lines and obeys the laws; that of a run of the scripts; the
+    // summary of such a run.
+    ensures reports_step { Asks (map string_bytes words.now) Command.Step → result.number ≡ 0 → Finds MOST_BYTES (S.left source.old) (ReportsSteps (K.held sink.old) (K.held sink.new)) }
+    ensures reports_run { Asks (map string_bytes words.now) Command.Run → result.number ≡ 0 → Finds MOST_BYTES (S.left source.old) (ReportsRun (K.held sink.old) (K.held sink.new)) }
+    ensures summarizes { (n : ℕ) → Asks (map string_bytes words.now) (Command.Make n) → result.number ≡ 0 → TellsSummary n (K.held sink.old) (K.held sink.new) }
     // Where the words have no form, the usage line is offered.
-    ensures no_form { is_step (map string_bytes words.now) ≡ false → IsOffered usage result.number (K.held sink.old) (K.held sink.new) }
-    ensures usage { result.number ≡ 2 → is_step (map string_bytes words.now) ≡ false }
-    ensures usage_text { result.number ≡ 2 → Appends (K.held sink.old) (K.held sink.new) (codes "usage: am2 step\n") }
-    // Wrong words are answered before anything is read.
-    ensures unread { is_step (map string_bytes words.now) ≡ false → S.left source.new ≡ S.left source.old }
-    ensures not_ended { is_step (map string_bytes words.now) ≡ false → S.has_ended source.new ≡ false }
-    ensures not_counted { is_step (map string_bytes words.now) ≡ false → S.count source.new ≡ S.count source.old }
-    // Else a read failed, the bytes are too many, memory ran out, or the answer is offered that the bytes ask for.
-    ensures given { is_step (map string_bytes words.now) ≡ true → IsAnswered MOST_BYTES (S.left source.old) (S.count source.old) (S.count source.new) result.number (K.held sink.old) (K.held sink.new) }
+    ensures no_form { HasNoForm (map string_bytes words.now) → IsOffered usage result.number (K.held sink.old) (K.held sink.new) }
+    ensures usage { result.number ≡ 2 → HasNoForm (map string_bytes words.now) }
+    ensures usage_text { result.number ≡ 2 → Appends (K.held sink.old) (K.held sink.new) (codes "usage: am2 step | am2 run | am2 make N\n") }
+    // Wrong words and `make` are answered with nothing read; what needs a text read it to its end, where it answers the text.
+    ensures unread { NeedsNoText (map string_bytes words.now) → S.left source.new ≡ S.left source.old }
+    ensures not_ended { NeedsNoText (map string_bytes words.now) → S.has_ended source.new ≡ false }
+    ensures not_counted { NeedsNoText (map string_bytes words.now) → S.count source.new ≡ S.count source.old }
+    ensures ended { NeedsText (map string_bytes words.now) → IsOfText result.number → S.has_ended source.new ≡ true }
+    // Else a read failed, the bytes are too many, memory ran out, or the answer is offered that the bytes or the number ask for.
+    ensures given_step { Asks (map string_bytes words.now) Command.Step → IsAnswered Forms.Step MOST_BYTES (S.left source.old) (S.count source.old) (S.count source.new) result.number (K.held sink.old) (K.held sink.new) }
+    ensures given_run { Asks (map string_bytes words.now) Command.Run → IsAnswered Forms.Run MOST_BYTES (S.left source.old) (S.count source.old) (S.count source.new) result.number (K.held sink.old) (K.held sink.new) }
+    ensures given_make { (n : ℕ) → Asks (map string_bytes words.now) (Command.Make n) → IsMakeGiven n result.number (K.held sink.old) (K.held sink.new) }
     // Where no read and no write fails, the answer is given whole, unless the bytes are too many or memory runs out.
-    ensures complete { is_step (map string_bytes words.now) ≡ true → (Rose (S.count source.old) (S.count source.new) → ⊥) → (Rose (K.count sink.old) (K.count sink.new) → ⊥) → Completes MOST_BYTES result.number (S.left source.old) (K.held sink.old) (K.held sink.new) }
-    // Where the text is answered, the source was read to its end.
-    ensures ended { IsOfText result.number → S.has_ended source.new ≡ true }
-    // The bytes spell no scenario or have a step that isn't enabled; a step finds a log full.
-    ensures refuses { result.number ≡ 3 → Finds MOST_BYTES (S.left source.old) (Refuses (K.held sink.old) (K.held sink.new)) }
-    ensures full { result.number ≡ 6 → Finds MOST_BYTES (S.left source.old) (TellsFullLog (K.held sink.old) (K.held sink.new)) }
+    ensures complete_step { Asks (map string_bytes words.now) Command.Step → (Rose (S.count source.old) (S.count source.new) → ⊥) → (Rose (K.count sink.old) (K.count sink.new) → ⊥) → Completes Forms.Step MOST_BYTES result.number (S.left source.old) (K.held sink.old) (K.held sink.new) }
+    ensures complete_run { Asks (map string_bytes words.now) Command.Run → (Rose (S.count source.old) (S.count source.new) → ⊥) → (Rose (K.count sink.old) (K.count sink.new) → ⊥) → Completes Forms.Run MOST_BYTES result.number (S.left source.old) (K.held sink.old) (K.held sink.new) }
+    ensures complete_make { (n : ℕ) → Asks (map string_bytes words.now) (Command.Make n) → (Rose (K.count sink.old) (K.count sink.new) → ⊥) → CompletesMake n result.number (K.held sink.old) (K.held sink.new) }
+    // The bytes spell no scenario, or have a step that isn't enabled; a step or the run finds a log full.
+    ensures refuses_step { Asks (map string_bytes words.now) Command.Step → result.number ≡ 3 → Finds MOST_BYTES (S.left source.old) (Refuses Forms.Step (K.held sink.old) (K.held sink.new)) }
+    ensures refuses_run { Asks (map string_bytes words.now) Command.Run → result.number ≡ 3 → Finds MOST_BYTES (S.left source.old) (TellsFault Forms.Run (K.held sink.old) (K.held sink.new)) }
+    ensures full_step { Asks (map string_bytes words.now) Command.Step → result.number ≡ 6 → Finds MOST_BYTES (S.left source.old) (TellsFullLog (K.held sink.old) (K.held sink.new)) }
+    ensures full_run { Asks (map string_bytes words.now) Command.Run → result.number ≡ 6 → Finds MOST_BYTES (S.left source.old) (ReportsFullLog (K.held sink.old) (K.held sink.new)) }
+    ensures full_make { (n : ℕ) → Asks (map string_bytes words.now) (Command.Make n) → result.number ≡ 6 → TellsMadeLog n (K.held sink.old) (K.held sink.new) }
+    // What `make` ends with; statuses 3, 4 and 7 are of commands that read a text.
+    ensures make_ends { (n : ℕ) → Asks (map string_bytes words.now) (Command.Make n) → IsOfMake result.number }
     ensures read { result.number ≡ 4 → Rose (S.count source.old) (S.count source.new) }
     ensures read_text { result.number ≡ 4 → Appends (K.held sink.old) (K.held sink.new) (codes "read fault\n") }
     ensures write { result.number ≡ 5 → Rose (K.count sink.old) (K.count sink.new) }
     ensures long { result.number ≡ 7 → IsLonger (S.left source.old) MOST_BYTES }
     ensures long_text { result.number ≡ 7 → Appends (K.held sink.old) (K.held sink.new) (codes "input too long\n") }
 {
-    if is_step(words) {
-        step(alloc, source, sink)
-    } else {
-        offer(sink, 2, USAGE)
+    match command_of(words) {
+        Some(Command::Step) => script(rt, alloc, Form::Step, source, sink),
+        Some(Command::Run) => script(rt, alloc, Form::Run, source, sink),
+        Some(Command::Make(n)) => make(alloc, n, sink),
+        None => offer(sink, 2, USAGE),
     }
 }

@@ -67,7 +67,7 @@ fn put_part(alloc: Global, text: &mut Vec<u8>, part: Part) -> Result<(), AllocEr
 
 /// The line that tells the first fault of a text.
 #[tactic(auto, using(std::proofs::Common::append_assoc), unfolding(crate::specs::Answer::refused_line))]
-fn refused_line(alloc: Global, fault: ScenarioFault) -> Result<Vec<u8>, AllocError>
+pub fn refused_line(alloc: Global, fault: ScenarioFault) -> Result<Vec<u8>, AllocError>
     ensures { IfOk result (λ text. text.items ≡ refused_line fault) }
 {
     let mut text = Vec::new(alloc);
@@ -95,7 +95,7 @@ fn not_enabled_line(alloc: Global, line: u32, condition: Condition) -> Result<Ve
 
 /// The line that tells a full log.
 #[tactic(auto, using(std::proofs::Common::append_assoc), unfolding(crate::specs::Answer::full_line))]
-fn full_line(alloc: Global, part: Part) -> Result<Vec<u8>, AllocError>
+pub fn full_line(alloc: Global, part: Part) -> Result<Vec<u8>, AllocError>
     ensures { IfOk result (λ text. text.items ≡ full_line part) }
 {
     let mut text = Vec::new(alloc);

@@ -2,3 +2,4 @@ pub mod Knowing
 pub mod Ordered
 pub mod Tabled
 pub mod Telling
+pub mod Summed

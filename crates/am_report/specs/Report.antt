@@ -1,5 +1,5 @@
 -- The report of a journal: its lines, the runs at each endpoint, the fate of each accepted message, and the totals.
-use Rattle.std.specs.Prelude.{ℕ, Bool, true, false, Option, Some, None, List, [], ◌∷◌, ◌++◌, codes, map, length, filter_map, count_by}
+use Rattle.std.specs.Prelude.{◌≡◌, ℕ, Bool, true, false, Option, Some, None, List, [], ◌∷◌, ◌++◌, codes, map, length, filter_map, count_by}
 use Rattle.std.specs.Fmt.{decimal}
 use Rattle.std.specs.List.{flat_map, fold}
 use Rattle.std.specs.BTreeMap.{insert_entry}
@@ -117,12 +117,25 @@ unfoldable pub messages_part : List MessageFate → List ℕ
 messages_part messages =
     line (codes "messages") (decimal (length messages) ∷ []) ++ flat_map fate_line messages ++ totals messages
 
+-- how many entries there are
+unfoldable pub entries_line : List Entry → List ℕ
+entries_line journal = line (codes "entries") (decimal (length journal) ∷ [])
+
 -- the journal's part: how many entries, and their lines
 unfoldable pub journal_part : List Entry → List ℕ
-journal_part journal = line (codes "entries") (decimal (length journal) ∷ []) ++ flat_map line_of journal
+journal_part journal = entries_line journal ++ flat_map line_of journal
 
 -- the report of a journal with these endpoints, in their order
 unfoldable pub report : List EndpointId → List Entry → List ℕ
 report ends journal =
     line (codes "am2") (codes "report" ∷ codes "1" ∷ []) ++ journal_part journal ++ flat_map (λ (e : EndpointId). end_part journal e) ends
     ++ messages_part (told journal)
+
+-- the second line of the report and its last: how many entries there are, and how many messages have each fate
+unfoldable pub summary : List Entry → List ℕ
+summary journal = entries_line journal ++ totals (told journal)
+
+-- so they stand in the report
+abbrev pub SummaryIsOfReport : Type 0
+SummaryIsOfReport =
+    (ends : List EndpointId) (journal : List Entry) → (middle : List ℕ) × (report ends journal ≡ ((line (codes "am2") (codes "report" ∷ codes "1" ∷ []) ++ entries_line journal) ++ middle) ++ totals (told journal))

@@ -8,7 +8,7 @@ ghost use Rattle.am_names.specs.declared.Serial.{Serial};
 ghost use Rattle.am_names.specs.Names.{same_serial, serial_order};
 ghost use Rattle.am_office.specs.declared.Entry.{Entry};
 ghost use Rattle.am_office.specs.Fates.{is_accepted};
-ghost use Rattle.am_report.specs.Report.{listed};
+ghost use Rattle.am_report.specs.Report.{SummaryIsOfReport, listed};
 
 /// The messages that a report lists are those that the journal accepts, each once, in ascending order of source and
 /// count.
@@ -16,4 +16,10 @@ ghost use Rattle.am_report.specs.Report.{listed};
 pub fn messages_are_in_order()
     ensures ascending { (journal : List Entry) → IsStrictlySortedBy serial_order (keys_of (listed journal)) }
     ensures accepted { (journal : List Entry) (s : Serial) → list_any (same_serial s) (keys_of (listed journal)) ≡ is_accepted journal s }
+{}
+
+/// The two lines of a summary are the second line and the last of each report of the journal.
+#[tactic(auto, using(crate::proofs::Summed::summary_is_of_report))]
+pub fn summary_is_of_report()
+    ensures { SummaryIsOfReport }
 {}

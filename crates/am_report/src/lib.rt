@@ -1,4 +1,5 @@
-//! The report of a journal: its lines, what ran at each endpoint, the fate of each message, and the totals.
+//! The report of a journal: its lines, what ran at each endpoint, the fate of each message, and the totals;
+//! and its summary of two lines.
 #![tactic(auto)]
 
 mod known;
@@ -7,8 +8,8 @@ mod messages;
 mod reports;
 mod runs;
 
-pub use laws::messages_are_in_order;
-pub use reports::report;
+pub use laws::{messages_are_in_order, summary_is_of_report};
+pub use reports::{report, summary};
 
 #[cfg(test)]
 mod tests;

@@ -27,11 +27,18 @@ fn put_entries(out: &mut Vec<u8>, entries: &[Entry]) -> Result<(), AllocError>
     Ok(())
 }
 
+#[tactic(auto, unfolding(crate::specs::Report::entries_line))]
+fn put_count(out: &mut Vec<u8>, entries: &[Entry]) -> Result<(), AllocError>
+    ensures { OnOk result (out.new.items ≡ out.old.items ++ text.entries_line entries.now) }
+{
+    put_line(out, "entries", &[Number(entries.len() as u64)])
+}
+
 #[tactic(auto, using(std::proofs::Common::append_assoc), unfolding(crate::specs::Report::journal_part))]
 fn put_journal(out: &mut Vec<u8>, entries: &[Entry]) -> Result<(), AllocError>
     ensures { OnOk result (out.new.items ≡ out.old.items ++ text.journal_part entries.now) }
 {
-    put_line(out, "entries", &[Number(entries.len() as u64)])?;
+    put_count(out, entries)?;
     put_entries(out, entries)
 }
 
@@ -252,6 +259,29 @@ pub fn report(alloc: Global, ends: &[EndpointId], journal: &Journal) -> Result<V
     ensures { IfOk result (λ bytes. bytes.items ≡ text.report ends.now journal.now) }
 {
     match text(alloc, ends, &journal.entries) {
+        Ok(bytes) => Ok(bytes),
+        Err(_) => Err(NoMemory),
+    }
+}
+
+#[tactic(auto, using(std::proofs::Common::append_assoc), unfolding(crate::specs::Report::summary))]
+fn two_lines(alloc: Global, entries: &[Entry]) -> Result<Vec<u8>, AllocError>
+    ensures { IfOk result (λ bytes. bytes.items ≡ text.summary entries.now) }
+{
+    let messages = told(alloc, entries)?;
+    let mut out = Vec::new(alloc);
+    put_count(&mut out, entries)?;
+    put_totals(&mut out, &messages)?;
+    Ok(out)
+}
+
+/// The second line of a journal's report and its last line, whatever the endpoints: how many entries there are, and how
+/// many messages have each fate (`summary` of `specs/Report.antt`). It is exact for every journal.
+/// It goes over the entries twice. Where there is no memory it answers `NoMemory`.
+pub fn summary(alloc: Global, journal: &Journal) -> Result<Vec<u8>, NoMemory>
+    ensures { IfOk result (λ bytes. bytes.items ≡ text.summary journal.now) }
+{
+    match two_lines(alloc, &journal.entries) {
         Ok(bytes) => Ok(bytes),
         Err(_) => Err(NoMemory),
     }

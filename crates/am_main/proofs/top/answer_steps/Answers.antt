@@ -1,6 +1,6 @@
 use Rattle.std.proofs.Common.{◌≡◌, ◌≢◌, arith, ◌∙◌}
 use Rattle.am_main.proofs.Refusals.{earns, fills, refuses}
-use Rattle.am_main.proofs.top.answer.Goals as goal
+use Rattle.am_main.proofs.top.answer_steps.Goals as goal
 
 pub returns-in-Ok-fault_line-clause-refuses : goal.returns-in-Ok-fault_line-clause-refuses
 returns-in-Ok-fault_line-clause-refuses g c =

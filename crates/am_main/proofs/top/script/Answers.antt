@@ -1,5 +1,5 @@
 use Rattle.std.proofs.Common.{inl, inr}
-use Rattle.am_main.proofs.top.step.Goals as goal
+use Rattle.am_main.proofs.top.script.Goals as goal
 
 pub returns-in-Err-Failed-clause-given : goal.returns-in-Err-Failed-clause-given
 returns-in-Err-Failed-clause-given g c =

@@ -1,0 +1,62 @@
+-- No two answers are those of one run: the drain makes one journal, or is cut off in one way.
+use Rattle.std.specs.Prelude.{Result, Ok, Err}
+use Rattle.std.proofs.Common.{◌≡◌, ◌⊎◌, inl, inr, ℕ, List, [], ◌++◌, sym, ap, ◌∙◌}
+use Rattle.am_office.specs.declared.Entry.{Entry}
+use Rattle.am_office.specs.declared.Part.{Part}
+use Rattle.am_report.specs.Report.{report}
+use Rattle.am_scenario_types.specs.declared.faults.ScenarioFault.{ScenarioFault}
+use Rattle.am_scenario_types.specs.Lists.{ScenarioLists}
+use Rattle.am_generator.specs.Scenarios.{generated}
+use Rattle.am_drain.proofs.CutOff.{cut_is_determined}
+use Rattle.am_cluster.specs.Runs.{IsRunCutOff}
+use Rattle.am_main.specs.Answer.{Answer, full_line, ids_of}
+use Rattle.am_main.specs.Runs.{HaveOneAnswer, IsRunAnswer, IsRunOf, MakeAnswers, PrintsCutRun, PrintsRun, RunAnswers, Summarizes, TellsCutRun, make_text}
+
+same_answer : (a b : Answer) (n : ℕ) → a.status ≡ n → b.status ≡ n → a.text ≡ b.text → a ≡ b
+same_answer a b n one other text =
+    let status = one ∙ sym other in
+    λ i. record { status = status i; text = text i }
+
+one_journal : (s : ScenarioLists) (one other : List Entry) → IsRunOf s one → IsRunOf s other → one ≡ other
+one_journal s one other a b = b.only one a.drained.drained
+
+never_both : {X : Type 0} (s : ScenarioLists) (one other : List Entry) (part : Part) → IsRunOf s one → IsRunCutOff s part other → X
+never_both s one other part a b = absurd (cut_is_determined.or s [] other one part b.cut a.drained)
+
+one_report : (s : ScenarioLists) (one other : List ℕ) → PrintsRun s one → PrintsRun s other → one ≡ other
+one_report s one other a b = a.text' ∙ ap (λ (j : List Entry). report (ids_of s.ends) j) (one_journal s a.journal b.journal a.run b.run) ∙ sym b.text'
+
+one_cut_report : (s : ScenarioLists) (part here : Part) (one other : List ℕ) → PrintsCutRun s part one → PrintsCutRun s here other → one ≡ other
+one_cut_report s part here one other a b =
+    let same = cut_is_determined.one s [] a.journal b.journal part here a.cut.cut b.cut.cut in
+    a.text'
+    ∙ ap (λ (p : Part). full_line p ++ report (ids_of s.ends) a.journal) same.0
+    ∙ ap (λ (j : List Entry). full_line here ++ report (ids_of s.ends) j) same.1
+    ∙ sym b.text'
+
+one_of_scenario : (s : ScenarioLists) (a b : Answer) → IsRunAnswer s a → IsRunAnswer s b → a ≡ b
+one_of_scenario s a b (inl (one, prints)) (inl (other, tells)) = same_answer a b 0 one other (one_report s a.text b.text prints tells)
+one_of_scenario s a b (inl (one, prints)) (inr (other, (here, cut))) = never_both s prints.journal cut.journal here prints.run cut.cut
+one_of_scenario s a b (inr (one, (part, cut))) (inl (other, tells)) = never_both s tells.journal cut.journal part tells.run cut.cut
+one_of_scenario s a b (inr (one, (part, cut))) (inr (other, (here, ends))) = same_answer a b 6 one other (one_cut_report s part here a.text b.text cut ends)
+
+one_of_run : (read : Result ScenarioLists ScenarioFault) (a b : Answer) → RunAnswers read a → RunAnswers read b → a ≡ b
+one_of_run (Ok s) a b one other = one_of_scenario s a b one other
+one_of_run (Err fault) a b one other = one ∙ sym other
+
+one_summary : (n : ℕ) (one other : List ℕ) → Summarizes n one → Summarizes n other → one ≡ other
+one_summary n one other a b = a.text' ∙ ap (λ (j : List Entry). make_text n 1744 j) (one_journal (generated n) a.journal b.journal a.run b.run) ∙ sym b.text'
+
+one_cut : (n : ℕ) (part here : Part) (one other : List ℕ) → TellsCutRun n part one → TellsCutRun n here other → one ≡ other
+one_cut n part here one other a b =
+    let same = cut_is_determined.one (generated n) [] a.journal b.journal part here a.cut.cut b.cut.cut in
+    a.text' ∙ ap full_line same.0 ∙ sym b.text'
+
+one_of_make : (n : ℕ) (a b : Answer) → MakeAnswers n a → MakeAnswers n b → a ≡ b
+one_of_make n a b (inl (one, made)) (inl (other, tells)) = same_answer a b 0 one other (one_summary n a.text b.text made tells)
+one_of_make n a b (inl (one, made)) (inr (other, (here, cut))) = never_both (generated n) made.journal cut.journal here made.run cut.cut
+one_of_make n a b (inr (one, (part, cut))) (inl (other, tells)) = never_both (generated n) tells.journal cut.journal part tells.run cut.cut
+one_of_make n a b (inr (one, (part, cut))) (inr (other, (here, ends))) = same_answer a b 6 one other (one_cut n part here a.text b.text cut ends)
+
+pub have_one_answer : HaveOneAnswer
+have_one_answer = record { run = one_of_run; make = one_of_make }

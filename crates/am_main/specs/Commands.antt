@@ -1,0 +1,52 @@
+-- What the words after the program's name ask for.
+use Rattle.std.specs.Prelude.{◌≡◌, ℕ, ◌==◌, Bool, true, false, List, [], ◌∷◌, codes, if◌then◌else◌, Option, Some, None}
+use Rattle.std.specs.Str.{bytes_eq}
+use Rattle.std.specs.Option.{option_map}
+use Rattle.am_lexer.specs.Text.{number_of}
+use Rattle.am_main.specs.declared.commands.Command.{Command}
+use Rattle.am_main.specs.declared.commands.Command.TheVariants as Commands
+
+-- whether a word of more than one byte begins with the digit 0
+abbrev pub has_leading_zero : List ℕ → Bool
+has_leading_zero [] = false
+has_leading_zero (byte ∷ []) = false
+has_leading_zero (byte ∷ next ∷ bytes) = byte == 48
+
+-- A number of a command is spelled as numbers are printed: one or more digits without a leading zero, with a value below 2 ^ 64.
+unfoldable pub exact_number : List ℕ → Option ℕ
+exact_number word = if has_leading_zero word then None else number_of word
+
+unfoldable pub of_one_word : List ℕ → Option Command
+of_one_word word =
+    if bytes_eq word (codes "step") then Some Commands.Step else
+    if bytes_eq word (codes "run") then Some Commands.Run else None
+
+unfoldable pub of_two_words : List ℕ → List ℕ → Option Command
+of_two_words word number = if bytes_eq word (codes "make") then option_map Commands.Make (exact_number number) else None
+
+-- what the words ask for, if they have one of the forms: `step`, `run`, or `make` and a number
+unfoldable pub command_of : List (List ℕ) → Option Command
+command_of [] = None
+command_of (word ∷ []) = of_one_word word
+command_of (word ∷ number ∷ []) = of_two_words word number
+command_of (word ∷ number ∷ other ∷ words) = None
+
+-- the words ask for this
+abbrev pub Asks : List (List ℕ) → Command → Type 0
+Asks words command = command_of words ≡ Some command
+
+abbrev pub HasNoForm : List (List ℕ) → Type 0
+HasNoForm words = command_of words ≡ None
+
+-- whether what the words ask for needs a text from the source
+abbrev pub reads_text : Option Command → Bool
+reads_text None = false
+reads_text (Some Commands.Step) = true
+reads_text (Some Commands.Run) = true
+reads_text (Some (Commands.Make n)) = false
+
+abbrev pub NeedsText : List (List ℕ) → Type 0
+NeedsText words = reads_text (command_of words) ≡ true
+
+abbrev pub NeedsNoText : List (List ℕ) → Type 0
+NeedsNoText words = reads_text (command_of words) ≡ false

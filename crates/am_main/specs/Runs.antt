@@ -1,0 +1,113 @@
+-- What the commands `run` and `make` answer, and what their answers say of the cluster.
+use Rattle.std.specs.Prelude.{◌≡◌, ◌≢◌, ◌⊎◌, ℕ, false, Some, List, [], ◌∷◌, ◌++◌, codes, length, Result, Ok, Err}
+use Rattle.std.specs.Fmt.{decimal}
+use Rattle.am_names.specs.Rules.{is_transient}
+use Rattle.am_names.specs.declared.Cause.{Cause}
+use Rattle.am_names.specs.declared.Message.{Message}
+use Rattle.am_names.specs.declared.NodeId.{NodeId}
+use Rattle.am_names.specs.declared.Parcel.{Parcel}
+use Rattle.am_names.specs.declared.Serial.{Serial}
+use Rattle.am_office.specs.declared.Entry.{Entry}
+use Rattle.am_office.specs.declared.Event.TheVariants as Events
+use Rattle.am_office.specs.declared.Outcome.TheVariants as Out
+use Rattle.am_office.specs.declared.Part.{Part}
+use Rattle.am_office.specs.declared.endings.Fate.TheVariants as Fates
+use Rattle.am_office.specs.Fates.{fate}
+use Rattle.am_report.specs.Report.{report, summary}
+use Rattle.am_text.specs.Words.{line}
+use Rattle.am_scenario_types.specs.declared.faults.ScenarioFault.{ScenarioFault}
+use Rattle.am_scenario_types.specs.Lists.{ScenarioLists}
+use Rattle.am_generator.specs.Scenarios.{generated}
+use Rattle.am_follow.specs.Layout.{layout_of}
+use Rattle.am_laws.specs.Fates.{HasOneFate}
+use Rattle.am_model.specs.History.{IsHistory}
+use Rattle.am_model.specs.PostOffice.{PostOffice, WasAccepted}
+use Rattle.am_drain.specs.Cut.{IsDrainedWithRoom}
+use Rattle.am_drain.specs.Drain.{IsDrained}
+use Rattle.am_drain.specs.Follows.{FollowsScripts}
+use Rattle.am_drain_steps.specs.Endings.{IsLastTry, IsWithheld, WithholdsNothing}
+use Rattle.am_cluster.specs.Runs.{IsRunCutOff}
+use Rattle.am_main.specs.declared.outputs.Output.{Output}
+use Rattle.am_main.specs.Answer.{Answer, full_line, ids_of, refused_line}
+
+-- where a time-out leaves a message unknown, the plan withholds packets of its last try
+abbrev pub UnknownIsPlanned : ScenarioLists → List Entry → Type 0
+UnknownIsPlanned s journal =
+    (past later : List Entry) (x : Entry) (node peer : NodeId) (channel : ℕ) (serial : Serial) (p : Parcel) → journal ≡ past ++ x ∷ later → x.event ≡ Events.Expire node peer channel → x.outcome ≡ Out.Unknown serial → IsLastTry past node peer channel p → IsWithheld s past p
+
+-- no message is unknown
+abbrev pub NothingIsUnknown : List Entry → Type 0
+NothingIsUnknown journal = (serial : Serial) → (fate journal serial ≢ Some Fates.Unknown) × (fate journal serial ≢ Some Fates.UnknownButRan)
+
+-- what is returned is returned for a cause that isn't transient
+abbrev pub IsReturnedForGood : List Entry → Type 0
+IsReturnedForGood journal = (serial : Serial) (cause : Cause) → fate journal serial ≡ Some (Fates.Returned cause) → is_transient cause ≡ false
+
+-- A journal is that of the run of a scenario: a history of the machine which the scenario describes, that follows its scripts and
+-- obeys all the laws of the post office. Each message has its one fate, no message that was accepted is pending, and one is unknown
+-- only where the plan withholds packets; where it withholds none, no message is unknown, and what is returned is returned for good.
+-- And it is what the drain makes of the empty journal, which makes no other.
+pub record IsRunOf (s : ScenarioLists) (journal : List Entry) : Type 0 where
+  pub history : IsHistory (layout_of s) journal
+  pub follows : FollowsScripts s journal
+  pub laws : PostOffice (layout_of s) journal
+  pub fates : (serial : Serial) → HasOneFate journal serial
+  pub settled : (m : Message) → WasAccepted journal m → fate journal m.serial ≢ Some Fates.Pending
+  pub unknown : UnknownIsPlanned s journal
+  pub complete : WithholdsNothing s → NothingIsUnknown journal
+  pub for_good : WithholdsNothing s → IsReturnedForGood journal
+  pub drained : IsDrainedWithRoom s [] journal
+  pub only : (other : List Entry) → IsDrained s [] other → other ≡ journal
+
+-- THE HEADLINE, for the command `run`: the text is the report of the journal of the scenario's run.
+pub record PrintsRun (s : ScenarioLists) (text : List ℕ) : Type 0 where
+  pub journal : List Entry
+  pub run : IsRunOf s journal
+  pub text' : text ≡ report (ids_of s.ends) journal
+
+-- the text is the line that tells a full log, and behind it the report of what the run made before the first entry that met it
+pub record PrintsCutRun (s : ScenarioLists) (part : Part) (text : List ℕ) : Type 0 where
+  pub journal : List Entry
+  pub cut : IsRunCutOff s part journal
+  pub text' : text ≡ full_line part ++ report (ids_of s.ends) journal
+
+-- the answer of `run` to a scenario
+abbrev pub IsRunAnswer : ScenarioLists → Answer → Type 0
+IsRunAnswer s answer = ((answer.status ≡ 0) × PrintsRun s answer.text) ⊎ ((answer.status ≡ 6) × ((part : Part) × PrintsCutRun s part answer.text))
+
+-- the answer of `run` to what a text spells, or to its first fault
+abbrev pub RunAnswers : Result ScenarioLists ScenarioFault → Answer → Type 0
+RunAnswers (Ok s) answer = IsRunAnswer s answer
+RunAnswers (Err fault) answer = answer ≡ record { status = 3; text = refused_line fault }
+
+-- the summary of `make`: the number, how many calls the scripts have, and two lines of the report
+unfoldable pub make_text : ℕ → ℕ → List Entry → List ℕ
+make_text n calls journal =
+    line (codes "am2") (codes "make" ∷ decimal n ∷ []) ++ line (codes "calls") (decimal calls ∷ []) ++ summary journal
+
+-- THE HEADLINE, for the command `make`: the text is the summary of the run of the scenario that is generated from the number,
+-- whose scripts have 1744 calls.
+pub record Summarizes (n : ℕ) (text : List ℕ) : Type 0 where
+  pub journal : List Entry
+  pub run : IsRunOf (generated n) journal
+  pub calls : length (generated n).script ≡ 1744
+  pub text' : text ≡ make_text n 1744 journal
+
+-- the text is the line that tells a full log, which the run met
+pub record TellsCutRun (n : ℕ) (part : Part) (text : List ℕ) : Type 0 where
+  pub journal : List Entry
+  pub cut : IsRunCutOff (generated n) part journal
+  pub text' : text ≡ full_line part
+
+-- the answer of `make` to a number
+abbrev pub MakeAnswers : ℕ → Answer → Type 0
+MakeAnswers n answer = ((answer.status ≡ 0) × Summarizes n answer.text) ⊎ ((answer.status ≡ 6) × ((part : Part) × TellsCutRun n part answer.text))
+
+-- what the code gives to print
+abbrev pub answer_in : Output → Answer
+answer_in output = record { status = output.status; text = output.text.items }
+
+-- `run` has at most one answer to what a text spells, and `make` to a number
+pub record HaveOneAnswer : Type 0 where
+  pub run : (read : Result ScenarioLists ScenarioFault) (one other : Answer) → RunAnswers read one → RunAnswers read other → one ≡ other
+  pub make : (n : ℕ) (one other : Answer) → MakeAnswers n one → MakeAnswers n other → one ≡ other

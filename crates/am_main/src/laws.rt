@@ -1,0 +1,9 @@
+//! What the definitions of the answers say in other words.
+
+ghost use Rattle.am_main.specs.Runs.{HaveOneAnswer};
+
+/// The command `run` has at most one answer to a text, and `make` to a number: a status and a text.
+#[tactic(auto, using(crate::proofs::OneAnswer::have_one_answer))]
+pub fn have_one_answer()
+    ensures { HaveOneAnswer }
+{}
