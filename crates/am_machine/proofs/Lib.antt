@@ -13,3 +13,4 @@ pub mod Joint
 pub mod Fitting
 pub mod Beside
 pub mod Looks
+pub mod Swaps
