@@ -1,73 +1,143 @@
 -- An endpoint whose log and state grow by one entry.
-use Rattle.std.specs.Prelude.{Option, Vec}
+use Rattle.std.specs.Prelude.{Vec}
 use Rattle.std.specs.declared.alloc.Global.{Global}
-use Rattle.std.proofs.Common.{◌≡◌, ℕ, true, ◌<◌, [], ◌∷◌, ◌++◌, length, sym, ap, ◌∙◌, subst, arith}
+use Rattle.std.proofs.Common.{◌≡◌, ℕ, Bool, true, ◌<◌, [], ◌∷◌, ◌++◌, length, Option, sym, ap, ◌∙◌, subst, arith}
 use Rattle.std.proofs.lemmas.List.{length_push}
 use Rattle.am_office.specs.declared.Call.{Call}
 use Rattle.am_office.specs.declared.Entry.{Entry}
+use Rattle.am_office.specs.declared.Event.TheVariants as Events
 use Rattle.am_office.specs.declared.Outcome.{Outcome}
+use Rattle.am_office.specs.declared.Outcome.TheVariants as Out
+use Rattle.am_office.specs.declared.Place.TheVariants.{Host}
+use Rattle.am_names.specs.declared.EndpointId.{EndpointId}
+use Rattle.am_names.specs.declared.NodeId.{NodeId}
+use Rattle.am_model.specs.declared.Head.{Head}
+use Rattle.am_body.specs.Views.{View}
 use Rattle.am_model.specs.Endpoint.{State, fresh, is_on_disk}
 use Rattle.am_model.specs.Allowed.{are_numbers_in_range}
 use Rattle.am_model.specs.Calls.{outcome_of_call}
-use Rattle.am_model.specs.Changes.{after, called}
+use Rattle.am_model.specs.Changes.{after, called, changed, paged_in, paged_out}
 use Rattle.am_model.specs.Order.{IsInOrder, KeepsOrder}
 use Rattle.am_model.proofs.Each.{replay_push}
 use Rattle.am_model.proofs.Order.{order_called}
 use Rattle.am_model.proofs.Sound.{accepted_after}
-use Rattle.am_endpoint.specs.View.{EndpointView, state_after, state_by}
+use Rattle.am_endpoint.specs.Events.{keeps_in_memory}
+use Rattle.am_endpoint.specs.Held.{IsHeldOf, IsHere, held_wanted, with_wanted}
+use Rattle.am_endpoint.specs.Kept.{IsReplay, replayed, view_of}
 use Rattle.am_endpoint.specs.Seen.{state_in}
-use Rattle.am_endpoint.specs.Kept.{IsReplay, view_of}
+use Rattle.am_endpoint.specs.View.{EndpointView, state_after, state_by}
 use Rattle.am_endpoint.specs.declared.fields.Fields.{Fields}
+use Rattle.am_endpoint.specs.declared.held.Held.{Held}
+use Rattle.am_endpoint.specs.declared.held.Held.TheVariants.{OnDisk}
 use Rattle.am_endpoint.specs.declared.Endpoint.TheInside.{Inside}
+use Rattle.am_endpoint.proofs.Holding.{called_here, stays_here, wanted_held}
 
-pub entered : (i : Inside) (fields : Fields) (log : Vec Entry Global) (x : Entry) → IsReplay i → log.items ≡ i.log.items ++ x ∷ [] → length i.log.items < i.settings.log → state_in fields ≡ after i.settings.id (state_in i.fields) x → fields.body.pool ≡ i.fields.body.pool → IsInOrder i.settings.pool i.settings.id (after i.settings.id (state_in i.fields) x) → IsReplay (record i { fields = fields; log = log })
-entered i fields log x kept items room changed pool order =
+-- the state by a log that is one entry longer
+next : (i : Inside) (log : Vec Entry Global) (x : Entry) → log.items ≡ i.log.items ++ x ∷ [] → state_by i.settings log.items ≡ after i.settings.id (replayed i) x
+next i log x items = ap (state_by i.settings) items ∙ replay_push i.settings.id (fresh i.settings.tag i.settings.place) i.log.items x
+
+pub entered : (i : Inside) (held : Held) (log : Vec Entry Global) (x : Entry) → IsReplay i → log.items ≡ i.log.items ++ x ∷ [] → length i.log.items < i.settings.log → IsHeldOf i.settings.pool (after i.settings.id (replayed i) x) held → IsInOrder i.settings.pool i.settings.id (after i.settings.id (replayed i) x) → IsReplay (record i { held = held; log = log })
+entered i held log x kept items room holds order =
     let set = i.settings in
+    let is = next i log x items in
     record {
-      replayed =
-          ap (state_by set) items
-          ∙ replay_push set.id (fresh set.tag set.place) i.log.items x
-          ∙ ap (λ (s : State). after set.id s x) kept.replayed
-          ∙ sym changed;
-      pool = pool ∙ kept.pool;
-      order = subst (λ (s : State). IsInOrder set.pool set.id s) (sym changed) order;
+      held = subst (λ (s : State). IsHeldOf set.pool s held) (sym is) holds;
+      order = subst (λ (s : State). IsInOrder set.pool set.id s) (sym is) order;
       counted =
-          omega (arith, accepted_after set.id (state_in i.fields) x, ap (λ (s : State). s.body.accepted) changed, kept.counted, ap length items, length_push i.log.items x);
+          omega (arith, accepted_after set.id (replayed i) x, ap (λ (s : State). s.body.accepted) is, kept.counted, ap length items, length_push i.log.items x);
       bounded = omega (arith, room, ap length items, length_push i.log.items x);
       lawful = kept.lawful;
     }
 
--- an entry that keeps the order, at the fields
-pub order_next : (i : Inside) (v : EndpointView) (x : Entry) → view_of i ≡ v → IsReplay i → KeepsOrder v.settings.bounces v.settings.pool v.settings.id (state_after v) x → IsInOrder i.settings.pool i.settings.id (after i.settings.id (state_in i.fields) x)
+-- the fields of an endpoint that stays in memory, after an entry
+pub here_after : (i : Inside) (f g : Fields) (x : Entry) → keeps_in_memory x.event ≡ true → IsHere i.settings.pool (replayed i) f → state_in g ≡ after i.settings.id (state_in f) x → g.body.pool ≡ f.body.pool → IsHere i.settings.pool (after i.settings.id (replayed i) x) g
+here_after i f g x keeps here changed pool =
+    record {
+      in_memory = stays_here i.settings.id (replayed i) x keeps here.in_memory;
+      state = changed ∙ ap (λ (s : State). after i.settings.id s x) here.state;
+      pooled = pool ∙ here.pooled;
+    }
+
+-- and after a call
+pub here_called : (i : Inside) (f g : Fields) (call : Call) (o : Outcome) → IsHere i.settings.pool (replayed i) f → state_in g ≡ called (state_in f) call o → g.body.pool ≡ f.body.pool → IsHere i.settings.pool (called (replayed i) call o) g
+here_called i f g call o here changed pool =
+    record {
+      in_memory = called_here (replayed i) call o here.in_memory;
+      state = changed ∙ ap (λ (s : State). called s call o) here.state;
+      pooled = pool ∙ here.pooled;
+    }
+
+-- an entry that keeps the order
+pub order_next : (i : Inside) (v : EndpointView) (x : Entry) → view_of i ≡ v → IsReplay i → KeepsOrder v.settings.bounces v.settings.pool v.settings.id (state_after v) x → IsInOrder i.settings.pool i.settings.id (after i.settings.id (replayed i) x)
 order_next i v x e kept keeps =
-    let set = i.settings in
-    let told : KeepsOrder set.bounces set.pool set.id (state_after (view_of i)) x =
+    let told : KeepsOrder i.settings.bounces i.settings.pool i.settings.id (state_after (view_of i)) x =
     subst (λ (w : EndpointView). KeepsOrder w.settings.bounces w.settings.pool w.settings.id (state_after w) x) (sym e) keeps in
-    let here : KeepsOrder set.bounces set.pool set.id (state_in i.fields) x = subst (λ (s : State). KeepsOrder set.bounces set.pool set.id s x) kept.replayed told in
-    here kept.lawful.bounces kept.order
+    told kept.lawful.bounces kept.order
 
--- a call at the fields, where its numbers are in range
-pub order_made : (i : Inside) (call : Call) (o : Outcome) → IsReplay i → are_numbers_in_range i.settings.pool call ≡ true → o ≡ outcome_of_call i.fields.body.pool i.settings.id (state_in i.fields) call → IsInOrder i.settings.pool i.settings.id (called (state_in i.fields) call o)
-order_made i call o kept range is =
-    let set = i.settings in
-    let s = state_in i.fields in
-    subst (λ (w : Outcome). IsInOrder set.pool set.id (called s call w)) (sym (is ∙ ap (λ (p : Option ℕ). outcome_of_call p set.id s call) kept.pool)) (order_called set.pool set.id s call range kept.order)
-
-pub outcome_made : (i : Inside) (v : EndpointView) (call : Call) (o : Outcome) → view_of i ≡ v → IsReplay i → o ≡ outcome_of_call i.fields.body.pool i.settings.id (state_in i.fields) call → o ≡ outcome_of_call v.settings.pool v.settings.id (state_after v) call
-outcome_made i v call o e kept is =
+pub outcome_here : (i : Inside) (f : Fields) (call : Call) (o : Outcome) → IsHere i.settings.pool (replayed i) f → o ≡ outcome_of_call f.body.pool i.settings.id (state_in f) call → o ≡ outcome_of_call i.settings.pool i.settings.id (replayed i) call
+outcome_here i f call o here is =
     is
-    ∙ ap (λ (p : Option ℕ). outcome_of_call p i.settings.id (state_in i.fields) call) kept.pool
-    ∙ ap (λ (s : State). outcome_of_call i.settings.pool i.settings.id s call) (sym kept.replayed)
-    ∙ ap (λ (w : EndpointView). outcome_of_call w.settings.pool w.settings.id (state_after w) call) e
+    ∙ ap (λ (p : Option ℕ). outcome_of_call p i.settings.id (state_in f) call) here.pooled
+    ∙ ap (λ (s : State). outcome_of_call i.settings.pool i.settings.id s call) here.state
 
--- its body, and whether it is on disk, as its log tells
+-- a call, where its numbers are in range
+pub order_made : (i : Inside) (f : Fields) (call : Call) (o : Outcome) → IsReplay i → IsHere i.settings.pool (replayed i) f → are_numbers_in_range i.settings.pool call ≡ true → o ≡ outcome_of_call f.body.pool i.settings.id (state_in f) call → IsInOrder i.settings.pool i.settings.id (called (replayed i) call o)
+order_made i f call o kept here range is =
+    let set = i.settings in
+    let s = replayed i in
+    subst (λ (w : Outcome). IsInOrder set.pool set.id (called s call w)) (sym (outcome_here i f call o here is)) (order_called set.pool set.id s call range kept.order)
 
-pub body_told : (i : Inside) (v : EndpointView) → view_of i ≡ v → IsReplay i → i.fields.body ≡ record { pool = v.settings.pool; body = (state_after v).body }
-body_told i v e kept =
-    ap (λ (p : Option ℕ). record i.fields.body { pool = p }) kept.pool
-    ∙ ap (λ (s : State). record i.fields.body { pool = i.settings.pool; body = s.body }) (sym kept.replayed)
-    ∙ ap (λ (w : EndpointView). record i.fields.body { pool = w.settings.pool; body = (state_after w).body }) e
+pub outcome_made : (i : Inside) (v : EndpointView) (f : Fields) (call : Call) (o : Outcome) → view_of i ≡ v → IsHere i.settings.pool (replayed i) f → o ≡ outcome_of_call f.body.pool i.settings.id (state_in f) call → o ≡ outcome_of_call v.settings.pool v.settings.id (state_after v) call
+outcome_made i v f call o e here is =
+    outcome_here i f call o here is ∙ ap (λ (w : EndpointView). outcome_of_call w.settings.pool w.settings.id (state_after w) call) e
 
-pub disk_told : (i : Inside) (v : EndpointView) → view_of i ≡ v → IsReplay i → is_on_disk (state_after v).head.place ≡ is_on_disk i.fields.head.place
-disk_told i v e kept =
-    ap (λ (w : EndpointView). is_on_disk (state_after w).head.place) (sym e) ∙ ap (λ (s : State). is_on_disk s.head.place) kept.replayed
+pub order_told : (i : Inside) (v : EndpointView) → view_of i ≡ v → IsReplay i → IsInOrder v.settings.pool v.settings.id (state_after v)
+order_told i v e kept = subst (λ (w : EndpointView). IsInOrder w.settings.pool w.settings.id (state_after w)) e kept.order
+
+-- where it lies, as its log tells
+pub disk_told : (i : Inside) (v : EndpointView) (on : Bool) → view_of i ≡ v → is_on_disk (state_after v).head.place ≡ on → is_on_disk (replayed i).head.place ≡ on
+disk_told i v on e is = ap (λ (w : EndpointView). is_on_disk (state_after w).head.place) e ∙ is
+
+-- a log with more room
+pub same_log : (i : Inside) (log : Vec Entry Global) → log.items ≡ i.log.items → IsReplay i → IsReplay (record i { log = log })
+same_log i log items kept =
+    let set = i.settings in
+    let is : state_by set log.items ≡ replayed i = ap (state_by set) items in
+    record {
+      held = subst (λ (s : State). IsHeldOf set.pool s i.held) (sym is) kept.held;
+      order = subst (λ (s : State). IsInOrder set.pool set.id s) (sym is) kept.order;
+      counted = omega (arith, ap (λ (s : State). s.body.accepted) is, kept.counted, ap length items);
+      bounded = omega (arith, kept.bounded, ap length items);
+      lawful = kept.lawful;
+    }
+
+-- what is held after an entry that changes at most whether it is wanted
+pub noted : (i : Inside) (v : EndpointView) (x : Entry) (held : Held) (wanted : Bool) → view_of i ≡ v → IsReplay i → held ≡ held_wanted i.held wanted → after v.settings.id (state_after v) x ≡ with_wanted (state_after v) wanted → IsHeldOf i.settings.pool (after i.settings.id (replayed i) x) held
+noted i v x held wanted e kept is change =
+    let here : after i.settings.id (replayed i) x ≡ with_wanted (replayed i) wanted =
+    subst (λ (w : EndpointView). after w.settings.id (state_after w) x ≡ with_wanted (state_after w) wanted) (sym e) change in
+    subst (λ (h : Held). IsHeldOf i.settings.pool (after i.settings.id (replayed i) x) h) (sym is)
+    (subst (λ (s : State). IsHeldOf i.settings.pool s (held_wanted i.held wanted)) (sym here) (wanted_held i.settings.pool (replayed i) i.held wanted kept.held))
+
+-- what is held after it went to disk
+pub gave : (i : Inside) (v : EndpointView) (x : Entry) (node : NodeId) (end : EndpointId) (f : Fields) (h : Head) (held : Held) → view_of i ≡ v → x.event ≡ Events.PageOut node end → x.outcome ≡ Out.Done → state_in f ≡ state_after v → h ≡ (paged_out (state_in f) Out.Done).head → held ≡ OnDisk h → IsHeldOf i.settings.pool (after i.settings.id (replayed i) x) held
+gave i v x node end f h held e event outcome state head is =
+    let out : after i.settings.id (replayed i) x ≡ paged_out (replayed i) Out.Done = λ k. changed i.settings.id (replayed i) (event k) (outcome k) in
+    subst (λ (w : Held). IsHeldOf i.settings.pool (after i.settings.id (replayed i) x) w) (sym is)
+    (record {
+      on_disk = ap (λ (s : State). is_on_disk s.head.place) out;
+      head = head ∙ ap (λ (s : State). (paged_out s Out.Done).head) (state ∙ sym (ap state_after e)) ∙ sym (ap (λ (s : State). s.head) out);
+    })
+
+-- what is held after it came from disk with its body
+pub came : (i : Inside) (v : EndpointView) (x : Entry) (node : NodeId) (end : EndpointId) (h : Head) (b : View) → view_of i ≡ v → x.event ≡ Events.PageIn node end → x.outcome ≡ Out.Done → h ≡ (state_after v).head → b ≡ record { pool = v.settings.pool; body = (state_after v).body } → IsHere i.settings.pool (after i.settings.id (replayed i) x) (record { head = record h { place = Host }; body = b })
+came i v x node end h b e event outcome head body =
+    let back : after i.settings.id (replayed i) x ≡ paged_in (replayed i) Out.Done = λ k. changed i.settings.id (replayed i) (event k) (outcome k) in
+    let heads : h ≡ (replayed i).head = head ∙ sym (ap (λ (w : EndpointView). (state_after w).head) e) in
+    let bodies : b ≡ record { pool = i.settings.pool; body = (replayed i).body } =
+    body ∙ sym (ap (λ (w : EndpointView). record { pool = w.settings.pool; body = (state_after w).body }) e) in
+    record {
+      in_memory = ap (λ (s : State). is_on_disk s.head.place) back;
+      state = (λ k. record { head = record (heads k) { place = Host }; body = (bodies k).body }) ∙ sym back;
+      pooled = ap (λ (w : View). w.pool) bodies;
+    }

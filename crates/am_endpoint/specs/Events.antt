@@ -1,9 +1,24 @@
--- Which entries are calls.
+-- Which entries change an endpoint that is in memory, and leave it there.
 use Rattle.std.specs.Prelude.{Bool, true, false}
+use Rattle.am_names.specs.declared.Cause.TheVariants.{NotResident}
 use Rattle.am_office.specs.declared.Event.{Event}
 use Rattle.am_office.specs.declared.Event.TheVariants as Events
+use Rattle.am_office.specs.declared.Outcome.{Outcome}
+use Rattle.am_office.specs.declared.Outcome.TheVariants as Out
+use Rattle.am_office.specs.declared.Received.TheVariants as Got
 
--- whether the event is a call of an application
-abbrev pub is_call : Event → Bool
-is_call (Events.Call actor end call) = true
-is_call event = false
+-- whether the event is no call, and changes only endpoints that are in memory and stay there
+abbrev pub keeps_in_memory : Event → Bool
+keeps_in_memory (Events.Carry from) = true
+keeps_in_memory (Events.Bind node end) = true
+keeps_in_memory (Events.Expire node peer channel) = true
+keeps_in_memory (Events.Receive node peer number) = true
+keeps_in_memory (Events.Drain node end) = true
+keeps_in_memory (Events.Unload node end) = true
+keeps_in_memory (Events.Load node end frame) = true
+keeps_in_memory event = false
+
+-- whether a message was refused because its destination is not resident
+abbrev pub is_kept_out : Outcome → Bool
+is_kept_out (Out.Received channel seq attempt (Got.Refused m NotResident answer)) = true
+is_kept_out outcome = false

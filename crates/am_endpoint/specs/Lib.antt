@@ -1,6 +1,7 @@
 pub mod Settings
 pub mod View
 pub mod Seen
+pub mod Held
 pub mod Events
 pub mod Done
 pub mod Flights

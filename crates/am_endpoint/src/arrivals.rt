@@ -1,10 +1,11 @@
 // The verdict of an endpoint on a message that arrives.
 ghost use Rattle.am_endpoint.specs.Seen.{state_in};
 ghost use Rattle.am_model.specs.Endpoint.{is_resident, is_waited_for, verdict};
-ghost use Rattle.std.specs.Prelude.{◌≡◌};
+ghost use Rattle.std.specs.Prelude.{◌≡◌, cond};
 
 use crate::fields::Fields;
 use am_body::is_request;
+use am_model::Head;
 use am_names::{Cause, Message, Serial, Verdict};
 use am_office::Place;
 
@@ -14,6 +15,17 @@ fn is_resident(place: Place) -> bool
     match place {
         Place::Frame(_) | Place::Direct => true,
         Place::Host | Place::Disk => false,
+    }
+}
+
+/// The verdict of an endpoint on disk.
+pub fn verdict_on_disk(head: Head) -> Verdict
+    ensures { result ≡ cond head.closed (Verdict.Refused Cause.NoEndpoint) (Verdict.Refused Cause.NotResident) }
+{
+    if head.closed {
+        Verdict::Refused(Cause::NoEndpoint)
+    } else {
+        Verdict::Refused(Cause::NotResident)
     }
 }
 

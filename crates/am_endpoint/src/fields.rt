@@ -1,16 +1,15 @@
-// Where an endpoint lies, and its body.
+// Where an endpoint in memory lies, and its body.
 ghost use Rattle.am_endpoint.specs.Seen.{state_in};
-ghost use Rattle.am_model.specs.Changes.{wanted_on_host};
-ghost use Rattle.am_model.specs.Endpoint.{fresh, front, is_on_disk};
-ghost use Rattle.std.specs.Prelude.{◌≡◌, IfOk};
+ghost use Rattle.am_model.specs.Changes.{paged_out, wanted_on_host};
+ghost use Rattle.am_model.specs.Endpoint.{front};
+ghost use Rattle.am_office.specs.declared.Outcome.TheVariants as Out;
+ghost use Rattle.std.specs.Prelude.{◌≡◌};
 
-use am_body::{Body, EndSettings};
+use am_body::Body;
 use am_model::{Head, Queued};
-use am_names::NoMemory;
 use am_office::Place;
-use std::alloc::Global;
 
-/// The state of an endpoint.
+/// The state of an endpoint in memory.
 #[derive(Drop)]
 pub struct Fields {
     pub head: Head,
@@ -18,39 +17,22 @@ pub struct Fields {
 }
 
 impl Fields {
-    /// The fields of a fresh endpoint.
-    pub fn opening(alloc: Global, set: &EndSettings) -> Result<Fields, NoMemory>
-        ensures state { IfOk result (λ c. state_in c ≡ fresh set.now.tag set.now.place) }
-        ensures pool { IfOk result (λ c. c.body.pool ≡ set.now.pool) }
-    {
-        match Body::opening(alloc, set) {
-            Ok(body) => Ok(Fields {
-                head: Head {
-                    place: set.place,
-                    wanted: false,
-                    draining: false,
-                    closed: false,
-                },
-                body,
-            }),
-            Err(fault) => Err(fault),
-        }
-    }
-
-    pub fn is_on_disk(&self) -> bool
-        ensures { result ≡ is_on_disk self.now.head.place }
-    {
-        match self.head.place {
-            Place::Disk => true,
-            Place::Host | Place::Frame(_) | Place::Direct => false,
-        }
-    }
-
     /// The front message, and how often it bounced.
     pub fn front(&self) -> Option<Queued>
         ensures { result ≡ front (state_in self.now) }
     {
         self.body.front()
+    }
+
+    /// What is known of it once it goes from here to disk.
+    pub fn head_away(&self) -> Head
+        ensures { result ≡ (paged_out (state_in self.now) Out.Done).head }
+    {
+        Head {
+            place: Place::Disk,
+            wanted: self.head.wanted || self.body.has_arrivals(),
+            ..self.head
+        }
     }
 
     /// Wanted from now on, where it lies on the host.

@@ -1,16 +1,18 @@
 //! Endpoints: what each entry makes of their state, and their log.
 #![tactic(auto)]
 
-ghost use Rattle.am_endpoint.specs.Events.{is_call};
+ghost use Rattle.am_endpoint.specs.Events.{is_kept_out, keeps_in_memory};
+ghost use Rattle.am_endpoint.specs.Held.{with_wanted};
+ghost use Rattle.am_endpoint.specs.Seen.{state_in};
 ghost use Rattle.am_endpoint.specs.Settings.{AreLawful};
 ghost use Rattle.am_endpoint.specs.View.{EndpointView, last_stamp, state_after};
 ghost use Rattle.am_model.specs.Allowed.{MayArrive, MayBind, MayCarry, MayDrain, MayLoad, MayPageIn, MayPageOut, MaySettle, MayUnload, are_numbers_in_range, is_well_formed};
 ghost use Rattle.am_model.specs.Calls.{outcome_of_call};
-ghost use Rattle.am_model.specs.Changes.{flying_of, has_arrivals};
+ghost use Rattle.am_model.specs.Changes.{after, flying_of, has_arrivals};
 ghost use Rattle.am_model.specs.Endpoint.{front, is_on_disk, verdict};
-ghost use Rattle.am_model.specs.Order.{KeepsOrder};
+ghost use Rattle.am_model.specs.Order.{IsInOrder, KeepsOrder};
 ghost use Rattle.am_names.specs.Names.{is_request};
-ghost use Rattle.std.specs.Prelude.{◌≡◌, ◌+◌, ◌<◌, ◌≤◌, ◌^◌, [], ◌∷◌, ◌++◌, length, count_by, IfOk, OnErr, OnOk, IfSome, Err, None, is_some, max, true, false, ◌↔◌};
+ghost use Rattle.std.specs.Prelude.{◌≡◌, ◌||◌, ◌+◌, ◌<◌, ◌≤◌, ◌^◌, [], ◌∷◌, ◌++◌, length, count_by, IfOk, OnErr, OnOk, IfSome, Err, None, is_some, max, true, false, ◌↔◌};
 
 mod arrivals;
 mod calls;
@@ -18,24 +20,28 @@ mod departures;
 mod entries;
 mod fields;
 mod flights;
+mod held;
 mod settings;
 
+use crate::arrivals::verdict_on_disk;
 use crate::fields::Fields;
+use crate::held::{Held, is_on_disk};
 pub use crate::settings::EndFault;
 pub use am_body::{Body, EndSettings};
-use am_model::{Flying, Queued};
+use am_model::{Flying, Head, Queued};
 pub use am_names::NoMemory;
-use am_names::{EndpointId, Message, NodeId, Serial, Verdict};
-use am_office::{Actor, Call, Entry, Event, Outcome, Place};
+use am_names::{Cause, EndpointId, Message, NodeId, Serial, Verdict};
+use am_office::{Actor, Call, Entry, Event, Outcome, Place, Received};
 use std::alloc::Global;
 use std::marker::Model;
+use std::mem::replace;
 
 /// An endpoint with its log. Contracts see what it began with, its log, and whether it is ready
-/// for one more entry; its state is the replay of the log.
+/// for one more entry; its state is the replay of the log. On disk it keeps no body.
 #[derive(Drop)]
 pub struct Endpoint {
     settings: EndSettings,
-    fields: Fields,
+    held: Held,
     log: Vec<Entry>,
 }
 
@@ -52,16 +58,16 @@ impl Model for Endpoint {
 }
 
 impl Endpoint {
-    /// A fresh endpoint with an empty log.
+    /// A fresh endpoint with an empty log. On disk it has no body.
     pub fn new(alloc: Global, set: EndSettings) -> Result<Endpoint, NoMemory>
         requires { AreLawful set }
         ensures settings { IfOk result (λ end. end.settings ≡ set) }
         ensures log { IfOk result (λ end. end.log ≡ []) }
     {
-        match Fields::opening(alloc, &set) {
-            Ok(fields) => Ok(Endpoint {
+        match Held::opening(alloc, &set) {
+            Ok(held) => Ok(Endpoint {
                 settings: set,
-                fields,
+                held,
                 log: Vec::new(alloc),
             }),
             Err(fault) => Err(fault),
@@ -119,28 +125,56 @@ impl Endpoint {
     pub fn place(&self) -> Place
         ensures { result ≡ (state_after self.now).head.place }
     {
-        self.fields.head.place
+        self.head().place
     }
 
     /// Whether it is wanted.
     pub fn wanted(&self) -> bool
         ensures { result ≡ (state_after self.now).head.wanted }
     {
-        self.fields.head.wanted
+        self.head().wanted
     }
 
     /// Whether it is draining.
     pub fn draining(&self) -> bool
         ensures { result ≡ (state_after self.now).head.draining }
     {
-        self.fields.head.draining
+        self.head().draining
     }
 
     /// Whether it is closed.
     pub fn closed(&self) -> bool
         ensures { result ≡ (state_after self.now).head.closed }
     {
-        self.fields.head.closed
+        self.head().closed
+    }
+}
+
+impl Endpoint {
+    /// What is known of it wherever it lies.
+    fn head(&self) -> Head
+        ensures { result ≡ (state_after self.now).head }
+    {
+        self.held.head()
+    }
+
+    fn is_on_disk(&self) -> bool
+        ensures { result ≡ is_on_disk (state_after self.now).head.place }
+    {
+        is_on_disk(self.place())
+    }
+
+    /// Its state, where it lies in memory.
+    fn fields(&self) -> &Fields
+        requires { is_on_disk (state_after self.now).head.place ≡ false }
+        ensures state { state_in result.now ≡ state_after self.now }
+        ensures pool { result.now.body.pool ≡ self.now.settings.pool }
+        ensures order { IsInOrder self.now.settings.pool self.now.settings.id (state_after self.now) }
+    {
+        match &self.held {
+            Held::Here(fields) => fields,
+            Held::OnDisk(_) => unreachable!(),
+        }
     }
 }
 
@@ -150,10 +184,10 @@ impl Endpoint {
         ensures none { (result ≡ None) ↔ (is_on_disk (state_after self.now).head.place ≡ true) }
         ensures body { IfSome result (λ body. body.now ≡ record { pool = self.now.settings.pool; body = (state_after self.now).body }) }
     {
-        if self.fields.is_on_disk() {
+        if self.is_on_disk() {
             None
         } else {
-            Some(&self.fields.body)
+            Some(&self.fields().body)
         }
     }
 
@@ -163,14 +197,17 @@ impl Endpoint {
         ensures value { result ≡ front (state_after self.now) }
         ensures formed { IfSome result (λ queued. is_well_formed queued.message ≡ true) }
     {
-        self.fields.front()
+        self.fields().front()
     }
 
     /// The verdict on a message that arrives.
     pub fn verdict(&self, message: &Message) -> Verdict
         ensures { result ≡ verdict (state_after self.now) message.now }
     {
-        self.fields.verdict(message)
+        match &self.held {
+            Held::Here(fields) => fields.verdict(message),
+            Held::OnDisk(head) => verdict_on_disk(*head),
+        }
     }
 
     /// Whether a notice or a received message is there.
@@ -178,7 +215,7 @@ impl Endpoint {
         requires { is_on_disk (state_after self.now).head.place ≡ false }
         ensures { result ≡ has_arrivals (state_after self.now).body }
     {
-        self.fields.body.has_arrivals()
+        self.fields().body.has_arrivals()
     }
 
     /// How many requests are received and not polled.
@@ -186,7 +223,7 @@ impl Endpoint {
         requires { is_on_disk (state_after self.now).head.place ≡ false }
         ensures { result ≡ count_by is_request (state_after self.now).body.received }
     {
-        self.fields.body.received_requests()
+        self.fields().body.received_requests()
     }
 
     /// Whether a message with this serial is in flight.
@@ -201,14 +238,20 @@ impl Endpoint {
     pub fn flight(&self, serial: Serial) -> Option<Flying>
         ensures { result ≡ flying_of serial (state_after self.now).body.in_flight }
     {
-        self.fields.body.flight(serial)
+        match &self.held {
+            Held::Here(fields) => fields.body.flight(serial),
+            Held::OnDisk(_) => None,
+        }
     }
 
-    /// How many messages are in flight.
+    /// How many messages are in flight: none where it is on disk.
     pub fn in_flight_len(&self) -> u8
         ensures { result ≡ length (state_after self.now).body.in_flight }
     {
-        self.fields.body.in_flight_len()
+        match &self.held {
+            Held::Here(fields) => fields.body.in_flight_len(),
+            Held::OnDisk(_) => 0,
+        }
     }
 }
 
@@ -231,16 +274,34 @@ impl Endpoint {
         }
     }
 
-    /// Does what the entry makes of the endpoint, and logs it.
+    /// Does what the entry makes of the endpoint, which is in memory and stays there, and logs it.
     fn enter(&mut self, entry: Entry)
         requires ready { self.old.ready ≡ true }
         requires room { length self.old.log < self.old.settings.log }
-        requires event { is_call entry.event ≡ false }
+        requires here { is_on_disk (state_after self.old).head.place ≡ false }
+        requires event { keeps_in_memory entry.event ≡ true }
         requires keeps { KeepsOrder self.old.settings.bounces self.old.settings.pool self.old.settings.id (state_after self.old) entry }
         ensures settings { self.new.settings ≡ self.old.settings }
         ensures log { self.new.log ≡ self.old.log ++ entry ∷ [] }
     {
-        self.fields.apply(self.settings.id, entry);
+        let end = self.settings.id;
+        let Held::Here(fields) = &mut self.held else {
+            unreachable!()
+        };
+        fields.apply(end, entry);
+        self.log.push(entry).unwrap();
+    }
+
+    /// Logs an entry that changes at most whether the endpoint is wanted.
+    fn note(&mut self, entry: Entry, wanted: bool)
+        requires ready { self.old.ready ≡ true }
+        requires room { length self.old.log < self.old.settings.log }
+        requires keeps { KeepsOrder self.old.settings.bounces self.old.settings.pool self.old.settings.id (state_after self.old) entry }
+        requires change { after self.old.settings.id (state_after self.old) entry ≡ with_wanted (state_after self.old) wanted }
+        ensures settings { self.new.settings ≡ self.old.settings }
+        ensures log { self.new.log ≡ self.old.log ++ entry ∷ [] }
+    {
+        self.held.set_wanted(wanted);
         self.log.push(entry).unwrap();
     }
 }
@@ -257,6 +318,7 @@ impl Endpoint {
 
     /// Makes a call, and logs it.
     fn make(&mut self, stamp: u64, actor: Actor, call: Call) -> Entry
+        requires place { is_on_disk (state_after self.old).head.place ≡ false }
         requires ready { self.old.ready ≡ true }
         requires room { length self.old.log < self.old.settings.log }
         requires numbers { are_numbers_in_range self.old.settings.pool call ≡ true }
@@ -267,7 +329,10 @@ impl Endpoint {
         ensures settings { self.new.settings ≡ self.old.settings }
     {
         let end = self.settings.id;
-        let outcome = self.fields.call(end, call);
+        let Held::Here(fields) = &mut self.held else {
+            unreachable!()
+        };
+        let outcome = fields.call(end, call);
         let made = Entry {
             stamp,
             event: Event::Call { actor, end, call },
@@ -295,6 +360,13 @@ impl Endpoint {
         Ok(self.make(self.next_stamp(floor), actor, call))
     }
 
+    /// Whether it is wanted on disk after a message came with this outcome.
+    fn wanted_after(&self, outcome: Outcome) -> bool
+        ensures { result ≡ (is_kept_out outcome || (state_after self.now).head.wanted) }
+    {
+        is_kept_out(outcome) || self.wanted()
+    }
+
     /// What a message that arrives from elsewhere makes of it, by a carry or a receipt that gives
     /// it a verdict.
     pub fn put(&mut self, entry: Entry)
@@ -304,7 +376,12 @@ impl Endpoint {
         ensures settings { self.new.settings ≡ self.old.settings }
         ensures log { self.new.log ≡ self.old.log ++ entry ∷ [] }
     {
-        self.enter(entry);
+        if self.is_on_disk() {
+            let wanted = self.wanted_after(entry.outcome);
+            self.note(entry, wanted);
+        } else {
+            self.enter(entry);
+        }
     }
 
     /// What a carry of its front message makes of it: the source's change, and where it is the
@@ -343,7 +420,7 @@ impl Endpoint {
             },
             outcome: Outcome::Silent,
         };
-        self.enter(entry);
+        self.note(entry, true);
         Ok(entry)
     }
 
@@ -367,6 +444,7 @@ impl Endpoint {
         ensures settings { self.new.settings ≡ self.old.settings }
         ensures log { self.new.log ≡ self.old.log ++ entry ∷ [] }
     {
+        let _ = &self.settings;
         self.enter(entry);
     }
 
@@ -403,26 +481,62 @@ impl Endpoint {
         self.enter(entry);
     }
 
-    /// It goes from the host to disk, unless the entry's outcome is failed.
-    pub fn page_out(&mut self, entry: Entry)
+    /// It goes to disk, and its body is given away.
+    fn give_away(&mut self, entry: Entry) -> Body
         requires ready { self.old.ready ≡ true }
         requires room { length self.old.log < self.old.settings.log }
         requires allowed { MayPageOut self.old.settings.node self.old.settings.id (state_after self.old) entry }
+        requires done { entry.outcome ≡ Outcome.Done }
+        ensures body { result ≡ record { pool = self.old.settings.pool; body = (state_after self.old).body } }
         ensures settings { self.new.settings ≡ self.old.settings }
         ensures log { self.new.log ≡ self.old.log ++ entry ∷ [] }
     {
-        self.enter(entry);
+        let head = self.fields().head_away();
+        let Held::Here(fields) = replace(&mut self.held, Held::OnDisk(head)) else {
+            unreachable!()
+        };
+        self.log.push(entry).unwrap();
+        fields.body
     }
 
-    /// It comes from disk to the host.
-    pub fn page_in(&mut self, entry: Entry)
+    /// It goes from the host to disk where the entry's outcome is done, and its body is given away: it is the one that it
+    /// has, with all its messages, records and mappings. Where the outcome is failed it stays as it was, and None is given.
+    pub fn page_out(&mut self, entry: Entry) -> Option<Body>
+        requires ready { self.old.ready ≡ true }
+        requires room { length self.old.log < self.old.settings.log }
+        requires allowed { MayPageOut self.old.settings.node self.old.settings.id (state_after self.old) entry }
+        ensures body { IfSome result (λ body. body ≡ record { pool = self.old.settings.pool; body = (state_after self.old).body }) }
+        ensures none { (result ≡ None) ↔ (entry.outcome ≡ Outcome.Failed) }
+        ensures settings { self.new.settings ≡ self.old.settings }
+        ensures log { self.new.log ≡ self.old.log ++ entry ∷ [] }
+    {
+        match entry.outcome {
+            Outcome::Done => Some(self.give_away(entry)),
+            Outcome::Failed => {
+                let wanted = self.wanted();
+                self.note(entry, wanted);
+                None
+            }
+            _ => unreachable!(),
+        }
+    }
+
+    /// It comes from disk to the host, with this body. The body is the one that the log's replay gives: what `page_out` gave
+    /// away, or on a fresh endpoint `Body::opening`.
+    pub fn page_in(&mut self, entry: Entry, body: Body)
         requires ready { self.old.ready ≡ true }
         requires room { length self.old.log < self.old.settings.log }
         requires allowed { MayPageIn Outcome.Done self.old.settings.node self.old.settings.id (state_after self.old) entry }
+        requires body { body ≡ record { pool = self.old.settings.pool; body = (state_after self.old).body } }
         ensures settings { self.new.settings ≡ self.old.settings }
         ensures log { self.new.log ≡ self.old.log ++ entry ∷ [] }
     {
-        self.enter(entry);
+        let head = Head {
+            place: Place::Host,
+            ..self.head()
+        };
+        self.held = Held::Here(Fields { head, body });
+        self.log.push(entry).unwrap();
     }
 
     /// Logs that it was not paged in.
@@ -433,7 +547,24 @@ impl Endpoint {
         ensures settings { self.new.settings ≡ self.old.settings }
         ensures log { self.new.log ≡ self.old.log ++ entry ∷ [] }
     {
-        self.enter(entry);
+        let wanted = self.wanted();
+        self.note(entry, wanted);
+    }
+}
+
+/// Whether a message was refused because its destination is not resident.
+fn is_kept_out(outcome: Outcome) -> bool
+    ensures { result ≡ is_kept_out outcome }
+{
+    match outcome {
+        Outcome::Received {
+            result: Received::Refused {
+                cause: Cause::NotResident,
+                ..
+            },
+            ..
+        } => true,
+        _ => false,
     }
 }
 

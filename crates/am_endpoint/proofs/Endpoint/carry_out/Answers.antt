@@ -1,12 +1,16 @@
 use Rattle.std.proofs.Common.{ap}
 use Rattle.am_model.proofs.Order.{order_carried}
-use Rattle.am_endpoint.specs.Events.{is_call}
+use Rattle.am_endpoint.specs.Events.{keeps_in_memory}
 use Rattle.am_endpoint.specs.View.{state_after}
+use Rattle.am_endpoint.proofs.Holding.{direct_here}
 use Rattle.am_endpoint.proofs.Endpoint.carry_out.Goals as goal
+
+pub enter-requires-clause-here : goal.enter-requires-clause-here
+enter-requires-clause-here c = direct_here (state_after c.args.self.now).head.place c.requires.allowed.direct
 
 pub enter-requires-clause-keeps : goal.enter-requires-clause-keeps
 enter-requires-clause-keeps c =
     order_carried c.args.self.now.settings.bounces c.args.self.now.settings.pool c.args.self.now.settings.id (state_after c.args.self.now) c.args.entry c.requires.allowed
 
 pub enter-requires-clause-event : goal.enter-requires-clause-event
-enter-requires-clause-event c = ap is_call c.requires.allowed.event
+enter-requires-clause-event c = ap keeps_in_memory c.requires.allowed.event

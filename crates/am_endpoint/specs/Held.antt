@@ -1,0 +1,36 @@
+-- What an endpoint keeps of its state: all of it in memory, and on disk all but the body.
+use Rattle.std.specs.Prelude.{◌≡◌, ℕ, Bool, true, false, Option}
+use Rattle.am_model.specs.declared.Head.{Head}
+use Rattle.am_model.specs.Endpoint.{State, is_on_disk}
+use Rattle.am_endpoint.specs.Seen.{state_in}
+use Rattle.am_endpoint.specs.declared.fields.Fields.{Fields}
+use Rattle.am_endpoint.specs.declared.held.Held.{Held}
+use Rattle.am_endpoint.specs.declared.held.Held.TheVariants.{Here, OnDisk}
+
+-- in memory these are the fields of a state
+pub record IsHere (pool : Option ℕ) (s : State) (f : Fields) : Type 0 where
+  pub in_memory : is_on_disk s.head.place ≡ false
+  pub state : state_in f ≡ s
+  pub pooled : f.body.pool ≡ pool
+
+-- on disk this is the head of a state
+pub record IsAway (s : State) (h : Head) : Type 0 where
+  pub on_disk : is_on_disk s.head.place ≡ true
+  pub head : h ≡ s.head
+
+-- this is kept of a state
+abbrev pub IsHeldOf : Option ℕ → State → Held → Type 0
+IsHeldOf pool s (Here fields) = IsHere pool s fields
+IsHeldOf pool s (OnDisk head) = IsAway s head
+
+abbrev pub head_of : Held → Head
+head_of (Here fields) = fields.head
+head_of (OnDisk head) = head
+
+-- a state that is wanted, or is not
+abbrev pub with_wanted : State → Bool → State
+with_wanted s wanted = record s { head = record s.head { wanted = wanted } }
+
+abbrev pub held_wanted : Held → Bool → Held
+held_wanted (Here fields) wanted = Here (record fields { head = record fields.head { wanted = wanted } })
+held_wanted (OnDisk head) wanted = OnDisk (record head { wanted = wanted })

@@ -1,0 +1,68 @@
+// What an endpoint keeps of its state, in memory and on disk.
+ghost use Rattle.am_endpoint.specs.Held.{IsHeldOf, head_of, held_wanted};
+ghost use Rattle.am_model.specs.Endpoint.{fresh, is_on_disk};
+ghost use Rattle.std.specs.Prelude.{◌≡◌, IfOk};
+
+use crate::fields::Fields;
+use am_body::{Body, EndSettings};
+use am_model::Head;
+use am_names::NoMemory;
+use am_office::Place;
+use std::alloc::Global;
+
+/// What is kept of a state: all of it in memory, and on disk its head alone.
+#[derive(Drop)]
+pub enum Held {
+    Here(Fields),
+    OnDisk(Head),
+}
+
+/// Whether a place is on disk.
+pub fn is_on_disk(place: Place) -> bool
+    ensures { result ≡ is_on_disk place }
+{
+    match place {
+        Place::Disk => true,
+        Place::Host | Place::Frame(_) | Place::Direct => false,
+    }
+}
+
+impl Held {
+    /// What is kept of a fresh endpoint. On disk nothing takes memory.
+    pub fn opening(alloc: Global, set: &EndSettings) -> Result<Held, NoMemory>
+        ensures { IfOk result (λ held. IsHeldOf set.now.pool (fresh set.now.tag set.now.place) held) }
+    {
+        let head = Head {
+            place: set.place,
+            wanted: false,
+            draining: false,
+            closed: false,
+        };
+        if is_on_disk(set.place) {
+            return Ok(Held::OnDisk(head));
+        }
+        match Body::opening(alloc, set) {
+            Ok(body) => Ok(Held::Here(Fields { head, body })),
+            Err(fault) => Err(fault),
+        }
+    }
+
+    pub fn head(&self) -> Head
+        ensures { result ≡ head_of self.now }
+    {
+        match self {
+            Held::Here(fields) => fields.head,
+            Held::OnDisk(head) => *head,
+        }
+    }
+
+    /// Wanted from now on, or not.
+    pub fn set_wanted(&mut self, wanted: bool)
+        ensures { self.new ≡ held_wanted self.old wanted }
+    {
+        match self {
+            Held::Here(fields) => fields.head.wanted = wanted,
+            Held::OnDisk(head) => head.wanted = wanted,
+        }
+    }
+}
