@@ -183,6 +183,7 @@ impl Endpoint {
     pub fn body(&self) -> Option<&Body>
         ensures none { (result ≡ None) ↔ (is_on_disk (state_after self.now).head.place ≡ true) }
         ensures body { IfSome result (λ body. body.now ≡ record { pool = self.now.settings.pool; body = (state_after self.now).body }) }
+        ensures order { IfSome result (λ body. IsInOrder self.now.settings.pool self.now.settings.id (state_after self.now)) }
     {
         if self.is_on_disk() {
             None

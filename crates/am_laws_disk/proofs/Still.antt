@@ -35,6 +35,7 @@ use Rattle.am_model.proofs.Received.{one_touched}
 use Rattle.am_local.proofs.Frames.{changed_place, none_holds, not_not, place_by, place_given}
 use Rattle.am_laws_messages.proofs.Delivered.{delivers, put_facts}
 use Rattle.am_laws_cluster.proofs.Bound.{in_flight_bound}
+use Rattle.am_laws_cluster.proofs.Flights.{third_none}
 use Rattle.am_laws_disk.specs.Disk.{IsStill, StaysOnDisk, pages_out}
 
 -- ---- places
@@ -145,9 +146,8 @@ put_off_disk layout past x e m history may puts t =
 -- what is bound lies in memory
 bind_resident : (layout : Layout) (past : List Entry) (node : NodeId) (end : EndpointId) → failing layout past (Events.Bind node end) ≡ None → is_resident (state_of layout past end).head.place ≡ true
 bind_resident layout past node end on =
-    let c = none_holds layout.direct Needs.NotPacket _ on in
-    let d = none_holds (not (is_home layout end node)) Needs.OtherNode _ c.1 in
-    not_not (is_resident (state_of layout past end).head.place) (none_holds (not (is_resident (state_of layout past end).head.place)) Needs.NotResident _ d.1).0
+    let c = third_none layout.direct (not (is_home layout end node)) (not (is_resident (state_of layout past end).head.place)) Needs.NotPacket Needs.OtherNode Needs.NotResident _ on in
+    not_not (is_resident (state_of layout past end).head.place) c.1
 
 -- where the endpoint isn't on disk nothing is said
 off : {X : Type 0} (b : Bool) → b ≡ false → b ≡ true → X

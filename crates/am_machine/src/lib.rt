@@ -16,8 +16,10 @@ mod frames;
 mod interfaces;
 mod moves;
 mod opening;
+mod pages;
 mod parts;
 mod settings;
+mod swaps;
 mod turned;
 mod turns;
 mod ways;
@@ -26,6 +28,7 @@ use crate::interfaces::open_interfaces;
 use crate::opening::open_ends;
 pub use crate::settings::ApplyFault;
 use crate::settings::Settings;
+use crate::swaps::open_swaps;
 use am_endpoint::Endpoint;
 use am_iface::Interface;
 use am_journal::IndexedJournal;
@@ -33,18 +36,22 @@ use am_laws::post_office;
 pub use am_office::NoMemory;
 use am_office::{Entry, Event, Journal};
 use am_scenario_types::{FaultLine, Scenario};
+use am_swap::MemorySwap;
 use std::alloc::Global;
 use std::marker::Model;
 
 /// A cluster. Contracts see it as the layout in which it began and its journal, which is a history of that layout.
 #[derive(Drop)]
 pub struct Cluster {
+    alloc: Global,
     settings: Settings,
     faults: Vec<FaultLine>,
     ends: Vec<Endpoint>,
     journal: IndexedJournal,
     /// One for each node of the packet network, by its number; none in the direct network.
     interfaces: Vec<Interface>,
+    /// The disk of each node of the packet network, by its number; none in the direct network.
+    swaps: Vec<MemorySwap>,
 }
 
 impl Model for Cluster {
@@ -82,12 +89,15 @@ impl Cluster {
         };
         let journal = IndexedJournal::new(alloc)?;
         let interfaces = open_interfaces(alloc, &settings, &scenario.ends)?;
+        let swaps = open_swaps(alloc, &settings, &scenario.faults, &scenario.ends)?;
         Ok(Cluster {
+            alloc,
             settings,
             faults,
             ends,
             journal,
             interfaces,
+            swaps,
         })
     }
 
@@ -110,9 +120,10 @@ impl Cluster {
             Event::Receive { node, peer, number } => self.receive(node, peer, number),
             Event::Drain { node, end }
             | Event::Unload { node, end }
-            | Event::Load { node, end, .. }
-            | Event::PageOut { node, end }
-            | Event::PageIn { node, end } => self.make_move(*event, node, end),
+            | Event::Load { node, end, .. } => self.make_move(*event, node, end),
+            Event::PageOut { node, end } | Event::PageIn { node, end } => {
+                self.make_page(*event, node, end)
+            }
         }
     }
 

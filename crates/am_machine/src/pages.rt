@@ -4,13 +4,14 @@ ghost use Rattle.am_endpoint.specs.View.{state_after};
 ghost use Rattle.am_image.specs.Image.{image};
 ghost use Rattle.am_image.specs.Valid.{IsValid};
 ghost use Rattle.am_machine.specs.Ends.{kept};
-ghost use Rattle.am_machine.specs.Pages.{CanPage, IsCalled, Pages};
+ghost use Rattle.am_machine.specs.Pages.{CanPage, CanPageIn, CanPageOut, IsCalled, Pages};
 ghost use Rattle.am_machine.specs.Swaps.{HoldsBody};
 ghost use Rattle.am_model.specs.Endpoint.{is_on_host};
+ghost use Rattle.am_office.specs.declared.Event.TheVariants as Events;
 ghost use Rattle.std.specs.Prelude.{◌≡◌, ◌<◌, IfOk, IsSome, length, true};
 
 use am_endpoint::{Body, Endpoint};
-use am_names::EndpointId;
+use am_names::{EndpointId, NodeId};
 use am_office::{Entry, Event, NoMemory, Outcome};
 use am_swap::{MemorySwap, Swap, SwapFault, decode, encode};
 use std::alloc::Global;
@@ -61,5 +62,81 @@ fn body_of(alloc: Global, swap: &MemorySwap, end: &Endpoint) -> Result<Body, NoM
     match decode(alloc, end.id(), end.pool(), image)? {
         Some(body) => Ok(body),
         None => unreachable!(),
+    }
+}
+
+/// Pages an endpoint of the host out: its image is written, and unless that fails it goes to disk.
+fn page_out(
+    alloc: Global,
+    swap: &mut MemorySwap,
+    endpoint: &mut Endpoint,
+    node: NodeId,
+    end: EndpointId,
+    stamp: u64,
+) -> Result<Entry, NoMemory>
+    requires can { CanPageOut node end (kept endpoint.old) }
+    requires room { length endpoint.old.log < endpoint.old.settings.log }
+    ensures { Pages swap.old swap.new (kept endpoint.old) (kept endpoint.new) (Events.PageOut node end) stamp result }
+{
+    let image = image_of(alloc, endpoint)?;
+    if endpoint.room().is_err() {
+        return Err(NoMemory);
+    }
+    let entry = Entry {
+        stamp,
+        event: Event::PageOut { node, end },
+        outcome: write(swap, endpoint.id(), image.as_slice())?,
+    };
+    endpoint.page_out(entry);
+    Ok(entry)
+}
+
+/// Pages an endpoint in: its image is read, and unless that fails it comes to the host.
+fn page_in(
+    alloc: Global,
+    swap: &mut MemorySwap,
+    endpoint: &mut Endpoint,
+    node: NodeId,
+    end: EndpointId,
+    stamp: u64,
+) -> Result<Entry, NoMemory>
+    requires can { CanPageIn swap.old node end (kept endpoint.old) }
+    requires room { length endpoint.old.log < endpoint.old.settings.log }
+    ensures { Pages swap.old swap.new (kept endpoint.old) (kept endpoint.new) (Events.PageIn node end) stamp result }
+{
+    let body = body_of(alloc, swap, endpoint)?;
+    if endpoint.room().is_err() {
+        return Err(NoMemory);
+    }
+    let entry = Entry {
+        stamp,
+        event: Event::PageIn { node, end },
+        outcome: read(alloc, swap, endpoint.id())?,
+    };
+    match entry.outcome {
+        Outcome::Done => endpoint.page_in(entry, body),
+        Outcome::Failed => endpoint.page_failed(entry),
+        _ => unreachable!(),
+    }
+    Ok(entry)
+}
+
+/// Makes a page call: Ok is its entry, which is failed exactly where the disk's call failed. Want of memory leaves the
+/// disk and the endpoint as they were.
+pub(crate) fn page(
+    alloc: Global,
+    swap: &mut MemorySwap,
+    endpoint: &mut Endpoint,
+    event: Event,
+    stamp: u64,
+) -> Result<Entry, NoMemory>
+    requires can { CanPage swap.old (kept endpoint.old) event }
+    requires room { length endpoint.old.log < endpoint.old.settings.log }
+    ensures { Pages swap.old swap.new (kept endpoint.old) (kept endpoint.new) event stamp result }
+{
+    match event {
+        Event::PageOut { node, end } => page_out(alloc, swap, endpoint, node, end, stamp),
+        Event::PageIn { node, end } => page_in(alloc, swap, endpoint, node, end, stamp),
+        _ => unreachable!(),
     }
 }

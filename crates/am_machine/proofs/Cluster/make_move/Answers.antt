@@ -74,7 +74,7 @@ invariant_of-self-then-is_err-2 c =
       value = c.index_mut-one.ensures.value;
     } in
     let same = kept_same vs c.in-Some-place_of.place c.index_mut-one.result.now c.room-2.new.self (moving.move_here move).at (λ i. record { settings = c.room-2.ensures.settings i; log = c.room-2.ensures.log i }) in
-    applied.kept_still c.self.inside.settings c.self.inside.faults.items (map kept vs) _ journal c.room.new.self.entries c.self.inside.interfaces.items same c.room.ensures.entries c.self.invariant
+    applied.kept_still c.self.inside.settings c.self.inside.faults.items (map kept vs) _ journal c.room.new.self.entries c.self.inside.interfaces.items c.self.inside.swaps.items same c.room.ensures.entries c.self.invariant
 
 pub returns-then-is_err-2 : goal.returns-then-is_err-2
 returns-then-is_err-2 c =
@@ -168,7 +168,7 @@ invariant_of-self-2 c =
     (c.move_end.ensures.settings ∙ c.room-2.ensures.settings)
     (c.move_end.ensures.log ∙ ap (λ (xs : List Entry). xs ++ x ∷ []) c.room-2.ensures.log)
     (c.log.ensures ∙ ap (λ (xs : List Entry). xs ++ x ∷ []) c.room.ensures.entries) in
-    applied.kept_next c.self.inside.settings c.self.inside.faults.items (map kept vs) journal c.args.event x _ c.log.new.self.entries c.self.inside.interfaces.items next (moving.moved_alone c.args.event c.args.end c.requires.end) c.self.invariant.interfaces'
+    applied.kept_unpaged c.self.inside.settings c.self.inside.faults.items (map kept vs) journal c.args.event x _ c.log.new.self.entries c.self.inside.interfaces.items c.self.inside.swaps.items next (moving.moved_alone c.args.event c.args.end c.requires.end) c.requires.unpaged c.self.invariant
 
 pub returns : goal.returns
 returns c =
