@@ -14,3 +14,6 @@ pub mod Fitting
 pub mod Beside
 pub mod Looks
 pub mod Swaps
+pub mod Presets
+pub mod Paging
+pub mod Pages

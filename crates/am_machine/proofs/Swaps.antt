@@ -2,6 +2,7 @@
 use Rattle.std.specs.Prelude.{min, slice_get, slice_set}
 use Rattle.std.specs.List.{list_any}
 use Rattle.std.proofs.Common.{◌≡◌, ⊎_elim, ℕ, zero, suc, ◌+◌, ◌-◌, ◌<◌, ◌≤◌, ◌^◌, Bool, true, false, cond, ◌||◌, ◌&&◌, List, [], ◌∷◌, ◌++◌, length, Option, Some, None, refl, sym, ap, ◌∙◌, subst, arith, true≢false, eqb-true, eq-eqb, if◌then◌else◌}
+use Rattle.std.proofs.Math.Nat.{min-eq_left}
 use Rattle.std.proofs.lemmas.Bool.{and_from}
 use Rattle.am_names.specs.declared.EndpointId.{EndpointId}
 use Rattle.am_names.specs.declared.NodeId.{NodeId}
@@ -94,8 +95,8 @@ call_fails s done same = by_test (fails_after s.fails s.calls)
     by_test true = refl
     by_test false = same
 
-one_more_is : (n : ℕ) → n + 1 < 2 ^ 64 → one_more n ≡ n + 1
-one_more_is n few = omega (arith, few)
+pub one_more_is : (n : ℕ) → n + 1 < 2 ^ 64 → one_more n ≡ n + 1
+one_more_is n few = let le : n + 1 ≤ 2 ^ 64 - 1 = omega (arith, few) in min-eq_left le
 
 call_calls : (s done : Store) → done.calls ≡ s.calls → (after_call s done).calls ≡ one_more s.calls
 call_calls s done same = by_test (fails_after s.fails s.calls)
@@ -168,7 +169,7 @@ still_of p = stays p.layout p.journal p.x p.packet p.lawful p.history p.may
 was_swap : (p : Paging) → IsSwap p.layout p.journal p.node p.s
 was_swap p = p.are.each p.node.0 p.s p.at
 
-host_not_disk : (p : Place) → is_on_host p ≡ true → is_on_disk p ≡ true → ⊥
+pub host_not_disk : (p : Place) → is_on_host p ≡ true → is_on_disk p ≡ true → ⊥
 host_not_disk (Frame frame) h k = true≢false (sym h)
 host_not_disk Direct h k = true≢false (sym h)
 host_not_disk Host h k = true≢false (sym k)

@@ -3,6 +3,7 @@
 
 ghost use Rattle.am_follow.specs.Layout.{layout_of};
 ghost use Rattle.am_machine.specs.View.{Applies};
+ghost use Rattle.am_model.specs.Cluster.{ClusterInvariant};
 ghost use Rattle.am_model.specs.History.{IsHistory, is_in_range};
 ghost use Rattle.am_model.specs.Layout as layouts;
 ghost use Rattle.am_model.specs.PostOffice.{PostOffice};
@@ -17,6 +18,7 @@ mod interfaces;
 mod moves;
 mod opening;
 mod pages;
+mod paging;
 mod parts;
 mod settings;
 mod swaps;
@@ -33,6 +35,7 @@ use am_endpoint::Endpoint;
 use am_iface::Interface;
 use am_journal::IndexedJournal;
 use am_laws::post_office;
+use am_laws_cluster::cluster_holds;
 pub use am_office::NoMemory;
 use am_office::{Entry, Event, Journal};
 use am_scenario_types::{FaultLine, Scenario};
@@ -127,15 +130,17 @@ impl Cluster {
         }
     }
 
-    /// The entries in order, which are a history of a lawful layout and obey the laws of the post office. `NoMemory` comes
-    /// where there is none for a copy of them.
+    /// The entries in order, which are a history of a lawful layout, obey the laws of the post office and keep the invariant
+    /// of the cluster. `NoMemory` comes where there is none for a copy of them.
     pub fn journal(&self, alloc: Global) -> Result<Journal, NoMemory>
         ensures journal { IfOk result (λ journal. journal ≡ self.now.journal) }
         ensures lawful { layouts.IsLawful self.now.layout }
         ensures history { IfOk result (λ journal. IsHistory self.now.layout journal) }
         ensures laws { IfOk result (λ journal. PostOffice self.now.layout journal) }
+        ensures invariant { IfOk result (λ journal. ClusterInvariant self.now.layout journal) }
     {
         post_office();
+        cluster_holds();
         match Vec::from_slice(alloc, self.journal.entries()) {
             Ok(entries) => Ok(Journal { entries }),
             Err(_) => Err(NoMemory),

@@ -8,7 +8,6 @@ ghost use Rattle.std.specs.Prelude.{◌≡◌, Some, false, true};
 use crate::Cluster;
 use crate::ends::{is_full, place_of};
 use crate::frames::{failing_on, is_taken, move_end};
-use crate::pages::page;
 use crate::settings::ApplyFault;
 use am_names::{EndpointId, NodeId};
 use am_office::{Condition, Entry, Event, Outcome, Part};
@@ -54,44 +53,13 @@ impl Cluster {
         Ok(entry)
     }
 
-    /// Makes a page call of a node: a page-out or a page-in.
-    pub(crate) fn make_page(
-        &mut self,
+    /// The first condition that keeps a move from being made.
+    pub(crate) fn failing_move(
+        &self,
         event: Event,
         node: NodeId,
         end: EndpointId,
-    ) -> Result<Entry, ApplyFault>
-        requires driver { driver_of event ≡ Some node }
-        requires end { end_moved event ≡ Some end }
-        requires paged { is_page event ≡ true }
-        requires in_range { is_in_range self.old.layout event ≡ true }
-        ensures { Applies self.old self.new event result }
-    {
-        if let Some(condition) = self.failing_move(event, node, end) {
-            return Err(ApplyFault::NotEnabled(condition));
-        }
-        let Some(place) = place_of(&self.ends, end) else {
-            unreachable!()
-        };
-        if is_full(&self.ends[place], self.settings.log) {
-            return Err(ApplyFault::LogFull(Part::Endpoint(end)));
-        }
-        if self.journal.room().is_err() {
-            return Err(ApplyFault::NoMemory);
-        }
-        let stamp = self.journal.len() + 1;
-        let swap = &mut self.swaps[node.0 as usize];
-        match page(self.alloc, swap, &mut self.ends[place], event, stamp) {
-            Ok(entry) => {
-                self.journal.log(entry, None);
-                Ok(entry)
-            }
-            Err(_) => Err(ApplyFault::NoMemory),
-        }
-    }
-
-    /// The first condition that keeps a move from being made.
-    fn failing_move(&self, event: Event, node: NodeId, end: EndpointId) -> Option<Condition>
+    ) -> Option<Condition>
         requires driver { driver_of event ≡ Some node }
         requires end { end_moved event ≡ Some end }
         requires in_range { is_in_range self.now.layout event ≡ true }

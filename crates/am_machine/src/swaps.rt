@@ -22,6 +22,7 @@ fn is_of_node(fault: &FaultLine, node: NodeId) -> bool
 }
 
 /// The numbers of a node's page calls that fail.
+#[tactic(auto, using(crate::proofs::Presets::fails_in, crate::proofs::Presets::fails_out))]
 fn fails_of(alloc: Global, faults: &[FaultLine], node: NodeId) -> Result<Vec<u32>, NoMemory>
     ensures { IfOk result (λ fails. fails.items ≡ fails_of node faults.now) }
 {
@@ -73,6 +74,7 @@ fn preset_if(
 }
 
 /// The disk of a node, with the opening images of the endpoints that are declared there.
+#[tactic(auto, using(crate::proofs::Presets::presets_push))]
 fn open_swap(
     alloc: Global,
     settings: &Settings,

@@ -1,0 +1,20 @@
+use Rattle.std.proofs.Common.{◌≡◌, true, sym, ap, ◌∙◌, subst}
+use Rattle.am_model.specs.Endpoint.{Body, is_on_disk}
+use Rattle.am_endpoint.specs.View.{state_after}
+use Rattle.am_body.specs.Views.{View}
+use Rattle.am_image.specs.Range.{IsInRange}
+use Rattle.am_machine.proofs.Pages.{body_valid, host_no_disk, none_flying}
+use Rattle.am_machine.proofs.pages.image_of.Goals as goal
+
+pub encode-requires : goal.encode-requires
+encode-requires c =
+    let v = c.args.end.now in
+    ap (λ (w : View). w.body.in_flight) c.in-Some.ensures.body ∙ none_flying v.settings.pool v.settings.id (state_after v) c.in-Some.ensures.order c.requires
+
+pub returns-in-Some-clause-valid : goal.returns-in-Some-clause-valid
+returns-in-Some-clause-valid c =
+    let v = c.args.end.now in
+    λ bytes. body_valid v.settings.pool v.settings.id (state_after v) c.in-Some.ensures.order c.requires (subst IsInRange (ap (λ (w : View). w.body) c.in-Some.ensures.body) c.encode.ensures.in_range)
+
+pub unreachable-requires : goal.unreachable-requires
+unreachable-requires c = host_no_disk (state_after c.args.end.now).head.place c.requires (c.body.ensures.none.0 c.in-None.is)
