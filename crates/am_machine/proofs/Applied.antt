@@ -42,7 +42,7 @@ use Rattle.am_machine.specs.View.{ClusterView}
 use Rattle.am_machine.proofs.Direct.{off_disk}
 use Rattle.am_machine.proofs.Events.{call_enabled}
 use Rattle.am_laws_steps.proofs.Steps.{may_step}
-use Rattle.am_machine.proofs.Swaps.{swaps_same}
+use Rattle.am_machine.proofs.Holding.{swaps_same}
 use Rattle.am_machine.proofs.Places.{found, index_got, place_is, place_same}
 use Rattle.am_machine.proofs.Tied.{kept_at, kept_set, layout_kept, one_grown, own_at, own_state, tied_push}
 

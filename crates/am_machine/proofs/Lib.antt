@@ -13,7 +13,7 @@ pub mod Joint
 pub mod Fitting
 pub mod Beside
 pub mod Looks
-pub mod Swaps
+pub mod Holding
 pub mod Presets
-pub mod Paging
-pub mod Pages
+pub mod PageCalls
+pub mod Paged

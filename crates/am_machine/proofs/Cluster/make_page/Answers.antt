@@ -17,8 +17,8 @@ use Rattle.am_machine.proofs.Applied as applied
 use Rattle.am_machine.proofs.Joint.{set_got}
 use Rattle.am_machine.proofs.Moving as moving
 use Rattle.am_machine.proofs.Moving.{Move}
-use Rattle.am_machine.proofs.Paging as paging
-use Rattle.am_machine.proofs.Paging.{Call, calls_few, swap_read, swap_there}
+use Rattle.am_machine.proofs.PageCalls as paging
+use Rattle.am_machine.proofs.PageCalls.{Call, calls_few, swap_read, swap_there}
 use Rattle.am_machine.proofs.Places.{not_found}
 use Rattle.am_machine.proofs.Tied.{kept_same}
 use Rattle.am_machine.proofs.Cluster.make_page.Goals as goal

@@ -3,7 +3,7 @@ use Rattle.am_model.specs.Endpoint.{Body, is_on_disk}
 use Rattle.am_endpoint.specs.View.{state_after}
 use Rattle.am_body.specs.Views.{View}
 use Rattle.am_image.specs.Range.{IsInRange}
-use Rattle.am_machine.proofs.Pages.{body_valid, host_no_disk, none_flying}
+use Rattle.am_machine.proofs.Paged.{body_valid, host_no_disk, none_flying}
 use Rattle.am_machine.proofs.pages.image_of.Goals as goal
 
 pub encode-requires : goal.encode-requires

@@ -2,7 +2,7 @@ use Rattle.std.proofs.Common.{◌≡◌, ◌++◌, ◌∷◌, [], List, refl, sy
 use Rattle.am_office.specs.declared.Event.TheVariants as Events
 use Rattle.am_office.specs.declared.Outcome.TheVariants as Out
 use Rattle.am_office.specs.declared.Entry.{Entry}
-use Rattle.am_machine.proofs.Pages.{may_page_in, same_body}
+use Rattle.am_machine.proofs.Paged.{may_page_in, same_body}
 use Rattle.am_machine.proofs.pages.page_in.Goals as goal
 
 pub page_in-requires-clause-allowed : goal.page_in-requires-clause-allowed

@@ -1,7 +1,7 @@
 use Rattle.std.proofs.Common.{◌≡◌, ◌++◌, ◌∷◌, [], List, refl, sym, ap, ◌∙◌}
 use Rattle.am_office.specs.declared.Event.TheVariants as Events
 use Rattle.am_office.specs.declared.Entry.{Entry}
-use Rattle.am_machine.proofs.Pages.{may_page_out}
+use Rattle.am_machine.proofs.Paged.{may_page_out}
 use Rattle.am_machine.proofs.pages.page_out.Goals as goal
 
 pub page_out-requires-clause-allowed : goal.page_out-requires-clause-allowed

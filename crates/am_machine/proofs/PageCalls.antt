@@ -32,7 +32,7 @@ use Rattle.am_machine.specs.Swaps.{AreSwaps, HoldsBody, IsSwap}
 use Rattle.am_machine.proofs.Applied.{IsHere, IsNext, own_here, state_here}
 use Rattle.am_machine.proofs.Moving as moving
 use Rattle.am_machine.proofs.Moving.{Move}
-use Rattle.am_machine.proofs.Swaps.{Paging, one_more_is, swaps_paged}
+use Rattle.am_machine.proofs.Holding.{Paging, one_more_is, swaps_paged}
 use Rattle.am_machine.proofs.Places.{index_got}
 use Rattle.am_machine.proofs.Tied.{kept_at}
 
