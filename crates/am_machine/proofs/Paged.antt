@@ -1,7 +1,8 @@
 -- A page call on its parts.
-use Rattle.std.specs.Prelude.{◌↔◌}
+use Rattle.std.specs.Prelude.{IfOk, OnOk, Result, Ok, Err}
 use Rattle.std.proofs.Common.{◌≡◌, ◌⊎◌, inl, inr, ℕ, Bool, true, false, cond, List, [], ◌∷◌, ◌++◌, Option, Some, None, refl, sym, ap, ◌∙◌, subst, true≢false, if◌then◌else◌}
 use Rattle.am_names.specs.declared.EndpointId.{EndpointId}
+use Rattle.am_names.specs.declared.NoMemory.{NoMemory}
 use Rattle.am_names.specs.declared.NodeId.{NodeId}
 use Rattle.am_office.specs.declared.Event.{Event}
 use Rattle.am_office.specs.declared.Event.TheVariants as Events
@@ -15,14 +16,14 @@ use Rattle.am_model.specs.Endpoint.{Body, State, is_in_a_frame, is_on_disk, is_o
 use Rattle.am_model.specs.Order.{IsInOrder}
 use Rattle.am_body.specs.Views.{View}
 use Rattle.am_device.specs.Causes.{fails_after}
-use Rattle.am_device.specs.Memory.{Store}
+use Rattle.am_device.specs.Memory.{Store, with_held}
 use Rattle.am_endpoint.specs.View.{EndpointView, state_after}
 use Rattle.am_image.specs.Image.{image}
 use Rattle.am_image.specs.Range.{IsInRange}
 use Rattle.am_image.specs.Valid.{IsValid}
 use Rattle.am_swap.specs.Decoded.{FindsEach}
 use Rattle.am_machine.specs.Ends.{EndLog, kept, state_in}
-use Rattle.am_machine.specs.Pages.{CanPageIn, CanPageOut, page_outcome}
+use Rattle.am_machine.specs.Pages.{CanPageIn, CanPageOut, outcome_by, page_outcome}
 use Rattle.am_machine.specs.Swaps.{HoldsBody}
 
 host_no_frame : (p : Place) → is_on_host p ≡ true → is_in_a_frame p ≡ false
@@ -84,3 +85,28 @@ may_page_in v w node end s x o settings log can event outcome =
 -- the body is that of the endpoint after it made room
 pub same_body : (v w : EndpointView) (b : View) → w.settings ≡ v.settings → w.log ≡ v.log → b ≡ record { pool = v.settings.pool; body = (state_after v).body } → b ≡ record { pool = w.settings.pool; body = (state_after w).body }
 same_body v w b settings log is = subst (λ (d : EndLog). b ≡ record { pool = d.settings.pool; body = (state_in d).body }) (same_kept v w settings log) is
+
+-- nothing else is found
+pub never_none : (e : EndpointId) (pool : Option ℕ) (bytes : List ℕ) (b : Body) (found : Option View) → bytes ≡ image b → IsValid e pool b → FindsEach e pool bytes found → found ≡ None → ⊥
+never_none e pool bytes b found is valid each none = let some' = finds e pool bytes b found is valid each in absurd (cc)
+
+pub is_found : (e : EndpointId) (pool : Option ℕ) (bytes : List ℕ) (b : Body) (found : Option View) (w : View) → bytes ≡ image b → IsValid e pool b → FindsEach e pool bytes found → found ≡ Some w → w ≡ record { pool = pool; body = b }
+is_found e pool bytes b found w is valid each at = let some' = finds e pool bytes b found is valid each in cc
+
+-- what the swap's call says of the outcome
+pub told_outcome : (s : Store) (failed : Bool) (o : Outcome) → o ≡ outcome_by failed → failed ≡ fails_after s.fails s.calls → o ≡ page_outcome s
+told_outcome s failed o is at = is ∙ ap outcome_by at ∙ by_test (fails_after s.fails s.calls)
+  where
+    by_test : (b : Bool) → outcome_by b ≡ (if b then Out.Failed else Out.Done)
+    by_test true = refl
+    by_test false = refl
+
+-- what is held, where there is memory for it
+pub preset_told : (r : Result (Unit {0}) NoMemory) (new old : Store) (id : EndpointId) (bytes : List ℕ) (b : Body) → OnOk r (new ≡ with_held old id bytes) → bytes ≡ image b → OnOk r (new ≡ with_held old id (image b))
+preset_told (Ok done) new old id bytes b told is = told ∙ ap (with_held old id) is
+preset_told (Err fault) new old id bytes b told is = tt
+
+-- what holds of a value holds of what follows from it
+pub if_ok : {T E : Type 0} (r : Result T E) (P Q : T → Type 0) → IfOk r P → ((x : T) → P x → Q x) → IfOk r Q
+if_ok (Ok x) P Q h f = f x h
+if_ok (Err fault) P Q h f = tt

@@ -22,6 +22,11 @@ is_page (Events.PageOut node end) = true
 is_page (Events.PageIn node end) = true
 is_page event = false
 
+-- what comes of a page call, by whether the call of the swap failed
+abbrev pub outcome_by : Bool → Outcome
+outcome_by true = Out.Failed
+outcome_by false = Out.Done
+
 -- what comes of the next call of a swap that has memory for it
 abbrev pub page_outcome : Store → Outcome
 page_outcome s = if fails_after s.fails s.calls then Out.Failed else Out.Done
@@ -30,9 +35,9 @@ page_outcome s = if fails_after s.fails s.calls then Out.Failed else Out.Done
 abbrev pub after_call : Store → Store → Store
 after_call s done = if fails_after s.fails s.calls then faulted s else counted done
 
--- a call of a swap answers Done or Failed, or there is no memory for it, and the swap is as it was
-abbrev pub IsCalled : Store → Store → Store → Result Outcome NoMemory → Type 0
-IsCalled old new done (Ok outcome) = (outcome ≡ page_outcome old) × (new ≡ after_call old done)
+-- a call of a swap fails or not, or there is no memory for it, and the swap is as it was
+abbrev pub IsCalled : Store → Store → Store → Result Bool NoMemory → Type 0
+IsCalled old new done (Ok failed) = (failed ≡ fails_after old.fails old.calls) × (new ≡ after_call old done)
 IsCalled old new done (Err fault) = new ≡ old
 
 -- an endpoint of the node that may be paged out, or paged in from what the swap holds

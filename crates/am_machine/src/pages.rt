@@ -4,7 +4,7 @@ ghost use Rattle.am_endpoint.specs.View.{state_after};
 ghost use Rattle.am_image.specs.Image.{image};
 ghost use Rattle.am_image.specs.Valid.{IsValid};
 ghost use Rattle.am_machine.specs.Ends.{kept};
-ghost use Rattle.am_machine.specs.Pages.{CanPage, CanPageIn, CanPageOut, IsCalled, Pages};
+ghost use Rattle.am_machine.specs.Pages.{CanPage, CanPageIn, CanPageOut, IsCalled, Pages, outcome_by};
 ghost use Rattle.am_machine.specs.Swaps.{HoldsBody};
 ghost use Rattle.am_model.specs.Endpoint.{is_on_host};
 ghost use Rattle.am_office.specs.declared.Event.TheVariants as Events;
@@ -16,26 +16,37 @@ use am_office::{Entry, Event, NoMemory, Outcome};
 use am_swap::{MemorySwap, Swap, SwapFault, decode, encode};
 use std::alloc::Global;
 
-/// Writes an image to the disk.
-fn write(swap: &mut MemorySwap, key: EndpointId, image: &[u8]) -> Result<Outcome, NoMemory>
+/// Writes an image to the disk: whether that failed.
+fn write(swap: &mut MemorySwap, key: EndpointId, image: &[u8]) -> Result<bool, NoMemory>
     ensures { IsCalled swap.old swap.new (with_held swap.old key image.now) result }
 {
     match swap.write(key, image) {
-        Ok(()) => Ok(Outcome::Done),
-        Err(SwapFault::Failed) => Ok(Outcome::Failed),
+        Ok(()) => Ok(false),
+        Err(SwapFault::Failed) => Ok(true),
         Err(SwapFault::NoMemory) => Err(NoMemory),
     }
 }
 
-/// Reads an image from the disk.
-fn read(alloc: Global, swap: &mut MemorySwap, key: EndpointId) -> Result<Outcome, NoMemory>
+/// Reads an image from the disk: whether that failed.
+fn read(alloc: Global, swap: &mut MemorySwap, key: EndpointId) -> Result<bool, NoMemory>
     requires { IsSome (held_for swap.old.held key) }
     ensures { IsCalled swap.old swap.new swap.old result }
 {
     match swap.read(alloc, key) {
-        Ok(_) => Ok(Outcome::Done),
-        Err(SwapFault::Failed) => Ok(Outcome::Failed),
+        Ok(_) => Ok(false),
+        Err(SwapFault::Failed) => Ok(true),
         Err(SwapFault::NoMemory) => Err(NoMemory),
+    }
+}
+
+/// What comes of a page call, by whether the disk's call failed.
+fn outcome_by(failed: bool) -> Outcome
+    ensures { result ≡ outcome_by failed }
+{
+    if failed {
+        Outcome::Failed
+    } else {
+        Outcome::Done
     }
 }
 
@@ -45,10 +56,10 @@ fn image_of(alloc: Global, end: &Endpoint) -> Result<Vec<u8>, NoMemory>
     ensures image { IfOk result (λ bytes. bytes.items ≡ image (state_after end.now).body) }
     ensures valid { IfOk result (λ bytes. IsValid end.now.settings.id end.now.settings.pool (state_after end.now).body) }
 {
-    match end.body() {
-        Some(body) => encode(alloc, body),
-        None => unreachable!(),
-    }
+    let Some(body) = end.body() else {
+        unreachable!()
+    };
+    encode(alloc, body)
 }
 
 /// The body whose image the disk holds for an endpoint.
@@ -59,10 +70,9 @@ fn body_of(alloc: Global, swap: &MemorySwap, end: &Endpoint) -> Result<Body, NoM
     let Some(image) = swap.held(end.id()) else {
         unreachable!()
     };
-    match decode(alloc, end.id(), end.pool(), image)? {
-        Some(body) => Ok(body),
-        None => unreachable!(),
-    }
+    let found = decode(alloc, end.id(), end.pool(), image)?;
+    let Some(body) = found else { unreachable!() };
+    Ok(body)
 }
 
 /// Pages an endpoint of the host out: its image is written, and unless that fails it goes to disk.
@@ -82,10 +92,11 @@ fn page_out(
     if endpoint.room().is_err() {
         return Err(NoMemory);
     }
+    let failed = write(swap, endpoint.id(), image.as_slice())?;
     let entry = Entry {
         stamp,
         event: Event::PageOut { node, end },
-        outcome: write(swap, endpoint.id(), image.as_slice())?,
+        outcome: outcome_by(failed),
     };
     endpoint.page_out(entry);
     Ok(entry)
@@ -108,15 +119,16 @@ fn page_in(
     if endpoint.room().is_err() {
         return Err(NoMemory);
     }
+    let failed = read(alloc, swap, endpoint.id())?;
     let entry = Entry {
         stamp,
         event: Event::PageIn { node, end },
-        outcome: read(alloc, swap, endpoint.id())?,
+        outcome: outcome_by(failed),
     };
-    match entry.outcome {
-        Outcome::Done => endpoint.page_in(entry, body),
-        Outcome::Failed => endpoint.page_failed(entry),
-        _ => unreachable!(),
+    if failed {
+        endpoint.page_failed(entry);
+    } else {
+        endpoint.page_in(entry, body);
     }
     Ok(entry)
 }
