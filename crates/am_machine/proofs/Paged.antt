@@ -110,3 +110,7 @@ preset_told (Err fault) new old id bytes b told is = tt
 pub if_ok : {T E : Type 0} (r : Result T E) (P Q : T → Type 0) → IfOk r P → ((x : T) → P x → Q x) → IfOk r Q
 if_ok (Ok x) P Q h f = f x h
 if_ok (Err fault) P Q h f = tt
+
+-- the image that is held, told by what was read
+pub image_told : (a b : List ℕ) → Some a ≡ Some b → a ≡ b
+image_told a b h = cc

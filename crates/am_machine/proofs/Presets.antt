@@ -36,6 +36,10 @@ pub presets_push : (node : NodeId) (xs : List EndLine) (x : EndLine) (s : Store)
 presets_push node [] x s = refl
 presets_push node (y ∷ xs) x s = presets_push node xs x (preset_if (begins_on node y) y s)
 
+-- a swap with the images of some lines, and one more
+pub presets_next : (node : NodeId) (xs : List EndLine) (x : EndLine) (s t u : Store) → t ≡ preset_all node xs s → u ≡ preset_if (begins_on node x) x t → u ≡ preset_all node (xs ++ x ∷ []) s
+presets_next node xs x s t u was is = is ∙ ap (preset_if (begins_on node x) x) was ∙ sym (presets_push node xs x s)
+
 fails_push : (node : NodeId) (xs : List FaultLine) (x : FaultLine) (t : Bool) → is_of_node node x ≡ t → fails_of node (xs ++ x ∷ []) ≡ (if t then fails_of node xs ++ x.number ∷ [] else fails_of node xs)
 fails_push node [] x t is = ap (λ (b : Bool). map (λ (f : FaultLine). f.number) (cond b (x ∷ []) [])) is ∙ by_test t
   where

@@ -20,7 +20,7 @@ returns c =
     let x : Entry = record { stamp = c.args.stamp; event = Events.PageOut c.args.node c.args.end; outcome = c.outcome_by.result } in
     let outcome = told_outcome s c.in_ok-failed.failed c.outcome_by.result c.outcome_by.ensures c.in_ok-failed.ensures.0 in
     let key : c.id.result ≡ c.args.endpoint.now.settings.id = c.id.ensures ∙ ap (λ (t : EndSettings). t.id) c.room.ensures.settings in
-    let bytes = c.as_slice.ensures ∙ c.in_ok-image.ensures.image in
+    let bytes = c.as_slice.ensures.value ∙ c.in_ok-image.ensures.image in
     record {
       entry = λ i. record { stamp = c.args.stamp; event = Events.PageOut c.args.node c.args.end; outcome = outcome i };
       swap = c.in_ok-failed.ensures.1 ∙ λ i. after_call s (with_held s (key i) (bytes i));

@@ -9,4 +9,4 @@ use Rattle.am_machine.proofs.swaps.preset.Goals as goal
 pub returns : goal.returns
 returns c =
     preset_told c.preset.result c.preset.new.self c.args.swap.now c.args.line.now.id c.as_slice.result.now (opening_body c.args.line.now) c.preset.ensures.ok
-    (c.as_slice.ensures ∙ c.in_ok-image.ensures.image ∙ ap image (c.in_ok-body.ensures.body ∙ ap (λ (t : EndSettings). (fresh t.tag t.place).body) c.settings_of.ensures))
+    (c.as_slice.ensures.value ∙ c.in_ok-image.ensures.image ∙ ap image (c.in_ok-body.ensures.body ∙ ap (λ (t : EndSettings). (fresh t.tag t.place).body) c.settings_of.ensures))
