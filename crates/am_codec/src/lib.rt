@@ -6,6 +6,7 @@ mod lists;
 mod many;
 mod messages;
 mod part;
+mod ranges;
 mod reading;
 mod valid;
 mod writing;

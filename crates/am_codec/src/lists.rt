@@ -2,11 +2,13 @@ ghost use Rattle.am_codec.specs.Answers.{Finds};
 ghost use Rattle.am_codec.specs.Counts.{AreCounted};
 ghost use Rattle.am_codec.specs.Decodes.{Decodes};
 ghost use Rattle.am_image.specs.Image.{image};
+ghost use Rattle.am_image.specs.Range.{IsInRange};
 ghost use Rattle.am_image.specs.Reading.{body_at, whole_body};
 ghost use Rattle.std.specs.Prelude.{◌≡◌, ◌++◌, IfOk, OnOk};
 
 use crate::fault::ReadFault;
 use crate::many::{put_counted, put_each, take_counted, take_many};
+use crate::ranges::{all_in_range, head_in_range};
 use crate::reading::{take_long, take_magic, take_short};
 use crate::writing::{put_long, put_magic, put_short};
 use am_model::{Awaited, Mapping, Notice, Queued};
@@ -64,6 +66,22 @@ fn put_image(out: &mut Vec<u8>, lists: &BodyLists) -> Result<(), AllocError>
     put_counted(out, &lists.notices)?;
     put_counted(out, &lists.received)?;
     Ok(())
+}
+
+impl BodyLists {
+    /// The numbers of the body take no more bytes than the image has for them, since their types don't. Nothing runs here.
+    pub fn in_range(&self)
+        ensures { IsInRange self.now }
+    {
+        head_in_range(self.tag, self.sum, self.accepted);
+        all_in_range(&self.mapped);
+        all_in_range(&self.awaited);
+        all_in_range(&self.handlers);
+        all_in_range(&self.requests);
+        all_in_range(&self.replies);
+        all_in_range(&self.notices);
+        all_in_range(&self.received);
+    }
 }
 
 impl BodyLists {

@@ -1,10 +1,15 @@
 // The kinds of parts that an image has lists of.
 ghost use Rattle.am_codec.specs.Answers.{Gives};
 ghost use Rattle.am_image.specs.Image.{handler_bytes, mapping_bytes, notice_bytes, queued_bytes, received_bytes, record_bytes};
+ghost use Rattle.am_image.specs.Range.{fits_handler, fits_mapping, fits_message, fits_notice, fits_queued, fits_record};
 ghost use Rattle.am_image.specs.Reading.{Read, handler_at, mapping_at, message_at, notice_at, received_at, record_at};
 ghost use Rattle.am_names.specs.declared.EndpointId.{EndpointId as Id};
-ghost use Rattle.std.specs.Prelude.{◌≡◌, ◌++◌, ℕ, List, Option, OnOk};
+ghost use Rattle.std.specs.Prelude.{◌≡◌, ◌++◌, ℕ, Bool, true, List, Option, OnOk};
 
+use crate::ranges::{
+    handler_in_range, mapping_in_range, message_in_range, notice_in_range, queued_in_range,
+    record_in_range,
+};
 use crate::reading::{
     take_handler, take_mapping, take_message, take_notice, take_received, take_record,
 };
@@ -22,6 +27,13 @@ pub(crate) trait Part: Drop {
     /// The part that stands at the front of some bytes, in an image of this endpoint's body.
     ghost at: { Id → List ℕ → Read Self };
 
+    /// Whether the numbers of a part take no more bytes than the image has for them.
+    ghost fits: { Self → Bool };
+
+    /// A part that is held fits.
+    fn in_range(&self)
+        ensures { fits self.now ≡ true };
+
     fn put(&self, out: &mut Vec<u8>) -> Result<(), AllocError>
         ensures { OnOk result (out.new.items ≡ out.old.items ++ text self.now) };
 
@@ -33,6 +45,12 @@ impl Part for Option<Mapping> {
     ghost text = { mapping_bytes };
 
     ghost at = { λ _. mapping_at };
+
+    ghost fits = { fits_mapping };
+
+    fn in_range(&self) {
+        mapping_in_range(*self)
+    }
 
     fn put(&self, out: &mut Vec<u8>) -> Result<(), AllocError> {
         put_mapping(out, self)
@@ -48,6 +66,12 @@ impl Part for Awaited {
 
     ghost at = { record_at };
 
+    ghost fits = { fits_record };
+
+    fn in_range(&self) {
+        record_in_range(*self)
+    }
+
     fn put(&self, out: &mut Vec<u8>) -> Result<(), AllocError> {
         put_record(out, self)
     }
@@ -61,6 +85,12 @@ impl Part for Option<HandlerKind> {
     ghost text = { handler_bytes };
 
     ghost at = { λ _. handler_at };
+
+    ghost fits = { fits_handler };
+
+    fn in_range(&self) {
+        handler_in_range(*self)
+    }
 
     fn put(&self, out: &mut Vec<u8>) -> Result<(), AllocError> {
         put_handler(out, self)
@@ -76,6 +106,12 @@ impl Part for Queued {
 
     ghost at = { λ _. message_at };
 
+    ghost fits = { fits_queued };
+
+    fn in_range(&self) {
+        queued_in_range(*self)
+    }
+
     fn put(&self, out: &mut Vec<u8>) -> Result<(), AllocError> {
         put_queued(out, self)
     }
@@ -89,6 +125,12 @@ impl Part for Notice {
     ghost text = { notice_bytes };
 
     ghost at = { λ _. notice_at };
+
+    ghost fits = { fits_notice };
+
+    fn in_range(&self) {
+        notice_in_range(*self)
+    }
 
     fn put(&self, out: &mut Vec<u8>) -> Result<(), AllocError> {
         put_notice(out, self)
@@ -104,6 +146,12 @@ impl Part for Message {
     ghost text = { received_bytes };
 
     ghost at = { λ _. received_at };
+
+    ghost fits = { fits_message };
+
+    fn in_range(&self) {
+        message_in_range(*self)
+    }
 
     fn put(&self, out: &mut Vec<u8>) -> Result<(), AllocError> {
         put_received(out, self)

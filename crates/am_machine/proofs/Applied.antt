@@ -18,7 +18,7 @@ use Rattle.am_model.specs.Allowed.{are_numbers_in_range}
 use Rattle.am_model.specs.Endpoint.{State, is_on_disk}
 use Rattle.am_model.specs.Calls.{outcome_of_call}
 use Rattle.am_model.specs.Layout.{Layout}
-use Rattle.am_model.specs.History.{is_in_range, is_call_in_range, is_byte, is_kind_in_range, are_credits_in_range, failing, outcome_of, state_of}
+use Rattle.am_model.specs.History.{MayFollow, is_in_range, is_call_in_range, is_byte, is_kind_in_range, are_credits_in_range, failing, outcome_of, state_of}
 use Rattle.am_model.specs.Layout.{declared}
 use Rattle.am_model.specs.Steps.{LogFull, NotEnabled, stop, stop_by, full_by, full_log, least_such, lesser, step_entry, is_end_full}
 use Rattle.am_model.specs.Choice.{first_holding}
@@ -32,12 +32,17 @@ use Rattle.am_machine.specs.declared.settings.Settings.{Settings}
 use Rattle.am_machine.specs.Carries.{is_place}
 use Rattle.am_machine.specs.Ends.{EndLog, is_of, kept, grown, logged_at}
 use Rattle.am_iface.specs.View.{InterfaceView}
+use Rattle.am_device.specs.Memory.{Store}
 use Rattle.am_machine.specs.Interfaces.{AreInterfaces}
+use Rattle.am_machine.specs.Pages.{is_page}
+use Rattle.am_machine.specs.Swaps.{AreSwaps}
 use Rattle.am_machine.proofs.InterfaceLogs.{interfaces_moved, interfaces_same}
 use Rattle.am_machine.specs.Kept.{IsKept, IsOwn, IsTied, layout_in}
 use Rattle.am_machine.specs.View.{ClusterView}
 use Rattle.am_machine.proofs.Direct.{off_disk}
 use Rattle.am_machine.proofs.Events.{call_enabled}
+use Rattle.am_laws_steps.proofs.Steps.{may_step}
+use Rattle.am_machine.proofs.Holding.{swaps_same}
 use Rattle.am_machine.proofs.Places.{found, index_got, place_is, place_same}
 use Rattle.am_machine.proofs.Tied.{kept_at, kept_set, layout_kept, one_grown, own_at, own_state, tied_push}
 
@@ -80,23 +85,55 @@ tied_same s faults es new journal other ends same tied =
     subst (λ (ns : List EndLog). IsTied (layout_in s faults ns) ns other) (sym ends)
     (subst (λ (j : List Entry). IsTied (layout_in s faults es) es j) (sym same) tied)
 
+-- the entry may follow
+pub next_follows : (s : Settings) (faults : List FaultLine) (es : List EndLog) (journal : List Entry) (event : Event) (x : Entry) (new : List EndLog) (longer : List Entry) → IsNext s faults es journal event x new longer → MayFollow (layout_in s faults es) journal x
+next_follows s faults es journal event x new longer n =
+    let layout = layout_in s faults es in
+    subst (MayFollow layout journal) (sym n.entry) (may_step layout journal event n.tied.walked n.in_range (enabled_of layout journal event n.runs))
+
+-- the layout that the endpoints tell after it
+pub layout_next : (s : Settings) (faults : List FaultLine) (es : List EndLog) (journal : List Entry) (event : Event) (x : Entry) (new : List EndLog) (longer : List Entry) → IsNext s faults es journal event x new longer → layout_in s faults es ≡ layout_in s faults new
+layout_next s faults es journal event x new longer n = sym (layout_kept s faults es x) ∙ ap (λ (ns : List EndLog). layout_in s faults ns) (sym n.ends)
+
+-- the swaps, where they are those of one entry more
+pub swaps_next : (s : Settings) (faults : List FaultLine) (es : List EndLog) (journal : List Entry) (event : Event) (x : Entry) (new : List EndLog) (longer : List Entry) (ss : List Store) → IsNext s faults es journal event x new longer → AreSwaps (layout_in s faults es) (journal ++ x ∷ []) ss → AreSwaps (layout_in s faults new) longer ss
+swaps_next s faults es journal event x new longer ss n are =
+    let same = layout_next s faults es journal event x new longer n in
+    coe 0 1 (k. AreSwaps (same k) (sym n.journal' k) ss) are
+
+-- and where the event is no page call
+pub swaps_kept : (s : Settings) (faults : List FaultLine) (es : List EndLog) (journal : List Entry) (event : Event) (x : Entry) (new : List EndLog) (longer : List Entry) (ss : List Store) → IsNext s faults es journal event x new longer → is_page event ≡ false → AreSwaps (layout_in s faults es) journal ss → AreSwaps (layout_in s faults new) longer ss
+swaps_kept s faults es journal event x new longer ss n unpaged are =
+    let layout = layout_in s faults es in
+    swaps_next s faults es journal event x new longer ss n
+    (swaps_same layout journal x ss n.tied.lawful n.tied.walked.history (next_follows s faults es journal event x new longer n) (ap (λ (y : Entry). is_page y.event) n.entry ∙ unpaged) are)
+
 -- what it keeps, where the event touches no interface
-pub kept_next : (s : Settings) (faults : List FaultLine) (es : List EndLog) (journal : List Entry) (event : Event) (x : Entry) (new : List EndLog) (longer : List Entry) (is : List InterfaceView) → IsNext s faults es journal event x new longer → node_touched event ≡ None → AreInterfaces (layout_in s faults es) journal is → IsKept (layout_in s faults new) new longer is
-kept_next s faults es journal event x new longer is n alone are =
+pub kept_next : (s : Settings) (faults : List FaultLine) (es : List EndLog) (journal : List Entry) (event : Event) (x : Entry) (new : List EndLog) (longer : List Entry) (is : List InterfaceView) (ss : List Store) → IsNext s faults es journal event x new longer → node_touched event ≡ None → AreInterfaces (layout_in s faults es) journal is → AreSwaps (layout_in s faults es) (journal ++ x ∷ []) ss → IsKept (layout_in s faults new) new longer is ss
+kept_next s faults es journal event x new longer is ss n alone are swaps =
     record {
       tied = tied_next s faults es journal event x new longer n;
       interfaces' =
           interfaces_moved (layout_in s faults es) (layout_in s faults new) (journal ++ x ∷ []) longer is
           (sym (layout_kept s faults es x) ∙ ap (λ (ns : List EndLog). layout_in s faults ns) (sym n.ends)) (sym n.journal')
           (interfaces_same (layout_in s faults es) journal x is (ap (λ (y : Entry). node_touched y.event) n.entry ∙ alone) are);
+      swaps' = swaps_next s faults es journal event x new longer ss n swaps;
     }
 
+-- and where it is no page call either
+pub kept_unpaged : (s : Settings) (faults : List FaultLine) (es : List EndLog) (journal : List Entry) (event : Event) (x : Entry) (new : List EndLog) (longer : List Entry) (is : List InterfaceView) (ss : List Store) → IsNext s faults es journal event x new longer → node_touched event ≡ None → is_page event ≡ false → IsKept (layout_in s faults es) es journal is ss → IsKept (layout_in s faults new) new longer is ss
+kept_unpaged s faults es journal event x new longer is ss n alone unpaged kept' =
+    let layout = layout_in s faults es in
+    kept_next s faults es journal event x new longer is ss n alone kept'.interfaces'
+    (swaps_same layout journal x ss n.tied.lawful n.tied.walked.history (next_follows s faults es journal event x new longer n) (ap (λ (y : Entry). is_page y.event) n.entry ∙ unpaged) kept'.swaps')
+
 -- and where neither settings nor logs changed
-pub kept_still : (s : Settings) (faults : List FaultLine) (es new : List EndLog) (journal other : List Entry) (is : List InterfaceView) → new ≡ es → other ≡ journal → IsKept (layout_in s faults es) es journal is → IsKept (layout_in s faults new) new other is
-kept_still s faults es new journal other is ends same kept' =
+pub kept_still : (s : Settings) (faults : List FaultLine) (es new : List EndLog) (journal other : List Entry) (is : List InterfaceView) (ss : List Store) → new ≡ es → other ≡ journal → IsKept (layout_in s faults es) es journal is ss → IsKept (layout_in s faults new) new other is ss
+kept_still s faults es new journal other is ss ends same kept' =
     record {
       tied = tied_same s faults es new journal other ends same kept'.tied;
       interfaces' = interfaces_moved (layout_in s faults es) (layout_in s faults new) journal other is (ap (λ (ns : List EndLog). layout_in s faults ns) (sym ends)) (sym same) kept'.interfaces';
+      swaps' = coe 0 1 (k. AreSwaps (ap (λ (ns : List EndLog). layout_in s faults ns) (sym ends) k) (sym same k) ss) kept'.swaps';
     }
 
 pub seen_next : (s : Settings) (faults : List FaultLine) (es : List EndLog) (journal : List Entry) (event : Event) (x : Entry) (new : List EndLog) (longer : List Entry) (v : ClusterView) → seen s faults es journal ≡ v → IsNext s faults es journal event x new longer → (stop v.layout v.journal event ≡ None) × (x ≡ step_entry v.layout v.journal event) × (seen s faults new longer ≡ record v { journal = v.journal ++ x ∷ [] })

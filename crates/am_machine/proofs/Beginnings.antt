@@ -26,7 +26,7 @@ use Rattle.am_machine.proofs.Homes.{home_told}
 abbrev pub Rise : List EndLine → Type 0
 Rise lines = AllPairs (λ (a b : EndLine). a.id.0 < b.id.0) lines
 
-rise_rest : (x : EndLine) (xs : List EndLine) → Rise (x ∷ xs) → Rise xs
+pub rise_rest : (x : EndLine) (xs : List EndLine) → Rise (x ∷ xs) → Rise xs
 rise_rest x xs h i j d lt le = h (suc i) (suc j) d (omega (arith, lt)) (omega (arith, le))
 
 got_index : {X : Type 0} (xs : List X) (k : ℕ) (x d : X) → slice_get xs k ≡ Some x → slice_index_or xs k d ≡ x
@@ -39,7 +39,7 @@ got_within [] k x h = absurd (cc)
 got_within (y ∷ xs) zero x h = omega arith
 got_within (y ∷ xs) (suc k) x h = let more = got_within xs k x h in omega (arith, more)
 
-first_below : (x : EndLine) (xs : List EndLine) (k : ℕ) (y : EndLine) → Rise (x ∷ xs) → slice_get xs k ≡ Some y → x.id.0 < y.id.0
+pub first_below : (x : EndLine) (xs : List EndLine) (k : ℕ) (y : EndLine) → Rise (x ∷ xs) → slice_get xs k ≡ Some y → x.id.0 < y.id.0
 first_below x xs k y h at =
     let within = got_within xs k y at in
     let less = h zero (suc k) y (omega arith) (omega (arith, within)) in
@@ -53,7 +53,7 @@ apart_test a b lt = by_test (same_end a b) refl
     by_test false is = refl
 
 -- a line is found by its number
-found_line : (lines : List EndLine) (k : ℕ) (line : EndLine) → Rise lines → slice_get lines k ≡ Some line → find (has_id line.id) (map setting_of lines) ≡ Some (setting_of line)
+pub found_line : (lines : List EndLine) (k : ℕ) (line : EndLine) → Rise lines → slice_get lines k ≡ Some line → find (has_id line.id) (map setting_of lines) ≡ Some (setting_of line)
 found_line [] k line h at = absurd (cc)
 found_line (x ∷ xs) zero line h at =
     let same : x ≡ line = cc in
@@ -104,7 +104,7 @@ rise_apart (x ∷ xs) (suc j) zero a b h p q same =
     absurd (omega (arith, less, one))
 rise_apart (x ∷ xs) (suc j) (suc k) a b h p q same = ap suc (rise_apart xs j k a b (rise_rest x xs h) p q same)
 
-all_by_place : {X : Type 0} (P : X → Type 0) (xs : List X) → ((k : ℕ) (x : X) → slice_get xs k ≡ Some x → P x) → AllAre P xs
+pub all_by_place : {X : Type 0} (P : X → Type 0) (xs : List X) → ((k : ℕ) (x : X) → slice_get xs k ≡ Some x → P x) → AllAre P xs
 all_by_place P [] h = tt
 all_by_place P (x ∷ xs) h = (h zero x refl, all_by_place P xs (λ k y at. h (suc k) y at))
 

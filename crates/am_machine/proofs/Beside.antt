@@ -297,7 +297,7 @@ turned_at j b new longer x t = subst (λ (s : State). IsTurned j.one new j.journ
 enabled_at : (j : Joint) (b : Beside j) (o : Option Condition) → failing_at (own j.one) (state_after b.endpoint) j.work ≡ o → failing_at (own j.one) j.state j.work ≡ o
 enabled_at j b o is = ap (λ (s : State). failing_at (own j.one) s j.work) b.reads ∙ is
 
-pub beside_keeps : (j : Joint) (b : Beside j) (new : InterfaceView) (f : EndpointView) (longer : List Entry) (result : Result Entry ApplyFault) → TurnsWith j.one new b.endpoint f j.journal longer j.work result → IsKept (layout_in j.settings j.faults (map kept (slice_set j.ends b.place f))) (map kept (slice_set j.ends b.place f)) longer (slice_set j.interfaces j.node.0 new)
+pub beside_keeps : (j : Joint) (b : Beside j) (new : InterfaceView) (f : EndpointView) (longer : List Entry) (result : Result Entry ApplyFault) → TurnsWith j.one new b.endpoint f j.journal longer j.work result → IsKept (layout_in j.settings j.faults (map kept (slice_set j.ends b.place f))) (map kept (slice_set j.ends b.place f)) longer (slice_set j.interfaces j.node.0 new) j.swaps
 beside_keeps j b new f longer (Ok x) turns =
     let t = turned_at j b new longer x turns.0 in joint_kept j x new longer (map kept (slice_set j.ends b.place f)) (beside_next j b x new f longer t turns.1) t
 beside_keeps j b new f longer (Err (Faults.NotEnabled c)) turns = joint_still j new longer (map kept (slice_set j.ends b.place f)) turns.1 (ends_still j b f turns.2)

@@ -32,6 +32,7 @@ use Rattle.am_endpoint.specs.View.{EndpointView}
 use Rattle.am_journal.proofs.Lists.{index_got}
 use Rattle.am_iface.specs.View.{FitsInterface, InterfaceView, last_stamp, own}
 use Rattle.am_iface.specs.Turns.{stamp_in}
+use Rattle.am_device.specs.Memory.{Store}
 use Rattle.am_machine.specs.declared.settings.Settings.{Settings}
 use Rattle.am_machine.specs.Ends.{kept}
 use Rattle.am_machine.specs.Kept.{IsKept, layout_in}
@@ -67,8 +68,8 @@ node_there layout node (Works.Receive (Packets.Answer p)) h = (range_receive lay
 node_there layout node (Works.Bind end) h = (range_bind layout node end h).1
 node_there layout node (Works.Expire peer channel) h = (range_expire layout node peer channel h).0
 
-pub there_for : (s : Settings) (faults : List FaultLine) (ends : List EndpointView) (journal : List Entry) (interfaces : List InterfaceView) (v : ClusterView) (node : NodeId) (work : Work) → IsKept (layout_in s faults (map kept ends)) (map kept ends) journal interfaces → seen s faults (map kept ends) journal ≡ v → v.layout.direct ≡ false → is_in_range v.layout (event_of node work) ≡ true → node.0 < length interfaces
-there_for s faults ends journal interfaces v node work kept' is packet range =
+pub there_for : (s : Settings) (faults : List FaultLine) (ends : List EndpointView) (journal : List Entry) (interfaces : List InterfaceView) (swaps : List Store) (v : ClusterView) (node : NodeId) (work : Work) → IsKept (layout_in s faults (map kept ends)) (map kept ends) journal interfaces swaps → seen s faults (map kept ends) journal ≡ v → v.layout.direct ≡ false → is_in_range v.layout (event_of node work) ≡ true → node.0 < length interfaces
+there_for s faults ends journal interfaces swaps v node work kept' is packet range =
     joint.interface_there (layout_in s faults (map kept ends)) journal interfaces node kept'.interfaces' (ap (λ (w : ClusterView). w.layout.direct) is ∙ packet)
     (node_there (layout_in s faults (map kept ends)) node work (ap (λ (w : ClusterView). is_in_range w.layout (event_of node work)) is ∙ range))
 
@@ -82,10 +83,10 @@ state_read layout past None = tt
 state_read layout past (Some e) = refl
 
 -- a work in a cluster that is seen so, of the interface that was read at the node's place
-abbrev pub joint_at : (s : Settings) (faults : List FaultLine) (ends : List EndpointView) (journal : List Entry) (interfaces : List InterfaceView) (v : ClusterView) (node : NodeId) (one : InterfaceView) (work : Work) → IsKept (layout_in s faults (map kept ends)) (map kept ends) journal interfaces → seen s faults (map kept ends) journal ≡ v → v.layout.direct ≡ false → is_in_range v.layout (event_of node work) ≡ true → one ≡ slice_index_or interfaces node.0 one → IsTaken v.journal node work → Joint
-joint_at s faults ends journal interfaces v node one work kept' is packet range value taken =
-    joint.joint_in s faults ends journal interfaces v node one (state_for (layout_in s faults (map kept ends)) journal (needs (own one) work)) work kept' is packet range
-    (index_got interfaces node.0 one (there_for s faults ends journal interfaces v node work kept' is packet range) ∙ ap (λ (i : InterfaceView). Some i) (sym value)) taken
+abbrev pub joint_at : (s : Settings) (faults : List FaultLine) (ends : List EndpointView) (journal : List Entry) (interfaces : List InterfaceView) (swaps : List Store) (v : ClusterView) (node : NodeId) (one : InterfaceView) (work : Work) → IsKept (layout_in s faults (map kept ends)) (map kept ends) journal interfaces swaps → seen s faults (map kept ends) journal ≡ v → v.layout.direct ≡ false → is_in_range v.layout (event_of node work) ≡ true → one ≡ slice_index_or interfaces node.0 one → IsTaken v.journal node work → Joint
+joint_at s faults ends journal interfaces swaps v node one work kept' is packet range value taken =
+    joint.joint_in s faults ends journal interfaces swaps v node one (state_for (layout_in s faults (map kept ends)) journal (needs (own one) work)) work kept' is packet range
+    (index_got interfaces node.0 one (there_for s faults ends journal interfaces swaps v node work kept' is packet range) ∙ ap (λ (i : InterfaceView). Some i) (sym value)) taken
     (state_read (layout_in s faults (map kept ends)) journal (needs (own one) work))
 
 -- ---- the work

@@ -35,9 +35,11 @@ use Rattle.am_machine.specs.Interfaces.{AreInterfaces, IsInterface}
 use Rattle.am_machine.specs.Kept.{IsKept, layout_in}
 use Rattle.am_machine.specs.Turned.{IsSame, IsTaken, IsTurned, TurnsAlone, entry_of_work}
 use Rattle.am_machine.specs.View.{Applies, ClusterView}
-use Rattle.am_machine.proofs.Applied.{IsNext, kept_still, seen, seen_next, seen_same, tied_next}
+use Rattle.am_machine.proofs.Applied.{IsNext, kept_still, seen, seen_next, seen_same, tied_next, swaps_kept}
 use Rattle.am_machine.proofs.InterfaceLogs.{interfaces_more, interfaces_moved}
 use Rattle.am_journal.proofs.Lists.{index_got}
+use Rattle.am_device.specs.Memory.{Store}
+use Rattle.am_machine.specs.Pages.{is_page}
 use Rattle.am_machine.proofs.Tied.{layout_kept, none_grown}
 
 -- a work of the node's interface, where what it reads beside its log is the journal's
@@ -47,11 +49,12 @@ pub record Joint : Type 0 where
   pub ends : List EndpointView
   pub journal : List Entry
   pub interfaces : List InterfaceView
+  pub swaps : List Store
   pub node : NodeId
   pub one : InterfaceView
   pub state : State
   pub work : Work
-  pub kept' : IsKept (layout_in settings faults (map kept ends)) (map kept ends) journal interfaces
+  pub kept' : IsKept (layout_in settings faults (map kept ends)) (map kept ends) journal interfaces swaps
   pub packet : (layout_in settings faults (map kept ends)).direct ≡ false
   pub in_range : is_in_range (layout_in settings faults (map kept ends)) (event_of node work) ≡ true
   pub at : slice_get interfaces node.0 ≡ Some one
@@ -69,14 +72,15 @@ interface_there layout journal is node are packet lt =
     omega (arith, all, lt)
 
 -- a work in a cluster that is seen so
-abbrev pub joint_in : (s : Settings) (faults : List FaultLine) (ends : List EndpointView) (journal : List Entry) (interfaces : List InterfaceView) (v : ClusterView) (node : NodeId) (one : InterfaceView) (state : State) (work : Work) → IsKept (layout_in s faults (map kept ends)) (map kept ends) journal interfaces → seen s faults (map kept ends) journal ≡ v → v.layout.direct ≡ false → is_in_range v.layout (event_of node work) ≡ true → slice_get interfaces node.0 ≡ Some one → IsTaken v.journal node work → IsState (layout_in s faults (map kept ends)) journal state (needs (own one) work) → Joint
-joint_in s faults ends journal interfaces v node one state work kept' is packet range at taken reads =
+abbrev pub joint_in : (s : Settings) (faults : List FaultLine) (ends : List EndpointView) (journal : List Entry) (interfaces : List InterfaceView) (swaps : List Store) (v : ClusterView) (node : NodeId) (one : InterfaceView) (state : State) (work : Work) → IsKept (layout_in s faults (map kept ends)) (map kept ends) journal interfaces swaps → seen s faults (map kept ends) journal ≡ v → v.layout.direct ≡ false → is_in_range v.layout (event_of node work) ≡ true → slice_get interfaces node.0 ≡ Some one → IsTaken v.journal node work → IsState (layout_in s faults (map kept ends)) journal state (needs (own one) work) → Joint
+joint_in s faults ends journal interfaces swaps v node one state work kept' is packet range at taken reads =
     record {
       settings = s;
       faults = faults;
       ends = ends;
       journal = journal;
       interfaces = interfaces;
+      swaps = swaps;
       node = node;
       one = one;
       state = state;
@@ -214,12 +218,18 @@ set_got (x ∷ xs) zero v w at is = let same : w ≡ x = cc in ap (λ y. y ∷ x
 set_got (x ∷ xs) (suc k) v w at is = ap (λ ys. x ∷ ys) (set_got xs k v w at is)
 
 -- where the interface and the endpoints' settings and logs are as they were
-pub joint_still : (j : Joint) (new : InterfaceView) (longer : List Entry) (es : List EndLog) → IsSame j.one new j.journal longer → es ≡ map kept j.ends → IsKept (layout_in j.settings j.faults es) es longer (slice_set j.interfaces j.node.0 new)
+pub joint_still : (j : Joint) (new : InterfaceView) (longer : List Entry) (es : List EndLog) → IsSame j.one new j.journal longer → es ≡ map kept j.ends → IsKept (layout_in j.settings j.faults es) es longer (slice_set j.interfaces j.node.0 new) j.swaps
 joint_still j new longer es same ends =
-    subst (λ (is : List InterfaceView). IsKept (layout_in j.settings j.faults es) es longer is) (sym (set_got j.interfaces j.node.0 j.one new j.at same.interface))
-    (kept_still j.settings j.faults (map kept j.ends) es j.journal longer j.interfaces ends same.journal j.kept')
+    subst (λ (is : List InterfaceView). IsKept (layout_in j.settings j.faults es) es longer is j.swaps) (sym (set_got j.interfaces j.node.0 j.one new j.at same.interface))
+    (kept_still j.settings j.faults (map kept j.ends) es j.journal longer j.interfaces j.swaps ends same.journal j.kept')
 
-pub joint_kept : (j : Joint) (x : Entry) (new : InterfaceView) (longer : List Entry) (es : List EndLog) → IsNext j.settings j.faults (map kept j.ends) j.journal (event_in j) x es longer → IsTurned j.one new j.journal longer j.state j.work x → IsKept (layout_in j.settings j.faults es) es longer (slice_set j.interfaces j.node.0 new)
+work_unpaged : (node : NodeId) (w : Work) → is_page (event_of node w) ≡ false
+work_unpaged node (Works.Receive (Packets.Parcel p)) = refl
+work_unpaged node (Works.Receive (Packets.Answer p)) = refl
+work_unpaged node (Works.Bind end) = refl
+work_unpaged node (Works.Expire peer channel) = refl
+
+pub joint_kept : (j : Joint) (x : Entry) (new : InterfaceView) (longer : List Entry) (es : List EndLog) → IsNext j.settings j.faults (map kept j.ends) j.journal (event_in j) x es longer → IsTurned j.one new j.journal longer j.state j.work x → IsKept (layout_in j.settings j.faults es) es longer (slice_set j.interfaces j.node.0 new) j.swaps
 joint_kept j x new longer es next turned =
     record {
       tied = tied_next j.settings j.faults (map kept j.ends) j.journal (event_in j) x es longer next;
@@ -227,6 +237,7 @@ joint_kept j x new longer es next turned =
           interfaces_moved (layout_of j) (layout_in j.settings j.faults es) longer longer (slice_set j.interfaces j.node.0 new)
           (sym (layout_kept j.settings j.faults (map kept j.ends) x) ∙ ap (λ (ns : List EndLog). layout_in j.settings j.faults ns) (sym next.ends)) refl
           (joint_interfaces j x new longer turned);
+      swaps' = swaps_kept j.settings j.faults (map kept j.ends) j.journal (event_in j) x es longer j.swaps next (work_unpaged j.node j.work) j.kept'.swaps';
     }
 
 -- ---- a work that touches no endpoint, whole
@@ -234,7 +245,7 @@ joint_kept j x new longer es next turned =
 alone_of : (j : Joint) → needs (own j.one) j.work ≡ None → IsAlone j
 alone_of j none = record { none = needs_touched (own j.one) j.state j.work ∙ ap option_to_list none }
 
-pub alone_keeps : (j : Joint) (new : InterfaceView) (longer : List Entry) (result : Result Entry ApplyFault) → needs (own j.one) j.work ≡ None → TurnsAlone j.one new j.journal longer j.state j.work result → IsKept (layout_of j) (map kept j.ends) longer (slice_set j.interfaces j.node.0 new)
+pub alone_keeps : (j : Joint) (new : InterfaceView) (longer : List Entry) (result : Result Entry ApplyFault) → needs (own j.one) j.work ≡ None → TurnsAlone j.one new j.journal longer j.state j.work result → IsKept (layout_of j) (map kept j.ends) longer (slice_set j.interfaces j.node.0 new) j.swaps
 alone_keeps j new longer (Ok x) none turns = joint_kept j x new longer (map kept j.ends) (alone_next j x new longer (alone_of j none) turns) turns
 alone_keeps j new longer (Err (Faults.NotEnabled c)) none turns = joint_still j new longer (map kept j.ends) turns.1 refl
 alone_keeps j new longer (Err (Faults.LogFull p)) none turns = joint_still j new longer (map kept j.ends) turns.2 refl

@@ -14,3 +14,7 @@ pub mod Fitting
 pub mod Beside
 pub mod Looks
 pub mod Placed
+pub mod Holding
+pub mod Presets
+pub mod PageCalls
+pub mod Paged

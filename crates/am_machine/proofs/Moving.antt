@@ -1,7 +1,7 @@
 -- The moves of a node's driver.
 use Rattle.std.specs.Prelude.{not, nat_le, nat_lt, slice_index_or, slice_set}
 use Rattle.std.specs.List.{list_any, find, position, position_or_len, filter}
-use Rattle.std.proofs.Common.{◌≡◌, ℕ, suc, ◌+◌, ◌<◌, ◌≤◌, ◌==◌, Bool, true, false, cond, ◌||◌, ◌&&◌, ◌⊎◌, inl, inr, List, [], ◌∷◌, ◌++◌, map, length, slice_get, Option, Some, None, refl, sym, ap, ◌∙◌, subst, arith, ltb-true, eqb-true, if◌then◌else◌}
+use Rattle.std.proofs.Common.{◌≡◌, ℕ, suc, ◌+◌, ◌<◌, ◌≤◌, ◌==◌, Bool, true, false, cond, ◌||◌, ◌&&◌, List, [], ◌∷◌, ◌++◌, map, length, slice_get, Option, Some, None, refl, sym, ap, ◌∙◌, subst, arith, true≢false, ltb-true, eqb-true, if◌then◌else◌}
 use Rattle.std.proofs.lemmas.Bool.{and_parts}
 use Rattle.am_names.specs.declared.EndpointId.{EndpointId}
 use Rattle.am_names.specs.declared.NodeId.{NodeId}
@@ -15,27 +15,26 @@ use Rattle.am_office.specs.declared.Outcome.TheVariants as Out
 use Rattle.am_office.specs.declared.Entry.{Entry}
 use Rattle.am_office.specs.Entries.{emitted_in, ends_touched, node_touched}
 use Rattle.am_model.specs.Endpoint.{State, is_direct}
-use Rattle.am_model.specs.Layout.{Layout, EndSetting, Fault, AllAre, declared, has_id, home, home_by}
-use Rattle.am_model.specs.History.{failing, is_frame_held, is_home, is_in_frame, is_in_range, outcome_of, page, state_of}
+use Rattle.am_model.specs.Layout.{Layout, EndSetting, AllAre, declared, has_id, home, home_by}
+use Rattle.am_model.specs.History.{failing, is_frame_held, is_home, is_in_frame, is_in_range, outcome_of, state_of}
 use Rattle.am_model.specs.Steps.{LogFull, step_entry, stop}
 use Rattle.am_office.specs.declared.Part.TheVariants as Parts
 use Rattle.am_local.specs.Driver.{DriverLog, driver_of, end_moved, failing_move, is_by_driver, outcome_move}
 use Rattle.am_local.specs.Granted.{MayMove}
-use Rattle.am_local.specs.Readings.{page_calls}
 use Rattle.am_local.specs.Together.{IsDriverPart, IsState, ends_of, faults_of}
 use Rattle.am_local.proofs.Granting.{move_granted}
 use Rattle.am_local.proofs.Homes.{home_is, is_at}
 use Rattle.am_local.proofs.Moves.{move_local}
 use Rattle.am_laws_homes.proofs.Places.{fits_network}
 use Rattle.am_scenario_types.specs.declared.parts.FaultLine.{FaultLine}
-use Rattle.am_follow.specs.Layout.{fault_of}
 use Rattle.am_endpoint.specs.View.{EndpointView, state_after, state_by}
 use Rattle.am_body.specs.declared.settings.EndSettings.{EndSettings}
 use Rattle.am_journal.specs.View.{AreNodes}
 use Rattle.am_machine.specs.Ends.{EndLog, is_of, kept, setting_in}
 use Rattle.am_machine.specs.Kept.{IsOwn, IsTied, layout_in}
 use Rattle.am_machine.specs.declared.settings.Settings.{Settings}
-use Rattle.am_machine.specs.Moves.{IsPaged, failing_on, is_fault, is_in_frame_of, is_taken}
+use Rattle.am_machine.specs.Moves.{failing_on, is_in_frame_of, is_taken}
+use Rattle.am_machine.specs.Pages.{is_page}
 use Rattle.am_machine.proofs.Applied.{IsHere, IsNext, IsSingle, found_here, full_here, same_here, single_next, single_stop, state_here}
 use Rattle.am_machine.proofs.Places.{position_at}
 use Rattle.am_machine.proofs.Tied.{own_state}
@@ -179,12 +178,6 @@ home_here layout vs journal e node one ends tied at =
     home_is layout tied.lawful.ids e node
     ∙ ap (λ (o : Option EndSetting). is_at node (home_by o)) (ap (find (has_id e)) ends ∙ setting_found vs e one at)
 
--- ---- page calls
-
-pub faults_here : (node : NodeId) (number : ℕ) (faults : List FaultLine) → list_any (λ (f : Fault). same_node node f.node && (f.number == number)) (map fault_of faults) ≡ list_any (is_fault node number) faults
-faults_here node number [] = refl
-faults_here node number (f ∷ faults) = λ i. is_fault node number f || faults_here node number faults i
-
 -- ---- what the endpoint may be given
 
 abbrev driver_in : Layout → List Entry → NodeId → DriverLog
@@ -208,23 +201,18 @@ may_move layout journal event node end s x tied packet by is enabled st at =
       packet = ap (λ (t : State). is_direct t.head.place) st ∙ fits_network layout journal tied.walked.history end ∙ ap (λ (b : Bool). b && declared layout end) packet;
     }))
 
-page_ends : (b : Bool) → ((if b then Out.Failed else Out.Done) ≡ Out.Done) ⊎ ((if b then Out.Failed else Out.Done) ≡ Out.Failed)
-page_ends true = inr refl
-page_ends false = inl refl
-
-pub paged : (layout : Layout) (journal : List Entry) (event : Event) (o : Outcome) → o ≡ outcome_of layout journal event → IsPaged event o
-paged layout journal (Events.PageIn node end) o is = subst (λ (p : Outcome). (p ≡ Out.Done) ⊎ (p ≡ Out.Failed)) (sym is) (page_ends _)
-paged layout journal event o is = tt
+-- a move that is no page call is silent
+pub moved_silently : (layout : Layout) (journal : List Entry) (event : Event) (end : EndpointId) → end_moved event ≡ Some end → is_page event ≡ false → Out.Silent ≡ outcome_of layout journal event
+moved_silently layout journal (Events.Drain node e) end is unpaged = refl
+moved_silently layout journal (Events.Unload node e) end is unpaged = refl
+moved_silently layout journal (Events.Load node e frame) end is unpaged = refl
+moved_silently layout journal (Events.PageOut node e) end is unpaged = absurd (true≢false unpaged)
+moved_silently layout journal (Events.PageIn node e) end is unpaged = absurd (true≢false unpaged)
+moved_silently layout journal event end is unpaged = absurd (cc)
 
 pub move_single : (layout : Layout) (journal : List Entry) (event : Event) (end : EndpointId) → is_in_range layout event ≡ true → end_moved event ≡ Some end → failing layout journal event ≡ None → IsSingle layout journal event end
 move_single layout journal event end range is enabled =
     record { in_range = range; enabled = enabled; touched = moved_touches event (outcome_of layout journal event) end is; alone = moved_alone event end is }
-
--- what comes of a page call, by whether its number is listed
-pub page_told : (layout : Layout) (journal : List Entry) (node : NodeId) (faults : List FaultLine) (number : ℕ) (listed : Bool) → layout.faults ≡ map fault_of faults → number ≡ page_calls node journal + 1 → list_any (is_fault node number) faults ≡ listed → page layout node journal ≡ (if listed then Out.Failed else Out.Done)
-page_told layout journal node faults number listed at count is =
-    ap (λ (b : Bool). if b then Out.Failed else Out.Done)
-    ((λ i. list_any (λ (f : Fault). same_node node f.node && (f.number == sym count i)) (at i)) ∙ faults_here node number faults ∙ is)
 
 -- the node of an endpoint, told by the one that stands at its place
 pub home_of : (layout : Layout) (vs : List EndpointView) (journal : List Entry) (e : EndpointId) (k : ℕ) (node : NodeId) (one : EndpointView) → layout.ends ≡ map setting_in (map kept vs) → IsTied layout (map kept vs) journal → position (is_of e) vs ≡ Some k → one ≡ slice_index_or vs k one → is_home layout e node ≡ same_node node one.settings.node
@@ -267,21 +255,21 @@ move_here m = found_here m.ends m.end m.place m.one m.found m.value
 none_some : (c : Condition) → Some c ≡ None → ⊥
 none_some c h = cc
 
-move_packet : (m : Move) → (layout_of m).direct ≡ false
+pub move_packet : (m : Move) → (layout_of m).direct ≡ false
 move_packet m = by_test (layout_of m).direct refl
   where
     by_test : (t : Bool) → (layout_of m).direct ≡ t → t ≡ false
     by_test true is = absurd (none_some Needs.NotPacket (sym (failing_direct (layout_of m) m.journal m.event m.end is m.moved) ∙ m.enabled))
     by_test false is = refl
 
-move_home : (m : Move) → is_home (layout_of m) m.end m.node ≡ true
+pub move_home : (m : Move) → is_home (layout_of m) m.end m.node ≡ true
 move_home m = by_test (is_home (layout_of m) m.end m.node) refl
   where
     by_test : (t : Bool) → is_home (layout_of m) m.end m.node ≡ t → t ≡ true
     by_test true is = refl
     by_test false is = absurd (none_some Needs.OtherNode (sym (failing_other (layout_of m) m.journal m.event m.node m.end (move_packet m) m.driver m.moved is) ∙ m.enabled))
 
-move_node : (m : Move) → m.node ≡ m.one.settings.node
+pub move_node : (m : Move) → m.node ≡ m.one.settings.node
 move_node m =
     let same = sym (home_of (layout_of m) m.ends m.journal m.end m.place m.node m.one refl m.tied m.found m.value) ∙ move_home m in
     λ i. record { 0 = eqb-true m.node.0 m.one.settings.node.0 same i }

@@ -9,7 +9,9 @@ use Rattle.am_scenario_types.specs.declared.parts.FaultLine.{FaultLine}
 use Rattle.am_follow.specs.Layout.{is_direct, fault_of}
 use Rattle.am_laws_steps.specs.Laws.{Walked}
 use Rattle.am_iface.specs.View.{InterfaceView}
+use Rattle.am_device.specs.Memory.{Store}
 use Rattle.am_machine.specs.Interfaces.{AreInterfaces}
+use Rattle.am_machine.specs.Swaps.{AreSwaps}
 use Rattle.am_machine.specs.View.{ClusterView}
 use Rattle.am_machine.specs.Ends.{EndLog, kept, setting_in}
 use Rattle.am_machine.specs.declared.settings.Settings.{Settings}
@@ -46,9 +48,10 @@ pub record IsTied (layout : Layout) (es : List EndLog) (journal : List Entry) : 
   pub apart : (j k : ℕ) (d e : EndLog) → slice_get es j ≡ Some d → slice_get es k ≡ Some e → d.settings.id ≡ e.settings.id → j ≡ k
 
 -- what a cluster keeps, by its parts
-pub record IsKept (layout : Layout) (es : List EndLog) (journal : List Entry) (interfaces : List InterfaceView) : Type 0 where
+pub record IsKept (layout : Layout) (es : List EndLog) (journal : List Entry) (interfaces : List InterfaceView) (swaps : List Store) : Type 0 where
   pub tied : IsTied layout es journal
   pub interfaces' : AreInterfaces layout journal interfaces
+  pub swaps' : AreSwaps layout journal swaps
 
 abbrev pub ends_in : Inside → List EndLog
 ends_in c = map kept c.ends.items
@@ -57,4 +60,4 @@ abbrev pub cluster_in : Inside → ClusterView
 cluster_in c = record { layout = layout_in c.settings c.faults.items (ends_in c); journal = c.journal.entries }
 
 abbrev pub IsCluster : Inside → Type 0
-IsCluster c = IsKept (layout_in c.settings c.faults.items (ends_in c)) (ends_in c) c.journal.entries c.interfaces.items
+IsCluster c = IsKept (layout_in c.settings c.faults.items (ends_in c)) (ends_in c) c.journal.entries c.interfaces.items c.swaps.items

@@ -1,5 +1,5 @@
 -- What a driver's move asks of the endpoint that it moves and of the frames, as the machine tells it.
-use Rattle.std.specs.Prelude.{◌≡◌, ℕ, Bool, false, ◌==◌, ◌&&◌, not, ◌⊎◌, Option, None, List, [], ◌∷◌, length}
+use Rattle.std.specs.Prelude.{◌≡◌, ℕ, Bool, false, ◌==◌, ◌&&◌, not, Option, None, List, [], ◌∷◌, length}
 use Rattle.std.specs.List.{list_any}
 use Rattle.am_names.specs.declared.NodeId.{NodeId}
 use Rattle.am_names.specs.Names.{same_node}
@@ -7,12 +7,9 @@ use Rattle.am_office.specs.declared.Condition.{Condition}
 use Rattle.am_office.specs.declared.Condition.TheVariants as Needs
 use Rattle.am_office.specs.declared.Event.{Event}
 use Rattle.am_office.specs.declared.Event.TheVariants as Events
-use Rattle.am_office.specs.declared.Outcome.{Outcome}
-use Rattle.am_office.specs.declared.Outcome.TheVariants as Out
 use Rattle.am_model.specs.Choice.{first_holding}
 use Rattle.am_model.specs.Endpoint.{State, is_resident, is_on_disk, is_on_host}
 use Rattle.am_model.specs.History.{is_in_frame}
-use Rattle.am_scenario_types.specs.declared.parts.FaultLine.{FaultLine}
 use Rattle.am_endpoint.specs.View.{EndpointView, state_after}
 
 -- whether an endpoint is of the node and lies in the frame
@@ -41,12 +38,3 @@ failing_on s (Events.Load node end frame) taken =
 failing_on s (Events.PageOut node end) taken = first_holding ((not (is_on_host s.head.place), Needs.NotOnHost) ∷ (s.head.closed, Needs.Closed) ∷ [])
 failing_on s (Events.PageIn node end) taken = first_holding ((not (is_on_disk s.head.place), Needs.NotOnDisk) ∷ [])
 failing_on s event taken = None
-
--- whether it is the node's page call with this number that fails
-abbrev pub is_fault : NodeId → ℕ → FaultLine → Bool
-is_fault node number fault = same_node node fault.node && (fault.number == number)
-
--- a page-in succeeds or fails
-abbrev pub IsPaged : Event → Outcome → Type 0
-IsPaged (Events.PageIn node end) outcome = (outcome ≡ Out.Done) ⊎ (outcome ≡ Out.Failed)
-IsPaged event outcome = Unit {0}

@@ -1,16 +1,16 @@
-// What a driver's move asks of the endpoint that it moves, of the frames and of the failing page calls.
+// What a driver's move asks of the endpoint that it moves and of the frames.
 ghost use Rattle.am_endpoint.specs.View.{state_after};
-ghost use Rattle.am_machine.specs.Moves.{IsPaged, failing_on, failing_unload, is_fault, is_in_frame_of, is_taken};
+ghost use Rattle.am_machine.specs.Moves.{failing_on, failing_unload, is_in_frame_of, is_taken};
+ghost use Rattle.am_machine.specs.Pages.{is_page};
 ghost use Rattle.am_local.specs.Granted.{MayMove};
 ghost use Rattle.am_model.specs.Endpoint as model;
 ghost use Rattle.am_model.specs.History as history;
-ghost use Rattle.std.specs.Prelude.{◌≡◌, ◌<◌, ◌∷◌, ◌++◌, [], length, true};
+ghost use Rattle.std.specs.Prelude.{◌≡◌, ◌<◌, ◌∷◌, ◌++◌, [], length, false, true};
 ghost use Rattle.std.specs.List.{list_any};
 
 use am_endpoint::Endpoint;
 use am_names::NodeId;
-use am_office::{Condition, Entry, Event, Outcome, Place};
-use am_scenario_types::FaultLine;
+use am_office::{Condition, Entry, Event, Place};
 
 /// Whether what lies there is resident.
 fn is_resident(place: Place) -> bool
@@ -104,19 +104,12 @@ fn failing_unload(end: &Endpoint) -> Option<Condition>
     }
 }
 
-/// Whether a page call of the node with this number fails.
-pub(crate) fn is_listed(faults: &[FaultLine], node: NodeId, number: u64) -> bool
-    ensures { result ≡ list_any (is_fault node number) faults.now }
-{
-    faults.iter().any(|fault| node.0 == fault.node.0 && u64::from(fault.number) == number)
-}
-
-/// Gives the entry of a move to the endpoint that it moves.
+/// Gives the entry of a drain, an unload or a load to the endpoint that it moves.
 pub(crate) fn move_end(end: &mut Endpoint, entry: Entry)
     requires ready { end.old.ready ≡ true }
     requires room { length end.old.log < end.old.settings.log }
     requires allowed { MayMove end.old.settings.node end.old.settings.id (state_after end.old) entry entry.event }
-    requires paged { IsPaged entry.event entry.outcome }
+    requires unpaged { is_page entry.event ≡ false }
     ensures settings { end.new.settings ≡ end.old.settings }
     ensures log { end.new.log ≡ end.old.log ++ entry ∷ [] }
 {
@@ -124,12 +117,6 @@ pub(crate) fn move_end(end: &mut Endpoint, entry: Entry)
         Event::Drain { .. } => end.begin_drain(entry),
         Event::Unload { .. } => end.unload(entry),
         Event::Load { .. } => end.load(entry),
-        Event::PageOut { .. } => end.page_out(entry),
-        Event::PageIn { .. } => match entry.outcome {
-            Outcome::Done => end.page_in(entry),
-            Outcome::Failed => end.page_failed(entry),
-            _ => unreachable!(),
-        },
         _ => unreachable!(),
     }
 }

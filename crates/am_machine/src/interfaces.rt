@@ -57,8 +57,8 @@ fn open_interface(
     Interface::new(alloc, set)
 }
 
-/// How many interfaces there are.
-fn interfaces_of(settings: &Settings) -> u8
+/// How many interfaces there are, and how many disks.
+pub(crate) fn interfaces_of(settings: &Settings) -> u8
     ensures { result ≡ (if is_direct settings.now.network then 0 else settings.now.nodes) }
 {
     match settings.network {

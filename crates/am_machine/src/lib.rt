@@ -3,6 +3,7 @@
 
 ghost use Rattle.am_follow.specs.Layout.{layout_of};
 ghost use Rattle.am_machine.specs.View.{Applies};
+ghost use Rattle.am_model.specs.Cluster.{ClusterInvariant};
 ghost use Rattle.am_model.specs.History.{IsHistory, is_in_range};
 ghost use Rattle.am_model.specs.Layout as layouts;
 ghost use Rattle.am_model.specs.PostOffice.{PostOffice};
@@ -16,8 +17,11 @@ mod frames;
 mod interfaces;
 mod moves;
 mod opening;
+mod pages;
+mod paging;
 mod parts;
 mod settings;
+mod swaps;
 mod turned;
 mod turns;
 mod ways;
@@ -26,25 +30,31 @@ use crate::interfaces::open_interfaces;
 use crate::opening::open_ends;
 pub use crate::settings::ApplyFault;
 use crate::settings::Settings;
+use crate::swaps::open_swaps;
 use am_endpoint::Endpoint;
 use am_iface::Interface;
 use am_journal::IndexedJournal;
 use am_laws::post_office;
+use am_laws_cluster::cluster_holds;
 pub use am_office::NoMemory;
 use am_office::{Entry, Event, Journal};
 use am_scenario_types::{FaultLine, Scenario};
+use am_swap::MemorySwap;
 use std::alloc::Global;
 use std::marker::Model;
 
 /// A cluster. Contracts see it as the layout in which it began and its journal, which is a history of that layout.
 #[derive(Drop)]
 pub struct Cluster {
+    alloc: Global,
     settings: Settings,
     faults: Vec<FaultLine>,
     ends: Vec<Endpoint>,
     journal: IndexedJournal,
     /// One for each node of the packet network, by its number; none in the direct network.
     interfaces: Vec<Interface>,
+    /// The disk of each node of the packet network, by its number; none in the direct network.
+    swaps: Vec<MemorySwap>,
 }
 
 impl Model for Cluster {
@@ -82,12 +92,15 @@ impl Cluster {
         };
         let journal = IndexedJournal::new(alloc)?;
         let interfaces = open_interfaces(alloc, &settings, &scenario.ends)?;
+        let swaps = open_swaps(alloc, &settings, &scenario.faults, &scenario.ends)?;
         Ok(Cluster {
+            alloc,
             settings,
             faults,
             ends,
             journal,
             interfaces,
+            swaps,
         })
     }
 
@@ -110,21 +123,24 @@ impl Cluster {
             Event::Receive { node, peer, number } => self.receive(node, peer, number),
             Event::Drain { node, end }
             | Event::Unload { node, end }
-            | Event::Load { node, end, .. }
-            | Event::PageOut { node, end }
-            | Event::PageIn { node, end } => self.make_move(*event, node, end),
+            | Event::Load { node, end, .. } => self.make_move(*event, node, end),
+            Event::PageOut { node, end } | Event::PageIn { node, end } => {
+                self.make_page(*event, node, end)
+            }
         }
     }
 
-    /// The entries in order, which are a history of a lawful layout and obey the laws of the post office. `NoMemory` comes
-    /// where there is none for a copy of them.
+    /// The entries in order, which are a history of a lawful layout, obey the laws of the post office and keep the invariant
+    /// of the cluster. `NoMemory` comes where there is none for a copy of them.
     pub fn journal(&self, alloc: Global) -> Result<Journal, NoMemory>
         ensures journal { IfOk result (λ journal. journal ≡ self.now.journal) }
         ensures lawful { layouts.IsLawful self.now.layout }
         ensures history { IfOk result (λ journal. IsHistory self.now.layout journal) }
         ensures laws { IfOk result (λ journal. PostOffice self.now.layout journal) }
+        ensures invariant { IfOk result (λ journal. ClusterInvariant self.now.layout journal) }
     {
         post_office();
+        cluster_holds();
         match Vec::from_slice(alloc, self.journal.entries()) {
             Ok(entries) => Ok(Journal { entries }),
             Err(_) => Err(NoMemory),

@@ -1,19 +1,20 @@
 // The moves of a node's driver.
 ghost use Rattle.am_local.specs.Driver.{driver_of, end_moved};
 ghost use Rattle.am_machine.specs.View.{Applies};
-ghost use Rattle.am_model.specs.History.{failing, is_in_range, outcome_of, page};
-ghost use Rattle.std.specs.Prelude.{◌≡◌, ◌<◌, Some, false, is_some, true};
+ghost use Rattle.am_machine.specs.Pages.{is_page};
+ghost use Rattle.am_model.specs.History.{failing, is_in_range};
+ghost use Rattle.std.specs.Prelude.{◌≡◌, Some, false, true};
 
 use crate::Cluster;
 use crate::ends::{is_full, place_of};
-use crate::frames::{failing_on, is_listed, is_taken, move_end};
+use crate::frames::{failing_on, is_taken, move_end};
 use crate::settings::ApplyFault;
 use am_names::{EndpointId, NodeId};
 use am_office::{Condition, Entry, Event, Outcome, Part};
 use am_scenario_types::Network;
 
 impl Cluster {
-    /// Makes a move of a node's driver: a drain, an unload, a load, a page-out or a page-in.
+    /// Makes a move of a node's driver that calls no disk: a drain, an unload or a load.
     pub(crate) fn make_move(
         &mut self,
         event: Event,
@@ -22,13 +23,13 @@ impl Cluster {
     ) -> Result<Entry, ApplyFault>
         requires driver { driver_of event ≡ Some node }
         requires end { end_moved event ≡ Some end }
+        requires unpaged { is_page event ≡ false }
         requires in_range { is_in_range self.old.layout event ≡ true }
         ensures { Applies self.old self.new event result }
     {
         if let Some(condition) = self.failing_move(event, node, end) {
             return Err(ApplyFault::NotEnabled(condition));
         }
-        let outcome = self.outcome_of_move(event);
         let Some(place) = place_of(&self.ends, end) else {
             unreachable!()
         };
@@ -45,7 +46,7 @@ impl Cluster {
         let entry = Entry {
             stamp: self.journal.len() + 1,
             event,
-            outcome,
+            outcome: Outcome::Silent,
         };
         move_end(one, entry);
         self.journal.log(entry, None);
@@ -53,7 +54,12 @@ impl Cluster {
     }
 
     /// The first condition that keeps a move from being made.
-    fn failing_move(&self, event: Event, node: NodeId, end: EndpointId) -> Option<Condition>
+    pub(crate) fn failing_move(
+        &self,
+        event: Event,
+        node: NodeId,
+        end: EndpointId,
+    ) -> Option<Condition>
         requires driver { driver_of event ≡ Some node }
         requires end { end_moved event ≡ Some end }
         requires in_range { is_in_range self.now.layout event ≡ true }
@@ -81,31 +87,5 @@ impl Cluster {
             return Some(Condition::OtherNode);
         }
         failing_on(one, event, is_taken(&self.ends, event))
-    }
-
-    /// What comes of a move.
-    fn outcome_of_move(&self, event: Event) -> Outcome
-        requires driver { is_some (driver_of event) ≡ true }
-        requires in_range { is_in_range self.now.layout event ≡ true }
-        ensures { result ≡ outcome_of self.now.layout self.now.journal event }
-    {
-        match event {
-            Event::PageOut { node, .. } => self.outcome_of_page_call(node),
-            Event::PageIn { node, .. } => self.outcome_of_page_call(node),
-            _ => Outcome::Silent,
-        }
-    }
-
-    /// What comes of the next page call of a node.
-    fn outcome_of_page_call(&self, node: NodeId) -> Outcome
-        requires { node.0 < self.now.layout.nodes }
-        ensures { result ≡ page self.now.layout node self.now.journal }
-    {
-        let number = self.journal.page_calls(node) + 1;
-        if is_listed(&self.faults, node, number) {
-            Outcome::Failed
-        } else {
-            Outcome::Done
-        }
     }
 }

@@ -22,12 +22,11 @@ fn opening_place(network: Network, disk: bool) -> Place
     }
 }
 
-/// A fresh endpoint, as it is declared.
-fn open_end(alloc: Global, settings: &Settings, line: &EndLine) -> Result<Endpoint, NoMemory>
-    requires { CanOpen settings.now }
-    ensures { IfOk result (λ end. kept end ≡ opened settings.now line.now) }
+/// What an endpoint begins with, as it is declared.
+pub(crate) fn settings_of(settings: &Settings, line: &EndLine) -> EndSettings
+    ensures { result ≡ (opened settings.now line.now).settings }
 {
-    let set = EndSettings {
+    EndSettings {
         id: line.id,
         node: line.node,
         tag: line.tag,
@@ -35,8 +34,15 @@ fn open_end(alloc: Global, settings: &Settings, line: &EndLine) -> Result<Endpoi
         log: settings.log,
         bounces: settings.bounces,
         pool: settings.pool,
-    };
-    Endpoint::new(alloc, set)
+    }
+}
+
+/// A fresh endpoint, as it is declared.
+fn open_end(alloc: Global, settings: &Settings, line: &EndLine) -> Result<Endpoint, NoMemory>
+    requires { CanOpen settings.now }
+    ensures { IfOk result (λ end. kept end ≡ opened settings.now line.now) }
+{
+    Endpoint::new(alloc, settings_of(settings, line))
 }
 
 /// The fresh endpoints of a cluster, in the order of their lines.

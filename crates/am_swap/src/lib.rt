@@ -3,6 +3,7 @@
 #![tactic(auto)]
 
 ghost use Rattle.am_image.specs.Image.{image};
+ghost use Rattle.am_image.specs.Range.{IsInRange};
 ghost use Rattle.am_image.specs.Valid.{IsValid};
 ghost use Rattle.am_model.specs.Endpoint.{Body as Held};
 ghost use Rattle.am_names.specs.declared.EndpointId.{EndpointId as Id};
@@ -23,14 +24,17 @@ use am_office::NoMemory;
 use std::alloc::Global;
 
 /// The image of a body with nothing in flight. No other body that the endpoint may have has it, and it has fewer than
-/// 6,000 bytes where the endpoint may have the body.
+/// 6,000 bytes where the endpoint may have the body. The numbers of the body are in range, since it is held.
 pub fn encode(alloc: Global, body: &Body) -> Result<Vec<u8>, NoMemory>
     requires { body.now.body.in_flight ≡ [] }
     ensures image { IfOk result (λ bytes. bytes.items ≡ image body.now.body) }
     ensures own { IfOk result (λ bytes. (e : Id) (other : Held) → IsValid e body.now.pool body.now.body → IsValid e body.now.pool other → image other ≡ bytes.items → other ≡ body.now.body) }
+    ensures in_range { IfOk result (λ bytes. IsInRange body.now.body) }
     ensures short { IfOk result (λ bytes. (e : Id) → IsValid e body.now.pool body.now.body → length bytes.items < 6000) }
 {
-    lists_of(alloc, body)?.written(alloc)
+    let lists = lists_of(alloc, body)?;
+    lists.in_range();
+    lists.written(alloc)
 }
 
 /// The body that the endpoint, with this pool or none, may have and whose image the bytes are; `None` exactly where

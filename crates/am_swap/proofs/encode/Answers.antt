@@ -3,8 +3,8 @@ use Rattle.am_swap.proofs.encode.Goals as goal
 
 pub returns-clause-own : goal.returns-clause-own
 returns-clause-own c =
-    no_other c.written-2.result c.in_ok-lists_of.field-0 c.args.body.now.body c.args.body.now.pool c.in_ok-lists_of.ensures.lists c.written-2.ensures
+    no_other c.written.result c.in_ok-lists.lists c.args.body.now.body c.args.body.now.pool c.in_ok-lists.ensures.lists c.written.ensures
 
 pub returns-clause-short : goal.returns-clause-short
 returns-clause-short c =
-    is_short c.written-2.result c.in_ok-lists_of.field-0 c.args.body.now.body c.args.body.now.pool c.in_ok-lists_of.ensures.lists c.written-2.ensures
+    is_short c.written.result c.in_ok-lists.lists c.args.body.now.body c.args.body.now.pool c.in_ok-lists.ensures.lists c.written.ensures

@@ -95,7 +95,7 @@ invariant_of-self-in-Ok c =
     applied.call_next c.self.inside.settings c.self.inside.faults.items vs journal c.args.actor c.args.end c.args.call c.in-Some.place c.index_mut.result.now c.call.new.self c.in-Ok.entry c.log.new.self.entries c.len.result
     c.self.invariant.tied range now disk room c.in-Ok.ensures.event c.in-Ok.ensures.outcome c.in-Ok.ensures.stamp (c.len.ensures.value ∙ ap length c.room.ensures.entries) c.in-Ok.ensures.settings c.in-Ok.ensures.logged
     (c.log.ensures ∙ ap (λ (xs : List Entry). xs ++ c.in-Ok.entry ∷ []) c.room.ensures.entries) in
-    applied.kept_next c.self.inside.settings c.self.inside.faults.items (map kept vs) journal _ c.in-Ok.entry _ c.log.new.self.entries c.self.inside.interfaces.items next refl c.self.invariant.interfaces'
+    applied.kept_unpaged c.self.inside.settings c.self.inside.faults.items (map kept vs) journal _ c.in-Ok.entry _ c.log.new.self.entries c.self.inside.interfaces.items c.self.inside.swaps.items next refl refl c.self.invariant
 
 pub returns-in-Ok : goal.returns-in-Ok
 returns-in-Ok c =
@@ -121,7 +121,7 @@ invariant_of-self-in-Err c =
     let layout = layout_in c.self.inside.settings c.self.inside.faults.items (map kept vs) in
     let now = applied.found_here vs c.args.end c.in-Some.place c.index_mut.result.now (sym (c.place_of.ensures ∙ ap (position (is_of c.args.end)) c.deref.ensures.value) ∙ c.in-Some.is) c.index_mut.ensures.value in
     let same = kept_same vs c.in-Some.place c.index_mut.result.now c.call.new.self now.at (λ i. record { settings = c.in-Err.ensures.settings i; log = c.in-Err.ensures.err i }) in
-    applied.kept_still c.self.inside.settings c.self.inside.faults.items (map kept vs) _ journal c.room.new.self.entries c.self.inside.interfaces.items same c.room.ensures.entries c.self.invariant
+    applied.kept_still c.self.inside.settings c.self.inside.faults.items (map kept vs) _ journal c.room.new.self.entries c.self.inside.interfaces.items c.self.inside.swaps.items same c.room.ensures.entries c.self.invariant
 
 pub returns-in-Err : goal.returns-in-Err
 returns-in-Err c =

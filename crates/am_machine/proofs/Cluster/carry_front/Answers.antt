@@ -220,8 +220,8 @@ invariant_of-self-2 c =
     let n = vec_len c.self.inside.ends in
     let last = c.carry_between.new.ends in
     let whole : take n (last ++ drop (length last) (take n (c.room_for_both.new.ends ++ drop (length c.room_for_both.new.ends) vs))) ≡ last = lent_back n last (take n (c.room_for_both.new.ends ++ drop (length c.room_for_both.new.ends) vs)) (c.carry_between.auto.ends ∙ c.deref_mut-2.ensures.len) in
-    let final = applied.kept_next c.self.inside.settings c.self.inside.faults.items (map kept vs) journal (Events.Carry c.args.end) x (map kept last) c.log.new.self.entries c.self.inside.interfaces.items next refl c.self.invariant.interfaces' in
-    subst (λ (es : List EndpointView). IsKept (layout_in c.self.inside.settings c.self.inside.faults.items (map kept es)) (map kept es) c.log.new.self.entries c.self.inside.interfaces.items) (sym whole) final
+    let final = applied.kept_unpaged c.self.inside.settings c.self.inside.faults.items (map kept vs) journal (Events.Carry c.args.end) x (map kept last) c.log.new.self.entries c.self.inside.interfaces.items c.self.inside.swaps.items next refl refl c.self.invariant in
+    subst (λ (es : List EndpointView). IsKept (layout_in c.self.inside.settings c.self.inside.faults.items (map kept es)) (map kept es) c.log.new.self.entries c.self.inside.interfaces.items c.self.inside.swaps.items) (sym whole) final
 
 pub returns : goal.returns
 returns c =
@@ -283,7 +283,7 @@ invariant_of-self-in_default-room_for_both c =
     let same : map kept back ≡ map kept vs = c.room_for_both.ensures.same ∙ ap (λ (l : List EndpointView). map kept l) c.deref_mut.ensures.value in
     let whole : take n (back ++ drop (length back) vs) ≡ back = lent_back n back vs (c.room_for_both.auto.ends ∙ c.deref_mut.ensures.len) in
     let kept' : map kept (take n (back ++ drop (length back) vs)) ≡ map kept vs = ap (λ (l : List EndpointView). map kept l) whole ∙ same in
-    applied.kept_still c.self.inside.settings c.self.inside.faults.items (map kept vs) (map kept (take n (back ++ drop (length back) vs))) c.self.inside.journal.entries c.room.new.self.entries c.self.inside.interfaces.items kept' c.room.ensures.entries c.self.invariant
+    applied.kept_still c.self.inside.settings c.self.inside.faults.items (map kept vs) (map kept (take n (back ++ drop (length back) vs))) c.self.inside.journal.entries c.room.new.self.entries c.self.inside.interfaces.items c.self.inside.swaps.items kept' c.room.ensures.entries c.self.invariant
 
 pub returns-in_default-room_for_both : goal.returns-in_default-room_for_both
 returns-in_default-room_for_both c =

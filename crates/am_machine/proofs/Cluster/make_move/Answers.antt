@@ -1,7 +1,8 @@
 use Rattle.std.specs.Prelude.{nat_le}
 use Rattle.std.proofs.Common.{◌≡◌, ◌+◌, ◌++◌, ◌∷◌, [], List, map, length, position, refl, sym, ap, ◌∙◌}
+use Rattle.am_office.specs.declared.Outcome.TheVariants as Out
 use Rattle.am_office.specs.declared.Entry.{Entry}
-use Rattle.am_model.specs.History.{failing, is_in_range, outcome_of}
+use Rattle.am_model.specs.History.{failing, is_in_range}
 use Rattle.am_model.specs.Steps.{step_entry, stop}
 use Rattle.am_endpoint.specs.View.{EndpointView}
 use Rattle.am_machine.specs.Ends.{is_of, kept}
@@ -74,7 +75,7 @@ invariant_of-self-then-is_err-2 c =
       value = c.index_mut-one.ensures.value;
     } in
     let same = kept_same vs c.in-Some-place_of.place c.index_mut-one.result.now c.room-2.new.self (moving.move_here move).at (λ i. record { settings = c.room-2.ensures.settings i; log = c.room-2.ensures.log i }) in
-    applied.kept_still c.self.inside.settings c.self.inside.faults.items (map kept vs) _ journal c.room.new.self.entries c.self.inside.interfaces.items same c.room.ensures.entries c.self.invariant
+    applied.kept_still c.self.inside.settings c.self.inside.faults.items (map kept vs) _ journal c.room.new.self.entries c.self.inside.interfaces.items c.self.inside.swaps.items same c.room.ensures.entries c.self.invariant
 
 pub returns-then-is_err-2 : goal.returns-then-is_err-2
 returns-then-is_err-2 c =
@@ -125,14 +126,11 @@ move_end-requires-clause-allowed c =
       found = sym (c.place_of.ensures ∙ ap (position (is_of c.args.end)) c.deref.ensures.value) ∙ c.in-Some-place_of.is;
       value = c.index_mut-one.ensures.value;
     } in
-    let x : Entry = record { stamp = c.len.result + 1; event = c.args.event; outcome = c.outcome_of_move-outcome.result } in
-    let came = c.outcome_of_move-outcome.ensures ∙ ap (λ (v : ClusterView). outcome_of v.layout v.journal c.args.event) (sym c.self.view_is) in
+    let x : Entry = record { stamp = c.len.result + 1; event = c.args.event; outcome = Out.Silent } in
+    let came = moving.moved_silently layout journal c.args.event c.args.end c.requires.end c.requires.unpaged in
     let at = c.len.ensures.value ∙ ap length c.room.ensures.entries in
     let is : x ≡ step_entry layout journal c.args.event = λ i. record { stamp = at i + 1; event = c.args.event; outcome = came i } in
     moving.move_allowed move c.room-2.new.self x c.room-2.ensures.settings c.room-2.ensures.log is
-
-pub move_end-requires-clause-paged : goal.move_end-requires-clause-paged
-move_end-requires-clause-paged c = moving.paged c.args.self.now.layout c.args.self.now.journal c.args.event c.outcome_of_move-outcome.result c.outcome_of_move-outcome.ensures
 
 pub invariant_of-self-2 : goal.invariant_of-self-2
 invariant_of-self-2 c =
@@ -157,8 +155,8 @@ invariant_of-self-2 c =
       found = sym (c.place_of.ensures ∙ ap (position (is_of c.args.end)) c.deref.ensures.value) ∙ c.in-Some-place_of.is;
       value = c.index_mut-one.ensures.value;
     } in
-    let x : Entry = record { stamp = c.len.result + 1; event = c.args.event; outcome = c.outcome_of_move-outcome.result } in
-    let came = c.outcome_of_move-outcome.ensures ∙ ap (λ (v : ClusterView). outcome_of v.layout v.journal c.args.event) (sym c.self.view_is) in
+    let x : Entry = record { stamp = c.len.result + 1; event = c.args.event; outcome = Out.Silent } in
+    let came = moving.moved_silently layout journal c.args.event c.args.end c.requires.end c.requires.unpaged in
     let at = c.len.ensures.value ∙ ap length c.room.ensures.entries in
     let is : x ≡ step_entry layout journal c.args.event = λ i. record { stamp = at i + 1; event = c.args.event; outcome = came i } in
     let before = moving.move_before move c.index.result.now c.index.ensures in
@@ -168,7 +166,7 @@ invariant_of-self-2 c =
     (c.move_end.ensures.settings ∙ c.room-2.ensures.settings)
     (c.move_end.ensures.log ∙ ap (λ (xs : List Entry). xs ++ x ∷ []) c.room-2.ensures.log)
     (c.log.ensures ∙ ap (λ (xs : List Entry). xs ++ x ∷ []) c.room.ensures.entries) in
-    applied.kept_next c.self.inside.settings c.self.inside.faults.items (map kept vs) journal c.args.event x _ c.log.new.self.entries c.self.inside.interfaces.items next (moving.moved_alone c.args.event c.args.end c.requires.end) c.self.invariant.interfaces'
+    applied.kept_unpaged c.self.inside.settings c.self.inside.faults.items (map kept vs) journal c.args.event x _ c.log.new.self.entries c.self.inside.interfaces.items c.self.inside.swaps.items next (moving.moved_alone c.args.event c.args.end c.requires.end) c.requires.unpaged c.self.invariant
 
 pub returns : goal.returns
 returns c =
@@ -193,8 +191,8 @@ returns c =
       found = sym (c.place_of.ensures ∙ ap (position (is_of c.args.end)) c.deref.ensures.value) ∙ c.in-Some-place_of.is;
       value = c.index_mut-one.ensures.value;
     } in
-    let x : Entry = record { stamp = c.len.result + 1; event = c.args.event; outcome = c.outcome_of_move-outcome.result } in
-    let came = c.outcome_of_move-outcome.ensures ∙ ap (λ (v : ClusterView). outcome_of v.layout v.journal c.args.event) (sym c.self.view_is) in
+    let x : Entry = record { stamp = c.len.result + 1; event = c.args.event; outcome = Out.Silent } in
+    let came = moving.moved_silently layout journal c.args.event c.args.end c.requires.end c.requires.unpaged in
     let at = c.len.ensures.value ∙ ap length c.room.ensures.entries in
     let is : x ≡ step_entry layout journal c.args.event = λ i. record { stamp = at i + 1; event = c.args.event; outcome = came i } in
     let before = moving.move_before move c.index.result.now c.index.ensures in

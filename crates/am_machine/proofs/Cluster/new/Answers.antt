@@ -14,7 +14,9 @@ use Rattle.am_machine.specs.Ends.{EndLog, kept, setting_in}
 use Rattle.am_machine.specs.Kept.{IsKept, layout_in}
 use Rattle.am_machine.specs.Homes.{AreFresh, CanConnect}
 use Rattle.am_machine.proofs.Beginnings.{fresh_interfaces}
+use Rattle.am_machine.specs.Presets.{AreOpened}
 use Rattle.am_machine.proofs.Beginnings.{begins, same_settings}
+use Rattle.am_machine.proofs.Presets.{fresh_swaps}
 use Rattle.am_machine.proofs.Cluster.new.Goals as goal
 
 pub invariant_of-result : goal.invariant_of-result
@@ -28,10 +30,13 @@ invariant_of-result c =
     let faults : map fault_of c.in-Ok.faults.items ≡ map fault_of s.faults.items = ap (λ (l : List FaultLine). map fault_of l) (c.in-Ok.ensures.items ∙ c.deref-2.ensures.value) in
     let layout : layout_in settings c.in-Ok.faults.items es ≡ layout_of c.args.scenario.now = (λ i. record (layout_in settings c.in-Ok.faults.items es) { ends = ends i; faults = faults i }) ∙ ap layout_of c.scenario.view_is in
     let whole = subst model.IsLawful (sym layout) (lawful_layout c.args.scenario.now c.requires) in
-    subst (λ (j : List Entry). IsKept (layout_in settings c.in-Ok.faults.items es) es j c.in_ok-interfaces.interfaces.items) (sym c.in_ok-journal.ensures)
+    let given = c.in-Ok.ensures.items ∙ c.deref-2.ensures.value in
+    let opened_swaps : AreOpened settings c.in-Ok.faults.items s.ends.items c.in_ok-swaps.swaps.items = coe 0 1 (k. AreOpened settings ((c.deref-4.ensures.value ∙ sym given) k) (c.deref-5.ensures.value k) c.in_ok-swaps.swaps.items) c.in_ok-swaps.ensures in
+    subst (λ (j : List Entry). IsKept (layout_in settings c.in-Ok.faults.items es) es j c.in_ok-interfaces.interfaces.items c.in_ok-swaps.swaps.items) (sym c.in_ok-journal.ensures)
     (record {
       tied = begins settings c.in-Ok.faults.items s.nodes s.ends.items es is lawful.ends lawful.ends_rise whole;
       interfaces' = fresh_interfaces settings c.in-Ok.faults.items s.ends.items es c.in_ok-interfaces.interfaces.items lawful.ends ends (subst (λ (lines : List EndLine). AreFresh settings lines c.in_ok-interfaces.interfaces.items) c.deref-3.ensures.value c.in_ok-interfaces.ensures);
+      swaps' = fresh_swaps settings c.in-Ok.faults.items s.ends.items es c.in_ok-swaps.swaps.items whole ends lawful.ends_rise opened_swaps;
     })
 
 pub open_interfaces-requires : goal.open_interfaces-requires

@@ -19,7 +19,7 @@ pub needs-requires : goal.needs-requires
 needs-requires c =
     let one = c.index_mut-interface.result.now in
     let j : Joint =
-    fitting.joint_at c.self.inside.settings c.self.inside.faults.items c.self.inside.ends.items c.self.inside.journal.entries c.self.inside.interfaces.items c.args.self.now
+    fitting.joint_at c.self.inside.settings c.self.inside.faults.items c.self.inside.ends.items c.self.inside.journal.entries c.self.inside.interfaces.items c.self.inside.swaps.items c.args.self.now
     c.args.node one c.args.work c.self.invariant c.self.view_is c.requires.packet c.requires.in_range c.index_mut-interface.ensures.value c.requires.taken in
     fitting.joint_fits j
 
@@ -27,7 +27,7 @@ pub turn_alone-requires-clause-can : goal.turn_alone-requires-clause-can
 turn_alone-requires-clause-can c =
     let one = c.index_mut-interface.result.now in
     let j : Joint =
-    fitting.joint_at c.self.inside.settings c.self.inside.faults.items c.self.inside.ends.items c.self.inside.journal.entries c.self.inside.interfaces.items c.args.self.now
+    fitting.joint_at c.self.inside.settings c.self.inside.faults.items c.self.inside.ends.items c.self.inside.journal.entries c.self.inside.interfaces.items c.self.inside.swaps.items c.args.self.now
     c.args.node one c.args.work c.self.invariant c.self.view_is c.requires.packet c.requires.in_range c.index_mut-interface.ensures.value c.requires.taken in
     fitting.joint_can j
 
@@ -35,7 +35,7 @@ pub invariant_of-self : goal.invariant_of-self
 invariant_of-self c =
     let one = c.index_mut-interface.result.now in
     let j : Joint =
-    fitting.joint_at c.self.inside.settings c.self.inside.faults.items c.self.inside.ends.items c.self.inside.journal.entries c.self.inside.interfaces.items c.args.self.now
+    fitting.joint_at c.self.inside.settings c.self.inside.faults.items c.self.inside.ends.items c.self.inside.journal.entries c.self.inside.interfaces.items c.self.inside.swaps.items c.args.self.now
     c.args.node one c.args.work c.self.invariant c.self.view_is c.requires.packet c.requires.in_range c.index_mut-interface.ensures.value c.requires.taken in
     let none = sym c.needs.ensures ∙ c.in_default.is in
     joint.alone_keeps j c.turn_alone.new.interface c.turn_alone.new.journal.entries c.turn_alone.result none (c.turn_alone.ensures j.state)
@@ -44,7 +44,7 @@ pub returns-in_default : goal.returns-in_default
 returns-in_default c =
     let one = c.index_mut-interface.result.now in
     let j : Joint =
-    fitting.joint_at c.self.inside.settings c.self.inside.faults.items c.self.inside.ends.items c.self.inside.journal.entries c.self.inside.interfaces.items c.args.self.now
+    fitting.joint_at c.self.inside.settings c.self.inside.faults.items c.self.inside.ends.items c.self.inside.journal.entries c.self.inside.interfaces.items c.self.inside.swaps.items c.args.self.now
     c.args.node one c.args.work c.self.invariant c.self.view_is c.requires.packet c.requires.in_range c.index_mut-interface.ensures.value c.requires.taken in
     let none = sym c.needs.ensures ∙ c.in_default.is in
     joint.alone_applies j c.args.self.now c.turn_alone.new.interface c.turn_alone.new.journal.entries c.turn_alone.result c.self.view_is none (c.turn_alone.ensures j.state)
@@ -53,7 +53,7 @@ pub unreachable-requires : goal.unreachable-requires
 unreachable-requires c =
     let one = c.index_mut-interface.result.now in
     let j : Joint =
-    fitting.joint_at c.self.inside.settings c.self.inside.faults.items c.self.inside.ends.items c.self.inside.journal.entries c.self.inside.interfaces.items c.args.self.now
+    fitting.joint_at c.self.inside.settings c.self.inside.faults.items c.self.inside.ends.items c.self.inside.journal.entries c.self.inside.interfaces.items c.self.inside.swaps.items c.args.self.now
     c.args.node one c.args.work c.self.invariant c.self.view_is c.requires.packet c.requires.in_range c.index_mut-interface.ensures.value c.requires.taken in
     let end = c.in-Some.end in
     not_found c.self.inside.ends.items end (sym (c.place_of.ensures ∙ ap (position (is_of end)) c.deref.ensures.value) ∙ c.in_default-place_of.is)
@@ -63,7 +63,7 @@ pub way-to-requires : goal.way-to-requires
 way-to-requires c =
     let one = c.index_mut-interface.result.now in
     let j : Joint =
-    fitting.joint_at c.self.inside.settings c.self.inside.faults.items c.self.inside.ends.items c.self.inside.journal.entries c.self.inside.interfaces.items c.args.self.now
+    fitting.joint_at c.self.inside.settings c.self.inside.faults.items c.self.inside.ends.items c.self.inside.journal.entries c.self.inside.interfaces.items c.self.inside.swaps.items c.args.self.now
     c.args.node one c.args.work c.self.invariant c.self.view_is c.requires.packet c.requires.in_range c.index_mut-interface.ensures.value c.requires.taken in
     fitting.joint_fits j
 
@@ -71,7 +71,7 @@ pub turn_with-requires-clause-can : goal.turn_with-requires-clause-can
 turn_with-requires-clause-can c =
     let one = c.index_mut-interface.result.now in
     let j : Joint =
-    fitting.joint_at c.self.inside.settings c.self.inside.faults.items c.self.inside.ends.items c.self.inside.journal.entries c.self.inside.interfaces.items c.args.self.now
+    fitting.joint_at c.self.inside.settings c.self.inside.faults.items c.self.inside.ends.items c.self.inside.journal.entries c.self.inside.interfaces.items c.self.inside.swaps.items c.args.self.now
     c.args.node one c.args.work c.self.invariant c.self.view_is c.requires.packet c.requires.in_range c.index_mut-interface.ensures.value c.requires.taken in
     let vs = c.self.inside.ends.items in
     let end = c.in-Some.end in
@@ -85,7 +85,7 @@ pub turn_with-requires-clause-within : goal.turn_with-requires-clause-within
 turn_with-requires-clause-within c =
     let one = c.index_mut-interface.result.now in
     let j : Joint =
-    fitting.joint_at c.self.inside.settings c.self.inside.faults.items c.self.inside.ends.items c.self.inside.journal.entries c.self.inside.interfaces.items c.args.self.now
+    fitting.joint_at c.self.inside.settings c.self.inside.faults.items c.self.inside.ends.items c.self.inside.journal.entries c.self.inside.interfaces.items c.self.inside.swaps.items c.args.self.now
     c.args.node one c.args.work c.self.invariant c.self.view_is c.requires.packet c.requires.in_range c.index_mut-interface.ensures.value c.requires.taken in
     let vs = c.self.inside.ends.items in
     let end = c.in-Some.end in
@@ -102,7 +102,7 @@ pub turn_with-requires-clause-goes : goal.turn_with-requires-clause-goes
 turn_with-requires-clause-goes c =
     let one = c.index_mut-interface.result.now in
     let j : Joint =
-    fitting.joint_at c.self.inside.settings c.self.inside.faults.items c.self.inside.ends.items c.self.inside.journal.entries c.self.inside.interfaces.items c.args.self.now
+    fitting.joint_at c.self.inside.settings c.self.inside.faults.items c.self.inside.ends.items c.self.inside.journal.entries c.self.inside.interfaces.items c.self.inside.swaps.items c.args.self.now
     c.args.node one c.args.work c.self.invariant c.self.view_is c.requires.packet c.requires.in_range c.index_mut-interface.ensures.value c.requires.taken in
     let vs = c.self.inside.ends.items in
     let end = c.in-Some.end in
@@ -119,7 +119,7 @@ pub invariant_of-self-2 : goal.invariant_of-self-2
 invariant_of-self-2 c =
     let one = c.index_mut-interface.result.now in
     let j : Joint =
-    fitting.joint_at c.self.inside.settings c.self.inside.faults.items c.self.inside.ends.items c.self.inside.journal.entries c.self.inside.interfaces.items c.args.self.now
+    fitting.joint_at c.self.inside.settings c.self.inside.faults.items c.self.inside.ends.items c.self.inside.journal.entries c.self.inside.interfaces.items c.self.inside.swaps.items c.args.self.now
     c.args.node one c.args.work c.self.invariant c.self.view_is c.requires.packet c.requires.in_range c.index_mut-interface.ensures.value c.requires.taken in
     let vs = c.self.inside.ends.items in
     let end = c.in-Some.end in
@@ -133,7 +133,7 @@ pub returns : goal.returns
 returns c =
     let one = c.index_mut-interface.result.now in
     let j : Joint =
-    fitting.joint_at c.self.inside.settings c.self.inside.faults.items c.self.inside.ends.items c.self.inside.journal.entries c.self.inside.interfaces.items c.args.self.now
+    fitting.joint_at c.self.inside.settings c.self.inside.faults.items c.self.inside.ends.items c.self.inside.journal.entries c.self.inside.interfaces.items c.self.inside.swaps.items c.args.self.now
     c.args.node one c.args.work c.self.invariant c.self.view_is c.requires.packet c.requires.in_range c.index_mut-interface.ensures.value c.requires.taken in
     let vs = c.self.inside.ends.items in
     let end = c.in-Some.end in

@@ -1,0 +1,327 @@
+use Rattle.std.specs.Prelude.{nat_le, slice_set}
+use Rattle.std.proofs.Common.{◌≡◌, ℕ, None, arith, leb-false, ◌+◌, ◌++◌, ◌∷◌, [], List, map, length, position, refl, sym, ap, ◌∙◌, subst}
+use Rattle.std.specs.Prelude.{Result}
+use Rattle.am_names.specs.declared.NoMemory.{NoMemory}
+use Rattle.am_office.specs.declared.Entry.{Entry}
+use Rattle.am_model.specs.History.{failing, is_in_range}
+use Rattle.am_model.specs.Steps.{stop}
+use Rattle.am_device.specs.Memory.{Store}
+use Rattle.am_endpoint.specs.View.{EndpointView}
+use Rattle.am_machine.specs.Ends.{is_of, kept}
+use Rattle.am_machine.specs.Kept.{IsKept, layout_in}
+use Rattle.am_office.specs.Entries.{emitted_of}
+use Rattle.am_journal.specs.View.{AreNodes}
+use Rattle.am_machine.specs.Pages.{IsPagedBy, Pages, page_outcome}
+use Rattle.am_machine.specs.View.{ClusterView}
+use Rattle.am_machine.proofs.Applied as applied
+use Rattle.am_machine.proofs.Joint.{set_got}
+use Rattle.am_machine.proofs.Moving as moving
+use Rattle.am_machine.proofs.Moving.{Move}
+use Rattle.am_machine.proofs.PageCalls as paging
+use Rattle.am_machine.proofs.PageCalls.{Call, calls_few, swap_read, swap_there}
+use Rattle.am_machine.proofs.Places.{not_found}
+use Rattle.am_machine.proofs.Tied.{kept_same}
+use Rattle.am_machine.proofs.Cluster.make_page.Goals as goal
+
+pub unreachable-requires : goal.unreachable-requires
+unreachable-requires c =
+    let vs = c.self.inside.ends.items in
+    let journal = c.self.inside.journal.entries in
+    let layout = layout_in c.self.inside.settings c.self.inside.faults.items (map kept vs) in
+    let range = ap (λ (v : ClusterView). is_in_range v.layout c.args.event) c.self.view_is ∙ c.requires.in_range in
+    not_found vs c.args.end (sym (c.place_of.ensures ∙ ap (position (is_of c.args.end)) c.deref.ensures.value) ∙ c.in_default-place_of.is) (moving.end_known layout c.args.event c.args.end range c.requires.end)
+
+pub returns-then-is_full : goal.returns-then-is_full
+returns-then-is_full c =
+    let vs = c.self.inside.ends.items in
+    let journal = c.self.inside.journal.entries in
+    let layout = layout_in c.self.inside.settings c.self.inside.faults.items (map kept vs) in
+    let move : Move = record {
+      settings = c.self.inside.settings;
+      faults = c.self.inside.faults.items;
+      ends = vs;
+      journal = journal;
+      event = c.args.event;
+      node = c.args.node;
+      end = c.args.end;
+      place = c.in-Some-place_of.place;
+      one = c.index.result.now;
+      tied = c.self.invariant.tied;
+      in_range = ap (λ (v : ClusterView). is_in_range v.layout c.args.event) c.self.view_is ∙ c.requires.in_range;
+      driver = c.requires.driver;
+      moved = c.requires.end;
+      enabled = ap (λ (v : ClusterView). failing v.layout v.journal c.args.event) c.self.view_is ∙ sym c.failing_move.ensures ∙ c.in_default.is;
+      found = sym (c.place_of.ensures ∙ ap (position (is_of c.args.end)) c.deref.ensures.value) ∙ c.in-Some-place_of.is;
+      value = c.index.ensures;
+    } in (
+      ap (λ (v : ClusterView). stop v.layout v.journal c.args.event) (sym c.self.view_is)
+          ∙ moving.move_stopped move (sym c.is_full.ensures ∙ c.if-is_full.true),
+      refl,
+    )
+
+pub page-requires-clause-can : goal.page-requires-clause-can
+page-requires-clause-can c =
+    let vs = c.self.inside.ends.items in
+    let journal = c.self.inside.journal.entries in
+    let layout = layout_in c.self.inside.settings c.self.inside.faults.items (map kept vs) in
+    let move : Move = record {
+      settings = c.self.inside.settings;
+      faults = c.self.inside.faults.items;
+      ends = vs;
+      journal = journal;
+      event = c.args.event;
+      node = c.args.node;
+      end = c.args.end;
+      place = c.in-Some-place_of.place;
+      one = c.index_mut.result.now;
+      tied = c.self.invariant.tied;
+      in_range = ap (λ (v : ClusterView). is_in_range v.layout c.args.event) c.self.view_is ∙ c.requires.in_range;
+      driver = c.requires.driver;
+      moved = c.requires.end;
+      enabled = ap (λ (v : ClusterView). failing v.layout v.journal c.args.event) c.self.view_is ∙ sym c.failing_move.ensures ∙ c.in_default.is;
+      found = sym (c.place_of.ensures ∙ ap (position (is_of c.args.end)) c.deref.ensures.value) ∙ c.in-Some-place_of.is;
+      value = c.index_mut.ensures.value;
+    } in
+    let call : Call = record {
+      move = move;
+      swaps = c.self.inside.swaps.items;
+      s = c.index_mut-swap.result.now;
+      paged = c.requires.paged;
+      at = swap_read c.self.inside.swaps.items c.args.node.0 c.index_mut-swap.result.now (swap_there layout journal c.self.inside.swaps.items c.args.node c.self.invariant.swaps' (moving.move_packet move) (moving.node_below layout c.args.event c.args.node move.in_range c.requires.driver)) c.index_mut-swap.ensures.value;
+      are = c.self.invariant.swaps';
+      few = calls_few c.args.node journal (c.len-stamp.result) c.len-stamp.ensures.value c.len-stamp.ensures.more c.room.ensures.entries;
+    } in
+    paging.can_page call
+
+pub page-requires-clause-room : goal.page-requires-clause-room
+page-requires-clause-room c =
+    let vs = c.self.inside.ends.items in
+    let journal = c.self.inside.journal.entries in
+    let layout = layout_in c.self.inside.settings c.self.inside.faults.items (map kept vs) in
+    let move : Move = record {
+      settings = c.self.inside.settings;
+      faults = c.self.inside.faults.items;
+      ends = vs;
+      journal = journal;
+      event = c.args.event;
+      node = c.args.node;
+      end = c.args.end;
+      place = c.in-Some-place_of.place;
+      one = c.index_mut.result.now;
+      tied = c.self.invariant.tied;
+      in_range = ap (λ (v : ClusterView). is_in_range v.layout c.args.event) c.self.view_is ∙ c.requires.in_range;
+      driver = c.requires.driver;
+      moved = c.requires.end;
+      enabled = ap (λ (v : ClusterView). failing v.layout v.journal c.args.event) c.self.view_is ∙ sym c.failing_move.ensures ∙ c.in_default.is;
+      found = sym (c.place_of.ensures ∙ ap (position (is_of c.args.end)) c.deref.ensures.value) ∙ c.in-Some-place_of.is;
+      value = c.index_mut.ensures.value;
+    } in
+    let before = moving.move_before move c.index.result.now c.index.ensures in
+    let room = ap (λ (w : EndpointView). nat_le c.self.inside.settings.log (length w.log)) (sym before) ∙ sym c.is_full.ensures ∙ c.if-is_full.false in
+    let less = leb-false c.self.inside.settings.log (length move.one.log) room in
+    let limit = (applied.own_here layout vs journal c.args.end c.in-Some-place_of.place move.one c.self.invariant.tied (moving.move_here move)).limit in
+    omega (arith, less, limit)
+
+pub log-requires-clause-packet : goal.log-requires-clause-packet
+log-requires-clause-packet c =
+    let vs = c.self.inside.ends.items in
+    let journal = c.self.inside.journal.entries in
+    let layout = layout_in c.self.inside.settings c.self.inside.faults.items (map kept vs) in
+    let move : Move = record {
+      settings = c.self.inside.settings;
+      faults = c.self.inside.faults.items;
+      ends = vs;
+      journal = journal;
+      event = c.args.event;
+      node = c.args.node;
+      end = c.args.end;
+      place = c.in-Some-place_of.place;
+      one = c.index_mut.result.now;
+      tied = c.self.invariant.tied;
+      in_range = ap (λ (v : ClusterView). is_in_range v.layout c.args.event) c.self.view_is ∙ c.requires.in_range;
+      driver = c.requires.driver;
+      moved = c.requires.end;
+      enabled = ap (λ (v : ClusterView). failing v.layout v.journal c.args.event) c.self.view_is ∙ sym c.failing_move.ensures ∙ c.in_default.is;
+      found = sym (c.place_of.ensures ∙ ap (position (is_of c.args.end)) c.deref.ensures.value) ∙ c.in-Some-place_of.is;
+      value = c.index_mut.ensures.value;
+    } in
+    let by : IsPagedBy c.index_mut-swap.result.now c.page.new.swap (kept move.one) (kept c.page.new.endpoint) c.args.event (c.len-stamp.result + 1) c.in-Ok.entry = subst (λ (r : Result Entry NoMemory). Pages c.index_mut-swap.result.now c.page.new.swap (kept move.one) (kept c.page.new.endpoint) c.args.event (c.len-stamp.result + 1) r) c.in-Ok.is c.page.ensures in
+    subst (λ (y : Entry). None ≡ emitted_of y) (sym by.entry) (moving.moved_silent (c.len-stamp.result + 1) c.args.event (page_outcome c.index_mut-swap.result.now) c.args.end c.requires.end)
+
+pub log-requires-clause-nodes : goal.log-requires-clause-nodes
+log-requires-clause-nodes c =
+    let vs = c.self.inside.ends.items in
+    let journal = c.self.inside.journal.entries in
+    let layout = layout_in c.self.inside.settings c.self.inside.faults.items (map kept vs) in
+    let move : Move = record {
+      settings = c.self.inside.settings;
+      faults = c.self.inside.faults.items;
+      ends = vs;
+      journal = journal;
+      event = c.args.event;
+      node = c.args.node;
+      end = c.args.end;
+      place = c.in-Some-place_of.place;
+      one = c.index_mut.result.now;
+      tied = c.self.invariant.tied;
+      in_range = ap (λ (v : ClusterView). is_in_range v.layout c.args.event) c.self.view_is ∙ c.requires.in_range;
+      driver = c.requires.driver;
+      moved = c.requires.end;
+      enabled = ap (λ (v : ClusterView). failing v.layout v.journal c.args.event) c.self.view_is ∙ sym c.failing_move.ensures ∙ c.in_default.is;
+      found = sym (c.place_of.ensures ∙ ap (position (is_of c.args.end)) c.deref.ensures.value) ∙ c.in-Some-place_of.is;
+      value = c.index_mut.ensures.value;
+    } in
+    let by : IsPagedBy c.index_mut-swap.result.now c.page.new.swap (kept move.one) (kept c.page.new.endpoint) c.args.event (c.len-stamp.result + 1) c.in-Ok.entry = subst (λ (r : Result Entry NoMemory). Pages c.index_mut-swap.result.now c.page.new.swap (kept move.one) (kept c.page.new.endpoint) c.args.event (c.len-stamp.result + 1) r) c.in-Ok.is c.page.ensures in
+    subst (λ (y : Entry). AreNodes y.event) (sym by.entry) (moving.moved_nodes layout c.args.event c.args.end c.self.invariant.tied.lawful.nodes.1 move.in_range c.requires.end)
+
+pub invariant_of-self-in-Ok : goal.invariant_of-self-in-Ok
+invariant_of-self-in-Ok c =
+    let vs = c.self.inside.ends.items in
+    let journal = c.self.inside.journal.entries in
+    let layout = layout_in c.self.inside.settings c.self.inside.faults.items (map kept vs) in
+    let move : Move = record {
+      settings = c.self.inside.settings;
+      faults = c.self.inside.faults.items;
+      ends = vs;
+      journal = journal;
+      event = c.args.event;
+      node = c.args.node;
+      end = c.args.end;
+      place = c.in-Some-place_of.place;
+      one = c.index_mut.result.now;
+      tied = c.self.invariant.tied;
+      in_range = ap (λ (v : ClusterView). is_in_range v.layout c.args.event) c.self.view_is ∙ c.requires.in_range;
+      driver = c.requires.driver;
+      moved = c.requires.end;
+      enabled = ap (λ (v : ClusterView). failing v.layout v.journal c.args.event) c.self.view_is ∙ sym c.failing_move.ensures ∙ c.in_default.is;
+      found = sym (c.place_of.ensures ∙ ap (position (is_of c.args.end)) c.deref.ensures.value) ∙ c.in-Some-place_of.is;
+      value = c.index_mut.ensures.value;
+    } in
+    let call : Call = record {
+      move = move;
+      swaps = c.self.inside.swaps.items;
+      s = c.index_mut-swap.result.now;
+      paged = c.requires.paged;
+      at = swap_read c.self.inside.swaps.items c.args.node.0 c.index_mut-swap.result.now (swap_there layout journal c.self.inside.swaps.items c.args.node c.self.invariant.swaps' (moving.move_packet move) (moving.node_below layout c.args.event c.args.node move.in_range c.requires.driver)) c.index_mut-swap.ensures.value;
+      are = c.self.invariant.swaps';
+      few = calls_few c.args.node journal (c.len-stamp.result) c.len-stamp.ensures.value c.len-stamp.ensures.more c.room.ensures.entries;
+    } in
+    let stamp : c.len-stamp.result + 1 ≡ length journal + 1 = ap (λ (n : ℕ). n + 1) (c.len-stamp.ensures.value ∙ ap length c.room.ensures.entries) in
+    let before = moving.move_before move c.index.result.now c.index.ensures in
+    let room = ap (λ (w : EndpointView). nat_le c.self.inside.settings.log (length w.log)) (sym before) ∙ sym c.is_full.ensures ∙ c.if-is_full.false in
+    let by : IsPagedBy c.index_mut-swap.result.now c.page.new.swap (kept move.one) (kept c.page.new.endpoint) c.args.event (c.len-stamp.result + 1) c.in-Ok.entry = subst (λ (r : Result Entry NoMemory). Pages c.index_mut-swap.result.now c.page.new.swap (kept move.one) (kept c.page.new.endpoint) c.args.event (c.len-stamp.result + 1) r) c.in-Ok.is c.page.ensures in
+    let next = paging.page_next call c.page.new.swap c.page.new.endpoint (c.len-stamp.result + 1) c.in-Ok.entry c.log.new.self.entries stamp room by (c.log.ensures ∙ ap (λ (xs : List Entry). xs ++ c.in-Ok.entry ∷ []) c.room.ensures.entries) in
+    applied.kept_next c.self.inside.settings c.self.inside.faults.items (map kept vs) journal c.args.event c.in-Ok.entry _ c.log.new.self.entries c.self.inside.interfaces.items (slice_set c.self.inside.swaps.items c.args.node.0 c.page.new.swap) next (moving.moved_alone c.args.event c.args.end c.requires.end) c.self.invariant.interfaces'
+    (paging.page_swaps call c.page.new.swap (kept c.page.new.endpoint) (c.len-stamp.result + 1) c.in-Ok.entry stamp by)
+
+pub returns-in-Ok : goal.returns-in-Ok
+returns-in-Ok c =
+    let vs = c.self.inside.ends.items in
+    let journal = c.self.inside.journal.entries in
+    let layout = layout_in c.self.inside.settings c.self.inside.faults.items (map kept vs) in
+    let move : Move = record {
+      settings = c.self.inside.settings;
+      faults = c.self.inside.faults.items;
+      ends = vs;
+      journal = journal;
+      event = c.args.event;
+      node = c.args.node;
+      end = c.args.end;
+      place = c.in-Some-place_of.place;
+      one = c.index_mut.result.now;
+      tied = c.self.invariant.tied;
+      in_range = ap (λ (v : ClusterView). is_in_range v.layout c.args.event) c.self.view_is ∙ c.requires.in_range;
+      driver = c.requires.driver;
+      moved = c.requires.end;
+      enabled = ap (λ (v : ClusterView). failing v.layout v.journal c.args.event) c.self.view_is ∙ sym c.failing_move.ensures ∙ c.in_default.is;
+      found = sym (c.place_of.ensures ∙ ap (position (is_of c.args.end)) c.deref.ensures.value) ∙ c.in-Some-place_of.is;
+      value = c.index_mut.ensures.value;
+    } in
+    let call : Call = record {
+      move = move;
+      swaps = c.self.inside.swaps.items;
+      s = c.index_mut-swap.result.now;
+      paged = c.requires.paged;
+      at = swap_read c.self.inside.swaps.items c.args.node.0 c.index_mut-swap.result.now (swap_there layout journal c.self.inside.swaps.items c.args.node c.self.invariant.swaps' (moving.move_packet move) (moving.node_below layout c.args.event c.args.node move.in_range c.requires.driver)) c.index_mut-swap.ensures.value;
+      are = c.self.invariant.swaps';
+      few = calls_few c.args.node journal (c.len-stamp.result) c.len-stamp.ensures.value c.len-stamp.ensures.more c.room.ensures.entries;
+    } in
+    let stamp : c.len-stamp.result + 1 ≡ length journal + 1 = ap (λ (n : ℕ). n + 1) (c.len-stamp.ensures.value ∙ ap length c.room.ensures.entries) in
+    let before = moving.move_before move c.index.result.now c.index.ensures in
+    let room = ap (λ (w : EndpointView). nat_le c.self.inside.settings.log (length w.log)) (sym before) ∙ sym c.is_full.ensures ∙ c.if-is_full.false in
+    let by : IsPagedBy c.index_mut-swap.result.now c.page.new.swap (kept move.one) (kept c.page.new.endpoint) c.args.event (c.len-stamp.result + 1) c.in-Ok.entry = subst (λ (r : Result Entry NoMemory). Pages c.index_mut-swap.result.now c.page.new.swap (kept move.one) (kept c.page.new.endpoint) c.args.event (c.len-stamp.result + 1) r) c.in-Ok.is c.page.ensures in
+    let next = paging.page_next call c.page.new.swap c.page.new.endpoint (c.len-stamp.result + 1) c.in-Ok.entry c.log.new.self.entries stamp room by (c.log.ensures ∙ ap (λ (xs : List Entry). xs ++ c.in-Ok.entry ∷ []) c.room.ensures.entries) in
+    applied.seen_next c.self.inside.settings c.self.inside.faults.items (map kept vs) journal c.args.event c.in-Ok.entry _ c.log.new.self.entries c.args.self.now c.self.view_is next
+
+pub invariant_of-self-in-Err : goal.invariant_of-self-in-Err
+invariant_of-self-in-Err c =
+    let vs = c.self.inside.ends.items in
+    let journal = c.self.inside.journal.entries in
+    let layout = layout_in c.self.inside.settings c.self.inside.faults.items (map kept vs) in
+    let move : Move = record {
+      settings = c.self.inside.settings;
+      faults = c.self.inside.faults.items;
+      ends = vs;
+      journal = journal;
+      event = c.args.event;
+      node = c.args.node;
+      end = c.args.end;
+      place = c.in-Some-place_of.place;
+      one = c.index_mut.result.now;
+      tied = c.self.invariant.tied;
+      in_range = ap (λ (v : ClusterView). is_in_range v.layout c.args.event) c.self.view_is ∙ c.requires.in_range;
+      driver = c.requires.driver;
+      moved = c.requires.end;
+      enabled = ap (λ (v : ClusterView). failing v.layout v.journal c.args.event) c.self.view_is ∙ sym c.failing_move.ensures ∙ c.in_default.is;
+      found = sym (c.place_of.ensures ∙ ap (position (is_of c.args.end)) c.deref.ensures.value) ∙ c.in-Some-place_of.is;
+      value = c.index_mut.ensures.value;
+    } in
+    let call : Call = record {
+      move = move;
+      swaps = c.self.inside.swaps.items;
+      s = c.index_mut-swap.result.now;
+      paged = c.requires.paged;
+      at = swap_read c.self.inside.swaps.items c.args.node.0 c.index_mut-swap.result.now (swap_there layout journal c.self.inside.swaps.items c.args.node c.self.invariant.swaps' (moving.move_packet move) (moving.node_below layout c.args.event c.args.node move.in_range c.requires.driver)) c.index_mut-swap.ensures.value;
+      are = c.self.invariant.swaps';
+      few = calls_few c.args.node journal (c.len-stamp.result) c.len-stamp.ensures.value c.len-stamp.ensures.more c.room.ensures.entries;
+    } in
+    let none : (c.page.new.swap ≡ c.index_mut-swap.result.now) × (kept c.page.new.endpoint ≡ kept move.one) = subst (λ (r : Result Entry NoMemory). Pages c.index_mut-swap.result.now c.page.new.swap (kept move.one) (kept c.page.new.endpoint) c.args.event (c.len-stamp.result + 1) r) c.in-Err.is c.page.ensures in
+    let ends = kept_same vs c.in-Some-place_of.place move.one c.page.new.endpoint (moving.move_here move).at none.1 in
+    subst (λ (ss : List Store). IsKept (layout_in c.self.inside.settings c.self.inside.faults.items (map kept (slice_set vs c.in-Some-place_of.place c.page.new.endpoint))) (map kept (slice_set vs c.in-Some-place_of.place c.page.new.endpoint)) c.room.new.self.entries c.self.inside.interfaces.items ss) (sym (set_got c.self.inside.swaps.items c.args.node.0 c.index_mut-swap.result.now c.page.new.swap call.at none.0))
+    (applied.kept_still c.self.inside.settings c.self.inside.faults.items (map kept vs) _ journal c.room.new.self.entries c.self.inside.interfaces.items c.self.inside.swaps.items ends c.room.ensures.entries c.self.invariant)
+
+pub returns-in-Err : goal.returns-in-Err
+returns-in-Err c =
+    let vs = c.self.inside.ends.items in
+    let journal = c.self.inside.journal.entries in
+    let layout = layout_in c.self.inside.settings c.self.inside.faults.items (map kept vs) in
+    let move : Move = record {
+      settings = c.self.inside.settings;
+      faults = c.self.inside.faults.items;
+      ends = vs;
+      journal = journal;
+      event = c.args.event;
+      node = c.args.node;
+      end = c.args.end;
+      place = c.in-Some-place_of.place;
+      one = c.index_mut.result.now;
+      tied = c.self.invariant.tied;
+      in_range = ap (λ (v : ClusterView). is_in_range v.layout c.args.event) c.self.view_is ∙ c.requires.in_range;
+      driver = c.requires.driver;
+      moved = c.requires.end;
+      enabled = ap (λ (v : ClusterView). failing v.layout v.journal c.args.event) c.self.view_is ∙ sym c.failing_move.ensures ∙ c.in_default.is;
+      found = sym (c.place_of.ensures ∙ ap (position (is_of c.args.end)) c.deref.ensures.value) ∙ c.in-Some-place_of.is;
+      value = c.index_mut.ensures.value;
+    } in
+    let call : Call = record {
+      move = move;
+      swaps = c.self.inside.swaps.items;
+      s = c.index_mut-swap.result.now;
+      paged = c.requires.paged;
+      at = swap_read c.self.inside.swaps.items c.args.node.0 c.index_mut-swap.result.now (swap_there layout journal c.self.inside.swaps.items c.args.node c.self.invariant.swaps' (moving.move_packet move) (moving.node_below layout c.args.event c.args.node move.in_range c.requires.driver)) c.index_mut-swap.ensures.value;
+      are = c.self.invariant.swaps';
+      few = calls_few c.args.node journal (c.len-stamp.result) c.len-stamp.ensures.value c.len-stamp.ensures.more c.room.ensures.entries;
+    } in
+    let none : (c.page.new.swap ≡ c.index_mut-swap.result.now) × (kept c.page.new.endpoint ≡ kept move.one) = subst (λ (r : Result Entry NoMemory). Pages c.index_mut-swap.result.now c.page.new.swap (kept move.one) (kept c.page.new.endpoint) c.args.event (c.len-stamp.result + 1) r) c.in-Err.is c.page.ensures in
+    let ends = kept_same vs c.in-Some-place_of.place move.one c.page.new.endpoint (moving.move_here move).at none.1 in
+    applied.seen_same c.self.inside.settings c.self.inside.faults.items (map kept vs) _ journal c.room.new.self.entries c.args.self.now ends c.room.ensures.entries c.self.view_is

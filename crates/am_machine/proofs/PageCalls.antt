@@ -1,0 +1,197 @@
+-- A page call of a node, in the whole cluster.
+use Rattle.std.specs.Prelude.{nat_le, slice_index_or, slice_set}
+use Rattle.std.specs.List.{filter, list_any}
+use Rattle.std.proofs.Common.{◌≡◌, ℕ, zero, suc, ◌+◌, ◌<◌, ◌==◌, ◌^◌, Bool, true, false, cond, ◌||◌, ◌&&◌, List, [], ◌∷◌, ◌++◌, map, length, slice_get, Option, Some, None, refl, sym, ap, ◌∙◌, subst, arith, true≢false, if◌then◌else◌}
+use Rattle.std.proofs.lemmas.List.Sums.{count_by-le-length}
+use Rattle.am_names.specs.declared.EndpointId.{EndpointId}
+use Rattle.am_names.specs.declared.NodeId.{NodeId}
+use Rattle.am_names.specs.Names.{same_end, same_node}
+use Rattle.am_office.specs.declared.Event.{Event}
+use Rattle.am_office.specs.declared.Event.TheVariants as Events
+use Rattle.am_office.specs.declared.Outcome.{Outcome}
+use Rattle.am_office.specs.declared.Outcome.TheVariants as Out
+use Rattle.am_office.specs.declared.Entry.{Entry}
+use Rattle.am_model.specs.Endpoint.{Body, State, is_on_disk}
+use Rattle.am_model.specs.History.{MayFollow, is_page_call, outcome_of, page, state_of}
+use Rattle.am_model.specs.Layout.{EndSetting, Fault, Layout}
+use Rattle.am_model.specs.Steps.{step_entry}
+use Rattle.am_model.proofs.Names.{same_end-is}
+use Rattle.am_local.specs.Driver.{driver_of, end_moved}
+use Rattle.am_local.specs.Granted.{MayMove}
+use Rattle.am_local.specs.Readings.{page_calls}
+use Rattle.am_laws_disk.specs.Disk.{pages_out}
+use Rattle.am_laws_steps.proofs.Steps.{may_step}
+use Rattle.am_device.specs.Causes.{fails_after, one_more}
+use Rattle.am_device.specs.Memory.{Store}
+use Rattle.am_endpoint.specs.View.{EndpointView, state_after}
+use Rattle.am_iface.specs.View.{InterfaceView}
+use Rattle.am_machine.specs.Ends.{EndLog, kept, setting_in, state_in}
+use Rattle.am_machine.specs.Kept.{IsKept, IsOwn}
+use Rattle.am_machine.specs.Pages.{CanPage, IsBodyValid, IsPagedBy, after_page, is_page, page_outcome}
+use Rattle.am_machine.specs.Swaps.{AreSwaps, HoldsBody, IsSwap}
+use Rattle.am_machine.proofs.Applied.{IsHere, IsNext, own_here, state_here}
+use Rattle.am_machine.proofs.Moving as moving
+use Rattle.am_machine.proofs.Moving.{Move}
+use Rattle.am_machine.proofs.Holding.{Paging, one_more_is, swaps_paged}
+use Rattle.am_machine.proofs.Places.{index_got}
+use Rattle.am_machine.proofs.Tied.{kept_at}
+
+-- ---- what the swap answers is what comes of the page call
+
+-- whether the call with this number fails, told by the faults of all nodes
+numbers_told : (node : NodeId) (number : ℕ) (fs : List Fault) → list_any (λ (k : ℕ). k == number) (map (λ (f : Fault). f.number) (filter (λ (f : Fault). same_node node f.node) fs)) ≡ list_any (λ (f : Fault). same_node node f.node && (f.number == number)) fs
+numbers_told node number [] = refl
+numbers_told node number (x ∷ xs) = by_test (same_node node x.node) (numbers_told node number xs)
+  where
+    others : List Fault
+    others = filter (λ (f : Fault). same_node node f.node) xs
+
+    by_test : (b : Bool) → list_any (λ (k : ℕ). k == number) (map (λ (f : Fault). f.number) others) ≡ list_any (λ (f : Fault). same_node node f.node && (f.number == number)) xs → list_any (λ (k : ℕ). k == number) (map (λ (f : Fault). f.number) (cond b (x ∷ others) others)) ≡ ((b && (x.number == number)) || list_any (λ (f : Fault). same_node node f.node && (f.number == number)) xs)
+    by_test true more = ap (λ (b : Bool). (x.number == number) || b) more
+    by_test false more = more
+
+pub page_told : (layout : Layout) (journal : List Entry) (node : NodeId) (s : Store) → IsSwap layout journal node s → page_calls node journal + 1 < 2 ^ 64 → page layout node journal ≡ page_outcome s
+page_told layout journal node s is few =
+    let more : one_more s.calls ≡ page_calls node journal + 1 = one_more_is s.calls (omega (arith, is.calls, few)) ∙ ap (λ (n : ℕ). n + 1) is.calls in
+    let fails : fails_after s.fails s.calls ≡ list_any (λ (f : Fault). same_node node f.node && (f.number == page_calls node journal + 1)) layout.faults =
+    (λ i. list_any (λ (k : ℕ). k == more i) (is.fails i)) ∙ numbers_told node (page_calls node journal + 1) layout.faults in
+    ap (λ (b : Bool). if b then Out.Failed else Out.Done) (sym fails)
+
+-- ---- which events are page calls
+
+some_node : (a b : NodeId) → Some a ≡ Some b → a ≡ b
+some_node a b h = cc
+
+some_end : (a b : EndpointId) → Some a ≡ Some b → a ≡ b
+some_end a b h = cc
+
+page_outcome_is : (layout : Layout) (journal : List Entry) (event : Event) (node : NodeId) → driver_of event ≡ Some node → is_page event ≡ true → outcome_of layout journal event ≡ page layout node journal
+page_outcome_is layout journal (Events.PageOut at e) node by paged = ap (λ (n : NodeId). page layout n journal) (some_node at node by)
+page_outcome_is layout journal (Events.PageIn at e) node by paged = ap (λ (n : NodeId). page layout n journal) (some_node at node by)
+page_outcome_is layout journal event node by paged = absurd (true≢false (sym paged))
+
+page_called : (event : Event) (node other : NodeId) → driver_of event ≡ Some node → is_page event ≡ true → is_page_call other event ≡ same_node other node
+page_called (Events.PageOut at e) node other by paged = ap (same_node other) (some_node at node by)
+page_called (Events.PageIn at e) node other by paged = ap (same_node other) (some_node at node by)
+page_called event node other by paged = absurd (true≢false (sym paged))
+
+page_moved : (event : Event) (end f : EndpointId) → end_moved event ≡ Some end → pages_out f event ≡ true → f ≡ end
+page_moved (Events.PageOut at e) end f is out = same_end-is f e out ∙ some_end e end is
+page_moved event end f is out = absurd (true≢false (sym out))
+
+-- ---- the call
+
+-- a page call that may be made, with the swaps, of which the one at the node's place is called
+pub record Call : Type 0 where
+  pub move : Move
+  pub swaps : List Store
+  pub s : Store
+  pub paged : is_page move.event ≡ true
+  pub at : slice_get swaps move.node.0 ≡ Some s
+  pub are : AreSwaps (moving.layout_of move) move.journal swaps
+  pub few : page_calls move.node move.journal + 1 < 2 ^ 64
+
+swap_of : (c : Call) → IsSwap (moving.layout_of c.move) c.move.journal c.move.node c.s
+swap_of c = c.are.each c.move.node.0 c.s c.at
+
+own_of : (c : Call) → IsOwn (moving.layout_of c.move) c.move.journal (kept c.move.one)
+own_of c = own_here (moving.layout_of c.move) c.move.ends c.move.journal c.move.end c.move.place c.move.one c.move.tied (moving.move_here c.move)
+
+state_at : (c : Call) → state_after c.move.one ≡ state_of (moving.layout_of c.move) c.move.journal c.move.end
+state_at c = state_here (moving.layout_of c.move) c.move.ends c.move.journal c.move.end c.move.place c.move.one c.move.tied (moving.move_here c.move)
+
+setting_at : (es : List EndLog) (k : ℕ) (e : EndLog) → slice_get es k ≡ Some e → slice_get (map setting_in es) k ≡ Some (setting_in e)
+setting_at [] k e at = absurd (cc)
+setting_at (d ∷ es) zero e at = let same : d ≡ e = cc in ap (λ (w : EndLog). Some (setting_in w)) same
+setting_at (d ∷ es) (suc k) e at = setting_at es k e at
+
+-- what the swap holds of an endpoint on disk
+held_of : (c : Call) → is_on_disk (state_after c.move.one).head.place ≡ true → HoldsBody c.s c.move.one.settings.pool c.move.one.settings.id (state_after c.move.one).body
+held_of c on =
+    let m = c.move in
+    let layout = moving.layout_of m in
+    let here = moving.move_here m in
+    let state : state_after m.one ≡ state_of layout m.journal m.one.settings.id = state_at c ∙ ap (state_of layout m.journal) (sym here.id) in
+    let held : HoldsBody c.s layout.pool m.one.settings.id (state_of layout m.journal m.one.settings.id).body =
+    (swap_of c).bodies m.place (setting_in (kept m.one)) (setting_at (map kept m.ends) m.place (kept m.one) (kept_at m.ends m.place m.one here.at)) (sym (moving.move_node m))
+    (ap (λ (s : State). is_on_disk s.head.place) (sym state) ∙ on) in
+    coe 0 1 (k. HoldsBody c.s (sym (own_of c).pool k) m.one.settings.id (sym state k).body) held
+
+can_by : (c : Call) (x : Entry) (event : Event) → x.event ≡ event → is_page event ≡ true → MayMove c.move.one.settings.node c.move.one.settings.id (state_after c.move.one) x event → CanPage c.s (kept c.move.one) event
+can_by c x (Events.PageOut at e) ev paged may =
+    let same : Events.PageOut at e ≡ Events.PageOut c.move.one.settings.node c.move.one.settings.id = sym ev ∙ may.event in
+    record { is_node = cc; is_end = cc; on_host = may.on_host; opened = may.unclosed }
+can_by c x (Events.PageIn at e) ev paged may =
+    let same : Events.PageIn at e ≡ Events.PageIn c.move.one.settings.node c.move.one.settings.id = sym ev ∙ may.event in
+    record { is_node = cc; is_end = cc; on_disk = may.on_disk; holds = held_of c may.on_disk }
+can_by c x event ev paged may = absurd (true≢false (sym paged))
+
+pub can_page : (c : Call) → CanPage c.s (kept c.move.one) c.move.event
+can_page c =
+    let x = step_entry (moving.layout_of c.move) c.move.journal c.move.event in
+    can_by c x c.move.event refl c.paged (moving.move_allowed c.move c.move.one x refl refl refl)
+
+-- its entry is the one that the definitions give
+pub page_entry : (c : Call) (t : Store) (f : EndLog) (stamp : ℕ) (x : Entry) → stamp ≡ length c.move.journal + 1 → IsPagedBy c.s t (kept c.move.one) f c.move.event stamp x → x ≡ step_entry (moving.layout_of c.move) c.move.journal c.move.event
+page_entry c t f stamp x at by =
+    let m = c.move in
+    let layout = moving.layout_of m in
+    let outcome : outcome_of layout m.journal m.event ≡ page_outcome c.s = page_outcome_is layout m.journal m.event m.node m.driver c.paged ∙ page_told layout m.journal m.node c.s (swap_of c) c.few in
+    by.entry ∙ λ i. record { stamp = at i; event = m.event; outcome = sym outcome i }
+
+pub page_next : (c : Call) (t : Store) (w : EndpointView) (stamp : ℕ) (x : Entry) (longer : List Entry) → stamp ≡ length c.move.journal + 1 → nat_le c.move.settings.log (length c.move.one.log) ≡ false → IsPagedBy c.s t (kept c.move.one) (kept w) c.move.event stamp x → longer ≡ c.move.journal ++ x ∷ [] → IsNext c.move.settings c.move.faults (map kept c.move.ends) c.move.journal c.move.event x (map kept (slice_set c.move.ends c.move.place w)) longer
+page_next c t w stamp x longer at room by more = moving.move_next c.move w x longer room (page_entry c t (kept w) stamp x at by) by.settings by.log more
+
+-- and the swaps after it
+pub page_swaps : (c : Call) (t : Store) (f : EndLog) (stamp : ℕ) (x : Entry) → stamp ≡ length c.move.journal + 1 → IsPagedBy c.s t (kept c.move.one) f c.move.event stamp x → AreSwaps (moving.layout_of c.move) (c.move.journal ++ x ∷ []) (slice_set c.swaps c.move.node.0 t)
+page_swaps c t f stamp x at by =
+    let m = c.move in
+    let layout = moving.layout_of m in
+    let here = moving.move_here m in
+    let event : m.event ≡ x.event = sym (ap (λ (y : Entry). y.event) by.entry) in
+    let p : Paging = record {
+      layout = layout;
+      journal = m.journal;
+      node = m.node;
+      end = m.end;
+      x = x;
+      e = kept m.one;
+      s = c.s;
+      t = t;
+      swaps = c.swaps;
+      packet = moving.move_packet m;
+      lawful = m.tied.lawful;
+      history = m.tied.walked.history;
+      may = subst (MayFollow layout m.journal) (sym (page_entry c t f stamp x at by)) (may_step layout m.journal m.event m.tied.walked m.in_range m.enabled);
+      home = moving.move_home m;
+      id = here.id;
+      pool = (own_of c).pool;
+      state = state_at c;
+      outcome = ap (λ (y : Entry). y.outcome) by.entry;
+      called = λ other. ap (is_page_call other) (sym event) ∙ page_called m.event m.node other m.driver c.paged;
+      moved = λ g out. page_moved m.event m.end g m.moved (ap (pages_out g) event ∙ out);
+      can = subst (CanPage c.s (kept m.one)) event (can_page c);
+      after = by.swap ∙ ap (after_page c.s (kept m.one)) event;
+      valid = subst (IsBodyValid (kept m.one)) event by.valid;
+      few = c.few;
+      at = c.at;
+      are = c.are;
+    } in
+    swaps_paged p
+
+-- ---- what was read
+
+-- there is a swap for each node
+pub swap_there : (layout : Layout) (journal : List Entry) (ss : List Store) (node : NodeId) → AreSwaps layout journal ss → layout.direct ≡ false → node.0 < layout.nodes → node.0 < length ss
+swap_there layout journal ss node are packet lt =
+    let all : length ss ≡ layout.nodes = are.all ∙ ap (λ (b : Bool). if b then 0 else layout.nodes) packet in
+    omega (arith, all, lt)
+
+pub swap_read : (ss : List Store) (k : ℕ) (s : Store) → k < length ss → s ≡ slice_index_or ss k s → slice_get ss k ≡ Some s
+swap_read ss k s lt value = index_got ss k s lt ∙ ap (λ (t : Store). Some t) (sym value)
+
+-- page calls are entries of the journal
+pub calls_few : (node : NodeId) (journal : List Entry) (count : ℕ) {longer : List Entry} → count ≡ length longer → count + 1 < 2 ^ 64 → longer ≡ journal → page_calls node journal + 1 < 2 ^ 64
+calls_few node journal count is few same =
+    let fewer = count_by-le-length (λ (x : Entry). is_page_call node x.event) journal in
+    omega (arith, is, few, ap length same, fewer)
