@@ -12,7 +12,6 @@ use Rattle.am_report.specs.Report.{report}
 use Rattle.am_scenario_types.specs.declared.parts.Network.TheVariants.{Packet}
 use Rattle.am_scenario_types.specs.Lawful.{IsLawful}
 use Rattle.am_scenario_types.specs.Lists.{ScenarioLists}
-use Rattle.am_generator.specs.Scenarios.{generated}
 use Rattle.am_follow.specs.Layout.{layout_of}
 use Rattle.am_laws.proofs.OneFate.{one_fate}
 use Rattle.am_model.specs.PostOffice.{PostOffice}
@@ -28,7 +27,7 @@ use Rattle.am_drain_steps.proofs.Unknown.{unknown_is_withheld}
 use Rattle.am_run_laws.proofs.Returns.{returns_are_for_good}
 use Rattle.am_cluster.specs.Runs.{IsRunCutOff}
 use Rattle.am_main.specs.Answer.{full_line, ids_of}
-use Rattle.am_main.specs.Runs.{IsRunAnswer, IsRunOf, MakeAnswers, UnknownIsPlanned, make_text}
+use Rattle.am_main.specs.Runs.{IsRunAnswer, IsRunOf, MakeAnswers, UnknownIsPlanned, make_text, scenario_of}
 
 unknown_planned : (s : ScenarioLists) (journal : List Entry) → IsOfRun s journal → FollowsScripts s journal → UnknownIsPlanned s journal
 unknown_planned s journal run follows past later x node peer channel serial p is event outcome last =
@@ -62,7 +61,7 @@ pub run_cut : (s : ScenarioLists) (part : Part) (journal : List Entry) (text : L
 run_cut s part journal text cut printed = inr (refl, (part, record { journal = journal; cut = cut; text' = printed }))
 
 -- so of a generated scenario
-pub make_reported : (n calls : ℕ) (s : ScenarioLists) (journal : List Entry) (text : List ℕ) → s ≡ generated n → IsLawful s → s.network ≡ Packet → IsDrainedWithRoom s [] journal → IsWholeRun s journal → PostOffice (layout_of s) journal → calls ≡ length s.script → length s.script ≡ 1744 → text ≡ make_text n calls journal → MakeAnswers n (record { status = 0; text = text })
+pub make_reported : (n calls : ℕ) (s : ScenarioLists) (journal : List Entry) (text : List ℕ) → s ≡ scenario_of n → IsLawful s → s.network ≡ Packet → IsDrainedWithRoom s [] journal → IsWholeRun s journal → PostOffice (layout_of s) journal → calls ≡ length s.script → length s.script ≡ 1744 → text ≡ make_text n calls journal → MakeAnswers n (record { status = 0; text = text })
 make_reported n calls s journal text is lawful packet drained whole laws counted many printed =
     let run = subst (λ (g : ScenarioLists). IsRunOf g journal) is (is_run_of s journal lawful packet drained whole laws) in
     let many' = subst (λ (g : ScenarioLists). length g.script ≡ 1744) is many in
@@ -70,6 +69,6 @@ make_reported n calls s journal text is lawful packet drained whole laws counted
     let printed' = subst (λ (k : ℕ). text ≡ make_text n k journal) all printed in
     inl (refl, record { journal = journal; run = run; calls = many'; text' = printed' })
 
-pub make_cut : (n : ℕ) (s : ScenarioLists) (part : Part) (journal : List Entry) (text : List ℕ) → s ≡ generated n → IsRunCutOff s part journal → text ≡ full_line part → MakeAnswers n (record { status = 6; text = text })
+pub make_cut : (n : ℕ) (s : ScenarioLists) (part : Part) (journal : List Entry) (text : List ℕ) → s ≡ scenario_of n → IsRunCutOff s part journal → text ≡ full_line part → MakeAnswers n (record { status = 6; text = text })
 make_cut n s part journal text is cut printed =
     inr (refl, (part, record { journal = journal; cut = subst (λ (g : ScenarioLists). IsRunCutOff g part journal) is cut; text' = printed }))

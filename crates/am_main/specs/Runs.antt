@@ -85,18 +85,22 @@ unfoldable pub make_text : ℕ → ℕ → List Entry → List ℕ
 make_text n calls journal =
     line (codes "am2") (codes "make" ∷ decimal n ∷ []) ++ line (codes "calls") (decimal calls ∷ []) ++ summary journal
 
+-- the scenario of a number
+unfoldable pub scenario_of : ℕ → ScenarioLists
+scenario_of n = generated n
+
 -- THE HEADLINE, for the command `make`: the text is the summary of the run of the scenario that is generated from the number,
 -- whose scripts have 1744 calls.
 pub record Summarizes (n : ℕ) (text : List ℕ) : Type 0 where
   pub journal : List Entry
-  pub run : IsRunOf (generated n) journal
-  pub calls : length (generated n).script ≡ 1744
+  pub run : IsRunOf (scenario_of n) journal
+  pub calls : length (scenario_of n).script ≡ 1744
   pub text' : text ≡ make_text n 1744 journal
 
 -- the text is the line that tells a full log, which the run met
 pub record TellsCutRun (n : ℕ) (part : Part) (text : List ℕ) : Type 0 where
   pub journal : List Entry
-  pub cut : IsRunCutOff (generated n) part journal
+  pub cut : IsRunCutOff (scenario_of n) part journal
   pub text' : text ≡ full_line part
 
 -- the answer of `make` to a number

@@ -1,14 +1,13 @@
 // The run of a generated scenario.
 ghost use Rattle.std.specs.Prelude.{◌≡◌, ◌≢◌, IfOk, length};
-ghost use Rattle.am_generator.specs.Scenarios.{generated};
 ghost use Rattle.am_scenario_types.specs.Lawful.{IsLawful};
 ghost use Rattle.am_scenario_types.specs.declared.parts.Network.TheVariants as Networks;
-ghost use Rattle.am_main.specs.Runs.{MakeAnswers, answer_in, make_text};
+ghost use Rattle.am_main.specs.Runs.{MakeAnswers, answer_in, make_text, scenario_of};
 
 use crate::outputs::Output;
 use crate::words::full_line;
 use am_cluster::{RunFault, alone};
-use am_office::Journal;
+use am_office::{Journal, NoMemory};
 use am_report::summary;
 use am_scenario::{Scenario, generate};
 use am_text::Piece::{Number, Text};
@@ -30,6 +29,17 @@ fn make_text(alloc: Global, n: u64, calls: u64, journal: &Journal) -> Result<Vec
     Ok(text)
 }
 
+// The scenario of a number.
+#[tactic(auto, unfolding(crate::specs::Runs::scenario_of))]
+fn scenario_of(alloc: Global, n: u64) -> Result<Scenario, NoMemory>
+    ensures made { IfOk result (λ scenario. scenario ≡ scenario_of n) }
+    ensures lawful { IfOk result IsLawful }
+    ensures packet { IfOk result (λ scenario. scenario.network ≡ Networks.Packet) }
+    ensures calls { IfOk result (λ scenario. length scenario.script ≡ 1744) }
+{
+    generate(alloc, n)
+}
+
 // How many calls the scripts of a scenario have.
 fn call_count(scenario: &Scenario) -> u64
     ensures { result ≡ length scenario.now.script }
@@ -40,7 +50,7 @@ fn call_count(scenario: &Scenario) -> u64
 // What is printed of the run of the scenario of a number.
 #[tactic(auto, using(crate::proofs::RunMeaning::make_reported, crate::proofs::RunMeaning::make_cut))]
 fn scenario_summary(alloc: Global, n: u64, scenario: &Scenario) -> Result<Output, AllocError>
-    requires made { scenario.now ≡ generated n }
+    requires made { scenario.now ≡ scenario_of n }
     requires lawful { IsLawful scenario.now }
     requires packet { scenario.now.network ≡ Networks.Packet }
     requires calls { length scenario.now.script ≡ 1744 }
@@ -66,7 +76,7 @@ pub fn make_output(alloc: Global, n: u64) -> Result<Output, AllocError>
     ensures answers { IfOk result (λ output. MakeAnswers n (answer_in output)) }
     ensures status { IfOk result (λ output. output.status ≢ 5) }
 {
-    match generate(alloc, n) {
+    match scenario_of(alloc, n) {
         Ok(scenario) => scenario_summary(alloc, n, &scenario),
         Err(_) => Err(AllocError),
     }
