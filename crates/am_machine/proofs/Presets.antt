@@ -1,7 +1,7 @@
 -- The swaps of a cluster, as they begin.
 use Rattle.std.specs.Prelude.{slice_get, slice_index_or, take}
 use Rattle.std.specs.List.{filter, find}
-use Rattle.std.proofs.Common.{◌≡◌, ⊎_elim, ℕ, zero, suc, ◌+◌, ◌<◌, ◌^◌, Bool, true, false, cond, ◌&&◌, List, [], ◌∷◌, ◌++◌, map, length, Option, Some, None, refl, sym, ap, ◌∙◌, subst, arith, true≢false, eqb-true, eq-eqb, if◌then◌else◌}
+use Rattle.std.proofs.Common.{◌≡◌, ⊎_elim, ℕ, zero, suc, ◌+◌, ◌<◌, ◌^◌, Bool, true, false, cond, List, [], ◌∷◌, ◌++◌, map, length, Option, Some, refl, sym, ap, ◌∙◌, subst, arith, true≢false, eqb-true, eq-eqb, if◌then◌else◌}
 use Rattle.std.proofs.lemmas.Bool.{and_from}
 use Rattle.std.proofs.lemmas.List.{length_push}
 use Rattle.am_names.specs.declared.EndpointId.{EndpointId}
@@ -13,11 +13,10 @@ use Rattle.am_model.specs.History.{state_of}
 use Rattle.am_model.specs.Layout.{AllAre, EndSetting, Fault, IsLawful, IsPoolLawful, IsSettingLawful, Layout, has_id, opening, opening_by, opening_place}
 use Rattle.am_model.proofs.Names.{same_end-refl}
 use Rattle.am_model.proofs.Order.{order_fresh}
-use Rattle.am_local.specs.Together.{faults_of}
 use Rattle.am_scenario_types.specs.declared.parts.EndLine.{EndLine}
 use Rattle.am_scenario_types.specs.declared.parts.FaultLine.{FaultLine}
-use Rattle.am_follow.specs.Layout.{fault_of, is_direct, setting_of}
-use Rattle.am_device.specs.Memory.{Store, held_for, with_held}
+use Rattle.am_follow.specs.Layout.{fault_of, setting_of}
+use Rattle.am_device.specs.Memory.{Store, held_for}
 use Rattle.am_device.proofs.Held.{holds_instead}
 use Rattle.am_image.specs.Image.{image}
 use Rattle.am_image.specs.Valid.{IsValid}
