@@ -1,6 +1,6 @@
 -- An endpoint on disk keeps its body until it is paged in.
 use Rattle.std.specs.Prelude.{is_none, not, nat_lt, slice_get, ◌-◌}
-use Rattle.std.proofs.Common.{◌≡◌, ℕ, ◌+◌, ◌==◌, Bool, true, false, cond, ◌&&◌, ◌||◌, List, [], ◌∷◌, ◌++◌, Option, Some, None, refl, sym, ap, ◌∙◌, subst, true≢false, if◌then◌else◌}
+use Rattle.std.proofs.Common.{◌≡◌, ℕ, ◌+◌, ◌==◌, Bool, true, false, ◌&&◌, List, [], ◌∷◌, ◌++◌, Option, Some, None, refl, sym, ap, ◌∙◌, subst, true≢false, if◌then◌else◌}
 use Rattle.std.specs.List.{list_any}
 use Rattle.am_names.specs.Rules.{is_transient}
 use Rattle.am_names.specs.declared.AnswerPacket.{AnswerPacket}
@@ -24,7 +24,7 @@ use Rattle.am_office.specs.declared.Received.{Received}
 use Rattle.am_office.specs.declared.Received.TheVariants as Got
 use Rattle.am_office.specs.declared.Entry.{Entry}
 use Rattle.am_office.specs.Entries.{ends_touched, put_in, touched_by_expiry, touched_by_result, touches}
-use Rattle.am_model.specs.Changes.{after, changed, expired, flying_of, paged_in, paged_out, received}
+use Rattle.am_model.specs.Changes.{changed, flying_of, paged_in, paged_out, received}
 use Rattle.am_model.specs.Channels.{Again, Arrival, Channel, Fresh, Stale, arrival, attempt, bound_message, emitted, mark, sequence}
 use Rattle.am_model.specs.Endpoint.{State, front, is_in_a_frame, is_on_disk, is_resident}
 use Rattle.am_model.specs.History.{IsHistory, MayFollow, arrive, bounced, channel_to, counts, decided, expire, failing, is_answered, is_home, next_number, outcome_of, receive, sent, settle, settle_by, state_of}

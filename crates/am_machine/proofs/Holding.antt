@@ -1,7 +1,7 @@
 -- The swaps of a cluster, one entry more.
-use Rattle.std.specs.Prelude.{min, slice_get, slice_set}
+use Rattle.std.specs.Prelude.{slice_get, slice_set}
 use Rattle.std.specs.List.{list_any}
-use Rattle.std.proofs.Common.{◌≡◌, ⊎_elim, ℕ, zero, suc, ◌+◌, ◌-◌, ◌<◌, ◌≤◌, ◌^◌, Bool, true, false, cond, ◌||◌, ◌&&◌, List, [], ◌∷◌, ◌++◌, length, Option, Some, None, refl, sym, ap, ◌∙◌, subst, arith, true≢false, eqb-true, eq-eqb, if◌then◌else◌}
+use Rattle.std.proofs.Common.{◌≡◌, ⊎_elim, ℕ, zero, suc, ◌+◌, ◌-◌, ◌<◌, ◌≤◌, ◌^◌, Bool, true, false, ◌||◌, List, [], ◌∷◌, ◌++◌, length, Option, Some, refl, sym, ap, ◌∙◌, subst, arith, true≢false, eqb-true, eq-eqb, if◌then◌else◌}
 use Rattle.std.proofs.Math.Nat.{min-eq_left}
 use Rattle.std.proofs.lemmas.Bool.{and_from}
 use Rattle.am_names.specs.declared.EndpointId.{EndpointId}
@@ -22,7 +22,6 @@ use Rattle.am_model.specs.Layout.{EndSetting, IsLawful, Layout}
 use Rattle.am_model.proofs.Each.{state_of_push}
 use Rattle.am_model.proofs.Names.{same_end-is, same_end-refl}
 use Rattle.am_local.specs.Readings.{page_calls}
-use Rattle.am_local.specs.Together.{faults_of}
 use Rattle.am_local.proofs.Growing.{readings_push}
 use Rattle.am_local.proofs.Homes.{is_home_by, one_home}
 use Rattle.am_laws_disk.specs.Disk.{StaysOnDisk, pages_out}
@@ -35,7 +34,7 @@ use Rattle.am_image.specs.Valid.{IsValid}
 use Rattle.am_journal.proofs.Lists.{got_set, set_length}
 use Rattle.am_machine.specs.Ends.{EndLog, state_in}
 use Rattle.am_machine.specs.Interfaces.{node_at}
-use Rattle.am_machine.specs.Pages.{CanPage, CanPageIn, CanPageOut, IsBodyValid, after_call, after_page, is_page, page_outcome}
+use Rattle.am_machine.specs.Pages.{CanPage, CanPageOut, IsBodyValid, after_call, after_page, is_page, page_outcome}
 use Rattle.am_machine.specs.Swaps.{AreSwaps, HoldsBody, IsSwap}
 
 -- ---- an entry that is no call of the swap

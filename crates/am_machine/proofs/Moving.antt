@@ -1,7 +1,7 @@
 -- The moves of a node's driver.
 use Rattle.std.specs.Prelude.{not, nat_le, nat_lt, slice_index_or, slice_set}
 use Rattle.std.specs.List.{list_any, find, position, position_or_len, filter}
-use Rattle.std.proofs.Common.{◌≡◌, ℕ, suc, ◌+◌, ◌<◌, ◌≤◌, ◌==◌, Bool, true, false, cond, ◌||◌, ◌&&◌, List, [], ◌∷◌, ◌++◌, map, length, slice_get, Option, Some, None, refl, sym, ap, ◌∙◌, subst, arith, true≢false, ltb-true, eqb-true, if◌then◌else◌}
+use Rattle.std.proofs.Common.{◌≡◌, ℕ, suc, ◌+◌, ◌<◌, ◌≤◌, Bool, true, false, cond, ◌||◌, ◌&&◌, List, [], ◌∷◌, ◌++◌, map, length, slice_get, Option, Some, None, refl, sym, ap, ◌∙◌, subst, arith, true≢false, ltb-true, eqb-true}
 use Rattle.std.proofs.lemmas.Bool.{and_parts}
 use Rattle.am_names.specs.declared.EndpointId.{EndpointId}
 use Rattle.am_names.specs.declared.NodeId.{NodeId}

@@ -1,19 +1,18 @@
 -- A page call of a node, in the whole cluster.
 use Rattle.std.specs.Prelude.{nat_le, slice_index_or, slice_set}
 use Rattle.std.specs.List.{filter, list_any}
-use Rattle.std.proofs.Common.{◌≡◌, ℕ, zero, suc, ◌+◌, ◌<◌, ◌==◌, ◌^◌, Bool, true, false, cond, ◌||◌, ◌&&◌, List, [], ◌∷◌, ◌++◌, map, length, slice_get, Option, Some, None, refl, sym, ap, ◌∙◌, subst, arith, true≢false, if◌then◌else◌}
+use Rattle.std.proofs.Common.{◌≡◌, ℕ, zero, suc, ◌+◌, ◌<◌, ◌==◌, ◌^◌, Bool, true, false, cond, ◌||◌, ◌&&◌, List, [], ◌∷◌, ◌++◌, map, length, slice_get, Some, refl, sym, ap, ◌∙◌, subst, arith, true≢false, if◌then◌else◌}
 use Rattle.std.proofs.lemmas.List.Sums.{count_by-le-length}
 use Rattle.am_names.specs.declared.EndpointId.{EndpointId}
 use Rattle.am_names.specs.declared.NodeId.{NodeId}
-use Rattle.am_names.specs.Names.{same_end, same_node}
+use Rattle.am_names.specs.Names.{same_node}
 use Rattle.am_office.specs.declared.Event.{Event}
 use Rattle.am_office.specs.declared.Event.TheVariants as Events
-use Rattle.am_office.specs.declared.Outcome.{Outcome}
 use Rattle.am_office.specs.declared.Outcome.TheVariants as Out
 use Rattle.am_office.specs.declared.Entry.{Entry}
-use Rattle.am_model.specs.Endpoint.{Body, State, is_on_disk}
+use Rattle.am_model.specs.Endpoint.{State, is_on_disk}
 use Rattle.am_model.specs.History.{MayFollow, is_page_call, outcome_of, page, state_of}
-use Rattle.am_model.specs.Layout.{EndSetting, Fault, Layout}
+use Rattle.am_model.specs.Layout.{Fault, Layout}
 use Rattle.am_model.specs.Steps.{step_entry}
 use Rattle.am_model.proofs.Names.{same_end-is}
 use Rattle.am_local.specs.Driver.{driver_of, end_moved}
@@ -24,12 +23,11 @@ use Rattle.am_laws_steps.proofs.Steps.{may_step}
 use Rattle.am_device.specs.Causes.{fails_after, one_more}
 use Rattle.am_device.specs.Memory.{Store}
 use Rattle.am_endpoint.specs.View.{EndpointView, state_after}
-use Rattle.am_iface.specs.View.{InterfaceView}
-use Rattle.am_machine.specs.Ends.{EndLog, kept, setting_in, state_in}
-use Rattle.am_machine.specs.Kept.{IsKept, IsOwn}
+use Rattle.am_machine.specs.Ends.{EndLog, kept, setting_in}
+use Rattle.am_machine.specs.Kept.{IsOwn}
 use Rattle.am_machine.specs.Pages.{CanPage, IsBodyValid, IsPagedBy, after_page, is_page, page_outcome}
 use Rattle.am_machine.specs.Swaps.{AreSwaps, HoldsBody, IsSwap}
-use Rattle.am_machine.proofs.Applied.{IsHere, IsNext, own_here, state_here}
+use Rattle.am_machine.proofs.Applied.{IsNext, own_here, state_here}
 use Rattle.am_machine.proofs.Moving as moving
 use Rattle.am_machine.proofs.Moving.{Move}
 use Rattle.am_machine.proofs.Holding.{Paging, one_more_is, swaps_paged}

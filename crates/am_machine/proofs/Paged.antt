@@ -1,10 +1,9 @@
 -- A page call on its parts.
 use Rattle.std.specs.Prelude.{IfOk, OnOk, Result, Ok, Err}
-use Rattle.std.proofs.Common.{◌≡◌, ◌⊎◌, inl, inr, ℕ, Bool, true, false, cond, List, [], ◌∷◌, ◌++◌, Option, Some, None, refl, sym, ap, ◌∙◌, subst, true≢false, if◌then◌else◌}
+use Rattle.std.proofs.Common.{◌≡◌, ◌⊎◌, inl, inr, ℕ, Bool, true, false, List, [], Option, Some, None, refl, sym, ap, ◌∙◌, subst, true≢false, if◌then◌else◌}
 use Rattle.am_names.specs.declared.EndpointId.{EndpointId}
 use Rattle.am_names.specs.declared.NoMemory.{NoMemory}
 use Rattle.am_names.specs.declared.NodeId.{NodeId}
-use Rattle.am_office.specs.declared.Event.{Event}
 use Rattle.am_office.specs.declared.Event.TheVariants as Events
 use Rattle.am_office.specs.declared.Outcome.{Outcome}
 use Rattle.am_office.specs.declared.Outcome.TheVariants as Out
@@ -24,7 +23,6 @@ use Rattle.am_image.specs.Valid.{IsValid}
 use Rattle.am_swap.specs.Decoded.{FindsEach}
 use Rattle.am_machine.specs.Ends.{EndLog, kept, state_in}
 use Rattle.am_machine.specs.Pages.{CanPageIn, CanPageOut, outcome_by, page_outcome}
-use Rattle.am_machine.specs.Swaps.{HoldsBody}
 
 host_no_frame : (p : Place) → is_on_host p ≡ true → is_in_a_frame p ≡ false
 host_no_frame (Frame frame) h = absurd (true≢false (sym h))

@@ -1,7 +1,7 @@
 -- The swaps of a cluster, as they begin.
-use Rattle.std.specs.Prelude.{slice_get}
+use Rattle.std.specs.Prelude.{slice_get, slice_index_or, take}
 use Rattle.std.specs.List.{filter, find}
-use Rattle.std.proofs.Common.{◌≡◌, ⊎_elim, ℕ, zero, suc, ◌+◌, ◌<◌, ◌^◌, Bool, true, false, cond, ◌&&◌, List, [], ◌∷◌, ◌++◌, map, length, Option, Some, None, refl, sym, ap, ◌∙◌, subst, arith, true≢false, eqb-true, eq-eqb, if◌then◌else◌}
+use Rattle.std.proofs.Common.{◌≡◌, ⊎_elim, ℕ, zero, suc, ◌+◌, ◌<◌, ◌^◌, Bool, true, false, cond, List, [], ◌∷◌, ◌++◌, map, length, Option, Some, refl, sym, ap, ◌∙◌, subst, arith, true≢false, eqb-true, eq-eqb, if◌then◌else◌}
 use Rattle.std.proofs.lemmas.Bool.{and_from}
 use Rattle.std.proofs.lemmas.List.{length_push}
 use Rattle.am_names.specs.declared.EndpointId.{EndpointId}
@@ -13,11 +13,10 @@ use Rattle.am_model.specs.History.{state_of}
 use Rattle.am_model.specs.Layout.{AllAre, EndSetting, Fault, IsLawful, IsPoolLawful, IsSettingLawful, Layout, has_id, opening, opening_by, opening_place}
 use Rattle.am_model.proofs.Names.{same_end-refl}
 use Rattle.am_model.proofs.Order.{order_fresh}
-use Rattle.am_local.specs.Together.{faults_of}
 use Rattle.am_scenario_types.specs.declared.parts.EndLine.{EndLine}
 use Rattle.am_scenario_types.specs.declared.parts.FaultLine.{FaultLine}
-use Rattle.am_follow.specs.Layout.{fault_of, is_direct, setting_of}
-use Rattle.am_device.specs.Memory.{Store, held_for, with_held}
+use Rattle.am_follow.specs.Layout.{fault_of, setting_of}
+use Rattle.am_device.specs.Memory.{Store, held_for}
 use Rattle.am_device.proofs.Held.{holds_instead}
 use Rattle.am_image.specs.Image.{image}
 use Rattle.am_image.specs.Valid.{IsValid}
@@ -32,13 +31,19 @@ use Rattle.am_machine.proofs.Homes.{got_push}
 
 -- ---- one line more
 
-pub presets_push : (node : NodeId) (xs : List EndLine) (x : EndLine) (s : Store) → preset_all node (xs ++ x ∷ []) s ≡ preset_if (begins_on node x) x (preset_all node xs s)
-presets_push node [] x s = refl
-presets_push node (y ∷ xs) x s = presets_push node xs x (preset_if (begins_on node y) y s)
+presets_take : (node : NodeId) (lines : List EndLine) (k : ℕ) (d : EndLine) (s : Store) → k < length lines → preset_all node (take (suc k) lines) s ≡ preset_if (begins_on node (slice_index_or lines k d)) (slice_index_or lines k d) (preset_all node (take k lines) s)
+presets_take node [] k d s lt = absurd (omega (arith, lt))
+presets_take node (x ∷ xs) zero d s lt = refl
+presets_take node (x ∷ xs) (suc k) d s lt = presets_take node xs k d (preset_if (begins_on node x) x s) (omega (arith, lt))
 
 -- a swap with the images of some lines, and one more
-pub presets_next : (node : NodeId) (xs : List EndLine) (x : EndLine) (s t u : Store) → t ≡ preset_all node xs s → u ≡ preset_if (begins_on node x) x t → u ≡ preset_all node (xs ++ x ∷ []) s
-presets_next node xs x s t u was is = is ∙ ap (preset_if (begins_on node x) x) was ∙ sym (presets_push node xs x s)
+pub presets_more : (node : NodeId) (lines : List EndLine) (k : ℕ) (d : EndLine) (s t u : Store) → k < length lines → t ≡ preset_all node (take k lines) s → u ≡ preset_if (begins_on node (slice_index_or lines k d)) (slice_index_or lines k d) t → u ≡ preset_all node (take (k + 1) lines) s
+presets_more node lines k d s t u lt was is =
+    let next : k + 1 ≡ suc k = omega arith in
+    is
+    ∙ ap (preset_if (begins_on node (slice_index_or lines k d)) (slice_index_or lines k d)) was
+    ∙ sym (presets_take node lines k d s lt)
+    ∙ ap (λ (n : ℕ). preset_all node (take n lines) s) (sym next)
 
 fails_push : (node : NodeId) (xs : List FaultLine) (x : FaultLine) (t : Bool) → is_of_node node x ≡ t → fails_of node (xs ++ x ∷ []) ≡ (if t then fails_of node xs ++ x.number ∷ [] else fails_of node xs)
 fails_push node [] x t is = ap (λ (b : Bool). map (λ (f : FaultLine). f.number) (cond b (x ∷ []) [])) is ∙ by_test t

@@ -1,5 +1,5 @@
 -- What a driver's move asks of the endpoint that it moves and of the frames, as the machine tells it.
-use Rattle.std.specs.Prelude.{◌≡◌, ℕ, Bool, false, ◌==◌, ◌&&◌, not, Option, None, List, [], ◌∷◌, length}
+use Rattle.std.specs.Prelude.{ℕ, Bool, false, ◌==◌, ◌&&◌, not, Option, None, List, [], ◌∷◌, length}
 use Rattle.std.specs.List.{list_any}
 use Rattle.am_names.specs.declared.NodeId.{NodeId}
 use Rattle.am_names.specs.Names.{same_node}

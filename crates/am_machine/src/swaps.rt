@@ -74,7 +74,6 @@ fn preset_if(
 }
 
 /// The disk of a node, with the opening images of the endpoints that are declared there.
-#[tactic(auto, using(crate::proofs::Presets::presets_next))]
 fn open_swap(
     alloc: Global,
     settings: &Settings,

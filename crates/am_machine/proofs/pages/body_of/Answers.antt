@@ -1,9 +1,7 @@
-use Rattle.std.proofs.Common.{◌≡◌, ℕ, List, Some, sym, ap, ◌∙◌, subst}
-use Rattle.am_names.specs.declared.EndpointId.{EndpointId}
+use Rattle.std.proofs.Common.{◌≡◌, ap, ◌∙◌}
 use Rattle.am_endpoint.specs.View.{state_after}
 use Rattle.am_device.specs.Memory.{held_for}
 use Rattle.am_image.specs.Image.{image}
-use Rattle.am_image.specs.Valid.{IsValid}
 use Rattle.am_swap.specs.Decoded.{FindsEach}
 use Rattle.am_machine.proofs.Paged.{image_told, is_found, never_none}
 use Rattle.am_machine.proofs.pages.body_of.Goals as goal

@@ -1,6 +1,4 @@
-use Rattle.std.proofs.Common.{◌≡◌, true, sym, ap, ◌∙◌, subst}
-use Rattle.std.specs.Prelude.{IfOk, Result, Ok, Err, Vec}
-use Rattle.am_model.specs.Endpoint.{Body, is_on_disk}
+use Rattle.std.proofs.Common.{ap, ◌∙◌, subst}
 use Rattle.am_endpoint.specs.View.{state_after}
 use Rattle.am_body.specs.Views.{View}
 use Rattle.am_image.specs.Range.{IsInRange}

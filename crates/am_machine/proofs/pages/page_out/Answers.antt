@@ -1,9 +1,8 @@
-use Rattle.std.proofs.Common.{◌≡◌, ◌++◌, ◌∷◌, ℕ, [], List, refl, sym, ap, ◌∙◌}
-use Rattle.am_names.specs.declared.EndpointId.{EndpointId}
+use Rattle.std.proofs.Common.{◌≡◌, ◌++◌, ◌∷◌, [], List, refl, ap, ◌∙◌}
 use Rattle.am_office.specs.declared.Event.TheVariants as Events
 use Rattle.am_office.specs.declared.Entry.{Entry}
 use Rattle.am_body.specs.declared.settings.EndSettings.{EndSettings}
-use Rattle.am_device.specs.Memory.{Store, with_held}
+use Rattle.am_device.specs.Memory.{with_held}
 use Rattle.am_machine.specs.Pages.{after_call}
 use Rattle.am_machine.proofs.Paged.{may_page_out, told_outcome}
 use Rattle.am_machine.proofs.pages.page_out.Goals as goal

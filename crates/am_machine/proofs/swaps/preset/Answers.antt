@@ -1,4 +1,4 @@
-use Rattle.std.proofs.Common.{◌≡◌, sym, ap, ◌∙◌}
+use Rattle.std.proofs.Common.{ap, ◌∙◌}
 use Rattle.am_model.specs.Endpoint.{fresh}
 use Rattle.am_body.specs.declared.settings.EndSettings.{EndSettings}
 use Rattle.am_image.specs.Image.{image}
