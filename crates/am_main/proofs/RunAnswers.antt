@@ -1,14 +1,14 @@
 -- What a status of `run` and of `make` says of what was asked.
 use Rattle.std.specs.Prelude.{Result, Ok, Err}
 use Rattle.std.specs.Io.KnownBytes.{Appends}
-use Rattle.std.proofs.Common.{◌≡◌, ◌≢◌, ◌⊎◌, inl, inr, ℕ, List, Option, refl, sym, ◌∙◌, ap, subst, arith}
+use Rattle.std.proofs.Common.{◌≡◌, ◌≢◌, inl, inr, ℕ, List, Option, refl, sym, ◌∙◌, ap, subst, arith}
 use Rattle.am_scenario.specs.Grammar.{grammar}
 use Rattle.am_scenario_types.specs.declared.parts.Form.TheVariants as Forms
 use Rattle.am_scenario_types.specs.declared.faults.ScenarioFault.{ScenarioFault}
 use Rattle.am_scenario_types.specs.Lists.{ScenarioLists}
-use Rattle.am_main.specs.Answer.{Answer, refused_line}
-use Rattle.am_main.specs.Offers.{IsGiven, IsMakeGiven, IsMakeOffered, IsOfMake, IsOffered, IsOr, IsRunOffered, ReportsFullLog, ReportsRun, TellsFault, TellsMadeLog, TellsSummary, no_memory}
-use Rattle.am_main.specs.Runs.{MakeAnswers, PrintsRun, RunAnswers}
+use Rattle.am_main.specs.Answer.{Answer}
+use Rattle.am_main.specs.Offers.{IsGiven, IsMakeGiven, IsOfMake, IsOffered, IsOr, ReportsFullLog, ReportsRun, TellsFault, TellsMadeLog, TellsSummary, no_memory}
+use Rattle.am_main.specs.Runs.{MakeAnswers, RunAnswers}
 use Rattle.am_main.proofs.Refusals.{own_status, own_text}
 
 pub run_given : (bytes : List ℕ) (answer : Answer) (status : ℕ) (old new : Option (List ℕ)) → RunAnswers (grammar Forms.Run bytes) answer → IsOffered answer status old new → IsGiven Forms.Run bytes status old new

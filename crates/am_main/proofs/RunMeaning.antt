@@ -1,12 +1,8 @@
 -- What a whole drain of an empty journal says of a scenario's run.
-use Rattle.std.proofs.Common.{◌≡◌, ℕ, List, [], ◌∷◌, ◌++◌, length, inl, inr, refl, subst}
+use Rattle.std.proofs.Common.{◌≡◌, ℕ, List, [], ◌++◌, length, inl, inr, refl, subst}
 use Rattle.am_names.specs.declared.Cause.{Cause}
-use Rattle.am_names.specs.declared.NodeId.{NodeId}
-use Rattle.am_names.specs.declared.Parcel.{Parcel}
 use Rattle.am_names.specs.declared.Serial.{Serial}
 use Rattle.am_office.specs.declared.Entry.{Entry}
-use Rattle.am_office.specs.declared.Event.TheVariants as Events
-use Rattle.am_office.specs.declared.Outcome.TheVariants as Out
 use Rattle.am_office.specs.declared.Part.{Part}
 use Rattle.am_report.specs.Report.{report}
 use Rattle.am_scenario_types.specs.declared.parts.Network.TheVariants.{Packet}
@@ -20,7 +16,7 @@ use Rattle.am_drain.specs.Drain.{IsDrained}
 use Rattle.am_drain.specs.Follows.{FollowsScripts}
 use Rattle.am_drain.proofs.Determined.{drain_is_determined}
 use Rattle.am_drain_steps.specs.Enabled.{IsOfRun}
-use Rattle.am_drain_steps.specs.Endings.{IsLastTry, IsWithheld, WithholdsNothing}
+use Rattle.am_drain_steps.specs.Endings.{WithholdsNothing}
 use Rattle.am_drain_steps.specs.Runs.{IsWholeRun}
 use Rattle.am_drain_steps.proofs.Nothing.{none_is_unknown}
 use Rattle.am_drain_steps.proofs.Unknown.{unknown_is_withheld}
