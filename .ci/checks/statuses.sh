@@ -24,8 +24,8 @@ text=$(printf 'am2 1\nnetwork packet\nnodes 1\nlog 1\nendpoint 0 0 5\nx poll 0\n
 expect 'a full log' 6 'log full e0' $? "$text"
 text=$(printf 'am2 1\nnetwork direct\nnodes 1\n' | bin/am2 run 2>"$errors")
 expect 'a run on the direct network' 3 'refused line 2 out-of-range' $? "$text"
-text=$(printf 'am2 1\nnetwork packet\nnodes 1\nlog 1\nendpoint 0 0 5\nthread 0 0\nt0 poll 0\nt0 poll 0\n' | bin/am2 run 2>"$errors")
-expect 'a full log in a run' 6 "$(printf 'log full e0\nam2 report 1\nentries 1\nt0 poll 0 -> empty\nendpoint 0 runs 0\nmessages 0\ntotals ran 0 returned 0 unknown 0 unknown-but-ran 0 pending 0')" $? "$text"
+text=$(printf 'am2 1\nnetwork packet\nnodes 1\nlog 1\nendpoint 0 0 5\nthread 0 0\nt0 poll 0\nt0 poll 0\n' | bin/am2 run 2>"$errors"); status=$?
+expect 'a full log in a run' 6 "$(printf 'log full e0\nam2 report 1\nentries 1\nt0 poll 0 -> empty\nendpoint 0 runs 0\nmessages 0\ntotals ran 0 returned 0 unknown 0 unknown-but-ran 0 pending 0')" $status "$text"
 text=$(bin/am2 make 0 2>"$errors" < .); status=$?
 expect 'a made run, which reads nothing' 0 "$(printf 'am2 make 0\ncalls 1744')" $status "$(head -n 2 <<< "$text")"
 text=$(bin/am2 step < . 2>"$errors"); expect 'a folder as input' 4 'read fault' $? "$text"
