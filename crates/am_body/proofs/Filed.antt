@@ -16,7 +16,8 @@ use Rattle.am_model.specs.Endpoint.{Body}
 use Rattle.am_model.specs.Changes.{appended, without_flight, queued}
 use Rattle.am_model.specs.Choice.{without_first}
 use Rattle.am_translate.specs.Tables.{Table}
-use Rattle.std.specs.Prelude.{Option, None, Some, find, if◌then◌else◌}
+use Rattle.std.specs.Prelude.{Option, None, Some, cond, find, if◌then◌else◌}
+use Rattle.am_body.specs.Flights.{slot_of, without_slot}
 use Rattle.am_body.specs.Moves.{filed, freed}
 use Rattle.am_body.specs.Walks.{is_sought_at, taken_out}
 use Rattle.am_body.specs.declared.walks.Sought.TheVariants as Soughts
@@ -89,13 +90,6 @@ module _ (tag : Tag) (sum accepted : ℕ) (t : Table) (hs : List (Option Handler
       by_free [] none = absurd (some_free tag sum accepted t hs p b all held none)
       by_free (s ∷ free) front = received_filed s free front
 
-  pub flight_added : size p ≡ 80 → slots_held (body_over tag sum accepted t hs p) < 80 → body_over tag sum accepted t hs (filed p p.free InFlight d) ≡ record (body_over tag sum accepted t hs p) { in_flight = (body_over tag sum accepted t hs p).in_flight ++ flying_in d ∷ [] }
-  flight_added all held = by_free p.free refl
-    where
-      by_free : (xs : List ℕ) → p.free ≡ xs → body_over tag sum accepted t hs (filed p xs InFlight d) ≡ record (body_over tag sum accepted t hs p) { in_flight = (body_over tag sum accepted t hs p).in_flight ++ flying_in d ∷ [] }
-      by_free [] none = absurd (some_free tag sum accepted t hs p b all held none)
-      by_free (s ∷ free) front = flight_filed s free front
-
   notice_filed : (s : ℕ) (free : List ℕ) → p.free ≡ s ∷ free → body_over tag sum accepted t hs (filed p (s ∷ free) Notices d) ≡ record (body_over tag sum accepted t hs p) { notices = (body_over tag sum accepted t hs p).notices ++ notice_in d ∷ [] }
   notice_filed s free front =
       let ok = first_free p s free b front in
@@ -130,25 +124,68 @@ module _ (tag : Tag) (sum accepted : ℕ) (t : Table) (hs : List (Option Handler
 held_before : (i : Inside) (v : View) → view_of i ≡ v → slots_held v.body < 80 → slots_held (view_of i).body < 80
 held_before i v e h = subst (λ (w : View). slots_held w.body < 80) (sym e) h
 
--- a body with another block, where its new view is known
-pub viewed : (i : Inside) (v : View) (q r : Pools) (change : Body → Body) → view_of i ≡ v → q ≡ r → (view_of (record i { block = r })).body ≡ change (view_of i).body → view_of (record i { block = q }) ≡ record v { body = change v.body }
-viewed i v q r change e is to =
-    ap (λ (p : Pools). view_of (record i { block = p })) is ∙ ap (λ (b : Body). record (view_of i) { body = b }) to ∙ ap (λ (w : View). record w { body = change w.body }) e
+-- a view with another body and other slots in flight
+with_both : (v : View) (b c : Body) (xs ys : List ℕ) → b ≡ c → xs ≡ ys → record v { body = b; flights = xs } ≡ record v { body = c; flights = ys }
+with_both v b c xs ys to there = λ k. record v { body = to k; flights = there k }
+
+-- a body with another block, where its new body and its new slots in flight are known
+viewed_both : (i : Inside) (v : View) (q r : Pools) (change : Body → Body) (flights : View → List ℕ) → view_of i ≡ v → q ≡ r → (view_of (record i { block = r })).body ≡ change (view_of i).body → r.in_flight ≡ flights (view_of i) → view_of (record i { block = q }) ≡ record v { body = change v.body; flights = flights v }
+viewed_both i v q r change flights e is to there =
+    ap (λ (p : Pools). view_of (record i { block = p })) is
+    ∙ with_both (view_of i) _ _ _ _ to there
+    ∙ ap (λ (w : View). record w { body = change w.body; flights = flights w }) e
+
+-- where the slots in flight stay
+pub viewed : (i : Inside) (v : View) (q r : Pools) (change : Body → Body) → view_of i ≡ v → q ≡ r → (view_of (record i { block = r })).body ≡ change (view_of i).body → r.in_flight ≡ i.block.in_flight → view_of (record i { block = q }) ≡ record v { body = change v.body }
+viewed i v q r change e is to there = viewed_both i v q r change (λ w. w.flights) e is to there
+
+-- what is filed in another list, and what goes from another, leaves the slots in flight as they are
+
+requests_aside : (p : Pools) (d : Descriptor) (xs : List ℕ) → (filed p xs Requests d).in_flight ≡ p.in_flight
+requests_aside p d [] = refl
+requests_aside p d (s ∷ xs) = refl
+
+replies_aside : (p : Pools) (d : Descriptor) (xs : List ℕ) → (filed p xs Replies d).in_flight ≡ p.in_flight
+replies_aside p d [] = refl
+replies_aside p d (s ∷ xs) = refl
+
+notices_aside : (p : Pools) (d : Descriptor) (xs : List ℕ) → (filed p xs Notices d).in_flight ≡ p.in_flight
+notices_aside p d [] = refl
+notices_aside p d (s ∷ xs) = refl
+
+received_aside : (p : Pools) (d : Descriptor) (xs : List ℕ) → (filed p xs Received d).in_flight ≡ p.in_flight
+received_aside p d [] = refl
+received_aside p d (s ∷ xs) = refl
+
+notices_freed_aside : (p : Pools) (xs : List ℕ) → (freed p xs Notices).in_flight ≡ p.in_flight
+notices_freed_aside p [] = refl
+notices_freed_aside p (s ∷ xs) = refl
+
+received_freed_aside : (p : Pools) (xs : List ℕ) → (freed p xs Received).in_flight ≡ p.in_flight
+received_freed_aside p [] = refl
+received_freed_aside p (s ∷ xs) = refl
+
+received_out_aside : (p : Pools) (r : Option ℕ) → (taken_out p Received r).in_flight ≡ p.in_flight
+received_out_aside p None = refl
+received_out_aside p (Some s) = refl
 
 pub request_view : (i : Inside) (v : View) (q : Pools) (d : Descriptor) → view_of i ≡ v → IsSound i → q ≡ filed i.block i.block.free Requests d → is_request d.message ≡ true → slots_held v.body < 80 → view_of (record i { block = q }) ≡ record v { body = queued d.message d.used v.body }
 request_view i v q d e ok is kind held =
     viewed i v q (filed i.block i.block.free Requests d) (queued d.message d.used) e is
     (request_queued i.tag i.sum i.accepted i.translate i.handlers i.block d ok.block ok.slots (held_before i v e held) kind)
+    (requests_aside i.block d i.block.free)
 
 pub answer_view : (i : Inside) (v : View) (q : Pools) (d : Descriptor) → view_of i ≡ v → IsSound i → q ≡ filed i.block i.block.free Replies d → is_request d.message ≡ false → slots_held v.body < 80 → view_of (record i { block = q }) ≡ record v { body = queued d.message d.used v.body }
 answer_view i v q d e ok is kind held =
     viewed i v q (filed i.block i.block.free Replies d) (queued d.message d.used) e is
     (answer_queued i.tag i.sum i.accepted i.translate i.handlers i.block d ok.block ok.slots (held_before i v e held) kind)
+    (replies_aside i.block d i.block.free)
 
 pub notice_view : (i : Inside) (v : View) (q : Pools) (d : Descriptor) → view_of i ≡ v → IsSound i → q ≡ filed i.block i.block.free Notices d → slots_held v.body < 80 → view_of (record i { block = q }) ≡ record v { body = record v.body { notices = v.body.notices ++ notice_in d ∷ [] } }
 notice_view i v q d e ok is held =
     viewed i v q (filed i.block i.block.free Notices d) (λ b. record b { notices = b.notices ++ notice_in d ∷ [] }) e is
     (notice_added i.tag i.sum i.accepted i.translate i.handlers i.block d ok.block ok.slots (held_before i v e held))
+    (notices_aside i.block d i.block.free)
 
 -- a body whose list loses its front
 
@@ -159,17 +196,23 @@ notices_freed i (s ∷ xs) e =
     ∙ sym (ap (λ (ys : List ℕ). record (view_of i).body { notices = drop 1 (seen notice_in i.block.descriptors ys) }) e)
 
 pub notices_view : (i : Inside) (v : View) (q : Pools) → view_of i ≡ v → q ≡ freed i.block i.block.notices Notices → view_of (record i { block = q }) ≡ record v { body = record v.body { notices = drop 1 v.body.notices } }
-notices_view i v q e is = viewed i v q (freed i.block i.block.notices Notices) (λ b. record b { notices = drop 1 b.notices }) e is (notices_freed i i.block.notices refl)
+notices_view i v q e is = viewed i v q (freed i.block i.block.notices Notices) (λ b. record b { notices = drop 1 b.notices }) e is (notices_freed i i.block.notices refl) (notices_freed_aside i.block i.block.notices)
 
 pub received_view : (i : Inside) (v : View) (q : Pools) (d : Descriptor) → view_of i ≡ v → IsSound i → q ≡ filed i.block i.block.free Received d → slots_held v.body < 80 → view_of (record i { block = q }) ≡ record v { body = record v.body { received = v.body.received ++ message_in d ∷ [] } }
 received_view i v q d e ok is held =
     viewed i v q (filed i.block i.block.free Received d) (λ b. record b { received = b.received ++ message_in d ∷ [] }) e is
     (received_added i.tag i.sum i.accepted i.translate i.handlers i.block d ok.block ok.slots (held_before i v e held))
+    (received_aside i.block d i.block.free)
 
-pub flight_view : (i : Inside) (v : View) (q : Pools) (d : Descriptor) → view_of i ≡ v → IsSound i → q ≡ filed i.block i.block.free InFlight d → slots_held v.body < 80 → view_of (record i { block = q }) ≡ record v { body = record v.body { in_flight = v.body.in_flight ++ flying_in d ∷ [] } }
-flight_view i v q d e ok is held =
-    viewed i v q (filed i.block i.block.free InFlight d) (λ b. record b { in_flight = b.in_flight ++ flying_in d ∷ [] }) e is
-    (flight_added i.tag i.sum i.accepted i.translate i.handlers i.block d ok.block ok.slots (held_before i v e held))
+pub flight_view : (i : Inside) (v : View) (q : Pools) (d : Descriptor) (s : ℕ) (free : List ℕ) → view_of i ≡ v → IsSound i → q ≡ filed i.block i.block.free InFlight d → i.block.free ≡ s ∷ free → view_of (record i { block = q }) ≡ record v { body = record v.body { in_flight = v.body.in_flight ++ flying_in d ∷ [] }; flights = v.flights ++ s ∷ [] }
+flight_view i v q d s free e ok is front =
+    viewed_both i v q (filed i.block (s ∷ free) InFlight d) (λ b. record b { in_flight = b.in_flight ++ flying_in d ∷ [] }) (λ w. w.flights ++ s ∷ []) e (is ∙ ap (λ xs. filed i.block xs InFlight d) front)
+    (flight_filed i.tag i.sum i.accepted i.translate i.handlers i.block d ok.block s free front)
+    refl
+
+-- while fewer than 80 slots are held there is a slot for a message in flight
+pub slot_free : (i : Inside) (v : View) → view_of i ≡ v → IsSound i → slots_held v.body < 80 → i.block.free ≡ [] → ⊥
+slot_free i v e ok held none = some_free i.tag i.sum i.accepted i.translate i.handlers i.block ok.block ok.slots (held_before i v e held) none
 
 received_freed : (i : Inside) (xs : List ℕ) → i.block.received ≡ xs → (view_of (record i { block = freed i.block xs Received })).body ≡ record (view_of i).body { received = drop 1 (view_of i).body.received }
 received_freed i [] e = ap (λ (ms : List Message). record (view_of i).body { received = ms }) (ap (seen message_in i.block.descriptors) e ∙ sym (ap (λ ys. drop 1 (seen message_in i.block.descriptors ys)) e))
@@ -178,7 +221,7 @@ received_freed i (s ∷ xs) e =
     ∙ sym (ap (λ (ys : List ℕ). record (view_of i).body { received = drop 1 (seen message_in i.block.descriptors ys) }) e)
 
 pub received_gone : (i : Inside) (v : View) (q : Pools) → view_of i ≡ v → q ≡ freed i.block i.block.received Received → view_of (record i { block = q }) ≡ record v { body = record v.body { received = drop 1 v.body.received } }
-received_gone i v q e is = viewed i v q (freed i.block i.block.received Received) (λ b. record b { received = drop 1 b.received }) e is (received_freed i i.block.received refl)
+received_gone i v q e is = viewed i v q (freed i.block i.block.received Received) (λ b. record b { received = drop 1 b.received }) e is (received_freed i i.block.received refl) (received_freed_aside i.block i.block.received)
 
 -- a body whose list loses what was found
 
@@ -188,12 +231,25 @@ answer_out i (Some s) found = ap (λ (ms : List Message). record (view_of i).bod
 
 pub answer_gone : (i : Inside) (v : View) (q : Pools) → view_of i ≡ v → q ≡ taken_out i.block Received (find (λ s. is_sought_at Soughts.Answer i.block s) i.block.received) → view_of (record i { block = q }) ≡ record v { body = record v.body { received = without_first is_answer v.body.received } }
 answer_gone i v q e is =
-    viewed i v q (taken_out i.block Received (find (λ s. is_sought_at Soughts.Answer i.block s) i.block.received)) (λ b. record b { received = without_first is_answer b.received }) e is (answer_out i _ refl)
+    viewed i v q (taken_out i.block Received (find (λ s. is_sought_at Soughts.Answer i.block s) i.block.received)) (λ b. record b { received = without_first is_answer b.received }) e is (answer_out i _ refl) (received_out_aside i.block _)
 
 flight_out : (serial : Serial) (i : Inside) (r : Option ℕ) → find (λ s. is_sought_at (Soughts.Of serial) i.block s) i.block.in_flight ≡ r → (view_of (record i { block = taken_out i.block InFlight r })).body ≡ without_flight serial (view_of i).body
 flight_out serial i None found = ap (λ (fs : List Flying). record (view_of i).body { in_flight = fs }) (sym (none-seen flying_in (λ (f : Flying). has_serial serial f.message) i.block.descriptors i.block.in_flight found))
 flight_out serial i (Some s) found = ap (λ (fs : List Flying). record (view_of i).body { in_flight = fs }) (without-seen flying_in (λ (f : Flying). has_serial serial f.message) i.block.descriptors i.block.in_flight s found)
 
-pub flight_gone : (serial : Serial) (i : Inside) (v : View) (q : Pools) → view_of i ≡ v → q ≡ taken_out i.block InFlight (find (λ s. is_sought_at (Soughts.Of serial) i.block s) i.block.in_flight) → view_of (record i { block = q }) ≡ record v { body = without_flight serial v.body }
+-- the slot that is told for a serial is the one that is found
+pub slot-seen : (serial : Serial) (ds : List Descriptor) (xs : List ℕ) → slot_of serial (seen flying_in ds xs) xs ≡ find (λ s. has_serial serial (descriptor_at ds s).message) xs
+slot-seen serial ds [] = refl
+slot-seen serial ds (x ∷ xs) = ap (λ r. cond (has_serial serial (descriptor_at ds x).message) (Some x) r) (slot-seen serial ds xs)
+
+slots_out : (p : Pools) (r : Option ℕ) → (taken_out p InFlight r).in_flight ≡ without_slot r p.in_flight
+slots_out p None = refl
+slots_out p (Some s) = refl
+
+flights_out : (serial : Serial) (i : Inside) (r : Option ℕ) → find (λ s. is_sought_at (Soughts.Of serial) i.block s) i.block.in_flight ≡ r → (taken_out i.block InFlight r).in_flight ≡ without_slot (slot_of serial (view_of i).body.in_flight i.block.in_flight) i.block.in_flight
+flights_out serial i r found =
+    slots_out i.block r ∙ ap (λ o. without_slot o i.block.in_flight) (sym found ∙ sym (slot-seen serial i.block.descriptors i.block.in_flight))
+
+pub flight_gone : (serial : Serial) (i : Inside) (v : View) (q : Pools) → view_of i ≡ v → q ≡ taken_out i.block InFlight (find (λ s. is_sought_at (Soughts.Of serial) i.block s) i.block.in_flight) → view_of (record i { block = q }) ≡ record v { body = without_flight serial v.body; flights = without_slot (slot_of serial v.body.in_flight v.flights) v.flights }
 flight_gone serial i v q e is =
-    viewed i v q (taken_out i.block InFlight (find (λ s. is_sought_at (Soughts.Of serial) i.block s) i.block.in_flight)) (without_flight serial) e is (flight_out serial i _ refl)
+    viewed_both i v q (taken_out i.block InFlight (find (λ s. is_sought_at (Soughts.Of serial) i.block s) i.block.in_flight)) (without_flight serial) (λ w. without_slot (slot_of serial w.body.in_flight w.flights) w.flights) e is (flight_out serial i _ refl) (flights_out serial i _ refl)

@@ -74,7 +74,7 @@ answered_body r i ok =
 
 pub flight_answered : (r : Serial) (i : Inside) (v : View) (q : Pools) → view_of i ≡ v → IsSound i → q ≡ record i.block { descriptors = answered_at r i.block.in_flight i.block.descriptors } → view_of (record i { block = q }) ≡ record v { body = record v.body { in_flight = map (marked r) v.body.in_flight } }
 flight_answered r i v q e ok is =
-    viewed i v q (record i.block { descriptors = answered_at r i.block.in_flight i.block.descriptors }) (λ b. record b { in_flight = map (marked r) b.in_flight }) e is (answered_body r i ok)
+    viewed i v q (record i.block { descriptors = answered_at r i.block.in_flight i.block.descriptors }) (λ b. record b { in_flight = map (marked r) b.in_flight }) e is (answered_body r i ok) refl
 
 -- a walk along the messages in flight that answers them
 

@@ -7,7 +7,7 @@ use Rattle.am_body.specs.Views.{View, body_over}
 use Rattle.am_body.specs.declared.Body.TheInside.{Inside}
 
 abbrev pub view_of : Inside → View
-view_of b = record { pool = b.translate.pool; body = body_over b.tag b.sum b.accepted b.translate b.handlers b.block }
+view_of b = record { pool = b.translate.pool; body = body_over b.tag b.sum b.accepted b.translate b.handlers b.block; flights = b.block.in_flight }
 
 pub record IsSound (b : Inside) : Type 0 where
   pub block : IsBlock b.block

@@ -1,5 +1,6 @@
 pub mod Views
 pub mod Kept
+pub mod Flights
 pub mod Moves
 pub mod Walks
 pub mod Parts

@@ -15,10 +15,11 @@ use Rattle.am_office.specs.declared.Place.TheVariants.{Host}
 use Rattle.am_model.specs.Endpoint.{Body, State, fresh}
 use Rattle.am_translate.specs.Tables.{Table}
 
--- the credits that the indexes share, if they share any, and the body
+-- the credits that the indexes share, if they share any, the body, and the slots of its messages in flight, in order
 pub record View : Type 0 where
   pub pool : Option ℕ
   pub body : Body
+  pub flights : List ℕ
 
 -- what is read where there is no such slot
 abbrev pub blank : Descriptor

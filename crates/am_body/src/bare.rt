@@ -2,7 +2,7 @@
 ghost use Rattle.am_body.specs.Parts.{bare_body};
 ghost use Rattle.am_handlers.specs.Handlers.{IsTable as IsHandlers};
 ghost use Rattle.am_translate.specs.Tables.{IsTable};
-ghost use Rattle.std.specs.Prelude.{◌≡◌, IfOk};
+ghost use Rattle.std.specs.Prelude.{◌≡◌, [], IfOk};
 
 use crate::{Body, SLOTS};
 use am_block::Block;
@@ -26,6 +26,7 @@ impl Body {
         requires handlers { IsHandlers handlers }
         ensures body { IfOk result (λ b. b.body ≡ bare_body tag sum accepted translate handlers) }
         ensures pool { IfOk result (λ b. b.pool ≡ translate.pool) }
+        ensures flights { IfOk result (λ b. b.flights ≡ []) }
     {
         match Block::new(alloc, SLOTS) {
             Ok(block) => Ok(Body {

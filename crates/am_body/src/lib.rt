@@ -2,7 +2,7 @@
 #![tactic(auto)]
 
 ghost use Rattle.am_model.specs.Endpoint.{fresh};
-ghost use Rattle.std.specs.Prelude.{◌≡◌, IfOk};
+ghost use Rattle.std.specs.Prelude.{◌≡◌, [], IfOk};
 
 mod bare;
 mod changes;
@@ -35,8 +35,8 @@ use std::marker::Model;
 /// The slots of a body: 16 for requests and 16 for replies of its own, 16 for requests and 32 for replies of others.
 pub const SLOTS: u8 = 80;
 
-/// The body of an endpoint. Contracts see its pool, and the body that the machine's definitions speak of, with lists of
-/// messages in place of slots.
+/// The body of an endpoint. Contracts see its pool, the body that the machine's definitions speak of, with lists of
+/// messages in place of slots, and the slots of the messages in flight.
 #[derive(Drop)]
 pub struct Body {
     /// The own tag.
@@ -67,6 +67,7 @@ impl Body {
     pub fn opening(alloc: Global, set: &EndSettings) -> Result<Body, NoMemory>
         ensures body { IfOk result (λ b. b.body ≡ (fresh set.now.tag set.now.place).body) }
         ensures pool { IfOk result (λ b. b.pool ≡ set.now.pool) }
+        ensures flights { IfOk result (λ b. b.flights ≡ []) }
     {
         match Block::new(alloc, SLOTS) {
             Ok(block) => Ok(Body {

@@ -2,19 +2,23 @@
 ghost use Rattle.am_block.specs.Pools.{IsBlock, size, slots};
 ghost use Rattle.am_body.specs.Moves.{filed};
 ghost use Rattle.am_body.specs.Moves.{first_of, freed};
-ghost use Rattle.std.specs.Prelude.{◌≡◌};
+ghost use Rattle.std.specs.Prelude.{◌≡◌, [], ◌∷◌, MatchOption, drop};
 
-use am_block::{Block, Descriptor, List};
+use am_block::{Block, Descriptor, List, Slot};
 
-/// The first free slot, if there is one, takes a message for a list.
-pub(crate) fn file_free(block: &mut Block, to: List, descriptor: Descriptor)
+/// The first free slot, if there is one, takes a message for a list. Tells which slot it is.
+pub(crate) fn file_free(block: &mut Block, to: List, descriptor: Descriptor) -> Option<Slot>
+    ensures slot { MatchOption result (slots block.old List.Free ≡ []) (λ s. slots block.old List.Free ≡ s.0 ∷ drop 1 (slots block.old List.Free)) }
     ensures filed { block.new ≡ filed block.old (slots block.old List.Free) to descriptor }
     ensures block { IsBlock block.new }
     ensures size { size block.new ≡ size block.old }
 {
     match block.move_front(List::Free, to) {
-        None => {}
-        Some(slot) => *block.get_mut(slot) = descriptor,
+        None => None,
+        Some(slot) => {
+            *block.get_mut(slot) = descriptor;
+            Some(slot)
+        }
     }
 }
 

@@ -45,7 +45,7 @@ pub head_told : (pool : Option ℕ) (s : State) (held : Held) → IsHeldOf pool 
 head_told pool s (Here f) holds = ap (λ (t : State). t.head) holds.state
 head_told pool s (OnDisk h) holds = holds.head
 
-pub body_told : (pool : Option ℕ) (s : State) (f : Fields) → IsHere pool s f → f.body ≡ record { pool = pool; body = s.body }
+pub body_told : (pool : Option ℕ) (s : State) (f : Fields) → IsHere pool s f → f.body ≡ record { pool = pool; body = s.body; flights = f.body.flights }
 body_told pool s f here =
     ap (λ (p : Option ℕ). record f.body { pool = p }) here.pooled ∙ ap (λ (t : State). record f.body { pool = pool; body = t.body }) here.state
 

@@ -130,12 +130,12 @@ gave i v x node end f h held e event outcome state head is =
     })
 
 -- what is held after it came from disk with its body
-pub came : (i : Inside) (v : EndpointView) (x : Entry) (node : NodeId) (end : EndpointId) (h : Head) (b : View) → view_of i ≡ v → x.event ≡ Events.PageIn node end → x.outcome ≡ Out.Done → h ≡ (state_after v).head → b ≡ record { pool = v.settings.pool; body = (state_after v).body } → IsHere i.settings.pool (after i.settings.id (replayed i) x) (record { head = record h { place = Host }; body = b })
+pub came : (i : Inside) (v : EndpointView) (x : Entry) (node : NodeId) (end : EndpointId) (h : Head) (b : View) → view_of i ≡ v → x.event ≡ Events.PageIn node end → x.outcome ≡ Out.Done → h ≡ (state_after v).head → b ≡ record { pool = v.settings.pool; body = (state_after v).body; flights = b.flights } → IsHere i.settings.pool (after i.settings.id (replayed i) x) (record { head = record h { place = Host }; body = b })
 came i v x node end h b e event outcome head body =
     let back : after i.settings.id (replayed i) x ≡ paged_in (replayed i) Out.Done = λ k. changed i.settings.id (replayed i) (event k) (outcome k) in
     let heads : h ≡ (replayed i).head = head ∙ sym (ap (λ (w : EndpointView). (state_after w).head) e) in
-    let bodies : b ≡ record { pool = i.settings.pool; body = (replayed i).body } =
-    body ∙ sym (ap (λ (w : EndpointView). record { pool = w.settings.pool; body = (state_after w).body }) e) in
+    let bodies : b ≡ record { pool = i.settings.pool; body = (replayed i).body; flights = b.flights } =
+    body ∙ sym (ap (λ (w : EndpointView). record { pool = w.settings.pool; body = (state_after w).body; flights = b.flights }) e) in
     record {
       in_memory = ap (λ (s : State). is_on_disk s.head.place) back;
       state = (λ k. record { head = record (heads k) { place = Host }; body = (bodies k).body }) ∙ sym back;

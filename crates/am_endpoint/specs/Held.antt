@@ -1,5 +1,5 @@
 -- What an endpoint keeps of its state: all of it in memory, and on disk all but the body.
-use Rattle.std.specs.Prelude.{◌≡◌, ℕ, Bool, true, false, Option}
+use Rattle.std.specs.Prelude.{◌≡◌, ℕ, Bool, true, false, Option, List, []}
 use Rattle.am_model.specs.declared.Head.{Head}
 use Rattle.am_model.specs.Endpoint.{State, is_on_disk}
 use Rattle.am_endpoint.specs.Seen.{state_in}
@@ -22,6 +22,11 @@ pub record IsAway (s : State) (h : Head) : Type 0 where
 abbrev pub IsHeldOf : Option ℕ → State → Held → Type 0
 IsHeldOf pool s (Here fields) = IsHere pool s fields
 IsHeldOf pool s (OnDisk head) = IsAway s head
+
+-- the slots of the messages in flight, in order: none on disk
+abbrev pub flights_of : Held → List ℕ
+flights_of (Here fields) = fields.body.flights
+flights_of (OnDisk head) = []
 
 abbrev pub head_of : Held → Head
 head_of (Here fields) = fields.head

@@ -2,7 +2,7 @@
 use Rattle.std.specs.Prelude.{◌≤◌, Bool, length, nat_lt, vec_len, vec_capacity}
 use Rattle.am_model.specs.Endpoint.{State}
 use Rattle.am_model.specs.Order.{IsInOrder}
-use Rattle.am_endpoint.specs.Held.{IsHeldOf}
+use Rattle.am_endpoint.specs.Held.{IsHeldOf, flights_of}
 use Rattle.am_endpoint.specs.Settings.{AreLawful}
 use Rattle.am_endpoint.specs.View.{EndpointView, state_by}
 use Rattle.am_endpoint.specs.declared.Endpoint.TheInside.{Inside}
@@ -12,7 +12,7 @@ abbrev pub is_ready : Inside → Bool
 is_ready e = nat_lt (vec_len e.log) (vec_capacity e.log)
 
 abbrev pub view_of : Inside → EndpointView
-view_of e = record { settings = e.settings; log = e.log.items; ready = is_ready e }
+view_of e = record { settings = e.settings; log = e.log.items; ready = is_ready e; flights = flights_of e.held }
 
 -- the state that its log gives
 abbrev pub replayed : Inside → State

@@ -1,4 +1,5 @@
--- An endpoint as its callers see it: what it began with, its log, and whether it has room for one more entry.
+-- An endpoint as its callers see it: what it began with, its log, whether it has room for one more entry, and the slots of
+-- its messages in flight, in order.
 use Rattle.std.specs.Prelude.{ℕ, ◌-◌, Bool, Option, None, Some, List, length, slice_get}
 use Rattle.am_office.specs.declared.Entry.{Entry}
 use Rattle.am_model.specs.Endpoint.{State, fresh}
@@ -9,6 +10,7 @@ pub record EndpointView : Type 0 where
   pub settings : EndSettings
   pub log : List Entry
   pub ready : Bool
+  pub flights : List ℕ
 
 -- the state after these entries, from the state that the settings open
 abbrev pub state_by : EndSettings → List Entry → State

@@ -1,6 +1,7 @@
 //! Endpoints: what each entry makes of their state, and their log.
 #![tactic(auto)]
 
+ghost use Rattle.am_body.specs.Flights.{slot_of};
 ghost use Rattle.am_endpoint.specs.Events.{is_kept_out, keeps_in_memory};
 ghost use Rattle.am_endpoint.specs.Held.{with_wanted};
 ghost use Rattle.am_endpoint.specs.Seen.{state_in};
@@ -12,6 +13,7 @@ ghost use Rattle.am_model.specs.Changes.{after, flying_of, has_arrivals};
 ghost use Rattle.am_model.specs.Endpoint.{front, is_on_disk, verdict};
 ghost use Rattle.am_model.specs.Order.{IsInOrder, KeepsOrder};
 ghost use Rattle.am_names.specs.Names.{is_request};
+ghost use Rattle.std.specs.Option.{option_map};
 ghost use Rattle.std.specs.Prelude.{◌≡◌, ◌||◌, ◌==◌, not, ◌+◌, ◌<◌, ◌≤◌, ◌^◌, [], ◌∷◌, ◌++◌, length, count_by, IfOk, OnErr, OnOk, IfSome, Err, None, is_some, max, true, false, ◌↔◌};
 
 mod arrivals;
@@ -27,6 +29,7 @@ use crate::arrivals::verdict_on_disk;
 use crate::fields::Fields;
 use crate::held::{Held, is_on_disk};
 pub use crate::settings::EndFault;
+use am_block::Slot;
 pub use am_body::{Body, EndSettings};
 use am_model::{Flying, Head, Queued};
 pub use am_names::NoMemory;
@@ -36,8 +39,9 @@ use std::alloc::Global;
 use std::marker::Model;
 use std::mem::replace;
 
-/// An endpoint with its log. Contracts see what it began with, its log, and whether it is ready
-/// for one more entry; its state is the replay of the log. On disk it keeps no body.
+/// An endpoint with its log. Contracts see what it began with, its log, whether it is ready
+/// for one more entry, and the slots of its messages in flight; its state is the replay of the
+/// log. On disk it keeps no body.
 #[derive(Drop)]
 pub struct Endpoint {
     settings: EndSettings,
@@ -170,6 +174,7 @@ impl Endpoint {
         requires { is_on_disk (state_after self.now).head.place ≡ false }
         ensures state { state_in result.now ≡ state_after self.now }
         ensures pool { result.now.body.pool ≡ self.now.settings.pool }
+        ensures flights { result.now.body.flights ≡ self.now.flights }
         ensures order { IsInOrder self.now.settings.pool self.now.settings.id (state_after self.now) }
     {
         match &self.held {
@@ -183,7 +188,7 @@ impl Endpoint {
     /// Its body. None exactly where it is on disk.
     pub fn body(&self) -> Option<&Body>
         ensures none { (result ≡ None) ↔ (is_on_disk (state_after self.now).head.place ≡ true) }
-        ensures body { IfSome result (λ body. body.now ≡ record { pool = self.now.settings.pool; body = (state_after self.now).body }) }
+        ensures body { IfSome result (λ body. body.now ≡ record { pool = self.now.settings.pool; body = (state_after self.now).body; flights = self.now.flights }) }
         ensures order { IfSome result (λ body. IsInOrder self.now.settings.pool self.now.settings.id (state_after self.now)) }
     {
         if self.is_on_disk() {
@@ -250,6 +255,16 @@ impl Endpoint {
     {
         match &self.held {
             Held::Here(fields) => fields.body.flight(serial),
+            Held::OnDisk(_) => None,
+        }
+    }
+
+    /// The slot of the first message in flight with this serial. None exactly where no message with this serial is in flight.
+    pub fn flight_slot(&self, serial: Serial) -> Option<Slot>
+        ensures { option_map (λ s. s.0) result ≡ slot_of serial (state_after self.now).body.in_flight self.now.flights }
+    {
+        match &self.held {
+            Held::Here(fields) => fields.body.flight_slot(serial),
             Held::OnDisk(_) => None,
         }
     }
@@ -513,7 +528,7 @@ impl Endpoint {
         requires room { length self.old.log < self.old.settings.log }
         requires allowed { MayPageOut self.old.settings.node self.old.settings.id (state_after self.old) entry }
         requires done { entry.outcome ≡ Outcome.Done }
-        ensures body { result ≡ record { pool = self.old.settings.pool; body = (state_after self.old).body } }
+        ensures body { result ≡ record { pool = self.old.settings.pool; body = (state_after self.old).body; flights = self.old.flights } }
         ensures settings { self.new.settings ≡ self.old.settings }
         ensures log { self.new.log ≡ self.old.log ++ entry ∷ [] }
         ensures same { (state_after self.new).body ≡ (state_after self.old).body }
@@ -533,7 +548,7 @@ impl Endpoint {
         requires ready { self.old.ready ≡ true }
         requires room { length self.old.log < self.old.settings.log }
         requires allowed { MayPageOut self.old.settings.node self.old.settings.id (state_after self.old) entry }
-        ensures body { IfSome result (λ body. body ≡ record { pool = self.old.settings.pool; body = (state_after self.old).body }) }
+        ensures body { IfSome result (λ body. body ≡ record { pool = self.old.settings.pool; body = (state_after self.old).body; flights = self.old.flights }) }
         ensures none { (result ≡ None) ↔ (entry.outcome ≡ Outcome.Failed) }
         ensures settings { self.new.settings ≡ self.old.settings }
         ensures log { self.new.log ≡ self.old.log ++ entry ∷ [] }
@@ -556,7 +571,7 @@ impl Endpoint {
         requires ready { self.old.ready ≡ true }
         requires room { length self.old.log < self.old.settings.log }
         requires allowed { MayPageIn Outcome.Done self.old.settings.node self.old.settings.id (state_after self.old) entry }
-        requires body { body ≡ record { pool = self.old.settings.pool; body = (state_after self.old).body } }
+        requires body { body ≡ record { pool = self.old.settings.pool; body = (state_after self.old).body; flights = body.flights } }
         ensures settings { self.new.settings ≡ self.old.settings }
         ensures log { self.new.log ≡ self.old.log ++ entry ∷ [] }
     {

@@ -1,5 +1,5 @@
 -- What decoding finds, by what is found as lists.
-use Rattle.std.specs.Prelude.{◌≡◌, ℕ, Option, Some, List}
+use Rattle.std.specs.Prelude.{◌≡◌, ℕ, Option, Some, List, []}
 use Rattle.std.proofs.Common.{sym, ap, subst, ◌∙◌}
 use Rattle.am_names.specs.declared.EndpointId.{EndpointId}
 use Rattle.am_body.specs.Views.{View}
@@ -13,8 +13,8 @@ pub found_lists : (e : EndpointId) (pool : Option ℕ) (bytes : List ℕ) (found
 found_lists e pool bytes found b is h = subst (λ (o : Option Body). Decodes e pool bytes o) is h
 
 -- each body whose image the bytes are is the one that is made of the lists
-pub finds_each : (e : EndpointId) (pool : Option ℕ) (bytes : List ℕ) (b : Body) (w : View) → Decodes e pool bytes (Some b) → w ≡ record { pool = pool; body = b } → FindsEach e pool bytes (Some w)
+pub finds_each : (e : EndpointId) (pool : Option ℕ) (bytes : List ℕ) (b : Body) (w : View) → Decodes e pool bytes (Some b) → w ≡ record { pool = pool; body = b; flights = [] } → FindsEach e pool bytes (Some w)
 finds_each e pool bytes b w found is v i =
     let body : b ≡ v.body = each_body_has_its_image e pool b v.body found.1 i.valid (found.0 ∙ sym i.image_is) in
-    let whole : w ≡ v = is ∙ ap (λ (c : Body). let u : View = record { pool = pool; body = c } in u) body ∙ ap (λ (p : Option ℕ). let u : View = record { pool = p; body = v.body } in u) (sym i.own_pool) in
+    let whole : w ≡ v = is ∙ ap (λ (c : Body). let u : View = record { pool = pool; body = c; flights = [] } in u) body ∙ ap (λ (p : Option ℕ). let u : View = record { pool = p; body = v.body; flights = [] } in u) (sym i.own_pool) ∙ ap (λ (xs : List ℕ). let u : View = record { pool = v.pool; body = v.body; flights = xs } in u) (sym i.none_flies) in
     ap (λ (u : View). Some u) whole

@@ -1,15 +1,16 @@
 -- What decoding finds.
-use Rattle.std.specs.Prelude.{◌≡◌, ℕ, Option, Some, List, IfSome}
+use Rattle.std.specs.Prelude.{◌≡◌, ℕ, Option, Some, List, [], IfSome}
 use Rattle.am_names.specs.declared.EndpointId.{EndpointId}
 use Rattle.am_body.specs.Views.{View}
 use Rattle.am_image.specs.Image.{image}
 use Rattle.am_image.specs.Valid.{IsValid}
 
--- a body that the endpoint e may have with this pool or none, and whose image the bytes are
+-- a body that the endpoint e may have with this pool or none, and whose image the bytes are; no message of it is in flight
 pub record IsImagedBy (e : EndpointId) (pool : Option ℕ) (bytes : List ℕ) (v : View) : Type 0 where
   pub own_pool : v.pool ≡ pool
   pub valid : IsValid e pool v.body
   pub image_is : image v.body ≡ bytes
+  pub none_flies : v.flights ≡ []
 
 -- what is found, if anything, is such a body
 abbrev pub IsImaged : EndpointId → Option ℕ → List ℕ → Option View → Type 0

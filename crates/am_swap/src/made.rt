@@ -2,7 +2,7 @@
 ghost use Rattle.am_body.specs.Views.{slots_held};
 ghost use Rattle.am_swap.specs.Made.{CanBeMade, is_queued_answer, is_queued_request};
 ghost use Rattle.std.specs.List.{list_all};
-ghost use Rattle.std.specs.Prelude.{◌≡◌, ◌+◌, ◌≤◌, ◌++◌, true, IfOk, length};
+ghost use Rattle.std.specs.Prelude.{◌≡◌, ◌+◌, ◌≤◌, ◌++◌, [], true, IfOk, length};
 
 use am_body::Body;
 use am_codec::BodyLists;
@@ -58,7 +58,7 @@ fn add_received(body: &mut Body, received: &[Message])
 /// The body with these lists, and this pool or none.
 pub(crate) fn body_of(alloc: Global, pool: Option<u8>, lists: &BodyLists) -> Result<Body, NoMemory>
     requires { CanBeMade pool lists.now }
-    ensures { IfOk result (λ body. body ≡ record { pool = pool; body = lists.now }) }
+    ensures { IfOk result (λ body. body ≡ record { pool = pool; body = lists.now; flights = [] }) }
 {
     let translate = Translate::restored(pool, &lists.mapped, &lists.awaited);
     let handlers = Handlers::restored(&lists.handlers);

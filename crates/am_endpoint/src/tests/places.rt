@@ -119,7 +119,7 @@ fn page_out_and_in(end: &mut Endpoint) -> bool
 /// The body of an endpoint that went to disk.
 fn page_out(end: &mut Endpoint) -> Option<Body>
     ensures settings { end.new.settings ≡ end.old.settings }
-    ensures body { IfSome result (λ body. body ≡ record { pool = end.new.settings.pool; body = (state_after end.new).body }) }
+    ensures body { IfSome result (λ body. body ≡ record { pool = end.new.settings.pool; body = (state_after end.new).body; flights = body.flights }) }
 {
     match end.room() {
         Err(_) => return None,
@@ -158,7 +158,7 @@ fn page_failed(end: &mut Endpoint)
 }
 
 fn page_in(end: &mut Endpoint, body: Body) -> bool
-    requires { body ≡ record { pool = end.old.settings.pool; body = (state_after end.old).body } }
+    requires { body ≡ record { pool = end.old.settings.pool; body = (state_after end.old).body; flights = body.flights } }
     ensures { end.new.settings ≡ end.old.settings }
 {
     page_failed(end);
