@@ -6,9 +6,11 @@ use Rattle.am_names.specs.declared.Serial.{Serial}
 use Rattle.am_names.specs.declared.Message.{Message}
 use Rattle.am_names.specs.declared.Tag.{Tag}
 use Rattle.am_office.specs.declared.HandlerKind.{HandlerKind}
-use Rattle.am_block.specs.Pools.{Pools, IsBlock, size, without}
+use Rattle.std.specs.Option.{option_map}
+use Rattle.am_block.specs.Pools.{Pools, IsBlock, moved, size, without}
+use Rattle.am_block.specs.declared.Slot.{Slot}
 use Rattle.am_block.specs.declared.Descriptor.{Descriptor}
-use Rattle.am_block.specs.declared.List.TheVariants.{Requests, Replies, InFlight, Notices, Received}
+use Rattle.am_block.specs.declared.List.TheVariants.{Free, Requests, Replies, InFlight, Notices, Received}
 use Rattle.am_model.specs.declared.Flying.{Flying}
 use Rattle.am_model.specs.declared.Notice.{Notice}
 use Rattle.am_model.specs.declared.Queued.{Queued}
@@ -16,8 +18,8 @@ use Rattle.am_model.specs.Endpoint.{Body}
 use Rattle.am_model.specs.Changes.{appended, without_flight, queued}
 use Rattle.am_model.specs.Choice.{without_first}
 use Rattle.am_translate.specs.Tables.{Table}
-use Rattle.std.specs.Prelude.{Option, None, Some, cond, find, if◌then◌else◌}
-use Rattle.am_body.specs.Flights.{slot_of, without_slot}
+use Rattle.std.specs.Prelude.{◌↔◌, Option, None, Some, cond, find, if◌then◌else◌}
+use Rattle.am_body.specs.Flights.{slot_of}
 use Rattle.am_body.specs.Moves.{filed, freed}
 use Rattle.am_body.specs.Walks.{is_sought_at, taken_out}
 use Rattle.am_body.specs.declared.walks.Sought.TheVariants as Soughts
@@ -242,14 +244,18 @@ pub slot-seen : (serial : Serial) (ds : List Descriptor) (xs : List ℕ) → slo
 slot-seen serial ds [] = refl
 slot-seen serial ds (x ∷ xs) = ap (λ r. cond (has_serial serial (descriptor_at ds x).message) (Some x) r) (slot-seen serial ds xs)
 
-slots_out : (p : Pools) (r : Option ℕ) → (taken_out p InFlight r).in_flight ≡ without_slot r p.in_flight
-slots_out p None = refl
-slots_out p (Some s) = refl
+-- the slot of a message in flight is the one that is found by its serial
+pub slot-found : (serial : Serial) (i : Inside) (v : View) (s : ℕ) → view_of i ≡ v → slot_of serial v.body.in_flight v.flights ≡ Some s → find (λ s. is_sought_at (Soughts.Of serial) i.block s) i.block.in_flight ≡ Some s
+slot-found serial i v s e at =
+    sym (slot-seen serial i.block.descriptors i.block.in_flight) ∙ ap (λ w. slot_of serial w.body.in_flight w.flights) e ∙ at
 
-flights_out : (serial : Serial) (i : Inside) (r : Option ℕ) → find (λ s. is_sought_at (Soughts.Of serial) i.block s) i.block.in_flight ≡ r → (taken_out i.block InFlight r).in_flight ≡ without_slot (slot_of serial (view_of i).body.in_flight i.block.in_flight) i.block.in_flight
-flights_out serial i r found =
-    slots_out i.block r ∙ ap (λ o. without_slot o i.block.in_flight) (sym found ∙ sym (slot-seen serial i.block.descriptors i.block.in_flight))
+pub flight_gone : (serial : Serial) (i : Inside) (v : View) (q : Pools) (s : ℕ) → view_of i ≡ v → q ≡ moved i.block InFlight s Free → slot_of serial v.body.in_flight v.flights ≡ Some s → view_of (record i { block = q }) ≡ record v { body = without_flight serial v.body; flights = without s v.flights }
+flight_gone serial i v q s e is at =
+    viewed_both i v q (taken_out i.block InFlight (Some s)) (without_flight serial) (λ w. without s w.flights) e is (flight_out serial i (Some s) (slot-found serial i v s e at)) refl
 
-pub flight_gone : (serial : Serial) (i : Inside) (v : View) (q : Pools) → view_of i ≡ v → q ≡ taken_out i.block InFlight (find (λ s. is_sought_at (Soughts.Of serial) i.block s) i.block.in_flight) → view_of (record i { block = q }) ≡ record v { body = without_flight serial v.body; flights = without_slot (slot_of serial v.body.in_flight v.flights) v.flights }
-flight_gone serial i v q e is =
-    viewed_both i v q (taken_out i.block InFlight (find (λ s. is_sought_at (Soughts.Of serial) i.block s) i.block.in_flight)) (without_flight serial) (λ w. without_slot (slot_of serial w.body.in_flight w.flights) w.flights) e is (flight_out serial i _ refl) (flights_out serial i _ refl)
+-- no slot is found where no message is
+pub none-slot : {X : Type 0} (g : ℕ → X) (r : Option Slot) (o : Option ℕ) → option_map (λ (s : Slot). s.0) r ≡ o → (r ≡ None) ↔ (option_map g o ≡ None)
+none-slot g None None e = ((λ n. refl), (λ n. refl))
+none-slot g None (Some s) e = absurd (cc)
+none-slot g (Some s) None e = absurd (cc)
+none-slot g (Some s) (Some k) e = ((λ n. absurd (cc)), (λ n. absurd (cc)))

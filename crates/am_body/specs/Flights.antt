@@ -2,7 +2,6 @@
 use Rattle.std.specs.Prelude.{ℕ, cond, Option, None, Some, List, [], ◌∷◌}
 use Rattle.am_names.specs.Names.{has_serial}
 use Rattle.am_names.specs.declared.Serial.{Serial}
-use Rattle.am_block.specs.Pools.{without}
 use Rattle.am_model.specs.declared.Flying.{Flying}
 
 -- the slot beside the first of these messages that has this serial
@@ -10,8 +9,3 @@ abbrev pub slot_of : Serial → List Flying → List ℕ → Option ℕ
 slot_of serial [] slots = None
 slot_of serial (f ∷ fs) [] = None
 slot_of serial (f ∷ fs) (s ∷ slots) = cond (has_serial serial f.message) (Some s) (slot_of serial fs slots)
-
--- the slots without this one, if there is one
-abbrev pub without_slot : Option ℕ → List ℕ → List ℕ
-without_slot None slots = slots
-without_slot (Some s) slots = without s slots

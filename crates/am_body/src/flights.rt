@@ -1,13 +1,14 @@
 // Messages of its own that an endpoint has in flight.
-ghost use Rattle.am_body.specs.Flights.{slot_of, without_slot};
+ghost use Rattle.am_block.specs.Pools.{without};
+ghost use Rattle.am_body.specs.Flights.{slot_of};
 ghost use Rattle.am_body.specs.Views.{flying_in, slots_held};
 ghost use Rattle.am_model.specs.Changes.{flying_of, without_flight, marked};
 ghost use Rattle.std.specs.Option.{option_map};
-ghost use Rattle.std.specs.Prelude.{◌≡◌, ◌<◌, [], ◌∷◌, ◌++◌, false, length, map};
+ghost use Rattle.std.specs.Prelude.{◌≡◌, ◌↔◌, ◌<◌, [], ◌∷◌, ◌++◌, None, Some, false, length, map};
 
 use crate::Body;
 use crate::moves::file_free;
-use crate::walks::{Sought, answer_flights, find, free_found};
+use crate::walks::{Sought, answer_flights, find};
 use am_block::{Descriptor, List, Slot};
 use am_model::Flying;
 use am_names::{Message, Serial, Why};
@@ -40,18 +41,25 @@ impl Body {
         }
     }
 
-    /// The slot of the first message in flight with this serial, if any.
+    /// The slot of the first message in flight with this serial. None exactly where no message with this serial is in flight.
     pub fn flight_slot(&self, serial: Serial) -> Option<Slot>
-        ensures { option_map (λ s. s.0) result ≡ slot_of serial self.now.body.in_flight self.now.flights }
+        ensures slot { option_map (λ s. s.0) result ≡ slot_of serial self.now.body.in_flight self.now.flights }
+        ensures none { (result ≡ None) ↔ (flying_of serial self.now.body.in_flight ≡ None) }
     {
         find(&self.block, List::InFlight, Sought::Of(serial))
     }
 
-    /// The message in flight with this serial, if any, is in flight no more, and its slot is free.
-    pub fn land(&mut self, serial: Serial)
-        ensures { self.new ≡ record self.old { body = without_flight serial self.old.body; flights = without_slot (slot_of serial self.old.body.in_flight self.old.flights) self.old.flights } }
+    /// The message in flight with this serial, whose slot this is, is in flight no more, and its slot is free. Tells the
+    /// message, how often it bounced and whether its reply was put.
+    pub fn land(&mut self, serial: Serial, slot: Slot) -> Flying
+        requires { slot_of serial self.old.body.in_flight self.old.flights ≡ Some slot.0 }
+        ensures flying { Some result ≡ flying_of serial self.old.body.in_flight }
+        ensures landed { self.new ≡ record self.old { body = without_flight serial self.old.body; flights = without slot.0 self.old.flights } }
     {
-        free_found(&mut self.block, List::InFlight, Sought::Of(serial));
+        let _ = serial;
+        let flying = as_flying(*self.block.get(slot));
+        self.block.move_slot(slot, List::Free);
+        flying
     }
 
     /// A message that bounced so often is in flight from now on, and has no reply yet. Tells its slot.

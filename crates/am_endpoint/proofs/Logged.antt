@@ -12,23 +12,27 @@ use Rattle.am_office.specs.declared.Place.TheVariants.{Host}
 use Rattle.am_names.specs.declared.EndpointId.{EndpointId}
 use Rattle.am_names.specs.declared.NodeId.{NodeId}
 use Rattle.am_model.specs.declared.Head.{Head}
-use Rattle.am_body.specs.Views.{View}
+use Rattle.am_names.specs.declared.Message.{Message}
+use Rattle.am_names.specs.declared.Serial.{Serial}
+use Rattle.am_body.specs.Views.{Fits, View}
+use Rattle.am_body.proofs.Slots.{fits_within}
 use Rattle.am_model.specs.Endpoint.{State, fresh, is_on_disk}
 use Rattle.am_model.specs.Allowed.{are_numbers_in_range}
 use Rattle.am_model.specs.Calls.{outcome_of_call}
-use Rattle.am_model.specs.Changes.{after, called, changed, paged_in, paged_out}
+use Rattle.am_model.specs.Changes.{after, called, changed, paged_in, paged_out, with_body}
 use Rattle.am_model.specs.Order.{IsInOrder, KeepsOrder}
 use Rattle.am_model.proofs.Each.{replay_push}
 use Rattle.am_model.proofs.Order.{order_called}
 use Rattle.am_model.proofs.Sound.{accepted_after}
 use Rattle.am_endpoint.specs.Events.{keeps_in_memory}
-use Rattle.am_endpoint.specs.Held.{IsHeldOf, IsHere, held_wanted, with_wanted}
+use Rattle.am_endpoint.specs.Flights.{IsSlotOf, front_flown}
+use Rattle.am_endpoint.specs.Held.{IsHeldOf, IsHere, flights_of, held_wanted, with_wanted}
 use Rattle.am_endpoint.specs.Kept.{IsReplay, replayed, view_of}
 use Rattle.am_endpoint.specs.Seen.{state_in}
 use Rattle.am_endpoint.specs.View.{EndpointView, state_after, state_by}
 use Rattle.am_endpoint.specs.declared.fields.Fields.{Fields}
 use Rattle.am_endpoint.specs.declared.held.Held.{Held}
-use Rattle.am_endpoint.specs.declared.held.Held.TheVariants.{OnDisk}
+use Rattle.am_endpoint.specs.declared.held.Held.TheVariants.{Here, OnDisk}
 use Rattle.am_endpoint.specs.declared.Endpoint.TheInside.{Inside}
 use Rattle.am_endpoint.proofs.Holding.{called_here, stays_here, wanted_held}
 
@@ -57,6 +61,21 @@ here_after i f g x keeps here changed pool =
       state = changed ∙ ap (λ (s : State). after i.settings.id s x) here.state;
       pooled = pool ∙ here.pooled;
     }
+
+-- a bind sets the front message in flight
+pub bound_so : (e : EndpointId) (s : State) (x : Entry) (node : NodeId) (end : EndpointId) (m : Message) (peer : NodeId) (channel seq attempt number : ℕ) → x.event ≡ Events.Bind node end → x.outcome ≡ Out.Sent m peer channel seq attempt number → after e s x ≡ with_body s (front_flown m s.body)
+bound_so e s x node end m peer channel seq attempt number event outcome = λ k. changed e s (event k) (outcome k)
+
+-- a body after an entry that keeps the order fits its slots
+pub fits_next : (i : Inside) (f : Fields) (x : Entry) → IsHere i.settings.pool (replayed i) f → IsInOrder i.settings.pool i.settings.id (after i.settings.id (replayed i) x) → Fits (after i.settings.id (state_in f) x).body
+fits_next i f x here order = subst (λ (s : State). Fits (after i.settings.id s x).body) (sym here.state) (fits_within (after i.settings.id (replayed i) x).body order.within)
+
+-- the slot of the message that an entry settles, among what is held
+pub slot_held : (i : Inside) (v : EndpointView) (f : Fields) (serial : Option Serial) (slot : ℕ) → view_of i ≡ v → i.held ≡ Here f → IsHere i.settings.pool (replayed i) f → IsSlotOf serial (state_after v).body.in_flight v.flights slot → IsSlotOf serial f.body.body.in_flight f.body.flights slot
+slot_held i v f serial slot e is here at =
+    subst (λ (s : State). IsSlotOf serial s.body.in_flight f.body.flights slot) (sym here.state)
+    (subst (λ (h : Held). IsSlotOf serial (replayed i).body.in_flight (flights_of h) slot) is
+    (subst (λ (w : EndpointView). IsSlotOf serial (state_after w).body.in_flight w.flights slot) (sym e) at))
 
 -- and after a call
 pub here_called : (i : Inside) (f g : Fields) (call : Call) (o : Outcome) → IsHere i.settings.pool (replayed i) f → state_in g ≡ called (state_in f) call o → g.body.pool ≡ f.body.pool → IsHere i.settings.pool (called (replayed i) call o) g

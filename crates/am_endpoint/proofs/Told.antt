@@ -31,3 +31,7 @@ done_pool v w c (Err r) ok err = ap (λ (x : View). x.pool) err
 pub done_outcome : (r : Result (Unit {0}) Refusal) (refusal : Option Refusal) → result_err r ≡ refusal → done r ≡ unless refusal Out.Done
 done_outcome (Ok u) refusal is = ap (λ w. unless w Out.Done) is
 done_outcome (Err x) refusal is = ap (λ w. unless w Out.Done) is
+
+pub done_flights : (v w : View) (c : Body) (r : Result (Unit {0}) Refusal) → OnOk r (w ≡ record v { body = c }) → OnErr r (w ≡ v) → w.flights ≡ v.flights
+done_flights v w c (Ok u) ok err = ap (λ (x : View). x.flights) ok
+done_flights v w c (Err r) ok err = ap (λ (x : View). x.flights) err

@@ -49,6 +49,7 @@ impl Fields {
         ensures outcome { result ≡ outcome_of_call self.old.body.pool e (state_in self.old) (Call.Request index handler words) }
         ensures state { state_in self.new ≡ called (state_in self.old) (Call.Request index handler words) result }
         ensures pool { self.new.body.pool ≡ self.old.body.pool }
+        ensures flights { self.new.body.flights ≡ self.old.body.flights }
     {
         if self.is_closed() {
             return Outcome::Refused(Refusal::Closed);
@@ -78,6 +79,7 @@ impl Fields {
         ensures outcome { result ≡ outcome_of_call self.old.body.pool e (state_in self.old) Call.Poll }
         ensures state { state_in self.new ≡ called (state_in self.old) Call.Poll result }
         ensures pool { self.new.body.pool ≡ self.old.body.pool }
+        ensures flights { self.new.body.flights ≡ self.old.body.flights }
     {
         let outcome = self.body.poll(e);
         self.want_for(outcome);
@@ -88,6 +90,7 @@ impl Fields {
         ensures outcome { result ≡ outcome_of_call self.old.body.pool e (state_in self.old) (Call.SetTag tag) }
         ensures state { state_in self.new ≡ called (state_in self.old) (Call.SetTag tag) result }
         ensures pool { self.new.body.pool ≡ self.old.body.pool }
+        ensures flights { self.new.body.flights ≡ self.old.body.flights }
     {
         if self.is_closed() {
             return Outcome::Refused(Refusal::Closed);
@@ -103,6 +106,7 @@ impl Fields {
         ensures outcome { result ≡ outcome_of_call self.old.body.pool e (state_in self.old) Call.Close }
         ensures state { state_in self.new ≡ called (state_in self.old) Call.Close result }
         ensures pool { self.new.body.pool ≡ self.old.body.pool }
+        ensures flights { self.new.body.flights ≡ self.old.body.flights }
     {
         if self.is_closed() {
             return Outcome::Refused(Refusal::Closed);
@@ -121,6 +125,7 @@ impl Fields {
         ensures outcome { result ≡ outcome_of_call self.old.body.pool e (state_in self.old) (Call.Map index name tag credits) }
         ensures state { state_in self.new ≡ called (state_in self.old) (Call.Map index name tag credits) result }
         ensures pool { self.new.body.pool ≡ self.old.body.pool }
+        ensures flights { self.new.body.flights ≡ self.old.body.flights }
     {
         if self.is_closed() {
             return Outcome::Refused(Refusal::Closed);
@@ -132,6 +137,7 @@ impl Fields {
         ensures outcome { result ≡ outcome_of_call self.old.body.pool e (state_in self.old) (Call.Unmap index) }
         ensures state { state_in self.new ≡ called (state_in self.old) (Call.Unmap index) result }
         ensures pool { self.new.body.pool ≡ self.old.body.pool }
+        ensures flights { self.new.body.flights ≡ self.old.body.flights }
     {
         if self.is_closed() {
             return Outcome::Refused(Refusal::Closed);
@@ -143,6 +149,7 @@ impl Fields {
         ensures outcome { result ≡ outcome_of_call self.old.body.pool e (state_in self.old) (Call.SetHandler index kind) }
         ensures state { state_in self.new ≡ called (state_in self.old) (Call.SetHandler index kind) result }
         ensures pool { self.new.body.pool ≡ self.old.body.pool }
+        ensures flights { self.new.body.flights ≡ self.old.body.flights }
     {
         if self.is_closed() {
             return Outcome::Refused(Refusal::Closed);
@@ -154,6 +161,7 @@ impl Fields {
         ensures outcome { result ≡ outcome_of_call self.old.body.pool e (state_in self.old) (Call.GiveUp request) }
         ensures state { state_in self.new ≡ called (state_in self.old) (Call.GiveUp request) result }
         ensures pool { self.new.body.pool ≡ self.old.body.pool }
+        ensures flights { self.new.body.flights ≡ self.old.body.flights }
     {
         if self.is_closed() {
             return Outcome::Refused(Refusal::Closed);
@@ -175,6 +183,7 @@ impl Fields {
         ensures outcome { result ≡ outcome_of_call self.old.body.pool e (state_in self.old) call }
         ensures state { state_in self.new ≡ called (state_in self.old) call result }
         ensures pool { self.new.body.pool ≡ self.old.body.pool }
+        ensures flights { self.new.body.flights ≡ self.old.body.flights }
     {
         match call {
             Call::Request {

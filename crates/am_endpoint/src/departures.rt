@@ -2,11 +2,12 @@
 ghost use Rattle.am_body.specs.Views.{Fits};
 ghost use Rattle.am_endpoint.specs.Seen.{state_in};
 ghost use Rattle.am_endpoint.specs.Flights.{front_flown};
-ghost use Rattle.am_model.specs.Changes.{bounces_of, bound, carried, left, noticed, put, queued, reached, with_body, without_front};
+ghost use Rattle.am_model.specs.Changes.{bounces_of, carried, left, noticed, put, queued, reached, with_body, without_front};
 ghost use Rattle.am_names.specs.Names.{same_end};
-ghost use Rattle.std.specs.Prelude.{◌≡◌, cond};
+ghost use Rattle.std.specs.Prelude.{◌≡◌, ◌++◌, ◌∷◌, [], cond};
 
 use crate::fields::Fields;
+use am_block::Slot;
 use am_names::{EndpointId, Message, Why};
 use am_office::Outcome;
 
@@ -26,6 +27,7 @@ impl Fields {
         requires { Fits (put m (state_in self.old)).body }
         ensures state { state_in self.new ≡ put m (state_in self.old) }
         ensures pool { self.new.body.pool ≡ self.old.body.pool }
+        ensures flights { self.new.body.flights ≡ self.old.body.flights }
     {
         self.body.put(m);
     }
@@ -35,6 +37,7 @@ impl Fields {
         requires { Fits (queued message bounces (without_front self.old.body.body)) }
         ensures state { state_in self.new ≡ with_body (state_in self.old) (queued message bounces (without_front self.old.body.body)) }
         ensures pool { self.new.body.pool ≡ self.old.body.pool }
+        ensures flights { self.new.body.flights ≡ self.old.body.flights }
     {
         self.body.drop_front();
         self.body.queue(message, bounces);
@@ -45,21 +48,23 @@ impl Fields {
         requires { Fits (noticed message (bounces_of self.old.body.body.replies self.old.body.body.requests) why (without_front self.old.body.body)) }
         ensures state { state_in self.new ≡ with_body (state_in self.old) (noticed message (bounces_of self.old.body.body.replies self.old.body.body.requests) why (without_front self.old.body.body)) }
         ensures pool { self.new.body.pool ≡ self.old.body.pool }
+        ensures flights { self.new.body.flights ≡ self.old.body.flights }
     {
         let bounces = self.front_bounces();
         self.body.drop_front();
         self.body.come_back(message, bounces, why);
     }
 
-    /// The front message is in flight.
-    fn fly_front(&mut self, message: Message)
+    /// The front message is in flight. Tells its slot.
+    pub fn fly_front(&mut self, message: Message) -> Slot
         requires { Fits (front_flown message self.old.body.body) }
         ensures state { state_in self.new ≡ with_body (state_in self.old) (front_flown message self.old.body.body) }
         ensures pool { self.new.body.pool ≡ self.old.body.pool }
+        ensures flights { self.new.body.flights ≡ self.old.body.flights ++ result.0 ∷ [] }
     {
         let bounces = self.front_bounces();
         self.body.drop_front();
-        self.body.add_flight(message, bounces);
+        self.body.add_flight(message, bounces)
     }
 
     /// The source after a carry with this outcome.
@@ -67,6 +72,7 @@ impl Fields {
         requires { Fits (left (state_in self.old) outcome).body }
         ensures state { state_in self.new ≡ left (state_in self.old) outcome }
         ensures pool { self.new.body.pool ≡ self.old.body.pool }
+        ensures flights { self.new.body.flights ≡ self.old.body.flights }
     {
         match outcome {
             Outcome::Accepted(_) => self.body.drop_front(),
@@ -81,6 +87,7 @@ impl Fields {
         requires { Fits (cond (same_end e from) (left (state_in self.old) outcome) (state_in self.old)).body }
         ensures state { state_in self.new ≡ cond (same_end e from) (left (state_in self.old) outcome) (state_in self.old) }
         ensures pool { self.new.body.pool ≡ self.old.body.pool }
+        ensures flights { self.new.body.flights ≡ self.old.body.flights }
     {
         if e.0 == from.0 {
             self.leave(outcome);
@@ -92,6 +99,7 @@ impl Fields {
         requires { Fits (reached e (state_in self.old) outcome).body }
         ensures state { state_in self.new ≡ reached e (state_in self.old) outcome }
         ensures pool { self.new.body.pool ≡ self.old.body.pool }
+        ensures flights { self.new.body.flights ≡ self.old.body.flights }
     {
         match outcome {
             Outcome::Accepted(m) => if e.0 == m.dest.0 {
@@ -106,20 +114,9 @@ impl Fields {
         requires { Fits (carried e from (state_in self.old) outcome).body }
         ensures state { state_in self.new ≡ carried e from (state_in self.old) outcome }
         ensures pool { self.new.body.pool ≡ self.old.body.pool }
+        ensures flights { self.new.body.flights ≡ self.old.body.flights }
     {
         self.leave_from(e, from, outcome);
         self.reach(e, outcome);
-    }
-
-    /// After the front message was bound to a channel.
-    pub fn bind(&mut self, outcome: Outcome)
-        requires { Fits (bound (state_in self.old) outcome).body }
-        ensures state { state_in self.new ≡ bound (state_in self.old) outcome }
-        ensures pool { self.new.body.pool ≡ self.old.body.pool }
-    {
-        match outcome {
-            Outcome::Sent { message, .. } => self.fly_front(message),
-            _ => {}
-        }
     }
 }

@@ -1,13 +1,14 @@
 // What each entry makes of the state of an endpoint.
 ghost use Rattle.am_body.specs.Views.{Fits};
-ghost use Rattle.am_endpoint.specs.Events.{keeps_in_memory};
+ghost use Rattle.am_endpoint.specs.Events.{keeps_flights};
 ghost use Rattle.am_endpoint.specs.Seen.{state_in};
-ghost use Rattle.am_model.specs.Changes.{after, has_queued, placed};
-ghost use Rattle.std.specs.Prelude.{◌≡◌, ◌||◌, false, true};
+ghost use Rattle.am_model.specs.Allowed.{message_in};
+ghost use Rattle.am_model.specs.Changes.{after, has_queued, placed, received};
+ghost use Rattle.std.specs.Prelude.{◌≡◌, ◌||◌, false, is_some, true};
 
 use crate::fields::Fields;
-use am_names::EndpointId;
-use am_office::{Entry, Event, Outcome, Place};
+use am_names::{Cause, EndpointId};
+use am_office::{Entry, Event, Outcome, Place, Received};
 
 impl Fields {
     fn unload(&mut self)
@@ -27,27 +28,45 @@ impl Fields {
         self.head.draining = false;
     }
 
-    /// After an entry that touches it, where its event is one of endpoints in memory that stay there, and no call.
+    /// After a receipt of a message with this result.
+    fn arrive(&mut self, e: EndpointId, what: Received)
+        requires message { is_some (message_in what) ≡ true }
+        requires fits { Fits (received e (state_in self.old) what).body }
+        ensures state { state_in self.new ≡ received e (state_in self.old) what }
+        ensures pool { self.new.body.pool ≡ self.old.body.pool }
+        ensures flights { self.new.body.flights ≡ self.old.body.flights }
+    {
+        let _ = e;
+        match what {
+            Received::Accepted { message, .. } => self.put(message),
+            Received::Refused {
+                cause: Cause::NotResident,
+                ..
+            } => self.head.wanted = true,
+            Received::Refused { .. } => {}
+            _ => unreachable!(),
+        }
+    }
+
+    /// After an entry that touches it, and is no call, where it stays in memory with its messages in flight.
     pub fn apply(&mut self, e: EndpointId, entry: Entry)
-        requires event { keeps_in_memory entry.event ≡ true }
+        requires keeps { keeps_flights entry.event entry.outcome ≡ true }
         requires fits { Fits (after e (state_in self.old) entry).body }
         ensures state { state_in self.new ≡ after e (state_in self.old) entry }
         ensures pool { self.new.body.pool ≡ self.old.body.pool }
+        ensures flights { self.new.body.flights ≡ self.old.body.flights }
     {
         let outcome = entry.outcome;
         match entry.event {
-            Event::Call { .. } | Event::Want { .. } => unreachable!(),
             Event::Carry { end } => self.carry(e, end, outcome),
-            Event::Bind { .. } => self.bind(outcome),
-            Event::Expire { .. } => self.expire(outcome),
             Event::Receive { .. } => match outcome {
-                Outcome::Received { result: what, .. } => self.receive(e, what),
-                _ => {}
+                Outcome::Received { result: what, .. } => self.arrive(e, what),
+                _ => unreachable!(),
             },
             Event::Drain { .. } => self.head.draining = true,
             Event::Unload { .. } => self.unload(),
             Event::Load { frame, .. } => self.load(frame),
-            Event::PageOut { .. } | Event::PageIn { .. } => unreachable!(),
+            _ => unreachable!(),
         }
     }
 }

@@ -1,8 +1,10 @@
 //! Endpoints: what each entry makes of their state, and their log.
 #![tactic(auto)]
 
+ghost use Rattle.am_block.specs.Pools.{without};
 ghost use Rattle.am_body.specs.Flights.{slot_of};
-ghost use Rattle.am_endpoint.specs.Events.{is_kept_out, keeps_in_memory};
+ghost use Rattle.am_endpoint.specs.Events.{is_kept_out, keeps_flights};
+ghost use Rattle.am_endpoint.specs.Flights.{IsSlotOf, settled_in};
 ghost use Rattle.am_endpoint.specs.Held.{with_wanted};
 ghost use Rattle.am_endpoint.specs.Seen.{state_in};
 ghost use Rattle.am_endpoint.specs.Settings.{AreLawful};
@@ -14,7 +16,7 @@ ghost use Rattle.am_model.specs.Endpoint.{front, is_on_disk, verdict};
 ghost use Rattle.am_model.specs.Order.{IsInOrder, KeepsOrder};
 ghost use Rattle.am_names.specs.Names.{is_request};
 ghost use Rattle.std.specs.Option.{option_map};
-ghost use Rattle.std.specs.Prelude.{◌≡◌, ◌||◌, ◌==◌, not, ◌+◌, ◌<◌, ◌≤◌, ◌^◌, [], ◌∷◌, ◌++◌, length, count_by, IfOk, OnErr, OnOk, IfSome, Err, None, is_some, max, true, false, ◌↔◌};
+ghost use Rattle.std.specs.Prelude.{◌≡◌, ◌||◌, ◌==◌, not, ◌+◌, ◌<◌, ◌≤◌, ◌^◌, [], ◌∷◌, ◌++◌, length, count_by, IfOk, OnErr, OnOk, IfSome, MatchOption, Err, None, is_some, max, true, false, ◌↔◌};
 
 mod arrivals;
 mod calls;
@@ -67,6 +69,7 @@ impl Endpoint {
         requires { AreLawful set }
         ensures settings { IfOk result (λ end. end.settings ≡ set) }
         ensures log { IfOk result (λ end. end.log ≡ []) }
+        ensures flights { IfOk result (λ end. end.flights ≡ []) }
     {
         match Held::opening(alloc, &set) {
             Ok(held) => Ok(Endpoint {
@@ -261,7 +264,8 @@ impl Endpoint {
 
     /// The slot of the first message in flight with this serial. None exactly where no message with this serial is in flight.
     pub fn flight_slot(&self, serial: Serial) -> Option<Slot>
-        ensures { option_map (λ s. s.0) result ≡ slot_of serial (state_after self.now).body.in_flight self.now.flights }
+        ensures slot { option_map (λ s. s.0) result ≡ slot_of serial (state_after self.now).body.in_flight self.now.flights }
+        ensures none { (result ≡ None) ↔ (flying_of serial (state_after self.now).body.in_flight ≡ None) }
     {
         match &self.held {
             Held::Here(fields) => fields.body.flight_slot(serial),
@@ -290,6 +294,7 @@ impl Endpoint {
         ensures full { (result ≡ Err EndFault.LogFull) ↔ (length self.old.log ≡ self.old.settings.log) }
         ensures settings { self.new.settings ≡ self.old.settings }
         ensures log { self.new.log ≡ self.old.log }
+        ensures flights { self.new.flights ≡ self.old.flights }
     {
         if self.log.len() >= self.settings.log as usize {
             return Err(EndFault::LogFull);
@@ -300,15 +305,16 @@ impl Endpoint {
         }
     }
 
-    /// Does what the entry makes of the endpoint, which is in memory and stays there, and logs it.
+    /// Does what the entry makes of the endpoint, which is in memory and stays there with its messages in flight, and logs it.
     fn enter(&mut self, entry: Entry)
         requires ready { self.old.ready ≡ true }
         requires room { length self.old.log < self.old.settings.log }
         requires here { is_on_disk (state_after self.old).head.place ≡ false }
-        requires event { keeps_in_memory entry.event ≡ true }
+        requires stays { keeps_flights entry.event entry.outcome ≡ true }
         requires keeps { KeepsOrder self.old.settings.bounces self.old.settings.pool self.old.settings.id (state_after self.old) entry }
         ensures settings { self.new.settings ≡ self.old.settings }
         ensures log { self.new.log ≡ self.old.log ++ entry ∷ [] }
+        ensures flights { self.new.flights ≡ self.old.flights }
     {
         let end = self.settings.id;
         let Held::Here(fields) = &mut self.held else {
@@ -326,6 +332,7 @@ impl Endpoint {
         requires change { after self.old.settings.id (state_after self.old) entry ≡ with_wanted (state_after self.old) wanted }
         ensures settings { self.new.settings ≡ self.old.settings }
         ensures log { self.new.log ≡ self.old.log ++ entry ∷ [] }
+        ensures flights { self.new.flights ≡ self.old.flights }
         ensures same { (state_after self.new).body ≡ (state_after self.old).body }
     {
         self.held.set_wanted(wanted);
@@ -354,6 +361,7 @@ impl Endpoint {
         ensures stamp { result.stamp ≡ stamp }
         ensures log { self.new.log ≡ self.old.log ++ result ∷ [] }
         ensures settings { self.new.settings ≡ self.old.settings }
+        ensures flights { self.new.flights ≡ self.old.flights }
     {
         let end = self.settings.id;
         let Held::Here(fields) = &mut self.held else {
@@ -387,6 +395,7 @@ impl Endpoint {
         ensures stamp { IfOk result (λ x. x.stamp ≡ 1 + max floor (last_stamp self.old.log)) }
         ensures logged { IfOk result (λ x. self.new.log ≡ self.old.log ++ x ∷ []) }
         ensures settings { self.new.settings ≡ self.old.settings }
+        ensures flights { self.new.flights ≡ self.old.flights }
         ensures full { (result ≡ Err EndFault.LogFull) ↔ (length self.old.log ≡ self.old.settings.log) }
         ensures err { OnErr result (self.new.log ≡ self.old.log) }
     {
@@ -409,6 +418,7 @@ impl Endpoint {
         requires allowed { MayArrive self.old.settings.id (state_after self.old) entry }
         ensures settings { self.new.settings ≡ self.old.settings }
         ensures log { self.new.log ≡ self.old.log ++ entry ∷ [] }
+        ensures flights { self.new.flights ≡ self.old.flights }
     {
         if self.is_on_disk() {
             let wanted = self.wanted_after(entry.outcome);
@@ -426,6 +436,7 @@ impl Endpoint {
         requires allowed { MayCarry self.old.settings.bounces self.old.settings.id (state_after self.old) entry }
         ensures settings { self.new.settings ≡ self.old.settings }
         ensures log { self.new.log ≡ self.old.log ++ entry ∷ [] }
+        ensures flights { self.new.flights ≡ self.old.flights }
     {
         self.enter(entry);
     }
@@ -448,6 +459,7 @@ impl Endpoint {
         ensures stamp { IfOk result (λ x. x.stamp ≡ 1 + max floor (last_stamp self.old.log)) }
         ensures logged { IfOk result (λ x. self.new.log ≡ self.old.log ++ x ∷ []) }
         ensures settings { self.new.settings ≡ self.old.settings }
+        ensures flights { self.new.flights ≡ self.old.flights }
         ensures full { (result ≡ Err EndFault.LogFull) ↔ (length self.old.log ≡ self.old.settings.log) }
         ensures err { OnErr result (self.new.log ≡ self.old.log) }
         ensures same { (state_after self.new).body ≡ (state_after self.old).body }
@@ -465,28 +477,43 @@ impl Endpoint {
         Ok(entry)
     }
 
-    /// Its front message is bound to a channel, and is in flight.
-    pub fn take(&mut self, entry: Entry)
+    /// Its front message is bound to a channel, and is in flight. Tells its slot, which is its own until it is settled.
+    pub fn take(&mut self, entry: Entry) -> Slot
         requires ready { self.old.ready ≡ true }
         requires room { length self.old.log < self.old.settings.log }
         requires allowed { MayBind self.old.settings.node self.old.settings.id (state_after self.old) entry }
         ensures settings { self.new.settings ≡ self.old.settings }
         ensures log { self.new.log ≡ self.old.log ++ entry ∷ [] }
+        ensures flights { self.new.flights ≡ self.old.flights ++ result.0 ∷ [] }
     {
-        self.enter(entry);
+        let Held::Here(fields) = &mut self.held else {
+            unreachable!()
+        };
+        let Outcome::Sent { message, .. } = entry.outcome else {
+            unreachable!()
+        };
+        let slot = fields.fly_front(message);
+        self.log.push(entry).unwrap();
+        slot
     }
 
-    /// A message that it has in flight is delivered, requeued, returned or unknown, by an answer
-    /// that counts or a time-out that gives up.
-    pub fn settle(&mut self, entry: Entry)
+    /// A message that it has in flight is delivered, requeued, returned or unknown, by an answer that counts or a time-out
+    /// that gives up. The slot is that of the first message in flight with the serial that the entry names.
+    pub fn settle(&mut self, entry: Entry, slot: Slot)
         requires ready { self.old.ready ≡ true }
         requires room { length self.old.log < self.old.settings.log }
         requires allowed { MaySettle self.old.settings.bounces self.old.settings.id (state_after self.old) entry }
+        requires slot { IsSlotOf (settled_in entry.event entry.outcome) (state_after self.old).body.in_flight self.old.flights slot.0 }
         ensures settings { self.new.settings ≡ self.old.settings }
         ensures log { self.new.log ≡ self.old.log ++ entry ∷ [] }
+        ensures flights { self.new.flights ≡ without slot.0 self.old.flights }
     {
-        let _ = &self.settings;
-        self.enter(entry);
+        let end = self.settings.id;
+        let Held::Here(fields) = &mut self.held else {
+            unreachable!()
+        };
+        fields.settle(end, entry, slot);
+        self.log.push(entry).unwrap();
     }
 
     /// It binds no more messages, and still receives.
@@ -496,6 +523,7 @@ impl Endpoint {
         requires allowed { MayDrain self.old.settings.node self.old.settings.id (state_after self.old) entry }
         ensures settings { self.new.settings ≡ self.old.settings }
         ensures log { self.new.log ≡ self.old.log ++ entry ∷ [] }
+        ensures flights { self.new.flights ≡ self.old.flights }
     {
         self.enter(entry);
     }
@@ -507,6 +535,7 @@ impl Endpoint {
         requires allowed { MayUnload self.old.settings.node self.old.settings.id (state_after self.old) entry }
         ensures settings { self.new.settings ≡ self.old.settings }
         ensures log { self.new.log ≡ self.old.log ++ entry ∷ [] }
+        ensures flights { self.new.flights ≡ self.old.flights }
     {
         self.enter(entry);
     }
@@ -518,6 +547,7 @@ impl Endpoint {
         requires allowed { MayLoad self.old.settings.node self.old.settings.id (state_after self.old) entry }
         ensures settings { self.new.settings ≡ self.old.settings }
         ensures log { self.new.log ≡ self.old.log ++ entry ∷ [] }
+        ensures flights { self.new.flights ≡ self.old.flights }
     {
         self.enter(entry);
     }
@@ -531,6 +561,7 @@ impl Endpoint {
         ensures body { result ≡ record { pool = self.old.settings.pool; body = (state_after self.old).body; flights = self.old.flights } }
         ensures settings { self.new.settings ≡ self.old.settings }
         ensures log { self.new.log ≡ self.old.log ++ entry ∷ [] }
+        ensures flights { self.new.flights ≡ [] }
         ensures same { (state_after self.new).body ≡ (state_after self.old).body }
     {
         let head = self.fields().head_away();
@@ -552,6 +583,7 @@ impl Endpoint {
         ensures none { (result ≡ None) ↔ (entry.outcome ≡ Outcome.Failed) }
         ensures settings { self.new.settings ≡ self.old.settings }
         ensures log { self.new.log ≡ self.old.log ++ entry ∷ [] }
+        ensures flights { MatchOption result (self.new.flights ≡ self.old.flights) (λ body. self.new.flights ≡ []) }
         ensures same { (state_after self.new).body ≡ (state_after self.old).body }
     {
         match entry.outcome {
@@ -574,6 +606,7 @@ impl Endpoint {
         requires body { body ≡ record { pool = self.old.settings.pool; body = (state_after self.old).body; flights = body.flights } }
         ensures settings { self.new.settings ≡ self.old.settings }
         ensures log { self.new.log ≡ self.old.log ++ entry ∷ [] }
+        ensures flights { self.new.flights ≡ body.flights }
     {
         let head = Head {
             place: Place::Host,
@@ -590,6 +623,7 @@ impl Endpoint {
         requires allowed { MayPageIn Outcome.Failed self.old.settings.node self.old.settings.id (state_after self.old) entry }
         ensures settings { self.new.settings ≡ self.old.settings }
         ensures log { self.new.log ≡ self.old.log ++ entry ∷ [] }
+        ensures flights { self.new.flights ≡ self.old.flights }
         ensures same { (state_after self.new).body ≡ (state_after self.old).body }
     {
         let wanted = self.wanted();

@@ -15,6 +15,7 @@ use Rattle.am_model.specs.declared.Queued.{Queued}
 use Rattle.am_model.specs.Allowed.{MayBind}
 use Rattle.am_model.specs.Endpoint.{State, front, is_direct, is_on_disk, is_resident}
 use Rattle.am_model.specs.History.{bind_to, free_from, next_number}
+use Rattle.am_block.specs.declared.Slot.{Slot}
 use Rattle.am_channel.specs.declared.ends.Ends.{Ends}
 use Rattle.am_channel.specs.declared.sending.Sent.{Sent}
 use Rattle.am_channel_laws.specs.Calls.{Bind, after}
@@ -27,7 +28,6 @@ use Rattle.am_local.proofs.Granting.{work_granted}
 use Rattle.am_endpoint.specs.View.{EndpointView, state_after}
 use Rattle.am_iface.specs.Made.{IsMade}
 use Rattle.am_iface.specs.View.{InterfaceView, own}
-use Rattle.am_iface.proofs.Fresh.{IsAlike}
 use Rattle.am_iface.proofs.Telling.{bind_made}
 use Rattle.am_iface.proofs.Turning.{IsEntryOf}
 
@@ -90,9 +90,9 @@ binding_outcome v e q peer channel ends numbers number is =
     ∙ ap (λ (h : Option NodeId). bind_to v.settings.node v.log q h (channel_by_home (own v) h)) is.home
     ∙ ap (λ (k : Option ℕ). bind_to v.settings.node v.log q (Some peer) k) is.free)
 
-pub binding_made : (v : InterfaceView) (e : EndpointView) (q : Queued) (peer : NodeId) (channel : ℕ) (ends new : Ends) (numbers : Sent) (number stamp : ℕ) (node : NodeId) (end : EndpointId) (outcome : Outcome) (x : Entry) → IsBindingAt v e q peer channel ends numbers number → new ≡ after ends (Bind q.message (record { 0 = 0 })) → node ≡ v.settings.node → outcome ≡ Out.Sent q.message peer channel numbers.seq numbers.attempt number → x ≡ record { stamp = stamp; event = Events.Bind node end; outcome = outcome } → IsMade (channel_in (own v) peer channel) v.log new x
-binding_made v e q peer channel ends new numbers number stamp node end outcome x is leaves here sent made =
-    bind_made (channel_in (own v) peer channel) v.log ends new q.message (record { 0 = 0 }) end number x is.counted leaves
+pub binding_made : (v : InterfaceView) (e : EndpointView) (q : Queued) (peer : NodeId) (channel : ℕ) (ends : Ends) (slot : Slot) (numbers : Sent) (number stamp : ℕ) (node : NodeId) (end : EndpointId) (outcome : Outcome) (x : Entry) → IsBindingAt v e q peer channel ends numbers number → node ≡ v.settings.node → outcome ≡ Out.Sent q.message peer channel numbers.seq numbers.attempt number → x ≡ record { stamp = stamp; event = Events.Bind node end; outcome = outcome } → IsMade (channel_in (own v) peer channel) v.log (after ends (Bind q.message slot)) x
+binding_made v e q peer channel ends slot numbers number stamp node end outcome x is here sent made =
+    bind_made (channel_in (own v) peer channel) v.log ends (after ends (Bind q.message slot)) q.message slot end number x is.counted refl
     (ap (λ (y : Entry). y.event) made ∙ ap (λ (n : NodeId). Events.Bind n end) here)
     (ap (λ (y : Entry). y.outcome) made ∙ sent ∙ (λ j. Out.Sent q.message peer channel (is.sent_as j).seq (is.sent_as j).attempt number))
 
@@ -110,9 +110,8 @@ home_is : (v : InterfaceView) (end : EndpointId) (node : NodeId) → is_home_in 
 home_is v end node home at = same_node-is v.settings.node node (sym (ap (λ (h : Option NodeId). is_node_in (own v) h) at) ∙ home)
 
 -- the endpoint may be given it
-pub binding_allowed : (v : InterfaceView) (e f : EndpointView) (stamp : ℕ) (x : Entry) → home_in (own v) e.settings.id ≡ Some e.settings.node → is_direct (state_after e).head.place ≡ false → IsEntryOf v (state_after e) stamp (Works.Bind e.settings.id) x → IsAlike e f → MayBind f.settings.node f.settings.id (state_after f) x
-binding_allowed v e f stamp x at packet is alike =
-    subst (λ (g : EndpointView). MayBind g.settings.node g.settings.id (state_after g) x) (λ j. record { settings = sym alike.settings j; log = sym alike.log j; ready = f.ready })
-    (subst (λ (n : NodeId). MayBind n e.settings.id (state_after e) x) (home_is v e.settings.id e.settings.node (ready_to_bind (own v) (state_after e) e.settings.id is.enabled).home at)
+pub binding_allowed : (v : InterfaceView) (e : EndpointView) (stamp : ℕ) (x : Entry) → home_in (own v) e.settings.id ≡ Some e.settings.node → is_direct (state_after e).head.place ≡ false → IsEntryOf v (state_after e) stamp (Works.Bind e.settings.id) x → MayBind e.settings.node e.settings.id (state_after e) x
+binding_allowed v e stamp x at packet is =
+    subst (λ (n : NodeId). MayBind n e.settings.id (state_after e) x) (home_is v e.settings.id e.settings.node (ready_to_bind (own v) (state_after e) e.settings.id is.enabled).home at)
     (work_granted (own v) e.settings.id (state_after e) (Works.Bind e.settings.id) x
-    (record { needs = refl; enabled = is.enabled; event = is.event; outcome = is.outcome; fits = tt; packet = packet })))
+    (record { needs = refl; enabled = is.enabled; event = is.event; outcome = is.outcome; fits = tt; packet = packet }))

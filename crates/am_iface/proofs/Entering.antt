@@ -130,6 +130,12 @@ bit_at_most : (b : Bool) → bit b ≤ 1
 bit_at_most true = omega arith
 bit_at_most false = omega arith
 
+-- what is read is what is read by any default, where something is
+pub read_same : (xs : List ℕ) (k d : ℕ) → get_or xs k d ≡ get_or xs k (get_or xs k d)
+read_same [] k d = refl
+read_same (x ∷ xs) zero d = refl
+read_same (x ∷ xs) (suc k) d = read_same xs k d
+
 -- the count of a peer's packets is small
 pub count_within : (i : Inside) (v : InterfaceView) (peer : NodeId) (n : ℕ) (b : Bool) → view_of i ≡ v → IsCounted i → peer.0 < v.settings.nodes → n ≡ get_or i.emissions.items peer.0 n → n + bit b ≤ 65537
 count_within i v peer n b seen is to at =
@@ -138,15 +144,25 @@ count_within i v peer n b seen is to at =
     let most = is.emissions peer.0 n (slice_get_read i.emissions.items 16 peer.0 n (sym is.all_peers) within at) in
     omega (arith, most.1, is.bounded, is.lawful.log, bit_at_most b)
 
--- the same, of an interface as its callers see it
-pub entered_seen : (i : Inside) (v : InterfaceView) (peer : NodeId) (channel n m : ℕ) (new : Ends) (x : Entry) (log : List Entry) → view_of i ≡ v → IsCounted i → peer.0 < v.settings.nodes → channel < v.settings.channels → length i.log.items < i.limits.log → IsMade (channel_in (own v) peer channel) v.log new x → n ≡ get_or i.emissions.items peer.0 n → m ≡ bit (is_some (emitted_of x)) → log ≡ i.log.items ++ x ∷ [] → AreOfLog (settings_in i) (slice_set i.ends.items (4 * peer.0 + channel) new) (slice_set i.emissions.items peer.0 (n + m)) log
-entered_seen i v peer channel n m new x log seen is to on room made at one items =
+-- what an interface keeps once the call is written, as its callers see it
+pub record IsWritten (i : Inside) (peer : NodeId) (channel : ℕ) (new : Ends) (x : Entry) (b : Bool) (all : List Ends) (counts : List ℕ) (items : List Entry) : Type 0 where
+  pub emits : b ≡ is_some (emitted_of x)
+  pub ends : all ≡ slice_set i.ends.items (4 * peer.0 + channel) new
+  pub emissions : counts ≡ slice_set i.emissions.items peer.0 (get_or i.emissions.items peer.0 0 + bit b)
+  pub log : items ≡ i.log.items ++ x ∷ []
+
+pub entered_seen : (i : Inside) (v : InterfaceView) (peer : NodeId) (channel : ℕ) (new : Ends) (x : Entry) (emits : Bool) (all : List Ends) (counts : List ℕ) (log : List Entry) → view_of i ≡ v → IsCounted i → peer.0 < v.settings.nodes → channel < v.settings.channels → length i.log.items < i.limits.log → IsMade (channel_in (own v) peer channel) v.log new x → IsWritten i peer channel new x emits all counts log → AreOfLog (settings_in i) all counts log
+entered_seen i v peer channel new x emits all counts log seen is to on room made written =
     let made_here : IsMade (channel_to i.limits.node peer channel) i.log.items new x = subst (λ (w : InterfaceView). IsMade (channel_in (own w) peer channel) w.log new x) (sym seen) made in
     let to_here : peer.0 < i.limits.nodes = subst (λ (w : InterfaceView). peer.0 < w.settings.nodes) (sym seen) to in
     let on_here : channel < i.limits.channels = subst (λ (w : InterfaceView). channel < w.settings.channels) (sym seen) on in
-    let all = entered (settings_in i) i.ends.items i.emissions.items i.log.items peer channel n new x is to_here on_here room made_here at in
-    subst (λ (k : ℕ). AreOfLog (settings_in i) (slice_set i.ends.items (4 * peer.0 + channel) new) (slice_set i.emissions.items peer.0 (n + k)) log) (sym one)
-    (subst (λ (xs : List Entry). AreOfLog (settings_in i) (slice_set i.ends.items (4 * peer.0 + channel) new) (slice_set i.emissions.items peer.0 (n + bit (is_some (emitted_of x)))) xs) (sym items) all)
+    let n = get_or i.emissions.items peer.0 0 in
+    let kept = entered (settings_in i) i.ends.items i.emissions.items i.log.items peer channel n new x is to_here on_here room made_here (read_same i.emissions.items peer.0 0) in
+    let counted : counts ≡ slice_set i.emissions.items peer.0 (n + bit (is_some (emitted_of x))) =
+    written.emissions ∙ ap (λ (b : Bool). slice_set i.emissions.items peer.0 (n + bit b)) written.emits in
+    subst (λ (es : List Ends). AreOfLog (settings_in i) es counts log) (sym written.ends)
+    (subst (λ (ns : List ℕ). AreOfLog (settings_in i) (slice_set i.ends.items (4 * peer.0 + channel) new) ns log) (sym counted)
+    (subst (λ (xs : List Entry). AreOfLog (settings_in i) (slice_set i.ends.items (4 * peer.0 + channel) new) (slice_set i.emissions.items peer.0 (n + bit (is_some (emitted_of x)))) xs) (sym written.log) kept))
 
 -- the log is short
 pub log_within : (i : Inside) (v : InterfaceView) → view_of i ≡ v → IsCounted i → length v.log ≤ 65536

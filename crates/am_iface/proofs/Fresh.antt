@@ -58,6 +58,6 @@ pub record IsAlike (e f : EndpointView) : Type 0 where
 -- the endpoint may be given it
 pub fresh_arrives : (v : InterfaceView) (e f : EndpointView) (p : Parcel) (stamp : ℕ) (x : Entry) → FitsParcel v.settings p → needs (own v) (Works.Receive (Packets.Parcel p)) ≡ Some e.settings.id → is_direct (state_after e).head.place ≡ false → IsEntryOf v (state_after e) stamp (Works.Receive (Packets.Parcel p)) x → IsAlike e f → MayArrive f.settings.id (state_after f) x
 fresh_arrives v e f p stamp x fits needs packet is alike =
-    subst (λ (g : EndpointView). MayArrive g.settings.id (state_after g) x) (λ j. record { settings = sym alike.settings j; log = sym alike.log j; ready = f.ready })
+    subst (λ (g : EndpointView). MayArrive g.settings.id (state_after g) x) (λ j. record { settings = sym alike.settings j; log = sym alike.log j; ready = f.ready; flights = f.flights })
     (work_granted (own v) e.settings.id (state_after e) (Works.Receive (Packets.Parcel p)) x
     (record { needs = needs; enabled = is.enabled; event = is.event; outcome = is.outcome; fits = fits.formed; packet = packet }))

@@ -105,7 +105,7 @@ giving_up_entry v e peer channel ends flight bound gone stamp node x is here mad
 -- its source may be given it
 pub giving_up_allowed : (v : InterfaceView) (e f : EndpointView) (peer : NodeId) (channel : ℕ) (flight : Flying) (stamp : ℕ) (x : Entry) → needs (own v) (Works.Expire peer channel) ≡ Some e.settings.id → is_direct (state_after e).head.place ≡ false → e.settings.bounces ≡ v.settings.bounces → IsFlightOf (state_after e) (bound_message (channel_in (own v) peer channel) v.log) flight → IsEntryOf v (state_after e) stamp (Works.Expire peer channel) x → IsAlike e f → MaySettle f.settings.bounces f.settings.id (state_after f) x
 giving_up_allowed v e f peer channel flight stamp x needs packet same flight_is is alike =
-    subst (λ (g : EndpointView). MaySettle g.settings.bounces g.settings.id (state_after g) x) (λ j. record { settings = sym alike.settings j; log = sym alike.log j; ready = f.ready })
+    subst (λ (g : EndpointView). MaySettle g.settings.bounces g.settings.id (state_after g) x) (λ j. record { settings = sym alike.settings j; log = sym alike.log j; ready = f.ready; flights = f.flights })
     (subst (λ (n : ℕ). MaySettle n e.settings.id (state_after e) x) (sym same)
     (work_granted (own v) e.settings.id (state_after e) (Works.Expire peer channel) x
     (record {

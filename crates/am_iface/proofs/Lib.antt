@@ -11,3 +11,4 @@ pub mod Settling
 pub mod GivingUp
 pub mod Binding
 pub mod Touching
+pub mod Settled

@@ -131,7 +131,7 @@ in_flight s (Some m) flight is = ap (λ (f : Option Flying). is_some f) is
 -- its source may be given it
 pub settling_allowed : (v : InterfaceView) (e f : EndpointView) (p : AnswerPacket) (flight : Flying) (stamp : ℕ) (x : Entry) → needs (own v) (Works.Receive (Packets.Answer p)) ≡ Some e.settings.id → is_direct (state_after e).head.place ≡ false → e.settings.bounces ≡ v.settings.bounces → IsFlightOf (state_after e) (bound_message (channel_in (own v) p.from p.channel) v.log) flight → IsEntryOf v (state_after e) stamp (Works.Receive (Packets.Answer p)) x → IsAlike e f → MaySettle f.settings.bounces f.settings.id (state_after f) x
 settling_allowed v e f p flight stamp x needs packet same flight_is is alike =
-    subst (λ (g : EndpointView). MaySettle g.settings.bounces g.settings.id (state_after g) x) (λ j. record { settings = sym alike.settings j; log = sym alike.log j; ready = f.ready })
+    subst (λ (g : EndpointView). MaySettle g.settings.bounces g.settings.id (state_after g) x) (λ j. record { settings = sym alike.settings j; log = sym alike.log j; ready = f.ready; flights = f.flights })
     (subst (λ (n : ℕ). MaySettle n e.settings.id (state_after e) x) (sym same)
     (work_granted (own v) e.settings.id (state_after e) (Works.Receive (Packets.Answer p)) x
     (record {

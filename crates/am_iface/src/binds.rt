@@ -1,22 +1,31 @@
 // Binds of an endpoint's front message to a channel.
+ghost use Rattle.am_block.specs.declared.Slot.{Slot};
+ghost use Rattle.am_channel_laws.specs.Calls as Calls;
+ghost use Rattle.am_channel_laws.specs.Calls.{after};
 ghost use Rattle.am_channel_laws.specs.Counted.{AreCounted};
 ghost use Rattle.am_endpoint.specs.View.{state_after};
 ghost use Rattle.am_iface.specs.View.{own};
-ghost use Rattle.am_iface.specs.With.{IsHomeKnown, TurnsWith};
+ghost use Rattle.am_iface.specs.Made.{IsMade};
+ghost use Rattle.am_iface.specs.With.{IsFullOf, IsHomeKnown, TurnsWith};
 ghost use Rattle.am_local.specs.Interface.{channel_in, channel_of_front, failing_at, home_in};
 ghost use Rattle.am_local.specs.declared.work.Work.TheVariants as Works;
+ghost use Rattle.am_model.specs.Allowed.{MayBind};
 ghost use Rattle.am_model.specs.Endpoint.{front, is_direct, is_resident};
 ghost use Rattle.am_model.specs.History.{free_from};
-ghost use Rattle.std.specs.Prelude.{◌≡◌, ◌-◌, ◌<◌, ◌^◌, None, Some, false, IfSome, IsNone};
+ghost use Rattle.am_office.specs.Entries.{emitted_of};
+ghost use Rattle.am_office.specs.declared.Condition.{Condition};
+ghost use Rattle.am_office.specs.declared.Part.{Part};
+ghost use Rattle.std.specs.Prelude.{◌≡◌, ◌≢◌, ◌↔◌, ◌-◌, ◌<◌, ◌^◌, [], ◌∷◌, ◌++◌, Err, None, Some, false, IfOk, IfSome, IsNone, OnErr, OnOk};
 
-use crate::by_ends::bind;
+use crate::by_ends::{bind, first_try};
 use crate::entries::{bind_entry, sent};
-use crate::{IfaceFault, Interface, Turned};
+use crate::packets::emitted_of;
+use crate::{IfaceFault, Interface, Turned, write};
 use am_channel::Ends;
 use am_endpoint::Endpoint;
 use am_model::Queued;
-use am_names::{EndpointId, NodeId};
-use am_office::{Condition, Place};
+use am_names::{EndpointId, Message, NodeId};
+use am_office::{Condition, Entry, Part, Place};
 
 impl Interface {
     /// The node of an endpoint, if it is declared.
@@ -92,6 +101,53 @@ impl Interface {
         self.ends[4 * peer.0 as usize + channel as usize]
     }
 
+    /// Logs the entry of a bind here and in the endpoint, once there is room for it in both logs. The channel keeps the slot
+    /// that the message has in flight.
+    fn enter_bound(
+        &mut self,
+        peer: NodeId,
+        channel: u8,
+        idle: Ends,
+        message: Message,
+        entry: Entry,
+        endpoint: &mut Endpoint,
+    ) -> Result<Turned, IfaceFault>
+        requires peer { peer.0 < self.old.settings.nodes }
+        requires channel { channel < self.old.settings.channels }
+        requires idle { IsNone idle.sending.bound }
+        requires sequence { idle.sending.seq < 2 ^ 32 - 1 }
+        requires made { (slot : Slot) → IsMade (channel_in (own self.old) peer channel) self.old.log (after idle (Calls.Bind message slot)) entry }
+        requires allowed { MayBind endpoint.old.settings.node endpoint.old.settings.id (state_after endpoint.old) entry }
+        ensures turned { IfOk result (λ t. t ≡ record { entry = entry; out = emitted_of entry }) }
+        ensures logged { OnOk result (self.new ≡ record self.old { log = self.old.log ++ entry ∷ [] }) }
+        ensures there { OnOk result (endpoint.new.log ≡ endpoint.old.log ++ entry ∷ []) }
+        ensures settings { endpoint.new.settings ≡ endpoint.old.settings }
+        ensures enabled { (c : Condition) → result ≢ Err (IfaceFault.NotEnabled c) }
+        ensures full { (p : Part) → (result ≡ Err (IfaceFault.LogFull p)) ↔ IsFullOf self.old endpoint.old p }
+        ensures err { OnErr result (self.new ≡ self.old) }
+        ensures err_there { OnErr result (endpoint.new.log ≡ endpoint.old.log) }
+    {
+        if let Err(fault) = self.room_with(endpoint) {
+            return Err(fault);
+        }
+        if self.log.reserve(1).is_err() {
+            return Err(IfaceFault::NoMemory);
+        }
+        let mut ends = idle;
+        bind(&mut ends, message, endpoint.take(entry));
+        let out = emitted_of(&entry);
+        write(
+            &mut self.ends,
+            &mut self.emissions,
+            peer,
+            channel,
+            ends,
+            out.is_some(),
+        );
+        self.log.push(entry).unwrap();
+        Ok(Turned { entry, out })
+    }
+
     /// Binds the front message to the lowest free channel to its destination's node.
     fn bind_to(
         &mut self,
@@ -110,18 +166,12 @@ impl Interface {
         requires free { free_from self.old.settings.node peer self.old.log 0 self.old.settings.channels ≡ Some channel }
         ensures { TurnsWith self.old self.new endpoint.old endpoint.new stamp (Works.Bind endpoint.old.settings.id) result }
     {
-        let mut ends = self.free_ends(peer, channel);
-        let numbers = bind(&mut ends, queued.message);
+        let ends = self.free_ends(peer, channel);
+        let numbers = first_try(&ends);
         let number = self.next_number(peer);
         let outcome = sent(queued.message, peer, channel, numbers, number);
         let entry = bind_entry(self.node(), stamp, endpoint.id(), outcome);
-        match self.enter_with(peer, channel, ends, entry, endpoint) {
-            Ok(turned) => {
-                endpoint.take(entry);
-                Ok(turned)
-            }
-            Err(fault) => Err(fault),
-        }
+        self.enter_bound(peer, channel, ends, queued.message, entry, endpoint)
     }
 
     /// Binds the front message, which nothing keeps from being bound.

@@ -96,13 +96,22 @@ pub(crate) fn answer(ends: &mut Ends, p: &AnswerPacket) -> Settled
     ends.sending.answer(p)
 }
 
-/// Binds a message under the next sequence, for its first try. It is found at its endpoint by its serial, so the slot says
-/// nothing.
-pub(crate) fn bind(ends: &mut Ends, message: Message) -> Sent
+/// The numbers of the next message that is bound, for its first try.
+pub(crate) fn first_try(ends: &Ends) -> Sent
+    requires { ends.now.sending.seq < 2 ^ 32 - 1 }
+    ensures { result ≡ record { seq = ends.now.sending.seq + 1; attempt = 0 } }
+{
+    Sent {
+        seq: ends.sending.seq() + 1,
+        attempt: 0,
+    }
+}
+
+/// Binds a message, which lies in this slot at its source, under the next sequence, for its first try.
+pub(crate) fn bind(ends: &mut Ends, message: Message, slot: Slot)
     requires idle { IsNone ends.old.sending.bound }
     requires room { ends.old.sending.seq < 2 ^ 32 - 1 }
-    ensures sent { result ≡ record { seq = ends.old.sending.seq + 1; attempt = 0 } }
-    ensures after { ends.new ≡ after ends.old (Calls.Bind message (record { 0 = 0 })) }
+    ensures { ends.new ≡ after ends.old (Calls.Bind message slot) }
 {
-    ends.sending.bind(message, Slot(0))
+    ends.sending.bind(message, slot);
 }

@@ -22,7 +22,7 @@ ghost use Rattle.am_iface.specs.Made.{IsMade, bit};
 ghost use Rattle.am_office.specs.Entries.{emitted_of};
 ghost use Rattle.am_office.specs.declared.Condition.{Condition};
 ghost use Rattle.am_office.specs.declared.Part.{Part};
-ghost use Rattle.std.specs.Prelude.{◌≡◌, ◌≢◌, ◌↔◌, ◌+◌, ◌<◌, ◌≤◌, ◌^◌, IsTrue, false, max, None, Some, [], ◌∷◌, ◌++◌, length, IfOk, IfSome, OnOk, OnErr, Err};
+ghost use Rattle.std.specs.Prelude.{◌≡◌, ◌≢◌, ◌↔◌, ◌+◌, ◌*◌, ◌<◌, ◌≤◌, ◌^◌, IsTrue, false, max, None, Some, [], ◌∷◌, ◌++◌, length, IfOk, IfSome, OnOk, OnErr, Err, get_or, slice_set};
 
 mod binds;
 mod by_ends;
@@ -167,8 +167,9 @@ impl Interface {
         self.ends[4 * peer.0 as usize + channel as usize]
     }
 
-    /// The message that is bound to the channel's sending end, and the attempt of its last packet. None exactly where the
-    /// end is idle. The place of a bound message is found at its source by its serial: the slot says nothing of it.
+    /// The message that is bound to the channel's sending end, the attempt of its last packet, and the slot that its source
+    /// told as it was bound. None exactly where the end is idle. No clause speaks of the slot: a turn finds it at the source
+    /// by the message's serial.
     pub fn bound(&self, peer: NodeId, channel: u8) -> Option<Bound>
         requires peer { peer.0 < self.now.settings.nodes }
         requires channel { channel < self.now.settings.channels }
@@ -238,9 +239,14 @@ impl Interface {
             return Err(IfaceFault::NoMemory);
         }
         let out = packets::emitted_of(&entry);
-        let to = peer.0 as usize;
-        self.ends[4 * to + channel as usize] = ends;
-        self.emissions[to] += one_if(out.is_some());
+        write(
+            &mut self.ends,
+            &mut self.emissions,
+            peer,
+            channel,
+            ends,
+            out.is_some(),
+        );
         self.log.push(entry).unwrap();
         Ok(Turned { entry, out })
     }
@@ -434,6 +440,26 @@ impl Interface {
         let stamp = self.stamp_with(floor, work, endpoint);
         self.work_with(stamp, work, endpoint)
     }
+}
+
+/// Writes what a call leaves: both ends of its channel, and one packet more to its peer where it emits one.
+fn write(
+    all: &mut Vec<Ends>,
+    emissions: &mut Vec<u32>,
+    peer: NodeId,
+    channel: u8,
+    ends: Ends,
+    emits: bool,
+)
+    requires peer { peer.0 < length emissions.old.items }
+    requires channel { 4 * peer.0 + channel < length all.old.items }
+    requires count { get_or emissions.old.items peer.0 0 + bit emits < 2 ^ 32 }
+    ensures ends { all.new.items ≡ slice_set all.old.items (4 * peer.0 + channel) ends }
+    ensures emissions { emissions.new.items ≡ slice_set emissions.old.items peer.0 (get_or emissions.old.items peer.0 0 + bit emits) }
+{
+    let to = peer.0 as usize;
+    all[4 * to + channel as usize] = ends;
+    emissions[to] += one_if(emits);
 }
 
 fn one_if(is: bool) -> u32

@@ -1,4 +1,5 @@
 // Turns that touch an endpoint.
+ghost use Rattle.am_endpoint.specs.Flights.{settled_in};
 ghost use Rattle.am_endpoint.specs.View.{state_after};
 ghost use Rattle.am_iface.specs.Made.{IsMade};
 ghost use Rattle.am_iface.specs.Turns.{IsFull};
@@ -6,6 +7,7 @@ ghost use Rattle.am_iface.specs.View.{FitsAnswer, FitsInterface, FitsParcel, IsC
 ghost use Rattle.am_iface.specs.With.{IsFlightOf, IsFullOf, KnowsHome, TurnsWith};
 ghost use Rattle.am_local.specs.Granted.{FitsEndpoint, IsInFlight};
 ghost use Rattle.am_local.specs.Interface.{channel_in, home_in, needs};
+ghost use Rattle.am_model.specs.Allowed.{MaySettle};
 ghost use Rattle.am_model.specs.Channels.{bound_message};
 ghost use Rattle.am_model.specs.Endpoint.{is_direct};
 ghost use Rattle.am_model.specs.History.{settle_by};
@@ -23,12 +25,12 @@ use am_channel::{Ends, Settled, TimedOut};
 use am_endpoint::{EndFault, Endpoint};
 use am_local::work::Work;
 use am_model::Flying;
-use am_names::{AnswerPacket, Message, NodeId, Packet, Parcel, Verdict};
+use am_names::{AnswerPacket, Message, NodeId, Packet, Parcel, Serial, Verdict};
 use am_office::{Entry, Event, Outcome, Part};
 
 impl Interface {
     /// Makes room for one more entry in an endpoint's log and finds it in the interface's. Neither log changes.
-    fn room_with(&self, endpoint: &mut Endpoint) -> Result<(), IfaceFault>
+    pub(crate) fn room_with(&self, endpoint: &mut Endpoint) -> Result<(), IfaceFault>
         ensures ready { OnOk result (endpoint.new.ready ≡ true) }
         ensures there { OnOk result (length endpoint.new.log < endpoint.new.settings.log) }
         ensures here { OnOk result (length self.now.log < self.now.settings.log) }
@@ -142,7 +144,7 @@ impl Interface {
         let entry = self.settling_entry(stamp, p, bound.message, flight, verdict);
         match self.enter_with(p.from, p.channel, ends, entry, endpoint) {
             Ok(turned) => {
-                endpoint.settle(entry);
+                settle(endpoint, bound.message.serial, entry);
                 Ok(turned)
             }
             Err(fault) => Err(fault),
@@ -182,7 +184,7 @@ impl Interface {
         );
         match self.enter_with(peer, channel, ends, entry, endpoint) {
             Ok(turned) => {
-                endpoint.settle(entry);
+                settle(endpoint, bound.message.serial, entry);
                 Ok(turned)
             }
             Err(fault) => Err(fault),
@@ -284,4 +286,19 @@ impl Interface {
             Work::Expire { peer, channel } => self.give_up_with(stamp, peer, channel, endpoint),
         }
     }
+}
+
+/// The message in flight with this serial is settled or given up, by this entry.
+fn settle(endpoint: &mut Endpoint, serial: Serial, entry: Entry)
+    requires ready { endpoint.old.ready ≡ true }
+    requires room { length endpoint.old.log < endpoint.old.settings.log }
+    requires allowed { MaySettle endpoint.old.settings.bounces endpoint.old.settings.id (state_after endpoint.old) entry }
+    requires serial { settled_in entry.event entry.outcome ≡ Some serial }
+    ensures settings { endpoint.new.settings ≡ endpoint.old.settings }
+    ensures log { endpoint.new.log ≡ endpoint.old.log ++ entry ∷ [] }
+{
+    let Some(slot) = endpoint.flight_slot(serial) else {
+        unreachable!()
+    };
+    endpoint.settle(entry, slot);
 }

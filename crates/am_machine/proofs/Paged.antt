@@ -46,8 +46,8 @@ body_valid pool e s order host range =
     record { valid = order.valid; within = order.within; none_in_flight = none_flying pool e s order host; in_range = range }
 
 -- the body whose image it is, is found
-pub finds : (e : EndpointId) (pool : Option ℕ) (bytes : List ℕ) (b : Body) (found : Option View) → bytes ≡ image b → IsValid e pool b → FindsEach e pool bytes found → found ≡ Some (record { pool = pool; body = b })
-finds e pool bytes b found is valid each = each (record { pool = pool; body = b }) (record { own_pool = refl; valid = valid; image_is = sym is })
+pub finds : (e : EndpointId) (pool : Option ℕ) (bytes : List ℕ) (b : Body) (found : Option View) → bytes ≡ image b → IsValid e pool b → FindsEach e pool bytes found → found ≡ Some (record { pool = pool; body = b; flights = [] })
+finds e pool bytes b found is valid each = each (record { pool = pool; body = b; flights = [] }) (record { own_pool = refl; valid = valid; image_is = sym is; none_flies = refl })
 
 -- a page call is done or failed
 pub page_ends : (s : Store) (o : Outcome) → o ≡ page_outcome s → (o ≡ Out.Done) ⊎ (o ≡ Out.Failed)
@@ -81,14 +81,16 @@ may_page_in v w node end s x o settings log can event outcome =
     subst (λ (d : EndLog). MayPageIn o d.settings.node d.settings.id (state_in d) x) (same_kept v w settings log) may
 
 -- the body is that of the endpoint after it made room
-pub same_body : (v w : EndpointView) (b : View) → w.settings ≡ v.settings → w.log ≡ v.log → b ≡ record { pool = v.settings.pool; body = (state_after v).body } → b ≡ record { pool = w.settings.pool; body = (state_after w).body }
-same_body v w b settings log is = subst (λ (d : EndLog). b ≡ record { pool = d.settings.pool; body = (state_in d).body }) (same_kept v w settings log) is
+pub same_body : (v w : EndpointView) (b : View) → w.settings ≡ v.settings → w.log ≡ v.log → b ≡ record { pool = v.settings.pool; body = (state_after v).body; flights = [] } → b ≡ record { pool = w.settings.pool; body = (state_after w).body; flights = b.flights }
+same_body v w b settings log is =
+    subst (λ (d : EndLog). b ≡ record { pool = d.settings.pool; body = (state_in d).body; flights = b.flights }) (same_kept v w settings log)
+    (is ∙ ap (λ (xs : List ℕ). record { pool = v.settings.pool; body = (state_after v).body; flights = xs }) (sym (ap (λ (u : View). u.flights) is)))
 
 -- nothing else is found
 pub never_none : (e : EndpointId) (pool : Option ℕ) (bytes : List ℕ) (b : Body) (found : Option View) → bytes ≡ image b → IsValid e pool b → FindsEach e pool bytes found → found ≡ None → ⊥
 never_none e pool bytes b found is valid each none = let some' = finds e pool bytes b found is valid each in absurd (cc)
 
-pub is_found : (e : EndpointId) (pool : Option ℕ) (bytes : List ℕ) (b : Body) (found : Option View) (w : View) → bytes ≡ image b → IsValid e pool b → FindsEach e pool bytes found → found ≡ Some w → w ≡ record { pool = pool; body = b }
+pub is_found : (e : EndpointId) (pool : Option ℕ) (bytes : List ℕ) (b : Body) (found : Option View) (w : View) → bytes ≡ image b → IsValid e pool b → FindsEach e pool bytes found → found ≡ Some w → w ≡ record { pool = pool; body = b; flights = [] }
 is_found e pool bytes b found w is valid each at = let some' = finds e pool bytes b found is valid each in cc
 
 -- what the swap's call says of the outcome

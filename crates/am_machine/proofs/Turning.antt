@@ -188,4 +188,4 @@ turned_with_err i j e f past now w result Ifaces.NoMemory err bounded disabled f
 
 -- the same of the endpoint as it was before room was made
 pub turns_still : (i j : InterfaceView) (e one f : EndpointView) (past now : List Entry) (w : Work) (result : Result Entry ApplyFault) → kept one ≡ kept e → TurnsWith i j one f past now w result → TurnsWith i j e f past now w result
-turns_still i j e one f past now w result same turns = subst (λ (d : EndLog). TurnsWith i j (record { settings = d.settings; log = d.log; ready = e.ready }) f past now w result) same turns
+turns_still i j e one f past now w result same turns = subst (λ (d : EndLog). TurnsWith i j (record { settings = d.settings; log = d.log; ready = e.ready; flights = e.flights }) f past now w result) same turns

@@ -8,7 +8,7 @@ ghost use Rattle.am_machine.specs.Pages.{CanPage, CanPageIn, CanPageOut, IsCalle
 ghost use Rattle.am_machine.specs.Swaps.{HoldsBody};
 ghost use Rattle.am_model.specs.Endpoint.{is_on_host};
 ghost use Rattle.am_office.specs.declared.Event.TheVariants as Events;
-ghost use Rattle.std.specs.Prelude.{◌≡◌, ◌<◌, IfOk, IsSome, length, true};
+ghost use Rattle.std.specs.Prelude.{◌≡◌, ◌<◌, [], IfOk, IsSome, length, true};
 
 use am_endpoint::{Body, Endpoint};
 use am_names::{EndpointId, NodeId};
@@ -65,7 +65,7 @@ fn image_of(alloc: Global, end: &Endpoint) -> Result<Vec<u8>, NoMemory>
 /// The body whose image the disk holds for an endpoint.
 fn body_of(alloc: Global, swap: &MemorySwap, end: &Endpoint) -> Result<Body, NoMemory>
     requires { HoldsBody swap.now end.now.settings.pool end.now.settings.id (state_after end.now).body }
-    ensures { IfOk result (λ body. body ≡ record { pool = end.now.settings.pool; body = (state_after end.now).body }) }
+    ensures { IfOk result (λ body. body ≡ record { pool = end.now.settings.pool; body = (state_after end.now).body; flights = [] }) }
 {
     let Some(image) = swap.held(end.id()) else {
         unreachable!()

@@ -156,6 +156,9 @@ fn expire(end: &mut Endpoint, serial: Serial) -> Option<Outcome>
     let Some(flight) = end.flight(serial) else {
         return None;
     };
+    let Some(slot) = end.flight_slot(serial) else {
+        return None;
+    };
     if end.id().0 != flight.message.serial.source.0 {
         return None;
     }
@@ -165,7 +168,7 @@ fn expire(end: &mut Endpoint, serial: Serial) -> Option<Outcome>
         channel: 0,
     };
     let outcome = used_up(flight);
-    end.settle(entry_of(event, outcome));
+    end.settle(entry_of(event, outcome), slot);
     Some(outcome)
 }
 
@@ -238,6 +241,8 @@ fn messages_fly_arrive_and_are_settled(rt: HostRuntime) -> Result<(), Fail> {
     assert_eq!(rt; take(&mut end), None);
     assert_eq!(rt; end.in_flight_len(), 1);
     assert_eq!(rt; end.in_flight(FIRST_SERIAL), true);
+    assert_eq!(rt; end.flight_slot(FIRST_SERIAL).is_some(), true);
+    assert_eq!(rt; end.flight_slot(ANSWER.serial), None);
     assert_eq!(rt; put(&mut end, &REPLY), Some(Verdict::Accepted));
     assert_eq!(rt;
         put(&mut end, &REPLY),
@@ -246,6 +251,7 @@ fn messages_fly_arrive_and_are_settled(rt: HostRuntime) -> Result<(), Fail> {
     let delivered = Outcome::Delivered(FIRST_SERIAL);
     assert_eq!(rt; expire(&mut end, FIRST_SERIAL), Some(delivered));
     assert_eq!(rt; expire(&mut end, FIRST_SERIAL), None);
+    assert_eq!(rt; end.flight_slot(FIRST_SERIAL), None);
     assert_eq!(rt; end.in_flight_len(), 0);
     let ran = Outcome::Ran {
         message: REPLY,

@@ -1,22 +1,18 @@
 use Rattle.std.proofs.Common.{◌≡◌, ◌<◌, [], ◌∷◌, ◌++◌, length, sym, subst, arith}
 use Rattle.std.proofs.lemmas.Grind.{common_steps}
-use Rattle.am_model.specs.Changes.{after}
-use Rattle.am_model.specs.Endpoint.{State}
-use Rattle.am_body.specs.Views.{Fits}
-use Rattle.am_body.proofs.Slots.{fits_within}
 use Rattle.am_endpoint.specs.Kept.{replayed}
 use Rattle.am_endpoint.specs.View.{EndpointView}
 use Rattle.am_endpoint.specs.declared.held.Held.TheVariants.{Here}
 use Rattle.am_endpoint.proofs.Holding.{here_of}
-use Rattle.am_endpoint.proofs.Logged.{entered, here_after, order_next}
+use Rattle.am_endpoint.proofs.Keeping.{flights_stay}
+use Rattle.am_endpoint.proofs.Logged.{entered, fits_next, here_after, order_next}
 use Rattle.am_endpoint.proofs.Endpoint.enter.Goals as goal
 
 pub apply-requires-clause-fits : goal.apply-requires-clause-fits
 apply-requires-clause-fits c =
     let i = c.self.inside in
-    let here = here_of i.settings.pool (replayed i) i.held c.in-Here.fields c.self.invariant.held c.in-Here.is in
-    subst (λ (s : State). Fits (after i.settings.id s c.args.entry).body) (sym here.state)
-    (fits_within (after i.settings.id (replayed i) c.args.entry).body (order_next i c.args.self.now c.args.entry c.self.view_is c.self.invariant c.requires.keeps).within)
+    fits_next i c.in-Here.fields c.args.entry (here_of i.settings.pool (replayed i) i.held c.in-Here.fields c.self.invariant.held c.in-Here.is)
+    (order_next i c.args.self.now c.args.entry c.self.view_is c.self.invariant c.requires.keeps)
 
 pub invariant_of-self : goal.invariant_of-self
 invariant_of-self c =
@@ -25,5 +21,5 @@ invariant_of-self c =
     let items : c.push.new.self.items ≡ i.log.items ++ c.args.entry ∷ [] = grind (arith, common_steps) in
     let room : length i.log.items < i.settings.log = subst (λ (v : EndpointView). length v.log < v.settings.log) (sym c.self.view_is) c.requires.room in
     entered i (Here c.apply.new.self) c.push.new.self c.args.entry c.self.invariant items room
-    (here_after i c.in-Here.fields c.apply.new.self c.args.entry c.requires.event here c.apply.ensures.state c.apply.ensures.pool)
+    (here_after i c.in-Here.fields c.apply.new.self c.args.entry (flights_stay c.args.entry c.requires.stays) here c.apply.ensures.state c.apply.ensures.pool)
     (order_next i c.args.self.now c.args.entry c.self.view_is c.self.invariant c.requires.keeps)

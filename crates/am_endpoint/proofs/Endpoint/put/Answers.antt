@@ -18,5 +18,5 @@ note-requires-clause-change c =
 pub enter-requires-clause-keeps : goal.enter-requires-clause-keeps
 enter-requires-clause-keeps c = order_arrived c.args.self.now.settings.bounces c.args.self.now.settings.pool c.args.self.now.settings.id (state_after c.args.self.now) c.args.entry c.requires.allowed
 
-pub enter-requires-clause-event : goal.enter-requires-clause-event
-enter-requires-clause-event c = arrival_keeps c.args.self.now.settings.id (state_after c.args.self.now) c.args.entry c.requires.allowed
+pub enter-requires-clause-stays : goal.enter-requires-clause-stays
+enter-requires-clause-stays c = arrival_keeps c.args.self.now.settings.id (state_after c.args.self.now) c.args.entry c.requires.allowed

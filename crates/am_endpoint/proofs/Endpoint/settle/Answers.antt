@@ -1,18 +1,41 @@
+use Rattle.std.proofs.Common.{◌≡◌, ◌<◌, [], ◌∷◌, ◌++◌, length, sym, subst, arith}
+use Rattle.std.proofs.lemmas.Grind.{common_steps}
 use Rattle.am_model.proofs.Order.{order_settled}
-use Rattle.am_endpoint.specs.View.{state_after}
-use Rattle.am_endpoint.proofs.Holding.{settled_here}
+use Rattle.am_endpoint.specs.Flights.{settled_in}
+use Rattle.am_endpoint.specs.Kept.{replayed}
+use Rattle.am_endpoint.specs.View.{EndpointView, state_after}
+use Rattle.am_endpoint.specs.declared.held.Held.TheVariants.{Here}
+use Rattle.am_endpoint.proofs.Holding.{here_of}
 use Rattle.am_endpoint.proofs.Keeping.{settling_keeps}
-use Rattle.am_endpoint.proofs.Logged.{order_told}
+use Rattle.am_endpoint.proofs.Logged.{entered, fits_next, here_after, order_next, slot_held}
 use Rattle.am_endpoint.proofs.Endpoint.settle.Goals as goal
 
-pub enter-requires-clause-here : goal.enter-requires-clause-here
-enter-requires-clause-here c =
+pub settle-requires-clause-slot : goal.settle-requires-clause-slot
+settle-requires-clause-slot c =
+    let i = c.self.inside in
+    let x = c.args.entry in
+    let f = c.in-Here.fields in
+    slot_held i c.args.self.now f (settled_in x.event x.outcome) c.args.slot.0 c.self.view_is c.in-Here.is
+    (here_of i.settings.pool (replayed i) i.held f c.self.invariant.held c.in-Here.is) c.requires.slot
+
+pub settle-requires-clause-fits : goal.settle-requires-clause-fits
+settle-requires-clause-fits c =
+    let i = c.self.inside in
     let v = c.args.self.now in
-    settled_here v.settings.pool v.settings.bounces v.settings.id (state_after v) c.args.entry (order_told c.self.inside v c.self.view_is c.self.invariant) c.requires.allowed
+    let x = c.args.entry in
+    let f = c.in-Here.fields in
+    fits_next i f x (here_of i.settings.pool (replayed i) i.held f c.self.invariant.held c.in-Here.is)
+    (order_next i v x c.self.view_is c.self.invariant (order_settled v.settings.bounces v.settings.pool v.settings.id (state_after v) x c.requires.allowed))
 
-pub enter-requires-clause-keeps : goal.enter-requires-clause-keeps
-enter-requires-clause-keeps c =
-    order_settled c.args.self.now.settings.bounces c.args.self.now.settings.pool c.args.self.now.settings.id (state_after c.args.self.now) c.args.entry c.requires.allowed
-
-pub enter-requires-clause-event : goal.enter-requires-clause-event
-enter-requires-clause-event c = settling_keeps c.args.self.now.settings.bounces c.args.self.now.settings.id (state_after c.args.self.now) c.args.entry c.requires.allowed
+pub invariant_of-self : goal.invariant_of-self
+invariant_of-self c =
+    let i = c.self.inside in
+    let v = c.args.self.now in
+    let x = c.args.entry in
+    let f = c.in-Here.fields in
+    let items : c.push.new.self.items ≡ i.log.items ++ x ∷ [] = grind (arith, common_steps) in
+    let room : length i.log.items < i.settings.log = subst (λ (w : EndpointView). length w.log < w.settings.log) (sym c.self.view_is) c.requires.room in
+    entered i (Here c.settle.new.self) c.push.new.self x c.self.invariant items room
+    (here_after i f c.settle.new.self x (settling_keeps v.settings.bounces v.settings.id (state_after v) x c.requires.allowed)
+    (here_of i.settings.pool (replayed i) i.held f c.self.invariant.held c.in-Here.is) c.settle.ensures.state c.settle.ensures.pool)
+    (order_next i v x c.self.view_is c.self.invariant (order_settled v.settings.bounces v.settings.pool v.settings.id (state_after v) x c.requires.allowed))

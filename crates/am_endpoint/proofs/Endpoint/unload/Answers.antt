@@ -1,6 +1,7 @@
 use Rattle.std.proofs.Common.{ap}
+use Rattle.am_office.specs.declared.Event.{Event}
 use Rattle.am_model.proofs.Order.{order_unloaded}
-use Rattle.am_endpoint.specs.Events.{keeps_in_memory}
+use Rattle.am_endpoint.specs.Events.{keeps_flights}
 use Rattle.am_endpoint.specs.View.{state_after}
 use Rattle.am_endpoint.proofs.Holding.{framed_here}
 use Rattle.am_endpoint.proofs.Endpoint.unload.Goals as goal
@@ -12,5 +13,5 @@ pub enter-requires-clause-keeps : goal.enter-requires-clause-keeps
 enter-requires-clause-keeps c =
     order_unloaded c.args.self.now.settings.bounces c.args.self.now.settings.pool c.args.self.now.settings.node c.args.self.now.settings.id (state_after c.args.self.now) c.args.entry c.requires.allowed
 
-pub enter-requires-clause-event : goal.enter-requires-clause-event
-enter-requires-clause-event c = ap keeps_in_memory c.requires.allowed.event
+pub enter-requires-clause-stays : goal.enter-requires-clause-stays
+enter-requires-clause-stays c = ap (λ (event : Event). keeps_flights event c.args.entry.outcome) c.requires.allowed.event

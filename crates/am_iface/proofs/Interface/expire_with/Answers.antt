@@ -3,7 +3,9 @@ use Rattle.am_office.specs.declared.Entry.{Entry}
 use Rattle.am_channel.specs.declared.sending.TimedOut.TheVariants as Times
 use Rattle.am_channel_laws.specs.Calls.{TimeOut, after}
 use Rattle.am_local.specs.declared.work.Work.TheVariants as Works
+use Rattle.am_endpoint.specs.Flights.{settled_in}
 use Rattle.am_iface.proofs.GivingUp as giving
+use Rattle.am_iface.proofs.Settled.{given_up_serial}
 use Rattle.am_iface.proofs.TurningWith as turning
 use Rattle.am_iface.proofs.Interface.expire_with.Goals as goal
 
@@ -27,6 +29,10 @@ settle-requires-clause-allowed c =
     giving.giving_up_allowed c.args.self.now c.args.endpoint.now c.enter_with.new.endpoint c.args.peer c.args.channel c.args.flight c.args.stamp c.give_up-entry.result c.requires.needs c.requires.packet c.requires.bounces c.requires.flight entry
     (record { settings = c.enter_with.ensures.settings; log = c.enter_with.ensures.log })
 
+pub settle-requires-clause-serial : goal.settle-requires-clause-serial
+settle-requires-clause-serial c =
+    ap (λ (x : Entry). settled_in x.event x.outcome) c.give_up-entry.ensures ∙ given_up_serial c.args.flight.answered c.in-Some.bound.message.serial
+
 pub returns-in-Ok : goal.returns-in-Ok
 returns-in-Ok c =
     let e = c.ends-ends.result in
@@ -35,7 +41,7 @@ returns-in-Ok c =
     let entry = giving.giving_up_entry c.args.self.now c.args.endpoint.now c.args.peer c.args.channel e c.args.flight c.in-Some.bound c.in-GaveUp.field-0 c.args.stamp c.node.result c.give_up-entry.result
     (record { needs = c.requires.needs; counted = c.ends-ends.ensures; flight_is = c.requires.flight; busy = bound; timed = timed })
     c.node.ensures c.give_up-entry.ensures in
-    turning.turns_with c.args.self.now c.enter_with.new.self c.args.endpoint.now c.settle.new.self c.args.stamp (Works.Expire c.args.peer c.args.channel) c.give_up-entry.result _ entry
+    turning.turns_with c.args.self.now c.enter_with.new.self c.args.endpoint.now c.settle.new.endpoint c.args.stamp (Works.Expire c.args.peer c.args.channel) c.give_up-entry.result _ entry
     (record { turned = c.in-Ok.ensures.turned; logged = c.in-Ok.ensures.logged; enabled = c.in-Ok.ensures.enabled; full = c.in-Ok.ensures.full; err = tt })
     (record { same = c.settle.ensures.settings ∙ c.enter_with.ensures.settings; there = c.settle.ensures.log ∙ ap (λ (xs : List Entry). xs ++ c.give_up-entry.result ∷ []) c.enter_with.ensures.log; err = tt })
 

@@ -26,7 +26,7 @@ returns-in-Ok c =
     let entry = settling.settling_entry c.args.self.now c.args.endpoint.now c.args.p.now c.ends-ends.result c.args.flight c.in-Done.bound c.in-Done.verdict (settle_by c.args.self.now.settings.bounces c.in-Done.bound.message c.args.flight.bounces c.in-Done.verdict) c.args.stamp c.args.self.now.settings.node c.settling_entry-entry.result
     (record { needs = c.requires.needs; counted = c.ends-ends.ensures; flight_is = c.requires.flight; done = sym c.answer.ensures.answer ∙ c.in-Done.is; result = refl })
     refl c.settling_entry-entry.ensures in
-    turning.turns_with c.args.self.now c.enter_with.new.self c.args.endpoint.now c.settle.new.self c.args.stamp (Works.Receive (Packets.Answer c.args.p.now)) c.settling_entry-entry.result _ entry
+    turning.turns_with c.args.self.now c.enter_with.new.self c.args.endpoint.now c.settle.new.endpoint c.args.stamp (Works.Receive (Packets.Answer c.args.p.now)) c.settling_entry-entry.result _ entry
     (record { turned = c.in-Ok.ensures.turned; logged = c.in-Ok.ensures.logged; enabled = c.in-Ok.ensures.enabled; full = c.in-Ok.ensures.full; err = tt })
     (record { same = c.settle.ensures.settings ∙ c.enter_with.ensures.settings; there = c.settle.ensures.log ∙ ap (λ (xs : List Entry). xs ++ c.settling_entry-entry.result ∷ []) c.enter_with.ensures.log; err = tt })
 

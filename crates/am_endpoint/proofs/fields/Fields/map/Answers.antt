@@ -4,7 +4,7 @@ use Rattle.am_office.specs.declared.Call.TheVariants as Calls
 use Rattle.am_model.specs.Changes.{called, with_mapped}
 use Rattle.am_endpoint.specs.Seen.{state_in}
 use Rattle.am_endpoint.proofs.Open.{open_map}
-use Rattle.am_endpoint.proofs.Told.{done_outcome, done_pool, done_state}
+use Rattle.am_endpoint.proofs.Told.{done_flights, done_outcome, done_pool, done_state}
 use Rattle.am_endpoint.proofs.fields.Fields.map.Goals as goal
 
 pub returns-clause-outcome : goal.returns-clause-outcome
@@ -18,3 +18,6 @@ returns-clause-state c =
 
 pub returns-clause-pool : goal.returns-clause-pool
 returns-clause-pool c = done_pool c.args.self.now.body c.map.new.self (with_mapped c.args.self.now.body.body c.args.index (Some (record { name = c.args.name; tag = c.args.tag; credits = c.args.credits }))) c.map.result c.map.ensures.ok c.map.ensures.err
+
+pub returns-clause-flights : goal.returns-clause-flights
+returns-clause-flights c = done_flights c.args.self.now.body c.map.new.self (with_mapped c.args.self.now.body.body c.args.index (Some (record { name = c.args.name; tag = c.args.tag; credits = c.args.credits }))) c.map.result c.map.ensures.ok c.map.ensures.err

@@ -7,5 +7,5 @@ use Rattle.am_endpoint.proofs.fields.Fields.requeue_flight.Goals as goal
 
 pub requeue_flight-requires : goal.requeue_flight-requires
 requeue_flight-requires c =
-    subst (λ (f : Option Flying). Fits (requeued_flight f c.args.bounces c.land.new.self.body)) (sym c.flight-flight.ensures)
-    (subst (λ (v : View). Fits (requeued_flight (flying_of c.args.serial c.args.self.now.body.body.in_flight) c.args.bounces v.body)) (sym c.land.ensures) c.requires)
+    subst (λ (f : Option Flying). Fits (requeued_flight f c.args.bounces c.land-flight.new.self.body)) (sym c.land-flight.ensures.flying)
+    (subst (λ (v : View). Fits (requeued_flight (flying_of c.args.serial c.args.self.now.body.body.in_flight) c.args.bounces v.body)) (sym c.land-flight.ensures.landed) c.requires.fits)

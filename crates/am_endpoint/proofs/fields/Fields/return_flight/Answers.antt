@@ -7,5 +7,5 @@ use Rattle.am_endpoint.proofs.fields.Fields.return_flight.Goals as goal
 
 pub return_flight-requires : goal.return_flight-requires
 return_flight-requires c =
-    subst (λ (f : Option Flying). Fits (returned_flight c.args.serial f c.args.why c.land.new.self.body)) (sym c.flight-flight.ensures)
-    (subst (λ (v : View). Fits (returned_flight c.args.serial (flying_of c.args.serial c.args.self.now.body.body.in_flight) c.args.why v.body)) (sym c.land.ensures) c.requires)
+    subst (λ (f : Option Flying). Fits (returned_flight c.args.serial f c.args.why c.land-flight.new.self.body)) (sym c.land-flight.ensures.flying)
+    (subst (λ (v : View). Fits (returned_flight c.args.serial (flying_of c.args.serial c.args.self.now.body.body.in_flight) c.args.why v.body)) (sym c.land-flight.ensures.landed) c.requires.fits)

@@ -4,7 +4,7 @@ use Rattle.am_office.specs.declared.Call.TheVariants as Calls
 use Rattle.am_model.specs.Changes.{called}
 use Rattle.am_endpoint.specs.Seen.{state_in}
 use Rattle.am_endpoint.proofs.Open.{open_handler}
-use Rattle.am_endpoint.proofs.Told.{done_outcome, done_pool, done_state}
+use Rattle.am_endpoint.proofs.Told.{done_flights, done_outcome, done_pool, done_state}
 use Rattle.am_endpoint.proofs.fields.Fields.set_handler.Goals as goal
 
 pub returns-clause-outcome : goal.returns-clause-outcome
@@ -18,3 +18,6 @@ returns-clause-state c =
 
 pub returns-clause-pool : goal.returns-clause-pool
 returns-clause-pool c = done_pool c.args.self.now.body c.set_handler.new.self (record c.args.self.now.body.body { handlers = slice_set c.args.self.now.body.body.handlers c.args.index (Some c.args.kind) }) c.set_handler.result c.set_handler.ensures.ok c.set_handler.ensures.err
+
+pub returns-clause-flights : goal.returns-clause-flights
+returns-clause-flights c = done_flights c.args.self.now.body c.set_handler.new.self (record c.args.self.now.body.body { handlers = slice_set c.args.self.now.body.body.handlers c.args.index (Some c.args.kind) }) c.set_handler.result c.set_handler.ensures.ok c.set_handler.ensures.err
