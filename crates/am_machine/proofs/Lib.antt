@@ -18,3 +18,4 @@ pub mod Holding
 pub mod Presets
 pub mod PageCalls
 pub mod Paged
+pub mod Short

@@ -8,9 +8,11 @@ ghost use Rattle.am_model.specs.Channels.{emitted};
 ghost use Rattle.am_model.specs.History.{state_of};
 ghost use Rattle.am_model.specs.Layout.{IsLawful, declared, home};
 ghost use Rattle.am_model.specs.PostOffice.{PostOffice};
-ghost use Rattle.am_office.specs.Entries.{touches};
+ghost use Rattle.am_names.specs.declared.EndpointId.{EndpointId};
+ghost use Rattle.am_names.specs.declared.NodeId.{NodeId};
+ghost use Rattle.am_office.specs.Entries.{touches, touches_node};
 ghost use Rattle.std.specs.List.{filter};
-ghost use Rattle.std.specs.Prelude.{◌≡◌, ◌<◌, IfSome, Some, false, is_some, length, slice_get};
+ghost use Rattle.std.specs.Prelude.{◌≡◌, ◌<◌, ◌≤◌, All, IfSome, Some, false, is_some, length, slice_get, true};
 
 use crate::Cluster;
 use crate::ends::place_of;
@@ -54,6 +56,15 @@ impl Cluster {
         let _journal = &self.journal;
     }
 
+    /// No log of an endpoint or of an interface has more entries than a log may have. It looks once at each endpoint.
+    pub fn logs_are_short(&self)
+        requires packet { self.now.layout.direct ≡ false }
+        ensures ends { (e : EndpointId) → declared self.now.layout e ≡ true → length (filter (touches e) self.now.journal) ≤ self.now.layout.log }
+        ensures nodes { (node : NodeId) → node.0 < self.now.layout.nodes → length (filter (touches_node node) self.now.journal) ≤ self.now.layout.log }
+    {
+        short_logs(&self.ends);
+    }
+
     /// The interface of a node of the packet network: its log is its part of the journal.
     pub fn iface(&self, node: NodeId) -> &Interface
         requires packet { self.now.layout.direct ≡ false }
@@ -81,5 +92,14 @@ impl Cluster {
         ensures { result ≡ receipts from to self.now.journal }
     {
         self.journal.received(from, to) as u32
+    }
+}
+
+/// No log of these endpoints has more entries than it may.
+fn short_logs(ends: &[Endpoint])
+    ensures { All (λ end. length end.log ≤ end.settings.log) ends.now }
+{
+    for end in ends {
+        end.log();
     }
 }

@@ -1,0 +1,50 @@
+-- No log is longer than it may be.
+use Rattle.std.specs.Prelude.{slice_get, slice_index_or}
+use Rattle.std.specs.List.{filter, position}
+use Rattle.std.proofs.Common.{◌≡◌, ℕ, ◌<◌, ◌≤◌, true, false, List, map, length, Option, Some, None, refl, sym, ap, ◌∙◌, subst, arith}
+use Rattle.am_names.specs.declared.EndpointId.{EndpointId}
+use Rattle.am_names.specs.declared.NodeId.{NodeId}
+use Rattle.am_office.specs.declared.Entry.{Entry}
+use Rattle.am_office.specs.Entries.{touches, touches_node}
+use Rattle.am_model.specs.Layout.{Layout, declared}
+use Rattle.am_endpoint.specs.View.{EndpointView}
+use Rattle.am_iface.specs.View.{InterfaceView}
+use Rattle.am_machine.specs.Ends.{is_of, kept, setting_in}
+use Rattle.am_machine.specs.Interfaces.{AreInterfaces}
+use Rattle.am_machine.specs.Kept.{IsTied}
+use Rattle.am_journal.proofs.Lists.{index_got}
+use Rattle.am_machine.proofs.Applied.{IsHere, own_here}
+use Rattle.am_machine.proofs.Fitting.{got_none}
+use Rattle.am_machine.proofs.Joint.{interface_there}
+use Rattle.am_machine.proofs.Looks.{end_unknown}
+use Rattle.am_machine.proofs.Places.{found}
+
+-- the log of each of these endpoints is as short as its settings have it
+abbrev pub AreShort : List EndpointView → Type 0
+AreShort vs = (k : ℕ) (d : EndpointView) → k < length vs → length (slice_index_or vs k d).log ≤ (slice_index_or vs k d).settings.log
+
+pub end_short : (layout : Layout) (vs : List EndpointView) (journal : List Entry) (e : EndpointId) → layout.ends ≡ map setting_in (map kept vs) → IsTied layout (map kept vs) journal → AreShort vs → declared layout e ≡ true → length (filter (touches e) journal) ≤ layout.log
+end_short layout vs journal e ends tied short known = by_place (position (is_of e) vs) refl
+  where
+    by_place : (o : Option ℕ) → position (is_of e) vs ≡ o → length (filter (touches e) journal) ≤ layout.log
+    by_place None at = absurd (let both : false ≡ true = end_unknown layout vs e ends at ∙ known in cc)
+    by_place (Some k) at =
+        let f = found vs e k at in
+        let one = f.view in
+        let here : IsHere vs e k one = record { at = f.at; id = f.id; within = f.within } in
+        let own = own_here layout vs journal e k one tied here in
+        let read : slice_index_or vs k one ≡ one = (let both : Some (slice_index_or vs k one) ≡ Some one = sym (index_got vs k one f.within) ∙ f.at in cc) in
+        let few : length one.log ≤ one.settings.log = subst (λ (w : EndpointView). length w.log ≤ w.settings.log) read (short k one f.within) in
+        omega (arith, few, own.limit, ap (λ (xs : List Entry). length xs) (own.log ∙ ap (λ (d : EndpointId). filter (touches d) journal) f.id))
+
+-- so is that of the interface of each node
+pub node_short : (layout : Layout) (journal : List Entry) (is : List InterfaceView) (node : NodeId) → AreInterfaces layout journal is → layout.direct ≡ false → node.0 < layout.nodes → length (filter (touches_node node) journal) ≤ layout.log
+node_short layout journal is node are packet lt =
+    let there = interface_there layout journal is node are packet lt in
+    by_interface (slice_get is node.0) refl there
+  where
+    by_interface : (o : Option InterfaceView) → slice_get is node.0 ≡ o → node.0 < length is → length (filter (touches_node node) journal) ≤ layout.log
+    by_interface None at there = absurd (omega (arith, got_none is node.0 at, there))
+    by_interface (Some i) at there =
+        let one = are.each node.0 i at in
+        omega (arith, one.bounded, ap (λ (xs : List Entry). length xs) one.part)
