@@ -27,7 +27,8 @@ mod threads;
 use am_machine::Cluster;
 use am_office::{Journal, Part};
 use am_run_laws::{
-    cut_off_runs_are_stopped, cut_offs_are_short, none_is_refused, runs_with_room_are_whole,
+    cut_off_runs_are_stopped, cut_offs_are_short, none_is_refused, runs_have_short_logs,
+    runs_with_room_are_whole,
 };
 use am_scenario_types::Scenario;
 use emissions::links_after;
@@ -84,9 +85,21 @@ fn tell_of(scenario: &Scenario, cluster: &Cluster, threads: &[ThreadScript], mad
     tell_made(threads, made);
 }
 
-/// Does what is left to do when no thread runs any more, until all is at rest. The cluster is that of the scenario, its
-/// journal begins the scripts and receives what the links released in order, and none of its logs has more entries than it
-/// may. `made` has the number of calls that each thread made, in the order of the threads, before and after. Ok: the journal is what the drain makes of the one before,
+/// No log of the scenario's cluster has more entries than it may.
+fn tell_logs(cluster: &Cluster, scenario: &Scenario)
+    requires lawful { IsLawful scenario.now }
+    requires packet { scenario.now.network ≡ Packet }
+    requires layout { cluster.now.layout ≡ layout_of scenario.now }
+    ensures { HasShortLogs scenario.now cluster.now.journal }
+{
+    runs_have_short_logs();
+    cluster.laws();
+    cluster.logs_are_short();
+}
+
+/// Does what is left to do when no thread runs any more, until all is at rest. The cluster is that of the scenario, and its
+/// journal begins the scripts and receives what the links released in order. `made` has the number of calls that each
+/// thread made, in the order of the threads, before and after. Ok: the journal is what the drain makes of the one before,
 /// and no entry met a full log. LogFull: it is what the drain makes before the first entry that meets a full log, which is
 /// the part's. NoMemory: it is a beginning of what the drain makes.
 pub fn drain(cluster: &mut Cluster, scenario: &Scenario, made: &mut [u32]) -> Result<(), DrainFault>
@@ -96,7 +109,6 @@ pub fn drain(cluster: &mut Cluster, scenario: &Scenario, made: &mut [u32]) -> Re
     requires scripts { BeginsScripts scenario.now cluster.old.journal }
     requires made { made.old ≡ map (λ (t : ThreadLine). length (calls_of t.id cluster.old.journal)) scenario.now.threads }
     requires in_order { ReceivesInOrder scenario.now cluster.old.journal }
-    requires logs { HasShortLogs scenario.now cluster.old.journal }
     ensures layout { cluster.new.layout ≡ cluster.old.layout }
     ensures history { IsHistory cluster.new.layout cluster.new.journal }
     ensures drained { OnOk result (IsDrainedWithRoom scenario.now cluster.old.journal cluster.new.journal) }
@@ -104,6 +116,7 @@ pub fn drain(cluster: &mut Cluster, scenario: &Scenario, made: &mut [u32]) -> Re
     ensures made { made.new ≡ map (λ (t : ThreadLine). length (calls_of t.id cluster.new.journal)) scenario.now.threads }
 {
     none_is_refused();
+    tell_logs(cluster, scenario);
     cluster.laws();
     let alloc = *scenario.script.allocator();
     let Ok(journal) = cluster.journal(alloc) else {
