@@ -1,6 +1,6 @@
 -- What a link has released and what it holds back, by the numbers of its packets.
-use Rattle.std.specs.Prelude.{◌≡◌, ℕ, ◌+◌, ◌*◌, ◌≤◌, ◌<◌, ◌==◌, Option, Some, None, List, [], ◌∷◌, ◌++◌, map, length, slice_get, slice_set, slice_index_or, vec_len, vec_capacity, if◌then◌else◌}
-use Rattle.std.specs.List.{flat_map}
+use Rattle.std.specs.Prelude.{◌≡◌, ℕ, Bool, nat_lt, ◌+◌, ◌*◌, ◌≤◌, ◌<◌, ◌==◌, Option, Some, None, List, [], ◌∷◌, ◌++◌, map, length, slice_get, slice_set, slice_index_or, vec_len, vec_capacity, if◌then◌else◌}
+use Rattle.std.specs.List.{filter, flat_map}
 use Rattle.am_names.specs.declared.NodeId.{NodeId}
 use Rattle.am_names.specs.declared.Packet.{Packet}
 use Rattle.am_office.specs.declared.Entry.{Entry}
@@ -12,7 +12,7 @@ use Rattle.am_plan.specs.Shape.{fault_at, number_of, shape}
 use Rattle.am_cluster.specs.declared.links.Delayed.{Delayed}
 use Rattle.am_cluster.specs.declared.links.Link.{Link}
 
--- the numbers that a link released, and the packets that it has late
+-- the numbers that a link released, and the packets that it will release later
 pub record Released : Type 0 where
   pub numbers : List ℕ
   pub delayed : List Delayed
@@ -53,22 +53,26 @@ held_back (Some Lose) place number = []
 held_back (Some Repeat) place number = []
 held_back None place number = []
 
+-- whether the emission at a place was too early to release it
+abbrev pub is_later : ℕ → Delayed → Bool
+is_later place d = nat_lt place d.due
+
 -- one emission more, at this place
 abbrev pub fed : ℕ → Option LinkFault → ℕ → Released → Released
 fed place fault number r =
     record {
       numbers = (r.numbers ++ copies fault number) ++ flat_map (falls_due place) r.delayed;
-      delayed = r.delayed ++ held_back fault place number;
+      delayed = filter (is_later place) (r.delayed ++ held_back fault place number);
     }
 
--- what is held back of the packets, where the first of them has this place
+-- what is held back at first of the packets, where the first of them has this place
 abbrev pub all_held : (ℕ → Option LinkFault) → ℕ → List Packet → List Delayed
 all_held fault place [] = []
 all_held fault place (p ∷ ps) = held_back (fault place) place (number_of p) ++ all_held fault (place + 1) ps
 
--- what the emissions on a link release and hold back
+-- what the emissions on a link released, and what they hold back that was not released
 abbrev pub released_of : List PlanLine → NodeId → NodeId → List Packet → Released
-released_of plan from to sent = record { numbers = map number_of (shape plan from to sent); delayed = all_held (fault_at plan from to) 1 sent }
+released_of plan from to sent = record { numbers = map number_of (shape plan from to sent); delayed = filter (is_later (length sent)) (all_held (fault_at plan from to) 1 sent) }
 
 abbrev pub node_at : ℕ → NodeId
 node_at n = record { 0 = n }

@@ -2,7 +2,7 @@
 ghost use Rattle.am_cluster.specs.Links.{HasAllRoom, HasRoom, HasRoomAt, copies, fed, fed_at, held_back, nothing, released_in};
 ghost use Rattle.am_cluster.specs.Links as links;
 ghost use Rattle.am_plan.specs.Shape.{fault_at, is_line_of};
-ghost use Rattle.std.specs.List.{flat_map};
+ghost use Rattle.std.specs.List.{filter, flat_map};
 ghost use Rattle.std.specs.Prelude.{◌≡◌, ℕ, ◌+◌, ◌*◌, ◌≤◌, ◌<◌, ◌^◌, ◌++◌, All, IfOk, OnOk, find, length, map, slice_get, slice_index_or, vec_capacity, vec_len};
 
 use am_names::NodeId;
@@ -23,7 +23,8 @@ pub(crate) struct Delayed {
 pub(crate) struct Link {
     /// The numbers of the packets that it released, in order.
     released: Vec<u32>,
-    /// The packets that the plan has late, in order.
+    /// The packets that the plan has late and that are not yet released, in order: at most 16, since a packet is late by
+    /// at most 16 places.
     delayed: Vec<Delayed>,
 }
 
@@ -111,6 +112,13 @@ fn hold(delayed: &mut Vec<Delayed>, fault: Option<LinkFault>, place: u64, number
     }
 }
 
+/// Keeps the packets that this emission was too early for.
+fn keep_later(delayed: &mut Vec<Delayed>, place: u64)
+    ensures { delayed.new.items ≡ filter (links.is_later place) delayed.old.items }
+{
+    delayed.retain(|one| place < one.due);
+}
+
 /// One emission more on a link, at this place.
 fn feed(link: &mut Link, place: u64, fault: Option<LinkFault>, number: u32)
     requires room { HasRoom link.old }
@@ -120,6 +128,7 @@ fn feed(link: &mut Link, place: u64, fault: Option<LinkFault>, number: u32)
     release(&mut link.released, fault, number);
     release_delayed(&mut link.released, &link.delayed, place);
     hold(&mut link.delayed, fault, place, number);
+    keep_later(&mut link.delayed, place);
 }
 
 /// The place of a link among those of 16 nodes, sixteen to a node.
