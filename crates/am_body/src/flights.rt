@@ -56,7 +56,6 @@ impl Body {
         ensures flying { Some result ≡ flying_of serial self.old.body.in_flight }
         ensures landed { self.new ≡ record self.old { body = without_flight serial self.old.body; flights = without slot.0 self.old.flights } }
     {
-        let _ = serial;
         let flying = as_flying(*self.block.get(slot));
         self.block.move_slot(slot, List::Free);
         flying

@@ -36,7 +36,6 @@ impl Fields {
         ensures pool { self.new.body.pool ≡ self.old.body.pool }
         ensures flights { self.new.body.flights ≡ self.old.body.flights }
     {
-        let _ = e;
         match what {
             Received::Accepted { message, .. } => self.put(message),
             Received::Refused {

@@ -45,7 +45,6 @@ impl Fields {
         ensures pool { self.new.body.pool ≡ self.old.body.pool }
         ensures flights { self.new.body.flights ≡ without slot.0 self.old.body.flights }
     {
-        let _ = e;
         match what {
             Received::Delivered(serial) => {
                 self.body.land(serial, slot);
