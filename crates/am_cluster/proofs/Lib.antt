@@ -9,3 +9,4 @@ pub mod Looking
 pub mod Rooms
 pub mod Starting
 pub mod Stepping
+pub mod Indexing

@@ -54,5 +54,6 @@ pub record AreParts (s : ScenarioLists) (cluster : ClusterView) : Type 0 where
 
 pub record IsScripted (m : Inside) : Type 0 where
   pub parts : AreParts m.scenario.now m.cluster
+  pub plan : m.plan ≡ m.scenario.now.plan
   pub fed : AreFed m.scenario.now.plan m.cluster.journal (map released_in m.links.items)
   pub threads : map scripted_in m.threads.items ≡ map (scripted_of m.scenario.now m.cluster.journal) m.scenario.now.threads

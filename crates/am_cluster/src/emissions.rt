@@ -11,12 +11,13 @@ ghost use Rattle.am_scenario_types.specs.Lawful.{IsLawful};
 ghost use Rattle.am_scripts.specs.Links.{due};
 ghost use Rattle.std.specs.Prelude.{◌≡◌, ◌≤◌, ◌<◌, IfOk, IfSome, OnOk, Some, length, map};
 
-use crate::links::{Link, due_at, fault_of, feed_at, link_place, make_all_room, no_links};
+use crate::links::{Link, due_at, feed_at, link_place, make_all_room, no_links};
+use crate::plan_index::PlanIndex;
 use am_iface::emitted_of;
 use am_machine::Cluster;
 use am_names::{NodeId, Packet};
 use am_office::{Entry, NoMemory};
-use am_scenario_types::{PlanLine, Scenario};
+use am_scenario_types::Scenario;
 use std::alloc::Global;
 
 /// The number of the first released packet of a link that was not received.
@@ -70,7 +71,7 @@ fn number_of(packet: &Packet) -> u32
 }
 
 /// One packet more, which goes on its link. Its number is its place among those that were emitted there.
-fn feed_packet(links: &mut Vec<Link>, plan: &[PlanLine], packet: Packet)
+fn feed_packet(links: &mut Vec<Link>, plan: &PlanIndex, packet: Packet)
     requires from { (parts.from_of packet).0 < 16 }
     requires to { (sides.receiver_of packet).0 < 16 }
     requires len { length links.old.items ≡ 256 }
@@ -80,13 +81,18 @@ fn feed_packet(links: &mut Vec<Link>, plan: &[PlanLine], packet: Packet)
     let from = from_of(&packet);
     let to = receiver_of(&packet);
     let number = number_of(&packet);
-    let place = u64::from(number);
-    let fault = fault_of(plan, from, to, place);
-    feed_at(links, link_place(from, to), place, fault, number);
+    let fault = plan.fault(from, to, number);
+    feed_at(
+        links,
+        link_place(from, to),
+        u64::from(number),
+        fault,
+        number,
+    );
 }
 
 /// The packet that an entry emits, if it emits one, goes on its link.
-pub(crate) fn feed_entry(links: &mut Vec<Link>, plan: &[PlanLine], entry: &Entry)
+pub(crate) fn feed_entry(links: &mut Vec<Link>, plan: &PlanIndex, entry: &Entry)
     requires from { IfSome (emitted_of entry.now) (λ packet. (parts.from_of packet).0 < 16) }
     requires to { IfSome (emitted_of entry.now) (λ packet. (sides.receiver_of packet).0 < 16) }
     requires len { length links.old.items ≡ 256 }
@@ -100,7 +106,7 @@ pub(crate) fn feed_entry(links: &mut Vec<Link>, plan: &[PlanLine], entry: &Entry
 }
 
 /// One entry more, with room made for what it emits.
-fn add_entry(links: &mut Vec<Link>, plan: &[PlanLine], entry: &Entry) -> Result<(), NoMemory>
+fn add_entry(links: &mut Vec<Link>, plan: &PlanIndex, entry: &Entry) -> Result<(), NoMemory>
     requires from { IfSome (emitted_of entry.now) (λ packet. (parts.from_of packet).0 < 16) }
     requires to { IfSome (emitted_of entry.now) (λ packet. (sides.receiver_of packet).0 < 16) }
     requires len { length links.old.items ≡ 256 }
@@ -116,15 +122,17 @@ fn add_entry(links: &mut Vec<Link>, plan: &[PlanLine], entry: &Entry) -> Result<
 pub(crate) fn links_after(
     alloc: Global,
     scenario: &Scenario,
+    plan: &PlanIndex,
     entries: &[Entry],
 ) -> Result<Vec<Link>, NoMemory>
     requires lawful { IsLawful scenario.now }
+    requires plan { plan.now ≡ scenario.now.plan }
     requires history { IsHistory (layout_of scenario.now) entries.now }
     ensures { IfOk result (λ links. AreFed scenario.now.plan entries.now (map released_in links.items)) }
 {
     let mut links = no_links(alloc)?;
     for entry in entries {
-        add_entry(&mut links, &scenario.plan, entry)?;
+        add_entry(&mut links, plan, entry)?;
     }
     Ok(links)
 }

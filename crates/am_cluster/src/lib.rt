@@ -20,6 +20,7 @@ ghost use Rattle.std.specs.Prelude.{◌≡◌, [], IfErr, IfOk, OnOk, length, ma
 mod emissions;
 mod links;
 mod looks;
+mod plan_index;
 mod reads;
 mod scripted;
 mod threads;
@@ -32,7 +33,7 @@ use am_run_laws::{
 };
 use am_scenario_types::Scenario;
 use emissions::links_after;
-use scripted::{Beside, ScriptedCluster, drain_in_place};
+use scripted::{Beside, ScriptedCluster, drain_in_place, plan_of};
 use std::alloc::Global;
 use std::thread::Threads;
 use threads::{ThreadScript, scripts_after, tell_made};
@@ -122,7 +123,10 @@ pub fn drain(cluster: &mut Cluster, scenario: &Scenario, made: &mut [u32]) -> Re
     let Ok(journal) = cluster.journal(alloc) else {
         return Err(DrainFault::NoMemory);
     };
-    let Ok(links) = links_after(alloc, scenario, &journal.entries) else {
+    let Ok(plan) = plan_of(alloc, scenario) else {
+        return Err(DrainFault::NoMemory);
+    };
+    let Ok(links) = links_after(alloc, scenario, &plan, &journal.entries) else {
         return Err(DrainFault::NoMemory);
     };
     let Ok(threads) = scripts_after(alloc, scenario, &journal.entries) else {
@@ -130,6 +134,7 @@ pub fn drain(cluster: &mut Cluster, scenario: &Scenario, made: &mut [u32]) -> Re
     };
     let beside = Beside {
         scenario,
+        plan,
         links,
         threads,
     };

@@ -1,13 +1,12 @@
 // What each link has released, and what it holds back: so the packet that is due is found without a look at the others.
 ghost use Rattle.am_cluster.specs.Links.{HasAllRoom, HasRoom, HasRoomAt, copies, fed, fed_at, held_back, nothing, released_in};
 ghost use Rattle.am_cluster.specs.Links as links;
-ghost use Rattle.am_plan.specs.Shape.{fault_at, is_line_of};
 ghost use Rattle.std.specs.List.{filter, flat_map};
-ghost use Rattle.std.specs.Prelude.{◌≡◌, ℕ, ◌+◌, ◌*◌, ◌≤◌, ◌<◌, ◌^◌, ◌++◌, All, IfOk, OnOk, find, length, map, slice_get, slice_index_or, vec_capacity, vec_len};
+ghost use Rattle.std.specs.Prelude.{◌≡◌, ℕ, ◌+◌, ◌*◌, ◌≤◌, ◌<◌, ◌^◌, ◌++◌, All, IfOk, OnOk, length, map, slice_get, slice_index_or, vec_capacity, vec_len};
 
 use am_names::NodeId;
 use am_office::NoMemory;
-use am_scenario_types::{LinkFault, PlanLine};
+use am_scenario_types::LinkFault;
 use std::alloc::Global;
 
 /// A packet that is released later.
@@ -26,25 +25,6 @@ pub(crate) struct Link {
     /// The packets that the plan has late and that are not yet released, in order: at most 16, since a packet is late by
     /// at most 16 places.
     delayed: Vec<Delayed>,
-}
-
-/// The plan's line for a packet, by its place among those that were emitted on the link.
-fn line_of(plan: &[PlanLine], from: NodeId, to: NodeId, place: u64) -> Option<PlanLine>
-    ensures { result ≡ find (is_line_of from to place) plan.now }
-{
-    plan.iter().copied().find(|line| {
-        from.0 == line.from.0 && to.0 == line.to.0 && place == u64::from(line.number)
-    })
-}
-
-/// What the plan says of a packet.
-pub(crate) fn fault_of(plan: &[PlanLine], from: NodeId, to: NodeId, place: u64) -> Option<LinkFault>
-    ensures { result ≡ fault_at plan.now from to place }
-{
-    match line_of(plan, from, to, place) {
-        Some(line) => Some(line.fault),
-        None => None,
-    }
 }
 
 /// Makes room on a link for one emission more.

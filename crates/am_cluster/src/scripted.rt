@@ -13,6 +13,7 @@ ghost use Rattle.std.specs.Prelude.{◌≡◌, [], IfErr, IfOk, OnOk, map};
 use crate::emissions::{due_on, feed_entry};
 use crate::links::{Link, make_all_room, no_links};
 use crate::looks::{has_bound, head_at, head_by, home, is_frame_held, mail_at, received_requests};
+use crate::plan_index::PlanIndex;
 use crate::threads::{ThreadScript, all_scripts, count_event, left_to};
 use am_drain_loop::{DrainFault, EndHead, EndMail, LeftCall, Machine};
 use am_machine::{ApplyFault, Cluster};
@@ -28,6 +29,7 @@ use std::marker::Model;
 #[derive(Drop)]
 pub(crate) struct ScriptedCluster<'a> {
     scenario: &'a Scenario,
+    plan: PlanIndex<'a>,
     cluster: Cluster,
     /// What each link released.
     links: Vec<Link>,
@@ -58,11 +60,13 @@ impl<'a> ScriptedCluster<'a> {
         ensures scenario { IfOk result (λ one. one.scenario ≡ scenario.now) }
         ensures journal { IfOk result (λ one. one.journal ≡ []) }
     {
+        let plan = plan_of(alloc, scenario)?;
         let cluster = Cluster::new(alloc, scenario)?;
         let links = no_links(alloc)?;
         let threads = all_scripts(alloc, scenario)?;
         Ok(ScriptedCluster {
             scenario,
+            plan,
             cluster,
             links,
             threads,
@@ -76,6 +80,14 @@ impl<'a> ScriptedCluster<'a> {
     {
         self.cluster.journal(alloc)
     }
+}
+
+/// The plan of a scenario.
+pub(crate) fn plan_of<'a>(alloc: Global, scenario: &'a Scenario) -> Result<PlanIndex<'a>, NoMemory>
+    requires { IsLawful scenario.now }
+    ensures { IfOk result (λ plan. plan ≡ scenario.now.plan) }
+{
+    PlanIndex::new(alloc, &scenario.plan)
 }
 
 /// Why a drain could not make an entry, by why the cluster could not.
@@ -93,6 +105,7 @@ fn as_fault(fault: ApplyFault) -> DrainFault
 #[derive(Drop)]
 pub(crate) struct Beside<'a> {
     pub(crate) scenario: &'a Scenario,
+    pub(crate) plan: PlanIndex<'a>,
     pub(crate) links: Vec<Link>,
     pub(crate) threads: Vec<ThreadScript>,
 }
@@ -106,6 +119,7 @@ pub(crate) struct Drained {
 
 /// The drain of a cluster that has made entries.
 pub(crate) fn drain_owned<'a>(cluster: Cluster, beside: Beside<'a>) -> (Cluster, Drained)
+    requires plan { beside.plan ≡ beside.scenario.now.plan }
     requires parts { AreParts beside.scenario.now cluster }
     requires fed { AreFed beside.scenario.now.plan cluster.journal (map released_in beside.links.items) }
     requires threads { map scripted_in beside.threads.items ≡ map (scripted_of beside.scenario.now cluster.journal) beside.scenario.now.threads }
@@ -116,11 +130,13 @@ pub(crate) fn drain_owned<'a>(cluster: Cluster, beside: Beside<'a>) -> (Cluster,
 {
     let Beside {
         scenario,
+        plan,
         links,
         threads,
     } = beside;
     let mut machine = ScriptedCluster {
         scenario,
+        plan,
         cluster,
         links,
         threads,
@@ -128,6 +144,7 @@ pub(crate) fn drain_owned<'a>(cluster: Cluster, beside: Beside<'a>) -> (Cluster,
     let result = am_drain_loop::drain(&mut machine);
     let ScriptedCluster {
         scenario: _,
+        plan: _,
         cluster,
         links: _,
         threads,
@@ -137,6 +154,7 @@ pub(crate) fn drain_owned<'a>(cluster: Cluster, beside: Beside<'a>) -> (Cluster,
 
 /// The same, of a cluster that stays where it is.
 pub(crate) fn drain_in_place<'a>(cluster: &mut Cluster, beside: Beside<'a>) -> Drained
+    requires plan { beside.plan ≡ beside.scenario.now.plan }
     requires parts { AreParts beside.scenario.now cluster.old }
     requires fed { AreFed beside.scenario.now.plan cluster.old.journal (map released_in beside.links.items) }
     requires threads { map scripted_in beside.threads.items ≡ map (scripted_of beside.scenario.now cluster.old.journal) beside.scenario.now.threads }
@@ -226,7 +244,6 @@ impl<'a> Machine for ScriptedCluster<'a> {
     }
 
     fn apply(&mut self, event: Event) -> Result<(), DrainFault> {
-        let scenario = self.scenario;
         self.cluster.laws();
         if make_all_room(&mut self.links).is_err() {
             return Err(DrainFault::NoMemory);
@@ -234,7 +251,7 @@ impl<'a> Machine for ScriptedCluster<'a> {
         match self.cluster.apply(&event) {
             Ok(entry) => {
                 self.cluster.laws();
-                feed_entry(&mut self.links, &scenario.plan, &entry);
+                feed_entry(&mut self.links, &self.plan, &entry);
                 count_event(&mut self.threads, &event);
                 Ok(())
             }

@@ -6,6 +6,12 @@ use Rattle.am_cluster.proofs.drain.Goals as goal
 pub returns-in_default-clause-stopped : goal.returns-in_default-clause-stopped
 returns-in_default-clause-stopped c = begun c.args.scenario.now c.args.cluster.now.journal
 
+pub returns-in_default-links_after-clause-stopped : goal.returns-in_default-links_after-clause-stopped
+returns-in_default-links_after-clause-stopped c = begun c.args.scenario.now c.args.cluster.now.journal
+
+pub returns-in_default-scripts_after-clause-stopped : goal.returns-in_default-scripts_after-clause-stopped
+returns-in_default-scripts_after-clause-stopped c = begun c.args.scenario.now c.args.cluster.now.journal
+
 pub scripts_after-requires-clause-short : goal.scripts_after-requires-clause-short
 scripts_after-requires-clause-short c =
     let short = short_of c.args.scenario.now c.args.cluster.now (record { lawful = c.requires.lawful; packet = c.requires.packet; layout = c.requires.layout; fits = c.tell_logs.ensures }) c.laws.ensures.walked in

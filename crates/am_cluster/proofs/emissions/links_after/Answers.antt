@@ -1,5 +1,3 @@
-use Rattle.std.proofs.Common.{◌∙◌, ap}
-use Rattle.am_scenario_types.specs.Lists.{ScenarioLists}
 use Rattle.am_follow.specs.Layout.{layout_of}
 use Rattle.am_follow.proofs.Lawful.{lawful_layout}
 use Rattle.am_cluster.proofs.Starting.{fed_nothing}
@@ -20,5 +18,5 @@ add_entry-requires-clause-to c =
 pub loop-entry-preserved : goal.loop-entry-preserved
 loop-entry-preserved c =
     fed_step (layout_of c.args.scenario.now) c.args.scenario.now.plan _ c.args.entries.now c.loop-entry.entry-index _ _ _ (lawful_layout c.args.scenario.now c.requires.lawful) c.requires.history c.loop-entry-test.true c.loop-entry.invariant
-    (c.deref.ensures.value ∙ ap (λ (s : ScenarioLists). s.plan) c.scenario.view_is)
+    c.requires.plan
     c.in_ok-add_entry.ensures.fed

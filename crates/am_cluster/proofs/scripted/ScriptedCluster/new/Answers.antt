@@ -17,6 +17,7 @@ invariant_of-result c =
             layout = c.in_ok-cluster.ensures.layout;
             fits = fits_nothing s c.in_ok-cluster.cluster.journal none;
           };
+      plan = c.in_ok-plan.ensures;
       fed =
           subst (λ (j : List Entry). AreFed s.plan j (map released_in c.in_ok-links.links.items)) (sym none)
           (fed_nothing s.plan c.in_ok-links.links.items c.in_ok-links.ensures.len c.in_ok-links.ensures.none);

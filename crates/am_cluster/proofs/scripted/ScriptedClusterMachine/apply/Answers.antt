@@ -41,10 +41,11 @@ invariant_of-self-in-Ok c =
     let step = step_of s old new c.args.event x c.self.invariant.parts c.laws.ensures.walked c.laws-in-Ok.ensures.walked c.in-Ok.ensures in
     record {
       parts = step_parts s old new c.args.event x c.self.invariant.parts step;
+      plan = c.self.invariant.plan;
       fed =
-          step_fed s old new c.args.event x c.deref.result.now (map released_in c.self.inside.links.items) (map released_in c.make_all_room.new.links.items) (map released_in c.feed_entry.new.links.items) c.self.invariant.parts step c.self.invariant.fed
+          step_fed s old new c.args.event x c.self.inside.plan (map released_in c.self.inside.links.items) (map released_in c.make_all_room.new.links.items) (map released_in c.feed_entry.new.links.items) c.self.invariant.parts step c.self.invariant.fed
           c.make_all_room.ensures.same
-          (c.deref.ensures.value ∙ ap (λ (t : ScenarioLists). t.plan) c.scenario.view_is)
+          c.self.invariant.plan
           c.feed_entry.ensures;
       threads = step_called s old new c.args.event x (map scripted_in c.self.inside.threads.items) (map scripted_in c.count_event.new.threads.items) step c.self.invariant.threads c.count_event.ensures;
     }

@@ -1,0 +1,6 @@
+use Rattle.std.proofs.Common.{◌≡◌, length}
+use Rattle.am_cluster.proofs.Indexing.{AreEmpty}
+use Rattle.am_cluster.proofs.plan_index.no_faults.Given as goal
+
+abbrev pub invariant-loop-i : goal.invariant-loop-i
+invariant-loop-i l = record { len : length l.maps.items ≡ l.i; none : AreEmpty l.maps.items }
