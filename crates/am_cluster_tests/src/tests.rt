@@ -34,7 +34,9 @@ fn a_fresh_cluster_is_drained_as_a_run_is_made(rt: HostRuntime) -> Result<(), Fa
     assert_eq!(rt; made.as_slice(), [218; 8].as_slice());
     let drained = cluster.journal(rt.alloc())?;
     let finished = alone(rt.alloc(), &scenario);
-    assert!(rt; finished.is_ok_and(|one| one.journal.entries.as_slice() == drained.entries.as_slice()));
+    assert!(rt;
+        finished.is_ok_and(|one| one.journal.entries.as_slice() == drained.entries.as_slice())
+    );
     assert!(rt; run(&rt, rt.alloc(), &scenario, &OpenGate).is_ok());
     Ok(())
 }

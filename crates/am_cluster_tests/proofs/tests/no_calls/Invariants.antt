@@ -4,4 +4,4 @@ use Rattle.am_scripts.specs.Scripts.{calls_of}
 use Rattle.am_cluster_tests.proofs.tests.no_calls.Given as goal
 
 abbrev pub invariant-loop : goal.invariant-loop
-invariant-loop l = ?
+invariant-loop l = l.made.items ≡ map (λ (t : ThreadLine). length (calls_of t.id [])) (take l.index l.fn.scenario.threads)
