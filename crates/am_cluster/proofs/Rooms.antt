@@ -1,9 +1,10 @@
 -- Room on each link.
-use Rattle.std.proofs.Common.{◌≡◌, ⊎_elim, ℕ, zero, suc, ◌+◌, ◌<◌, Bool, true, false, List, [], ◌∷◌, refl, sym, ap, ◌∙◌, subst, arith, ltb-true, ltb-false}
-use Rattle.std.specs.Prelude.{nat_lt, slice_get, slice_set, OnOk, Result, Ok, Err}
+use Rattle.std.proofs.Common.{◌≡◌, ⊎_elim, ℕ, zero, suc, Bool, true, false, List, [], ◌∷◌, refl, sym, ap, ◌∙◌, subst, ◌++◌, ◌==◌, eqb-true, eq-eqb, true≢false}
+use Rattle.std.specs.Prelude.{slice_get, slice_set, OnOk, Result, Ok, Err}
 use Rattle.am_journal.proofs.Lists.{got_set}
 use Rattle.am_cluster.specs.declared.links.Link.{Link}
-use Rattle.am_cluster.specs.Links.{HasRoom, HasRoomAt, HasRoomBelow}
+use Rattle.am_cluster.specs.Links.{HasAllRoom, HasRoom, HasRoomAt}
+use Rattle.am_cluster.proofs.Indexing.{got_push}
 
 pub on_ok : {A E P Q : Type 0} (r : Result A E) → OnOk r P → (P → Q) → OnOk r Q
 on_ok (Ok a) p f = f p
@@ -22,14 +23,19 @@ pub room_written : (links : List Link) (k : ℕ) (new : Link) → HasRoom new �
 room_written links k new room l h =
     ⊎_elim (λ here. subst HasRoom (sym here.1) room) (λ there. absurd (there.0 refl)) (got_set links k k new l h)
 
-pub room_more : (old new : List Link) (index : ℕ) → HasRoomBelow old index → HasRoomAt new index → ((k : ℕ) → (k ≡ index → ⊥) → slice_get new k ≡ slice_get old k) → HasRoomBelow new (index + 1)
-room_more old new index below here others k lt l h = by_test (nat_lt k index) refl
+-- and then each has
+pub room_again : (old new : List Link) (last : ℕ) → ((k : ℕ) → (k ≡ last → ⊥) → HasRoomAt old k) → HasRoomAt new last → ((k : ℕ) → (k ≡ last → ⊥) → slice_get new k ≡ slice_get old k) → HasAllRoom new
+room_again old new last room here others k l h = by_test (k == last) refl
   where
-    by_test : (b : Bool) → nat_lt k index ≡ b → HasRoom l
-    by_test true is =
-        let less : k < index = ltb-true k index is in
-        below k less l (sym (others k (λ e. omega (arith, e, less))) ∙ h)
+    by_test : (b : Bool) → (k == last) ≡ b → HasRoom l
+    by_test true is = here l (sym (ap (slice_get new) (eqb-true k last is)) ∙ h)
     by_test false is =
-        let more = ltb-false k index is in
-        let same : index ≡ k = omega (arith, lt, more) in
-        here l (ap (slice_get new) same ∙ h)
+        let apart : k ≡ last → ⊥ = λ same. true≢false (sym (eq-eqb k last same) ∙ is) in
+        room k apart l (sym (others k apart) ∙ h)
+
+-- and the others have it still
+pub room_elsewhere : (old new : List Link) (last : ℕ) → ((k : ℕ) → (k ≡ last → ⊥) → HasRoomAt old k) → ((k : ℕ) → (k ≡ last → ⊥) → slice_get new k ≡ slice_get old k) → (k : ℕ) → (k ≡ last → ⊥) → HasRoomAt new k
+room_elsewhere old new last room others k apart l h = room k apart l (sym (others k apart) ∙ h)
+
+pub room_push : (links : List Link) (one : Link) → HasAllRoom links → HasRoom one → HasAllRoom (links ++ one ∷ [])
+room_push links one room here k l got = ⊎_elim (λ before. room k l before) (λ new. subst HasRoom (sym new) here) (got_push links one l k got)

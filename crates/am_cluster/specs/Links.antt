@@ -11,6 +11,7 @@ use Rattle.am_plan.specs.declared.plan.PlanLine.{PlanLine}
 use Rattle.am_plan.specs.Shape.{fault_at, number_of, shape}
 use Rattle.am_cluster.specs.declared.links.Delayed.{Delayed}
 use Rattle.am_cluster.specs.declared.links.Link.{Link}
+use Rattle.am_cluster.specs.declared.links.LinkTable.{LinkTable}
 
 -- the numbers that a link released, and the packets that it will release later
 pub record Released : Type 0 where
@@ -25,15 +26,17 @@ pub record HasRoom (l : Link) : Type 0 where
   pub numbers : vec_len l.released + 2 + vec_len l.delayed ≤ vec_capacity l.released
   pub delayed : vec_len l.delayed < vec_capacity l.delayed
 
--- so on the link at a place, on each link, and on the first ones
+-- so on the link at a place, and on each link
 abbrev pub HasRoomAt : List Link → ℕ → Type 0
 HasRoomAt links k = (l : Link) → slice_get links k ≡ Some l → HasRoom l
 
 abbrev pub HasAllRoom : List Link → Type 0
 HasAllRoom links = (k : ℕ) → HasRoomAt links k
 
-abbrev pub HasRoomBelow : List Link → ℕ → Type 0
-HasRoomBelow links count = (k : ℕ) → k < count → HasRoomAt links k
+-- so on each link but the one that took the last packet
+pub record IsSpared (t : LinkTable) : Type 0 where
+  pub within : t.last < length t.all.items
+  pub others : (k : ℕ) → (k ≡ t.last → ⊥) → HasRoomAt t.all.items k
 
 -- what a packet's own emission releases of it
 abbrev pub copies : Option LinkFault → ℕ → List ℕ

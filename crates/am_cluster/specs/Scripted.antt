@@ -16,7 +16,7 @@ use Rattle.am_drain_loop.specs.declared.DrainFault.TheVariants as Drains
 use Rattle.am_machine.specs.View.{ClusterView}
 use Rattle.am_machine.specs.declared.settings.ApplyFault.{ApplyFault}
 use Rattle.am_machine.specs.declared.settings.ApplyFault.TheVariants as Applied
-use Rattle.am_cluster.specs.Links.{AreFed, Released, fed_at, released_in}
+use Rattle.am_cluster.specs.Links.{AreFed, IsSpared, Released, fed_at, released_in}
 use Rattle.am_cluster.specs.Threads.{scripted_in, scripted_of}
 use Rattle.am_cluster.specs.declared.scripted.ScriptedCluster.TheInside.{Inside}
 
@@ -55,5 +55,6 @@ pub record AreParts (s : ScenarioLists) (cluster : ClusterView) : Type 0 where
 pub record IsScripted (m : Inside) : Type 0 where
   pub parts : AreParts m.scenario.now m.cluster
   pub plan : m.plan ≡ m.scenario.now.plan
-  pub fed : AreFed m.scenario.now.plan m.cluster.journal (map released_in m.links.items)
+  pub fed : AreFed m.scenario.now.plan m.cluster.journal (map released_in m.links.all.items)
+  pub spared : IsSpared m.links
   pub threads : map scripted_in m.threads.items ≡ map (scripted_of m.scenario.now m.cluster.journal) m.scenario.now.threads

@@ -1,5 +1,5 @@
 // The packets that a cluster emits and its links release.
-ghost use Rattle.am_cluster.specs.Links.{AreFed, HasAllRoom, released_in};
+ghost use Rattle.am_cluster.specs.Links.{AreFed, HasAllRoom, IsSpared, released_in};
 ghost use Rattle.am_cluster.specs.Scripted.{AreParts, fed_by};
 ghost use Rattle.am_follow.specs.Layout.{layout_of};
 ghost use Rattle.am_local.specs.Interface as sides;
@@ -11,7 +11,7 @@ ghost use Rattle.am_scenario_types.specs.Lawful.{IsLawful};
 ghost use Rattle.am_scripts.specs.Links.{due};
 ghost use Rattle.std.specs.Prelude.{◌≡◌, ◌≤◌, ◌<◌, IfOk, IfSome, OnOk, Some, length, map};
 
-use crate::links::{Link, due_at, feed_at, link_place, make_all_room, no_links};
+use crate::links::{Link, LinkTable, due_at, feed_at, link_place, make_all_room, no_links};
 use crate::plan_index::PlanIndex;
 use am_iface::emitted_of;
 use am_machine::Cluster;
@@ -71,12 +71,13 @@ fn number_of(packet: &Packet) -> u32
 }
 
 /// One packet more, which goes on its link. Its number is its place among those that were emitted there.
-fn feed_packet(links: &mut Vec<Link>, plan: &PlanIndex, packet: Packet)
+fn feed_packet(links: &mut LinkTable, plan: &PlanIndex, packet: Packet)
     requires from { (parts.from_of packet).0 < 16 }
     requires to { (sides.receiver_of packet).0 < 16 }
-    requires len { length links.old.items ≡ 256 }
-    requires room { HasAllRoom links.old.items }
-    ensures { map released_in links.new.items ≡ fed_by plan.now (Some packet) (map released_in links.old.items) }
+    requires len { length links.old.all.items ≡ 256 }
+    requires room { HasAllRoom links.old.all.items }
+    ensures fed { map released_in links.new.all.items ≡ fed_by plan.now (Some packet) (map released_in links.old.all.items) }
+    ensures spared { IsSpared links.new }
 {
     let from = from_of(&packet);
     let to = receiver_of(&packet);
@@ -92,12 +93,14 @@ fn feed_packet(links: &mut Vec<Link>, plan: &PlanIndex, packet: Packet)
 }
 
 /// The packet that an entry emits, if it emits one, goes on its link.
-pub(crate) fn feed_entry(links: &mut Vec<Link>, plan: &PlanIndex, entry: &Entry)
+pub(crate) fn feed_entry(links: &mut LinkTable, plan: &PlanIndex, entry: &Entry)
     requires from { IfSome (emitted_of entry.now) (λ packet. (parts.from_of packet).0 < 16) }
     requires to { IfSome (emitted_of entry.now) (λ packet. (sides.receiver_of packet).0 < 16) }
-    requires len { length links.old.items ≡ 256 }
-    requires room { HasAllRoom links.old.items }
-    ensures { map released_in links.new.items ≡ fed_by plan.now (emitted_of entry.now) (map released_in links.old.items) }
+    requires len { length links.old.all.items ≡ 256 }
+    requires room { HasAllRoom links.old.all.items }
+    requires spared { IsSpared links.old }
+    ensures fed { map released_in links.new.all.items ≡ fed_by plan.now (emitted_of entry.now) (map released_in links.old.all.items) }
+    ensures spared { IsSpared links.new }
 {
     match emitted_of(entry) {
         Some(packet) => feed_packet(links, plan, packet),
@@ -106,12 +109,14 @@ pub(crate) fn feed_entry(links: &mut Vec<Link>, plan: &PlanIndex, entry: &Entry)
 }
 
 /// One entry more, with room made for what it emits.
-fn add_entry(links: &mut Vec<Link>, plan: &PlanIndex, entry: &Entry) -> Result<(), NoMemory>
+fn add_entry(links: &mut LinkTable, plan: &PlanIndex, entry: &Entry) -> Result<(), NoMemory>
     requires from { IfSome (emitted_of entry.now) (λ packet. (parts.from_of packet).0 < 16) }
     requires to { IfSome (emitted_of entry.now) (λ packet. (sides.receiver_of packet).0 < 16) }
-    requires len { length links.old.items ≡ 256 }
-    ensures len { length links.new.items ≡ 256 }
-    ensures fed { OnOk result (map released_in links.new.items ≡ fed_by plan.now (emitted_of entry.now) (map released_in links.old.items)) }
+    requires len { length links.old.all.items ≡ 256 }
+    requires spared { IsSpared links.old }
+    ensures len { length links.new.all.items ≡ 256 }
+    ensures spared { IsSpared links.new }
+    ensures fed { OnOk result (map released_in links.new.all.items ≡ fed_by plan.now (emitted_of entry.now) (map released_in links.old.all.items)) }
 {
     make_all_room(links)?;
     feed_entry(links, plan, entry);
@@ -124,11 +129,12 @@ pub(crate) fn links_after(
     scenario: &Scenario,
     plan: &PlanIndex,
     entries: &[Entry],
-) -> Result<Vec<Link>, NoMemory>
+) -> Result<LinkTable, NoMemory>
     requires lawful { IsLawful scenario.now }
     requires plan { plan.now ≡ scenario.now.plan }
     requires history { IsHistory (layout_of scenario.now) entries.now }
-    ensures { IfOk result (λ links. AreFed scenario.now.plan entries.now (map released_in links.items)) }
+    ensures fed { IfOk result (λ links. AreFed scenario.now.plan entries.now (map released_in links.all.items)) }
+    ensures spared { IfOk result IsSpared }
 {
     let mut links = no_links(alloc)?;
     for entry in entries {

@@ -1,5 +1,5 @@
 // What each link has released, and what it holds back: so the packet that is due is found without a look at the others.
-ghost use Rattle.am_cluster.specs.Links.{HasAllRoom, HasRoom, HasRoomAt, copies, fed, fed_at, held_back, nothing, released_in};
+ghost use Rattle.am_cluster.specs.Links.{HasAllRoom, HasRoom, HasRoomAt, IsSpared, copies, fed, fed_at, held_back, nothing, released_in};
 ghost use Rattle.am_cluster.specs.Links as links;
 ghost use Rattle.std.specs.List.{filter, flat_map};
 ghost use Rattle.std.specs.Prelude.{◌≡◌, ℕ, ◌+◌, ◌*◌, ◌≤◌, ◌<◌, ◌^◌, ◌++◌, All, IfOk, OnOk, length, map, slice_get, slice_index_or, vec_capacity, vec_len};
@@ -25,6 +25,14 @@ pub(crate) struct Link {
     /// The packets that the plan has late and that are not yet released, in order: at most 16, since a packet is late by
     /// at most 16 places.
     delayed: Vec<Delayed>,
+}
+
+/// The links of 16 nodes, sixteen to a node. Each has room for one emission more, but the one that took the last packet.
+#[derive(Drop)]
+pub(crate) struct LinkTable {
+    pub(crate) all: Vec<Link>,
+    /// The place of the link that took the last packet.
+    last: usize,
 }
 
 /// Makes room on a link for one emission more.
@@ -118,22 +126,43 @@ pub(crate) fn link_place(from: NodeId, to: NodeId) -> usize
     16 * from.0 as usize + to.0 as usize
 }
 
+/// A link that released nothing, with room for one emission.
+fn fresh_link(alloc: Global) -> Result<Link, NoMemory>
+    ensures none { IfOk result (λ link. released_in link ≡ nothing) }
+    ensures room { IfOk result HasRoom }
+{
+    let mut link = Link {
+        released: Vec::new(alloc),
+        delayed: Vec::new(alloc),
+    };
+    make_room(&mut link)?;
+    Ok(link)
+}
+
 /// The links of 16 nodes, which released nothing.
-pub(crate) fn no_links(alloc: Global) -> Result<Vec<Link>, NoMemory>
+fn fresh_links(alloc: Global) -> Result<Vec<Link>, NoMemory>
     ensures len { IfOk result (λ links. length links.items ≡ 256) }
     ensures none { IfOk result (λ links. All (λ link. released_in link ≡ nothing) links.items) }
+    ensures room { IfOk result (λ links. HasAllRoom links.items) }
 {
     let mut links = Vec::new(alloc);
     for i in 0..256u16 {
-        let link = Link {
-            released: Vec::new(alloc),
-            delayed: Vec::new(alloc),
-        };
+        let link = fresh_link(alloc)?;
         if links.push(link).is_err() {
             return Err(NoMemory);
         }
     }
     Ok(links)
+}
+
+/// The table of links that released nothing.
+pub(crate) fn no_links(alloc: Global) -> Result<LinkTable, NoMemory>
+    ensures len { IfOk result (λ table. length table.all.items ≡ 256) }
+    ensures none { IfOk result (λ table. All (λ link. released_in link ≡ nothing) table.all.items) }
+    ensures spared { IfOk result IsSpared }
+{
+    let all = fresh_links(alloc)?;
+    Ok(LinkTable { all, last: 0 })
 }
 
 /// Makes room on the link at a place.
@@ -147,32 +176,32 @@ fn make_room_at(links: &mut Vec<Link>, index: usize) -> Result<(), NoMemory>
     make_room(&mut links[index])
 }
 
-/// Makes room on each link for one emission more.
-pub(crate) fn make_all_room(links: &mut Vec<Link>) -> Result<(), NoMemory>
-    ensures same { map released_in links.new.items ≡ map released_in links.old.items }
-    ensures room { OnOk result (HasAllRoom links.new.items) }
+/// Makes room for one emission more on whichever link.
+pub(crate) fn make_all_room(table: &mut LinkTable) -> Result<(), NoMemory>
+    requires { IsSpared table.old }
+    ensures same { map released_in table.new.all.items ≡ map released_in table.old.all.items }
+    ensures spared { IsSpared table.new }
+    ensures room { OnOk result (HasAllRoom table.new.all.items) }
 {
-    let count = links.len();
-    for index in 0..count {
-        make_room_at(links, index)?;
-    }
-    Ok(())
+    make_room_at(&mut table.all, table.last)
 }
 
 /// One emission more on the link at a place.
 pub(crate) fn feed_at(
-    links: &mut Vec<Link>,
+    table: &mut LinkTable,
     index: usize,
     place: u64,
     fault: Option<LinkFault>,
     number: u32,
 )
-    requires within { index < length links.old.items }
-    requires room { HasAllRoom links.old.items }
+    requires within { index < length table.old.all.items }
+    requires room { HasAllRoom table.old.all.items }
     requires place { place < 2 ^ 63 }
-    ensures { map released_in links.new.items ≡ fed_at index place fault number (map released_in links.old.items) }
+    ensures fed { map released_in table.new.all.items ≡ fed_at index place fault number (map released_in table.old.all.items) }
+    ensures spared { IsSpared table.new }
 {
-    feed(&mut links[index], place, fault, number);
+    feed(&mut table.all[index], place, fault, number);
+    table.last = index;
 }
 
 /// The first number that the link at a place released after so many that were received.

@@ -1,5 +1,5 @@
 // A cluster that runs the scripts of a scenario: the machine of a drain.
-ghost use Rattle.am_cluster.specs.Links.{AreFed, released_in};
+ghost use Rattle.am_cluster.specs.Links.{AreFed, IsSpared, released_in};
 ghost use Rattle.am_cluster.specs.Scripted.{AreParts, as_fault, capacity_of};
 ghost use Rattle.am_cluster.specs.Threads.{scripted_in, scripted_of};
 ghost use Rattle.am_drain.specs.Cut.{IsDrainedWithRoom};
@@ -11,7 +11,7 @@ ghost use Rattle.am_scenario_types.specs.declared.parts.Network.TheVariants.{Pac
 ghost use Rattle.std.specs.Prelude.{◌≡◌, [], IfErr, IfOk, OnOk, map};
 
 use crate::emissions::{due_on, feed_entry};
-use crate::links::{Link, make_all_room, no_links};
+use crate::links::{LinkTable, make_all_room, no_links};
 use crate::looks::{has_bound, head_at, head_by, home, is_frame_held, mail_at, received_requests};
 use crate::plan_index::PlanIndex;
 use crate::threads::{ThreadScript, all_scripts, count_event, left_to};
@@ -32,7 +32,7 @@ pub(crate) struct ScriptedCluster<'a> {
     plan: PlanIndex<'a>,
     cluster: Cluster,
     /// What each link released.
-    links: Vec<Link>,
+    links: LinkTable,
     /// What each thread is still to call.
     threads: Vec<ThreadScript>,
 }
@@ -106,7 +106,7 @@ fn as_fault(fault: ApplyFault) -> DrainFault
 pub(crate) struct Beside<'a> {
     pub(crate) scenario: &'a Scenario,
     pub(crate) plan: PlanIndex<'a>,
-    pub(crate) links: Vec<Link>,
+    pub(crate) links: LinkTable,
     pub(crate) threads: Vec<ThreadScript>,
 }
 
@@ -120,8 +120,9 @@ pub(crate) struct Drained {
 /// The drain of a cluster that has made entries.
 pub(crate) fn drain_owned<'a>(cluster: Cluster, beside: Beside<'a>) -> (Cluster, Drained)
     requires plan { beside.plan ≡ beside.scenario.now.plan }
+    requires spared { IsSpared beside.links }
     requires parts { AreParts beside.scenario.now cluster }
-    requires fed { AreFed beside.scenario.now.plan cluster.journal (map released_in beside.links.items) }
+    requires fed { AreFed beside.scenario.now.plan cluster.journal (map released_in beside.links.all.items) }
     requires threads { map scripted_in beside.threads.items ≡ map (scripted_of beside.scenario.now cluster.journal) beside.scenario.now.threads }
     ensures parts { AreParts beside.entry.scenario.now result.0 }
     ensures threads { map scripted_in result.1.threads.items ≡ map (scripted_of beside.entry.scenario.now result.0.journal) beside.entry.scenario.now.threads }
@@ -155,8 +156,9 @@ pub(crate) fn drain_owned<'a>(cluster: Cluster, beside: Beside<'a>) -> (Cluster,
 /// The same, of a cluster that stays where it is.
 pub(crate) fn drain_in_place<'a>(cluster: &mut Cluster, beside: Beside<'a>) -> Drained
     requires plan { beside.plan ≡ beside.scenario.now.plan }
+    requires spared { IsSpared beside.links }
     requires parts { AreParts beside.scenario.now cluster.old }
-    requires fed { AreFed beside.scenario.now.plan cluster.old.journal (map released_in beside.links.items) }
+    requires fed { AreFed beside.scenario.now.plan cluster.old.journal (map released_in beside.links.all.items) }
     requires threads { map scripted_in beside.threads.items ≡ map (scripted_of beside.scenario.now cluster.old.journal) beside.scenario.now.threads }
     ensures parts { AreParts beside.entry.scenario.now cluster.new }
     ensures threads { map scripted_in result.threads.items ≡ map (scripted_of beside.entry.scenario.now cluster.new.journal) beside.entry.scenario.now.threads }
@@ -199,7 +201,7 @@ impl<'a> Machine for ScriptedCluster<'a> {
     }
 
     fn due(&self, node: NodeId, peer: NodeId) -> Option<u32> {
-        due_on(&self.cluster, self.scenario, &self.links, node, peer)
+        due_on(&self.cluster, self.scenario, &self.links.all, node, peer)
     }
 
     fn is_bound(&self, node: NodeId, peer: NodeId, channel: u8) -> bool {

@@ -19,7 +19,8 @@ invariant_of-result c =
           };
       plan = c.in_ok-plan.ensures;
       fed =
-          subst (λ (j : List Entry). AreFed s.plan j (map released_in c.in_ok-links.links.items)) (sym none)
-          (fed_nothing s.plan c.in_ok-links.links.items c.in_ok-links.ensures.len c.in_ok-links.ensures.none);
+          subst (λ (j : List Entry). AreFed s.plan j (map released_in c.in_ok-links.links.all.items)) (sym none)
+          (fed_nothing s.plan c.in_ok-links.links.all.items c.in_ok-links.ensures.len c.in_ok-links.ensures.none);
+      spared = c.in_ok-links.ensures.spared;
       threads = c.in_ok-threads.ensures ∙ ap (λ (j : List Entry). map (scripted_of s j) s.threads) (sym none);
     }

@@ -43,10 +43,11 @@ invariant_of-self-in-Ok c =
       parts = step_parts s old new c.args.event x c.self.invariant.parts step;
       plan = c.self.invariant.plan;
       fed =
-          step_fed s old new c.args.event x c.self.inside.plan (map released_in c.self.inside.links.items) (map released_in c.make_all_room.new.links.items) (map released_in c.feed_entry.new.links.items) c.self.invariant.parts step c.self.invariant.fed
+          step_fed s old new c.args.event x c.self.inside.plan (map released_in c.self.inside.links.all.items) (map released_in c.make_all_room.new.table.all.items) (map released_in c.feed_entry.new.links.all.items) c.self.invariant.parts step c.self.invariant.fed
           c.make_all_room.ensures.same
           c.self.invariant.plan
-          c.feed_entry.ensures;
+          c.feed_entry.ensures.fed;
+      spared = c.feed_entry.ensures.spared;
       threads = step_called s old new c.args.event x (map scripted_in c.self.inside.threads.items) (map scripted_in c.count_event.new.threads.items) step c.self.invariant.threads c.count_event.ensures;
     }
 
