@@ -242,7 +242,7 @@ fn messages_fly_arrive_and_are_settled(rt: HostRuntime) -> Result<(), Fail> {
     assert_eq!(rt; end.in_flight_len(), 1);
     assert_eq!(rt; end.in_flight(FIRST_SERIAL), true);
     assert_eq!(rt; end.flight_slot(FIRST_SERIAL).is_some(), true);
-    assert_eq!(rt; end.flight_slot(ANSWER.serial), None);
+    assert_eq!(rt; end.flight_slot(ASKED_SERIAL), None);
     assert_eq!(rt; put(&mut end, &REPLY), Some(Verdict::Accepted));
     assert_eq!(rt;
         put(&mut end, &REPLY),
