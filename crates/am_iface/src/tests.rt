@@ -581,7 +581,8 @@ fn layout() -> [Line; 6] {
     ]
 }
 
-/// The entries of both interfaces, the packets to the other side, and what is bound at the near one and by which attempt.
+/// The entries of both interfaces, the packets to the other side, and what is bound at the near one and by which attempt. The
+/// slot of what is bound is the one that the message has in flight.
 fn assert_counts(
     rt: &impl Abort,
     pair: &Pair,
@@ -596,6 +597,10 @@ fn assert_counts(
     assert_eq!(rt;
         near.bound(NodeId(1), 0).map(|b| (b.message, b.attempt)),
         bound
+    );
+    assert_eq!(rt;
+        near.bound(NodeId(1), 0).map(|b| b.slot),
+        pair.near.endpoint.flight_slot(FIRST)
     );
     assert_eq!(rt; far.bound(NodeId(0), 0), None);
 }
