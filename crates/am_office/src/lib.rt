@@ -1,9 +1,8 @@
-//! The entries of a journal as plain data, what they do, their printed lines, and the fates of its messages.
+//! The entries of a journal as plain data, what they do, and the fates of its messages.
 #![tactic(auto)]
 
 mod endings;
 mod fates;
-mod lines;
 mod roles;
 mod touched;
 
@@ -11,7 +10,6 @@ pub use am_names::NoMemory;
 use am_names::{Cause, EndpointId, Message, NodeId, Serial, Tag, Verdict, Why, Words};
 pub use endings::Fate;
 pub use fates::fate;
-pub use lines::entry_line;
 pub use roles::{accepted_of, return_of, run_of, unknown_of};
 use std::marker::Model;
 pub use touched::{node_touched, touches};

@@ -1,5 +1,4 @@
 mod fates;
-mod lines;
 
 use super::*;
 use am_names::{MsgKind, Serial};

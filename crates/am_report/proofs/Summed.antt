@@ -5,7 +5,7 @@ use Rattle.std.specs.Fmt.{decimal}
 use Rattle.std.specs.List.{flat_map}
 use Rattle.am_names.specs.declared.EndpointId.{EndpointId}
 use Rattle.am_office.specs.declared.Entry.{Entry}
-use Rattle.am_office.specs.Lines.{line_of}
+use Rattle.am_entry_lines.specs.Lines.{line_of}
 use Rattle.am_text.specs.Words.{line}
 use Rattle.am_report.specs.Report.{SummaryIsOfReport, report, journal_part, entries_line, end_part, messages_part, fate_line, told, totals}
 

@@ -21,7 +21,7 @@ use Rattle.am_report.specs.declared.runs.Run.TheVariants as Runs
 use Rattle.am_report.specs.declared.messages.MessageFate.{MessageFate}
 use Rattle.am_office.specs.Entries.{accepted_of}
 use Rattle.am_office.specs.Fates.{fate_of_accepted}
-use Rattle.am_office.specs.Lines.{line_of}
+use Rattle.am_entry_lines.specs.Lines.{line_of}
 use Rattle.am_text.specs.Words as words
 use Rattle.am_text.specs.Words.{Word, line, serial}
 

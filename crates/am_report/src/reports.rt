@@ -3,14 +3,15 @@
 ghost use Rattle.std.specs.Prelude.{◌≡◌, List, ◌++◌, OnOk, IfOk, length, count_by};
 ghost use Rattle.std.specs.List.{flat_map};
 ghost use Rattle.am_office.specs.declared.Entry.{Entry};
-ghost use Rattle.am_office.specs.Lines.{line_of};
+ghost use Rattle.am_entry_lines.specs.Lines.{line_of};
 ghost use Rattle.am_report.specs.Report as text;
 ghost use Rattle.am_report.specs.Tables.{AreRuns};
 
 use crate::messages::{MessageFate, told};
 use crate::runs::{Run, RunTable};
 use am_names::EndpointId;
-use am_office::{Entry, Fate, Journal, NoMemory, entry_line};
+use am_entry_lines::entry_line;
+use am_office::{Entry, Fate, Journal, NoMemory};
 use am_text::Piece::{Number, Text};
 use am_text::{Piece, cause_word, kind_word, put_line, small, why_word};
 use std::alloc::{AllocError, Global};

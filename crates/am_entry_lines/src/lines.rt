@@ -3,12 +3,12 @@
 ghost use Rattle.std.specs.Prelude.{◌≡◌, ◌++◌, ◌∷◌, [], OnOk, OnErr, codes};
 ghost use Rattle.std.specs.Fmt.{decimal};
 ghost use Rattle.am_text.specs.Words as words;
-ghost use Rattle.am_office.specs.Lines as text;
+ghost use Rattle.am_entry_lines.specs.Lines as text;
 ghost use Rattle.am_text.specs.Words.{spaced};
 ghost use Rattle.am_text.specs.Pieces.{Extends, word_of};
 
-use crate::{Actor, Call, Entry, Event, HandlerKind, Mask, NoMemory, Outcome, Received, Refusal};
-use am_names::{EndpointId, Message, NodeId, Serial};
+use am_names::{EndpointId, Message, NoMemory, NodeId, Serial};
+use am_office::{Actor, Call, Entry, Event, HandlerKind, Mask, Outcome, Received, Refusal};
 use am_text::Piece::{Number, Tag, Text};
 use am_text::{
     Piece, cause_word, count, put_end, put_numbered, put_spaced, put_word, small, verdict_word,

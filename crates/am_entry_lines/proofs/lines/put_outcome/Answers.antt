@@ -1,6 +1,6 @@
-use Rattle.am_office.specs.Lines.{outcome}
+use Rattle.am_entry_lines.specs.Lines.{outcome}
 use Rattle.am_text.proofs.Extended.{appended_words}
-use Rattle.am_office.proofs.lines.put_outcome.Goals as goal
+use Rattle.am_entry_lines.proofs.lines.put_outcome.Goals as goal
 
 pub returns-in_ok-put_spaced-in-Refused-clause-ok :
     goal.returns-in_ok-put_spaced-in-Refused-clause-ok

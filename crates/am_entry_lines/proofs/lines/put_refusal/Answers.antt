@@ -1,5 +1,5 @@
-use Rattle.am_office.specs.Lines.{refusal}
-use Rattle.am_office.proofs.lines.put_refusal.Goals as goal
+use Rattle.am_entry_lines.specs.Lines.{refusal}
+use Rattle.am_entry_lines.proofs.lines.put_refusal.Goals as goal
 
 pub returns-in-NotMapped-clause-ok : goal.returns-in-NotMapped-clause-ok
 unfolding refusal
