@@ -33,7 +33,7 @@ use Rattle.am_laws_order.proofs.Everywhere.{each_once}
 use Rattle.am_laws_order.proofs.Packets.{kept_packets, waiting}
 use Rattle.am_laws_order.proofs.Situations.{Situation, Waits, Flies, Ended}
 use Rattle.am_laws_messages.proofs.Alls.{all_map}
-use Rattle.am_laws_messages.proofs.Delivered.{delivers, put_facts}
+use Rattle.am_laws_messages.proofs.Delivered.{delivers, put_facts, touches_dest}
 use Rattle.am_laws_messages.proofs.Sent.{FitsSend, fits_send}
 use Rattle.am_laws_fates.proofs.Numbers.{own_are}
 use Rattle.am_laws_messages.proofs.Sent.{front_are}
@@ -59,18 +59,6 @@ every P (a ∷ xs) f = (f a, every P xs f)
 -- the reply that an entry puts comes to the source of its request
 pub reply_comes : (layout : Layout) (past : List Entry) (x : Entry) → IsHistory layout past → MayFollow layout past x → (m : Message) (t : Serial) → put_of x ≡ Some m → m.about ≡ Some t → m.dest ≡ t.source
 reply_comes layout past x h may m t is about = (accepted_reply layout past h m t (put_facts layout past x (delivers layout past h) may m is).accepted about).reply.dest
-
-touches_dest : (event : Event) (o : Outcome) (m : Message) → put_in event o ≡ Some m → list_any (same_end m.dest) (ends_touched event o) ≡ true
-touches_dest (Events.Carry end) (Out.Accepted n) m is =
-    let same : n ≡ m = cc in subst (λ (w : Message). (same_end w.dest end || (same_end w.dest n.dest || false)) ≡ true) same (by_both (same_end n.dest end) (same_end n.dest n.dest) (same_end-refl n.dest))
-  where
-    by_both : (a b : Bool) → b ≡ true → (a || (b || false)) ≡ true
-    by_both true b e = refl
-    by_both false true e = refl
-    by_both false false e = absurd (true≢false (sym e))
-touches_dest (Events.Receive node peer number) (Out.Received channel seq attempt (Got.Accepted n answer)) m is =
-    let same : n ≡ m = cc in subst (λ (w : Message). (same_end w.dest n.dest || false) ≡ true) same (ap (λ (b : Bool). b || false) (same_end-refl n.dest))
-touches_dest event o m is = absurd (cc)
 
 -- where an entry puts no reply to what is not flagged, what is not flagged has none
 pub unflagged : {X : Type 0} (serial : X → Serial) (flag : X → Bool) (layout : Layout) (past : List Entry) (x : Entry) → IsHistory layout past → MayFollow layout past x → (e : EndpointId) (xs : List X) → AllAre (λ a. (serial a).source ≡ e) xs → AllAre (λ a. flag a ≡ false → replied (serial a) past ≡ 0) xs → ((m : Message) (t : Serial) → put_of x ≡ Some m → m.about ≡ Some t → same_end e m.dest ≡ true → AllAre (λ a. same_serial t (serial a) ≡ true → flag a ≡ true) xs) → AllAre (λ a. flag a ≡ false → replied (serial a) (past ++ x ∷ []) ≡ 0) xs

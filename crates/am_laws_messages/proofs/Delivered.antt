@@ -1,7 +1,7 @@
 -- The laws of delivery and of tags.
 use Rattle.std.specs.Prelude.{MatchOption, slice_get, nat_lt}
-use Rattle.std.proofs.Common.{◌≡◌, ◌⊎◌, inl, inr, ⊎_elim, ℕ, ◌+◌, ◌-◌, Bool, true, false, ◌&&◌, ◌||◌, List, [], ◌∷◌, ◌++◌, Option, Some, None, refl, sym, ap, ◌∙◌, subst, arith, if◌then◌else◌}
-use Rattle.std.specs.List.{find}
+use Rattle.std.proofs.Common.{◌≡◌, ◌⊎◌, inl, inr, ⊎_elim, ℕ, ◌+◌, ◌-◌, Bool, true, false, ◌&&◌, ◌||◌, List, [], ◌∷◌, ◌++◌, Option, Some, None, refl, sym, true≢false, ap, ◌∙◌, subst, arith, if◌then◌else◌}
+use Rattle.std.specs.List.{list_any, find}
 use Rattle.am_names.specs.Rules.{matches, is_transient}
 use Rattle.am_names.specs.declared.EndpointId.{EndpointId}
 use Rattle.am_names.specs.declared.NodeId.{NodeId}
@@ -17,18 +17,19 @@ use Rattle.am_office.specs.declared.Event.{Event}
 use Rattle.am_office.specs.declared.Event.TheVariants as Events
 use Rattle.am_office.specs.declared.Outcome.{Outcome}
 use Rattle.am_office.specs.declared.Outcome.TheVariants as Out
+use Rattle.am_office.specs.declared.Received.TheVariants as Got
 use Rattle.am_office.specs.declared.Entry.{Entry}
 use Rattle.am_model.specs.declared.Queued.{Queued}
 use Rattle.am_names.specs.Names.{same_end, has_serial}
 use Rattle.am_model.specs.Endpoint.{State, front, verdict}
 use Rattle.am_model.specs.Changes.{changed}
-use Rattle.am_office.specs.Entries.{accepted_of, put_in, put_of, run_in, run_of, touches, passes}
+use Rattle.am_office.specs.Entries.{accepted_of, put_in, put_of, run_in, run_of, ends_touched, touches, passes}
 use Rattle.am_model.specs.Layout.{Layout, EndSetting, AllAre, home, has_id, opening_by}
 use Rattle.am_model.specs.Channels.{Channel, Arrival, Stale, Again, Fresh, same_channel, bound_message, sent_message, binds, frees, frees_by, emitted, arrival, mark}
 use Rattle.am_model.specs.History.{state_of, MayFollow, IsHistory, EachAfter, outcome_of, bind, bind_to, carry, judged, receive, arrive, decided, channel_to, channel_for, next_number}
 use Rattle.am_model.specs.PostOffice.{WasAccepted, IsAt, IsFirstPut, IsFirstRun, IsPutAndRunFirst, PutAndRunOnce, IsTagged, TagMatches, TagsMatch, EachOnce}
 use Rattle.am_model.proofs.Each.{over_each, each_has, each_push, state_of_push}
-use Rattle.am_model.proofs.Names.{same_serial-refl}
+use Rattle.am_model.proofs.Names.{same_serial-refl, same_end-refl}
 use Rattle.am_model.proofs.Own.{TagKept, tag_more}
 use Rattle.am_model.proofs.Received.{bit}
 use Rattle.am_model.proofs.Books.{role_push, fits_call, same_end-is}
@@ -292,6 +293,24 @@ run_puts_none : (event : Event) (o : Outcome) (m : Message) → run_in event o �
 run_puts_none (Events.Call actor end call) o m h = refl
 run_puts_none event o m h = absurd (cc)
 
+-- an entry that puts a message touches its destination
+pub touches_dest : (event : Event) (o : Outcome) (m : Message) → put_in event o ≡ Some m → list_any (same_end m.dest) (ends_touched event o) ≡ true
+touches_dest (Events.Carry end) (Out.Accepted n) m is =
+    let same : n ≡ m = cc in subst (λ (w : Message). (same_end w.dest end || (same_end w.dest n.dest || false)) ≡ true) same (by_both (same_end n.dest end) (same_end n.dest n.dest) (same_end-refl n.dest))
+  where
+    by_both : (a b : Bool) → b ≡ true → (a || (b || false)) ≡ true
+    by_both true b e = refl
+    by_both false true e = refl
+    by_both false false e = absurd (true≢false (sym e))
+touches_dest (Events.Receive node peer number) (Out.Received channel seq attempt (Got.Accepted n answer)) m is =
+    let same : n ≡ m = cc in subst (λ (w : Message). (same_end w.dest n.dest || false) ≡ true) same (ap (λ (b : Bool). b || false) (same_end-refl n.dest))
+touches_dest event o m is = absurd (cc)
+
+-- an entry that runs a message touches its destination
+run_touches : (layout : Layout) (event : Event) (o : Outcome) (m : Message) → run_in event o ≡ Some m → IsAt layout m.dest event → list_any (same_end m.dest) (ends_touched event o) ≡ true
+run_touches layout (Events.Call actor end call) o m h at = subst (λ (w : EndpointId). (same_end w end || false) ≡ true) at (ap (λ (b : Bool). b || false) (same_end-refl end))
+run_touches layout event o m h at = absurd (cc)
+
 places : (layout : Layout) (past : List Entry) (x : Entry) → IsHistory layout past → MayFollow layout past x → IsPutAndRunFirst layout past x
 places layout past x h may = (match_option (put_of x) (IsFirstPut layout past x) by_put, match_option (run_of x) (IsFirstRun layout past x) by_run)
   where
@@ -310,6 +329,7 @@ places layout past x h may = (match_option (put_of x) (IsFirstPut layout past x)
         record {
           accepted = p.accepted;
           first = omega (arith, now.put m.serial, now.accepted m.serial, role_push put_in (has_serial m.serial) past x, one_more put_of m x is);
+          touched = touches_dest x.event x.outcome m is;
           place = p.place;
         }
 
@@ -321,6 +341,7 @@ places layout past x h may = (match_option (put_of x) (IsFirstPut layout past x)
           accepted = r.held.held.accepted;
           put = omega (arith, now.run m.serial, now.put m.serial, now.accepted m.serial, role_push put_in (has_serial m.serial) past x, role_push run_in (has_serial m.serial) past x, one_more run_of m x is, none);
           first = omega (arith, now.run m.serial, now.put m.serial, now.accepted m.serial, role_push run_in (has_serial m.serial) past x, one_more run_of m x is);
+          touched = run_touches layout x.event x.outcome m is r.place;
           place = r.place;
           handler = r.held.handler;
         }

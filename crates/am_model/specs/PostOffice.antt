@@ -25,7 +25,7 @@ use Rattle.am_model.specs.Layout.{Layout, home, opening}
 use Rattle.am_model.specs.Calls.{share_of}
 use Rattle.am_model.specs.History.{EachAfter}
 use Rattle.am_names.specs.Names.{same_end, has_serial, is_request, is_answer}
-use Rattle.am_office.specs.Entries.{passes, is_serial, accepted_of, put_of, run_of, returned_of, unknown_of, return_of, requeue_of, refusal_of, zero_of, given_up_of}
+use Rattle.am_office.specs.Entries.{passes, is_serial, touches, accepted_of, put_of, run_of, returned_of, unknown_of, return_of, requeue_of, refusal_of, zero_of, given_up_of}
 
 -- how many entries have, in this role, a message that passes
 abbrev pub times : (Entry → Option Message) → (Message → Bool) → List Entry → ℕ
@@ -123,7 +123,7 @@ pub record AcceptedOnce (layout : Layout) (journal : List Entry) : Type 0 where
 abbrev pub WasAccepted : List Entry → Message → Type 0
 WasAccepted past m = Gave accepted_of past m
 
--- the event stands at this endpoint, or at its node
+-- a call stands at this endpoint, and a receipt at its node
 abbrev pub IsAt : Layout → EndpointId → Event → Type 0
 IsAt layout e (Events.Call actor end call) = end ≡ e
 IsAt layout e (Events.Carry end) = Unit {0}
@@ -139,12 +139,14 @@ RunsOwnHandler outcome = Unit {0}
 pub record IsFirstPut (layout : Layout) (past : List Entry) (x : Entry) (m : Message) : Type 0 where
   pub accepted : WasAccepted past m
   pub first : times put_of (has_serial m.serial) past ≡ 0
+  pub touched : touches m.dest x ≡ true
   pub place : IsAt layout m.dest x.event
 
 pub record IsFirstRun (layout : Layout) (past : List Entry) (x : Entry) (m : Message) : Type 0 where
   pub accepted : WasAccepted past m
   pub put : times put_of (has_serial m.serial) past ≡ 1
   pub first : times run_of (has_serial m.serial) past ≡ 0
+  pub touched : touches m.dest x ≡ true
   pub place : IsAt layout m.dest x.event
   pub handler : RunsOwnHandler x.outcome
 
@@ -158,7 +160,8 @@ pub record EachOnce (journal : List Entry) : Type 0 where
   pub run : (s : Serial) → times run_of (has_serial s) journal ≤ times put_of (has_serial s) journal
 
 -- THE LAW OF DELIVERY. Each serial is put at most once and run at most once: accepted, then put, then run. Both are at
--- its destination and carry the accepted message. The handler that runs is the message's own.
+-- its destination, which the entry touches, and carry the accepted message; a receipt is at the destination's node.
+-- The handler that runs is the message's own.
 pub record PutAndRunOnce (layout : Layout) (journal : List Entry) : Type 0 where
   pub counts : EachOnce journal
   pub places : EachAfter (IsPutAndRunFirst layout) [] journal
