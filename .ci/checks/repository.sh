@@ -9,4 +9,7 @@ for folder in crates/*/; do
     grep -q "^$name:" crates.txt || { echo "crates.txt lacks $name"; failed=1; }
 done
 if git ls-files | grep -q '^crates/[a-z0-9_]*/out/'; then echo "build output is committed"; failed=1; fi
+while read -r file; do
+    case $file in */stdin | */stdout | */args | */Lib.antt) ;; *) [ -s "$file" ] || { echo "an empty file is tracked: $file"; failed=1; } ;; esac
+done < <(git ls-files)
 exit "$failed"

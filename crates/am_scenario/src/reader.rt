@@ -22,7 +22,7 @@ fn refused(line: u32, fault: LineFault) -> ReadFault
     }
 }
 
-/// The scenario that the bytes spell, in the grammar of docs/SCENARIO.md, or the line and the cause of their first
+/// The scenario that the bytes spell, in the grammar of docs/MANUAL.md, or the line and the cause of their first
 /// fault. A line's number stands still at 2^32-1. Without memory the answer is `NoMemory`, and nothing is left of the scenario.
 pub fn read(alloc: Global, form: Form, bytes: &[u8]) -> Result<Scenario, ReadFault>
     ensures exact { Answers result (grammar form bytes.now) }
