@@ -1,6 +1,6 @@
 -- One entry more in the logs that it touches is one entry more of the journal.
 use Rattle.std.specs.Prelude.{slice_get, slice_set}
-use Rattle.std.proofs.Common.{◌≡◌, ℕ, zero, suc, Bool, true, false, cond, ◌||◌, List, [], ◌∷◌, ◌++◌, map, Some, None, refl, sym, ap, ◌∙◌, subst, ◌+◌, ◌≤◌, ◌^◌, length, length-append, arith}
+use Rattle.std.proofs.Common.{◌≡◌, ℕ, zero, suc, Bool, true, false, cond, ◌||◌, List, [], ◌∷◌, ◌++◌, map, Some, None, refl, sym, ap, ◌∙◌, subst, length-append, arith}
 use Rattle.std.specs.List.{filter}
 use Rattle.std.proofs.lemmas.List.{append-nil}
 use Rattle.std.proofs.lemmas.List.Elements.{filter-append}
@@ -14,7 +14,7 @@ use Rattle.am_drain.specs.Made.{next_entry, next_stamp}
 use Rattle.am_scenario_types.specs.declared.parts.FaultLine.{FaultLine}
 use Rattle.am_endpoint.specs.View.{EndpointView}
 use Rattle.am_drain.proofs.Entries.{entry_may_follow}
-use Rattle.am_journal.specs.View.{IsEarly, greatest_stamp}
+use Rattle.am_journal.specs.View.{IsEarly}
 use Rattle.am_journal.proofs.Growing.{greatest_push}
 use Rattle.am_model.proofs.Each.{each_push}
 use Rattle.am_machine.specs.declared.settings.Settings.{Settings}

@@ -1,5 +1,5 @@
 use Rattle.std.specs.Prelude.{vec_len, vec_capacity}
-use Rattle.std.proofs.Common.{◌≡◌, ◌≤◌, ◌<◌, ◌+◌, ◌^◌, ap, ◌∙◌, length, ltb-true, arith}
+use Rattle.std.proofs.Common.{◌≤◌, ◌<◌, ◌+◌, ◌^◌, ap, ◌∙◌, length, ltb-true, arith}
 use Rattle.am_journal.specs.View.{JournalView, greatest_stamp}
 use Rattle.am_journal.proofs.IndexedJournal.greatest_stamp.Goals as goal
 

@@ -1,5 +1,5 @@
 use Rattle.std.specs.Prelude.{IfSome, Err}
-use Rattle.std.proofs.Common.{◌<◌, ◌++◌, ◌∷◌, [], List, Option, length, sym, ap, ◌∙◌, subst}
+use Rattle.std.proofs.Common.{◌<◌, ◌++◌, ◌∷◌, [], List, Option, sym, ap, ◌∙◌, subst}
 use Rattle.am_names.specs.declared.NodeId.{NodeId}
 use Rattle.am_office.specs.declared.Entry.{Entry}
 use Rattle.am_office.specs.declared.Place.TheVariants.{Host}
