@@ -8,8 +8,7 @@ use Rattle.am_office.specs.declared.Entry.{Entry}
 use Rattle.am_model.specs.Layout.{Layout}
 use Rattle.am_office.specs.Entries.{emitted_of}
 use Rattle.am_model.specs.History.{IsHistory, failing}
-use Rattle.am_model.specs.Steps.{LogFull, NotEnabled, full_log, step_entry, stop, stop_by}
-use Rattle.am_laws_steps.specs.Laws.{Walked}
+use Rattle.am_model.specs.Steps.{LogFull, NotEnabled, full_log, stop, stop_by}
 use Rattle.am_machine.specs.View.{Applies, ClusterView}
 use Rattle.am_machine.specs.declared.settings.ApplyFault.{ApplyFault}
 use Rattle.am_machine.specs.declared.settings.ApplyFault.TheVariants as Applied
@@ -27,7 +26,6 @@ use Rattle.am_cluster.proofs.Growing.{called_after, fed_after}
 use Rattle.am_follow.specs.Layout.{layout_of}
 use Rattle.am_drain.specs.Cut.{HasRoom, full_for}
 use Rattle.am_drain.specs.Made.{after_event, next_entry}
-use Rattle.am_drain.proofs.Entries.{entry_is_step}
 use Rattle.am_drain_loop.specs.declared.DrainFault.{DrainFault}
 use Rattle.am_drain_loop.specs.declared.DrainFault.TheVariants as Faults
 use Rattle.am_drain_loop.specs.Stops.{Acts, IsDrainBeginning}
@@ -51,14 +49,14 @@ stop_full (Some c) l p h = absurd (cc)
 pub enabled : (layout : Layout) (past : List Entry) (event : Event) → stop layout past event ≡ None → failing layout past event ≡ None
 enabled layout past event h = (stop_none (failing layout past event) (full_log layout past event) h).0
 
-pub has_room : (s : ScenarioLists) (past : List Entry) (event : Event) (x : Entry) → stop (layout_of s) past event ≡ None → x ≡ step_entry (layout_of s) past event → HasRoom s past (x ∷ [])
+pub has_room : (s : ScenarioLists) (past : List Entry) (event : Event) (x : Entry) → stop (layout_of s) past event ≡ None → x ≡ next_entry (layout_of s) past event → HasRoom s past (x ∷ [])
 has_room s past event x h is =
     (ap (full_for s past) is ∙ (stop_none (failing (layout_of s) past event) (full_log (layout_of s) past event) h).1, tt)
 
-pub acts_ok : {U : Type 0} (s : ScenarioLists) (past now : List Entry) (event : Event) (x : Entry) (u : U) → Walked (layout_of s) past → stop (layout_of s) past event ≡ None → x ≡ step_entry (layout_of s) past event → now ≡ past ++ x ∷ [] → Acts s (Ok u) past (after_event (layout_of s) event past) now
-acts_ok s past now event x u walked free is made =
+pub acts_ok : {U : Type 0} (s : ScenarioLists) (past now : List Entry) (event : Event) (x : Entry) (u : U) → stop (layout_of s) past event ≡ None → x ≡ next_entry (layout_of s) past event → now ≡ past ++ x ∷ [] → Acts s (Ok u) past (after_event (layout_of s) event past) now
+acts_ok s past now event x u free is made =
     record {
-      does = made ∙ ap (λ (y : Entry). past ++ y ∷ []) (is ∙ sym (entry_is_step (layout_of s) past event walked));
+      does = made ∙ ap (λ (y : Entry). past ++ y ∷ []) is;
       reaches = record { added = x ∷ []; made = made; room = has_room s past event x free is };
     }
 
@@ -122,19 +120,17 @@ pub record IsStep (s : ScenarioLists) (old new : ClusterView) (event : Event) (x
   pub made : new.journal ≡ old.journal ++ x ∷ []
   pub layout : new.layout ≡ layout_of s
   pub free : stop (layout_of s) old.journal event ≡ None
-  pub entry : x ≡ step_entry (layout_of s) old.journal event
-  pub walked : Walked (layout_of s) old.journal
+  pub entry : x ≡ next_entry (layout_of s) old.journal event
   pub history : IsHistory (layout_of s) (old.journal ++ x ∷ [])
 
-pub step_of : (s : ScenarioLists) (old new : ClusterView) (event : Event) (x : Entry) → AreParts s old → Walked old.layout old.journal → Walked new.layout new.journal → Applies old new event (Ok x) → IsStep s old new event x
-step_of s old new event x parts before after told =
+pub step_of : (s : ScenarioLists) (old new : ClusterView) (event : Event) (x : Entry) → AreParts s old → IsHistory new.layout new.journal → Applies old new event (Ok x) → IsStep s old new event x
+step_of s old new event x parts after told =
     record {
       made = made;
       layout = layout;
       free = ap (λ (l : Layout). stop l old.journal event) (sym parts.layout) ∙ told.0;
-      entry = told.1 ∙ ap (λ (l : Layout). step_entry l old.journal event) parts.layout;
-      walked = subst (λ (l : Layout). Walked l old.journal) parts.layout before;
-      history = subst (λ (j : List Entry). IsHistory (layout_of s) j) made (subst (λ (l : Layout). IsHistory l new.journal) layout after.history);
+      entry = told.1 ∙ ap (λ (l : Layout). next_entry l old.journal event) parts.layout;
+      history = subst (λ (j : List Entry). IsHistory (layout_of s) j) made (subst (λ (l : Layout). IsHistory l new.journal) layout after);
     }
   where
     made : new.journal ≡ old.journal ++ x ∷ []
@@ -144,7 +140,7 @@ step_of s old new event x parts before after told =
     layout = ap (λ (v : ClusterView). v.layout) told.2 ∙ parts.layout
 
 pub step_acts : {U : Type 0} (s : ScenarioLists) (old new : ClusterView) (event : Event) (x : Entry) (u : U) → IsStep s old new event x → Acts s (Ok u) old.journal (after_event (layout_of s) event old.journal) new.journal
-step_acts s old new event x u step = acts_ok s old.journal new.journal event x u step.walked step.free step.entry step.made
+step_acts s old new event x u step = acts_ok s old.journal new.journal event x u step.free step.entry step.made
 
 pub step_parts : (s : ScenarioLists) (old new : ClusterView) (event : Event) (x : Entry) → AreParts s old → IsStep s old new event x → AreParts s new
 step_parts s old new event x parts step =
@@ -156,9 +152,9 @@ step_parts s old new event x parts step =
     }
 
 -- the journal of a cluster of a scenario is short
-pub short_of : (s : ScenarioLists) (v : ClusterView) → AreParts s v → Walked v.layout v.journal → length v.journal ≤ 272 * s.log
-short_of s v parts walked =
-    runs_are_short s v.journal (record { lawful = parts.lawful; packet = parts.packet; history = subst (λ (l : Layout). IsHistory l v.journal) parts.layout walked.history }) parts.fits
+pub short_of : (s : ScenarioLists) (v : ClusterView) → AreParts s v → IsHistory v.layout v.journal → length v.journal ≤ 272 * s.log
+short_of s v parts history =
+    runs_are_short s v.journal (record { lawful = parts.lawful; packet = parts.packet; history = subst (λ (l : Layout). IsHistory l v.journal) parts.layout history }) parts.fits
 
 pub step_fed : (s : ScenarioLists) (old new : ClusterView) (event : Event) (x : Entry) (lines : List PlanLine) (rs mid now : List Released) → AreParts s old → IsStep s old new event x → AreFed s.plan old.journal rs → mid ≡ rs → lines ≡ s.plan → now ≡ fed_by lines (emitted_of x) mid → AreFed s.plan new.journal now
 step_fed s old new event x lines rs mid now parts step fed same plan is =

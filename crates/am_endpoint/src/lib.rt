@@ -115,6 +115,7 @@ impl Endpoint {
     pub fn log(&self) -> &[Entry]
         ensures log { result.now ≡ self.now.log }
         ensures few { length self.now.log ≤ self.now.settings.log }
+        ensures limit { self.now.settings.log ≤ 65536 }
     {
         self.log.as_slice()
     }

@@ -29,7 +29,7 @@ use am_office::{Condition, Entry, Part, Place};
 
 impl Interface {
     /// The node of an endpoint, if it is declared.
-    fn home(&self, end: EndpointId) -> Option<NodeId>
+    pub fn home(&self, end: EndpointId) -> Option<NodeId>
         ensures home { result ≡ home_in (own self.now) end }
         ensures within { IfSome result (λ node. node.0 < self.now.settings.nodes) }
     {

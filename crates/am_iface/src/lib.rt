@@ -125,9 +125,11 @@ impl Interface {
         self.limits.node
     }
 
-    /// The entries in order.
+    /// The entries in order: at most as many as the settings' limit, which is 1 to 65536.
     pub fn log(&self) -> &[Entry]
-        ensures { result.now ≡ self.now.log }
+        ensures log { result.now ≡ self.now.log }
+        ensures few { length self.now.log ≤ self.now.settings.log }
+        ensures limit { self.now.settings.log ≤ 65536 }
     {
         self.log.as_slice()
     }

@@ -1,9 +1,9 @@
 -- What is read off a journal, one entry more.
-use Rattle.std.specs.Prelude.{slice_get, slice_set, slice_index_or, replicate, IfSome}
+use Rattle.std.specs.Prelude.{max, slice_get, slice_set, slice_index_or, replicate, IfSome}
 use Rattle.std.specs.List.{filter, cons_option, All}
 use Rattle.std.proofs.Common.{◌≡◌, ⊎_elim, ℕ, zero, suc, ◌+◌, ◌*◌, ◌<◌, ◌≤◌, ◌^◌, ◌==◌, Bool, true, false, cond, ◌&&◌, List, [], ◌∷◌, ◌++◌, map, length, Option, Some, None, true≢false, refl, sym, ap, ◌∙◌, arith, eq-eqb, eqb-true, if◌then◌else◌}
 use Rattle.std.proofs.lemmas.List.{append-nil}
-use Rattle.std.proofs.lemmas.List.Sums.{sum_by_push, count_by-le-length}
+use Rattle.std.proofs.lemmas.List.Sums.{fold-append, sum_by_push, count_by-le-length}
 use Rattle.std.proofs.lemmas.Option.{slice_get_within}
 use Rattle.std.specs.Global.{Vec}
 use Rattle.am_names.specs.declared.NodeId.{NodeId}
@@ -20,10 +20,15 @@ use Rattle.am_local.specs.Interface.{receiver_of}
 use Rattle.am_local.specs.Readings.{page_calls}
 use Rattle.am_local.specs.Together.{from_of}
 use Rattle.am_local.proofs.Growing.{emitted_append, readings_push}
+use Rattle.am_drain.specs.Made.{later_stamp}
 use Rattle.am_journal.specs.Kept.{AreRead, items_of, node_of}
 use Rattle.am_journal.specs.Places.{link, link_of, page_place, receipt_place, counted, delivered}
-use Rattle.am_journal.specs.View.{AreNodes, HasRoomFor, JournalView, is_receipt, receipts}
+use Rattle.am_journal.specs.View.{AreNodes, HasRoomFor, JournalView, greatest_stamp, is_receipt, receipts}
 use Rattle.am_journal.proofs.Lists.{got_set, index_got, got_mapped, got_all, set_length}
+
+-- the greatest stamp, one entry more
+pub greatest_push : (xs : List Entry) (x : Entry) → greatest_stamp (xs ++ x ∷ []) ≡ max (greatest_stamp xs) x.stamp
+greatest_push xs x = fold-append later_stamp 0 xs (x ∷ [])
 
 -- ---- one more at a place
 

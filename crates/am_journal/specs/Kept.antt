@@ -6,7 +6,7 @@ use Rattle.am_names.specs.declared.Packet.{Packet}
 use Rattle.am_office.specs.declared.Entry.{Entry}
 use Rattle.am_model.specs.Channels.{emitted}
 use Rattle.am_local.specs.Readings.{page_calls}
-use Rattle.am_journal.specs.View.{JournalView, receipts}
+use Rattle.am_journal.specs.View.{JournalView, greatest_stamp, receipts}
 use Rattle.am_journal.specs.declared.IndexedJournal.TheInside.{Inside}
 
 abbrev pub has_space : Vec Packet → Bool
@@ -29,5 +29,6 @@ pub record AreRead (entries : List Entry) (of_nodes of_links : List ℕ) (packet
   pub all_received : length of_links ≡ 256
   pub all_links : length packets ≡ 256
 
-abbrev pub IsRead : Inside → Type 0
-IsRead j = AreRead j.entries.items j.page_calls j.receipts (map items_of j.packets.items)
+pub record IsRead (j : Inside) : Type 0 where
+  pub greatest : j.greatest ≡ greatest_stamp j.entries.items
+  pub read : AreRead j.entries.items j.page_calls j.receipts (map items_of j.packets.items)

@@ -1,5 +1,5 @@
 -- A journal with what is read off it, as its callers see it.
-use Rattle.std.specs.Prelude.{◌≡◌, ℕ, ◌<◌, Bool, true, false, ◌&&◌, Option, Some, None, List, count_by, slice_index_or}
+use Rattle.std.specs.Prelude.{◌≡◌, ℕ, ◌+◌, ◌^◌, ◌<◌, ◌≤◌, Bool, true, false, ◌&&◌, Option, Some, None, List, count_by, fold, length, slice_index_or}
 use Rattle.am_names.specs.declared.NodeId.{NodeId}
 use Rattle.am_names.specs.declared.Packet.{Packet}
 use Rattle.am_names.specs.Names.{same_node}
@@ -8,6 +8,7 @@ use Rattle.am_office.specs.declared.Event.TheVariants as Events
 use Rattle.am_office.specs.declared.Entry.{Entry}
 use Rattle.am_local.specs.Interface.{receiver_of}
 use Rattle.am_local.specs.Together.{from_of}
+use Rattle.am_drain.specs.Made.{later_stamp}
 use Rattle.am_journal.specs.Places.{link}
 
 -- the entries in order, whether there is room for one more, and for each link whether there is room for one more packet
@@ -15,6 +16,14 @@ pub record JournalView : Type 0 where
   pub entries : List Entry
   pub ready : Bool
   pub links : List Bool
+
+-- the greatest stamp of the entries, and 0 where there are none
+abbrev pub greatest_stamp : List Entry → ℕ
+greatest_stamp past = fold later_stamp 0 past
+
+-- the stamps are so small that there is one above them for each entry that there is memory for
+abbrev pub IsEarly : List Entry → Type 0
+IsEarly past = greatest_stamp past ≤ 2 ^ 63 + length past
 
 -- whether there is room for one more packet on a link
 abbrev pub is_ready_on : JournalView → NodeId → NodeId → Bool

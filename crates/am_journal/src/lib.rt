@@ -1,8 +1,8 @@
-//! The journal of a cluster, kept with what its machine reads off it: the packets that each link took, how many of them
-//! were received, and how many page calls each node made. So no step looks through the journal.
+//! The journal of a cluster, kept with what its machine reads off it: the greatest stamp so far, the packets that each link
+//! took, how many of them were received, and how many page calls each node made. So no step looks through the journal.
 #![tactic(auto)]
 
-ghost use Rattle.am_journal.specs.View.{AreNodes, HasRoomFor, is_ready_on, receipts};
+ghost use Rattle.am_journal.specs.View.{AreNodes, HasRoomFor, IsEarly, greatest_stamp, is_ready_on, receipts};
 ghost use Rattle.am_local.specs.Readings.{page_calls};
 ghost use Rattle.am_model.specs.Channels.{emitted};
 ghost use Rattle.am_office.specs.Entries.{emitted_of};
@@ -24,6 +24,8 @@ use std::marker::Model;
 #[derive(Drop)]
 pub struct IndexedJournal {
     entries: Vec<Entry>,
+    /// The greatest stamp of the entries, and 0 where there are none.
+    greatest: u64,
     /// How many page calls each of 16 nodes made.
     page_calls: [u64; 16],
     /// How many packets of each link were received: the links from one node stand together, sixteen to a node.
@@ -52,6 +54,7 @@ impl IndexedJournal {
         let packets = no_packets(alloc)?;
         Ok(IndexedJournal {
             entries: Vec::new(alloc),
+            greatest: 0,
             page_calls: [0; 16],
             receipts: [0; 256],
             packets,
@@ -65,12 +68,15 @@ impl IndexedJournal {
         self.entries.as_slice()
     }
 
-    /// How many entries there are.
-    pub fn len(&self) -> u64
-        ensures value { result ≡ length self.now.entries }
+    /// The greatest stamp of the entries, and 0 where there are none. Where there is room for one more entry, there is a stamp
+    /// above it.
+    pub fn greatest_stamp(&self) -> u64
+        requires ready { self.now.ready ≡ true }
+        requires early { IsEarly self.now.entries }
+        ensures value { result ≡ greatest_stamp self.now.entries }
         ensures more { result + 1 < 2 ^ 64 }
     {
-        self.entries.len() as u64
+        self.greatest
     }
 
     /// How many page calls a node made.
@@ -104,6 +110,7 @@ impl IndexedJournal {
     pub fn room(&mut self) -> Result<(), NoMemory>
         ensures entries { self.new.entries ≡ self.old.entries }
         ensures ready { OnOk result (self.new.ready ≡ true) }
+        ensures few { length self.new.entries + 1 < 2 ^ 64 }
     {
         match self.entries.reserve(1) {
             Ok(()) => Ok(()),
@@ -148,6 +155,7 @@ impl IndexedJournal {
         count(&mut self.page_calls, page_place(entry.event));
         count(&mut self.receipts, receipt_place(entry.event));
         deliver(&mut self.packets, packet);
+        self.greatest = self.greatest.max(entry.stamp);
         self.entries.push(entry).unwrap();
     }
 }

@@ -1,5 +1,5 @@
 -- What a cluster is after an event was applied or refused.
-use Rattle.std.specs.Prelude.{slice_get, slice_index_or, slice_set, max, nat_le, not}
+use Rattle.std.specs.Prelude.{fold, slice_get, slice_index_or, slice_set, max, nat_le, not}
 use Rattle.std.specs.List.{list_any, filter, position}
 use Rattle.std.proofs.Common.{◌≡◌, ℕ, zero, suc, ◌+◌, ◌-◌, ◌<◌, ◌≤◌, Bool, true, false, cond, ◌||◌, List, [], ◌∷◌, ◌++◌, map, length, Option, Some, None, refl, sym, ap, ◌∙◌, subst, arith, if◌then◌else◌}
 use Rattle.std.proofs.lemmas.Bool.{and_parts}
@@ -20,7 +20,8 @@ use Rattle.am_model.specs.Calls.{outcome_of_call}
 use Rattle.am_model.specs.Layout.{Layout}
 use Rattle.am_model.specs.History.{MayFollow, is_in_range, is_call_in_range, is_byte, is_kind_in_range, are_credits_in_range, failing, outcome_of, state_of}
 use Rattle.am_model.specs.Layout.{declared}
-use Rattle.am_model.specs.Steps.{LogFull, NotEnabled, stop, stop_by, full_by, full_log, least_such, lesser, step_entry, is_end_full}
+use Rattle.am_model.specs.Steps.{LogFull, NotEnabled, stop, stop_by, full_by, full_log, least_such, lesser, is_end_full}
+use Rattle.am_drain.specs.Made.{later_stamp, next_entry, next_stamp}
 use Rattle.am_model.specs.Choice.{first_holding}
 use Rattle.am_office.specs.declared.Condition.TheVariants as Needs
 use Rattle.am_office.specs.declared.Part.TheVariants as Parts
@@ -41,7 +42,8 @@ use Rattle.am_machine.specs.Kept.{IsKept, IsOwn, IsTied, layout_in}
 use Rattle.am_machine.specs.View.{ClusterView}
 use Rattle.am_machine.proofs.Direct.{off_disk}
 use Rattle.am_machine.proofs.Events.{call_enabled}
-use Rattle.am_laws_steps.proofs.Steps.{may_step}
+use Rattle.am_drain.proofs.Entries.{entry_may_follow}
+use Rattle.am_journal.specs.View.{greatest_stamp}
 use Rattle.am_machine.proofs.Holding.{swaps_same}
 use Rattle.am_machine.proofs.Places.{found, index_got, place_is, place_same}
 use Rattle.am_machine.proofs.Tied.{kept_at, kept_set, layout_kept, one_grown, own_at, own_state, tied_push}
@@ -64,14 +66,14 @@ pub record IsNext (s : Settings) (faults : List FaultLine) (es : List EndLog) (j
   pub tied : IsTied (layout_in s faults es) es journal
   pub in_range : is_in_range (layout_in s faults es) event ≡ true
   pub runs : stop (layout_in s faults es) journal event ≡ None
-  pub entry : x ≡ step_entry (layout_in s faults es) journal event
+  pub entry : x ≡ next_entry (layout_in s faults es) journal event
   pub ends : new ≡ map (grown x) es
   pub journal' : grown_journal ≡ journal ++ x ∷ []
 
 pub tied_next : (s : Settings) (faults : List FaultLine) (es : List EndLog) (journal : List Entry) (event : Event) (x : Entry) (new : List EndLog) (longer : List Entry) → IsNext s faults es journal event x new longer → IsTied (layout_in s faults new) new longer
 tied_next s faults es journal event x new longer n =
     let layout = layout_in s faults es in
-    let y = step_entry layout journal event in
+    let y = next_entry layout journal event in
     let at_y : IsTied layout (map (grown y) es) (journal ++ y ∷ []) = tied_push layout es journal event n.tied n.in_range (enabled_of layout journal event n.runs) in
     let at_x : IsTied layout (map (grown x) es) (journal ++ x ∷ []) = subst (λ (z : Entry). IsTied layout (map (grown z) es) (journal ++ z ∷ [])) (sym n.entry) at_y in
     let same : layout ≡ layout_in s faults (map (grown x) es) = sym (layout_kept s faults es x) in
@@ -89,7 +91,7 @@ tied_same s faults es new journal other ends same tied =
 pub next_follows : (s : Settings) (faults : List FaultLine) (es : List EndLog) (journal : List Entry) (event : Event) (x : Entry) (new : List EndLog) (longer : List Entry) → IsNext s faults es journal event x new longer → MayFollow (layout_in s faults es) journal x
 next_follows s faults es journal event x new longer n =
     let layout = layout_in s faults es in
-    subst (MayFollow layout journal) (sym n.entry) (may_step layout journal event n.tied.walked n.in_range (enabled_of layout journal event n.runs))
+    subst (MayFollow layout journal) (sym n.entry) (entry_may_follow layout journal event n.in_range (enabled_of layout journal event n.runs))
 
 -- the layout that the endpoints tell after it
 pub layout_next : (s : Settings) (faults : List FaultLine) (es : List EndLog) (journal : List Entry) (event : Event) (x : Entry) (new : List EndLog) (longer : List Entry) → IsNext s faults es journal event x new longer → layout_in s faults es ≡ layout_in s faults new
@@ -106,7 +108,7 @@ pub swaps_kept : (s : Settings) (faults : List FaultLine) (es : List EndLog) (jo
 swaps_kept s faults es journal event x new longer ss n unpaged are =
     let layout = layout_in s faults es in
     swaps_next s faults es journal event x new longer ss n
-    (swaps_same layout journal x ss n.tied.lawful n.tied.walked.history (next_follows s faults es journal event x new longer n) (ap (λ (y : Entry). is_page y.event) n.entry ∙ unpaged) are)
+    (swaps_same layout journal x ss n.tied.lawful n.tied.history (next_follows s faults es journal event x new longer n) (ap (λ (y : Entry). is_page y.event) n.entry ∙ unpaged) are)
 
 -- what it keeps, where the event touches no interface
 pub kept_next : (s : Settings) (faults : List FaultLine) (es : List EndLog) (journal : List Entry) (event : Event) (x : Entry) (new : List EndLog) (longer : List Entry) (is : List InterfaceView) (ss : List Store) → IsNext s faults es journal event x new longer → node_touched event ≡ None → AreInterfaces (layout_in s faults es) journal is → AreSwaps (layout_in s faults es) (journal ++ x ∷ []) ss → IsKept (layout_in s faults new) new longer is ss
@@ -125,7 +127,7 @@ pub kept_unpaged : (s : Settings) (faults : List FaultLine) (es : List EndLog) (
 kept_unpaged s faults es journal event x new longer is ss n alone unpaged kept' =
     let layout = layout_in s faults es in
     kept_next s faults es journal event x new longer is ss n alone kept'.interfaces'
-    (swaps_same layout journal x ss n.tied.lawful n.tied.walked.history (next_follows s faults es journal event x new longer n) (ap (λ (y : Entry). is_page y.event) n.entry ∙ unpaged) kept'.swaps')
+    (swaps_same layout journal x ss n.tied.lawful n.tied.history (next_follows s faults es journal event x new longer n) (ap (λ (y : Entry). is_page y.event) n.entry ∙ unpaged) kept'.swaps')
 
 -- and where neither settings nor logs changed
 pub kept_still : (s : Settings) (faults : List FaultLine) (es new : List EndLog) (journal other : List Entry) (is : List InterfaceView) (ss : List Store) → new ≡ es → other ≡ journal → IsKept (layout_in s faults es) es journal is ss → IsKept (layout_in s faults new) new other is ss
@@ -136,10 +138,10 @@ kept_still s faults es new journal other is ss ends same kept' =
       swaps' = coe 0 1 (k. AreSwaps (ap (λ (ns : List EndLog). layout_in s faults ns) (sym ends) k) (sym same k) ss) kept'.swaps';
     }
 
-pub seen_next : (s : Settings) (faults : List FaultLine) (es : List EndLog) (journal : List Entry) (event : Event) (x : Entry) (new : List EndLog) (longer : List Entry) (v : ClusterView) → seen s faults es journal ≡ v → IsNext s faults es journal event x new longer → (stop v.layout v.journal event ≡ None) × (x ≡ step_entry v.layout v.journal event) × (seen s faults new longer ≡ record v { journal = v.journal ++ x ∷ [] })
+pub seen_next : (s : Settings) (faults : List FaultLine) (es : List EndLog) (journal : List Entry) (event : Event) (x : Entry) (new : List EndLog) (longer : List Entry) (v : ClusterView) → seen s faults es journal ≡ v → IsNext s faults es journal event x new longer → (stop v.layout v.journal event ≡ None) × (x ≡ next_entry v.layout v.journal event) × (seen s faults new longer ≡ record v { journal = v.journal ++ x ∷ [] })
 seen_next s faults es journal event x new longer v is n = (
   ap (λ (w : ClusterView). stop w.layout w.journal event) (sym is) ∙ n.runs,
-  n.entry ∙ ap (λ (w : ClusterView). step_entry w.layout w.journal event) is,
+  n.entry ∙ ap (λ (w : ClusterView). next_entry w.layout w.journal event) is,
   (λ i. record { layout = (ap (λ (ns : List EndLog). layout_in s faults ns) n.ends ∙ layout_kept s faults es x) i; journal = n.journal' i })
       ∙ ap (λ (w : ClusterView). record w { journal = w.journal ++ x ∷ [] }) is,
 )
@@ -170,12 +172,12 @@ state_here layout vs journal e k one tied here =
     own_state layout journal (kept one) (own_here layout vs journal e k one tied here) ∙ ap (state_of layout journal) here.id
 
 pub off_disk_at : (layout : Layout) (journal : List Entry) (e : EndpointId) {es : List EndLog} → layout.direct ≡ true → IsTied layout es journal → is_on_disk (state_of layout journal e).head.place ≡ false
-off_disk_at layout journal e direct tied = off_disk layout direct journal tied.walked.history e
+off_disk_at layout journal e direct tied = off_disk layout direct journal tied.history e
 
 pub off_disk_here : (layout : Layout) (vs : List EndpointView) (journal : List Entry) (e : EndpointId) (k : ℕ) (one : EndpointView) → layout.direct ≡ true → IsTied layout (map kept vs) journal → IsHere vs e k one → is_on_disk (state_after one).head.place ≡ false
 off_disk_here layout vs journal e k one direct tied here =
     ap (λ (s : State). is_on_disk s.head.place) (state_here layout vs journal e k one tied here)
-    ∙ off_disk layout direct journal tied.walked.history e
+    ∙ off_disk layout direct journal tied.history e
 
 -- whether its log is full is told by the log
 pub full_here : (layout : Layout) (vs : List EndpointView) (journal : List Entry) (e : EndpointId) (k : ℕ) (one : EndpointView) (t : Bool) → IsTied layout (map kept vs) journal → IsHere vs e k one → nat_le layout.log (length one.log) ≡ t → is_end_full layout journal e ≡ t
@@ -209,6 +211,17 @@ only_here layout vs journal e k one tied here j d at = by_place (is_place k j) r
 
 -- ---- stamps
 
+-- no entry is stamped above the greatest
+below_from : (a : ℕ) (xs : List Entry) → (a ≤ fold later_stamp a xs) × AreBelow (fold later_stamp a xs + 1) xs
+below_from a [] = (omega arith, tt)
+below_from a (x ∷ xs) =
+    let more = below_from (max a x.stamp) xs in
+    let least = more.0 in
+    (omega (arith, least), (omega (arith, least), more.1))
+
+pub all_below : (journal : List Entry) → AreBelow (greatest_stamp journal + 1) journal
+all_below journal = (below_from 0 journal).1
+
 got_below : (n : ℕ) (xs : List Entry) (k : ℕ) (x : Entry) → AreBelow n xs → slice_get xs k ≡ Some x → x.stamp < n
 got_below n [] k x h at = absurd (cc)
 got_below n (y ∷ xs) zero x h at = let same : y ≡ x = cc in subst (λ (z : Entry). z.stamp < n) same h.0
@@ -229,10 +242,10 @@ below_filter n p (x ∷ xs) h = by_test (p x) (below_filter n p xs h.1)
     by_test true more = (h.0, more)
     by_test false more = more
 
-pub last_here : (layout : Layout) (vs : List EndpointView) (journal : List Entry) (e : EndpointId) (k : ℕ) (one : EndpointView) → IsTied layout (map kept vs) journal → IsHere vs e k one → last_stamp one.log ≤ length journal
+pub last_here : (layout : Layout) (vs : List EndpointView) (journal : List Entry) (e : EndpointId) (k : ℕ) (one : EndpointView) → IsTied layout (map kept vs) journal → IsHere vs e k one → last_stamp one.log ≤ greatest_stamp journal
 last_here layout vs journal e k one tied here =
-    subst (λ (xs : List Entry). last_stamp xs ≤ length journal) (sym (own_here layout vs journal e k one tied here).log)
-    (last_below (length journal) (filter (touches one.settings.id) journal) (below_filter (length journal + 1) (touches one.settings.id) journal tied.walked.below))
+    subst (λ (xs : List Entry). last_stamp xs ≤ greatest_stamp journal) (sym (own_here layout vs journal e k one tied here).log)
+    (last_below (greatest_stamp journal) (filter (touches one.settings.id) journal) (below_filter (greatest_stamp journal + 1) (touches one.settings.id) journal (all_below journal)))
 
 -- ---- calls
 
@@ -247,7 +260,7 @@ numbers_in_range layout actor end c h = by_call c (and_parts _ (is_call_in_range
 pub end_declared : (layout : Layout) (actor : Actor) (end : EndpointId) (c : Call) → is_in_range layout (Events.Call actor end c) ≡ true → declared layout end ≡ true
 end_declared layout actor end c h = (and_parts _ (declared layout end) (and_parts _ (is_call_in_range layout c) h).0).1
 
-pub call_entry : (layout : Layout) (vs : List EndpointView) (journal : List Entry) (actor : Actor) (end : EndpointId) (c : Call) (k : ℕ) (one : EndpointView) (x : Entry) → IsTied layout (map kept vs) journal → IsHere vs end k one → x.event ≡ Events.Call actor one.settings.id c → x.outcome ≡ outcome_of_call one.settings.pool one.settings.id (state_after one) c → x.stamp ≡ length journal + 1 → x ≡ step_entry layout journal (Events.Call actor end c)
+pub call_entry : (layout : Layout) (vs : List EndpointView) (journal : List Entry) (actor : Actor) (end : EndpointId) (c : Call) (k : ℕ) (one : EndpointView) (x : Entry) → IsTied layout (map kept vs) journal → IsHere vs end k one → x.event ≡ Events.Call actor one.settings.id c → x.outcome ≡ outcome_of_call one.settings.pool one.settings.id (state_after one) c → x.stamp ≡ next_stamp journal → x ≡ next_entry layout journal (Events.Call actor end c)
 call_entry layout vs journal actor end c k one x tied here event outcome stamp =
     let own = own_here layout vs journal end k one tied here in
     let state = state_here layout vs journal end k one tied here in
@@ -287,7 +300,7 @@ single_stop layout journal event end t one full =
     by_test false = refl
 
 -- what it makes of a cluster
-pub single_next : (s : Settings) (faults : List FaultLine) (vs : List EndpointView) (journal : List Entry) (event : Event) (end : EndpointId) (k : ℕ) (one w : EndpointView) (x : Entry) (longer : List Entry) → IsTied (layout_in s faults (map kept vs)) (map kept vs) journal → IsSingle (layout_in s faults (map kept vs)) journal event end → IsHere vs end k one → nat_le s.log (length one.log) ≡ false → x ≡ step_entry (layout_in s faults (map kept vs)) journal event → w.settings ≡ one.settings → w.log ≡ one.log ++ x ∷ [] → longer ≡ journal ++ x ∷ [] → IsNext s faults (map kept vs) journal event x (map kept (slice_set vs k w)) longer
+pub single_next : (s : Settings) (faults : List FaultLine) (vs : List EndpointView) (journal : List Entry) (event : Event) (end : EndpointId) (k : ℕ) (one w : EndpointView) (x : Entry) (longer : List Entry) → IsTied (layout_in s faults (map kept vs)) (map kept vs) journal → IsSingle (layout_in s faults (map kept vs)) journal event end → IsHere vs end k one → nat_le s.log (length one.log) ≡ false → x ≡ next_entry (layout_in s faults (map kept vs)) journal event → w.settings ≡ one.settings → w.log ≡ one.log ++ x ∷ [] → longer ≡ journal ++ x ∷ [] → IsNext s faults (map kept vs) journal event x (map kept (slice_set vs k w)) longer
 single_next s faults vs journal event end k one w x longer tied single here room is settings log more =
     let layout = layout_in s faults (map kept vs) in
     record {
@@ -305,9 +318,9 @@ max_left : (a b : ℕ) → b ≤ a → 1 + max a b ≡ a + 1
 max_left a b h = omega arith
 
 -- the stamp that an endpoint gives, from the greatest so far
-pub stamp_here : (layout : Layout) (vs : List EndpointView) (journal : List Entry) (end : EndpointId) (k : ℕ) (one : EndpointView) (floor stamp : ℕ) → IsTied layout (map kept vs) journal → IsHere vs end k one → floor ≡ length journal → stamp ≡ 1 + max floor (last_stamp one.log) → stamp ≡ length journal + 1
+pub stamp_here : (layout : Layout) (vs : List EndpointView) (journal : List Entry) (end : EndpointId) (k : ℕ) (one : EndpointView) (floor stamp : ℕ) → IsTied layout (map kept vs) journal → IsHere vs end k one → floor ≡ greatest_stamp journal → stamp ≡ 1 + max floor (last_stamp one.log) → stamp ≡ next_stamp journal
 stamp_here layout vs journal end k one floor stamp tied here at is =
-    is ∙ ap (λ (n : ℕ). 1 + max n (last_stamp one.log)) at ∙ max_left (length journal) (last_stamp one.log) (last_here layout vs journal end k one tied here)
+    is ∙ ap (λ (n : ℕ). 1 + max n (last_stamp one.log)) at ∙ max_left (greatest_stamp journal) (last_stamp one.log) (last_here layout vs journal end k one tied here)
 
 -- ---- calls and wants
 
@@ -318,19 +331,19 @@ pub want_single : (layout : Layout) (journal : List Entry) (actor : Actor) (end 
 want_single layout journal actor end range on =
     record { in_range = range; enabled = ap (λ (b : Bool). first_holding ((not b, Needs.NotOnDisk) ∷ [])) on; touched = refl; alone = refl }
 
-pub call_next : (s : Settings) (faults : List FaultLine) (vs : List EndpointView) (journal : List Entry) (actor : Actor) (end : EndpointId) (c : Call) (k : ℕ) (one w : EndpointView) (x : Entry) (longer : List Entry) (floor : ℕ) → IsTied (layout_in s faults (map kept vs)) (map kept vs) journal → is_in_range (layout_in s faults (map kept vs)) (Events.Call actor end c) ≡ true → IsHere vs end k one → is_on_disk (state_of (layout_in s faults (map kept vs)) journal end).head.place ≡ false → nat_le s.log (length one.log) ≡ false → x.event ≡ Events.Call actor one.settings.id c → x.outcome ≡ outcome_of_call one.settings.pool one.settings.id (state_after one) c → x.stamp ≡ 1 + max floor (last_stamp one.log) → floor ≡ length journal → w.settings ≡ one.settings → w.log ≡ one.log ++ x ∷ [] → longer ≡ journal ++ x ∷ [] → IsNext s faults (map kept vs) journal (Events.Call actor end c) x (map kept (slice_set vs k w)) longer
+pub call_next : (s : Settings) (faults : List FaultLine) (vs : List EndpointView) (journal : List Entry) (actor : Actor) (end : EndpointId) (c : Call) (k : ℕ) (one w : EndpointView) (x : Entry) (longer : List Entry) (floor : ℕ) → IsTied (layout_in s faults (map kept vs)) (map kept vs) journal → is_in_range (layout_in s faults (map kept vs)) (Events.Call actor end c) ≡ true → IsHere vs end k one → is_on_disk (state_of (layout_in s faults (map kept vs)) journal end).head.place ≡ false → nat_le s.log (length one.log) ≡ false → x.event ≡ Events.Call actor one.settings.id c → x.outcome ≡ outcome_of_call one.settings.pool one.settings.id (state_after one) c → x.stamp ≡ 1 + max floor (last_stamp one.log) → floor ≡ greatest_stamp journal → w.settings ≡ one.settings → w.log ≡ one.log ++ x ∷ [] → longer ≡ journal ++ x ∷ [] → IsNext s faults (map kept vs) journal (Events.Call actor end c) x (map kept (slice_set vs k w)) longer
 call_next s faults vs journal actor end c k one w x longer floor tied range here off room event outcome stamp at settings log more =
     let layout = layout_in s faults (map kept vs) in
     single_next s faults vs journal (Events.Call actor end c) end k one w x longer tied (call_single layout journal actor end c range off) here room
     (call_entry layout vs journal actor end c k one x tied here event outcome (stamp_here layout vs journal end k one floor x.stamp tied here at stamp))
     settings log more
 
-want_entry : (layout : Layout) (vs : List EndpointView) (journal : List Entry) (actor : Actor) (end : EndpointId) (k : ℕ) (one : EndpointView) (x : Entry) → IsHere vs end k one → x.event ≡ Events.Want actor one.settings.id → x.outcome ≡ Out.Silent → x.stamp ≡ length journal + 1 → x ≡ step_entry layout journal (Events.Want actor end)
+want_entry : (layout : Layout) (vs : List EndpointView) (journal : List Entry) (actor : Actor) (end : EndpointId) (k : ℕ) (one : EndpointView) (x : Entry) → IsHere vs end k one → x.event ≡ Events.Want actor one.settings.id → x.outcome ≡ Out.Silent → x.stamp ≡ next_stamp journal → x ≡ next_entry layout journal (Events.Want actor end)
 want_entry layout vs journal actor end k one x here event outcome stamp =
     let at : x.event ≡ Events.Want actor end = event ∙ ap (λ (e : EndpointId). Events.Want actor e) here.id in
     λ i. record { stamp = stamp i; event = at i; outcome = outcome i }
 
-pub want_next : (s : Settings) (faults : List FaultLine) (vs : List EndpointView) (journal : List Entry) (actor : Actor) (end : EndpointId) (k : ℕ) (one w : EndpointView) (x : Entry) (longer : List Entry) (floor : ℕ) → IsTied (layout_in s faults (map kept vs)) (map kept vs) journal → is_in_range (layout_in s faults (map kept vs)) (Events.Want actor end) ≡ true → IsHere vs end k one → is_on_disk (state_of (layout_in s faults (map kept vs)) journal end).head.place ≡ true → nat_le s.log (length one.log) ≡ false → x.event ≡ Events.Want actor one.settings.id → x.outcome ≡ Out.Silent → x.stamp ≡ 1 + max floor (last_stamp one.log) → floor ≡ length journal → w.settings ≡ one.settings → w.log ≡ one.log ++ x ∷ [] → longer ≡ journal ++ x ∷ [] → IsNext s faults (map kept vs) journal (Events.Want actor end) x (map kept (slice_set vs k w)) longer
+pub want_next : (s : Settings) (faults : List FaultLine) (vs : List EndpointView) (journal : List Entry) (actor : Actor) (end : EndpointId) (k : ℕ) (one w : EndpointView) (x : Entry) (longer : List Entry) (floor : ℕ) → IsTied (layout_in s faults (map kept vs)) (map kept vs) journal → is_in_range (layout_in s faults (map kept vs)) (Events.Want actor end) ≡ true → IsHere vs end k one → is_on_disk (state_of (layout_in s faults (map kept vs)) journal end).head.place ≡ true → nat_le s.log (length one.log) ≡ false → x.event ≡ Events.Want actor one.settings.id → x.outcome ≡ Out.Silent → x.stamp ≡ 1 + max floor (last_stamp one.log) → floor ≡ greatest_stamp journal → w.settings ≡ one.settings → w.log ≡ one.log ++ x ∷ [] → longer ≡ journal ++ x ∷ [] → IsNext s faults (map kept vs) journal (Events.Want actor end) x (map kept (slice_set vs k w)) longer
 want_next s faults vs journal actor end k one w x longer floor tied range here on room event outcome stamp at settings log more =
     let layout = layout_in s faults (map kept vs) in
     single_next s faults vs journal (Events.Want actor end) end k one w x longer tied (want_single layout journal actor end range on) here room

@@ -114,7 +114,8 @@ begins s faults nodes lines es is lawful rise whole =
     subst (λ (ns : List EndLog). IsTied (layout_in s faults ns) ns []) (sym is)
     (record {
       lawful = subst (λ (ns : List EndLog). IsLawful (layout_in s faults ns)) is whole;
-      walked = record { history = tt; stamped = refl; below = tt };
+      history = tt;
+      early = omega arith;
       own = all_by_place (IsOwn layout []) (map (opened s) lines) own_at;
       apart = λ j k d e dj ek same.
           (let a = got_opened s lines j d dj in

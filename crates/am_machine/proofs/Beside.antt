@@ -132,7 +132,7 @@ known_by j b (Works.Bind end) = by_front (front (state_after b.endpoint)) refl
     by_front : (q : Option Queued) → front (state_after b.endpoint) ≡ q → IsHomeKnown (own j.one) q
     by_front None is = tt
     by_front (Some q) is =
-        let goes = front_addressed (joint.layout_of j) j.journal j.kept'.tied.walked.history b.end q (ap front (sym (state_at j b)) ∙ is) in
+        let goes = front_addressed (joint.layout_of j) j.journal j.kept'.tied.history b.end q (ap front (sym (state_at j b)) ∙ is) in
         subst (λ (o : Option NodeId). IsSome o) (sym ((interface_in j).homes q.message.dest)) (declared_home (joint.layout_of j).ends q.message.dest goes.dest)
 
 in_flight : (j : Joint) (b : Beside j) (peer : NodeId) (channel : ℕ) (m : Option Message) (ends : Bool) → bound_message (channel_in (own j.one) peer channel) j.one.log ≡ m → needs_bound m ends ≡ Some b.end → IsInFlight (state_after b.endpoint) m
@@ -141,7 +141,7 @@ in_flight j b peer channel (Some m) false is needed = absurd (cc)
 in_flight j b peer channel (Some m) true is needed =
     let source : m.serial.source ≡ b.end = cc in
     let bound = (same_ends (joint.layout_of j) j.journal (own j.one) (joint_part j) peer channel).bound ∙ is in
-    let aloft = bound_aloft (joint.layout_of j) j.journal j.packet j.kept'.tied.walked.history (channel_in (own j.one) peer channel) m bound in
+    let aloft = bound_aloft (joint.layout_of j) j.journal j.packet j.kept'.tied.history (channel_in (own j.one) peer channel) m bound in
     ap (λ (s : State). is_some (flying_of m.serial s.body.in_flight)) (state_at j b ∙ ap (state_of (joint.layout_of j) j.journal) (sym source)) ∙ aloft.flight
 
 flies_by : (j : Joint) (b : Beside j) (w : Work) → FitsInterface j.one w → needs (own j.one) w ≡ Some b.end → FitsEndpoint (own j.one) (state_after b.endpoint) w
@@ -162,7 +162,7 @@ beside_can j b =
       home = home_at j b;
       network =
           ap (λ (s : State). is_direct s.head.place) (state_at j b)
-          ∙ fits_network layout j.journal j.kept'.tied.walked.history b.end
+          ∙ fits_network layout j.journal j.kept'.tied.history b.end
           ∙ ap (λ (t : Bool). t && declared layout b.end) j.packet;
       bounces = (own_of j b).bounces ∙ sym (interface_in j).bounces;
       known = known_by j b j.work;

@@ -21,7 +21,8 @@ use Rattle.am_model.specs.Layout.{Layout, declared}
 use Rattle.am_laws_homes.proofs.Homes.{front_addressed}
 use Rattle.am_laws_homes.proofs.Places.{fits_network}
 use Rattle.am_model.specs.History.{is_in_range, carry, judged, outcome_of, state_of}
-use Rattle.am_model.specs.Steps.{stop, step_entry}
+use Rattle.am_model.specs.Steps.{stop}
+use Rattle.am_drain.specs.Made.{next_entry, next_stamp}
 use Rattle.am_model.proofs.Names.{same_end-is, same_end-refl}
 use Rattle.am_scenario_types.specs.declared.parts.FaultLine.{FaultLine}
 use Rattle.am_body.specs.declared.settings.EndSettings.{EndSettings}
@@ -64,7 +65,7 @@ layout_of c = layout_in c.settings c.faults (map kept c.ends)
 
 -- the entry of the carry
 pub record IsEntryOf (c : Carriage) (x : Entry) : Type 0 where
-  pub stamp : x.stamp ≡ length c.journal + 1
+  pub stamp : x.stamp ≡ next_stamp c.journal
   pub event : x.event ≡ Events.Carry c.end
   pub outcome : x.outcome ≡ judged c.settings.bounces c.queued.message c.queued.bounces c.there
 
@@ -82,7 +83,7 @@ front_there c = ap front (sym (state_here (layout_of c) c.ends c.journal c.end c
 verdict_there : (c : Carriage) → c.there ≡ verdict (state_of (layout_of c) c.journal c.queued.message.dest) c.queued.message
 verdict_there c = c.judged_there ∙ ap (λ (s : State). verdict s c.queued.message) (state_here (layout_of c) c.ends c.journal c.queued.message.dest c.to c.two c.tied c.dest)
 
-pub carriage_entry : (c : Carriage) (x : Entry) → IsEntryOf c x → x ≡ step_entry (layout_of c) c.journal (Events.Carry c.end)
+pub carriage_entry : (c : Carriage) (x : Entry) → IsEntryOf c x → x ≡ next_entry (layout_of c) c.journal (Events.Carry c.end)
 carriage_entry c x is =
     let came : x.outcome ≡ outcome_of (layout_of c) c.journal (Events.Carry c.end) =
     is.outcome
@@ -148,7 +149,7 @@ carriage_next c x is new longer ends more =
 lies_direct : (c : Carriage) (e : EndpointId) (s : State) → s ≡ state_of (layout_of c) c.journal e → declared (layout_of c) e ≡ true → is_direct s.head.place ≡ true
 lies_direct c e s is known =
     ap (λ (st : State). is_direct st.head.place) is
-    ∙ fits_network (layout_of c) c.journal c.tied.walked.history e
+    ∙ fits_network (layout_of c) c.journal c.tied.history e
     ∙ ap (λ (b : Bool). b && declared (layout_of c) e) c.direct
     ∙ known
 
@@ -213,7 +214,7 @@ carriage_arrives c x is us same ready apart w now =
             network =
                 ap (λ (e : Event). is_network_of e (state_after w).head.place) is.event
                 ∙ lies_direct c c.queued.message.dest (state_after w) (state ∙ state_here (layout_of c) c.ends c.journal c.queued.message.dest c.to c.two c.tied c.dest)
-                (front_addressed (layout_of c) c.journal c.tied.walked.history c.end c.queued (front_there c)).dest;
+                (front_addressed (layout_of c) c.journal c.tied.history c.end c.queued (front_there c)).dest;
             formed = c.formed;
             elsewhere =
                 ap (λ (e : Event). is_carry_from w.settings.id e) is.event
@@ -245,4 +246,4 @@ pub front_at : (layout : Layout) (vs : List EndpointView) (journal : List Entry)
 front_at layout vs journal e k one f tied here at = ap front (sym (state_here layout vs journal e k one tied here)) ∙ at
 
 pub dest_declared : (layout : Layout) (journal : List Entry) (end : EndpointId) (q : Queued) {es : List EndLog} → IsTied layout es journal → front (state_of layout journal end) ≡ Some q → declared layout q.message.dest ≡ true
-dest_declared layout journal end q tied at = (front_addressed layout journal tied.walked.history end q at).dest
+dest_declared layout journal end q tied at = (front_addressed layout journal tied.history end q at).dest

@@ -26,7 +26,8 @@ use Rattle.am_local.specs.Together.{IsState, from_of, number_of}
 use Rattle.am_local.proofs.Outcomes.{same_ends}
 use Rattle.am_local.proofs.Numbering.{history_numbered, numbered_place}
 use Rattle.am_laws_packets.proofs.Packets.{bound_aloft, packets_fit}
-use Rattle.am_laws_steps.proofs.Steps.{may_step}
+use Rattle.am_drain.proofs.Entries.{entry_may_follow}
+use Rattle.am_journal.specs.View.{greatest_stamp}
 use Rattle.am_scenario_types.specs.declared.parts.FaultLine.{FaultLine}
 use Rattle.am_endpoint.specs.View.{EndpointView}
 use Rattle.am_journal.proofs.Lists.{index_got}
@@ -38,7 +39,7 @@ use Rattle.am_machine.specs.Ends.{kept}
 use Rattle.am_machine.specs.Kept.{IsKept, layout_in}
 use Rattle.am_machine.specs.View.{ClusterView}
 use Rattle.am_machine.specs.Turned.{CanTurn, IsTaken}
-use Rattle.am_machine.proofs.Applied.{below_filter, last_below, seen}
+use Rattle.am_machine.proofs.Applied.{all_below, below_filter, last_below, seen}
 use Rattle.am_machine.proofs.Joint as joint
 use Rattle.am_machine.proofs.Joint.{Joint, event_in, interface_in, joint_failing}
 
@@ -97,7 +98,7 @@ joint_fits j = by_work j.work j.in_range j.taken
     by_work : (w : Work) → is_in_range (joint.layout_of j) (event_of j.node w) ≡ true → IsTaken j.journal j.node w → FitsInterface j.one w
     by_work (Works.Receive (Packets.Parcel p)) range at =
         let is = interface_in j in
-        let history = j.kept'.tied.walked.history in
+        let history = j.kept'.tied.history in
         let fit = packets_fit (joint.layout_of j) j.journal history p.from j.node (p.number - 1) (Packets.Parcel p) at in
         let placed = numbered_place j.journal (history_numbered (joint.layout_of j) j.journal history) p.from j.node (p.number - 1) (Packets.Parcel p) at in
         let peer = (range_receive (joint.layout_of j) j.node p.from p.number range).1 in
@@ -112,7 +113,7 @@ joint_fits j = by_work j.work j.in_range j.taken
         }
     by_work (Works.Receive (Packets.Answer p)) range at =
         let is = interface_in j in
-        let history = j.kept'.tied.walked.history in
+        let history = j.kept'.tied.history in
         let channel = packets_fit (joint.layout_of j) j.journal history p.from j.node (p.number - 1) (Packets.Answer p) at in
         let placed = numbered_place j.journal (history_numbered (joint.layout_of j) j.journal history) p.from j.node (p.number - 1) (Packets.Answer p) at in
         let peer = (range_receive (joint.layout_of j) j.node p.from p.number range).1 in
@@ -133,28 +134,28 @@ joint_fits j = by_work j.work j.in_range j.taken
         record { peer = omega (arith, to, nodes); channel = omega (arith, on, channels) }
 
 -- a packet is older than the next entry
-packet_before : (j : Joint) (p : Packet) (peer : NodeId) (number : ℕ) → is_in_range (joint.layout_of j) (Events.Receive j.node peer number) ≡ true → failing (joint.layout_of j) j.journal (Events.Receive j.node peer number) ≡ None → is_packet_before (length j.journal + 1) (slice_get (emitted peer j.node j.journal) (number - 1)) ≡ true
+packet_before : (j : Joint) (p : Packet) (peer : NodeId) (number : ℕ) → is_in_range (joint.layout_of j) (Events.Receive j.node peer number) ≡ true → failing (joint.layout_of j) j.journal (Events.Receive j.node peer number) ≡ None → is_packet_before (greatest_stamp j.journal + 1) (slice_get (emitted peer j.node j.journal) (number - 1)) ≡ true
 packet_before j p peer number range enabled =
-    (and_parts _ (is_taken_before (length j.journal + 1) j.journal (Events.Receive j.node peer number))
-    (may_step (joint.layout_of j) j.journal (Events.Receive j.node peer number) j.kept'.tied.walked range enabled).later).1
+    (and_parts _ (is_taken_before (greatest_stamp j.journal + 1) j.journal (Events.Receive j.node peer number))
+    (entry_may_follow (joint.layout_of j) j.journal (Events.Receive j.node peer number) range enabled).later).1
 
-pub joint_packet : (j : Joint) → stamp_in j.work ≤ length j.journal
+pub joint_packet : (j : Joint) → stamp_in j.work ≤ greatest_stamp j.journal
 joint_packet j = by_work j.work j.in_range j.taken (joint_failing j)
   where
-    by_work : (w : Work) → is_in_range (joint.layout_of j) (event_of j.node w) ≡ true → IsTaken j.journal j.node w → failing (joint.layout_of j) j.journal (event_of j.node w) ≡ failing_at (own j.one) j.state w → stamp_in w ≤ length j.journal
+    by_work : (w : Work) → is_in_range (joint.layout_of j) (event_of j.node w) ≡ true → IsTaken j.journal j.node w → failing (joint.layout_of j) j.journal (event_of j.node w) ≡ failing_at (own j.one) j.state w → stamp_in w ≤ greatest_stamp j.journal
     by_work (Works.Receive (Packets.Parcel p)) range at enabled =
-        let before = ltb-true p.stamp (length j.journal + 1) (ap (is_packet_before (length j.journal + 1)) (sym at) ∙ packet_before j (Packets.Parcel p) p.from p.number range enabled) in
+        let before = ltb-true p.stamp (greatest_stamp j.journal + 1) (ap (is_packet_before (greatest_stamp j.journal + 1)) (sym at) ∙ packet_before j (Packets.Parcel p) p.from p.number range enabled) in
         omega (arith, before)
     by_work (Works.Receive (Packets.Answer p)) range at enabled =
-        let before = ltb-true p.stamp (length j.journal + 1) (ap (is_packet_before (length j.journal + 1)) (sym at) ∙ packet_before j (Packets.Answer p) p.from p.number range enabled) in
+        let before = ltb-true p.stamp (greatest_stamp j.journal + 1) (ap (is_packet_before (greatest_stamp j.journal + 1)) (sym at) ∙ packet_before j (Packets.Answer p) p.from p.number range enabled) in
         omega (arith, before)
     by_work (Works.Bind end) range at enabled = omega arith
     by_work (Works.Expire peer channel) range at enabled = omega arith
 
-pub joint_last : (j : Joint) → last_stamp j.one.log ≤ length j.journal
+pub joint_last : (j : Joint) → last_stamp j.one.log ≤ greatest_stamp j.journal
 joint_last j =
-    subst (λ (xs : List Entry). last_stamp xs ≤ length j.journal) (sym (interface_in j).part)
-    (last_below (length j.journal) (filter (touches_node j.node) j.journal) (below_filter (length j.journal + 1) (touches_node j.node) j.journal j.kept'.tied.walked.below))
+    subst (λ (xs : List Entry). last_stamp xs ≤ greatest_stamp j.journal) (sym (interface_in j).part)
+    (last_below (greatest_stamp j.journal) (filter (touches_node j.node) j.journal) (below_filter (greatest_stamp j.journal + 1) (touches_node j.node) j.journal (all_below j.journal)))
 
 pub joint_can : (j : Joint) → CanTurn j.one j.journal j.work
 joint_can j =
@@ -165,6 +166,7 @@ joint_can j =
     let few = j.kept'.tied.lawful.nodes.1 in
     record {
       fits = joint_fits j;
+      early = j.kept'.tied.early;
       last = joint_last j;
       packet = joint_packet j;
       nodes = (omega (arith, node, there, few), omega (arith, nodes, few));
@@ -205,7 +207,7 @@ bound_declared j peer channel (Some m) true end is needed =
     let source : m.serial.source ≡ end = cc in
     let bound = (same_ends (joint.layout_of j) j.journal (own j.one) (joint.joint_part j) peer channel).bound ∙ is in
     ap (declared (joint.layout_of j)) (sym source)
-    ∙ (bound_aloft (joint.layout_of j) j.journal j.packet j.kept'.tied.walked.history (channel_in (own j.one) peer channel) m bound).source
+    ∙ (bound_aloft (joint.layout_of j) j.journal j.packet j.kept'.tied.history (channel_in (own j.one) peer channel) m bound).source
 
 arrival_declared : (layout : Layout) (dest end : EndpointId) (a : Arrival) → declared layout dest ≡ true → needs_arrival dest a ≡ Some end → declared layout end ≡ true
 arrival_declared layout dest end Stale is needed = absurd (cc)
@@ -218,7 +220,7 @@ needed_declared j end needed = by_work j.work j.in_range j.taken needed
     by_work : (w : Work) → is_in_range (joint.layout_of j) (event_of j.node w) ≡ true → IsTaken j.journal j.node w → needs (own j.one) w ≡ Some end → declared (joint.layout_of j) end ≡ true
     by_work (Works.Receive (Packets.Parcel p)) range at is =
         arrival_declared (joint.layout_of j) p.message.dest end (arrival_in (own j.one) p.from p.channel p.seq p.attempt)
-        (packets_fit (joint.layout_of j) j.journal j.kept'.tied.walked.history p.from j.node (p.number - 1) (Packets.Parcel p) at).dest is
+        (packets_fit (joint.layout_of j) j.journal j.kept'.tied.history p.from j.node (p.number - 1) (Packets.Parcel p) at).dest is
     by_work (Works.Receive (Packets.Answer p)) range at is =
         bound_declared j p.from p.channel (bound_message (channel_in (own j.one) p.from p.channel) j.one.log) (settles (own j.one) (channel_in (own j.one) p.from p.channel) p) end refl is
     by_work (Works.Bind e) range at is = let same : e ≡ end = cc in ap (declared (joint.layout_of j)) (sym same) ∙ (range_bind (joint.layout_of j) j.node e range).0

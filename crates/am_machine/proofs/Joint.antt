@@ -1,7 +1,7 @@
 -- A work of an interface, in the whole cluster.
 use Rattle.std.specs.Prelude.{slice_index_or, Result, Ok, Err, option_to_list, slice_get, slice_set, nat_le}
 use Rattle.std.specs.List.{filter, list_any}
-use Rattle.std.proofs.Common.{◌≡◌, ◌≢◌, ℕ, zero, suc, ◌+◌, ◌<◌, Bool, true, false, cond, List, [], ◌∷◌, map, length, Option, Some, None, refl, sym, ap, ◌∙◌, subst, arith, if◌then◌else◌}
+use Rattle.std.proofs.Common.{◌≡◌, ◌≢◌, ℕ, zero, suc, ◌<◌, Bool, true, false, cond, List, [], ◌∷◌, map, length, Option, Some, None, refl, sym, ap, ◌∙◌, subst, arith, if◌then◌else◌}
 use Rattle.std.proofs.lemmas.Bool.{le-leb, leb-true, leb-false}
 use Rattle.am_names.specs.declared.EndpointId.{EndpointId}
 use Rattle.am_names.specs.declared.NodeId.{NodeId}
@@ -16,7 +16,8 @@ use Rattle.am_names.specs.declared.Packet.TheVariants as Packets
 use Rattle.am_model.specs.Endpoint.{State}
 use Rattle.am_model.specs.Layout.{Layout}
 use Rattle.am_model.specs.History.{failing, is_in_range, outcome_of}
-use Rattle.am_model.specs.Steps.{LogFull, NotEnabled, full_by, full_log, is_end_full, is_node_full, least_such, step_entry, stop, stop_by}
+use Rattle.am_model.specs.Steps.{LogFull, NotEnabled, full_by, full_log, is_end_full, is_node_full, least_such, stop, stop_by}
+use Rattle.am_drain.specs.Made.{next_entry, next_stamp}
 use Rattle.am_local.specs.declared.work.Work.{Work}
 use Rattle.am_local.specs.declared.work.Work.TheVariants as Works
 use Rattle.am_local.specs.Interface.{event_of, failing_at, needs, outcome_at}
@@ -138,8 +139,8 @@ work_touches node (Works.Receive (Packets.Answer p)) = refl
 work_touches node (Works.Bind end) = refl
 work_touches node (Works.Expire peer channel) = refl
 
-pub joint_entry : (j : Joint) (x : Entry) → x ≡ entry_of_work j.one j.journal j.state j.work → x ≡ step_entry (layout_of j) j.journal (event_in j)
-joint_entry j x is = is ∙ λ i. record { stamp = length j.journal + 1; event = joint_event j i; outcome = sym (joint_outcome j) i }
+pub joint_entry : (j : Joint) (x : Entry) → x ≡ entry_of_work j.one j.journal j.state j.work → x ≡ next_entry (layout_of j) j.journal (event_in j)
+joint_entry j x is = is ∙ λ i. record { stamp = next_stamp j.journal; event = joint_event j i; outcome = sym (joint_outcome j) i }
 
 -- the interface's log, as the journal tells whether it is full
 pub node_full : (j : Joint) (t : Bool) → nat_le j.settings.log (length j.one.log) ≡ t → is_node_full (layout_of j) j.journal j.node ≡ t

@@ -17,7 +17,8 @@ use Rattle.am_office.specs.Entries.{emitted_in, ends_touched, node_touched}
 use Rattle.am_model.specs.Endpoint.{State, is_direct}
 use Rattle.am_model.specs.Layout.{Layout, EndSetting, AllAre, declared, has_id, home, home_by}
 use Rattle.am_model.specs.History.{failing, is_frame_held, is_home, is_in_frame, is_in_range, outcome_of, state_of}
-use Rattle.am_model.specs.Steps.{LogFull, step_entry, stop}
+use Rattle.am_model.specs.Steps.{LogFull, stop}
+use Rattle.am_drain.specs.Made.{next_entry}
 use Rattle.am_office.specs.declared.Part.TheVariants as Parts
 use Rattle.am_local.specs.Driver.{DriverLog, driver_of, end_moved, failing_move, is_by_driver, outcome_move}
 use Rattle.am_local.specs.Granted.{MayMove}
@@ -184,12 +185,12 @@ abbrev driver_in : Layout → List Entry → NodeId → DriverLog
 driver_in layout journal node =
     record { settings = record { node = node; ends = ends_of layout node; faults = faults_of layout node }; log = filter (is_by_driver node) journal }
 
-pub may_move : (layout : Layout) (journal : List Entry) (event : Event) (node : NodeId) (end : EndpointId) (s : State) (x : Entry) {es : List EndLog} → IsTied layout es journal → layout.direct ≡ false → driver_of event ≡ Some node → end_moved event ≡ Some end → failing layout journal event ≡ None → s ≡ state_of layout journal end → x ≡ step_entry layout journal event → MayMove node end s x event
+pub may_move : (layout : Layout) (journal : List Entry) (event : Event) (node : NodeId) (end : EndpointId) (s : State) (x : Entry) {es : List EndLog} → IsTied layout es journal → layout.direct ≡ false → driver_of event ≡ Some node → end_moved event ≡ Some end → failing layout journal event ≡ None → s ≡ state_of layout journal end → x ≡ next_entry layout journal event → MayMove node end s x event
 may_move layout journal event node end s x tied packet by is enabled st at =
     let d = driver_in layout journal node in
     let part : IsDriverPart layout journal d = record { settings = record { packet = packet; once = tied.lawful.ids; ends = refl; faults = refl }; log = refl } in
     let state = subst (λ (o : Option EndpointId). IsState layout journal s o) (sym is) st in
-    let says = move_local layout journal d s event tied.walked.history part by state in
+    let says = move_local layout journal d s event tied.history part by state in
     let event_is : x.event ≡ event = ap (λ (y : Entry). y.event) at in
     subst (λ (e : Event). MayMove node end s x e) event_is
     (move_granted d end s x
@@ -198,7 +199,7 @@ may_move layout journal event node end s x tied packet by is enabled st at =
       end = ap end_moved event_is ∙ is;
       enabled = ap (failing_move d s) event_is ∙ sym says.failing ∙ enabled;
       outcome = ap (λ (y : Entry). y.outcome) at ∙ says.outcome ∙ ap (outcome_move d) (sym event_is);
-      packet = ap (λ (t : State). is_direct t.head.place) st ∙ fits_network layout journal tied.walked.history end ∙ ap (λ (b : Bool). b && declared layout end) packet;
+      packet = ap (λ (t : State). is_direct t.head.place) st ∙ fits_network layout journal tied.history end ∙ ap (λ (b : Bool). b && declared layout end) packet;
     }))
 
 -- a move that is no page call is silent
@@ -275,7 +276,7 @@ move_node m =
     λ i. record { 0 = eqb-true m.node.0 m.one.settings.node.0 same i }
 
 -- the endpoint with its settings and its log, which may have more room
-pub move_allowed : (m : Move) (w : EndpointView) (x : Entry) → w.settings ≡ m.one.settings → w.log ≡ m.one.log → x ≡ step_entry (layout_of m) m.journal m.event → MayMove w.settings.node w.settings.id (state_after w) x m.event
+pub move_allowed : (m : Move) (w : EndpointView) (x : Entry) → w.settings ≡ m.one.settings → w.log ≡ m.one.log → x ≡ next_entry (layout_of m) m.journal m.event → MayMove w.settings.node w.settings.id (state_after w) x m.event
 move_allowed m w x settings log is =
     let here = move_here m in
     let state : state_after w ≡ state_of (layout_of m) m.journal m.end = (λ i. state_by (settings i) (log i)) ∙ state_here (layout_of m) m.ends m.journal m.end m.place m.one m.tied here in
@@ -286,7 +287,7 @@ move_allowed m w x settings log is =
     (may_move (layout_of m) m.journal m.event m.node m.end (state_after w) x m.tied (move_packet m) m.driver m.moved m.enabled state is))
 
 -- what it makes of a cluster
-pub move_next : (m : Move) (w : EndpointView) (x : Entry) (longer : List Entry) → nat_le m.settings.log (length m.one.log) ≡ false → x ≡ step_entry (layout_of m) m.journal m.event → w.settings ≡ m.one.settings → w.log ≡ m.one.log ++ x ∷ [] → longer ≡ m.journal ++ x ∷ [] → IsNext m.settings m.faults (map kept m.ends) m.journal m.event x (map kept (slice_set m.ends m.place w)) longer
+pub move_next : (m : Move) (w : EndpointView) (x : Entry) (longer : List Entry) → nat_le m.settings.log (length m.one.log) ≡ false → x ≡ next_entry (layout_of m) m.journal m.event → w.settings ≡ m.one.settings → w.log ≡ m.one.log ++ x ∷ [] → longer ≡ m.journal ++ x ∷ [] → IsNext m.settings m.faults (map kept m.ends) m.journal m.event x (map kept (slice_set m.ends m.place w)) longer
 move_next m w x longer room is settings log more =
     single_next m.settings m.faults m.ends m.journal m.event m.end m.place m.one w x longer m.tied
     (move_single (layout_of m) m.journal m.event m.end m.in_range m.moved m.enabled) (move_here m) room is settings log more

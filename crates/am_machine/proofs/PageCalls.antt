@@ -13,13 +13,13 @@ use Rattle.am_office.specs.declared.Entry.{Entry}
 use Rattle.am_model.specs.Endpoint.{State, is_on_disk}
 use Rattle.am_model.specs.History.{MayFollow, is_page_call, outcome_of, page, state_of}
 use Rattle.am_model.specs.Layout.{Fault, Layout}
-use Rattle.am_model.specs.Steps.{step_entry}
+use Rattle.am_drain.specs.Made.{next_entry, next_stamp}
 use Rattle.am_model.proofs.Names.{same_end-is}
 use Rattle.am_local.specs.Driver.{driver_of, end_moved}
 use Rattle.am_local.specs.Granted.{MayMove}
 use Rattle.am_local.specs.Readings.{page_calls}
 use Rattle.am_laws_disk.specs.Disk.{pages_out}
-use Rattle.am_laws_steps.proofs.Steps.{may_step}
+use Rattle.am_drain.proofs.Entries.{entry_may_follow}
 use Rattle.am_device.specs.Causes.{fails_after, one_more}
 use Rattle.am_device.specs.Memory.{Store}
 use Rattle.am_endpoint.specs.View.{EndpointView, state_after}
@@ -126,22 +126,22 @@ can_by c x event ev paged may = absurd (true≢false (sym paged))
 
 pub can_page : (c : Call) → CanPage c.s (kept c.move.one) c.move.event
 can_page c =
-    let x = step_entry (moving.layout_of c.move) c.move.journal c.move.event in
+    let x = next_entry (moving.layout_of c.move) c.move.journal c.move.event in
     can_by c x c.move.event refl c.paged (moving.move_allowed c.move c.move.one x refl refl refl)
 
 -- its entry is the one that the definitions give
-pub page_entry : (c : Call) (t : Store) (f : EndLog) (stamp : ℕ) (x : Entry) → stamp ≡ length c.move.journal + 1 → IsPagedBy c.s t (kept c.move.one) f c.move.event stamp x → x ≡ step_entry (moving.layout_of c.move) c.move.journal c.move.event
+pub page_entry : (c : Call) (t : Store) (f : EndLog) (stamp : ℕ) (x : Entry) → stamp ≡ next_stamp c.move.journal → IsPagedBy c.s t (kept c.move.one) f c.move.event stamp x → x ≡ next_entry (moving.layout_of c.move) c.move.journal c.move.event
 page_entry c t f stamp x at by =
     let m = c.move in
     let layout = moving.layout_of m in
     let outcome : outcome_of layout m.journal m.event ≡ page_outcome c.s = page_outcome_is layout m.journal m.event m.node m.driver c.paged ∙ page_told layout m.journal m.node c.s (swap_of c) c.few in
     by.entry ∙ λ i. record { stamp = at i; event = m.event; outcome = sym outcome i }
 
-pub page_next : (c : Call) (t : Store) (w : EndpointView) (stamp : ℕ) (x : Entry) (longer : List Entry) → stamp ≡ length c.move.journal + 1 → nat_le c.move.settings.log (length c.move.one.log) ≡ false → IsPagedBy c.s t (kept c.move.one) (kept w) c.move.event stamp x → longer ≡ c.move.journal ++ x ∷ [] → IsNext c.move.settings c.move.faults (map kept c.move.ends) c.move.journal c.move.event x (map kept (slice_set c.move.ends c.move.place w)) longer
+pub page_next : (c : Call) (t : Store) (w : EndpointView) (stamp : ℕ) (x : Entry) (longer : List Entry) → stamp ≡ next_stamp c.move.journal → nat_le c.move.settings.log (length c.move.one.log) ≡ false → IsPagedBy c.s t (kept c.move.one) (kept w) c.move.event stamp x → longer ≡ c.move.journal ++ x ∷ [] → IsNext c.move.settings c.move.faults (map kept c.move.ends) c.move.journal c.move.event x (map kept (slice_set c.move.ends c.move.place w)) longer
 page_next c t w stamp x longer at room by more = moving.move_next c.move w x longer room (page_entry c t (kept w) stamp x at by) by.settings by.log more
 
 -- and the swaps after it
-pub page_swaps : (c : Call) (t : Store) (f : EndLog) (stamp : ℕ) (x : Entry) → stamp ≡ length c.move.journal + 1 → IsPagedBy c.s t (kept c.move.one) f c.move.event stamp x → AreSwaps (moving.layout_of c.move) (c.move.journal ++ x ∷ []) (slice_set c.swaps c.move.node.0 t)
+pub page_swaps : (c : Call) (t : Store) (f : EndLog) (stamp : ℕ) (x : Entry) → stamp ≡ next_stamp c.move.journal → IsPagedBy c.s t (kept c.move.one) f c.move.event stamp x → AreSwaps (moving.layout_of c.move) (c.move.journal ++ x ∷ []) (slice_set c.swaps c.move.node.0 t)
 page_swaps c t f stamp x at by =
     let m = c.move in
     let layout = moving.layout_of m in
@@ -159,8 +159,8 @@ page_swaps c t f stamp x at by =
       swaps = c.swaps;
       packet = moving.move_packet m;
       lawful = m.tied.lawful;
-      history = m.tied.walked.history;
-      may = subst (MayFollow layout m.journal) (sym (page_entry c t f stamp x at by)) (may_step layout m.journal m.event m.tied.walked m.in_range m.enabled);
+      history = m.tied.history;
+      may = subst (MayFollow layout m.journal) (sym (page_entry c t f stamp x at by)) (entry_may_follow layout m.journal m.event m.in_range m.enabled);
       home = moving.move_home m;
       id = here.id;
       pool = (own_of c).pool;
@@ -189,7 +189,7 @@ pub swap_read : (ss : List Store) (k : ℕ) (s : Store) → k < length ss → s 
 swap_read ss k s lt value = index_got ss k s lt ∙ ap (λ (t : Store). Some t) (sym value)
 
 -- page calls are entries of the journal
-pub calls_few : (node : NodeId) (journal : List Entry) (count : ℕ) {longer : List Entry} → count ≡ length longer → count + 1 < 2 ^ 64 → longer ≡ journal → page_calls node journal + 1 < 2 ^ 64
-calls_few node journal count is few same =
+pub calls_few : (node : NodeId) (journal : List Entry) {longer : List Entry} → length longer + 1 < 2 ^ 64 → longer ≡ journal → page_calls node journal + 1 < 2 ^ 64
+calls_few node journal few same =
     let fewer = count_by-le-length (λ (x : Entry). is_page_call node x.event) journal in
-    omega (arith, is, few, ap length same, fewer)
+    omega (arith, few, ap length same, fewer)

@@ -1,6 +1,6 @@
 -- One entry more in the logs that it touches is one entry more of the journal.
 use Rattle.std.specs.Prelude.{slice_get, slice_set}
-use Rattle.std.proofs.Common.{◌≡◌, ℕ, zero, suc, Bool, true, false, cond, ◌||◌, List, [], ◌∷◌, ◌++◌, map, Some, None, refl, sym, ap, ◌∙◌, subst}
+use Rattle.std.proofs.Common.{◌≡◌, ℕ, zero, suc, Bool, true, false, cond, ◌||◌, List, [], ◌∷◌, ◌++◌, map, Some, None, refl, sym, ap, ◌∙◌, subst, length-append, arith}
 use Rattle.std.specs.List.{filter}
 use Rattle.std.proofs.lemmas.List.{append-nil}
 use Rattle.std.proofs.lemmas.List.Elements.{filter-append}
@@ -9,11 +9,14 @@ use Rattle.am_office.specs.declared.Entry.{Entry}
 use Rattle.am_office.specs.Entries.{touches}
 use Rattle.am_model.specs.Changes.{replay}
 use Rattle.am_model.specs.Layout.{Layout, EndSetting, AllAre}
-use Rattle.am_model.specs.History.{state_of, is_in_range, failing}
-use Rattle.am_model.specs.Steps.{step_entry}
+use Rattle.am_model.specs.History.{MayFollow, state_of, is_in_range, failing}
+use Rattle.am_drain.specs.Made.{next_entry, next_stamp}
 use Rattle.am_scenario_types.specs.declared.parts.FaultLine.{FaultLine}
 use Rattle.am_endpoint.specs.View.{EndpointView}
-use Rattle.am_laws_steps.proofs.Steps.{walked_more}
+use Rattle.am_drain.proofs.Entries.{entry_may_follow}
+use Rattle.am_journal.specs.View.{IsEarly}
+use Rattle.am_journal.proofs.Growing.{greatest_push}
+use Rattle.am_model.proofs.Each.{each_push}
 use Rattle.am_machine.specs.declared.settings.Settings.{Settings}
 use Rattle.am_local.specs.Readings.{with_entry}
 use Rattle.am_machine.specs.Ends.{EndLog, kept, state_in, setting_in, grown, logged_at}
@@ -54,12 +57,20 @@ got_grown x [] j d h = absurd (cc)
 got_grown x (e ∷ es) zero d h = let same : grown x e ≡ d = cc in (e, (refl, ap (λ (w : EndLog). w.settings) same))
 got_grown x (e ∷ es) (suc j) d h = got_grown x es j d h
 
-pub tied_push : (layout : Layout) (es : List EndLog) (journal : List Entry) (event : Event) → IsTied layout es journal → is_in_range layout event ≡ true → failing layout journal event ≡ None → IsTied layout (map (grown (step_entry layout journal event)) es) (journal ++ step_entry layout journal event ∷ [])
+-- with the next stamp the greatest is one more
+early_next : (journal : List Entry) (x : Entry) → x.stamp ≡ next_stamp journal → IsEarly journal → IsEarly (journal ++ x ∷ [])
+early_next journal x is early =
+    let most = greatest_push journal x in
+    let longer = length-append journal (x ∷ []) in
+    omega (arith, most, longer, is, early)
+
+pub tied_push : (layout : Layout) (es : List EndLog) (journal : List Entry) (event : Event) → IsTied layout es journal → is_in_range layout event ≡ true → failing layout journal event ≡ None → IsTied layout (map (grown (next_entry layout journal event)) es) (journal ++ next_entry layout journal event ∷ [])
 tied_push layout es journal event tied range enabled =
-    let x = step_entry layout journal event in
+    let x = next_entry layout journal event in
     record {
       lawful = tied.lawful;
-      walked = walked_more layout journal event tied.walked range enabled;
+      history = each_push (MayFollow layout) [] journal x tied.history (entry_may_follow layout journal event range enabled);
+      early = early_next journal x refl tied.early;
       own = all_own layout journal x es tied.own;
       apart =
           λ j k d e dj ek same.

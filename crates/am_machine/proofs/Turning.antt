@@ -20,6 +20,7 @@ use Rattle.am_local.specs.Together.{from_of}
 use Rattle.am_local.proofs.Granting.{bind_emission}
 use Rattle.am_local.proofs.Numbering.{next_emitted}
 use Rattle.am_local.proofs.Touched.{emission_told}
+use Rattle.am_drain.specs.Made.{next_stamp}
 use Rattle.am_endpoint.specs.View.{EndpointView, state_after}
 use Rattle.am_iface.specs.declared.Turned.{Turned}
 use Rattle.am_iface.specs.declared.IfaceFault.{IfaceFault}
@@ -27,7 +28,7 @@ use Rattle.am_iface.specs.declared.IfaceFault.TheVariants as Ifaces
 use Rattle.am_iface.specs.View.{InterfaceView, FitsInterface, own}
 use Rattle.am_iface.specs.Turns.{IsFull, stamp_in}
 use Rattle.am_iface.specs.With.{IsFullOf}
-use Rattle.am_journal.specs.View.{AreNodes, HasRoomFor, JournalView, is_ready_on}
+use Rattle.am_journal.specs.View.{AreNodes, HasRoomFor, JournalView, greatest_stamp, is_ready_on}
 use Rattle.am_machine.specs.declared.settings.ApplyFault.{ApplyFault}
 use Rattle.am_machine.specs.Ends.{EndLog, kept}
 use Rattle.am_machine.specs.Turned.{IsGrown, IsTurned, TurnsAlone, TurnsWith, entry_of_work, refused}
@@ -118,9 +119,9 @@ out_has_room v i s w x out to goes on here within ready out_is event outcome =
 -- ---- what it answers
 
 -- the entry that the interface logged is the work's
-pub logged_entry : (i : InterfaceView) (past : List Entry) (s : State) (w : Work) (x : Entry) (floor last : ℕ) → x.event ≡ event_of i.settings.node w → x.outcome ≡ outcome_at (own i) s w → x.stamp ≡ 1 + max (max floor last) (stamp_in w) → floor ≡ length past → last ≤ length past → stamp_in w ≤ length past → x ≡ entry_of_work i past s w
+pub logged_entry : (i : InterfaceView) (past : List Entry) (s : State) (w : Work) (x : Entry) (floor last : ℕ) → x.event ≡ event_of i.settings.node w → x.outcome ≡ outcome_at (own i) s w → x.stamp ≡ 1 + max (max floor last) (stamp_in w) → floor ≡ greatest_stamp past → last ≤ greatest_stamp past → stamp_in w ≤ greatest_stamp past → x ≡ entry_of_work i past s w
 logged_entry i past s w x floor last event outcome stamp at le packet =
-    let stamped : x.stamp ≡ length past + 1 = stamp ∙ ap (λ (n : ℕ). 1 + max (max n last) (stamp_in w)) at ∙ stamp_next (length past) last (stamp_in w) le packet in
+    let stamped : x.stamp ≡ next_stamp past = stamp ∙ ap (λ (n : ℕ). 1 + max (max n last) (stamp_in w)) at ∙ stamp_next (greatest_stamp past) last (stamp_in w) le packet in
     λ k. record { stamp = stamped k; event = event k; outcome = outcome k }
 
 pub turned_ok : (i j : InterfaceView) (past now : List Entry) (s : State) (w : Work) (result : Result Turned IfaceFault) (t : Turned) → result ≡ Ok t

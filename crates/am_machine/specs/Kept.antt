@@ -4,10 +4,11 @@ use Rattle.std.specs.List.{filter}
 use Rattle.am_office.specs.declared.Entry.{Entry}
 use Rattle.am_office.specs.Entries.{touches}
 use Rattle.am_model.specs.Endpoint.{fresh}
+use Rattle.am_model.specs.History.{IsHistory}
 use Rattle.am_model.specs.Layout.{Layout, AllAre, IsLawful, opening}
 use Rattle.am_scenario_types.specs.declared.parts.FaultLine.{FaultLine}
 use Rattle.am_follow.specs.Layout.{is_direct, fault_of}
-use Rattle.am_laws_steps.specs.Laws.{Walked}
+use Rattle.am_journal.specs.View.{IsEarly}
 use Rattle.am_iface.specs.View.{InterfaceView}
 use Rattle.am_device.specs.Memory.{Store}
 use Rattle.am_machine.specs.Interfaces.{AreInterfaces}
@@ -43,7 +44,8 @@ pub record IsOwn (layout : Layout) (journal : List Entry) (e : EndLog) : Type 0 
 
 pub record IsTied (layout : Layout) (es : List EndLog) (journal : List Entry) : Type 0 where
   pub lawful : IsLawful layout
-  pub walked : Walked layout journal
+  pub history : IsHistory layout journal
+  pub early : IsEarly journal
   pub own : AllAre (IsOwn layout journal) es
   pub apart : (j k : ℕ) (d e : EndLog) → slice_get es j ≡ Some d → slice_get es k ≡ Some e → d.settings.id ≡ e.settings.id → j ≡ k
 

@@ -1,5 +1,5 @@
 -- What a work of an interface makes of its parts: the interface, the endpoint that it touches, and the journal.
-use Rattle.std.specs.Prelude.{◌≡◌, ◌≢◌, ◌+◌, ◌-◌, ◌<◌, ◌≤◌, false, Some, None, Result, Ok, Err, List, [], ◌∷◌, ◌++◌, length, slice_get}
+use Rattle.std.specs.Prelude.{◌≡◌, ◌≢◌, ◌-◌, ◌<◌, ◌≤◌, false, Some, None, Result, Ok, Err, List, [], ◌∷◌, ◌++◌, length, slice_get}
 use Rattle.am_names.specs.declared.NodeId.{NodeId}
 use Rattle.am_office.specs.declared.Entry.{Entry}
 use Rattle.am_model.specs.Channels.{emitted}
@@ -9,6 +9,8 @@ use Rattle.am_local.specs.declared.work.Work.TheVariants as Works
 use Rattle.am_local.specs.Granted.{FitsEndpoint}
 use Rattle.am_local.specs.Interface.{event_of, failing_at, home_in, needs, outcome_at}
 use Rattle.am_local.specs.Together.{from_of, number_of}
+use Rattle.am_drain.specs.Made.{next_stamp}
+use Rattle.am_journal.specs.View.{IsEarly, greatest_stamp}
 use Rattle.am_endpoint.specs.View.{EndpointView, state_after}
 use Rattle.am_endpoint.specs.View as endpoints
 use Rattle.am_iface.specs.View.{FitsInterface, InterfaceView, last_stamp, own}
@@ -22,7 +24,7 @@ use Rattle.am_machine.specs.Ends.{EndLog, kept, state_in}
 
 -- the entry of a work, with the next stamp
 abbrev pub entry_of_work : InterfaceView → List Entry → State → Work → Entry
-entry_of_work i past s w = record { stamp = length past + 1; event = event_of i.settings.node w; outcome = outcome_at (own i) s w }
+entry_of_work i past s w = record { stamp = next_stamp past; event = event_of i.settings.node w; outcome = outcome_at (own i) s w }
 
 -- the interface and the journal are as they were
 pub record IsSame (i j : InterfaceView) (past now : List Entry) : Type 0 where
@@ -76,8 +78,9 @@ IsTaken past node (Works.Expire peer channel) = Unit {0}
 -- the interface can be given the work after these entries
 pub record CanTurn (i : InterfaceView) (past : List Entry) (w : Work) : Type 0 where
   pub fits : FitsInterface i w
-  pub last : last_stamp i.log ≤ length past
-  pub packet : stamp_in w ≤ length past
+  pub early : IsEarly past
+  pub last : last_stamp i.log ≤ greatest_stamp past
+  pub packet : stamp_in w ≤ greatest_stamp past
   pub nodes : IsOfCluster i
 
 -- and the work touches this endpoint, which can be given its entry
@@ -89,4 +92,4 @@ pub record CanTurnWith (i : InterfaceView) (d : EndLog) (past : List Entry) (w :
   pub bounces : d.settings.bounces ≡ i.settings.bounces
   pub known : KnowsHome (own i) (state_in d) w
   pub flies : FitsEndpoint (own i) (state_in d) w
-  pub last : endpoints.last_stamp d.log ≤ length past
+  pub last : endpoints.last_stamp d.log ≤ greatest_stamp past

@@ -33,7 +33,7 @@ impl Cluster {
         if self.journal.room().is_err() {
             return Err(ApplyFault::NoMemory);
         }
-        match self.ends[place].call(self.journal.len(), actor, call) {
+        match self.ends[place].call(self.journal.greatest_stamp(), actor, call) {
             Ok(entry) => {
                 self.journal.log(entry, None);
                 Ok(entry)
@@ -59,7 +59,7 @@ impl Cluster {
         if self.journal.room().is_err() {
             return Err(ApplyFault::NoMemory);
         }
-        match self.ends[place].want(self.journal.len(), actor) {
+        match self.ends[place].want(self.journal.greatest_stamp(), actor) {
             Ok(entry) => {
                 self.journal.log(entry, None);
                 Ok(entry)

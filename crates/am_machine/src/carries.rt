@@ -53,7 +53,7 @@ impl Cluster {
             return Err(ApplyFault::NoMemory);
         };
         let entry = Entry {
-            stamp: self.journal.len() + 1,
+            stamp: self.journal.greatest_stamp() + 1,
             event: Event::Carry { end },
             outcome: judged(self.settings.bounces, message, front.bounces, verdict),
         };

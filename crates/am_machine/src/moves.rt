@@ -44,7 +44,7 @@ impl Cluster {
             return Err(ApplyFault::NoMemory);
         }
         let entry = Entry {
-            stamp: self.journal.len() + 1,
+            stamp: self.journal.greatest_stamp() + 1,
             event,
             outcome: Outcome::Silent,
         };

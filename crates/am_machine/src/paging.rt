@@ -38,7 +38,7 @@ impl Cluster {
         if self.journal.room().is_err() {
             return Err(ApplyFault::NoMemory);
         }
-        let stamp = self.journal.len() + 1;
+        let stamp = self.journal.greatest_stamp() + 1;
         let swap = &mut self.swaps[node.0 as usize];
         match page(self.alloc, swap, &mut self.ends[place], event, stamp) {
             Ok(entry) => {

@@ -1,11 +1,10 @@
 // The parts of a cluster, as its callers may look at them.
 ghost use Rattle.am_endpoint.specs.View.{state_after};
 ghost use Rattle.am_journal.specs.View.{receipts};
-ghost use Rattle.am_laws_steps.specs.Laws.{Walked};
 ghost use Rattle.am_machine.specs.Ends.{kept, setting_in};
 ghost use Rattle.am_machine.specs.Interfaces.{IsInterface};
 ghost use Rattle.am_model.specs.Channels.{emitted};
-ghost use Rattle.am_model.specs.History.{state_of};
+ghost use Rattle.am_model.specs.History.{IsHistory, state_of};
 ghost use Rattle.am_model.specs.Layout.{IsLawful, declared, home};
 ghost use Rattle.am_model.specs.PostOffice.{PostOffice};
 ghost use Rattle.am_names.specs.declared.EndpointId.{EndpointId};
@@ -45,11 +44,10 @@ impl Cluster {
         &self.ends[index]
     }
 
-    /// Its journal is a history of the lawful layout in which it began, with stamps from 1 on, and obeys the laws of the post
-    /// office.
+    /// Its journal is a history of the lawful layout in which it began, and obeys the laws of the post office.
     pub fn laws(&self)
         ensures lawful { IsLawful self.now.layout }
-        ensures walked { Walked self.now.layout self.now.journal }
+        ensures history { IsHistory self.now.layout self.now.journal }
         ensures laws { PostOffice self.now.layout self.now.journal }
     {
         post_office();

@@ -40,7 +40,7 @@ pub(crate) fn turn_alone(
     if journal.room_to(interface.node(), to).is_err() {
         return Err(ApplyFault::NoMemory);
     }
-    match interface.turn_alone(journal.len(), work) {
+    match interface.turn_alone(journal.greatest_stamp(), work) {
         Ok(turned) => {
             journal.log(turned.entry, turned.out);
             Ok(turned.entry)
@@ -79,7 +79,7 @@ pub(crate) fn turn_with(
     if journal.room_to(interface.node(), to).is_err() {
         return Err(ApplyFault::NoMemory);
     }
-    match interface.turn_with(journal.len(), work, endpoint) {
+    match interface.turn_with(journal.greatest_stamp(), work, endpoint) {
         Ok(turned) => {
             journal.log(turned.entry, turned.out);
             Ok(turned.entry)

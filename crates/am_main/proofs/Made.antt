@@ -12,8 +12,10 @@ use Rattle.am_follow.specs.Layout.{layout_of, events_of}
 use Rattle.am_follow.proofs.Lawful.{lawful_layout, steps_in_range}
 use Rattle.am_laws.proofs.Laws.{post_office}
 use Rattle.am_laws.proofs.OneFate.{one_fate}
-use Rattle.am_laws_steps.specs.Laws.{AreInRange, IsMade}
-use Rattle.am_laws_steps.proofs.Steps.{is_made, histories_agree}
+use Rattle.am_laws_steps.specs.Laws.{AreInRange, IsMade, Walked}
+use Rattle.am_laws_steps.proofs.Steps.{is_made, histories_agree, walked_more}
+use Rattle.am_drain.specs.Made.{next_entry}
+use Rattle.am_drain.proofs.Entries.{entry_is_step}
 use Rattle.am_model.specs.History.{is_in_range}
 use Rattle.am_model.specs.Layout.{Layout}
 use Rattle.am_model.specs.Steps.{FollowsSteps, Made, Stop, NotEnabled, LogFull, stop, step_entry, made, made_by, made_from}
@@ -22,6 +24,7 @@ use Rattle.am_scenario_types.specs.declared.faults.ScenarioFault.{ScenarioFault}
 use Rattle.am_machine.specs.declared.settings.ApplyFault.{ApplyFault}
 use Rattle.am_machine.specs.declared.settings.ApplyFault.TheVariants as Applied
 use Rattle.am_machine.specs.View.{ClusterView, Applies}
+use Rattle.am_machine.proofs.Applied.{enabled_of}
 use Rattle.am_main.specs.declared.faults.StepFault.{StepFault}
 use Rattle.am_main.specs.declared.faults.StepFault.TheVariants as Faults
 use Rattle.am_main.specs.Answer.{Answer, GivesText, Makes, TellsText, answer_of, answer_of_made, answer_of_stop, fault_of, ids_of, line_at, not_enabled_line}
@@ -67,19 +70,25 @@ step_got (s ∷ steps) (suc i) d h = step_got steps i d (omega (arith, h))
 pub record Walks (layout now : Layout) (steps : List StepLine) (i : ℕ) (journal : List Entry) : Type 0 where
   pub same : now ≡ layout
   pub count : length journal ≡ i
+  pub walked : Walked layout journal
   pub rest : made layout (events_of steps) ≡ made_from layout journal (events_of (drop i steps))
 
 pub walks_begin : (layout : Layout) (steps : List StepLine) (journal : List Entry) → journal ≡ [] → Walks layout layout steps 0 journal
-walks_begin layout steps journal none = record { same = refl; count = ap length none; rest = ap (λ (j : List Entry). made_from layout j (events_of steps)) (sym none) }
+walks_begin layout steps journal none = record { same = refl; count = ap length none; walked = subst (Walked layout) (sym none) (record { history = tt; stamped = refl; below = tt }); rest = ap (λ (j : List Entry). made_from layout j (events_of steps)) (sym none) }
 
-pub walks_on : (layout now next : Layout) (steps : List StepLine) (i : ℕ) (journal new : List Entry) (step : StepLine) (x : Entry) → Walks layout now steps i journal → slice_get steps i ≡ Some step → stop now journal step.event ≡ None → x ≡ step_entry now journal step.event → new ≡ journal ++ x ∷ [] → next ≡ now → Walks layout next steps (i + 1) new
-walks_on layout now next steps i journal new step x w at runs entry more still =
+pub walks_on : (layout now next : Layout) (steps : List StepLine) (i : ℕ) (journal new : List Entry) (step : StepLine) (x : Entry) → Walks layout now steps i journal → slice_get steps i ≡ Some step → is_in_range now step.event ≡ true → stop now journal step.event ≡ None → x ≡ next_entry now journal step.event → new ≡ journal ++ x ∷ [] → next ≡ now → Walks layout next steps (i + 1) new
+walks_on layout now next steps i journal new step x w at range runs entry more still =
     let runs' : stop layout journal step.event ≡ None = ap (λ (l : Layout). stop l journal step.event) (sym w.same) ∙ runs in
-    let entry' : x ≡ step_entry layout journal step.event = entry ∙ ap (λ (l : Layout). step_entry l journal step.event) w.same in
+    let range' : is_in_range layout step.event ≡ true = ap (λ (l : Layout). is_in_range l step.event) (sym w.same) ∙ range in
+    let entry' : x ≡ step_entry layout journal step.event =
+    entry ∙ ap (λ (l : Layout). next_entry l journal step.event) w.same ∙ entry_is_step layout journal step.event w.walked in
     let longer = ap length more in
     record {
       same = still ∙ w.same;
       count = (let n = length-append journal (x ∷ []) in let c = w.count in omega (arith, longer, n, c));
+      walked =
+          subst (Walked layout) (ap (λ (y : Entry). journal ++ y ∷ []) (sym entry') ∙ sym more)
+          (walked_more layout journal step.event w.walked range' (enabled_of layout journal step.event runs'));
       rest =
           w.rest
           ∙ ap (λ (l : List StepLine). made_from layout journal (events_of l)) (from_step steps i step at)

@@ -14,7 +14,7 @@ returns-in_default-scripts_after-clause-stopped c = begun c.args.scenario.now c.
 
 pub scripts_after-requires-clause-short : goal.scripts_after-requires-clause-short
 scripts_after-requires-clause-short c =
-    let short = short_of c.args.scenario.now c.args.cluster.now (record { lawful = c.requires.lawful; packet = c.requires.packet; layout = c.requires.layout; fits = c.tell_logs.ensures }) c.laws.ensures.walked in
+    let short = short_of c.args.scenario.now c.args.cluster.now (record { lawful = c.requires.lawful; packet = c.requires.packet; layout = c.requires.layout; fits = c.tell_logs.ensures }) c.laws.ensures.history in
     let first = ap (λ (l : List Entry). length l) c.deref-2.ensures.value in
     let seen = ap (λ (l : List Entry). length l) c.journal-2.view_is in
     let same = ap (λ (l : List Entry). length l) c.in-Ok.ensures.journal in

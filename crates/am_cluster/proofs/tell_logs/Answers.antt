@@ -15,5 +15,5 @@ returns c =
     let s = c.args.scenario.now in
     let past = c.args.cluster.now.journal in
     c.runs_have_short_logs.ensures s past
-    (record { lawful = c.requires.lawful; packet = c.requires.packet; history = subst (λ (layout : Layout). IsHistory layout past) c.requires.layout c.laws.ensures.walked.history })
+    (record { lawful = c.requires.lawful; packet = c.requires.packet; history = subst (λ (layout : Layout). IsHistory layout past) c.requires.layout c.laws.ensures.history })
     (subst (λ (layout : Layout). IsWithinLogs layout past) c.requires.layout (record { ends = c.logs_are_short.ensures.ends; nodes = c.logs_are_short.ensures.nodes }))

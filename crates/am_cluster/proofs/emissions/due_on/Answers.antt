@@ -20,5 +20,5 @@ returns-clause-value c =
 pub returns-clause-counted : goal.returns-clause-counted
 returns-clause-counted c =
     due_counted c.args.scenario.now c.args.cluster.now.journal c.args.node c.args.peer c.due_at.result dues_are_counted
-    (subst (λ (l : Layout). IsHistory l c.args.cluster.now.journal) c.requires.parts.layout c.laws.ensures.walked.history)
+    (subst (λ (l : Layout). IsHistory l c.args.cluster.now.journal) c.requires.parts.layout c.laws.ensures.history)
     (returns-clause-value c)

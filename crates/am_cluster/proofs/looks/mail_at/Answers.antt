@@ -15,7 +15,7 @@ returns-clause-value c =
     let one = c.end_at-end.result.now in
     let seen = seen_in s c.args.cluster.now c.args.index one c.requires.parts.layout c.end_at-end.ensures.setting c.end_at-end.ensures.state in
     mail_read (layout_of s) past c.args.index one c.id.result c.node.result c.front_of.result c.has_reply_of.result c.has_arrivals_of.result seen
-    (quiet_at (layout_of s) past c.args.index one away_is_settled (of_packets s c.requires.parts.packet) (subst (λ (l : Layout). IsHistory l past) c.requires.parts.layout c.laws.ensures.walked.history) c.requires.none_missed seen)
+    (quiet_at (layout_of s) past c.args.index one away_is_settled (of_packets s c.requires.parts.packet) (subst (λ (l : Layout). IsHistory l past) c.requires.parts.layout c.laws.ensures.history) c.requires.none_missed seen)
     c.id.ensures c.node.ensures (record { front_is = c.front_of.ensures; reply_is = c.has_reply_of.ensures; arrivals_is = c.has_arrivals_of.ensures })
 
 pub returns-clause-seat : goal.returns-clause-seat

@@ -5,6 +5,7 @@ use Rattle.am_office.specs.declared.Entry.{Entry}
 use Rattle.am_office.specs.declared.Event.TheVariants as Events
 use Rattle.am_model.specs.History.{is_in_range}
 use Rattle.am_model.specs.Steps.{stop}
+use Rattle.am_journal.specs.View.{IsEarly, greatest_stamp}
 use Rattle.am_machine.specs.Carries.{IsReady, carried_at}
 use Rattle.am_machine.specs.Ends.{is_of, kept}
 use Rattle.am_machine.specs.Kept.{IsKept, layout_in}
@@ -120,7 +121,7 @@ carry_between-requires-clause-carries c =
       source_room = sym c.is_full-is_source_full.ensures ∙ none.0;
       dest_room = sym c.is_full-is_dest_full.ensures ∙ none.1;
     } in
-    let is : IsEntryOf carriage (record { stamp = c.len.result + 1; event = Events.Carry c.args.end; outcome = c.judged.result }) = record { stamp = ap (λ (n : ℕ). n + 1) (c.len.ensures.value ∙ ap length c.room.ensures.entries); event = refl; outcome = c.judged.ensures } in
+    let is : IsEntryOf carriage (record { stamp = c.greatest_stamp.result + 1; event = Events.Carry c.args.end; outcome = c.judged.result }) = record { stamp = ap (λ (n : ℕ). n + 1) (c.greatest_stamp.ensures.value ∙ ap greatest_stamp c.room.ensures.entries); event = refl; outcome = c.judged.ensures } in
     let us = c.deref_mut-2.result.now in
     let roomed : length c.room_for_both.new.ends ≡ vec_len c.self.inside.ends = c.room_for_both.auto.ends ∙ c.deref_mut.ensures.len in
     let back : us ≡ c.room_for_both.new.ends = c.deref_mut-2.ensures.value ∙ lent_back (vec_len c.self.inside.ends) c.room_for_both.new.ends vs roomed in
@@ -164,12 +165,15 @@ carry_between-requires-clause-arrives c =
       source_room = sym c.is_full-is_source_full.ensures ∙ none.0;
       dest_room = sym c.is_full-is_dest_full.ensures ∙ none.1;
     } in
-    let is : IsEntryOf carriage (record { stamp = c.len.result + 1; event = Events.Carry c.args.end; outcome = c.judged.result }) = record { stamp = ap (λ (n : ℕ). n + 1) (c.len.ensures.value ∙ ap length c.room.ensures.entries); event = refl; outcome = c.judged.ensures } in
+    let is : IsEntryOf carriage (record { stamp = c.greatest_stamp.result + 1; event = Events.Carry c.args.end; outcome = c.judged.result }) = record { stamp = ap (λ (n : ℕ). n + 1) (c.greatest_stamp.ensures.value ∙ ap greatest_stamp c.room.ensures.entries); event = refl; outcome = c.judged.ensures } in
     let us = c.deref_mut-2.result.now in
     let roomed : length c.room_for_both.new.ends ≡ vec_len c.self.inside.ends = c.room_for_both.auto.ends ∙ c.deref_mut.ensures.len in
     let back : us ≡ c.room_for_both.new.ends = c.deref_mut-2.ensures.value ∙ lent_back (vec_len c.self.inside.ends) c.room_for_both.new.ends vs roomed in
     let same : map kept us ≡ map kept vs = ap (λ (l : List EndpointView). map kept l) back ∙ c.in-Ok.ensures.same ∙ ap (λ (l : List EndpointView). map kept l) c.deref_mut.ensures.value in
     λ apart. carriages.carriage_arrives carriage _ is us same (still_at c.room_for_both.new.ends us c.in-Some-place_of.dest IsReady (ap (λ (l : List EndpointView). slice_get l c.in-Some-place_of.dest) back) c.in-Ok.ensures.at_dest) apart
+
+pub greatest_stamp-requires-clause-early : goal.greatest_stamp-requires-clause-early
+greatest_stamp-requires-clause-early c = subst IsEarly (sym c.room.ensures.entries) c.self.invariant.tied.early
 
 pub invariant_of-self-2 : goal.invariant_of-self-2
 invariant_of-self-2 c =
@@ -208,12 +212,12 @@ invariant_of-self-2 c =
       source_room = sym c.is_full-is_source_full.ensures ∙ none.0;
       dest_room = sym c.is_full-is_dest_full.ensures ∙ none.1;
     } in
-    let is : IsEntryOf carriage (record { stamp = c.len.result + 1; event = Events.Carry c.args.end; outcome = c.judged.result }) = record { stamp = ap (λ (n : ℕ). n + 1) (c.len.ensures.value ∙ ap length c.room.ensures.entries); event = refl; outcome = c.judged.ensures } in
+    let is : IsEntryOf carriage (record { stamp = c.greatest_stamp.result + 1; event = Events.Carry c.args.end; outcome = c.judged.result }) = record { stamp = ap (λ (n : ℕ). n + 1) (c.greatest_stamp.ensures.value ∙ ap greatest_stamp c.room.ensures.entries); event = refl; outcome = c.judged.ensures } in
     let us = c.deref_mut-2.result.now in
     let roomed : length c.room_for_both.new.ends ≡ vec_len c.self.inside.ends = c.room_for_both.auto.ends ∙ c.deref_mut.ensures.len in
     let back : us ≡ c.room_for_both.new.ends = c.deref_mut-2.ensures.value ∙ lent_back (vec_len c.self.inside.ends) c.room_for_both.new.ends vs roomed in
     let same : map kept us ≡ map kept vs = ap (λ (l : List EndpointView). map kept l) back ∙ c.in-Ok.ensures.same ∙ ap (λ (l : List EndpointView). map kept l) c.deref_mut.ensures.value in
-    let x : Entry = record { stamp = c.len.result + 1; event = Events.Carry c.args.end; outcome = c.judged.result } in
+    let x : Entry = record { stamp = c.greatest_stamp.result + 1; event = Events.Carry c.args.end; outcome = c.judged.result } in
     let next = carriages.carriage_next carriage x is (map kept c.carry_between.new.ends) c.log.new.self.entries
     (c.carry_between.ensures ∙ ap (carried_at c.in-Some.source c.in-Some-place_of.dest x) same)
     (c.log.ensures ∙ ap (λ (xs : List Entry). xs ++ x ∷ []) c.room.ensures.entries) in
@@ -260,12 +264,12 @@ returns c =
       source_room = sym c.is_full-is_source_full.ensures ∙ none.0;
       dest_room = sym c.is_full-is_dest_full.ensures ∙ none.1;
     } in
-    let is : IsEntryOf carriage (record { stamp = c.len.result + 1; event = Events.Carry c.args.end; outcome = c.judged.result }) = record { stamp = ap (λ (n : ℕ). n + 1) (c.len.ensures.value ∙ ap length c.room.ensures.entries); event = refl; outcome = c.judged.ensures } in
+    let is : IsEntryOf carriage (record { stamp = c.greatest_stamp.result + 1; event = Events.Carry c.args.end; outcome = c.judged.result }) = record { stamp = ap (λ (n : ℕ). n + 1) (c.greatest_stamp.ensures.value ∙ ap greatest_stamp c.room.ensures.entries); event = refl; outcome = c.judged.ensures } in
     let us = c.deref_mut-2.result.now in
     let roomed : length c.room_for_both.new.ends ≡ vec_len c.self.inside.ends = c.room_for_both.auto.ends ∙ c.deref_mut.ensures.len in
     let back : us ≡ c.room_for_both.new.ends = c.deref_mut-2.ensures.value ∙ lent_back (vec_len c.self.inside.ends) c.room_for_both.new.ends vs roomed in
     let same : map kept us ≡ map kept vs = ap (λ (l : List EndpointView). map kept l) back ∙ c.in-Ok.ensures.same ∙ ap (λ (l : List EndpointView). map kept l) c.deref_mut.ensures.value in
-    let x : Entry = record { stamp = c.len.result + 1; event = Events.Carry c.args.end; outcome = c.judged.result } in
+    let x : Entry = record { stamp = c.greatest_stamp.result + 1; event = Events.Carry c.args.end; outcome = c.judged.result } in
     let next = carriages.carriage_next carriage x is (map kept c.carry_between.new.ends) c.log.new.self.entries
     (c.carry_between.ensures ∙ ap (carried_at c.in-Some.source c.in-Some-place_of.dest x) same)
     (c.log.ensures ∙ ap (λ (xs : List Entry). xs ++ x ∷ []) c.room.ensures.entries) in

@@ -1,4 +1,4 @@
-use Rattle.std.proofs.Common.{◌≡◌, ◌<◌, map, length, refl, ap, subst, arith}
+use Rattle.std.proofs.Common.{◌<◌, map, length, refl, ap, subst, arith}
 use Rattle.am_machine.specs.Ends.{kept}
 use Rattle.am_machine.specs.Kept.{layout_in}
 use Rattle.am_machine.specs.View.{ClusterView}

@@ -1,10 +1,12 @@
 use Rattle.std.specs.Prelude.{nat_le}
-use Rattle.std.proofs.Common.{◌≡◌, ◌+◌, ◌++◌, ◌∷◌, [], List, map, length, position, refl, sym, ap, ◌∙◌}
+use Rattle.std.proofs.Common.{◌≡◌, ◌+◌, ◌++◌, ◌∷◌, [], List, map, length, position, refl, sym, ap, ◌∙◌, subst}
 use Rattle.am_office.specs.declared.Outcome.TheVariants as Out
 use Rattle.am_office.specs.declared.Entry.{Entry}
 use Rattle.am_model.specs.History.{failing, is_in_range}
-use Rattle.am_model.specs.Steps.{step_entry, stop}
+use Rattle.am_model.specs.Steps.{stop}
+use Rattle.am_drain.specs.Made.{next_entry}
 use Rattle.am_endpoint.specs.View.{EndpointView}
+use Rattle.am_journal.specs.View.{IsEarly, greatest_stamp}
 use Rattle.am_machine.specs.Ends.{is_of, kept}
 use Rattle.am_machine.specs.Kept.{layout_in}
 use Rattle.am_machine.specs.View.{ClusterView}
@@ -103,6 +105,9 @@ returns-then-is_err-2 c =
     let same = kept_same vs c.in-Some-place_of.place c.index_mut-one.result.now c.room-2.new.self (moving.move_here move).at (λ i. record { settings = c.room-2.ensures.settings i; log = c.room-2.ensures.log i }) in
     applied.seen_same c.self.inside.settings c.self.inside.faults.items (map kept vs) _ journal c.room.new.self.entries c.args.self.now same c.room.ensures.entries c.self.view_is
 
+pub greatest_stamp-requires-clause-early : goal.greatest_stamp-requires-clause-early
+greatest_stamp-requires-clause-early c = subst IsEarly (sym c.room.ensures.entries) c.self.invariant.tied.early
+
 pub move_end-requires-clause-allowed : goal.move_end-requires-clause-allowed
 move_end-requires-clause-allowed c =
     let vs = c.self.inside.ends.items in
@@ -126,10 +131,10 @@ move_end-requires-clause-allowed c =
       found = sym (c.place_of.ensures ∙ ap (position (is_of c.args.end)) c.deref.ensures.value) ∙ c.in-Some-place_of.is;
       value = c.index_mut-one.ensures.value;
     } in
-    let x : Entry = record { stamp = c.len.result + 1; event = c.args.event; outcome = Out.Silent } in
+    let x : Entry = record { stamp = c.greatest_stamp.result + 1; event = c.args.event; outcome = Out.Silent } in
     let came = moving.moved_silently layout journal c.args.event c.args.end c.requires.end c.requires.unpaged in
-    let at = c.len.ensures.value ∙ ap length c.room.ensures.entries in
-    let is : x ≡ step_entry layout journal c.args.event = λ i. record { stamp = at i + 1; event = c.args.event; outcome = came i } in
+    let at = c.greatest_stamp.ensures.value ∙ ap greatest_stamp c.room.ensures.entries in
+    let is : x ≡ next_entry layout journal c.args.event = λ i. record { stamp = at i + 1; event = c.args.event; outcome = came i } in
     moving.move_allowed move c.room-2.new.self x c.room-2.ensures.settings c.room-2.ensures.log is
 
 pub invariant_of-self-2 : goal.invariant_of-self-2
@@ -155,10 +160,10 @@ invariant_of-self-2 c =
       found = sym (c.place_of.ensures ∙ ap (position (is_of c.args.end)) c.deref.ensures.value) ∙ c.in-Some-place_of.is;
       value = c.index_mut-one.ensures.value;
     } in
-    let x : Entry = record { stamp = c.len.result + 1; event = c.args.event; outcome = Out.Silent } in
+    let x : Entry = record { stamp = c.greatest_stamp.result + 1; event = c.args.event; outcome = Out.Silent } in
     let came = moving.moved_silently layout journal c.args.event c.args.end c.requires.end c.requires.unpaged in
-    let at = c.len.ensures.value ∙ ap length c.room.ensures.entries in
-    let is : x ≡ step_entry layout journal c.args.event = λ i. record { stamp = at i + 1; event = c.args.event; outcome = came i } in
+    let at = c.greatest_stamp.ensures.value ∙ ap greatest_stamp c.room.ensures.entries in
+    let is : x ≡ next_entry layout journal c.args.event = λ i. record { stamp = at i + 1; event = c.args.event; outcome = came i } in
     let before = moving.move_before move c.index.result.now c.index.ensures in
     let room = ap (λ (w : EndpointView). nat_le c.self.inside.settings.log (length w.log)) (sym before) ∙ sym c.is_full.ensures ∙ c.if-is_full.false in
     let next =
@@ -191,10 +196,10 @@ returns c =
       found = sym (c.place_of.ensures ∙ ap (position (is_of c.args.end)) c.deref.ensures.value) ∙ c.in-Some-place_of.is;
       value = c.index_mut-one.ensures.value;
     } in
-    let x : Entry = record { stamp = c.len.result + 1; event = c.args.event; outcome = Out.Silent } in
+    let x : Entry = record { stamp = c.greatest_stamp.result + 1; event = c.args.event; outcome = Out.Silent } in
     let came = moving.moved_silently layout journal c.args.event c.args.end c.requires.end c.requires.unpaged in
-    let at = c.len.ensures.value ∙ ap length c.room.ensures.entries in
-    let is : x ≡ step_entry layout journal c.args.event = λ i. record { stamp = at i + 1; event = c.args.event; outcome = came i } in
+    let at = c.greatest_stamp.ensures.value ∙ ap greatest_stamp c.room.ensures.entries in
+    let is : x ≡ next_entry layout journal c.args.event = λ i. record { stamp = at i + 1; event = c.args.event; outcome = came i } in
     let before = moving.move_before move c.index.result.now c.index.ensures in
     let room = ap (λ (w : EndpointView). nat_le c.self.inside.settings.log (length w.log)) (sym before) ∙ sym c.is_full.ensures ∙ c.if-is_full.false in
     let next =

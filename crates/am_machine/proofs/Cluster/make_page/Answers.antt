@@ -7,10 +7,11 @@ use Rattle.am_model.specs.History.{failing, is_in_range}
 use Rattle.am_model.specs.Steps.{stop}
 use Rattle.am_device.specs.Memory.{Store}
 use Rattle.am_endpoint.specs.View.{EndpointView}
+use Rattle.am_drain.specs.Made.{next_stamp}
 use Rattle.am_machine.specs.Ends.{is_of, kept}
 use Rattle.am_machine.specs.Kept.{IsKept, layout_in}
 use Rattle.am_office.specs.Entries.{emitted_of}
-use Rattle.am_journal.specs.View.{AreNodes}
+use Rattle.am_journal.specs.View.{AreNodes, IsEarly, greatest_stamp}
 use Rattle.am_machine.specs.Pages.{IsPagedBy, Pages, page_outcome}
 use Rattle.am_machine.specs.View.{ClusterView}
 use Rattle.am_machine.proofs.Applied as applied
@@ -59,6 +60,9 @@ returns-then-is_full c =
       refl,
     )
 
+pub greatest_stamp-stamp-requires-clause-early : goal.greatest_stamp-stamp-requires-clause-early
+greatest_stamp-stamp-requires-clause-early c = subst IsEarly (sym c.room.ensures.entries) c.self.invariant.tied.early
+
 pub page-requires-clause-can : goal.page-requires-clause-can
 page-requires-clause-can c =
     let vs = c.self.inside.ends.items in
@@ -89,7 +93,7 @@ page-requires-clause-can c =
       paged = c.requires.paged;
       at = swap_read c.self.inside.swaps.items c.args.node.0 c.index_mut-swap.result.now (swap_there layout journal c.self.inside.swaps.items c.args.node c.self.invariant.swaps' (moving.move_packet move) (moving.node_below layout c.args.event c.args.node move.in_range c.requires.driver)) c.index_mut-swap.ensures.value;
       are = c.self.invariant.swaps';
-      few = calls_few c.args.node journal (c.len-stamp.result) c.len-stamp.ensures.value c.len-stamp.ensures.more c.room.ensures.entries;
+      few = calls_few c.args.node journal c.room.ensures.few c.room.ensures.entries;
     } in
     paging.can_page call
 
@@ -145,8 +149,8 @@ log-requires-clause-packet c =
       found = sym (c.place_of.ensures ∙ ap (position (is_of c.args.end)) c.deref.ensures.value) ∙ c.in-Some-place_of.is;
       value = c.index_mut.ensures.value;
     } in
-    let by : IsPagedBy c.index_mut-swap.result.now c.page.new.swap (kept move.one) (kept c.page.new.endpoint) c.args.event (c.len-stamp.result + 1) c.in-Ok.entry = subst (λ (r : Result Entry NoMemory). Pages c.index_mut-swap.result.now c.page.new.swap (kept move.one) (kept c.page.new.endpoint) c.args.event (c.len-stamp.result + 1) r) c.in-Ok.is c.page.ensures in
-    subst (λ (y : Entry). None ≡ emitted_of y) (sym by.entry) (moving.moved_silent (c.len-stamp.result + 1) c.args.event (page_outcome c.index_mut-swap.result.now) c.args.end c.requires.end)
+    let by : IsPagedBy c.index_mut-swap.result.now c.page.new.swap (kept move.one) (kept c.page.new.endpoint) c.args.event (c.greatest_stamp-stamp.result + 1) c.in-Ok.entry = subst (λ (r : Result Entry NoMemory). Pages c.index_mut-swap.result.now c.page.new.swap (kept move.one) (kept c.page.new.endpoint) c.args.event (c.greatest_stamp-stamp.result + 1) r) c.in-Ok.is c.page.ensures in
+    subst (λ (y : Entry). None ≡ emitted_of y) (sym by.entry) (moving.moved_silent (c.greatest_stamp-stamp.result + 1) c.args.event (page_outcome c.index_mut-swap.result.now) c.args.end c.requires.end)
 
 pub log-requires-clause-nodes : goal.log-requires-clause-nodes
 log-requires-clause-nodes c =
@@ -171,7 +175,7 @@ log-requires-clause-nodes c =
       found = sym (c.place_of.ensures ∙ ap (position (is_of c.args.end)) c.deref.ensures.value) ∙ c.in-Some-place_of.is;
       value = c.index_mut.ensures.value;
     } in
-    let by : IsPagedBy c.index_mut-swap.result.now c.page.new.swap (kept move.one) (kept c.page.new.endpoint) c.args.event (c.len-stamp.result + 1) c.in-Ok.entry = subst (λ (r : Result Entry NoMemory). Pages c.index_mut-swap.result.now c.page.new.swap (kept move.one) (kept c.page.new.endpoint) c.args.event (c.len-stamp.result + 1) r) c.in-Ok.is c.page.ensures in
+    let by : IsPagedBy c.index_mut-swap.result.now c.page.new.swap (kept move.one) (kept c.page.new.endpoint) c.args.event (c.greatest_stamp-stamp.result + 1) c.in-Ok.entry = subst (λ (r : Result Entry NoMemory). Pages c.index_mut-swap.result.now c.page.new.swap (kept move.one) (kept c.page.new.endpoint) c.args.event (c.greatest_stamp-stamp.result + 1) r) c.in-Ok.is c.page.ensures in
     subst (λ (y : Entry). AreNodes y.event) (sym by.entry) (moving.moved_nodes layout c.args.event c.args.end c.self.invariant.tied.lawful.nodes.1 move.in_range c.requires.end)
 
 pub invariant_of-self-in-Ok : goal.invariant_of-self-in-Ok
@@ -204,15 +208,15 @@ invariant_of-self-in-Ok c =
       paged = c.requires.paged;
       at = swap_read c.self.inside.swaps.items c.args.node.0 c.index_mut-swap.result.now (swap_there layout journal c.self.inside.swaps.items c.args.node c.self.invariant.swaps' (moving.move_packet move) (moving.node_below layout c.args.event c.args.node move.in_range c.requires.driver)) c.index_mut-swap.ensures.value;
       are = c.self.invariant.swaps';
-      few = calls_few c.args.node journal (c.len-stamp.result) c.len-stamp.ensures.value c.len-stamp.ensures.more c.room.ensures.entries;
+      few = calls_few c.args.node journal c.room.ensures.few c.room.ensures.entries;
     } in
-    let stamp : c.len-stamp.result + 1 ≡ length journal + 1 = ap (λ (n : ℕ). n + 1) (c.len-stamp.ensures.value ∙ ap length c.room.ensures.entries) in
+    let stamp : c.greatest_stamp-stamp.result + 1 ≡ next_stamp journal = ap (λ (n : ℕ). n + 1) (c.greatest_stamp-stamp.ensures.value ∙ ap greatest_stamp c.room.ensures.entries) in
     let before = moving.move_before move c.index.result.now c.index.ensures in
     let room = ap (λ (w : EndpointView). nat_le c.self.inside.settings.log (length w.log)) (sym before) ∙ sym c.is_full.ensures ∙ c.if-is_full.false in
-    let by : IsPagedBy c.index_mut-swap.result.now c.page.new.swap (kept move.one) (kept c.page.new.endpoint) c.args.event (c.len-stamp.result + 1) c.in-Ok.entry = subst (λ (r : Result Entry NoMemory). Pages c.index_mut-swap.result.now c.page.new.swap (kept move.one) (kept c.page.new.endpoint) c.args.event (c.len-stamp.result + 1) r) c.in-Ok.is c.page.ensures in
-    let next = paging.page_next call c.page.new.swap c.page.new.endpoint (c.len-stamp.result + 1) c.in-Ok.entry c.log.new.self.entries stamp room by (c.log.ensures ∙ ap (λ (xs : List Entry). xs ++ c.in-Ok.entry ∷ []) c.room.ensures.entries) in
+    let by : IsPagedBy c.index_mut-swap.result.now c.page.new.swap (kept move.one) (kept c.page.new.endpoint) c.args.event (c.greatest_stamp-stamp.result + 1) c.in-Ok.entry = subst (λ (r : Result Entry NoMemory). Pages c.index_mut-swap.result.now c.page.new.swap (kept move.one) (kept c.page.new.endpoint) c.args.event (c.greatest_stamp-stamp.result + 1) r) c.in-Ok.is c.page.ensures in
+    let next = paging.page_next call c.page.new.swap c.page.new.endpoint (c.greatest_stamp-stamp.result + 1) c.in-Ok.entry c.log.new.self.entries stamp room by (c.log.ensures ∙ ap (λ (xs : List Entry). xs ++ c.in-Ok.entry ∷ []) c.room.ensures.entries) in
     applied.kept_next c.self.inside.settings c.self.inside.faults.items (map kept vs) journal c.args.event c.in-Ok.entry _ c.log.new.self.entries c.self.inside.interfaces.items (slice_set c.self.inside.swaps.items c.args.node.0 c.page.new.swap) next (moving.moved_alone c.args.event c.args.end c.requires.end) c.self.invariant.interfaces'
-    (paging.page_swaps call c.page.new.swap (kept c.page.new.endpoint) (c.len-stamp.result + 1) c.in-Ok.entry stamp by)
+    (paging.page_swaps call c.page.new.swap (kept c.page.new.endpoint) (c.greatest_stamp-stamp.result + 1) c.in-Ok.entry stamp by)
 
 pub returns-in-Ok : goal.returns-in-Ok
 returns-in-Ok c =
@@ -244,13 +248,13 @@ returns-in-Ok c =
       paged = c.requires.paged;
       at = swap_read c.self.inside.swaps.items c.args.node.0 c.index_mut-swap.result.now (swap_there layout journal c.self.inside.swaps.items c.args.node c.self.invariant.swaps' (moving.move_packet move) (moving.node_below layout c.args.event c.args.node move.in_range c.requires.driver)) c.index_mut-swap.ensures.value;
       are = c.self.invariant.swaps';
-      few = calls_few c.args.node journal (c.len-stamp.result) c.len-stamp.ensures.value c.len-stamp.ensures.more c.room.ensures.entries;
+      few = calls_few c.args.node journal c.room.ensures.few c.room.ensures.entries;
     } in
-    let stamp : c.len-stamp.result + 1 ≡ length journal + 1 = ap (λ (n : ℕ). n + 1) (c.len-stamp.ensures.value ∙ ap length c.room.ensures.entries) in
+    let stamp : c.greatest_stamp-stamp.result + 1 ≡ next_stamp journal = ap (λ (n : ℕ). n + 1) (c.greatest_stamp-stamp.ensures.value ∙ ap greatest_stamp c.room.ensures.entries) in
     let before = moving.move_before move c.index.result.now c.index.ensures in
     let room = ap (λ (w : EndpointView). nat_le c.self.inside.settings.log (length w.log)) (sym before) ∙ sym c.is_full.ensures ∙ c.if-is_full.false in
-    let by : IsPagedBy c.index_mut-swap.result.now c.page.new.swap (kept move.one) (kept c.page.new.endpoint) c.args.event (c.len-stamp.result + 1) c.in-Ok.entry = subst (λ (r : Result Entry NoMemory). Pages c.index_mut-swap.result.now c.page.new.swap (kept move.one) (kept c.page.new.endpoint) c.args.event (c.len-stamp.result + 1) r) c.in-Ok.is c.page.ensures in
-    let next = paging.page_next call c.page.new.swap c.page.new.endpoint (c.len-stamp.result + 1) c.in-Ok.entry c.log.new.self.entries stamp room by (c.log.ensures ∙ ap (λ (xs : List Entry). xs ++ c.in-Ok.entry ∷ []) c.room.ensures.entries) in
+    let by : IsPagedBy c.index_mut-swap.result.now c.page.new.swap (kept move.one) (kept c.page.new.endpoint) c.args.event (c.greatest_stamp-stamp.result + 1) c.in-Ok.entry = subst (λ (r : Result Entry NoMemory). Pages c.index_mut-swap.result.now c.page.new.swap (kept move.one) (kept c.page.new.endpoint) c.args.event (c.greatest_stamp-stamp.result + 1) r) c.in-Ok.is c.page.ensures in
+    let next = paging.page_next call c.page.new.swap c.page.new.endpoint (c.greatest_stamp-stamp.result + 1) c.in-Ok.entry c.log.new.self.entries stamp room by (c.log.ensures ∙ ap (λ (xs : List Entry). xs ++ c.in-Ok.entry ∷ []) c.room.ensures.entries) in
     applied.seen_next c.self.inside.settings c.self.inside.faults.items (map kept vs) journal c.args.event c.in-Ok.entry _ c.log.new.self.entries c.args.self.now c.self.view_is next
 
 pub invariant_of-self-in-Err : goal.invariant_of-self-in-Err
@@ -283,9 +287,9 @@ invariant_of-self-in-Err c =
       paged = c.requires.paged;
       at = swap_read c.self.inside.swaps.items c.args.node.0 c.index_mut-swap.result.now (swap_there layout journal c.self.inside.swaps.items c.args.node c.self.invariant.swaps' (moving.move_packet move) (moving.node_below layout c.args.event c.args.node move.in_range c.requires.driver)) c.index_mut-swap.ensures.value;
       are = c.self.invariant.swaps';
-      few = calls_few c.args.node journal (c.len-stamp.result) c.len-stamp.ensures.value c.len-stamp.ensures.more c.room.ensures.entries;
+      few = calls_few c.args.node journal c.room.ensures.few c.room.ensures.entries;
     } in
-    let none : (c.page.new.swap ≡ c.index_mut-swap.result.now) × (kept c.page.new.endpoint ≡ kept move.one) = subst (λ (r : Result Entry NoMemory). Pages c.index_mut-swap.result.now c.page.new.swap (kept move.one) (kept c.page.new.endpoint) c.args.event (c.len-stamp.result + 1) r) c.in-Err.is c.page.ensures in
+    let none : (c.page.new.swap ≡ c.index_mut-swap.result.now) × (kept c.page.new.endpoint ≡ kept move.one) = subst (λ (r : Result Entry NoMemory). Pages c.index_mut-swap.result.now c.page.new.swap (kept move.one) (kept c.page.new.endpoint) c.args.event (c.greatest_stamp-stamp.result + 1) r) c.in-Err.is c.page.ensures in
     let ends = kept_same vs c.in-Some-place_of.place move.one c.page.new.endpoint (moving.move_here move).at none.1 in
     subst (λ (ss : List Store). IsKept (layout_in c.self.inside.settings c.self.inside.faults.items (map kept (slice_set vs c.in-Some-place_of.place c.page.new.endpoint))) (map kept (slice_set vs c.in-Some-place_of.place c.page.new.endpoint)) c.room.new.self.entries c.self.inside.interfaces.items ss) (sym (set_got c.self.inside.swaps.items c.args.node.0 c.index_mut-swap.result.now c.page.new.swap call.at none.0))
     (applied.kept_still c.self.inside.settings c.self.inside.faults.items (map kept vs) _ journal c.room.new.self.entries c.self.inside.interfaces.items c.self.inside.swaps.items ends c.room.ensures.entries c.self.invariant)
@@ -320,8 +324,8 @@ returns-in-Err c =
       paged = c.requires.paged;
       at = swap_read c.self.inside.swaps.items c.args.node.0 c.index_mut-swap.result.now (swap_there layout journal c.self.inside.swaps.items c.args.node c.self.invariant.swaps' (moving.move_packet move) (moving.node_below layout c.args.event c.args.node move.in_range c.requires.driver)) c.index_mut-swap.ensures.value;
       are = c.self.invariant.swaps';
-      few = calls_few c.args.node journal (c.len-stamp.result) c.len-stamp.ensures.value c.len-stamp.ensures.more c.room.ensures.entries;
+      few = calls_few c.args.node journal c.room.ensures.few c.room.ensures.entries;
     } in
-    let none : (c.page.new.swap ≡ c.index_mut-swap.result.now) × (kept c.page.new.endpoint ≡ kept move.one) = subst (λ (r : Result Entry NoMemory). Pages c.index_mut-swap.result.now c.page.new.swap (kept move.one) (kept c.page.new.endpoint) c.args.event (c.len-stamp.result + 1) r) c.in-Err.is c.page.ensures in
+    let none : (c.page.new.swap ≡ c.index_mut-swap.result.now) × (kept c.page.new.endpoint ≡ kept move.one) = subst (λ (r : Result Entry NoMemory). Pages c.index_mut-swap.result.now c.page.new.swap (kept move.one) (kept c.page.new.endpoint) c.args.event (c.greatest_stamp-stamp.result + 1) r) c.in-Err.is c.page.ensures in
     let ends = kept_same vs c.in-Some-place_of.place move.one c.page.new.endpoint (moving.move_here move).at none.1 in
     applied.seen_same c.self.inside.settings c.self.inside.faults.items (map kept vs) _ journal c.room.new.self.entries c.args.self.now ends c.room.ensures.entries c.self.view_is

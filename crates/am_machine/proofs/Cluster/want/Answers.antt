@@ -6,7 +6,7 @@ use Rattle.am_office.specs.declared.Event.TheVariants as Events
 use Rattle.am_office.specs.Entries.{emitted_in}
 use Rattle.am_model.specs.History.{is_in_range}
 use Rattle.am_model.specs.Steps.{stop}
-use Rattle.am_journal.specs.View.{AreNodes}
+use Rattle.am_journal.specs.View.{AreNodes, IsEarly, greatest_stamp}
 use Rattle.am_machine.specs.Ends.{is_of, kept}
 use Rattle.am_machine.specs.Kept.{layout_in}
 use Rattle.am_machine.specs.View.{ClusterView}
@@ -44,6 +44,9 @@ returns-then-is_full c =
     let full = applied.full_here layout vs journal c.args.end c.in-Some.place c.index-2.result.now true c.self.invariant.tied again (sym c.is_full.ensures ∙ c.if-is_full.true) in
     (ap (λ (v : ClusterView). stop v.layout v.journal (Events.Want c.args.actor c.args.end)) (sym c.self.view_is) ∙ want_stopped layout journal c.args.actor c.args.end disk full, refl)
 
+pub greatest_stamp-requires-clause-early : goal.greatest_stamp-requires-clause-early
+greatest_stamp-requires-clause-early c = subst IsEarly (sym c.room.ensures.entries) c.self.invariant.tied.early
+
 pub want-requires-clause-place : goal.want-requires-clause-place
 want-requires-clause-place c =
     let vs = c.self.inside.ends.items in
@@ -61,8 +64,8 @@ want-requires-clause-last c =
     let layout = layout_in c.self.inside.settings c.self.inside.faults.items (map kept vs) in
     let now = applied.found_here vs c.args.end c.in-Some.place c.index_mut.result.now (sym (c.place_of.ensures ∙ ap (position (is_of c.args.end)) c.deref.ensures.value) ∙ c.in-Some.is) c.index_mut.ensures.value in
     let late = applied.last_here layout vs journal c.args.end c.in-Some.place c.index_mut.result.now c.self.invariant.tied now in
-    let same : c.len.result ≡ length journal = c.len.ensures.value ∙ ap length c.room.ensures.entries in
-    omega (arith, late, same, c.len.ensures.more)
+    let same : c.greatest_stamp.result ≡ greatest_stamp journal = c.greatest_stamp.ensures.value ∙ ap greatest_stamp c.room.ensures.entries in
+    omega (arith, late, same, c.greatest_stamp.ensures.more)
 
 pub log-requires-clause-packet : goal.log-requires-clause-packet
 log-requires-clause-packet c = ap (λ (e : Event). emitted_in c.in-Ok.entry.stamp e c.in-Ok.entry.outcome) (sym c.in-Ok.ensures.event)
@@ -82,8 +85,8 @@ invariant_of-self-in-Ok c =
     let disk = applied.disk_here layout vs journal c.args.end c.in-Some.place c.index.result.now true c.self.invariant.tied here (sym c.is_on_disk.ensures ∙ c.if-not-is_on_disk.false) in
     let room = ap (λ w. nat_le c.self.inside.settings.log (length w.log)) (applied.same_here vs c.args.end c.in-Some.place c.index-2.result.now c.index_mut.result.now again now) ∙ sym c.is_full.ensures ∙ c.if-is_full.false in
     let next =
-    applied.want_next c.self.inside.settings c.self.inside.faults.items vs journal c.args.actor c.args.end c.in-Some.place c.index_mut.result.now c.want.new.self c.in-Ok.entry c.log.new.self.entries c.len.result
-    c.self.invariant.tied range now disk room c.in-Ok.ensures.event c.in-Ok.ensures.outcome c.in-Ok.ensures.stamp (c.len.ensures.value ∙ ap length c.room.ensures.entries) c.in-Ok.ensures.settings c.in-Ok.ensures.logged
+    applied.want_next c.self.inside.settings c.self.inside.faults.items vs journal c.args.actor c.args.end c.in-Some.place c.index_mut.result.now c.want.new.self c.in-Ok.entry c.log.new.self.entries c.greatest_stamp.result
+    c.self.invariant.tied range now disk room c.in-Ok.ensures.event c.in-Ok.ensures.outcome c.in-Ok.ensures.stamp (c.greatest_stamp.ensures.value ∙ ap greatest_stamp c.room.ensures.entries) c.in-Ok.ensures.settings c.in-Ok.ensures.logged
     (c.log.ensures ∙ ap (λ (xs : List Entry). xs ++ c.in-Ok.entry ∷ []) c.room.ensures.entries) in
     applied.kept_unpaged c.self.inside.settings c.self.inside.faults.items (map kept vs) journal _ c.in-Ok.entry _ c.log.new.self.entries c.self.inside.interfaces.items c.self.inside.swaps.items next refl refl c.self.invariant
 
@@ -99,8 +102,8 @@ returns-in-Ok c =
     let disk = applied.disk_here layout vs journal c.args.end c.in-Some.place c.index.result.now true c.self.invariant.tied here (sym c.is_on_disk.ensures ∙ c.if-not-is_on_disk.false) in
     let room = ap (λ w. nat_le c.self.inside.settings.log (length w.log)) (applied.same_here vs c.args.end c.in-Some.place c.index-2.result.now c.index_mut.result.now again now) ∙ sym c.is_full.ensures ∙ c.if-is_full.false in
     let next =
-    applied.want_next c.self.inside.settings c.self.inside.faults.items vs journal c.args.actor c.args.end c.in-Some.place c.index_mut.result.now c.want.new.self c.in-Ok.entry c.log.new.self.entries c.len.result
-    c.self.invariant.tied range now disk room c.in-Ok.ensures.event c.in-Ok.ensures.outcome c.in-Ok.ensures.stamp (c.len.ensures.value ∙ ap length c.room.ensures.entries) c.in-Ok.ensures.settings c.in-Ok.ensures.logged
+    applied.want_next c.self.inside.settings c.self.inside.faults.items vs journal c.args.actor c.args.end c.in-Some.place c.index_mut.result.now c.want.new.self c.in-Ok.entry c.log.new.self.entries c.greatest_stamp.result
+    c.self.invariant.tied range now disk room c.in-Ok.ensures.event c.in-Ok.ensures.outcome c.in-Ok.ensures.stamp (c.greatest_stamp.ensures.value ∙ ap greatest_stamp c.room.ensures.entries) c.in-Ok.ensures.settings c.in-Ok.ensures.logged
     (c.log.ensures ∙ ap (λ (xs : List Entry). xs ++ c.in-Ok.entry ∷ []) c.room.ensures.entries) in
     applied.seen_next c.self.inside.settings c.self.inside.faults.items (map kept vs) journal _ c.in-Ok.entry _ c.log.new.self.entries c.args.self.now c.self.view_is next
 

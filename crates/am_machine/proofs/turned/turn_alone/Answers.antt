@@ -1,15 +1,19 @@
 use Rattle.std.specs.Prelude.{IfSome, Err}
-use Rattle.std.proofs.Common.{◌<◌, ◌++◌, ◌∷◌, [], List, Option, length, sym, ap, ◌∙◌, subst}
+use Rattle.std.proofs.Common.{◌<◌, ◌++◌, ◌∷◌, [], List, Option, sym, ap, ◌∙◌, subst}
 use Rattle.am_names.specs.declared.NodeId.{NodeId}
 use Rattle.am_office.specs.declared.Entry.{Entry}
 use Rattle.am_office.specs.declared.Place.TheVariants.{Host}
 use Rattle.am_model.specs.Endpoint.{State, fresh}
 use Rattle.am_iface.specs.View.{last_stamp, own}
+use Rattle.am_journal.specs.View.{IsEarly, greatest_stamp}
 use Rattle.am_machine.specs.declared.settings.ApplyFault.{ApplyFault}
 use Rattle.am_machine.specs.Turned.{TurnsAlone}
 use Rattle.am_machine.specs.Ways.{GoesTo}
 use Rattle.am_machine.proofs.Turning as turning
 use Rattle.am_machine.proofs.turned.turn_alone.Goals as goal
+
+pub greatest_stamp-requires-clause-early : goal.greatest_stamp-requires-clause-early
+greatest_stamp-requires-clause-early c = subst IsEarly (sym c.room_to.ensures.entries) c.requires.can.early
 
 pub log-requires-clause-room : goal.log-requires-clause-room
 log-requires-clause-room c =
@@ -33,8 +37,8 @@ returns-in-Ok c s =
     let x = c.in-Ok.turned.entry in
     turning.turned_ok i c.turn_alone.new.self past c.log.new.self.entries s w c.turn_alone.result c.in-Ok.turned c.in-Ok.is
     (λ k. (c.turn_alone.ensures.disabled s k).1) (λ p. (c.turn_alone.ensures.full s p).1)
-    (turning.logged_entry i past s w x c.len.result (last_stamp i.log) c.in-Ok.ensures.event (c.in-Ok.ensures.outcome s) c.in-Ok.ensures.stamp
-    (c.len.ensures.value ∙ ap (λ (xs : List Entry). length xs) c.room_to.ensures.entries) c.requires.can.last c.requires.can.packet)
+    (turning.logged_entry i past s w x c.greatest_stamp.result (last_stamp i.log) c.in-Ok.ensures.event (c.in-Ok.ensures.outcome s) c.in-Ok.ensures.stamp
+    (c.greatest_stamp.ensures.value ∙ ap greatest_stamp c.room_to.ensures.entries) c.requires.can.last c.requires.can.packet)
     c.in-Ok.ensures.logged
     (c.log.ensures ∙ ap (λ (xs : List Entry). xs ++ x ∷ []) c.room_to.ensures.entries)
 

@@ -1,16 +1,20 @@
 use Rattle.std.specs.Prelude.{Err, Ok, max}
-use Rattle.std.proofs.Common.{◌≡◌, ◌+◌, ◌++◌, ◌∷◌, [], ℕ, List, length, sym, ap, ◌∙◌, subst, arith}
+use Rattle.std.proofs.Common.{◌≡◌, ◌+◌, ◌++◌, ◌∷◌, [], ℕ, List, sym, ap, ◌∙◌, subst, arith}
 use Rattle.am_office.specs.declared.Entry.{Entry}
 use Rattle.am_endpoint.specs.View.{EndpointView, state_after, state_by}
 use Rattle.am_endpoint.specs.View as endpoints
 use Rattle.am_iface.specs.View.{last_stamp, own}
 use Rattle.am_iface.specs.Turns.{stamp_in}
+use Rattle.am_journal.specs.View.{IsEarly, greatest_stamp}
 use Rattle.am_machine.specs.declared.settings.ApplyFault.{ApplyFault}
 use Rattle.am_machine.specs.Ends.{EndLog, state_in}
 use Rattle.am_machine.specs.Turned.{CanTurnWith, TurnsWith}
 use Rattle.am_machine.specs.Ways.{GoesTo}
 use Rattle.am_machine.proofs.Turning as turning
 use Rattle.am_machine.proofs.turned.turn_with.Goals as goal
+
+pub greatest_stamp-requires-clause-early : goal.greatest_stamp-requires-clause-early
+greatest_stamp-requires-clause-early c = subst IsEarly (sym c.room_to.ensures.entries) c.requires.can.turn.early
 
 pub turn_with-requires-clause-needs : goal.turn_with-requires-clause-needs
 turn_with-requires-clause-needs c = (subst (λ (d : EndLog). CanTurnWith c.args.interface.now d c.args.journal.now.entries c.args.work.now) (sym c.make_room.ensures.same) c.requires.can).needed
@@ -33,8 +37,8 @@ turn_with-requires-clause-flies c = (subst (λ (d : EndLog). CanTurnWith c.args.
 pub turn_with-requires-clause-last_there : goal.turn_with-requires-clause-last_there
 turn_with-requires-clause-last_there c =
     let late = (subst (λ (d : EndLog). CanTurnWith c.args.interface.now d c.args.journal.now.entries c.args.work.now) (sym c.make_room.ensures.same) c.requires.can).last in
-    let at = c.len.ensures.value ∙ ap (λ (xs : List Entry). length xs) c.room_to.ensures.entries in
-    let more = c.len.ensures.more in
+    let at = c.greatest_stamp.ensures.value ∙ ap greatest_stamp c.room_to.ensures.entries in
+    let more = c.greatest_stamp.ensures.more in
     omega (arith, late, at, more)
 
 pub log-requires-clause-room : goal.log-requires-clause-room
@@ -64,14 +68,14 @@ returns-in-Ok c =
     let one = c.make_room.new.endpoint in
     let f = c.turn_with.new.endpoint in
     let can = subst (λ (d : EndLog). CanTurnWith i d past w) (sym c.make_room.ensures.same) c.requires.can in
-    let at = c.len.ensures.value ∙ ap (λ (xs : List Entry). length xs) c.room_to.ensures.entries in
+    let at = c.greatest_stamp.ensures.value ∙ ap greatest_stamp c.room_to.ensures.entries in
     let late = can.last in
-    let floor : max c.len.result (endpoints.last_stamp one.log) ≡ c.len.result = turning.max_floor c.len.result (endpoints.last_stamp one.log) (omega (arith, late, at)) in
+    let floor : max c.greatest_stamp.result (endpoints.last_stamp one.log) ≡ c.greatest_stamp.result = turning.max_floor c.greatest_stamp.result (endpoints.last_stamp one.log) (omega (arith, late, at)) in
     turning.turns_still i c.turn_with.new.self e one f past c.log.new.self.entries w (Ok x) c.make_room.ensures.same
     (turning.turned_with_ok i c.turn_with.new.self one f past c.log.new.self.entries w c.turn_with.result c.in-Ok.turned c.in-Ok.is
     (turning.ok_then c.make_room.result _ (sym c.is_err.ensures.value ∙ c.if-is_err.false) c.make_room.ensures.bounded)
     (λ k. (c.turn_with.ensures.disabled k).1) (λ p. (c.turn_with.ensures.full p).1)
-    (turning.logged_entry i past (state_after one) w x c.len.result (last_stamp i.log) c.in-Ok.ensures.event c.in-Ok.ensures.outcome
+    (turning.logged_entry i past (state_after one) w x c.greatest_stamp.result (last_stamp i.log) c.in-Ok.ensures.event c.in-Ok.ensures.outcome
     (c.in-Ok.ensures.stamp ∙ ap (λ (n : ℕ). 1 + max (max n (last_stamp i.log)) (stamp_in w)) floor)
     at can.turn.last can.turn.packet)
     c.in-Ok.ensures.logged

@@ -1,7 +1,7 @@
 use Rattle.std.specs.Prelude.{slice_index_or, Result, Err}
 use Rattle.am_follow.specs.Layout.{events_of}
 use Rattle.am_machine.specs.declared.settings.ApplyFault.{ApplyFault}
-use Rattle.am_machine.specs.View.{Applies}
+use Rattle.am_machine.specs.View.{Applies, ClusterView}
 use Rattle.am_main.specs.Answer.{Makes}
 use Rattle.am_main.specs.declared.faults.StepFault.{StepFault}
 use Rattle.am_model.specs.Steps.{made}
@@ -13,7 +13,7 @@ use Rattle.am_office.specs.declared.Event.TheVariants as Events
 use Rattle.am_model.specs.History.{is_in_range}
 use Rattle.am_model.specs.Layout.{Layout}
 use Rattle.am_scenario_types.specs.declared.parts.StepLine.{StepLine}
-use Rattle.am_main.proofs.Made.{event_in_range, step_got, stops_make}
+use Rattle.am_main.proofs.Made.{event_in_range, step_got, stops_make, walks_begin, walks_on}
 use Rattle.am_main.proofs.steps.make_steps.Goals as goal
 
 pub apply-requires : goal.apply-requires
@@ -24,6 +24,22 @@ apply-requires c =
     let layout = c.args.cluster.now.layout in
     let now = c.loop-step.cluster.layout in
     record { in_range = ap (λ (l : Layout). is_in_range l step.event) c.loop-step.invariant.same ∙ event_in_range layout c.args.steps.now c.loop-step.step-index step c.requires.in_range at }
+
+pub loop-step-init : goal.loop-step-init
+loop-step-init c = walks_begin c.args.cluster.now.layout c.args.steps.now c.args.cluster.now.journal c.requires.fresh
+
+pub loop-step-preserved : goal.loop-step-preserved
+loop-step-preserved c =
+    let none : StepLine = record { line = 0; event = Events.Call (Actors.Thread 0) (record { 0 = 0 }) (Calls.Request 0 0 (record { a = 0; b = 0; c = 0; d = 0 })) } in
+    let steps = c.args.steps.now in
+    let step = slice_index_or steps c.loop-step.step-index none in
+    let at = step_got steps c.loop-step.step-index none c.loop-step-test.true in
+    let layout = c.args.cluster.now.layout in
+    let old = c.loop-step.cluster in
+    let range = ap (λ (l : Layout). is_in_range l step.event) c.loop-step.invariant.same ∙ event_in_range layout steps c.loop-step.step-index step c.requires.in_range at in
+    let told = subst (λ (r : Result Entry ApplyFault). Applies old c.apply.new.self step.event r) c.in-Ok.is c.apply.ensures in
+    walks_on layout old.layout c.apply.new.self.layout steps c.loop-step.step-index old.journal c.apply.new.self.journal step c.in-Ok.field-0 c.loop-step.invariant at range
+    told.0 told.1 (ap (λ (v : ClusterView). v.journal) told.2) (ap (λ (v : ClusterView). v.layout) told.2)
 
 pub returns-in-Err-clause-makes : goal.returns-in-Err-clause-makes
 returns-in-Err-clause-makes c =

@@ -16,21 +16,21 @@ pub feed_entry-requires-clause-from : goal.feed_entry-requires-clause-from
 feed_entry-requires-clause-from c =
     let s = c.self.inside.scenario.now in
     let old = c.self.inside.cluster in
-    let step = step_of s old c.apply.new.self c.args.event c.in-Ok.entry c.self.invariant.parts c.laws.ensures.walked c.laws-in-Ok.ensures.walked c.in-Ok.ensures in
+    let step = step_of s old c.apply.new.self c.args.event c.in-Ok.entry c.self.invariant.parts c.laws-in-Ok.ensures.history c.in-Ok.ensures in
     goes_from (layout_of s) old.journal c.in-Ok.entry (lawful_layout s c.self.invariant.parts.lawful) step.history
 
 pub feed_entry-requires-clause-to : goal.feed_entry-requires-clause-to
 feed_entry-requires-clause-to c =
     let s = c.self.inside.scenario.now in
     let old = c.self.inside.cluster in
-    let step = step_of s old c.apply.new.self c.args.event c.in-Ok.entry c.self.invariant.parts c.laws.ensures.walked c.laws-in-Ok.ensures.walked c.in-Ok.ensures in
+    let step = step_of s old c.apply.new.self c.args.event c.in-Ok.entry c.self.invariant.parts c.laws-in-Ok.ensures.history c.in-Ok.ensures in
     goes_to (layout_of s) old.journal c.in-Ok.entry (lawful_layout s c.self.invariant.parts.lawful) step.history
 
 pub count_event-requires : goal.count_event-requires
 count_event-requires c =
     let s = c.self.inside.scenario.now in
     let old = c.self.inside.cluster in
-    made_small s old.journal (map scripted_in c.self.inside.threads.items) c.self.invariant.threads (short_of s old c.self.invariant.parts c.laws.ensures.walked) c.self.invariant.parts.lawful.settings.log.1
+    made_small s old.journal (map scripted_in c.self.inside.threads.items) c.self.invariant.threads (short_of s old c.self.invariant.parts c.laws.ensures.history) c.self.invariant.parts.lawful.settings.log.1
 
 pub invariant_of-self-in-Ok : goal.invariant_of-self-in-Ok
 invariant_of-self-in-Ok c =
@@ -38,7 +38,7 @@ invariant_of-self-in-Ok c =
     let old = c.self.inside.cluster in
     let new = c.apply.new.self in
     let x = c.in-Ok.entry in
-    let step = step_of s old new c.args.event x c.self.invariant.parts c.laws.ensures.walked c.laws-in-Ok.ensures.walked c.in-Ok.ensures in
+    let step = step_of s old new c.args.event x c.self.invariant.parts c.laws-in-Ok.ensures.history c.in-Ok.ensures in
     record {
       parts = step_parts s old new c.args.event x c.self.invariant.parts step;
       plan = c.self.invariant.plan;
@@ -56,7 +56,7 @@ returns-in-Ok-clause-acts c =
     let s = c.self.inside.scenario.now in
     let old = c.self.inside.cluster in
     let new = c.apply.new.self in
-    let step = step_of s old new c.args.event c.in-Ok.entry c.self.invariant.parts c.laws.ensures.walked c.laws-in-Ok.ensures.walked c.in-Ok.ensures in
+    let step = step_of s old new c.args.event c.in-Ok.entry c.self.invariant.parts c.laws-in-Ok.ensures.history c.in-Ok.ensures in
     subst (λ (w : ScriptedView). Acts {U = Unit {0}} w.scenario (Ok tt) w.journal (after_event (layout_of w.scenario) c.args.event w.journal) new.journal) c.self.view_is
     (step_acts {U = Unit {0}} s old new c.args.event c.in-Ok.entry tt step)
 
@@ -65,9 +65,9 @@ returns-in-Ok-clause-fits c =
     let s = c.self.inside.scenario.now in
     let old = c.self.inside.cluster in
     let new = c.apply.new.self in
-    let step = step_of s old new c.args.event c.in-Ok.entry c.self.invariant.parts c.laws.ensures.walked c.laws-in-Ok.ensures.walked c.in-Ok.ensures in
+    let step = step_of s old new c.args.event c.in-Ok.entry c.self.invariant.parts c.laws-in-Ok.ensures.history c.in-Ok.ensures in
     subst (λ (w : ScriptedView). length new.journal ≤ capacity_of w.scenario) c.self.view_is
-    (short_of s new (step_parts s old new c.args.event c.in-Ok.entry c.self.invariant.parts step) c.laws-in-Ok.ensures.walked)
+    (short_of s new (step_parts s old new c.args.event c.in-Ok.entry c.self.invariant.parts step) c.laws-in-Ok.ensures.history)
 
 pub returns-in-Err-clause-acts : goal.returns-in-Err-clause-acts
 returns-in-Err-clause-acts c =
