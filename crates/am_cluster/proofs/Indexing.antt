@@ -1,5 +1,5 @@
 -- The maps of a plan, one line more.
-use Rattle.std.specs.Prelude.{slice_get, slice_index_or, slice_set, find, if◌then◌else◌}
+use Rattle.std.specs.Prelude.{slice_get, slice_index_or, slice_set, find}
 use Rattle.std.specs.Ordering.{is_eq, nat_cmp}
 use Rattle.std.specs.declared.cmp.Ordering.{Ordering}
 use Rattle.std.specs.declared.cmp.Ordering.TheVariants.{Less, Equal, Greater}

@@ -1,4 +1,4 @@
-use Rattle.std.proofs.Common.{◌≡◌, ◌-◌, length, drop}
+use Rattle.std.proofs.Common.{◌-◌, drop}
 use Rattle.am_cluster.specs.Plans.{HasFaults}
 use Rattle.am_cluster.proofs.plan_index.PlanIndex.new.Given as goal
 

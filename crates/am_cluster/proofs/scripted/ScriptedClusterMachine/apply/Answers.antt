@@ -1,8 +1,7 @@
 use Rattle.std.specs.Prelude.{Ok, Err}
-use Rattle.std.proofs.Common.{◌≤◌, ◌∙◌, ap, map, length, subst}
+use Rattle.std.proofs.Common.{◌≤◌, map, length, subst}
 use Rattle.am_follow.specs.Layout.{layout_of}
 use Rattle.am_follow.proofs.Lawful.{lawful_layout}
-use Rattle.am_scenario_types.specs.Lists.{ScenarioLists}
 use Rattle.am_drain.specs.Made.{after_event}
 use Rattle.am_drain_loop.specs.Stops.{Acts}
 use Rattle.am_cluster.specs.Links.{released_in}
