@@ -149,6 +149,13 @@ impl<T: Copy> Stage<T> {
         self.released.as_slice()
     }
 
+    /// What later emissions release.
+    pub fn held(&self) -> &[Held<T>]
+        ensures { result.now ≡ self.now.held }
+    {
+        self.held.as_slice()
+    }
+
     /// Takes away what was released.
     pub fn take_released(&mut self)
         ensures released { self.new.released ≡ [] }
