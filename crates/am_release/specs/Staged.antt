@@ -7,5 +7,7 @@ pub record Staged (X : Type 0) : Type 0 where
   pub released : List X
   -- what later emissions release
   pub held : List (Held X)
+  -- how many items its store has places for, taken and free
+  pub store : ℕ
   -- there is room for one emission more where this is at least 1
   pub spare : ℕ

@@ -33,9 +33,10 @@ impl<T: Copy> Model for Stage<T> {
     ghost Value = { Staged T };
 
     ghost view = { λ s. record {
-        released = s.released.items;
-        held = s.held.items;
-        spare = min (vec_capacity s.released - (vec_len s.released + 1 + vec_len s.held)) (vec_capacity s.held - vec_len s.held);
+      released = s.released.items;
+      held = s.held.items;
+      store = vec_capacity s.released + vec_capacity s.held;
+      spare = min (vec_capacity s.released - (vec_len s.released + 1 + vec_len s.held)) (vec_capacity s.held - vec_len s.held);
     } };
 }
 
@@ -44,13 +45,13 @@ fn release<T: Copy>(released: &mut Vec<T>, fault: Option<LinkFault>, item: T)
     requires { vec_len released.old + 2 ≤ vec_capacity released.old }
     ensures items { released.new.items ≡ released.old.items ++ copies fault item }
     ensures len { vec_len released.new ≤ vec_len released.old + 2 }
-    ensures capacity { vec_capacity released.old ≤ vec_capacity released.new }
+    ensures capacity { vec_capacity released.new ≡ vec_capacity released.old }
 {
     match fault {
-        None => released.push(item).unwrap(),
+        None => released.push_reserved(item),
         Some(LinkFault::Repeat) => {
-            released.push(item).unwrap();
-            released.push(item).unwrap();
+            released.push_reserved(item);
+            released.push_reserved(item);
         }
         Some(LinkFault::Lose) | Some(LinkFault::Late(_)) => {}
     }
@@ -60,10 +61,10 @@ fn release_due<T: Copy>(released: &mut Vec<T>, held: Held<T>, place: u64)
     requires { vec_len released.old + 1 ≤ vec_capacity released.old }
     ensures items { released.new.items ≡ released.old.items ++ falls_due place held }
     ensures len { vec_len released.new ≤ vec_len released.old + 1 }
-    ensures capacity { vec_capacity released.old ≤ vec_capacity released.new }
+    ensures capacity { vec_capacity released.new ≡ vec_capacity released.old }
 {
     if held.due == place {
-        released.push(held.item).unwrap();
+        released.push_reserved(held.item);
     }
 }
 
@@ -72,6 +73,7 @@ fn release_held<T: Copy>(released: &mut Vec<T>, held: &[Held<T>], place: u64)
     requires { vec_len released.old + length held.now ≤ vec_capacity released.old }
     ensures items { released.new.items ≡ released.old.items ++ flat_map (falls_due place) held.now }
     ensures len { vec_len released.new ≤ vec_len released.old + length held.now }
+    ensures capacity { vec_capacity released.new ≡ vec_capacity released.old }
 {
     for one in held {
         release_due(released, *one, place);
@@ -82,17 +84,19 @@ fn release_held<T: Copy>(released: &mut Vec<T>, held: &[Held<T>], place: u64)
 fn hold<T: Copy>(held: &mut Vec<Held<T>>, fault: Option<LinkFault>, place: u64, item: T)
     requires room { vec_len held.old < vec_capacity held.old }
     requires place { place < 2 ^ 63 }
-    ensures { held.new.items ≡ held.old.items ++ held_back fault place item }
+    ensures items { held.new.items ≡ held.old.items ++ held_back fault place item }
+    ensures capacity { vec_capacity held.new ≡ vec_capacity held.old }
 {
     if let Some(LinkFault::Late(by)) = fault {
         let due = place + u64::from(by);
-        held.push(Held { due, item }).unwrap();
+        held.push_reserved(Held { due, item });
     }
 }
 
 /// Keeps the items that this emission was too early for.
 fn keep_later<T: Copy>(held: &mut Vec<Held<T>>, place: u64)
-    ensures { held.new.items ≡ filter (is_later place) held.old.items }
+    ensures items { held.new.items ≡ filter (is_later place) held.old.items }
+    ensures capacity { vec_capacity held.new ≡ vec_capacity held.old }
 {
     held.retain(|one| place < one.due);
 }
@@ -128,12 +132,14 @@ impl<T: Copy> Stage<T> {
         }
     }
 
-    /// One emission more: that of the item at this place, of which the plan says `fault`. It takes no memory.
+    /// One emission more: that of the item at this place, of which the plan says `fault`. It takes no memory: the store stays
+    /// as large as it was.
     pub fn emit(&mut self, place: u64, fault: Option<LinkFault>, item: T)
         requires spare { 1 ≤ self.old.spare }
         requires place { place < 2 ^ 63 }
         ensures released { self.new.released ≡ self.old.released ++ freed place fault item self.old.held }
         ensures held { self.new.held ≡ held_then place fault item self.old.held }
+        ensures store { self.new.store ≡ self.old.store }
         ensures few { length self.new.released ≤ length self.old.released + 2 + length self.old.held }
     {
         release(&mut self.released, fault, item);
@@ -160,6 +166,7 @@ impl<T: Copy> Stage<T> {
     pub fn take_released(&mut self)
         ensures released { self.new.released ≡ [] }
         ensures held { self.new.held ≡ self.old.held }
+        ensures store { self.new.store ≡ self.old.store }
     {
         self.released.clear();
     }

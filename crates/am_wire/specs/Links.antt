@@ -30,6 +30,10 @@ waiting o = drop o.pumped o.released.items
 abbrev pub free_places : LinkOut → ℕ
 free_places o = ring.known_free o.producer
 
+-- how many packets the link has places for outside its ring, taken and free
+abbrev pub store : LinkOut → ℕ
+store o = vec_capacity o.emitted + vec_capacity o.released + o.stage.store
+
 -- there is room for one more emission where this is at least 1
 abbrev pub spare : LinkOut → ℕ
 spare o =

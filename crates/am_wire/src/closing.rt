@@ -1,7 +1,7 @@
 //! How a link is made, and what went over it when it is closed.
 
 ghost use Rattle.std.specs.Prelude.{◌≡◌, [], ◌++◌, IfOk};
-ghost use Rattle.am_wire.specs.Links.{IsLink, IsOf, emitted, known, pumped, received, released};
+ghost use Rattle.am_wire.specs.Links.{IsLink, IsOf, emitted, pumped, received, released};
 
 use crate::receiving::LinkIn;
 use crate::sending::LinkOut;
@@ -36,6 +36,7 @@ pub fn make_link(
     ensures link { IfOk result (λ ends. IsLink ends.0 ends.1) }
     ensures plan { IfOk result (λ ends. IsOf plan.items from to ends.0) }
     ensures emitted { IfOk result (λ ends. emitted ends.0 ≡ []) }
+    ensures pumped { IfOk result (λ ends. pumped ends.0 ≡ []) }
     ensures received { IfOk result (λ ends. received ends.1 ≡ []) }
 {
     let Ok((producer, consumer)) = RingBuffer::new(alloc, RING_PLACES) else {

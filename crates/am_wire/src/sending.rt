@@ -38,7 +38,7 @@ pub struct LinkOut {
 impl LinkOut {
     ghost use Rattle.std.specs.Prelude.{◌≡◌, ◌⊎◌, ◌≤◌, [], ◌∷◌, ◌++◌, OnOk, OnErr};
     ghost use mathlib.Core.List.{IsPrefix};
-    ghost use Rattle.am_wire.specs.Links.{SameLink, emitted, free_places, pumped, released, spare, waiting};
+    ghost use Rattle.am_wire.specs.Links.{SameLink, emitted, free_places, pumped, released, spare, store, waiting};
 
     /// Makes room for one more emission. `NoMemory` comes only where there is none for it; either way nothing else changes.
     pub fn room(&mut self) -> Result<(), NoMemory>
@@ -58,23 +58,20 @@ impl LinkOut {
         }
     }
 
-    /// Emits a packet, for which there is room. It takes no memory.
+    /// Emits a packet, for which there is room. It takes no memory: the store of the link stays as large as it was.
     pub fn offer_ready(&mut self, packet: Packet)
         requires spare { 1 ≤ spare self.old }
         ensures same { SameLink self.old self.new }
         ensures emitted { emitted self.new ≡ emitted self.old ++ packet ∷ [] }
         ensures pumped { pumped self.new ≡ pumped self.old }
+        ensures store { store self.new ≡ store self.old }
     {
         let place = self.emitted.len() as u64 + 1;
         let fault = self.faults.fault(place);
         self.stage.emit(place, fault, packet);
-        release_stamped(
-            &mut self.released,
-            self.stage.released(),
-            stamp_of(packet),
-        );
+        release_stamped(&mut self.released, self.stage.released(), stamp_of(packet));
         self.stage.take_released();
-        self.emitted.push(packet).unwrap();
+        self.emitted.push_reserved(packet);
     }
 
     /// Emits a packet. `NoMemory` comes only where there is no room for it and none can be made: nothing is emitted then.
@@ -93,6 +90,7 @@ impl LinkOut {
     /// takes no memory.
     pub fn pump(&mut self)
         ensures same { SameLink self.old self.new }
+        ensures store { store self.new ≡ store self.old }
         ensures emitted { emitted self.new ≡ emitted self.old }
         ensures moved { IsPrefix (pumped self.old) (pumped self.new) }
         ensures order { pumped self.new ++ waiting self.new ≡ released self.new }

@@ -32,9 +32,10 @@ fn stamped(stamp: u64, packet: Packet) -> Packet
 /// Adds packets that leave the link by an emission with this stamp. There is room for them.
 pub(crate) fn release_stamped(released: &mut Vec<Packet>, freed: &[Packet], stamp: u64)
     requires { vec_len released.old + length freed.now ≤ vec_capacity released.old }
-    ensures { released.new.items ≡ released.old.items ++ map (stamped stamp) freed.now }
+    ensures items { released.new.items ≡ released.old.items ++ map (stamped stamp) freed.now }
+    ensures capacity { vec_capacity released.new ≡ vec_capacity released.old }
 {
     for packet in freed {
-        released.push(stamped(stamp, *packet)).unwrap();
+        released.push_reserved(stamped(stamp, *packet));
     }
 }

@@ -8,5 +8,6 @@ abbrev pub invariant-loop-one : goal.invariant-loop-one
 invariant-loop-one g l = record {
   items : l.released.items ≡ l.fn.released.items ++ flat_map (falls_due l.place) (take l.one-index l.held);
   len : vec_len l.released ≤ vec_len l.fn.released + l.one-index;
+  capacity : vec_capacity l.released ≡ vec_capacity l.fn.released;
   room : vec_len l.released + length l.held ≤ vec_capacity l.released + l.one-index;
 }
