@@ -8,10 +8,10 @@ use Rattle.am_names.specs.declared.Packet.{Packet}
 use Rattle.am_names.specs.declared.Packet.TheVariants as Packets
 use Rattle.am_plan.specs.declared.plan.LinkFault.{LinkFault}
 use Rattle.am_plan.specs.declared.plan.LinkFault.TheVariants.{Lose, Repeat, Late}
-use Rattle.am_plan.specs.Shape.{at_once, is_late_until, late_from, number_of, released_by, stamp_of, stamped}
+use Rattle.am_plan.specs.Shape.{at_once, is_late_until, late_from, number_of, stamp_of, stamped}
 use Rattle.am_release.specs.declared.stage.Held.{Held}
 use Rattle.am_release.specs.Laws.{HoldsOn, NumbersLeave, PacketsLeave}
-use Rattle.am_release.specs.Stages.{all_held, copies, falls_due, freed, held_after, held_back, held_then, is_later}
+use Rattle.am_release.specs.Stages.{all_held, copies, falls_due, freed, held_after, held_back, is_later}
 
 map_append : {X Y : Type 0} (f : X → Y) (xs ys : List X) → map f (xs ++ ys) ≡ map f xs ++ map f ys
 map_append f [] ys = refl

@@ -1,10 +1,8 @@
 -- What an emission releases on its link, and what is held back then, over items of any kind.
-use Rattle.std.specs.Prelude.{◌≡◌, ℕ, ◌+◌, Bool, nat_lt, ◌==◌, Option, Some, None, List, [], ◌∷◌, ◌++◌, map, length, if◌then◌else◌}
+use Rattle.std.specs.Prelude.{ℕ, ◌+◌, Bool, nat_lt, ◌==◌, Option, Some, None, List, [], ◌∷◌, ◌++◌, length, if◌then◌else◌}
 use Rattle.std.specs.List.{filter, flat_map}
-use Rattle.am_names.specs.declared.Packet.{Packet}
 use Rattle.am_plan.specs.declared.plan.LinkFault.{LinkFault}
 use Rattle.am_plan.specs.declared.plan.LinkFault.TheVariants.{Lose, Repeat, Late}
-use Rattle.am_plan.specs.Shape.{number_of, released_by, stamp_of, stamped}
 use Rattle.am_release.specs.declared.stage.Held.{Held}
 
 module _ {X : Type 0} where

@@ -1,5 +1,4 @@
-use Rattle.std.proofs.Common.{◌≡◌, ◌∙◌, take, length}
-use Rattle.am_wire.specs.Links.{known, received}
+use Rattle.std.proofs.Common.{◌∙◌}
 use Rattle.rtrb.specs.Ring.{known_items, received as taken}
 use Rattle.am_wire.proofs.Parts.{first_part}
 use Rattle.am_wire.proofs.closing.close.Goals as goal

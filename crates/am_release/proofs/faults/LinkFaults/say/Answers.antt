@@ -1,5 +1,4 @@
-use Rattle.std.proofs.Common.{◌≡◌, ◌==◌, ◌∙◌, ℕ, List, ap, cond, Some, rules, Bool}
-use Rattle.std.specs.Prelude.{OnOk}
+use Rattle.std.proofs.Common.{◌==◌, ◌∙◌, ℕ, List, ap, cond, Some, Bool}
 use Rattle.am_release.specs.Faults.{said}
 use Rattle.am_release.proofs.Saying.{equal_test}
 use Rattle.am_release.proofs.faults.LinkFaults.say.Goals.{in-Ok, in-Err}
