@@ -1,0 +1,4 @@
+pub mod Staged
+pub mod Stages
+pub mod Faults
+pub mod Laws
