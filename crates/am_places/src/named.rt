@@ -58,7 +58,7 @@ impl<B: Book + Send + Drop> Places<B> {
         requires known { Contains self.now.ids.items end }
         requires gathered { HasGathered seat.old.token.me.0 }
         ensures seat { (seat.new.token.table_id ≡ seat.old.token.table_id) × (seat.new.mark ≡ seat.old.mark) }
-        ensures twice { IfNone result ((at : ℕ) × (slice_get self.now.ids.items at ≡ Some end) × ((known_at at seat.old.token.me.0).inside ≡ true)) }
+        ensures twice { IfNone result ((at : ℕ) × (slice_get self.now.ids.items at ≡ Some end) × ((known_at at seat.old.token.me.0).inside ≡ true) × (seat.new.token.me ≡ (read (holder_word at) seat.old.mark seat.old.token.me.0, seat.old.token.me.1))) }
         ensures book { IfSome result (λ b. (at : ℕ) × (log : List _) × (slice_get self.now.ids.items at ≡ Some end) × Comes B.items B.birth B.stands B.moves at seat.old.token.me log b × (seat.new.token.me ≡ (with_known at (inside_with (B.stands b) log (known_at at seat.old.token.me.0)) seat.old.token.me.0, (at, None) ∷ seat.old.token.me.1))) }
     {
         let at = self.position_of(end);
