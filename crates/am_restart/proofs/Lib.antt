@@ -1,2 +1,2 @@
-mod Enabled
+pub mod Enabled
 mod Bounded
