@@ -5,3 +5,6 @@ pub mod Receipts
 pub mod Begins
 pub mod Staying
 pub mod Keeping
+pub mod Lies
+pub mod Driving
+pub mod Drivers

@@ -38,7 +38,7 @@ all_still : (new : List Entry) → AreStill new → AllAre (λ (x : Entry). move
 all_still [] h = tt
 all_still (x ∷ xs) h = (h.0, all_still xs h.1)
 
-replay_append : (e : EndpointId) (s : State) (xs ys : List Entry) → replay e s (xs ++ ys) ≡ replay e (replay e s xs) ys
+pub replay_append : (e : EndpointId) (s : State) (xs ys : List Entry) → replay e s (xs ++ ys) ≡ replay e (replay e s xs) ys
 replay_append e s [] ys = refl
 replay_append e s (x ∷ xs) ys = replay_append e (after e s x) xs ys
 

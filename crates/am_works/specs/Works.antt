@@ -19,17 +19,16 @@ use Rattle.am_local.specs.declared.work.Work.{Work}
 use Rattle.am_local.specs.declared.work.Work.TheVariants as Works
 use Rattle.am_merge.specs.Logs.{IsRising}
 use Rattle.am_device.specs.Memory.{Store}
-use Rattle.am_moves.specs.Pages.{HoldsBody}
 use Rattle.am_scenario_types.specs.Lists.{ScenarioLists}
 use Rattle.am_follow.specs.Layout.{layout_of}
 use Rattle.am_scripts.specs.Follows.{is_by_thread, is_by_driver}
 use Rattle.am_scripts.specs.Scripts.{calls_of, script_of}
 use Rattle.am_driver.specs.Lists.{ViewLists}
-use Rattle.am_driver.specs.Views.{line_of}
-use Rattle.am_driver.specs.declared.EndView.{EndView}
 use Rattle.am_places.specs.Rule.{Begins}
+use Rattle.am_phase.specs.Frames.{LiesAsMoved}
 use Rattle.am_phase.specs.Crew.{AreReceipts, is_last_by, is_receipt}
 use Rattle.am_phase.specs.Then.{IsCallThen, IsFound, IsWantThen, StandsAfter}
+use Rattle.am_works.specs.Drives.{CanDrive}
 use Rattle.am_works.specs.Seats.{AreBorn, EndPass, Ids, KnowsNode, seen_log}
 
 -- these are logs of the node's endpoints, which go on from what the seat has seen of them
@@ -126,20 +125,18 @@ pub record IsMoveThenHere (s : ScenarioLists) (logs : EndpointId → List Entry)
   pub enabled : failing_move d state x.event ≡ None
   pub outcome : x.outcome ≡ outcome_move d x.event
 
--- the driver's frames, view and disk show what it has seen; its entries are these, and where an endpoint lies is told by the last load
--- or unload among them
+-- its entries are these, and the last load or unload among them tells where an endpoint lies; and its view, its frames and its disk are
+-- those of what its seat has seen
 pub record DriverWorks (s : ScenarioLists) (ids : Ids) (node : NodeId) (turns clock : ℕ) (view : ViewLists) (swap : Store) (v : EndPass) : Type 0 where
   pub made : List Entry
   pub born : AreBorn (layout_of s) v
   pub knows : KnowsNode ids made v
-  pub driver : v.mark ≡ v.seats
   pub clocked : IsClocked made clock
   pub few : length made ≤ turns
   pub own : AllAre (λ (x : Entry). is_by_driver node x.event ≡ true) made
   pub ranged : AllAre (λ (x : Entry). is_in_range (layout_of s) x.event ≡ true) made
   pub right : (logs : EndpointId → List Entry) → AreSeen ids v logs → AllAre (IsMoveThenHere s logs made) made
-  pub lines : (k : ℕ) (e : EndpointId) (line : EndView) → slice_get ids k ≡ Some e → slice_get view.ends k ≡ Some line → line ≡ line_of e (replay e (opening (layout_of s) e) (seen_log k v))
-  pub frames : (k frame : ℕ) (e : EndpointId) → slice_get ids k ≡ Some e → is_in_frame frame (replay e (opening (layout_of s) e) (seen_log k v)).head.place ≡ lies_in made frame e
+  pub frames : (k : ℕ) (e : EndpointId) → slice_get ids k ≡ Some e → LiesAsMoved made e (replay e (opening (layout_of s) e) (seen_log k v))
   pub fails : swap.fails ≡ faults_of (layout_of s) node
   pub calls : swap.calls ≡ page_calls node made
-  pub disk : (k : ℕ) (e : EndpointId) → slice_get ids k ≡ Some e → is_on_disk (replay e (opening (layout_of s) e) (seen_log k v)).head.place ≡ true → HoldsBody swap s.pool e (replay e (opening (layout_of s) e) (seen_log k v)).body
+  pub can : CanDrive s.frames node view swap v
