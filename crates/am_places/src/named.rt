@@ -1,0 +1,67 @@
+//! The same calls by the number of an endpoint.
+ghost use Rattle.std.specs.Prelude.{◌≡◌, ℕ, ◌+◌, ◌<◌, ◌≤◌, ◌∷◌, true, List, Contains, None, IfNone, IfOk, IfErr, IfSome, position, slice_get, length};
+ghost use Rattle.am_places.specs.Codes.{frame_at, holder_code, is_end, place_code};
+ghost use Rattle.am_places.specs.Rule.{Comes, HasGathered, Met, known_at, joined, holder_word, state_word, word_of, with_known, inside_with, read};
+
+use crate::book::Book;
+use crate::places::{Busy, Entered, Places, Seat, Seen};
+use am_names::EndpointId;
+
+impl<B: Book + Send + Drop> Places<B> {
+    /// The position of an endpoint: the first where its number stands. None where it is none of these.
+    pub fn position(&self, end: EndpointId) -> Option<usize>
+        ensures { result ≡ position (is_end end) self.now.ids.items }
+    {
+        self.ids.iter().position(|other| end.0 == other.0)
+    }
+
+    fn position_of(&self, end: EndpointId) -> usize
+        requires { Contains self.now.ids.items end }
+        ensures { slice_get self.now.ids.items result ≡ Some end }
+    {
+        match self.position(end) {
+            Some(at) => at,
+            None => unreachable!(),
+        }
+    }
+
+    /// The book, where no seat is inside.
+    pub fn try_enter(&self, seat: &mut Seat<B>, end: EndpointId) -> Result<Entered<B>, Busy>
+        requires seat { seat.old.token.table_id ≡ self.now.board.shared.table_id }
+        requires known { Contains self.now.ids.items end }
+        ensures seat { (seat.new.token.table_id ≡ seat.old.token.table_id) × (seat.new.mark ≡ seat.old.mark) }
+        ensures book { IfOk result (λ e. (log : List _) × (slice_get self.now.ids.items e.at ≡ Some end) × Comes B.items B.birth B.stands B.moves e.at seat.old.token.me log e.book × (seat.new.token.me ≡ (with_known e.at (inside_with (B.stands e.book) log (known_at e.at seat.old.token.me.0)) seat.old.token.me.0, (e.at, None) ∷ seat.old.token.me.1))) }
+        ensures frame { IfOk result (λ e. e.frame ≡ frame_at (B.stands e.book)) }
+        ensures busy { IfErr result (λ b. (at : ℕ) × (slice_get self.now.ids.items at ≡ Some end) × Met at (b.holder + 1) seat.old.token.me.0 × (seat.new.token.me ≡ (read (holder_word at) (b.holder + 1) seat.old.token.me.0, seat.old.token.me.1))) }
+    {
+        let at = self.position_of(end);
+        self.try_enter_at(seat, at)
+    }
+
+    /// What the two words of the endpoint say, the holder word read first.
+    pub fn look(&self, seat: &mut Seat<B>, end: EndpointId) -> Seen
+        requires seat { seat.old.token.table_id ≡ self.now.board.shared.table_id }
+        requires known { Contains self.now.ids.items end }
+        ensures seat { (seat.new.token.table_id ≡ seat.old.token.table_id) × (seat.new.mark ≡ seat.old.mark) }
+        ensures seen { (at : ℕ) × (slice_get self.now.ids.items at ≡ Some end)
+            × (seat.new.token.me ≡ (read (state_word at) (word_of (place_code result.place) result.count) (read (holder_word at) (holder_code result.holder) seat.old.token.me.0), seat.old.token.me.1))
+            × (length (joined (known_at at seat.old.token.me.0).seen) ≤ result.count) }
+        ensures holder { holder_code result.holder ≤ seat.old.token.me.0.seats }
+    {
+        let at = self.position_of(end);
+        self.look_at(seat, at)
+    }
+
+    /// The book, once, where every other seat is gathered. None where this seat took it out before.
+    pub fn take_out(&self, seat: &mut Seat<B>, end: EndpointId) -> Option<B>
+        requires seat { seat.old.token.table_id ≡ self.now.board.shared.table_id }
+        requires known { Contains self.now.ids.items end }
+        requires gathered { HasGathered seat.old.token.me.0 }
+        ensures seat { (seat.new.token.table_id ≡ seat.old.token.table_id) × (seat.new.mark ≡ seat.old.mark) }
+        ensures twice { IfNone result ((at : ℕ) × (slice_get self.now.ids.items at ≡ Some end) × ((known_at at seat.old.token.me.0).inside ≡ true)) }
+        ensures book { IfSome result (λ b. (at : ℕ) × (log : List _) × (slice_get self.now.ids.items at ≡ Some end) × Comes B.items B.birth B.stands B.moves at seat.old.token.me log b × (seat.new.token.me ≡ (with_known at (inside_with (B.stands b) log (known_at at seat.old.token.me.0)) seat.old.token.me.0, (at, None) ∷ seat.old.token.me.1))) }
+    {
+        let at = self.position_of(end);
+        self.take_out_at(seat, at)
+    }
+}
