@@ -1,5 +1,6 @@
-mod Found
-mod Frames
+pub mod Found
+pub mod Frames
 mod Enabled
 mod Nothing
 mod Views
+pub mod Chosen

@@ -1,6 +1,7 @@
 //! What a node's driver does next with its endpoints, its frames and its disk.
 #![tactic(auto)]
 
+ghost use Rattle.am_driver.specs.Chosen.{MovesOfLines};
 ghost use Rattle.am_driver.specs.Moves as rules;
 ghost use Rattle.am_driver.specs.Shown.{IsEnabledWhereShown};
 ghost use Rattle.am_driver.specs.Views.{EachStateIsShown, FirstIsLeast};
@@ -155,6 +156,11 @@ fn page_out(view: &View) -> Option<Move>
 /// Every state of a node on the packet network is shown by a view.
 pub fn each_state_is_shown()
     ensures { EachStateIsShown }
+{}
+
+/// What the rules choose is a move of an endpoint that the view shows, and that may be moved so by its line.
+pub fn moves_are_of_lines()
+    ensures { MovesOfLines }
 {}
 
 /// In a view whose lines ascend, the first endpoint that passes a test is the least that does.

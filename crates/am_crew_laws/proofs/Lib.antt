@@ -1,0 +1,5 @@
+pub mod Passes
+pub mod Homes
+pub mod Books
+pub mod Done
+pub mod Ends

@@ -1,0 +1,110 @@
+-- A page call on its parts.
+use Rattle.std.specs.Prelude.{IfOk, Result, Ok, Err}
+use Rattle.std.proofs.Common.{◌≡◌, ◌⊎◌, inl, inr, ℕ, Bool, true, false, List, [], Option, Some, None, refl, sym, ap, ◌∙◌, subst, true≢false, if◌then◌else◌}
+use Rattle.am_names.specs.declared.EndpointId.{EndpointId}
+use Rattle.am_names.specs.declared.NodeId.{NodeId}
+use Rattle.am_office.specs.declared.Event.TheVariants as Events
+use Rattle.am_office.specs.declared.Outcome.{Outcome}
+use Rattle.am_office.specs.declared.Outcome.TheVariants as Out
+use Rattle.am_office.specs.declared.Place.{Place}
+use Rattle.am_office.specs.declared.Place.TheVariants.{Host, Disk, Frame, Direct}
+use Rattle.am_office.specs.declared.Entry.{Entry}
+use Rattle.am_model.specs.Allowed.{MayPageIn, MayPageOut}
+use Rattle.am_model.specs.Endpoint.{Body, State, is_in_a_frame, is_on_disk, is_on_host}
+use Rattle.am_model.specs.Order.{IsInOrder}
+use Rattle.am_body.specs.Views.{View}
+use Rattle.am_device.specs.Causes.{fails_after}
+use Rattle.am_device.specs.Memory.{Store}
+use Rattle.am_endpoint.specs.View.{EndpointView, state_after}
+use Rattle.am_image.specs.Image.{image}
+use Rattle.am_image.specs.Range.{IsInRange}
+use Rattle.am_image.specs.Valid.{IsValid}
+use Rattle.am_swap.specs.Decoded.{FindsEach}
+use Rattle.am_moves.specs.Logs.{EndLog, kept, state_in}
+use Rattle.am_moves.specs.Pages.{CanPageIn, CanPageOut, outcome_by, page_outcome}
+
+host_no_frame : (p : Place) → is_on_host p ≡ true → is_in_a_frame p ≡ false
+host_no_frame (Frame frame) h = absurd (true≢false (sym h))
+host_no_frame Direct h = absurd (true≢false (sym h))
+host_no_frame Host h = refl
+host_no_frame Disk h = absurd (true≢false (sym h))
+
+pub host_no_disk : (p : Place) → is_on_host p ≡ true → is_on_disk p ≡ true → ⊥
+host_no_disk (Frame frame) h k = true≢false (sym h)
+host_no_disk Direct h k = true≢false (sym h)
+host_no_disk Host h k = true≢false (sym k)
+host_no_disk Disk h k = true≢false (sym h)
+
+-- on the host nothing is in flight
+pub none_flying : (pool : Option ℕ) (e : EndpointId) (s : State) → IsInOrder pool e s → is_on_host s.head.place ≡ true → s.body.in_flight ≡ []
+none_flying pool e s order host = order.grounded (host_no_frame s.head.place host)
+
+-- so its body is one that it may have on disk
+pub body_valid : (pool : Option ℕ) (e : EndpointId) (s : State) → IsInOrder pool e s → is_on_host s.head.place ≡ true → IsInRange s.body → IsValid e pool s.body
+body_valid pool e s order host range =
+    record { valid = order.valid; within = order.within; none_in_flight = none_flying pool e s order host; in_range = range }
+
+-- the body whose image it is, is found
+pub finds : (e : EndpointId) (pool : Option ℕ) (bytes : List ℕ) (b : Body) (found : Option View) → bytes ≡ image b → IsValid e pool b → FindsEach e pool bytes found → found ≡ Some (record { pool = pool; body = b; flights = [] })
+finds e pool bytes b found is valid each = each (record { pool = pool; body = b; flights = [] }) (record { own_pool = refl; valid = valid; image_is = sym is; none_flies = refl })
+
+-- a page call is done or failed
+pub page_ends : (s : Store) (o : Outcome) → o ≡ page_outcome s → (o ≡ Out.Done) ⊎ (o ≡ Out.Failed)
+page_ends s o is = subst (λ (p : Outcome). (p ≡ Out.Done) ⊎ (p ≡ Out.Failed)) (sym is) (by_test (fails_after s.fails s.calls))
+  where
+    by_test : (b : Bool) → ((if b then Out.Failed else Out.Done) ≡ Out.Done) ⊎ ((if b then Out.Failed else Out.Done) ≡ Out.Failed)
+    by_test true = inr refl
+    by_test false = inl refl
+
+-- the endpoint with its settings and its log
+same_kept : (v w : EndpointView) → w.settings ≡ v.settings → w.log ≡ v.log → kept v ≡ kept w
+same_kept v w settings log = λ i. record { settings = sym settings i; log = sym log i }
+
+pub may_page_out : (v w : EndpointView) (node : NodeId) (end : EndpointId) (s : Store) (x : Entry) → w.settings ≡ v.settings → w.log ≡ v.log → CanPageOut node end (kept v) → x.event ≡ Events.PageOut node end → x.outcome ≡ page_outcome s → MayPageOut w.settings.node w.settings.id (state_after w) x
+may_page_out v w node end s x settings log can event outcome =
+    let may : MayPageOut v.settings.node v.settings.id (state_after v) x = record {
+      event = event ∙ λ i. Events.PageOut (can.is_node i) (can.is_end i);
+      outcome = page_ends s x.outcome outcome;
+      on_host = can.on_host;
+      unclosed = can.opened;
+    } in
+    subst (λ (d : EndLog). MayPageOut d.settings.node d.settings.id (state_in d) x) (same_kept v w settings log) may
+
+pub may_page_in : (v w : EndpointView) (node : NodeId) (end : EndpointId) (s : Store) (x : Entry) (o : Outcome) → w.settings ≡ v.settings → w.log ≡ v.log → CanPageIn s node end (kept v) → x.event ≡ Events.PageIn node end → x.outcome ≡ o → MayPageIn o w.settings.node w.settings.id (state_after w) x
+may_page_in v w node end s x o settings log can event outcome =
+    let may : MayPageIn o v.settings.node v.settings.id (state_after v) x = record {
+      event = event ∙ λ i. Events.PageIn (can.is_node i) (can.is_end i);
+      is_outcome = outcome;
+      on_disk = can.on_disk;
+    } in
+    subst (λ (d : EndLog). MayPageIn o d.settings.node d.settings.id (state_in d) x) (same_kept v w settings log) may
+
+-- the body is that of the endpoint after it made room
+pub same_body : (v w : EndpointView) (b : View) → w.settings ≡ v.settings → w.log ≡ v.log → b ≡ record { pool = v.settings.pool; body = (state_after v).body; flights = [] } → b ≡ record { pool = w.settings.pool; body = (state_after w).body; flights = b.flights }
+same_body v w b settings log is =
+    subst (λ (d : EndLog). b ≡ record { pool = d.settings.pool; body = (state_in d).body; flights = b.flights }) (same_kept v w settings log)
+    (is ∙ ap (λ (xs : List ℕ). record { pool = v.settings.pool; body = (state_after v).body; flights = xs }) (sym (ap (λ (u : View). u.flights) is)))
+
+-- nothing else is found
+pub never_none : (e : EndpointId) (pool : Option ℕ) (bytes : List ℕ) (b : Body) (found : Option View) → bytes ≡ image b → IsValid e pool b → FindsEach e pool bytes found → found ≡ None → ⊥
+never_none e pool bytes b found is valid each none = let some' = finds e pool bytes b found is valid each in absurd (cc)
+
+pub is_found : (e : EndpointId) (pool : Option ℕ) (bytes : List ℕ) (b : Body) (found : Option View) (w : View) → bytes ≡ image b → IsValid e pool b → FindsEach e pool bytes found → found ≡ Some w → w ≡ record { pool = pool; body = b; flights = [] }
+is_found e pool bytes b found w is valid each at = let some' = finds e pool bytes b found is valid each in cc
+
+-- what the swap's call says of the outcome
+pub told_outcome : (s : Store) (failed : Bool) (o : Outcome) → o ≡ outcome_by failed → failed ≡ fails_after s.fails s.calls → o ≡ page_outcome s
+told_outcome s failed o is at = is ∙ ap outcome_by at ∙ by_test (fails_after s.fails s.calls)
+  where
+    by_test : (b : Bool) → outcome_by b ≡ (if b then Out.Failed else Out.Done)
+    by_test true = refl
+    by_test false = refl
+
+-- what holds of a value holds of what follows from it
+pub if_ok : {T E : Type 0} (r : Result T E) (P Q : T → Type 0) → IfOk r P → ((x : T) → P x → Q x) → IfOk r Q
+if_ok (Ok x) P Q h f = f x h
+if_ok (Err fault) P Q h f = tt
+
+-- the image that is held, told by what was read
+pub image_told : (a b : List ℕ) → Some a ≡ Some b → a ≡ b
+image_told a b h = cc

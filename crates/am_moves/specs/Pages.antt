@@ -1,0 +1,86 @@
+-- A page call on its parts: the disk of the node, and the endpoint.
+use Rattle.std.specs.Prelude.{◌≡◌, ℕ, Bool, true, false, Option, Some, Result, Ok, Err, [], ◌∷◌, ◌++◌, if◌then◌else◌}
+use Rattle.am_names.specs.declared.EndpointId.{EndpointId}
+use Rattle.am_names.specs.declared.NodeId.{NodeId}
+use Rattle.am_names.specs.declared.NoMemory.{NoMemory}
+use Rattle.am_office.specs.declared.Event.{Event}
+use Rattle.am_office.specs.declared.Event.TheVariants as Events
+use Rattle.am_office.specs.declared.Outcome.{Outcome}
+use Rattle.am_office.specs.declared.Outcome.TheVariants as Out
+use Rattle.am_office.specs.declared.Entry.{Entry}
+use Rattle.am_model.specs.Endpoint.{Body, is_on_disk, is_on_host}
+use Rattle.am_device.specs.Causes.{fails_after}
+use Rattle.am_device.specs.Memory.{Store, counted, faulted, held_for, with_held}
+use Rattle.am_image.specs.Image.{image}
+use Rattle.am_image.specs.Valid.{IsValid}
+use Rattle.am_moves.specs.Logs.{EndLog, state_in}
+
+-- for the endpoint e the swap holds the image of this body, which e may have on disk
+pub record HoldsBody (s : Store) (pool : Option ℕ) (e : EndpointId) (b : Body) : Type 0 where
+  pub held : held_for s.held e ≡ Some (image b)
+  pub valid : IsValid e pool b
+
+-- whether the event is a page call
+abbrev pub is_page : Event → Bool
+is_page (Events.PageOut node end) = true
+is_page (Events.PageIn node end) = true
+is_page event = false
+
+-- what comes of a page call, by whether the call of the swap failed
+abbrev pub outcome_by : Bool → Outcome
+outcome_by true = Out.Failed
+outcome_by false = Out.Done
+
+-- what comes of the next call of a swap that has memory for it
+abbrev pub page_outcome : Store → Outcome
+page_outcome s = if fails_after s.fails s.calls then Out.Failed else Out.Done
+
+-- a swap after a call, which leaves it so where it doesn't fail
+abbrev pub after_call : Store → Store → Store
+after_call s done = if fails_after s.fails s.calls then faulted s else counted done
+
+-- a call of a swap fails or not, or there is no memory for it, and the swap is as it was
+abbrev pub IsCalled : Store → Store → Store → Result Bool NoMemory → Type 0
+IsCalled old new done (Ok failed) = (failed ≡ fails_after old.fails old.calls) × (new ≡ after_call old done)
+IsCalled old new done (Err fault) = new ≡ old
+
+-- an endpoint of the node that may be paged out, or paged in from what the swap holds
+pub record CanPageOut (node : NodeId) (end : EndpointId) (e : EndLog) : Type 0 where
+  pub is_node : node ≡ e.settings.node
+  pub is_end : end ≡ e.settings.id
+  pub on_host : is_on_host (state_in e).head.place ≡ true
+  pub opened : (state_in e).head.closed ≡ false
+
+pub record CanPageIn (s : Store) (node : NodeId) (end : EndpointId) (e : EndLog) : Type 0 where
+  pub is_node : node ≡ e.settings.node
+  pub is_end : end ≡ e.settings.id
+  pub on_disk : is_on_disk (state_in e).head.place ≡ true
+  pub holds : HoldsBody s e.settings.pool e.settings.id (state_in e).body
+
+abbrev pub CanPage : Store → EndLog → Event → Type 0
+CanPage s e (Events.PageOut node end) = CanPageOut node end e
+CanPage s e (Events.PageIn node end) = CanPageIn s node end e
+CanPage s e event = ⊥
+
+-- a swap after the page call: a page-out that doesn't fail leaves the image of the endpoint's body there
+abbrev pub after_page : Store → EndLog → Event → Store
+after_page s e (Events.PageOut node end) = after_call s (with_held s e.settings.id (image (state_in e).body))
+after_page s e event = after_call s s
+
+-- what is paged out is a body that the endpoint may have on disk
+abbrev pub IsBodyValid : EndLog → Event → Type 0
+IsBodyValid e (Events.PageOut node end) = IsValid e.settings.id e.settings.pool (state_in e).body
+IsBodyValid e event = Unit {0}
+
+-- the page call was made, and its entry tells what the swap answered
+pub record IsPagedBy (s t : Store) (e f : EndLog) (event : Event) (stamp : ℕ) (x : Entry) : Type 0 where
+  pub entry : x ≡ record { stamp = stamp; event = event; outcome = page_outcome s }
+  pub swap : t ≡ after_page s e event
+  pub valid : IsBodyValid e event
+  pub settings : f.settings ≡ e.settings
+  pub log : f.log ≡ e.log ++ x ∷ []
+
+-- want of memory leaves both as they were
+abbrev pub Pages : Store → Store → EndLog → EndLog → Event → ℕ → Result Entry NoMemory → Type 0
+Pages s t e f event stamp (Ok x) = IsPagedBy s t e f event stamp x
+Pages s t e f event stamp (Err fault) = (t ≡ s) × (f ≡ e)

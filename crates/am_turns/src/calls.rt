@@ -1,0 +1,82 @@
+//! What an application thread does with an endpoint that it has entered.
+ghost use Rattle.am_turns.specs.Turns.{ThreadFound, made_in};
+ghost use Rattle.am_endpoint.specs.View.{last_stamp, state_after};
+ghost use Rattle.am_model.specs.Allowed.{are_numbers_in_range};
+ghost use Rattle.am_model.specs.Endpoint.{is_on_disk};
+ghost use Rattle.std.specs.Prelude.{◌≡◌, ◌↔◌, ◌<◌, ◌≤◌, ◌^◌, ◌++◌, IsTrue, false, max, true};
+
+use crate::turns::ThreadTurn;
+use am_books::EndBook;
+use am_endpoint::{EndFault, Endpoint};
+use am_office::{Actor, Call, Place};
+
+/// No stamp of 2^63 or more is followed by another.
+pub(crate) const LAST: u64 = 1 << 63;
+
+/// Whether the clock or the endpoint's last stamp is 2^63 or more.
+pub(crate) fn is_spent(clock: u64, end: &Endpoint) -> bool
+    ensures { IsTrue result ↔ (2 ^ 63 ≤ max clock (last_stamp end.now.log)) }
+{
+    clock.max(end.last_stamp()) >= LAST
+}
+
+pub(crate) fn is_on_disk(place: Place) -> bool
+    ensures { result ≡ is_on_disk place }
+{
+    match place {
+        Place::Disk => true,
+        Place::Host | Place::Frame(_) | Place::Direct => false,
+    }
+}
+
+/// Makes the call.
+fn make_call(book: &mut EndBook, thread: u8, call: Call, clock: u64) -> ThreadTurn
+    requires here { is_on_disk (state_after book.old.end).head.place ≡ false }
+    requires low { max clock (last_stamp book.old.end.log) < 2 ^ 63 }
+    requires numbers { are_numbers_in_range book.old.end.settings.pool call ≡ true }
+    ensures settings { book.new.end.settings ≡ book.old.end.settings }
+    ensures added { book.new.end.log ≡ book.old.end.log ++ made_in result }
+    ensures found { ThreadFound thread call clock result book.old.end.settings book.old.end.log }
+{
+    match book.end.call(clock, Actor::Thread(thread), call) {
+        Ok(entry) => ThreadTurn::Made(entry),
+        Err(EndFault::LogFull) => ThreadTurn::Full,
+        Err(EndFault::NoMemory) => ThreadTurn::NoMemory,
+    }
+}
+
+/// Wants the endpoint in memory for the call.
+fn make_want(book: &mut EndBook, thread: u8, call: Call, clock: u64) -> ThreadTurn
+    requires away { is_on_disk (state_after book.old.end).head.place ≡ true }
+    requires unwanted { (state_after book.old.end).head.wanted ≡ false }
+    requires low { max clock (last_stamp book.old.end.log) < 2 ^ 63 }
+    ensures settings { book.new.end.settings ≡ book.old.end.settings }
+    ensures added { book.new.end.log ≡ book.old.end.log ++ made_in result }
+    ensures found { ThreadFound thread call clock result book.old.end.settings book.old.end.log }
+{
+    let _call = call;
+    match book.end.want(clock, Actor::Thread(thread)) {
+        Ok(entry) => ThreadTurn::Wanted(entry),
+        Err(EndFault::LogFull) => ThreadTurn::Full,
+        Err(EndFault::NoMemory) => ThreadTurn::NoMemory,
+    }
+}
+
+/// The call, or a want where the endpoint is on disk and not wanted.
+pub(crate) fn act(book: &mut EndBook, thread: u8, call: Call, clock: u64) -> ThreadTurn
+    requires numbers { are_numbers_in_range book.old.end.settings.pool call ≡ true }
+    ensures settings { book.new.end.settings ≡ book.old.end.settings }
+    ensures added { book.new.end.log ≡ book.old.end.log ++ made_in result }
+    ensures found { ThreadFound thread call clock result book.old.end.settings book.old.end.log }
+{
+    if is_spent(clock, &book.end) {
+        return ThreadTurn::Spent;
+    }
+    if !is_on_disk(book.end.place()) {
+        return make_call(book, thread, call, clock);
+    }
+    if book.end.wanted() {
+        return ThreadTurn::Waits;
+    }
+    make_want(book, thread, call, clock)
+}

@@ -1,0 +1,10 @@
+pub mod Stands
+pub mod Fresh
+pub mod Keeps
+pub mod Receipts
+pub mod Begins
+pub mod Staying
+pub mod Keeping
+pub mod Lies
+pub mod Driving
+pub mod Drivers

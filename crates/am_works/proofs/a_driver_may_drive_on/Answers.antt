@@ -1,0 +1,8 @@
+use Rattle.am_works.proofs.Driving.{looks_keep, moves_keep}
+use Rattle.am_works.proofs.a_driver_may_drive_on.Goals as goal
+
+pub returns-clause-looks : goal.returns-clause-looks
+returns-clause-looks c = looks_keep
+
+pub returns-clause-moves : goal.returns-clause-moves
+returns-clause-moves c = moves_keep
