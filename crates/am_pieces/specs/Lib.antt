@@ -1,0 +1,5 @@
+pub mod Lists
+pub mod Pieces
+pub mod Blocks
+pub mod Segments
+pub mod Runs

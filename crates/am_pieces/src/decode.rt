@@ -1,0 +1,45 @@
+//! The piece that the words of a request are.
+
+ghost use Rattle.std.specs.Prelude.{◌≡◌, ◌≤◌, IfSome};
+ghost use Rattle.am_pieces.specs.Pieces.{are_zero, bytes_in, piece_of};
+
+use crate::parts::Piece;
+use am_names::Words;
+
+// The bytes of the last three words, the greatest of each word first.
+fn bytes_in(words: Words) -> [u8; 24]
+    ensures { result ≡ bytes_in words }
+{
+    let mut bytes = [0; 24];
+    bytes[..8].copy_from_slice(&words.b.to_be_bytes());
+    bytes[8..16].copy_from_slice(&words.c.to_be_bytes());
+    bytes[16..].copy_from_slice(&words.d.to_be_bytes());
+    bytes
+}
+
+fn are_zero(bytes: &[u8]) -> bool
+    ensures { result ≡ are_zero bytes.now }
+{
+    bytes.iter().all(|byte| *byte == 0)
+}
+
+/// The piece that the words of a request are, if they are one: if the length that the first word tells is 1 to 24, and each byte
+/// behind so many is 0.
+#[tactic(auto, unfolding(crate::specs::Pieces::piece_of))]
+pub fn piece(words: Words) -> Option<Piece>
+    ensures exact { result ≡ piece_of words }
+    ensures short { IfSome result (λ piece. piece.len ≤ 24) }
+{
+    let len = words.a / 65_536 % 65_536;
+    let bytes = bytes_in(words);
+    if 1 <= len && len <= 24 && are_zero(&bytes[len as usize..]) {
+        Some(Piece {
+            transfer: (words.a / 0x1_0000_0000) as u32,
+            offset: (words.a % 65_536) as u32,
+            len: len as u8,
+            bytes,
+        })
+    } else {
+        None
+    }
+}
