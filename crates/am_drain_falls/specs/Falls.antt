@@ -1,7 +1,10 @@
 -- Each turn of a drain leaves less work, so a drain ends by itself.
-use Rattle.std.specs.Prelude.{◌≡◌, ℕ, ◌+◌, ◌*◌, ◌<◌, ◌≤◌, ◌^◌, true, None, Some, List, length, option_map}
+use Rattle.std.specs.Prelude.{◌≡◌, ◌⊎◌, ℕ, ◌<◌, ◌≤◌, ◌^◌, true, None, Some, List, [], length, option_map}
 use Rattle.am_office.specs.declared.Entry.{Entry}
+use Rattle.am_office.specs.declared.Part.{Part}
 use Rattle.am_scenario_types.specs.declared.parts.ScriptCall.{ScriptCall}
+use Rattle.am_scenario_types.specs.declared.parts.Network.TheVariants.{Packet}
+use Rattle.am_scenario_types.specs.Lawful.{IsLawful}
 use Rattle.am_scenario_types.specs.Lists.{ScenarioLists}
 use Rattle.am_follow.specs.Layout.{layout_of}
 use Rattle.am_scripts.specs.Links.{next_receipt}
@@ -11,9 +14,11 @@ use Rattle.am_scripts.specs.Follows.{is_thread}
 use Rattle.am_drain.specs.declared.Turn.{Turn}
 use Rattle.am_drain.specs.declared.Turn.TheVariants.{Once, Make}
 use Rattle.am_drain.specs.Rules.{next_time_out, next_send, next_poll}
-use Rattle.am_drain.specs.Drain.{after_turn, after_turns, IsDrainedIn}
+use Rattle.am_drain.specs.Cut.{IsDrainCutOff, IsDrainedWithRoom}
+use Rattle.am_drain.specs.Drain.{after_turn, after_turns}
 use Rattle.am_drain_steps.specs.Enabled.{IsOfRun}
 use Rattle.am_drain_steps.specs.Work.{work}
+use Rattle.am_run_laws.specs.Drained.{HasShortLogs}
 
 -- a turn leaves less work
 abbrev pub Falls : ScenarioLists → List Entry → Turn → Type 0
@@ -47,22 +52,27 @@ abbrev pub DrainsEnd : Type 0
 DrainsEnd =
     (s : ScenarioLists) (past journal : List Entry) (n : ℕ) → IsOfRun s past → after_turns n s past ≡ Some journal → length journal < 2 ^ 32 → n ≤ work s past
 
--- so many entries a turn adds at most: page-ins of two endpoints, one more of each than there are faults, five moves that make each
--- of them ready, and the bind
-abbrev pub turn_entries : ScenarioLists → ℕ
-turn_entries s = 2 * length s.faults + 13
-
-abbrev pub TurnsAddFew : Type 0
-TurnsAddFew = (s : ScenarioLists) (past : List Entry) (t : Turn) → length (after_turn s past t) ≤ length past + turn_entries s
-
--- what a drain comes to, in at most as many turns as there is work
-pub record ComesToEnd (s : ScenarioLists) (past : List Entry) : Type 0 where
-  pub turns : ℕ
+-- the drain comes to its end, with room in every log
+pub record ComesToRest (s : ScenarioLists) (past : List Entry) : Type 0 where
   pub journal : List Entry
-  pub drained : IsDrainedIn turns s past journal
-  pub few : turns ≤ work s past
-  pub short : length journal < 2 ^ 32
+  pub ends : IsDrainedWithRoom s past journal
+  pub few : ends.drained.0 ≤ work s past
 
--- a drain comes to an end, where the entries that so many turns may add leave its journal shorter than the numbers that there are
+-- or it comes to an entry that meets a full log
+pub record ComesToFullLog (s : ScenarioLists) (past : List Entry) : Type 0 where
+  pub part : Part
+  pub journal : List Entry
+  pub ends : IsDrainCutOff s past part journal
+  pub few : ends.turns ≤ work s past
+
+-- one of the two, in at most as many turns as there is work
+abbrev pub ComesToEnd : ScenarioLists → List Entry → Type 0
+ComesToEnd s past = ComesToRest s past ⊎ ComesToFullLog s past
+
+-- so does each drain of a history with short logs, as the empty one of every lawful scenario
 abbrev pub DrainsComeToEnd : Type 0
-DrainsComeToEnd = (s : ScenarioLists) (past : List Entry) → IsOfRun s past → length past + work s past * turn_entries s < 2 ^ 32 → ComesToEnd s past
+DrainsComeToEnd = (s : ScenarioLists) (past : List Entry) → IsOfRun s past → HasShortLogs s past → ComesToEnd s past
+
+-- so does each run without threads
+abbrev pub RunsComeToEnd : Type 0
+RunsComeToEnd = (s : ScenarioLists) → IsLawful s → s.network ≡ Packet → ComesToEnd s []

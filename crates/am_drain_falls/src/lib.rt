@@ -1,7 +1,7 @@
 //! Each turn of a drain leaves less work, so a drain ends by itself. Each law is the contract of a function with an empty body.
 #![tactic(auto)]
 
-ghost use Rattle.am_drain_falls.specs.Falls.{CallsFall, DrainsComeToEnd, DrainsEnd, PollsFall, ReceiptsFall, SendsFall, TimeOutsFall, TurnsAddFew};
+ghost use Rattle.am_drain_falls.specs.Falls.{CallsFall, DrainsComeToEnd, DrainsEnd, PollsFall, ReceiptsFall, RunsComeToEnd, SendsFall, TimeOutsFall};
 ghost use Rattle.am_drain_steps.specs.Endings.{EachTurnFalls};
 
 /// A time-out that the drain names leaves less work: its channel has a try less, or is free.
@@ -40,13 +40,13 @@ pub fn drains_end()
     ensures { DrainsEnd }
 {}
 
-/// A turn adds at most twice as many entries as there are page calls that fail, and thirteen more.
-pub fn turns_add_few()
-    ensures { TurnsAddFew }
-{}
-
-/// A drain comes to an end, in at most as many turns as there is work, where the entries that so many turns may add leave its
-/// journal shorter than the numbers that there are.
+/// A drain of a history with short logs comes to its end with room in every log, or to an entry that meets a full log, in at most as
+/// many turns as there is work.
 pub fn drains_come_to_end()
     ensures { DrainsComeToEnd }
+{}
+
+/// So does the run of every lawful scenario of the packet network without threads.
+pub fn runs_come_to_end()
+    ensures { RunsComeToEnd }
 {}

@@ -29,6 +29,7 @@ use Rattle.am_model.proofs.Each.{over_each, each_push}
 use Rattle.am_model.proofs.Ends.{EmittedIn, emitted_more, sequence_push, attempt_push}
 use Rattle.am_model.proofs.Received.{bit}
 use Rattle.am_laws_order.proofs.Senders.{SenderMoves, sender, sender_moves, same_channel-is}
+use Rattle.am_laws_order.proofs.Parcels.{IsCurrent, new_parcel}
 use Rattle.am_laws_channels.proofs.Sent.{emitted_gave, emitted_later, parcels_fit, mark_of}
 use Rattle.am_scripts.specs.Links.{number_received, received}
 use Rattle.am_scripts.proofs.Links.{received_push}
@@ -98,9 +99,10 @@ binds_sends : (c : Channel) (event : Event) (o : Outcome) → binds c event o �
 binds_sends c (Events.Bind node end) o h = h
 binds_sends c event o h = absurd (true≢false (sym h))
 
--- the packet of the last try of a channel
+-- the packet of the last try of a bound channel, which carries the message that it is bound to
 pub record LastSent (past : List Entry) (c : Channel) : Type 0 where
   pub parcel : Parcel
+  pub carries : bound_message c past ≡ Some parcel.message
   pub there : EmittedIn (Packets.Parcel parcel) past
   pub on : parcel_channel parcel ≡ c
   pub seq' : parcel.seq ≡ sequence c past
@@ -119,8 +121,10 @@ sent_more layout past x k may c m bound = by_test (sends c x.event x.outcome) re
     by_test : (b : Bool) → sends c x.event x.outcome ≡ b → LastSent (past ++ x ∷ []) c
     by_test true is =
         let t : SendsTry past x.stamp c x.event x.outcome = subst (λ (o : Outcome). sends c x.event o ≡ true → SendsTry past x.stamp c x.event o) (sym may.outcome) (event_tries layout past x.stamp c x.event) is in
+        let current : IsCurrent (sender c (past ++ x ∷ [])) t.parcel = subst (λ (d : Channel). IsCurrent (sender d (past ++ x ∷ [])) t.parcel) t.on (new_parcel layout past x may t.parcel t.emitted') in
         record {
           parcel = t.parcel;
+          carries = current.message;
           there = emitted_now (Packets.Parcel t.parcel) past x t.emitted';
           on = t.on;
           seq' = t.seq' ∙ sym (sequence_push c past x);
@@ -131,9 +135,11 @@ sent_more layout past x k may c m bound = by_test (sends c x.event x.outcome) re
         let weighs : bit (binds c x.event x.outcome) ≡ bit false = ap bit none in
         let seq : sequence c (past ++ x ∷ []) ≡ sequence c past = omega (arith, sequence_push c past x, weighs) in
         let moves : SenderMoves (sender c past) (sender c (past ++ x ∷ [])) = sender_moves layout c past x may in
-        let l : LastSent past c = k c m (moves.same_message m seq bound) in
+        let same : bound_message c past ≡ Some m = moves.same_message m seq bound in
+        let l : LastSent past c = k c m same in
         record {
           parcel = l.parcel;
+          carries = bound ∙ (sym same ∙ l.carries);
           there = emitted_later (Packets.Parcel l.parcel) past x l.there;
           on = l.on;
           seq' = l.seq' ∙ sym seq;

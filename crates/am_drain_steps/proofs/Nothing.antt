@@ -5,7 +5,6 @@ use Rattle.std.specs.List.{All, list_any}
 use Rattle.am_names.specs.declared.NodeId.{NodeId}
 use Rattle.am_names.specs.declared.Serial.{Serial}
 use Rattle.am_names.specs.declared.Cause.{Cause}
-use Rattle.am_names.specs.declared.Parcel.{Parcel}
 use Rattle.am_names.specs.declared.Packet.{Packet}
 use Rattle.am_names.specs.declared.Packet.TheVariants as Packets
 use Rattle.am_office.specs.declared.Event.{Event}
@@ -17,27 +16,23 @@ use Rattle.am_office.specs.declared.endings.Fate.{Fate}
 use Rattle.am_office.specs.declared.endings.Fate.TheVariants as Fates
 use Rattle.am_office.specs.Entries.{unknown_in, unknown_of, is_serial}
 use Rattle.am_office.specs.Fates.{fate_by, causes_of, is_unknown, is_run, is_accepted, fate_of_accepted}
-use Rattle.am_model.specs.Channels.{Channel, emitted, sequence, attempt}
-use Rattle.am_model.specs.Cluster.{parcel_channel}
-use Rattle.am_model.specs.History.{MayFollow, IsHistory, channel_to}
+use Rattle.am_model.specs.Channels.{emitted}
+use Rattle.am_model.specs.History.{MayFollow, IsHistory}
 use Rattle.am_model.proofs.Each.{each_front}
 use Rattle.am_model.proofs.Ends.{EmittedIn}
-use Rattle.am_laws_channels.proofs.Sent.{emitted_gave}
+use Rattle.am_laws_channels.proofs.Sent.{gave_emitted}
 use Rattle.am_plan.specs.declared.plan.LinkFault.{LinkFault}
 use Rattle.am_plan.specs.declared.plan.LinkFault.TheVariants.{Repeat}
 use Rattle.am_plan.specs.declared.plan.PlanLine.{PlanLine}
 use Rattle.am_plan.specs.Shape.{is_line_of, fault_in, fault_at, at_once, late_from, stamped, stamp_of, number_of, released_by, shape_after}
 use Rattle.am_scenario_types.specs.Lists.{ScenarioLists}
 use Rattle.am_follow.specs.Layout.{layout_of}
-use Rattle.am_scripts.specs.Links.{numbers_released, received}
-use Rattle.am_drain.specs.Follows.{FollowsScripts}
-use Rattle.am_drain_steps.specs.Enabled.{IsOfRun}
-use Rattle.am_drain_steps.specs.Endings.{is_among, IsWithheld, IsUnanswered, WithholdsNothing, NoneIsUnknown}
+use Rattle.am_scripts.specs.Links.{numbers_released}
+use Rattle.am_drain_steps.specs.Endings.{is_among, IsAnsweredInVain, IsKeptBack, IsOrderly, IsWithheld, WithholdsNothing, NoneIsUnknown}
 use Rattle.am_drain_steps.proofs.Receipts.{from_of, to_of}
 use Rattle.am_drain_steps.proofs.Withheld.{among_left, among_right, among_first}
 use Rattle.am_drain_steps.proofs.Counted.{counted}
-use Rattle.am_drain_steps.proofs.Unknown.{Expired, expired}
-use Rattle.am_drain_steps.proofs.Answered.{LastSent, last_are_sent, HasAnswer, last_are_answered}
+use Rattle.am_drain_steps.proofs.Unknown.{expired}
 
 -- ---- each packet is released
 
@@ -107,28 +102,24 @@ times_out : (s : Serial) (event : Event) (o : Outcome) → is_serial s (unknown_
 times_out s (Events.Expire node peer channel) (Out.Unknown serial) h = record { node = node; peer = peer; channel = channel; serial = serial; event' = refl; outcome' = refl }
 times_out s event o h = absurd (true≢false (sym h))
 
--- what the last try withholds is withheld by the plan
-none_withheld : (s : ScenarioLists) (past : List Entry) (p : Parcel) → WithholdsNothing s → IsHistory (layout_of s) past → EmittedIn (Packets.Parcel p) past → p.seq ≡ sequence (parcel_channel p) past → p.attempt ≡ attempt (parcel_channel p) past → IsWithheld s past p → ⊥
-none_withheld s past p nothing h there seq tries withheld =
+-- the plan withholds nothing of a last try
+none_withheld : (s : ScenarioLists) (past : List Entry) (node peer : NodeId) (channel : ℕ) (serial : Serial) → WithholdsNothing s → IsHistory (layout_of s) past → IsWithheld s past node peer channel serial → ⊥
+none_withheld s past node peer channel serial nothing h w =
     ⊎_elim
-    (λ (hidden : is_among p.number (numbers_released s p.from p.to past) ≡ false). true≢false (sym (is_released s past nothing h (Packets.Parcel p) there) ∙ hidden))
-    (λ (heard : (is_among p.number (received p.from p.to past) ≡ true) × IsUnanswered s past p).
-    let a : HasAnswer past p = last_are_answered (layout_of s) past h p there (record { seq' = seq; attempt' = tries }) heard.0 in
-    true≢false (sym (is_released s past nothing h (Packets.Answer a.answer) a.there) ∙ heard.1 a.answer (emitted_gave (Packets.Answer a.answer) past a.there) a.to_parcel))
-    withheld
+    (λ (k : IsKeptBack s past w.parcel.from w.parcel.to w.parcel.number). true≢false (sym (is_released s past nothing h (Packets.Parcel w.parcel) (gave_emitted (Packets.Parcel w.parcel) past w.last.sent)) ∙ k.unreleased))
+    (λ (v : IsAnsweredInVain s past w.parcel).
+    true≢false (sym (is_released s past nothing h (Packets.Answer v.answer) (gave_emitted (Packets.Answer v.answer) past v.answered)) ∙ (v.kept v.answer v.answered v.to_parcel).unreleased))
+    w.kept
 
-none_times_out : (s : ScenarioLists) (past later : List Entry) (x : Entry) → IsOfRun s (past ++ x ∷ later) → FollowsScripts s (past ++ x ∷ later) → WithholdsNothing s → TimesOut x.event x.outcome → ⊥
-none_times_out s past later x run follows nothing t =
-    let h : IsHistory (layout_of s) past = each_front (MayFollow (layout_of s)) [] past (x ∷ later) run.history in
-    let e : Expired s past t.node t.peer t.channel = expired s past later x t.node t.peer t.channel t.serial run follows t.event' t.outcome' in
-    let l : LastSent past (channel_to t.node t.peer t.channel) = last_are_sent (layout_of s) past h (channel_to t.node t.peer t.channel) e.message e.bound in
-    none_withheld s past l.parcel nothing h l.there (l.seq' ∙ sym (ap (λ (c : Channel). sequence c past) l.on)) (l.attempt' ∙ sym (ap (λ (c : Channel). attempt c past) l.on))
-    (e.withheld l.parcel (record { sent = emitted_gave (Packets.Parcel l.parcel) past l.there; on = l.on; seq' = l.seq'; attempt' = l.attempt' }))
+none_times_out : (s : ScenarioLists) (past later : List Entry) (x : Entry) → IsOrderly s (past ++ x ∷ later) → WithholdsNothing s → TimesOut x.event x.outcome → ⊥
+none_times_out s past later x orderly nothing t =
+    none_withheld s past t.node t.peer t.channel t.serial nothing (each_front (MayFollow (layout_of s)) [] past (x ∷ later) orderly.run.history)
+    (expired s past later x t.node t.peer t.channel t.serial orderly t.event' t.outcome')
 
-none_unknown : (s : ScenarioLists) (journal : List Entry) → IsOfRun s journal → FollowsScripts s journal → WithholdsNothing s → (serial : Serial) → is_unknown journal serial ≡ true → ⊥
-none_unknown s journal run follows nothing serial h =
+none_unknown : (s : ScenarioLists) (journal : List Entry) → IsOrderly s journal → WithholdsNothing s → (serial : Serial) → is_unknown journal serial ≡ true → ⊥
+none_unknown s journal orderly nothing serial h =
     let a : Around (λ (x : Entry). is_serial serial (unknown_of x)) journal = around (λ (x : Entry). is_serial serial (unknown_of x)) journal h in
-    none_times_out s a.before a.after a.here (subst (λ (xs : List Entry). IsOfRun s xs) a.is run) (subst (λ (xs : List Entry). FollowsScripts s xs) a.is follows) nothing
+    none_times_out s a.before a.after a.here (subst (λ (xs : List Entry). IsOrderly s xs) a.is orderly) nothing
     (times_out serial a.here.event a.here.outcome a.passes)
 
 -- ---- fates
@@ -144,7 +135,7 @@ accepted_fate true f g h = cc
 accepted_fate false f g h = absurd (cc)
 
 pub none_is_unknown : NoneIsUnknown
-none_is_unknown s journal run follows nothing serial = (
-  λ e. none_unknown s journal run follows nothing serial (fate_unknown (causes_of journal serial) (is_unknown journal serial) (is_run journal serial) (inl (accepted_fate (is_accepted journal serial) (fate_of_accepted journal serial) Fates.Unknown e))),
-  λ e. none_unknown s journal run follows nothing serial (fate_unknown (causes_of journal serial) (is_unknown journal serial) (is_run journal serial) (inr (accepted_fate (is_accepted journal serial) (fate_of_accepted journal serial) Fates.UnknownButRan e))),
+none_is_unknown s journal orderly nothing serial = (
+  λ e. none_unknown s journal orderly nothing serial (fate_unknown (causes_of journal serial) (is_unknown journal serial) (is_run journal serial) (inl (accepted_fate (is_accepted journal serial) (fate_of_accepted journal serial) Fates.Unknown e))),
+  λ e. none_unknown s journal orderly nothing serial (fate_unknown (causes_of journal serial) (is_unknown journal serial) (is_run journal serial) (inr (accepted_fate (is_accepted journal serial) (fate_of_accepted journal serial) Fates.UnknownButRan e))),
 )

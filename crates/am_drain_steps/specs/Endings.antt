@@ -17,7 +17,7 @@ use Rattle.am_office.specs.declared.Entry.{Entry}
 use Rattle.am_office.specs.declared.endings.Fate.TheVariants as Fates
 use Rattle.am_office.specs.Fates.{fate}
 use Rattle.am_office.specs.Entries.{emitted_of}
-use Rattle.am_model.specs.Channels.{sequence, attempt}
+use Rattle.am_model.specs.Channels.{emitted, sequence, attempt}
 use Rattle.am_model.specs.History.{channel_to}
 use Rattle.am_model.specs.PostOffice.{Gave}
 use Rattle.am_plan.specs.declared.plan.LinkFault.{LinkFault}
@@ -25,6 +25,7 @@ use Rattle.am_plan.specs.declared.plan.LinkFault.TheVariants.{Lose, Repeat, Late
 use Rattle.am_plan.specs.declared.plan.PlanLine.{PlanLine}
 use Rattle.am_plan.specs.Shape.{fault_at, number_of, shape}
 use Rattle.am_scenario_types.specs.Lists.{ScenarioLists}
+use Rattle.am_scripts.specs.Follows.{KeepsLastTries}
 use Rattle.am_scripts.specs.Links.{ReceivesInOrder, numbers_released, received}
 use Rattle.am_follow.specs.Layout.{layout_of}
 use Rattle.am_scripts.specs.Standings.{standings}
@@ -49,9 +50,10 @@ PageInsFall =
 abbrev pub is_among : ℕ → List ℕ → Bool
 is_among number numbers = list_any (λ (n : ℕ). n == number) numbers
 
--- the last try of the sequence that a channel is in
-pub record IsLastTry (past : List Entry) (node peer : NodeId) (channel : ℕ) (p : Parcel) : Type 0 where
+-- the last try of the sequence that a channel is in, which carries the message with this serial
+pub record IsLastTry (past : List Entry) (node peer : NodeId) (channel : ℕ) (serial : Serial) (p : Parcel) : Type 0 where
   pub sent : Gave emitted_of past (Packets.Parcel p)
+  pub carries : p.message.serial ≡ serial
   pub on : channel_to p.from p.to p.channel ≡ channel_to node peer channel
   pub seq' : p.seq ≡ sequence (channel_to node peer channel) past
   pub attempt' : p.attempt ≡ attempt (channel_to node peer channel) past
@@ -63,26 +65,48 @@ pub record IsAnswerTo (p : Parcel) (a : AnswerPacket) : Type 0 where
   pub seq' : a.seq ≡ p.seq
   pub attempt' : a.attempt ≡ p.attempt
 
-abbrev pub IsUnanswered : ScenarioLists → List Entry → Parcel → Type 0
-IsUnanswered s past p =
-    (a : AnswerPacket) → Gave emitted_of past (Packets.Answer a) → IsAnswerTo p a → is_among a.number (numbers_released s a.from a.to past) ≡ false
-
--- a parcel that was not released, or was received and no answer to it was released
-abbrev pub IsWithheld : ScenarioLists → List Entry → Parcel → Type 0
-IsWithheld s past p =
-    (is_among p.number (numbers_released s p.from p.to past) ≡ false) ⊎ ((is_among p.number (received p.from p.to past) ≡ true) × IsUnanswered s past p)
-
--- a message is unknown only where the plan withholds packets of the last try
-abbrev pub UnknownIsWithheld : Type 0
-UnknownIsWithheld =
-    (s : ScenarioLists) (past later : List Entry) (x : Entry) (node peer : NodeId) (channel : ℕ) (serial : Serial) (p : Parcel) → IsOfRun s (past ++ x ∷ later) → FollowsScripts s (past ++ x ∷ later) → x.event ≡ Events.Expire node peer channel → x.outcome ≡ Out.Unknown serial → IsLastTry past node peer channel p → IsWithheld s past p
-
 -- the plan loses the packet at a place, or has it late beyond so many emissions
 abbrev pub IsFaultOf : ℕ → ℕ → Option LinkFault → Type 0
 IsFaultOf emissions place None = ⊥
 IsFaultOf emissions place (Some Repeat) = ⊥
 IsFaultOf emissions place (Some Lose) = Unit {0}
 IsFaultOf emissions place (Some (Late by)) = emissions < place + by
+
+-- A packet that was emitted on a link was not released: the plan has a line that loses it, or one that has it late, and the emission
+-- that it waits for had not come.
+pub record IsKeptBack (s : ScenarioLists) (past : List Entry) (from to : NodeId) (number : ℕ) : Type 0 where
+  pub unreleased : is_among number (numbers_released s from to past) ≡ false
+  pub planned : IsFaultOf (length (emitted from to past)) number (fault_at s.plan from to number)
+
+-- A parcel was received and answered, and the plan kept each answer to it back.
+pub record IsAnsweredInVain (s : ScenarioLists) (past : List Entry) (p : Parcel) : Type 0 where
+  pub received' : is_among p.number (received p.from p.to past) ≡ true
+  pub answer : AnswerPacket
+  pub answered : Gave emitted_of past (Packets.Answer answer)
+  pub to_parcel : IsAnswerTo p answer
+  pub kept : (a : AnswerPacket) → Gave emitted_of past (Packets.Answer a) → IsAnswerTo p a → IsKeptBack s past a.from a.to a.number
+
+-- There is the parcel of the last try, and the plan kept it back, or each answer to it.
+pub record IsWithheld (s : ScenarioLists) (past : List Entry) (node peer : NodeId) (channel : ℕ) (serial : Serial) : Type 0 where
+  pub parcel : Parcel
+  pub last : IsLastTry past node peer channel serial parcel
+  pub kept : IsKeptBack s past parcel.from parcel.to parcel.number ⊎ IsAnsweredInVain s past parcel
+
+-- where a time-out leaves a message unknown, the plan withheld packets of its last try
+abbrev pub UnknownIsPlanned : ScenarioLists → List Entry → Type 0
+UnknownIsPlanned s journal =
+    (past later : List Entry) (x : Entry) (node peer : NodeId) (channel : ℕ) (serial : Serial) → journal ≡ past ++ x ∷ later → x.event ≡ Events.Expire node peer channel → x.outcome ≡ Out.Unknown serial → IsWithheld s past node peer channel serial
+
+-- a history of the scenario in which each packet is received in its turn and the last tries come last, as in each that follows the
+-- scripts
+pub record IsOrderly (s : ScenarioLists) (journal : List Entry) : Type 0 where
+  pub run : IsOfRun s journal
+  pub in_order : ReceivesInOrder s journal
+  pub last_tries : KeepsLastTries s journal
+
+-- there a message is unknown only where the plan withheld packets of the last try
+abbrev pub UnknownIsWithheld : Type 0
+UnknownIsWithheld = (s : ScenarioLists) (journal : List Entry) → IsOrderly s journal → UnknownIsPlanned s journal
 
 -- where the emissions on a link are numbered in order and no packet is late by nothing, the plan withholds each packet that they have
 -- not released
@@ -97,7 +121,7 @@ WithholdsNothing s = All (λ (line : PlanLine). line.fault ≡ Repeat) s.plan
 -- completeness: then nothing is unknown
 abbrev pub NoneIsUnknown : Type 0
 NoneIsUnknown =
-    (s : ScenarioLists) (journal : List Entry) → IsOfRun s journal → FollowsScripts s journal → WithholdsNothing s → (serial : Serial) → (fate journal serial ≢ Some Fates.Unknown) × (fate journal serial ≢ Some Fates.UnknownButRan)
+    (s : ScenarioLists) (journal : List Entry) → IsOrderly s journal → WithholdsNothing s → (serial : Serial) → (fate journal serial ≢ Some Fates.Unknown) × (fate journal serial ≢ Some Fates.UnknownButRan)
 
 -- and what is returned is returned for good
 abbrev pub ReturnsAreForGood : Type 0

@@ -86,12 +86,13 @@ pub fn unreleased_is_planned()
     ensures { UnreleasedIsPlanned }
 {}
 
-/// A message is unknown only where the packet of its last try was not released, or was received and no answer to it was released.
+/// Where each packet is received in its turn and the last tries come last, a message is unknown only where there is the packet of its last try, and the plan lost it or
+/// had it late beyond what was emitted; or where it was received and answered, and the plan did so with each answer.
 pub fn unknown_is_withheld()
     ensures { UnknownIsWithheld }
 {}
 
-/// Where the plan has no line that loses a packet or has it late, nothing is unknown.
+/// Where the plan moreover has no line that loses a packet or has it late, nothing is unknown.
 pub fn none_is_unknown()
     ensures { NoneIsUnknown }
 {}

@@ -25,11 +25,14 @@ shorter_begins {X} (x ∷ xs) (y ∷ ys) us vs e low =
     let first : y ≡ x = cc in
     (rest.0, ap (λ (z : X). z ∷ ys) first ∙ ap (λ (zs : List X). x ∷ zs) rest.1)
 
--- a beginning of a history that is longer
-front_of : (s : ScenarioLists) (past journal later added : List Entry) → IsHistory (layout_of s) past → past ++ added ≡ journal ++ later → length journal ≤ length past → IsHistory (layout_of s) journal
-front_of s past journal later added h e low =
-    let r = shorter_begins journal past later added (sym e) low in
-    each_front (MayFollow (layout_of s)) [] journal r.0 (subst (λ (xs : List Entry). IsHistory (layout_of s) xs) r.1 h)
+-- a journal begins what so many turns make of a history, which is a history
+pub record IsCovered (s : ScenarioLists) (past journal : List Entry) : Type 0 where
+  pub turns : ℕ
+  pub whole : List Entry
+  pub later : List Entry
+  pub is : whole ≡ journal ++ later
+  pub planned : after_turns turns s past ≡ Some whole
+  pub history : IsHistory (layout_of s) whole
 
 next_history : (s : ScenarioLists) (past next : List Entry) (o : Option Turn) → next_turn s past ≡ o → IsOfRun s past → length past < 2 ^ 32 → option_map (after_turn s past) o ≡ Some next → IsHistory (layout_of s) next
 next_history s past next None is run short e = absurd (cc)
@@ -38,22 +41,30 @@ next_history s past next (Some t) is run short e =
     subst (λ (xs : List Entry). IsHistory (layout_of s) xs) same (turns_may_follow s past t run short is)
 
 -- by induction on the turns
-pub begins : (n : ℕ) (s : ScenarioLists) (past journal later : List Entry) → IsOfRun s past → length journal ≤ 2 ^ 32 → after_turns n s past ≡ Some (journal ++ later) → IsHistory (layout_of s) journal
-begins zero s past journal later run low e =
+pub covers : (n : ℕ) (s : ScenarioLists) (past journal later : List Entry) → IsOfRun s past → length journal ≤ 2 ^ 32 → after_turns n s past ≡ Some (journal ++ later) → IsCovered s past journal
+covers zero s past journal later run low e =
     let same : past ≡ journal ++ later = cc in
-    each_front (MayFollow (layout_of s)) [] journal later (subst (λ (xs : List Entry). IsHistory (layout_of s) xs) same run.history)
-begins (suc n) s past journal later run low e =
+    record { turns = zero; whole = past; later = later; is = same; planned = refl; history = run.history }
+covers (suc n) s past journal later run low e =
     ⊎_elim
-    (λ (short : length past < length journal). by_turn (omega (arith, short, low)) (turn s past) refl e (λ next r f. begins n s next journal later r low f))
+    (λ (short : length past < length journal). by_turn (omega (arith, short, low)) (turn s past) refl e (λ next r f. covers n s next journal later r low f))
     (λ (long : length journal ≤ length past).
     let ex : Extends past (journal ++ later) = turns_extend (suc n) s past (journal ++ later) e in
-    front_of s past journal later ex.0 run.history (sym ex.1) long)
+    let r = shorter_begins journal past later ex.0 ex.1 long in
+    record { turns = zero; whole = past; later = r.0; is = r.1; planned = refl; history = run.history })
     (cases_lt (length past) (length journal))
   where
-    by_turn : length past < 2 ^ 32 → (o : Option (List Entry)) → turn s past ≡ o → option_and_then (after_turns n s) o ≡ Some (journal ++ later) → ((next : List Entry) → IsOfRun s next → after_turns n s next ≡ Some (journal ++ later) → IsHistory (layout_of s) journal) → IsHistory (layout_of s) journal
+    by_turn : length past < 2 ^ 32 → (o : Option (List Entry)) → turn s past ≡ o → option_and_then (after_turns n s) o ≡ Some (journal ++ later) → ((next : List Entry) → IsOfRun s next → after_turns n s next ≡ Some (journal ++ later) → IsCovered s next journal) → IsCovered s past journal
     by_turn short None is f more = absurd (cc)
     by_turn short (Some next) is f more =
-        more next (record { lawful = run.lawful; packet = run.packet; history = next_history s past next (next_turn s past) refl run short is }) f
+        let c : IsCovered s next journal = more next (record { lawful = run.lawful; packet = run.packet; history = next_history s past next (next_turn s past) refl run short is }) f in
+        record { turns = suc c.turns; whole = c.whole; later = c.later; is = c.is; planned = ap (option_and_then (after_turns c.turns s)) is ∙ c.planned; history = c.history }
+
+-- so the beginning is a history
+pub begins : (n : ℕ) (s : ScenarioLists) (past journal later : List Entry) → IsOfRun s past → length journal ≤ 2 ^ 32 → after_turns n s past ≡ Some (journal ++ later) → IsHistory (layout_of s) journal
+begins n s past journal later run low e =
+    let c : IsCovered s past journal = covers n s past journal later run low e in
+    each_front (MayFollow (layout_of s)) [] journal c.later (subst (λ (xs : List Entry). IsHistory (layout_of s) xs) c.is c.history)
 
 pub beginnings_are_histories : BeginningsAreHistories
 beginnings_are_histories s past journal run low b =

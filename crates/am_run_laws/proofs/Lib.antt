@@ -14,3 +14,6 @@ pub mod Low
 pub mod Returns
 pub mod Known
 pub mod Phases
+pub mod Orderly
+pub mod Stopped
+pub mod Left

@@ -17,7 +17,7 @@ use Rattle.am_office.specs.declared.Outcome.{Outcome}
 use Rattle.am_office.specs.declared.endings.Fate.{Fate}
 use Rattle.am_office.specs.declared.endings.Fate.TheVariants as Fates
 use Rattle.am_office.specs.Entries.{emitted_in, emitted_of}
-use Rattle.am_office.specs.Fates.{cause_of, causes_of, fate_by, fate_of_accepted, is_accepted, is_run, is_unknown}
+use Rattle.am_office.specs.Fates.{cause_of, causes_of, fate, fate_by, fate_of_accepted, is_accepted, is_run, is_unknown}
 use Rattle.am_model.specs.History.{MayFollow, EachAfter, IsHistory, outcome_of}
 use Rattle.am_model.specs.Layout.{Layout, AllAre}
 use Rattle.am_model.proofs.Each.{each_at, each_front, over_each, each_push}
@@ -30,7 +30,7 @@ use Rattle.am_scripts.specs.Links.{IsReceiptInOrder, ReceivesInOrder, next_recei
 use Rattle.am_scripts.specs.Standings.{standings, is_missed}
 use Rattle.am_scripts.proofs.Lists.{some_mapped}
 use Rattle.am_drain.specs.declared.Turn.{Turn}
-use Rattle.am_drain.specs.Drain.{after_turn}
+use Rattle.am_drain.specs.Drain.{after_turn, after_turns}
 use Rattle.am_drain.specs.Made.{after_event, next_entry}
 use Rattle.am_drain.specs.Rules.{page_in_of, poll_of, is_pollable, make_of, left_to, fewer}
 use Rattle.am_drain.proofs.Quiet.{Quiet}
@@ -340,17 +340,25 @@ accepted_fate : (b : Bool) (f g : Fate) → (if b then Some f else None) ≡ Som
 accepted_fate true f g h = cc
 accepted_fate false f g h = absurd (cc)
 
-pub returns_are_for_good : ReturnsAreForGood
-returns_are_for_good s journal run follows nothing serial cause e =
-    let w : IsWhole s journal = record { run = run; order = follows.links.in_order; nothing = nothing } in
-    let p = follows.phases in
+pub turns_return_for_good : (n : ℕ) (s : ScenarioLists) (phase journal : List Entry) → IsWhole s journal → EachAfter (λ (past : List Entry) (x : Entry). is_last s past x ≡ false) [] phase → after_turns n s phase ≡ Some journal → ReturnsForGood journal
+turns_return_for_good n s phase journal w no_last made =
     let ends : Extends journal journal = ([], sym (append-nil journal)) in
     let goes : Extends journal journal → Goes s journal =
-    over_turns p.drained.0 s (λ (xs : List Entry). Extends xs journal → Goes s xs)
+    over_turns n s (λ (xs : List Entry). Extends xs journal → Goes s xs)
     (λ (xs : List Entry) (t : Turn) k rule ex. turn_goes s xs journal t w rule (k (extends_on xs (after_turn s xs t) journal (turn_extends s xs t) ex)) ex)
-    p.phase journal (λ ex. phase_goes s p.phase (run_of s p.phase journal w ex) p.is_phase.no_last) p.drained.1.made in
+    phase journal (λ ex. phase_goes s phase (run_of s phase journal w ex) no_last) made in
+    (goes ends).returns
+
+pub fate_for_good : (journal : List Entry) (serial : Serial) (cause : Cause) → fate journal serial ≡ Some (Fates.Returned cause) → ReturnsForGood journal → is_transient cause ≡ false
+fate_for_good journal serial cause e all =
     returned_first (causes_of journal serial) (is_unknown journal serial) (is_run journal serial) cause
-    (accepted_fate (is_accepted journal serial) (fate_of_accepted journal serial) (Fates.Returned cause) e) ((goes ends).returns serial)
+    (accepted_fate (is_accepted journal serial) (fate_of_accepted journal serial) (Fates.Returned cause) e) (all serial)
+
+pub returns_are_for_good : ReturnsAreForGood
+returns_are_for_good s journal run follows nothing serial cause e =
+    let p = follows.phases in
+    fate_for_good journal serial cause e
+    (turns_return_for_good p.drained.0 s p.phase journal (record { run = run; order = follows.links.in_order; nothing = nothing }) p.is_phase.no_last p.drained.1.made)
 
 pub drained_returns_are_for_good : DrainedReturnsAreForGood
 drained_returns_are_for_good s journal run drained nothing serial cause e =

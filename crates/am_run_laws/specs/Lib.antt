@@ -1,3 +1,5 @@
 pub mod Short
 pub mod Drained
 pub mod Returns
+pub mod Stopped
+pub mod Left

@@ -5,7 +5,9 @@
 
 ghost use Rattle.am_drain_steps.specs.Endings.{ReturnsAreForGood};
 ghost use Rattle.am_run_laws.specs.Drained.{BeginningsAreHistories, BeginningsAreShort, CutOffPhasesAreStopped, CutOffRunsAreStopped, CutOffsAreHistories, CutOffsAreShort, DrainsAreNotRefused, DrainsAreShort, EmptyIsGoodPhase, NoneIsRefused, PhasesWithRoomAreWhole, RoomKeepsLogs, RunsAreNotRefused, RunsAreShort, RunsAreWhole, RunsHaveShortLogs, RunsWithRoomAreWhole};
+ghost use Rattle.am_run_laws.specs.Left.{DrainsLeaveNothing, DrainsReceiveAll};
 ghost use Rattle.am_run_laws.specs.Returns.{DrainedReturnsAreForGood, NoneTimesOut};
+ghost use Rattle.am_run_laws.specs.Stopped.{StoppedReturnsAreForGood, StoppedRunsAreOrderly};
 ghost use Rattle.am_run_laws.specs.Short.{JournalsAreNumbered, JournalsAreShort};
 
 /// A history of a lawful layout with no log longer than it may be has at most 272 times as many entries as a log.
@@ -103,6 +105,17 @@ pub fn runs_are_not_refused()
     ensures { RunsAreNotRefused }
 {}
 
+/// A drain on which no entry meets a full log leaves all at rest, every call made, no packet to be received, and no accepted message
+/// pending.
+pub fn drains_leave_nothing()
+    ensures { DrainsLeaveNothing }
+{}
+
+/// And all that was released was received, where before it each packet was received in its turn.
+pub fn drains_receive_all()
+    ensures { DrainsReceiveAll }
+{}
+
 /// Where the plan has no line that loses a packet or has it late, no channel is bound where nothing is to be received: in a drain
 /// none times out.
 pub fn none_times_out()
@@ -114,7 +127,17 @@ pub fn returns_are_for_good()
     ensures { ReturnsAreForGood }
 {}
 
-/// So is what is returned in a run without threads.
+/// In a run that is stopped for a full log each packet is received in its turn, and the last tries come last.
+pub fn stopped_runs_are_orderly()
+    ensures { StoppedRunsAreOrderly }
+{}
+
+/// And what is returned in it is returned for good, where the plan has no line that loses a packet or has it late.
+pub fn stopped_returns_are_for_good()
+    ensures { StoppedReturnsAreForGood }
+{}
+
+/// And what is returned in a run without threads is returned for good, where the plan withholds nothing.
 pub fn drained_returns_are_for_good()
     ensures { DrainedReturnsAreForGood }
 {}
