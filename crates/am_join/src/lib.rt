@@ -1,0 +1,67 @@
+//! The journal that logs make: the entries of all logs, each once, by stamp and then by part.
+#![tactic(auto)]
+
+ghost use Rattle.am_join.specs.Joined.{AreAmong, AreOne, HaveJust, added, lists_of};
+ghost use Rattle.am_merge.specs.Logs.{IsRising};
+ghost use Rattle.am_merge.specs.Merged.{entries_of, merged};
+ghost use Rattle.am_model.specs.Layout.{AllAre};
+ghost use Rattle.am_model.specs.Merge.{is_ordered};
+ghost use Rattle.am_office.specs.declared.Entry.{Entry};
+ghost use Rattle.std.specs.Prelude.{◌≡◌, true, List, IfOk};
+
+mod heads;
+mod parts;
+
+use crate::heads::{entry_of, first_heads, push_head};
+use crate::parts::is_same;
+use am_office::{Entry, Journal, NoMemory};
+use std::alloc::Global;
+use std::cmp::Reverse;
+
+/// The journal that the logs merge into: it has the entries of all logs, each once, by stamp and then by part. In a log
+/// stamps rise, and where two logs have entries with one stamp and one part, these are one entry, which stands in both.
+/// It costs a number of steps that grows as the entries times the logarithm of the number of logs, and takes memory once
+/// for the entries and once for the logs.
+pub fn join(alloc: Global, logs: &[&[Entry]]) -> Result<Journal, NoMemory>
+    requires rising { AllAre IsRising (lists_of logs.now) }
+    requires one { AreOne (entries_of (lists_of logs.now)) }
+    ensures { IfOk result (λ journal. journal ≡ merged (lists_of logs.now)) }
+{
+    let mut entries = Vec::with_capacity(alloc, total(logs))?;
+    let mut heads = first_heads(alloc, logs)?;
+    while let Some(Reverse(head)) = heads.pop() {
+        add(&mut entries, entry_of(logs, head))?;
+        push_head(logs, head.log, head.place + 1, &mut heads)?;
+    }
+    Ok(Journal { entries })
+}
+
+/// Among entries that all stand in one journal in order, those with one stamp and one part are one entry. So logs that have
+/// just the entries of such a journal merge into it.
+pub fn logs_of_one_journal()
+    ensures one { (journal entries : List Entry) → is_ordered journal ≡ true → AreAmong journal entries → AreOne entries }
+    ensures merged { (journal : List Entry) (logs : List (List Entry)) → is_ordered journal ≡ true → HaveJust journal logs → merged logs ≡ journal }
+{}
+
+/// How many entries the logs have together.
+fn total(logs: &[&[Entry]]) -> usize {
+    let mut total: usize = 0;
+    for log in logs {
+        total = total.saturating_add(log.len());
+    }
+    total
+}
+
+/// Adds an entry to those of the journal, unless it is the last of them.
+fn add(entries: &mut Vec<Entry>, entry: Entry) -> Result<(), NoMemory>
+    ensures { IfOk result (λ _. entries.new.items ≡ added entry entries.old.items) }
+{
+    let again = match entries.last() {
+        Some(last) => is_same(last, &entry),
+        None => false,
+    };
+    if !again {
+        entries.push(entry)?;
+    }
+    Ok(())
+}

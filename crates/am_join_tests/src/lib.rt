@@ -1,0 +1,5 @@
+//! Tests of the merge of logs, with ample memory.
+#![tactic(auto)]
+
+#[cfg(test)]
+mod tests;
