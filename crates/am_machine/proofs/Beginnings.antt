@@ -116,6 +116,7 @@ begins s faults nodes lines es is lawful rise whole =
       lawful = subst (λ (ns : List EndLog). IsLawful (layout_in s faults ns)) is whole;
       history = tt;
       early = omega arith;
+      ordered = refl;
       own = all_by_place (IsOwn layout []) (map (opened s) lines) own_at;
       apart = λ j k d e dj ek same.
           (let a = got_opened s lines j d dj in

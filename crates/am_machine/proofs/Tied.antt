@@ -1,6 +1,6 @@
 -- One entry more in the logs that it touches is one entry more of the journal.
-use Rattle.std.specs.Prelude.{slice_get, slice_set}
-use Rattle.std.proofs.Common.{◌≡◌, ℕ, zero, suc, Bool, true, false, cond, ◌||◌, List, [], ◌∷◌, ◌++◌, map, Some, None, refl, sym, ap, ◌∙◌, subst, length-append, arith}
+use Rattle.std.specs.Prelude.{fold, max, slice_get, slice_set}
+use Rattle.std.proofs.Common.{◌≡◌, inl, ⊎_elim, ℕ, zero, suc, ◌≤◌, Bool, true, false, cond, ◌||◌, List, [], ◌∷◌, ◌++◌, map, Some, None, refl, sym, ap, ◌∙◌, subst, length-append, arith}
 use Rattle.std.specs.List.{filter}
 use Rattle.std.proofs.lemmas.List.{append-nil}
 use Rattle.std.proofs.lemmas.List.Elements.{filter-append}
@@ -10,7 +10,10 @@ use Rattle.am_office.specs.Entries.{touches}
 use Rattle.am_model.specs.Changes.{replay}
 use Rattle.am_model.specs.Layout.{Layout, EndSetting, AllAre}
 use Rattle.am_model.specs.History.{MayFollow, state_of, is_in_range, failing}
-use Rattle.am_drain.specs.Made.{next_entry, next_stamp}
+use Rattle.am_drain.specs.Made.{later_stamp, next_entry, next_stamp}
+use Rattle.am_model.specs.Merge.{is_ordered}
+use Rattle.am_merge.proofs.Sorted.{Has, before_from}
+use Rattle.am_join.proofs.Standing.{ordered_push}
 use Rattle.am_scenario_types.specs.declared.parts.FaultLine.{FaultLine}
 use Rattle.am_endpoint.specs.View.{EndpointView}
 use Rattle.am_drain.proofs.Entries.{entry_may_follow}
@@ -64,6 +67,23 @@ early_next journal x is early =
     let longer = length-append journal (x ∷ []) in
     omega (arith, most, longer, is, early)
 
+-- no entry is stamped above the greatest
+least : (a : ℕ) (xs : List Entry) → a ≤ fold later_stamp a xs
+least a [] = omega arith
+least a (x ∷ xs) = let more = least (max a x.stamp) xs in omega (arith, more)
+
+none_above : (a : ℕ) (xs : List Entry) (z : Entry) → Has xs z → z.stamp ≤ fold later_stamp a xs
+none_above a [] z h = absurd h
+none_above a (x ∷ xs) z h =
+    ⊎_elim
+    (λ (here : x ≡ z). (let stamp : x.stamp ≡ z.stamp = ap (λ (w : Entry). w.stamp) here in let more = least (max a x.stamp) xs in omega (arith, more, stamp)))
+    (λ (there : Has xs z). none_above (max a x.stamp) xs z there)
+    h
+
+-- and an entry with the next stamp comes last
+ordered_next : (journal : List Entry) (x : Entry) → x.stamp ≡ next_stamp journal → is_ordered journal ≡ true → is_ordered (journal ++ x ∷ []) ≡ true
+ordered_next journal x is ordered = ordered_push journal x ordered (λ z h. before_from z x (inl (let most = none_above 0 journal z h in omega (arith, most, is))))
+
 pub tied_push : (layout : Layout) (es : List EndLog) (journal : List Entry) (event : Event) → IsTied layout es journal → is_in_range layout event ≡ true → failing layout journal event ≡ None → IsTied layout (map (grown (next_entry layout journal event)) es) (journal ++ next_entry layout journal event ∷ [])
 tied_push layout es journal event tied range enabled =
     let x = next_entry layout journal event in
@@ -71,6 +91,7 @@ tied_push layout es journal event tied range enabled =
       lawful = tied.lawful;
       history = each_push (MayFollow layout) [] journal x tied.history (entry_may_follow layout journal event range enabled);
       early = early_next journal x refl tied.early;
+      ordered = ordered_next journal x refl tied.ordered;
       own = all_own layout journal x es tied.own;
       apart =
           λ j k d e dj ek same.

@@ -1,11 +1,12 @@
 -- What a cluster keeps: its journal is a history, and each log is its part of it.
-use Rattle.std.specs.Prelude.{◌≡◌, ℕ, List, Some, map, slice_get}
+use Rattle.std.specs.Prelude.{◌≡◌, ℕ, true, List, Some, map, slice_get}
 use Rattle.std.specs.List.{filter}
 use Rattle.am_office.specs.declared.Entry.{Entry}
 use Rattle.am_office.specs.Entries.{touches}
 use Rattle.am_model.specs.Endpoint.{fresh}
 use Rattle.am_model.specs.History.{IsHistory}
 use Rattle.am_model.specs.Layout.{Layout, AllAre, IsLawful, opening}
+use Rattle.am_model.specs.Merge.{is_ordered}
 use Rattle.am_scenario_types.specs.declared.parts.FaultLine.{FaultLine}
 use Rattle.am_follow.specs.Layout.{is_direct, fault_of}
 use Rattle.am_journal.specs.View.{IsEarly}
@@ -46,6 +47,7 @@ pub record IsTied (layout : Layout) (es : List EndLog) (journal : List Entry) : 
   pub lawful : IsLawful layout
   pub history : IsHistory layout journal
   pub early : IsEarly journal
+  pub ordered : is_ordered journal ≡ true
   pub own : AllAre (IsOwn layout journal) es
   pub apart : (j k : ℕ) (d e : EndLog) → slice_get es j ≡ Some d → slice_get es k ≡ Some e → d.settings.id ≡ e.settings.id → j ≡ k
 

@@ -1,0 +1,6 @@
+pub mod Pushed
+pub mod Dealers
+pub mod Assembled
+pub mod Takings
+pub mod Gatherers
+pub mod Logs

@@ -1,0 +1,93 @@
+// The journal that the logs of several nodes merge into, and what is read off it.
+ghost use Rattle.am_local.specs.Interface.{receiver_of};
+ghost use Rattle.am_local.specs.Together.{from_of};
+ghost use Rattle.am_join.specs.Joined.{AreOne, lists_of};
+ghost use Rattle.am_journal.specs.View.{HasRoomFor};
+ghost use Rattle.am_merge.specs.Logs.{IsRising};
+ghost use Rattle.am_merge.specs.Merged.{entries_of};
+ghost use Rattle.am_model.specs.Layout.{AllAre};
+ghost use Rattle.am_node.specs.Parts.{all_logs, journal_of, logs_of_part};
+ghost use Rattle.am_node.specs.Packets.{GoesWithin, IsWithin};
+ghost use Rattle.std.specs.Prelude.{◌≡◌, ◌∷◌, ◌++◌, [], true, IfOk, OnOk};
+
+use crate::NodePart;
+use am_iface::emitted_of;
+use am_join::join;
+use am_journal::IndexedJournal;
+use am_names::{NodeId, Packet};
+use am_office::{Entry, Journal, NoMemory};
+use std::alloc::Global;
+
+/// Adds the logs of a node's endpoints and then that of its interface.
+fn add_logs<'a>(logs: &mut Vec<&'a [Entry]>, part: &'a NodePart) -> Result<(), NoMemory>
+    ensures { OnOk result (lists_of logs.new.items ≡ lists_of logs.old.items ++ logs_of_part part.now) }
+{
+    for end in &part.ends {
+        logs.push(end.log())?;
+    }
+    logs.push(part.iface.log())?;
+    Ok(())
+}
+
+/// The journal that the nodes' logs merge into.
+pub fn journal_of(alloc: Global, parts: &[NodePart]) -> Result<Journal, NoMemory>
+    requires rising { AllAre IsRising (all_logs parts.now) }
+    requires one { AreOne (entries_of (all_logs parts.now)) }
+    ensures { IfOk result (λ journal. journal ≡ journal_of parts.now) }
+{
+    let mut logs = Vec::new(alloc);
+    for part in parts {
+        add_logs(&mut logs, part)?;
+    }
+    join(alloc, &logs)
+}
+
+/// The nodes that a packet goes from and to.
+fn nodes_of(packet: &Packet) -> (NodeId, NodeId)
+    ensures from { result.0 ≡ from_of packet.now }
+    ensures to { result.1 ≡ receiver_of packet.now }
+{
+    match packet {
+        Packet::Parcel(p) => (p.from, p.to),
+        Packet::Answer(p) => (p.from, p.to),
+    }
+}
+
+/// Makes room for one more entry, and for this packet.
+fn make_room(journal: &mut IndexedJournal, packet: Option<Packet>) -> Result<(), NoMemory>
+    requires { IsWithin packet }
+    ensures entries { journal.new.entries ≡ journal.old.entries }
+    ensures ready { OnOk result (journal.new.ready ≡ true) }
+    ensures room { OnOk result (HasRoomFor journal.new packet) }
+{
+    match packet {
+        Some(packet) => {
+            let (from, to) = nodes_of(&packet);
+            journal.room_to(from, Some(to))
+        }
+        None => journal.room(),
+    }
+}
+
+/// Adds an entry, with the packet that it emits.
+fn add_entry(journal: &mut IndexedJournal, entry: Entry) -> Result<(), NoMemory>
+    requires { GoesWithin entry }
+    ensures { OnOk result (journal.new.entries ≡ journal.old.entries ++ entry ∷ []) }
+{
+    let packet = emitted_of(&entry);
+    make_room(journal, packet)?;
+    journal.log(entry, packet);
+    Ok(())
+}
+
+/// A journal of these entries, with what is read off them.
+pub fn index_of(alloc: Global, entries: &[Entry]) -> Result<IndexedJournal, NoMemory>
+    requires { AllAre GoesWithin entries.now }
+    ensures { IfOk result (λ journal. journal.entries ≡ entries.now) }
+{
+    let mut journal = IndexedJournal::new(alloc)?;
+    for entry in entries {
+        add_entry(&mut journal, *entry)?;
+    }
+    Ok(journal)
+}
