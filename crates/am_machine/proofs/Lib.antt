@@ -19,3 +19,7 @@ pub mod Presets
 pub mod PageCalls
 pub mod Paged
 pub mod Short
+pub mod Between
+pub mod PartLogs
+pub mod PartsMade
+pub mod PartsUnited

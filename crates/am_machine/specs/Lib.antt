@@ -11,3 +11,5 @@ pub mod Moves
 pub mod View
 pub mod Turned
 pub mod Ways
+pub mod Parts
+pub mod Parting

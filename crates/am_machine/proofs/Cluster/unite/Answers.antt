@@ -1,0 +1,73 @@
+use Rattle.std.proofs.Common.{◌≡◌, ◌≤◌, List, [], length, map, ap, ◌∙◌, sym, subst, arith}
+use Rattle.std.specs.Prelude.{vec_capacity}
+use Rattle.am_office.specs.declared.Entry.{Entry}
+use Rattle.am_follow.specs.Layout.{is_direct, layout_of, setting_of}
+use Rattle.am_follow.proofs.Lawful.{lawful_layout}
+use Rattle.am_join.specs.Joined.{AreOne}
+use Rattle.am_merge.specs.Logs.{IsRising}
+use Rattle.am_merge.specs.Merged.{entries_of}
+use Rattle.am_model.specs.Layout.{AllAre}
+use Rattle.am_node.specs.declared.NodePart.{NodePart}
+use Rattle.am_node.specs.Gathered.{AreDeclared}
+use Rattle.am_node.specs.Packets.{GoesWithin}
+use Rattle.am_node.specs.Parts.{all_logs, journal_of}
+use Rattle.am_scenario_types.specs.declared.parts.EndLine.{EndLine}
+use Rattle.am_scenario_types.specs.Lists.{ScenarioLists}
+use Rattle.am_machine.specs.declared.settings.Settings.{Settings}
+use Rattle.am_machine.specs.Ends.{kept}
+use Rattle.am_machine.specs.Kept.{IsKept, layout_in}
+use Rattle.am_machine.proofs.PartsUnited.{IsUnited, all_within, are_declared, is_kept, one_each, rising, same_layout}
+use Rattle.am_machine.proofs.Cluster.unite.Goals as goal
+
+pub open_frame-requires-clause-rising : goal.open_frame-requires-clause-rising
+open_frame-requires-clause-rising c =
+    subst (λ (ps : List NodePart). AllAre IsRising (all_logs ps)) (sym c.deref.ensures.value) (rising c.args.scenario.now c.args.parts.items c.requires.parts)
+
+pub open_frame-requires-clause-one : goal.open_frame-requires-clause-one
+open_frame-requires-clause-one c =
+    subst (λ (ps : List NodePart). AreOne (entries_of (all_logs ps))) (sym c.deref.ensures.value) (one_each c.args.scenario.now c.args.parts.items c.requires.parts)
+
+pub open_frame-requires-clause-within : goal.open_frame-requires-clause-within
+open_frame-requires-clause-within c =
+    let s = c.args.scenario.now in
+    subst (λ (ps : List NodePart). AllAre GoesWithin (journal_of ps)) (sym c.deref.ensures.value)
+    (all_within (layout_of s) [] (journal_of c.args.parts.items) (lawful_layout s c.requires.lawful) c.requires.parts.history)
+
+pub gather-requires : goal.gather-requires
+gather-requires c =
+    let s = c.args.scenario.now in
+    let lines : c.deref-2.result.now ≡ s.ends = c.deref-2.ensures.value ∙ ap (λ (w : ScenarioLists). w.ends) c.scenario.view_is in
+    record {
+      declared = subst (λ (l : List EndLine). AreDeclared l c.take_apart-groups.result.ends.items) (sym lines) (are_declared s (journal_of c.args.parts.items) c.args.parts.items c.take_apart-groups.result.ends.items (lawful_layout s c.requires.lawful) c.requires.parts.apart c.take_apart-groups.ensures.ends');
+      none = c.in-Ok.ensures.no_ends;
+      room = subst (λ (l : List EndLine). length l ≤ vec_capacity c.in-Ok.frame.ends) (sym lines) c.in-Ok.ensures.ends;
+    }
+
+-- what the cluster is put together from
+united : (c : goal.After-gather) → IsUnited c.args.scenario.now c.in-Ok.frame.faults.items c.args.parts.items c.take_apart-groups.result.ends.items c.gather.result.items c.take_apart-groups.result.interfaces.items c.take_apart-groups.result.swaps.items
+united c =
+    let s = c.args.scenario.now in
+    let lines : c.deref-2.result.now ≡ s.ends = c.deref-2.ensures.value ∙ ap (λ (w : ScenarioLists). w.ends) c.scenario.view_is in
+    record {
+      lawful = lawful_layout s c.requires.lawful;
+      rise = c.requires.lawful.ends_rise;
+      packet = ap is_direct c.requires.packet;
+      can = c.requires.parts;
+      faults' = c.in-Ok.ensures.faults;
+      groups' = c.take_apart-groups.ensures.ends';
+      interfaces' = c.take_apart-groups.ensures.interfaces';
+      swaps' = c.take_apart-groups.ensures.swaps';
+      settings = c.gather.ensures.settings ∙ ap (map setting_of) lines;
+      own = c.gather.ensures.own;
+    }
+
+pub invariant_of-result : goal.invariant_of-result
+invariant_of-result c =
+    let vs = c.gather.result.items in
+    subst (λ (set : Settings). IsKept (layout_in set c.in-Ok.frame.faults.items (map kept vs)) (map kept vs) c.in-Ok.frame.journal.entries c.take_apart-groups.result.interfaces.items c.take_apart-groups.result.swaps.items) (sym c.settings_from.ensures)
+    (is_kept c.args.scenario.now c.in-Ok.frame.faults.items c.args.parts.items c.take_apart-groups.result.ends.items vs c.take_apart-groups.result.interfaces.items c.take_apart-groups.result.swaps.items (united c) c.in-Ok.frame.journal.entries (c.in-Ok.ensures.journal ∙ ap journal_of c.deref.ensures.value))
+
+pub returns-clause-layout : goal.returns-clause-layout
+returns-clause-layout c =
+    ap (λ (set : Settings). layout_in set c.in-Ok.frame.faults.items (map kept c.gather.result.items)) c.settings_from.ensures
+    ∙ same_layout c.args.scenario.now c.in-Ok.frame.faults.items c.args.parts.items c.take_apart-groups.result.ends.items c.gather.result.items c.take_apart-groups.result.interfaces.items c.take_apart-groups.result.swaps.items (united c)
