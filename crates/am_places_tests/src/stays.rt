@@ -11,12 +11,12 @@ pub fn enter(
     seat: &mut Seat<Notes>,
     at: usize,
 ) -> Result<Entered<Notes>, Busy>
-    requires waiting { IsWaiting places.now.board.shared.table_id seat.old.mark seat.old.token.me.0.seats seat.old.token }
+    requires waiting { IsWaiting places.now.board.shared.table_id seat.old.token }
     requires at { at < places.now.count }
-    ensures seat { (seat.new.mark ≡ seat.old.mark) × (seat.new.token.me.0.seats ≡ seat.old.token.me.0.seats) }
+    ensures seat { (seat.new.token.me.0.mark ≡ seat.old.token.me.0.mark) × (seat.new.token.me.0.seats ≡ seat.old.token.me.0.seats) × (seat.new.token.me.0.frames ≡ seat.old.token.me.0.frames) }
     ensures stay { MatchResult result
-        (λ e. (e.at ≡ at) × IsInside places.now.board.shared.table_id at seat.old.mark seat.old.token.me.0.seats seat.new.token e.book)
-        (λ _. IsWaiting places.now.board.shared.table_id seat.old.mark seat.old.token.me.0.seats seat.new.token) }
+        (λ e. (e.at ≡ at) × IsInside places.now.board.shared.table_id at seat.new.token e.book)
+        (λ _. IsWaiting places.now.board.shared.table_id seat.new.token) }
 {
     places.try_enter_at(seat, at)
 }
@@ -24,19 +24,19 @@ pub fn enter(
 /// Gives the book back, with what was added to it.
 pub fn leave(places: &Places<Notes>, seat: &mut Seat<Notes>, entered: Entered<Notes>)
     requires at { entered.at < places.now.count }
-    requires inside { IsInside places.now.board.shared.table_id entered.at seat.old.mark seat.old.token.me.0.seats seat.old.token entered.book }
-    ensures seat { (seat.new.mark ≡ seat.old.mark) × (seat.new.token.me.0.seats ≡ seat.old.token.me.0.seats) }
-    ensures waiting { IsWaiting places.now.board.shared.table_id seat.old.mark seat.old.token.me.0.seats seat.new.token }
+    requires inside { IsInside places.now.board.shared.table_id entered.at seat.old.token entered.book }
+    ensures seat { (seat.new.token.me.0.mark ≡ seat.old.token.me.0.mark) × (seat.new.token.me.0.seats ≡ seat.old.token.me.0.seats) × (seat.new.token.me.0.frames ≡ seat.old.token.me.0.frames) }
+    ensures waiting { IsWaiting places.now.board.shared.table_id seat.new.token }
 {
     places.leave(seat, entered);
 }
 
 /// Adds one line to the book at this position, where no other seat is inside and there is memory.
 pub fn write(places: &Places<Notes>, seat: &mut Seat<Notes>, at: usize, line: u32) -> bool
-    requires waiting { IsWaiting places.now.board.shared.table_id seat.old.mark seat.old.token.me.0.seats seat.old.token }
+    requires waiting { IsWaiting places.now.board.shared.table_id seat.old.token }
     requires at { at < places.now.count }
-    ensures seat { (seat.new.mark ≡ seat.old.mark) × (seat.new.token.me.0.seats ≡ seat.old.token.me.0.seats) }
-    ensures waiting { IsWaiting places.now.board.shared.table_id seat.old.mark seat.old.token.me.0.seats seat.new.token }
+    ensures seat { (seat.new.token.me.0.mark ≡ seat.old.token.me.0.mark) × (seat.new.token.me.0.seats ≡ seat.old.token.me.0.seats) × (seat.new.token.me.0.frames ≡ seat.old.token.me.0.frames) }
+    ensures waiting { IsWaiting places.now.board.shared.table_id seat.new.token }
 {
     let Ok(mut entered) = enter(places, seat, at) else {
         return false;

@@ -1,8 +1,8 @@
 // Two threads that write into four books, and a frame.
-ghost use Rattle.std.specs.Prelude.{◌≡◌, ℕ, ◌+◌, ◌<◌, ◌≤◌, IfOk, length};
+ghost use Rattle.std.specs.Prelude.{◌≡◌, ℕ, ◌+◌, ◌-◌, ◌<◌, ◌≤◌, Contains, IfOk, IfSome, length};
 ghost use mathlib.Core.Option.{some};
 ghost use lib.ListN.{get_elem?};
-ghost use Rattle.am_places_tests.specs.Stays.{IsWaiting};
+ghost use Rattle.am_places_tests.specs.Stays.{IsInside, IsWaiting, nine};
 
 use super::*;
 use am_names::{EndpointId, NoMemory};
@@ -10,7 +10,7 @@ use am_office::Place;
 use am_places::{Entered, Places, Seat, may_cross_threads};
 use std::alloc::{AllocError, Global};
 use std::test::Fail;
-use std::thread::join_mut;
+use std::thread::join;
 
 /// Places for four books of no lines, and this many seats, all of which wait.
 fn four_books(
@@ -20,33 +20,64 @@ fn four_books(
 ) -> Result<(Places<Notes>, Vec<Seat<Notes>>), NoMemory>
     requires { (0 < seats) × (frames ≤ 16) }
     ensures places { IfOk result (λ r. (r.0.count ≡ 4) × (r.0.frames ≡ frames)) }
-    ensures seats { IfOk result (λ r. (length r.1.items ≡ seats) × ((k : ℕ) (s : _) → get_elem? r.1.items k ≡ some s → IsWaiting r.0.board.shared.table_id s.mark seats s.token × (s.mark ≡ k + 1) × (s.token.me.0.seats ≡ seats))) }
+    ensures nine { IfOk result (λ r. Contains r.0.ids.items nine) }
+    ensures many { IfOk result (λ r. length r.1.items ≡ seats) }
+    ensures seats { IfOk result (λ r. (k : ℕ) (s : _) → get_elem? r.1.items k ≡ some s → IsWaiting r.0.board.shared.table_id s.token × (s.token.me.0.mark ≡ k + 1) × (s.token.me.0.seats ≡ seats) × (length s.token.me.0.frames ≡ r.0.frames)) }
 {
-    let books = vec![in alloc; Notes::new(alloc), Notes::new(alloc), Notes::new(alloc), Notes::new(alloc)]?;
-    let ids = vec![in alloc; EndpointId(4), EndpointId(7), EndpointId(9), EndpointId(250)]?;
-    Places::new(alloc, books, ids, frames, seats)
+    let books = vec![in alloc;
+        Notes::new(alloc),
+        Notes::new(alloc),
+        Notes::new(alloc),
+        Notes::new(alloc),
+    ]?;
+    let ids = vec![in alloc;
+        EndpointId(4),
+        EndpointId(7),
+        EndpointId(9),
+        EndpointId(250),
+    ]?;
+    let (places, list) = Places::new(alloc, books, ids, frames, seats)?;
+    Ok((places, list))
+}
+
+/// The last seat of the list.
+fn last_seat(places: &Places<Notes>, seats: u8, list: &mut Vec<Seat<Notes>>) -> Option<Seat<Notes>>
+    requires { (k : ℕ) (s : _) → get_elem? list.old.items k ≡ some s → IsWaiting places.now.board.shared.table_id s.token × (s.token.me.0.mark ≡ k + 1) × (s.token.me.0.seats ≡ seats) × (length s.token.me.0.frames ≡ places.now.frames) }
+    ensures list { (k : ℕ) (s : _) → get_elem? list.new.items k ≡ some s → IsWaiting places.now.board.shared.table_id s.token × (s.token.me.0.mark ≡ k + 1) × (s.token.me.0.seats ≡ seats) × (length s.token.me.0.frames ≡ places.now.frames) }
+    ensures length { length list.new.items ≡ length list.old.items - 1 }
+    ensures seat { IfSome result (λ s. IsWaiting places.now.board.shared.table_id s.token × (s.token.me.0.mark ≡ length list.old.items) × (s.token.me.0.seats ≡ seats) × (length s.token.me.0.frames ≡ places.now.frames)) }
+{
+    let seat = list.pop()?;
+    Some(seat)
 }
 
 /// Tries 1,000 times, at one book after the other. What it wrote: its first line and the number of the try.
 fn work(
     alloc: Global,
     places: &Places<Notes>,
-    seat: &mut Seat<Notes>,
+    mut seat: Seat<Notes>,
     first: u32,
-) -> Result<Vec<u32>, AllocError>
-    requires waiting { IsWaiting places.now.board.shared.table_id seat.old.mark seat.old.token.me.0.seats seat.old.token }
+) -> (Seat<Notes>, Result<Vec<u32>, AllocError>)
+    requires waiting { IsWaiting places.now.board.shared.table_id seat.token }
     requires four { places.now.count ≡ 4 }
     requires few { first < 10000 }
-    ensures seat { (seat.new.mark ≡ seat.old.mark) × (seat.new.token.me.0.seats ≡ seat.old.token.me.0.seats) }
-    ensures waiting { IsWaiting places.now.board.shared.table_id seat.old.mark seat.old.token.me.0.seats seat.new.token }
+    ensures seat { (result.0.token.me.0.mark ≡ seat.token.me.0.mark) × (result.0.token.me.0.seats ≡ seat.token.me.0.seats) }
+    ensures waiting { IsWaiting places.now.board.shared.table_id result.0.token }
 {
-    let mut written = Vec::new(alloc);
+    let mut written = Ok(Vec::new(alloc));
     for turn in 0..1000_u32 {
-        if write(places, seat, (turn % 4) as usize, first + turn) {
-            written.push(first + turn)?;
+        if write(places, &mut seat, (turn % 4) as usize, first + turn) {
+            written = noted(written, first + turn);
         }
     }
-    Ok(written)
+    (seat, written)
+}
+
+/// One line more.
+fn noted(lines: Result<Vec<u32>, AllocError>, line: u32) -> Result<Vec<u32>, AllocError> {
+    let mut lines = lines?;
+    lines.push(line)?;
+    Ok(lines)
 }
 
 /// Of these lines, those that the seat with this first line wrote into the book at this position.
@@ -63,22 +94,30 @@ fn lines_of(alloc: Global, lines: &[u32], first: u32, at: usize) -> Result<Vec<u
 #[test]
 fn each_seat_finds_its_lines(rt: HostRuntime) -> Result<(), Fail> {
     let (places, mut seats) = four_books(rt.alloc(), 0, 2)?;
-    let mut keeper = seats.pop().ok_or("no second seat")?;
-    let mut other = seats.pop().ok_or("no first seat")?;
-    may_cross_threads(&places, &keeper);
-    let (ours, theirs) = join_mut(
+    let second = last_seat(&places, 2, &mut seats).ok_or("no second seat")?;
+    let first = last_seat(&places, 2, &mut seats).ok_or("no first seat")?;
+    may_cross_threads(&places, &first);
+    let alloc = rt.alloc();
+    let ((mut keeper, ours), (other, theirs)) = join(
         &rt,
-        &mut || work(rt.alloc(), &places, &mut keeper, 1000),
-        &mut || work(rt.alloc(), &places, &mut other, 2000),
+        || work(alloc, &places, second, 1000),
+        || work(alloc, &places, first, 2000),
     );
     let (ours, theirs) = (ours?, theirs?);
     places.gather(&mut keeper, other);
     for at in 0..4_usize {
         let book = places.take_out_at(&mut keeper, at).ok_or("no book")?;
         let lines = book.lines.as_slice();
-        let (first, second) = (lines_of(rt.alloc(), lines, 1000, at)?, lines_of(rt.alloc(), lines, 2000, at)?);
-        assert!(rt; first.as_slice() == lines_of(rt.alloc(), ours.as_slice(), 1000, at)?.as_slice());
-        assert!(rt; second.as_slice() == lines_of(rt.alloc(), theirs.as_slice(), 2000, at)?.as_slice());
+        let (first, second) = (
+            lines_of(rt.alloc(), lines, 1000, at)?,
+            lines_of(rt.alloc(), lines, 2000, at)?,
+        );
+        assert!(rt;
+            first.as_slice() == lines_of(rt.alloc(), ours.as_slice(), 1000, at)?.as_slice()
+        );
+        assert!(rt;
+            second.as_slice() == lines_of(rt.alloc(), theirs.as_slice(), 2000, at)?.as_slice()
+        );
         assert!(rt; lines.len() == first.len() + second.len());
     }
     assert!(rt; places.take_out(&mut keeper, EndpointId(9)).is_none());
@@ -87,10 +126,10 @@ fn each_seat_finds_its_lines(rt: HostRuntime) -> Result<(), Fail> {
 
 /// Who was met at this position, if anyone was: else the seat leaves again.
 fn holder_met(places: &Places<Notes>, seat: &mut Seat<Notes>, at: usize) -> Option<u8>
-    requires waiting { IsWaiting places.now.board.shared.table_id seat.old.mark seat.old.token.me.0.seats seat.old.token }
+    requires waiting { IsWaiting places.now.board.shared.table_id seat.old.token }
     requires at { at < places.now.count }
-    ensures seat { (seat.new.mark ≡ seat.old.mark) × (seat.new.token.me.0.seats ≡ seat.old.token.me.0.seats) }
-    ensures waiting { IsWaiting places.now.board.shared.table_id seat.old.mark seat.old.token.me.0.seats seat.new.token }
+    ensures seat { (seat.new.token.me.0.mark ≡ seat.old.token.me.0.mark) × (seat.new.token.me.0.seats ≡ seat.old.token.me.0.seats) }
+    ensures waiting { IsWaiting places.now.board.shared.table_id seat.new.token }
 {
     match enter(places, seat, at) {
         Ok(entered) => {
@@ -101,77 +140,116 @@ fn holder_met(places: &Places<Notes>, seat: &mut Seat<Notes>, at: usize) -> Opti
     }
 }
 
-/// For whom frame 1 is claimed, if it is not claimed for the book at this position: else it is freed again.
-fn owner_met(places: &Places<Notes>, driver: &mut Seat<Notes>, at: usize) -> Option<EndpointId>
-    requires waiting { IsWaiting places.now.board.shared.table_id driver.old.mark driver.old.token.me.0.seats driver.old.token }
-    requires at { at < places.now.count }
-    requires driver { driver.old.mark ≡ driver.old.token.me.0.seats }
+/// Puts a book on the host into frame 1, where no frame is claimed for it. For whom it is claimed, if it is for another.
+fn take_frame_1(
+    places: &Places<Notes>,
+    driver: &mut Seat<Notes>,
+    entered: &mut Entered<Notes>,
+) -> Option<EndpointId>
+    requires at { entered.old.at < places.now.count }
+    requires driver { driver.old.token.me.0.mark ≡ driver.old.token.me.0.seats }
     requires frames { (1 < places.now.frames) × (length driver.old.token.me.0.frames ≡ places.now.frames) }
-    ensures seat { (driver.new.mark ≡ driver.old.mark) × (driver.new.token.me.0.seats ≡ driver.old.token.me.0.seats) × (length driver.new.token.me.0.frames ≡ length driver.old.token.me.0.frames) }
-    ensures waiting { IsWaiting places.now.board.shared.table_id driver.old.mark driver.old.token.me.0.seats driver.new.token }
+    requires inside { IsInside places.now.board.shared.table_id entered.old.at driver.old.token entered.old.book }
+    ensures seat { (driver.new.token.me.0.mark ≡ driver.old.token.me.0.mark) × (driver.new.token.me.0.seats ≡ driver.old.token.me.0.seats) × (length driver.new.token.me.0.frames ≡ length driver.old.token.me.0.frames) }
+    ensures inside { (entered.new.at ≡ entered.old.at) × IsInside places.now.board.shared.table_id entered.old.at driver.new.token entered.new.book }
+{
+    let Place::Host = entered.book.place else {
+        return None;
+    };
+    if entered.frame.is_some() {
+        return None;
+    }
+    match places.claim_frame(driver, entered, 1) {
+        Ok(()) => {
+            entered.book.place = Place::Frame(1);
+            None
+        }
+        Err(taken) => Some(taken.owner),
+    }
+}
+
+/// Puts a book in frame 1 onto the host.
+fn give_frame_1_up(places: &Places<Notes>, driver: &mut Seat<Notes>, entered: &mut Entered<Notes>)
+    requires at { entered.old.at < places.now.count }
+    requires driver { driver.old.token.me.0.mark ≡ driver.old.token.me.0.seats }
+    requires frames { (1 < places.now.frames) × (length driver.old.token.me.0.frames ≡ places.now.frames) }
+    requires inside { IsInside places.now.board.shared.table_id entered.old.at driver.old.token entered.old.book }
+    ensures seat { (driver.new.token.me.0.mark ≡ driver.old.token.me.0.mark) × (driver.new.token.me.0.seats ≡ driver.old.token.me.0.seats) × (length driver.new.token.me.0.frames ≡ length driver.old.token.me.0.frames) }
+    ensures inside { (entered.new.at ≡ entered.old.at) × IsInside places.now.board.shared.table_id entered.old.at driver.new.token entered.new.book }
+{
+    let (Place::Frame(1), Some(1)) = (entered.book.place, entered.frame) else {
+        return;
+    };
+    places.free_frame(driver, entered);
+    entered.book.place = Place::Host;
+}
+
+/// Moves the book at this position into frame 1. For whom it is claimed, if it is for another.
+fn load(places: &Places<Notes>, driver: &mut Seat<Notes>, at: usize) -> Option<EndpointId>
+    requires waiting { IsWaiting places.now.board.shared.table_id driver.old.token }
+    requires at { at < places.now.count }
+    requires driver { driver.old.token.me.0.mark ≡ driver.old.token.me.0.seats }
+    requires frames { (1 < places.now.frames) × (length driver.old.token.me.0.frames ≡ places.now.frames) }
+    ensures seat { (driver.new.token.me.0.mark ≡ driver.old.token.me.0.mark) × (driver.new.token.me.0.seats ≡ driver.old.token.me.0.seats) × (length driver.new.token.me.0.frames ≡ length driver.old.token.me.0.frames) }
+    ensures waiting { IsWaiting places.now.board.shared.table_id driver.new.token }
 {
     let Ok(mut entered) = enter(places, driver, at) else {
         return None;
     };
-    let mut owner = None;
-    if entered.frame.is_none() {
-        match places.claim_frame(driver, &mut entered, 1) {
-            Ok(()) => places.free_frame(driver, &mut entered),
-            Err(taken) => owner = Some(taken.owner),
-        }
-    }
+    let owner = take_frame_1(places, driver, &mut entered);
     leave(places, driver, entered);
     owner
 }
 
-/// Five lines, and frame 1, for the book at this position, by the driver's seat.
-fn five_lines_in_frame_1(places: &Places<Notes>, driver: &mut Seat<Notes>, at: usize) -> bool
-    requires waiting { IsWaiting places.now.board.shared.table_id driver.old.mark driver.old.token.me.0.seats driver.old.token }
+/// Moves the book at this position out of frame 1.
+fn unload(places: &Places<Notes>, driver: &mut Seat<Notes>, at: usize)
+    requires waiting { IsWaiting places.now.board.shared.table_id driver.old.token }
     requires at { at < places.now.count }
-    requires driver { driver.old.mark ≡ driver.old.token.me.0.seats }
+    requires driver { driver.old.token.me.0.mark ≡ driver.old.token.me.0.seats }
     requires frames { (1 < places.now.frames) × (length driver.old.token.me.0.frames ≡ places.now.frames) }
-    ensures seat { (driver.new.mark ≡ driver.old.mark) × (driver.new.token.me.0.seats ≡ driver.old.token.me.0.seats) × (length driver.new.token.me.0.frames ≡ length driver.old.token.me.0.frames) }
-    ensures waiting { IsWaiting places.now.board.shared.table_id driver.old.mark driver.old.token.me.0.seats driver.new.token }
+    ensures seat { (driver.new.token.me.0.mark ≡ driver.old.token.me.0.mark) × (driver.new.token.me.0.seats ≡ driver.old.token.me.0.seats) × (length driver.new.token.me.0.frames ≡ length driver.old.token.me.0.frames) }
+    ensures waiting { IsWaiting places.now.board.shared.table_id driver.new.token }
 {
     let Ok(mut entered) = enter(places, driver, at) else {
-        return false;
+        return;
     };
-    let mut done = entered.frame.is_none() && places.claim_frame(driver, &mut entered, 1).is_ok();
-    if done {
-        entered.book.place = Place::Frame(1);
-    }
-    for line in 1..=5 {
-        done = entered.book.add(line) && done;
-    }
+    give_frame_1_up(places, driver, &mut entered);
     leave(places, driver, entered);
+}
+
+/// Five lines for the book at this position.
+fn five_lines(places: &Places<Notes>, seat: &mut Seat<Notes>, at: usize) -> bool
+    requires waiting { IsWaiting places.now.board.shared.table_id seat.old.token }
+    requires at { at < places.now.count }
+    ensures seat { (seat.new.token.me.0.mark ≡ seat.old.token.me.0.mark) × (seat.new.token.me.0.seats ≡ seat.old.token.me.0.seats) × (seat.new.token.me.0.frames ≡ seat.old.token.me.0.frames) }
+    ensures waiting { IsWaiting places.now.board.shared.table_id seat.new.token }
+{
+    let mut done = true;
+    for line in 1..=5 {
+        done = write(places, seat, at, line) && done;
+    }
     done
 }
 
 #[test]
 fn a_frame_has_one_owner(rt: HostRuntime) -> Result<(), Fail> {
     let (places, mut seats) = four_books(rt.alloc(), 2, 5)?;
-    let mut driver = seats.pop().ok_or("no seat 4")?;
-    let mut third = seats.pop().ok_or("no seat 3")?;
-    let mut second = seats.pop().ok_or("no seat 2")?;
-    let at = places.position(EndpointId(9)).ok_or("no endpoint 9")?;
-    assert!(rt; five_lines_in_frame_1(&places, &mut driver, at));
-    let Ok(held) = enter(&places, &mut third, at) else {
+    let mut driver = last_seat(&places, 5, &mut seats).ok_or("no seat 4")?;
+    let mut third = last_seat(&places, 5, &mut seats).ok_or("no seat 3")?;
+    let mut second = last_seat(&places, 5, &mut seats).ok_or("no seat 2")?;
+    assert!(rt; load(&places, &mut driver, 2).is_none() && five_lines(&places, &mut second, 2));
+    let Ok(held) = enter(&places, &mut third, 2) else {
         return Err(Fail::from("endpoint 9 is held"));
     };
     // its place word is the sum of its holder word, 4, and its state word
     let seen = places.look(&mut second, EndpointId(9));
     assert!(rt; seen.holder == Some(3) && seen.place == Place::Frame(1) && seen.count == 5);
-    assert!(rt; 4 + 256 * 3 + 65536 * seen.count == 328452);
-    assert!(rt; holder_met(&places, &mut second, at) == Some(3));
-    assert!(rt; owner_met(&places, &mut driver, 0) == Some(EndpointId(9)));
+    assert!(rt; 4 + 256 * 3 + 65536 * u64::from(seen.count) == 328452);
+    assert!(rt; holder_met(&places, &mut second, 2) == Some(3));
+    assert!(rt; load(&places, &mut driver, 0) == Some(EndpointId(9)));
     leave(&places, &mut third, held);
-    places.gather(&mut driver, third);
-    places.gather(&mut driver, second);
-    for _ in 0..2 {
-        places.gather(&mut driver, seats.pop().ok_or("no seat")?);
-    }
-    let book = places.take_out(&mut driver, EndpointId(9)).ok_or("no book")?;
-    assert!(rt; book.lines.as_slice() == [1, 2, 3, 4, 5].as_slice());
-    assert!(rt; places.take_out(&mut driver, EndpointId(9)).is_none());
+    unload(&places, &mut driver, 2);
+    assert!(rt; load(&places, &mut driver, 0).is_none());
+    assert!(rt; load(&places, &mut driver, 2) == Some(EndpointId(4)));
     Ok(())
 }

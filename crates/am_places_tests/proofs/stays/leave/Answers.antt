@@ -4,4 +4,4 @@ use Rattle.am_places_tests.proofs.Staying.{never_stirs}
 use Rattle.am_places_tests.proofs.stays.leave.Goals as goal
 
 pub leave-requires-clause-still : goal.leave-requires-clause-still
-leave-requires-clause-still c = λ _. never_stirs (drop (length (joined (known_at c.args.entered.at c.args.seat.now.token.me.0).seen)) c.args.entered.book.lines.items)
+leave-requires-clause-still c κs = λ _. never_stirs (drop (length (joined (known_at c.args.entered.at c.args.seat.now.token.me.0).seen)) c.args.entered.book.lines.items)
