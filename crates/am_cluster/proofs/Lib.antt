@@ -10,3 +10,4 @@ pub mod Rooms
 pub mod Starting
 pub mod Stepping
 pub mod Indexing
+pub mod Obeying

@@ -1,7 +1,13 @@
 -- What a run of a scenario without threads answers, and what a drain of a cluster leaves.
-use Rattle.std.specs.Prelude.{List, []}
+use Rattle.std.specs.Prelude.{◌≡◌, ◌≢◌, Some, false, List, []}
+use Rattle.am_names.specs.Rules.{is_transient}
+use Rattle.am_names.specs.declared.Cause.{Cause}
+use Rattle.am_names.specs.declared.Serial.{Serial}
 use Rattle.am_office.specs.declared.Entry.{Entry}
 use Rattle.am_office.specs.declared.Part.{Part}
+use Rattle.am_office.specs.declared.endings.Fate.TheVariants as Fates
+use Rattle.am_office.specs.Fates.{fate}
+use Rattle.am_laws.specs.Fates.{HasOneFate}
 use Rattle.am_model.specs.History.{IsHistory}
 use Rattle.am_model.specs.PostOffice.{PostOffice}
 use Rattle.am_scenario_types.specs.Lists.{ScenarioLists}
@@ -9,16 +15,36 @@ use Rattle.am_follow.specs.Layout.{layout_of}
 use Rattle.am_drain.specs.Cut.{IsDrainCutOff}
 use Rattle.am_drain.specs.Follows.{IsStoppedFor}
 use Rattle.am_drain_loop.specs.Stops.{IsDrainBeginning}
+use Rattle.am_drain_steps.specs.Endings.{UnknownIsPlanned, WithholdsNothing}
 use Rattle.am_cluster.specs.declared.RunFault.{RunFault}
 use Rattle.am_cluster.specs.declared.RunFault.TheVariants as Runs
 use Rattle.am_cluster.specs.declared.DrainFault.{DrainFault}
 use Rattle.am_cluster.specs.declared.DrainFault.TheVariants as Drains
 
--- the journal is what the drain of an empty one makes before the first entry that meets a full log, which is that of the part
-pub record IsRunCutOff (s : ScenarioLists) (part : Part) (journal : List Entry) : Type 0 where
-  pub cut : IsDrainCutOff s [] part journal
+-- no message is unknown
+abbrev pub NothingIsUnknown : List Entry → Type 0
+NothingIsUnknown journal = (serial : Serial) → (fate journal serial ≢ Some Fates.Unknown) × (fate journal serial ≢ Some Fates.UnknownButRan)
+
+-- what is returned is returned for a cause that isn't transient
+abbrev pub IsReturnedForGood : List Entry → Type 0
+IsReturnedForGood journal = (serial : Serial) (cause : Cause) → fate journal serial ≡ Some (Fates.Returned cause) → is_transient cause ≡ false
+
+-- What is so of the journal of each run, whether it came to its end or met a full log. It is a history of the machine that the scenario
+-- describes, and obeys all the laws of the post office. Each message has its one fate, and one is unknown only where the plan withheld
+-- packets of its last try. Where the plan withholds none, no message is unknown, and what is returned is returned for good.
+pub record ObeysRunLaws (s : ScenarioLists) (journal : List Entry) : Type 0 where
   pub history : IsHistory (layout_of s) journal
   pub laws : PostOffice (layout_of s) journal
+  pub fates : (serial : Serial) → HasOneFate journal serial
+  pub unknown : UnknownIsPlanned s journal
+  pub complete : WithholdsNothing s → NothingIsUnknown journal
+  pub for_good : WithholdsNothing s → IsReturnedForGood journal
+
+-- the journal is what the drain of an empty one makes before the first entry that meets a full log, which is that of the part; it has
+-- the same rights as that of a run which came to its end
+pub record IsRunCutOff (s : ScenarioLists) (part : Part) (journal : List Entry) : Type 0 where
+  pub cut : IsDrainCutOff s [] part journal
+  pub obeys : ObeysRunLaws s journal
   pub stopped : IsStoppedFor s part journal
 
 -- why a run did not come to its end

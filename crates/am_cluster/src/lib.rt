@@ -2,7 +2,7 @@
 #![tactic(auto)]
 
 ghost use Rattle.am_cluster.specs.Threads.{scripted_in, scripted_of};
-ghost use Rattle.am_cluster.specs.Runs.{IsDrainHalted, IsRunStopped};
+ghost use Rattle.am_cluster.specs.Runs.{IsDrainHalted, IsRunStopped, ObeysRunLaws};
 ghost use Rattle.am_drain.specs.Cut.{IsDrainedWithRoom};
 ghost use Rattle.am_drain_loop.specs.Stops.{IsDrainStopped};
 ghost use Rattle.am_drain_steps.specs.Runs.{IsWholeRun};
@@ -10,10 +10,11 @@ ghost use Rattle.am_follow.specs.Layout.{layout_of};
 ghost use Rattle.am_model.specs.History.{IsHistory};
 ghost use Rattle.am_model.specs.PostOffice.{PostOffice};
 ghost use Rattle.am_run_laws.specs.Drained.{HasShortLogs};
+ghost use Rattle.am_run_laws.specs.Left.{LeavesNothing};
 ghost use Rattle.am_scenario_types.specs.Lawful.{IsLawful};
 ghost use Rattle.am_scenario_types.specs.declared.parts.Network.TheVariants.{Packet};
 ghost use Rattle.am_scenario_types.specs.declared.parts.ThreadLine.{ThreadLine};
-ghost use Rattle.am_scripts.specs.Links.{ReceivesInOrder};
+ghost use Rattle.am_scripts.specs.Links.{KeepsLinks, ReceivesInOrder};
 ghost use Rattle.am_scripts.specs.Scripts.{BeginsScripts, calls_of};
 ghost use Rattle.std.specs.Prelude.{◌≡◌, [], IfErr, IfOk, OnOk, length, map};
 
@@ -28,7 +29,7 @@ mod threads;
 use am_machine::Cluster;
 use am_office::{Journal, Part};
 use am_run_laws::{
-    cut_off_runs_are_stopped, cut_offs_are_short, none_is_refused, runs_have_short_logs,
+    drains_leave_nothing, drains_receive_all, none_is_refused, runs_have_short_logs,
     runs_with_room_are_whole,
 };
 use am_scenario_types::Scenario;
@@ -36,6 +37,7 @@ use emissions::links_after;
 use scripted::{Beside, ScriptedCluster, drain_in_place, plan_of};
 use std::alloc::Global;
 use std::thread::Threads;
+use thiserror::Error;
 use threads::{ThreadScript, scripts_after, tell_made};
 
 /// A run that came to its end.
@@ -45,20 +47,24 @@ pub struct Finished {
 }
 
 /// Why a run did not come to its end.
-#[derive(Debug, Drop)]
+#[derive(Debug, Drop, Error)]
 pub enum RunFault {
     /// The log of this part is full, and the next entry would have to go into it. The journal has the entries before it.
+    #[error("a log is full")]
     LogFull { part: Part, journal: Journal },
     /// There is no memory for the run.
+    #[error("there is no memory for the run")]
     NoMemory,
 }
 
 /// Why a drain ended before all was at rest. The entries that were made before it stand.
-#[derive(Clone, Copy, PartialEq, Eq, Debug)]
+#[derive(Clone, Copy, PartialEq, Eq, Debug, Error)]
 pub enum DrainFault {
     /// The log of this part is full, and the next entry would have to go into it.
+    #[error("a log is full")]
     LogFull(Part),
     /// There is no memory for an entry.
+    #[error("there is no memory for an entry")]
     NoMemory,
 }
 
@@ -99,24 +105,28 @@ fn tell_logs(cluster: &Cluster, scenario: &Scenario)
 }
 
 /// Does what is left to do when no thread runs any more, until all is at rest. The cluster is that of the scenario, and its
-/// journal begins the scripts and receives what the links released in order. `made` has the number of calls that each
-/// thread made, in the order of the threads, before and after. Ok: the journal is what the drain makes of the one before,
-/// and no entry met a full log. LogFull: it is what the drain makes before the first entry that meets a full log, which is
-/// the part's. NoMemory: it is a beginning of what the drain makes.
+/// journal begins the scripts. `made` has the number of calls that each thread made, in the order of the threads, before and
+/// after. Ok: the journal is what the drain makes of the one before, and no entry met a full log; all is at rest, every call of
+/// the scripts was made, no packet is left to be received, and no message that was accepted is pending. LogFull: it is what the
+/// drain makes before the first entry that meets a full log, which is the part's. NoMemory: it is a beginning of what the drain
+/// makes.
 pub fn drain(cluster: &mut Cluster, scenario: &Scenario, made: &mut [u32]) -> Result<(), DrainFault>
     requires lawful { IsLawful scenario.now }
     requires packet { scenario.now.network ≡ Packet }
     requires layout { cluster.old.layout ≡ layout_of scenario.now }
     requires scripts { BeginsScripts scenario.now cluster.old.journal }
     requires made { made.old ≡ map (λ (t : ThreadLine). length (calls_of t.id cluster.old.journal)) scenario.now.threads }
-    requires in_order { ReceivesInOrder scenario.now cluster.old.journal }
     ensures layout { cluster.new.layout ≡ cluster.old.layout }
     ensures history { IsHistory cluster.new.layout cluster.new.journal }
     ensures drained { OnOk result (IsDrainedWithRoom scenario.now cluster.old.journal cluster.new.journal) }
+    ensures leaves { OnOk result (LeavesNothing scenario.now cluster.new.journal) }
+    ensures links { OnOk result (ReceivesInOrder scenario.now cluster.old.journal → KeepsLinks scenario.now cluster.new.journal) }
     ensures stopped { IfErr result (λ fault. IsDrainHalted scenario.now cluster.old.journal fault cluster.new.journal) }
     ensures made { made.new ≡ map (λ (t : ThreadLine). length (calls_of t.id cluster.new.journal)) scenario.now.threads }
 {
     none_is_refused();
+    drains_leave_nothing();
+    drains_receive_all();
     tell_logs(cluster, scenario);
     cluster.laws();
     let alloc = *scenario.script.allocator();
@@ -149,6 +159,7 @@ pub fn drain(cluster: &mut Cluster, scenario: &Scenario, made: &mut [u32]) -> Re
 }
 
 /// What the drain of an empty journal comes to, by what it answered and the journal that it left.
+#[tactic(auto, using(crate::proofs::Obeying::whole_obeys, crate::proofs::Obeying::run_is_cut_off))]
 fn run_of(
     scenario: &Scenario,
     drained: Result<(), am_drain_loop::DrainFault>,
@@ -161,13 +172,11 @@ fn run_of(
     requires stopped { IfErr drained (λ fault. IsDrainStopped scenario.now [] fault journal) }
     ensures drained { IfOk result (λ finished. IsDrainedWithRoom scenario.now [] finished.journal) }
     ensures whole { IfOk result (λ finished. IsWholeRun scenario.now finished.journal) }
-    ensures laws { IfOk result (λ finished. PostOffice (layout_of scenario.now) finished.journal) }
+    ensures obeys { IfOk result (λ finished. ObeysRunLaws scenario.now finished.journal) }
     ensures stopped { IfErr result (IsRunStopped scenario.now) }
 {
     none_is_refused();
     runs_with_room_are_whole();
-    cut_off_runs_are_stopped();
-    cut_offs_are_short();
     match drained {
         Ok(()) => Ok(Finished { journal }),
         Err(am_drain_loop::DrainFault::LogFull(part)) => Err(RunFault::LogFull { part, journal }),
@@ -177,15 +186,15 @@ fn run_of(
 }
 
 /// Runs a scenario of the packet network without threads: the drain of an empty journal. Ok: the journal is what that drain
-/// makes with no entry meeting a full log, a history that follows the scripts and obeys the laws of the post office, and no
-/// message that was accepted is pending. LogFull: it is what the drain makes before the first entry that meets a full log,
-/// which is the part's. NoMemory: there is no memory for the run.
+/// makes with no entry meeting a full log, a history that follows the scripts and obeys the laws of runs, and no message that
+/// was accepted is pending. LogFull: it is what the drain makes before the first entry that meets a full log, which is the
+/// part's, and obeys the laws of runs too. NoMemory: there is no memory for the run.
 pub fn alone(alloc: Global, scenario: &Scenario) -> Result<Finished, RunFault>
     requires lawful { IsLawful scenario.now }
     requires packet { scenario.now.network ≡ Packet }
     ensures drained { IfOk result (λ finished. IsDrainedWithRoom scenario.now [] finished.journal) }
     ensures whole { IfOk result (λ finished. IsWholeRun scenario.now finished.journal) }
-    ensures laws { IfOk result (λ finished. PostOffice (layout_of scenario.now) finished.journal) }
+    ensures obeys { IfOk result (λ finished. ObeysRunLaws scenario.now finished.journal) }
     ensures stopped { IfErr result (IsRunStopped scenario.now) }
 {
     let mut machine = match ScriptedCluster::new(alloc, scenario) {
@@ -210,7 +219,7 @@ pub fn run<R: Threads + Sync, G: Gate + Sync>(
     requires packet { scenario.now.network ≡ Packet }
     ensures drained { IfOk result (λ finished. IsDrainedWithRoom scenario.now [] finished.journal) }
     ensures whole { IfOk result (λ finished. IsWholeRun scenario.now finished.journal) }
-    ensures laws { IfOk result (λ finished. PostOffice (layout_of scenario.now) finished.journal) }
+    ensures obeys { IfOk result (λ finished. ObeysRunLaws scenario.now finished.journal) }
     ensures stopped { IfErr result (IsRunStopped scenario.now) }
 {
     alone(alloc, scenario)

@@ -3,7 +3,7 @@ use Rattle.std.proofs.Common.{◌≡◌, ℕ, suc, Bool, true, false, eqb, subst
 use Rattle.std.specs.Io.KnownBytes.{Appends, Consumes, IsAtEnd, Keeps}
 use Rattle.std.proofs.lemmas.Bool.{eqb-true}
 use Rattle.std.proofs.lemmas.List.{append-nil, take-append-drop, drop-drop, drop_all, take_all, take_at}
-use Rattle.am_io.specs.Whole.{IsAll, IsLonger}
+use Rattle.am_io.specs.Whole.{IsAll, IsLonger, TakesAtMost}
 
 pub rest_is : (i : ℕ) (xs : List ℕ) → take (length xs - i) (drop i xs) ≡ drop i xs
 rest_is i xs = take_all (length xs - i) (drop i xs) (omega (arith, length-drop i xs))
@@ -51,6 +51,17 @@ pub taken_longer : (a b : Option (List ℕ)) (bytes : List ℕ) (most : ℕ) →
 taken_longer None b bytes most f lt = tt
 taken_longer (Some xs) None bytes most f lt = absurd f
 taken_longer (Some xs) (Some ys) bytes most f lt = omega (arith, ap length f, length-append bytes ys)
+
+-- nothing was taken
+pub took_none : (a : Option (List ℕ)) (most : ℕ) → TakesAtMost most a a
+took_none a most = record { taken = []; few = omega arith; took = consumes_none a }
+
+pub took_then : (a b c : Option (List ℕ)) (p : List ℕ) (most more : ℕ) → Consumes a b p → TakesAtMost more b c → length p + more ≤ most → TakesAtMost most a c
+took_then a b c p most more first next few = record {
+  taken = p ++ next.taken;
+  few = let rest = next.few in omega (arith, rest, few, length-append p next.taken);
+  took = consumes_then a b c p next.taken first next.took;
+}
 
 -- ---- giving
 

@@ -12,7 +12,7 @@ pub record Supplies (s : source.Inside) : Type 0 where
   pub gives : 0 < s.most
 
 abbrev pub store_in : sink.Inside → Store
-store_in s = record { held = s.bytes.items; most = s.most; fails = s.fails.items; calls = s.calls; faults = s.faults }
+store_in s = record { held = s.bytes.items; most = s.most; fails = s.fails.items; calls = s.calls; faults = s.faults; shortages = s.shortages }
 
 abbrev pub Stores : sink.Inside → Type 0
 Stores s = 0 < s.most

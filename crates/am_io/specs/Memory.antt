@@ -1,6 +1,7 @@
 -- What a source and a sink in memory answer to each call, exactly.
-use Rattle.std.specs.Prelude.{◌≡◌, ℕ, ◌+◌, ◌-◌, ◌^◌, min, Bool, true, false, ◌&&◌, ◌==◌, nat_lt, List, ◌++◌, length, take, drop, Result, Ok, Err, if◌then◌else◌}
+use Rattle.std.specs.Prelude.{◌≡◌, ℕ, min, Bool, true, false, ◌&&◌, ◌==◌, nat_lt, List, ◌++◌, length, take, drop, Result, Ok, Err, if◌then◌else◌}
 use Rattle.std.specs.List.{list_any}
+use Rattle.am_io.specs.Causes.{one_more}
 use Rattle.am_io.specs.declared.source.Failed.{Failed}
 use Rattle.am_io.specs.declared.sink.SinkFault.{SinkFault}
 use Rattle.am_io.specs.declared.sink.SinkFault.TheVariants as sinks
@@ -16,17 +17,14 @@ pub record Supply : Type 0 where
   pub ended : Bool
 
 -- a sink in memory: what it holds, how many bytes a call takes at most, the numbers of the calls that fail, and how
--- many calls and faults there were
+-- many calls, faults and shortages of memory there were
 pub record Store : Type 0 where
   pub held : List ℕ
   pub most : ℕ
   pub fails : List ℕ
   pub calls : ℕ
   pub faults : ℕ
-
--- one more, where a count stands still at its end
-abbrev pub one_more : ℕ → ℕ
-one_more count = min (count + 1) (2 ^ 64 - 1)
+  pub shortages : ℕ
 
 -- whether the call after so many is one of those that fail
 abbrev pub fails_after : List ℕ → ℕ → Bool
@@ -65,14 +63,27 @@ taken s piece = min (length piece) s.most
 -- a sink after a write that takes bytes
 abbrev pub after_write : Store → List ℕ → Store
 after_write s piece =
-    record { held = s.held ++ take (taken s piece) piece; most = s.most; fails = s.fails; calls = one_more s.calls; faults = s.faults }
+    record {
+      held = s.held ++ take (taken s piece) piece;
+      most = s.most;
+      fails = s.fails;
+      calls = one_more s.calls;
+      faults = s.faults;
+      shortages = s.shortages;
+    }
 
 -- a sink after a write that fails
 abbrev pub after_fault : Store → Store
-after_fault s = record { held = s.held; most = s.most; fails = s.fails; calls = one_more s.calls; faults = one_more s.faults }
+after_fault s =
+    record { held = s.held; most = s.most; fails = s.fails; calls = one_more s.calls; faults = one_more s.faults; shortages = s.shortages }
+
+-- a sink after a write that finds no memory
+abbrev pub after_shortage : Store → Store
+after_shortage s =
+    record { held = s.held; most = s.most; fails = s.fails; calls = s.calls; faults = s.faults; shortages = one_more s.shortages }
 
 -- a write fails just where its number is listed, and else takes what it may, unless there is no memory
 abbrev pub WritesSo : Result ℕ SinkFault → Store → Store → List ℕ → Type 0
 WritesSo (Ok count) old new piece = (fails_after old.fails old.calls ≡ false) × (count ≡ taken old piece) × (new ≡ after_write old piece)
 WritesSo (Err sinks.Failed) old new piece = (fails_after old.fails old.calls ≡ true) × (new ≡ after_fault old)
-WritesSo (Err sinks.NoMemory) old new piece = (fails_after old.fails old.calls ≡ false) × (new ≡ old)
+WritesSo (Err sinks.NoMemory) old new piece = (fails_after old.fails old.calls ≡ false) × (new ≡ after_shortage old)

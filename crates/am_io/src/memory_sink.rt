@@ -1,5 +1,5 @@
 ghost use Rattle.std.specs.Prelude.{◌≡◌, ◌⊎◌, ◌<◌, ◌+◌, [], Some, Ok, Err, length, min, false, true};
-ghost use Rattle.am_io.specs.Causes.{Writes, WriteCause};
+ghost use Rattle.am_io.specs.Causes.{Writes, WriteCause, ShortageCause};
 ghost use Rattle.am_io.specs.Memory.{fails_after, WritesSo};
 
 use crate::memory_source::fails_after;
@@ -8,7 +8,7 @@ use std::alloc::Global;
 use std::marker::Model;
 
 /// A sink that keeps the bytes in memory. A write takes at most a set number of bytes, and the calls with the listed
-/// numbers fail. Contracts see it as what it holds, these settings, and its counts of calls and faults.
+/// numbers fail. Contracts see it as what it holds, these settings, and its counts of calls, faults and shortages of memory.
 #[derive(Drop)]
 pub struct MemorySink {
     bytes: Vec<u8>,
@@ -16,6 +16,7 @@ pub struct MemorySink {
     fails: Vec<u32>,
     calls: u64,
     faults: u64,
+    shortages: u64,
 }
 
 impl Model for MemorySink {
@@ -32,10 +33,10 @@ impl Model for MemorySink {
 
 impl MemorySink {
     /// Takes at most `most` bytes a call, at least 1. Its calls with the numbers in `fails`, counted from 1, fail.
-    /// A call that finds no memory isn't counted.
+    /// A call that finds no memory is counted apart.
     pub fn new(alloc: Global, most: usize, fails: Vec<u32>) -> MemorySink
         requires { 0 < most }
-        ensures { result ≡ record { held = []; most = most; fails = fails.items; calls = 0; faults = 0 } }
+        ensures { result ≡ record { held = []; most = most; fails = fails.items; calls = 0; faults = 0; shortages = 0 } }
     {
         MemorySink {
             bytes: Vec::new(alloc),
@@ -43,6 +44,7 @@ impl MemorySink {
             fails,
             calls: 0,
             faults: 0,
+            shortages: 0,
         }
     }
 
@@ -59,6 +61,8 @@ impl Sink for MemorySink {
 
     ghost count = { λ s. s.faults };
 
+    ghost shortages = { λ s. s.shortages };
+
     fn faults(&self) -> u64 {
         self.faults
     }
@@ -66,6 +70,7 @@ impl Sink for MemorySink {
     fn write(&mut self, piece: &[u8]) -> Result<usize, SinkFault>
         ensures bytes { Writes result (Some self.old.held) (Some self.new.held) piece.now }
         ensures cause { WriteCause result self.old.faults self.new.faults }
+        ensures shortage { ShortageCause result self.old.shortages self.new.shortages }
         ensures exact { WritesSo result self.old self.new piece.now }
     {
         if fails_after(&self.fails, self.calls) {
@@ -79,7 +84,10 @@ impl Sink for MemorySink {
                 self.calls = self.calls.saturating_add(1);
                 Ok(count)
             }
-            Err(_) => Err(SinkFault::NoMemory),
+            Err(_) => {
+                self.shortages = self.shortages.saturating_add(1);
+                Err(SinkFault::NoMemory)
+            }
         }
     }
 }

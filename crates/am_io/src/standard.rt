@@ -1,5 +1,5 @@
 ghost use Rattle.std.specs.Prelude.{◌≡◌, false};
-ghost use Rattle.am_io.specs.Causes.{ReadCause, Reads, WriteCause, Writes};
+ghost use Rattle.am_io.specs.Causes.{ReadCause, Reads, ShortageCause, WriteCause, Writes};
 ghost use Rattle.am_io.specs.Standard.{faults_after};
 
 use crate::memory_source::is_end;
@@ -69,7 +69,8 @@ impl<R: Read> Source for StdSource<R> {
 }
 
 /// A sink over any writer of std. It tells what the writer tells of what it holds, which for the real standard output
-/// is nothing, and counts each write that fails or takes no byte of a piece that has one.
+/// is nothing, and counts each write that fails or takes no byte of a piece that has one. A writer's want of memory is a fault
+/// like any other.
 #[derive(Drop)]
 pub struct StdSink<W: Write> {
     inner: W,
@@ -98,6 +99,8 @@ impl<W: Write> Sink for StdSink<W> {
 
     ghost count = { λ s. s.faults };
 
+    ghost shortages = { λ s. 0 };
+
     fn faults(&self) -> u64 {
         self.faults
     }
@@ -105,6 +108,7 @@ impl<W: Write> Sink for StdSink<W> {
     fn write(&mut self, piece: &[u8]) -> Result<usize, SinkFault>
         ensures bytes { Writes result self.old.held self.new.held piece.now }
         ensures cause { WriteCause result self.old.faults self.new.faults }
+        ensures shortage { ShortageCause result 0 0 }
         ensures counted { self.new.faults ≡ faults_after result self.old.faults }
     {
         match self.inner.write(piece) {

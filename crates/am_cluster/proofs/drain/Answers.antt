@@ -19,3 +19,8 @@ scripts_after-requires-clause-short c =
     let seen = ap (λ (l : List Entry). length l) c.journal-2.view_is in
     let same = ap (λ (l : List Entry). length l) c.in-Ok.ensures.journal in
     omega (arith, short, first, seen, same)
+
+pub returns-in-Ok-result-clause-links : goal.returns-in-Ok-result-clause-links
+returns-in-Ok-result-clause-links c =
+    let d = rw c.in-Ok-result.is at c.drain_in_place-drained.ensures.drained in
+    λ order. c.drains_receive_all.ensures c.args.scenario.now c.args.cluster.now.journal c.drain_in_place-drained.new.cluster.journal d.drained order

@@ -1,0 +1,59 @@
+-- The journal of a run obeys the laws of runs, whether it came to its end or met a full log.
+use Rattle.std.specs.Prelude.{length}
+use Rattle.std.proofs.Common.{◌≡◌, ◌≤◌, ◌^◌, List, [], arith}
+use Rattle.am_names.specs.declared.Cause.{Cause}
+use Rattle.am_names.specs.declared.Serial.{Serial}
+use Rattle.am_office.specs.declared.Entry.{Entry}
+use Rattle.am_office.specs.declared.Part.{Part}
+use Rattle.am_model.specs.PostOffice.{PostOffice}
+use Rattle.am_laws.proofs.OneFate.{one_fate}
+use Rattle.am_scenario_types.specs.declared.parts.Network.TheVariants.{Packet}
+use Rattle.am_scenario_types.specs.Lawful.{IsLawful}
+use Rattle.am_scenario_types.specs.Lists.{ScenarioLists}
+use Rattle.am_follow.specs.Layout.{layout_of}
+use Rattle.am_drain.specs.Cut.{IsDrainCutOff}
+use Rattle.am_drain.specs.Follows.{IsStoppedFor}
+use Rattle.am_drain_steps.specs.Enabled.{IsOfRun}
+use Rattle.am_drain_steps.specs.Endings.{IsOrderly, WithholdsNothing}
+use Rattle.am_drain_steps.specs.Runs.{IsWholeRun}
+use Rattle.am_drain_steps.proofs.Nothing.{none_is_unknown}
+use Rattle.am_drain_steps.proofs.Unknown.{unknown_is_withheld}
+use Rattle.am_run_laws.specs.Drained.{IsShortHistory}
+use Rattle.am_run_laws.proofs.Drained.{cut_off_runs_are_stopped, cut_offs_are_short, far_below, no_logs}
+use Rattle.am_run_laws.proofs.Returns.{returns_are_for_good}
+use Rattle.am_run_laws.proofs.Stopped.{stopped_returns_are_for_good, stopped_runs_are_orderly}
+use Rattle.am_cluster.specs.Runs.{IsRunCutOff, ObeysRunLaws}
+
+pub whole_obeys : (s : ScenarioLists) (journal : List Entry) → IsLawful s → s.network ≡ Packet → IsWholeRun s journal → PostOffice (layout_of s) journal → ObeysRunLaws s journal
+whole_obeys s journal lawful packet whole laws =
+    let run : IsOfRun s journal = record { lawful = lawful; packet = packet; history = whole.history } in
+    let orderly : IsOrderly s journal = record { run = run; in_order = whole.follows.links.in_order; last_tries = whole.follows.last_tries } in
+    record {
+      history = whole.history;
+      laws = laws;
+      fates = one_fate (layout_of s) journal whole.history;
+      unknown = unknown_is_withheld s journal orderly;
+      complete = λ (nothing : WithholdsNothing s) (serial : Serial). none_is_unknown s journal orderly nothing serial;
+      for_good = λ (nothing : WithholdsNothing s) (serial : Serial) (cause : Cause) returned. returns_are_for_good s journal run whole.follows nothing serial cause returned;
+    }
+
+pub run_is_cut_off : (s : ScenarioLists) (part : Part) (journal : List Entry) → IsLawful s → s.network ≡ Packet → IsDrainCutOff s [] part journal → PostOffice (layout_of s) journal → IsRunCutOff s part journal
+run_is_cut_off s part journal lawful packet c laws =
+    let short : IsShortHistory s journal = cut_offs_are_short s [] journal part (record { lawful = lawful; packet = packet; history = tt }) (no_logs s) c in
+    let run : IsOfRun s journal = record { lawful = lawful; packet = packet; history = short.history } in
+    let stopped : IsStoppedFor s part journal = cut_off_runs_are_stopped s journal part lawful packet c in
+    let orderly : IsOrderly s journal = stopped_runs_are_orderly s journal part run stopped in
+    let few : length journal ≤ 2 ^ 32 = (let low = far_below (length journal) s.log short.short lawful.settings.log.1 in omega (arith, low)) in
+    record {
+      cut = c;
+      stopped = stopped;
+      obeys =
+          record {
+            history = short.history;
+            laws = laws;
+            fates = one_fate (layout_of s) journal short.history;
+            unknown = unknown_is_withheld s journal orderly;
+            complete = λ (nothing : WithholdsNothing s) (serial : Serial). none_is_unknown s journal orderly nothing serial;
+            for_good = λ (nothing : WithholdsNothing s) (serial : Serial) (cause : Cause) returned. stopped_returns_are_for_good s journal part run few stopped nothing serial cause returned;
+          };
+    }
