@@ -4,5 +4,5 @@
 mod moves;
 mod pages;
 
-pub use crate::moves::move_end;
+pub use crate::moves::{make_move, move_end};
 pub use crate::pages::page;

@@ -1,11 +1,16 @@
-//! A move that calls no disk.
+//! A move of a driver.
 ghost use Rattle.am_endpoint.specs.View.{state_after};
 ghost use Rattle.am_local.specs.Granted.{MayMove};
+ghost use Rattle.am_moves.specs.Logs.{kept};
+ghost use Rattle.am_moves.specs.Moves.{CanMove, Moves};
 ghost use Rattle.am_moves.specs.Pages.{is_page};
 ghost use Rattle.std.specs.Prelude.{◌≡◌, ◌<◌, ◌∷◌, ◌++◌, [], length, false, true};
 
+use crate::pages::page;
 use am_endpoint::Endpoint;
-use am_office::{Entry, Event};
+use am_office::{Entry, Event, NoMemory, Outcome};
+use am_swap::MemorySwap;
+use std::alloc::Global;
 
 /// Gives the entry of a drain, an unload or a load to the endpoint that it moves.
 pub fn move_end(end: &mut Endpoint, entry: Entry)
@@ -21,5 +26,54 @@ pub fn move_end(end: &mut Endpoint, entry: Entry)
         Event::Unload { .. } => end.unload(entry),
         Event::Load { .. } => end.load(entry),
         _ => unreachable!(),
+    }
+}
+
+/// Makes a drain, an unload or a load: its entry is silent.
+fn make_silent(end: &mut Endpoint, event: Event, stamp: u64) -> Entry
+    requires ready { end.old.ready ≡ true }
+    requires room { length end.old.log < end.old.settings.log }
+    requires unpaged { is_page event ≡ false }
+    requires allowed { MayMove end.old.settings.node end.old.settings.id (state_after end.old) (record { stamp = stamp; event = event; outcome = Outcome.Silent }) event }
+    ensures entry { result ≡ record { stamp = stamp; event = event; outcome = Outcome.Silent } }
+    ensures settings { end.new.settings ≡ end.old.settings }
+    ensures log { end.new.log ≡ end.old.log ++ result ∷ [] }
+{
+    let entry = Entry {
+        stamp,
+        event,
+        outcome: Outcome::Silent,
+    };
+    move_end(end, entry);
+    entry
+}
+
+/// Whether the event is a page call.
+fn is_page(event: Event) -> bool
+    ensures { result ≡ is_page event }
+{
+    match event {
+        Event::PageOut { .. } | Event::PageIn { .. } => true,
+        _ => false,
+    }
+}
+
+/// Makes a move of an endpoint that is ready for one more entry. Want of memory leaves the disk and the endpoint as they were.
+pub fn make_move(
+    alloc: Global,
+    swap: &mut MemorySwap,
+    end: &mut Endpoint,
+    event: Event,
+    stamp: u64,
+) -> Result<Entry, NoMemory>
+    requires can { CanMove swap.old (kept end.old) event }
+    requires ready { end.old.ready ≡ true }
+    requires room { length end.old.log < end.old.settings.log }
+    ensures { Moves swap.old swap.new (kept end.old) (kept end.new) event stamp result }
+{
+    if is_page(event) {
+        page(alloc, swap, end, event, stamp)
+    } else {
+        Ok(make_silent(end, event, stamp))
     }
 }

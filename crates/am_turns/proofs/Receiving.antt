@@ -34,7 +34,7 @@ use Rattle.am_scripts.specs.Follows.{is_bounced_out}
 use Rattle.am_scripts.specs.Links.{number_received}
 use Rattle.am_turns.specs.Turns.{HasTries, MayBounce}
 use Rattle.am_works.specs.Works.{held_from}
-use Rattle.am_turns.proofs.Books.{rising_push}
+use Rattle.am_works.proofs.Books.{rising_push}
 use Rattle.am_works.proofs.Keeping.{AreOf}
 
 -- ---- the stamp

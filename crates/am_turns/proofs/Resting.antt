@@ -33,7 +33,8 @@ use Rattle.am_iface.specs.declared.IfaceFault.{IfaceFault}
 use Rattle.am_iface.specs.declared.Turned.{Turned}
 use Rattle.am_phase.specs.Lying.{keeps_body, keeps_on_disk}
 use Rattle.am_turns.specs.Turns.{MayBounce, SettlesHere}
-use Rattle.am_turns.proofs.Books.{TellsDisabled, enabled_done, here_keeps, kept_keeps}
+use Rattle.am_works.proofs.Books.{here_keeps, kept_keeps}
+use Rattle.am_turns.proofs.Books.{TellsDisabled, enabled_done}
 
 framed_here : (place : Place) → is_in_a_frame place ≡ true → is_on_disk place ≡ false
 framed_here (Frame frame) h = refl

@@ -17,18 +17,13 @@ use Rattle.am_model.specs.Channels.{attempt}
 use Rattle.am_local.specs.Interface.{channel_in, event_of, failing_at, needs, outcome_at}
 use Rattle.am_local.specs.declared.work.Work.{Work}
 use Rattle.am_local.specs.declared.work.Work.TheVariants as Works
-use Rattle.am_places.specs.Rule.{Met, holder_word, read}
 use Rattle.am_scripts.specs.Follows.{is_bounced_out}
 use Rattle.am_places.specs.declared.board.Tenure.{Tenure}
-use Rattle.am_works.specs.Seats.{EndPass, Stayed, Stays}
+use Rattle.am_works.specs.Seats.{EndPass, IsBusy, Stayed, Stays}
 use Rattle.am_turns.specs.declared.turns.ThreadTurn.{ThreadTurn}
 use Rattle.am_turns.specs.declared.turns.ThreadTurn.TheVariants as Turns
 use Rattle.am_turns.specs.declared.turns.InterfaceTurn.{InterfaceTurn}
 use Rattle.am_turns.specs.declared.turns.InterfaceTurn.TheVariants as Worked
-
--- where another seat was inside, the pass has the read
-abbrev pub IsBusy : ℕ → ℕ → EndPass → EndPass → Type 0
-IsBusy k holder v w = Met k (holder + 1) v × (w ≡ read (holder_word k) (holder + 1) v)
 
 -- ---- a thread's turn
 

@@ -35,15 +35,23 @@ pub fn interface_turn(
     ensures idle { IsIdle places.now.board.shared.table_id seat.new.token }
     ensures turn { InterfaceTurns at work.now interface.old interface.new seat.old.token.me.0 seat.new.token.me.0 result }
 {
-    match places.try_enter(seat, at) {
+    match places.try_enter_at(seat, at) {
         Ok(entered) => {
             places_are_kept();
             let Entered {
                 mut book,
                 at: place,
+                frame,
             } = entered;
             let turn = work_at(interface, set, work, &mut book);
-            places.leave(seat, Entered { book, at: place });
+            places.leave(
+                seat,
+                Entered {
+                    book,
+                    at: place,
+                    frame,
+                },
+            );
             turn
         }
         Err(busy) => InterfaceTurn::Busy {

@@ -46,15 +46,23 @@ pub fn thread_turn(
     ensures clock { clock.new ≡ clock_after clock.old result }
     ensures turn { ThreadTurns at thread call clock.old seat.old.token.me.0 seat.new.token.me.0 result }
 {
-    match places.try_enter(seat, at) {
+    match places.try_enter_at(seat, at) {
         Ok(entered) => {
             places_are_kept();
             let Entered {
                 mut book,
                 at: place,
+                frame,
             } = entered;
             let turn = act(&mut book, thread, call, *clock);
-            places.leave(seat, Entered { book, at: place });
+            places.leave(
+                seat,
+                Entered {
+                    book,
+                    at: place,
+                    frame,
+                },
+            );
             *clock = clock_after(*clock, &turn);
             turn
         }

@@ -47,14 +47,15 @@ use Rattle.am_moves.specs.Pages.{after_call, after_page, page_outcome}
 use Rattle.am_phase.specs.Frames.{LiesAsMoved}
 use Rattle.am_phase.specs.Then.{IsFound, StandsAfter}
 use Rattle.am_phase.proofs.Frames.{frames_are_known}
-use Rattle.am_places.specs.Rule.{Begins, joined, known_at}
+use Rattle.am_places.specs.Rule.{Begins, holder_word, joined, known_at, read}
 use Rattle.am_places.specs.declared.board.Known.{Known}
 use Rattle.am_places.specs.declared.board.Tenure.{Tenure}
 use Rattle.am_scenario_types.specs.Lists.{ScenarioLists}
 use Rattle.am_follow.specs.Layout.{layout_of}
 use Rattle.am_scripts.specs.Follows.{is_by_driver, is_some_node}
-use Rattle.am_works.specs.Drivers.{DriversGoOn, DriversLook, DriversRest, IsDriverOf}
-use Rattle.am_works.specs.Drives.{CanDrive, IsLook, IsMoved, frames_after, line_by, log_of, outcome_with, swap_with, with_frames, with_line}
+use Rattle.am_works.specs.Drivers.{DriversGoOn, DriversLook, DriversRest, DriversWait, IsDriverOf}
+use Rattle.am_moves.specs.Moves.{outcome_with, swap_with}
+use Rattle.am_works.specs.Drives.{CanDrive, CanWait, IsLook, IsMoved, frames_after, line_by, log_of, with_frames, with_line}
 use Rattle.am_works.specs.Seats.{AreBorn, EndPass, Ids, IsBorn, KnowsNode, Stays, seen_log}
 use Rattle.am_works.specs.Stands.{TouchOnly}
 use Rattle.am_works.specs.Works.{DriverWorks, IsMoveThenHere}
@@ -156,6 +157,31 @@ drivers_rest s ids node turns clock view swap v h =
       calls = h.calls;
       can = h.can;
     }
+
+read_can : (frames : ℕ) (node : NodeId) (view : ViewLists) (swap : Store) (word value : ℕ) (v : EndPass) → CanDrive frames node view swap v → CanDrive frames node view swap (read word value v)
+read_can frames node view swap word value v c =
+    record { last = c.last; marked = c.marked; drives = c.drives; all = c.all; wide = c.wide; framed = c.framed; sized = c.sized; owned = c.owned; homes = c.homes; apart = c.apart; each = c.each }
+
+pub can_wait : CanWait
+can_wait frames node k holder view swap v w c busy = subst (CanDrive frames node view swap) (sym busy.1) (read_can frames node view swap (holder_word k) (holder + 1) v c)
+
+pub drivers_wait : DriversWait
+drivers_wait s ids node turns k holder clock view swap v w h busy =
+    subst (DriverWorks s ids node turns clock view swap) (sym busy.1)
+    (record {
+      made = h.made;
+      born = h.born;
+      knows = record { apart = h.knows.apart; births = h.knows.births; all = h.knows.all; wide = h.knows.wide; keeps = h.knows.keeps; own = h.knows.own; here = h.knows.here };
+      clocked = h.clocked;
+      few = h.few;
+      own = h.own;
+      ranged = h.ranged;
+      right = h.right;
+      frames = h.frames;
+      fails = h.fails;
+      calls = h.calls;
+      can = read_can s.frames node view swap (holder_word k) (holder + 1) v h.can;
+    })
 
 -- ---- an entry of a move
 

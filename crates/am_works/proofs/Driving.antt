@@ -37,7 +37,8 @@ use Rattle.am_phase.proofs.Seats.{of_append}
 use Rattle.am_places.specs.Rule.{Begins, calm, inside_with, joined, known_at, nothing, of, stirs, tenure, with_known}
 use Rattle.am_places.specs.declared.board.Known.{Known}
 use Rattle.am_places.specs.declared.board.Tenure.{Tenure}
-use Rattle.am_works.specs.Drives.{CanDrive, IsLook, IsMoved, KnowsPlace, LiesSo, LooksKeep, MovesKeep, frames_after, last_after, line_by, log_of, swap_with, with_frames, with_line}
+use Rattle.am_moves.specs.Moves.{swap_with}
+use Rattle.am_works.specs.Drives.{CanDrive, IsLook, IsMoved, KnowsPlace, LiesSo, LooksKeep, MovesKeep, frames_after, last_after, line_by, log_of, with_frames, with_line}
 use Rattle.am_works.specs.Seats.{EndPass, Stays}
 use Rattle.am_works.proofs.Keeping.{joined_append, push_all}
 use Rattle.am_works.proofs.Keeps.{left_log, same_or}
@@ -266,7 +267,7 @@ looks_keep frames node k view view' swap v w c l =
 
 -- ---- a move
 
-moved_id : (e : EndpointId) (x event : Event) (d : EndpointId) → Some x ≡ Some event → end_moved x ≡ Some e → end_moved event ≡ Some d → e ≡ d
+pub moved_id : (e : EndpointId) (x event : Event) (d : EndpointId) → Some x ≡ Some event → end_moved x ≡ Some e → end_moved event ≡ Some d → e ≡ d
 moved_id e x event d g there end = let same : x ≡ event = cc in let both : Some e ≡ Some d = sym there ∙ ap end_moved same ∙ end in cc
 
 -- the endpoint that the rules move, as its line shows it
@@ -325,7 +326,7 @@ pub same_event : (x event : Event) → Some x ≡ Some event → x ≡ event
 same_event x event h = cc
 
 -- so it lies as the move asks
-may_of : (shown : ViewLists) (node : NodeId) (set : EndSettings) (log : List Entry) (frames : List ℕ) (m : Move) (event : Event) → Suits shown m (line_by set log) → event_of node m ≡ Some event → length frames ≡ shown.frames → MaySo frames (state_by set log) event
+pub may_of : (shown : ViewLists) (node : NodeId) (set : EndSettings) (log : List Entry) (frames : List ℕ) (m : Move) (event : Event) → Suits shown m (line_by set log) → event_of node m ≡ Some event → length frames ≡ shown.frames → MaySo frames (state_by set log) event
 may_of shown node set log frames (Moves.Unload e) event s is long =
     let l = line_by set log in
     let framed : is_in_a_frame (state_by set log).head.place ≡ true = and_left (has_frame l) l.draining (and_left (is_leaving l) (l.in_flight == 0) s.1) in

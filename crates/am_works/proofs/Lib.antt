@@ -8,3 +8,4 @@ pub mod Keeping
 pub mod Lies
 pub mod Driving
 pub mod Drivers
+pub mod Books

@@ -30,7 +30,8 @@ use Rattle.am_phase.specs.Lying.{moves_by, rests}
 use Rattle.am_phase.proofs.Lying.{places_are_kept, still}
 use Rattle.am_places.specs.Codes.{place_code}
 use Rattle.am_places.specs.Rule.{FrameFits}
-use Rattle.am_works.specs.Drives.{LiesSo, frames_after, outcome_with, swap_with}
+use Rattle.am_moves.specs.Moves.{outcome_with, swap_with}
+use Rattle.am_works.specs.Drives.{LiesSo, frames_after}
 
 -- ---- what others add
 
@@ -38,7 +39,6 @@ pub lies_on : (frames : List ℕ) (swap : Store) (k : ℕ) (set : EndSettings) (
 lies_on frames swap k set s xs l rest none =
     record {
       fits = subst (λ (p : Place). FrameFits frames k (place_code p)) (sym place) l.fits;
-      low = λ frame is. l.low frame (ap (is_in_frame frame) (sym place) ∙ is);
       network = ap is_direct place ∙ l.network;
       disk = λ on. (let was = ap is_on_disk (sym place) ∙ on in subst (HoldsBody swap set.pool set.id) (sym (places_are_kept.bodies set.id s xs rest was none)) (l.disk was));
     }
@@ -67,52 +67,58 @@ same_or (suc j) (suc k) = ⊎_elim (λ (same : j ≡ k). inl (ap suc same)) (λ 
 
 -- a frame that is set to another owner, for an endpoint that doesn't lie there
 fits_other : (fs : List ℕ) (f n j place : ℕ) → f < length fs → n ≢ j + 1 → place ≢ 2 + f → FrameFits fs j place → FrameFits (slice_set fs f n) j place
-fits_other fs f n j place low not_mine not_there fits g lg =
-    ⊎_elim
-    (λ (same : g ≡ f). (
-      (λ is. absurd (not_mine (sym (ap (slice_index (slice_set fs f n)) same ∙ set_same fs f n low) ∙ is))),
-      (λ is. absurd (not_there (is ∙ ap (λ (m : ℕ). 2 + m) same))),
-    ))
-    (λ (other : g ≢ f).
-    (let was = fits g (omega (arith, lg, set_length fs f n)) in (
-      (λ is. was.0 (sym (set_else fs f g n other) ∙ is)),
-      (λ is. set_else fs f g n other ∙ was.1 is),
-    )))
-    (same_or g f)
+fits_other fs f n j place low not_mine not_there fits = ((let below = fits.0 in omega (arith, below, set_length fs f n)), others)
+  where
+    others : (g : ℕ) → g < length (slice_set fs f n) → (slice_index (slice_set fs f n) g ≡ j + 1) ↔ (place ≡ 2 + g)
+    others g lg = ⊎_elim
+        (λ (same : g ≡ f). (
+          (λ is. absurd (not_mine (sym (ap (slice_index (slice_set fs f n)) same ∙ set_same fs f n low) ∙ is))),
+          (λ is. absurd (not_there (is ∙ ap (λ (m : ℕ). 2 + m) same))),
+        ))
+        (λ (other : g ≢ f).
+        (let was = fits.1 g (omega (arith, lg, set_length fs f n)) in (
+          (λ is. was.0 (sym (set_else fs f g n other) ∙ is)),
+          (λ is. set_else fs f g n other ∙ was.1 is),
+        )))
+        (same_or g f)
 
 -- a frame that the endpoint claims, where it lay in none
 fits_claimed : (fs : List ℕ) (f k place : ℕ) → f < length fs → ((g : ℕ) → place ≢ 2 + g) → FrameFits fs k place → FrameFits (slice_set fs f (k + 1)) k (2 + f)
-fits_claimed fs f k place low nowhere fits g lg =
-    ⊎_elim
-    (λ (same : g ≡ f). (
-      (λ is. ap (λ (m : ℕ). 2 + m) (sym same)),
-      (λ is. ap (slice_index (slice_set fs f (k + 1))) same ∙ set_same fs f (k + 1) low),
-    ))
-    (λ (other : g ≢ f).
-    (let was = fits g (omega (arith, lg, set_length fs f (k + 1))) in (
-      (λ is. absurd (nowhere g (was.0 (sym (set_else fs f g (k + 1) other) ∙ is)))),
-      (λ is. absurd (other (omega (arith, is)))),
-    )))
-    (same_or g f)
+fits_claimed fs f k place low nowhere fits = (omega (arith, low, set_length fs f (k + 1)), others)
+  where
+    others : (g : ℕ) → g < length (slice_set fs f (k + 1)) → (slice_index (slice_set fs f (k + 1)) g ≡ k + 1) ↔ (2 + f ≡ 2 + g)
+    others g lg = ⊎_elim
+        (λ (same : g ≡ f). (
+          (λ is. ap (λ (m : ℕ). 2 + m) (sym same)),
+          (λ is. ap (slice_index (slice_set fs f (k + 1))) same ∙ set_same fs f (k + 1) low),
+        ))
+        (λ (other : g ≢ f).
+        (let was = fits.1 g (omega (arith, lg, set_length fs f (k + 1))) in (
+          (λ is. absurd (nowhere g (was.0 (sym (set_else fs f g (k + 1) other) ∙ is)))),
+          (λ is. absurd (other (omega (arith, is)))),
+        )))
+        (same_or g f)
 
 -- the frame that it leaves
 fits_freed : (fs : List ℕ) (f k : ℕ) → f < length fs → FrameFits fs k (2 + f) → FrameFits (slice_set fs f 0) k 0
-fits_freed fs f k low fits g lg =
-    ⊎_elim
-    (λ (same : g ≡ f). (
-      (λ is. absurd (let e : 0 ≡ k + 1 = sym (ap (slice_index (slice_set fs f 0)) same ∙ set_same fs f 0 low) ∙ is in omega (arith, e))),
-      (λ is. absurd (omega (arith, is))),
-    ))
-    (λ (other : g ≢ f).
-    (let was = fits g (omega (arith, lg, set_length fs f 0)) in (
-      (λ is. absurd (let e : 2 + f ≡ 2 + g = was.0 (sym (set_else fs f g 0 other) ∙ is) in other (omega (arith, e)))),
-      (λ is. absurd (omega (arith, is))),
-    )))
-    (same_or g f)
+fits_freed fs f k low fits = (omega (arith), others)
+  where
+    others : (g : ℕ) → g < length (slice_set fs f 0) → (slice_index (slice_set fs f 0) g ≡ k + 1) ↔ (0 ≡ 2 + g)
+    others g lg = ⊎_elim
+        (λ (same : g ≡ f). (
+          (λ is. absurd (let e : 0 ≡ k + 1 = sym (ap (slice_index (slice_set fs f 0)) same ∙ set_same fs f 0 low) ∙ is in omega (arith, e))),
+          (λ is. absurd (omega (arith, is))),
+        ))
+        (λ (other : g ≢ f).
+        (let was = fits.1 g (omega (arith, lg, set_length fs f 0)) in (
+          (λ is. absurd (let e : 2 + f ≡ 2 + g = was.0 (sym (set_else fs f g 0 other) ∙ is) in other (omega (arith, e)))),
+          (λ is. absurd (omega (arith, is))),
+        )))
+        (same_or g f)
 
 -- from a place that is no frame to another
-fits_nowhere : (fs : List ℕ) (k a b : ℕ) → ((g : ℕ) → a ≢ 2 + g) → ((g : ℕ) → b ≢ 2 + g) → FrameFits fs k a → FrameFits fs k b
-fits_nowhere fs k a b away there fits g lg = ((λ is. absurd (away g ((fits g lg).0 is))), (λ is. absurd (there g is)))
+fits_nowhere : (fs : List ℕ) (k a b : ℕ) → ((g : ℕ) → a ≢ 2 + g) → b < 2 → FrameFits fs k a → FrameFits fs k b
+fits_nowhere fs k a b away low fits = (omega (arith, low), λ g lg. ((λ is. absurd (away g ((fits.1 g lg).0 is))), (λ is. absurd (omega (arith, is, low)))))
 
 -- ---- the disk
 
@@ -147,7 +153,7 @@ held_with swap e event f other = refl
 
 -- ---- places
 
-host_nowhere : (place : Place) → is_on_host place ≡ true → (g : ℕ) → place_code place ≢ 2 + g
+pub host_nowhere : (place : Place) → is_on_host place ≡ true → (g : ℕ) → place_code place ≢ 2 + g
 host_nowhere (Frame frame) h g = absurd (cc)
 host_nowhere Host h g = λ is. absurd (omega (arith, is))
 host_nowhere Disk h g = absurd (cc)
@@ -159,11 +165,12 @@ disk_nowhere Host h g = absurd (cc)
 disk_nowhere Disk h g = λ is. absurd (omega (arith, is))
 disk_nowhere Direct h g = absurd (cc)
 
-zero_nowhere : (g : ℕ) → 0 ≢ 2 + g
-zero_nowhere g is = absurd (omega (arith, is))
-
-one_nowhere : (g : ℕ) → 1 ≢ 2 + g
-one_nowhere g is = absurd (omega (arith, is))
+-- a frame in which an endpoint lies is one of those that there are
+pub low_of : (fs : List ℕ) (k f : ℕ) (place : Place) → FrameFits fs k (place_code place) → is_in_frame f place ≡ true → f < length fs
+low_of fs k f (Frame g) fits is = let same : f ≡ g = eqb-true f g is in let below = fits.0 in omega (arith, same, below)
+low_of fs k f Host fits is = absurd (true≢false (sym is))
+low_of fs k f Disk fits is = absurd (true≢false (sym is))
+low_of fs k f Direct fits is = absurd (true≢false (sym is))
 
 not_in_frame : (frame : ℕ) (place : Place) → is_in_frame frame place ≡ false → is_direct place ≡ false → place_code place ≢ 2 + frame
 not_in_frame frame (Frame other) h network is = absurd (let same : frame ≡ other = omega (arith, is) in true≢false (sym (eq-eqb frame other same) ∙ h))
@@ -207,7 +214,7 @@ module _ (frames : List ℕ) (swap : Store) (k : ℕ) (set : EndSettings) (log :
   found = state_in one
 
   in_low : (f : ℕ) → LiesSo frames swap k set found → found.head.place ≡ Frame f → f < length frames
-  in_low f l is = l.low f (ap (is_in_frame f) is ∙ eq-eqb f f refl)
+  in_low f l is = low_of frames k f found.head.place l.fits (ap (is_in_frame f) is ∙ eq-eqb f f refl)
 
   pub owned_after : (event : Event) (n g : ℕ) → LiesSo frames swap k set found → MaySo frames found event → k < n → slice_index frames g ≤ n → slice_index (frames_after k event found.head.place frames) g ≤ n
   owned_after (Events.Load node end frame) n g l may less was = owned_set frames frame (k + 1) n g may.1 (omega (arith, less)) was
@@ -222,7 +229,7 @@ module _ (frames : List ℕ) (swap : Store) (k : ℕ) (set : EndSettings) (log :
 
   -- the endpoint that is moved
   pub lies_moved : (event : Event) (o : Outcome) → LiesSo frames swap k set found → MaySo frames found event → o ≡ outcome_with swap event → IsBodyValid one event → LiesSo (frames_after k event found.head.place frames) (swap_with swap one event) k set (changed set.id found event o)
-  lies_moved (Events.Drain node end) o l may is valid = record { fits = l.fits; low = l.low; network = l.network; disk = l.disk }
+  lies_moved (Events.Drain node end) o l may is valid = record { fits = l.fits; network = l.network; disk = l.disk }
   lies_moved (Events.Unload node end) o l may is valid = by_place found.head.place refl may
     where
       by_place : (p : Place) → found.head.place ≡ p → is_in_a_frame p ≡ true → LiesSo (frames_after k (Events.Unload node end) found.head.place frames) swap k set (changed set.id found (Events.Unload node end) o)
@@ -230,7 +237,6 @@ module _ (frames : List ℕ) (swap : Store) (k : ℕ) (set : EndSettings) (log :
           subst (λ (q : Place). LiesSo (frames_after k (Events.Unload node end) q frames) swap k set (changed set.id found (Events.Unload node end) o)) (sym at)
           (record {
             fits = fits_freed frames f k (in_low f l at) (subst (λ (q : Place). FrameFits frames k (place_code q)) at l.fits);
-            low = λ g in_it. absurd (true≢false (sym in_it));
             network = refl;
             disk = λ on. absurd (true≢false (sym on));
           })
@@ -240,7 +246,6 @@ module _ (frames : List ℕ) (swap : Store) (k : ℕ) (set : EndSettings) (log :
   lies_moved (Events.Load node end frame) o l may is valid =
       record {
         fits = fits_claimed frames frame k (place_code found.head.place) may.1 (host_nowhere found.head.place may.0) l.fits;
-        low = λ g in_it. (let same : g ≡ frame = eqb-true g frame in_it in omega (arith, same, may.1, set_length frames frame (k + 1)));
         network = refl;
         disk = λ on. absurd (true≢false (sym on));
       }
@@ -250,13 +255,12 @@ module _ (frames : List ℕ) (swap : Store) (k : ℕ) (set : EndSettings) (log :
       by_test true fails =
           let failed : o ≡ Out.Failed = is ∙ ap (λ (b : Bool). if b then Out.Failed else Out.Done) fails in
           subst (λ (v : Outcome). LiesSo frames (after_page swap one (Events.PageOut node end)) k set (paged_out found v)) (sym failed)
-          (record { fits = l.fits; low = l.low; network = l.network; disk = λ on. absurd (host_no_disk found.head.place may on) })
+          (record { fits = l.fits; network = l.network; disk = λ on. absurd (host_no_disk found.head.place may on) })
       by_test false fails =
           let done : o ≡ Out.Done = is ∙ ap (λ (b : Bool). if b then Out.Failed else Out.Done) fails in
           subst (λ (v : Outcome). LiesSo frames (after_page swap one (Events.PageOut node end)) k set (paged_out found v)) (sym done)
           (record {
-            fits = fits_nowhere frames k (place_code found.head.place) 1 (host_nowhere found.head.place may) one_nowhere l.fits;
-            low = λ g in_it. absurd (true≢false (sym in_it));
+            fits = fits_nowhere frames k (place_code found.head.place) 1 (host_nowhere found.head.place may) (omega (arith)) l.fits;
             network = refl;
             disk = λ on. record { held = held_there swap set.id (image found.body) fails (eq-eqb set.id.0 set.id.0 refl); valid = valid };
           })
@@ -266,13 +270,12 @@ module _ (frames : List ℕ) (swap : Store) (k : ℕ) (set : EndSettings) (log :
       by_test true fails =
           let failed : o ≡ Out.Failed = is ∙ ap (λ (b : Bool). if b then Out.Failed else Out.Done) fails in
           subst (λ (v : Outcome). LiesSo frames (after_page swap one (Events.PageIn node end)) k set (paged_in found v)) (sym failed)
-          (record { fits = l.fits; low = l.low; network = l.network; disk = λ on. holds_with swap (after_page swap one (Events.PageIn node end)) set.pool set.id found.body (held_after swap set.id) (l.disk on) })
+          (record { fits = l.fits; network = l.network; disk = λ on. holds_with swap (after_page swap one (Events.PageIn node end)) set.pool set.id found.body (held_after swap set.id) (l.disk on) })
       by_test false fails =
           let done : o ≡ Out.Done = is ∙ ap (λ (b : Bool). if b then Out.Failed else Out.Done) fails in
           subst (λ (v : Outcome). LiesSo frames (after_page swap one (Events.PageIn node end)) k set (paged_in found v)) (sym done)
           (record {
-            fits = fits_nowhere frames k (place_code found.head.place) 0 (disk_nowhere found.head.place may) zero_nowhere l.fits;
-            low = λ g in_it. absurd (true≢false (sym in_it));
+            fits = fits_nowhere frames k (place_code found.head.place) 0 (disk_nowhere found.head.place may) (omega (arith)) l.fits;
             network = refl;
             disk = λ on. absurd (true≢false (sym on));
           })
@@ -288,9 +291,9 @@ module _ (frames : List ℕ) (swap : Store) (k : ℕ) (set : EndSettings) (log :
         by_place : (p : Place) → found.head.place ≡ p → is_in_a_frame p ≡ true → FrameFits (frames_after k (Events.Unload node end) found.head.place frames) j (place_code s.head.place)
         by_place (Frame f) at h =
             let low = in_low f l at in
-            let mine : slice_index frames f ≡ k + 1 = (l.fits f low).1 (ap place_code at) in
+            let mine : slice_index frames f ≡ k + 1 = (l.fits.1 f low).1 (ap place_code at) in
             subst (λ (q : Place). FrameFits (frames_after k (Events.Unload node end) q frames) j (place_code s.head.place)) (sym at)
-            (fits_other frames f 0 j (place_code s.head.place) low (λ e. absurd (omega (arith, e))) (λ e. apart (let its : slice_index frames f ≡ j + 1 = (m.fits f low).1 e in omega (arith, its, mine))) m.fits)
+            (fits_other frames f 0 j (place_code s.head.place) low (λ e. absurd (omega (arith, e))) (λ e. apart (let its : slice_index frames f ≡ j + 1 = (m.fits.1 f low).1 e in omega (arith, its, mine))) m.fits)
         by_place Host at h = absurd (cc)
         by_place Disk at h = absurd (cc)
         by_place Direct at h = absurd (cc)
@@ -300,7 +303,6 @@ module _ (frames : List ℕ) (swap : Store) (k : ℕ) (set : EndSettings) (log :
     lies_beside event apart ids l m may free =
         record {
           fits = fits_beside event apart l m may free;
-          low = λ g in_it. (let less = m.low g in_it in omega (arith, less, frames_long k event found.head.place frames));
           network = m.network;
           disk = λ on. holds_with swap (swap_with swap one event) other.pool other.id s.body (held_with swap one event other.id ids) (m.disk on);
         }

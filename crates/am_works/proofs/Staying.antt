@@ -1,7 +1,10 @@
 -- A guest that has entered an endpoint and added entries that don't move it: it may leave, and what it knows then.
-use Rattle.std.proofs.Common.{◌≡◌, ℕ, ◌<◌, Bool, true, false, ◌||◌, List, [], ◌∷◌, ◌++◌, length, drop, Option, None, sym, refl, ap, ◌∙◌, subst, set-set, get_or-set_same}
+use Rattle.std.specs.Prelude.{slice_index_or, slice_set}
+use Rattle.std.proofs.Common.{◌≡◌, ◌≢◌, ⊎_elim, arith, ℕ, ◌<◌, Bool, true, false, ◌||◌, List, [], ◌∷◌, ◌++◌, length, drop, Option, None, sym, refl, ap, ◌∙◌, subst, set-set, get_or-set_same}
 use lib.Seq.{drop-append_seam}
+use Rattle.atomic_table.specs.Seated.{TableId}
 use Rattle.atomic_table.specs.Table.{Me, rest}
+use Rattle.atomic_table.specs.declared.shared.Seat.{Seat}
 use Rattle.am_names.specs.declared.EndpointId.{EndpointId}
 use Rattle.am_office.specs.declared.Entry.{Entry}
 use Rattle.am_endpoint.specs.View.{EndpointView, state_by}
@@ -17,7 +20,10 @@ use Rattle.am_places.specs.Codes.{place_code}
 use Rattle.am_places.specs.declared.board.Known.{Known}
 use Rattle.am_places.specs.declared.board.Tenure.{Tenure}
 use Rattle.am_places.specs.Rule.{Begins, Comes, IsOutside, has, inside_with, joined, known_at, nothing, outside, published_with, stirs, with_known}
-use Rattle.am_works.specs.Seats.{EndPass, Stays}
+use Rattle.am_works.specs.Drives.{with_frames}
+use Rattle.am_works.specs.Seats.{EndPass, IsIdle, Stays}
+use Rattle.am_works.proofs.Keeps.{same_or}
+use Rattle.am_works.proofs.Stands.{set_here, set_length, set_there}
 
 -- what a book stands for
 pub items_of : EndBook → List Entry
@@ -126,9 +132,9 @@ pub record Stands (k : ℕ) (me : M) : Type 0 where
   pub outside : IsOutside me.0
   pub mine : has me.0.mark me.0.keeps ≡ true
 
-pub stands_of : (k n n' m : ℕ) (me : M) → n' ≡ n → length me.0.known ≡ n' → k < n → me.1 ≡ [] → IsOutside me.0 → (me.0.live ≡ true) × (me.0.mark ≡ m) × (0 < m) × (has m me.0.keeps ≡ true) → Stands k me
-stands_of k n n' m me same long near hand outside marked =
-    record { near = subst (λ (z : ℕ). k < z) (sym (long ∙ same)) near; hand = hand; outside = outside; mine = ap (λ (z : ℕ). has z me.0.keeps) marked.1 ∙ marked.3 }
+pub stands_of : (k n n' m : ℕ) (me : M) → n' ≡ n → length me.0.known ≡ n' → k < n → me.1 ≡ [] → IsOutside me.0 → me.0.mark ≡ m → has m me.0.keeps ≡ true → Stands k me
+stands_of k n n' m me same long near hand outside marked mine =
+    record { near = subst (λ (z : ℕ). k < z) (sym (long ∙ same)) near; hand = hand; outside = outside; mine = ap (λ (z : ℕ). has z me.0.keeps) marked ∙ mine }
 
 abbrev pub FoundThere : ℕ → ℕ → M → M → EndBook → Type 0
 FoundThere k at me now b =
@@ -158,3 +164,81 @@ pub stayed_there : (k at : ℕ) (me now last : M) (b c : EndBook) (new : List En
 stayed_there k at me now last b c new m s w marked is set grown =
     stayed k me now last b c w.0 new m s.mine (entered_there k at me now b s w)
     (record { mark = marked; is = subst (λ (j : ℕ). last ≡ (with_known j (outside (published_with (λ (b : EndBook). b.end.log) (λ (b : EndBook). stands_at b.end) m c (known_at j now.0))) now.0, rest now.1)) w.1 is }) set grown
+
+-- ---- a driver, which may claim or free a frame before it leaves
+
+pub stayed_with : (fs : List ℕ) (k : ℕ) (me now between last : M) (b c : EndBook) (log : List (Tenure Entry)) (new : List Entry) (m : ℕ) → has me.0.mark me.0.keeps ≡ true → Entered k me now b log → between ≡ (with_frames fs now.0, now.1) → Left k m between last c → c.end.settings ≡ b.end.settings → c.end.log ≡ b.end.log ++ new
+    → Stays k b.end.settings (stands_at c.end) log new (with_frames fs me.0) last.0
+stayed_with fs k me now between last b c log new m mine e framed l set grown =
+    record {
+      born = e.comes.born;
+      begins = e.comes.begins;
+      own = e.comes.own_tenures me.0.mark mine;
+      calm_log = e.comes.calm_log;
+      once = e.comes.opening;
+      rising = subst IsRising whole c.kept.rising;
+      rests = coe 0 1 (i. rests (set i).id (fresh (set i).tag (set i).place) (whole i) ≡ true) c.kept.rests;
+      left = (stands_at b.end, left);
+    }
+  where
+    whole : c.end.log ≡ joined log ++ new
+    whole = grown ∙ ap (λ (xs : List Entry). xs ++ new) (sym e.comes.stands_for)
+
+    marked : m ≡ me.0.mark
+    marked = l.mark ∙ ap (λ (z : M). z.0.mark) framed ∙ ap (λ (z : M). z.0.mark) e.is
+
+    known : known_at k between.0 ≡ inside_with (stands_at b.end) log (known_at k me.0)
+    known = ap (λ (z : M). known_at k z.0) framed ∙ known_now k me now b log e
+
+    inner : between.0 ≡ with_known k (inside_with (stands_at b.end) log (known_at k me.0)) (with_frames fs me.0)
+    inner = ap (λ (z : M). z.0) framed ∙ ap (λ (z : M). with_frames fs z.0) e.is
+
+    left : last.0 ≡ with_known k (left_with me.0.mark (joined log ++ new) (stands_at c.end) (inside_with (stands_at b.end) log (known_at k me.0))) (with_frames fs me.0)
+    left =
+        ap (λ (z : M). z.0) l.is
+        ∙ (λ i. with_known k (left_with (marked i) (whole i) (stands_at c.end) (known i)) (inner i))
+        ∙ (λ i. record (with_frames fs me.0) { known = set-set me.0.known k (inside_with (stands_at b.end) log (known_at k me.0)) (left_with me.0.mark (joined log ++ new) (stands_at c.end) (inside_with (stands_at b.end) log (known_at k me.0))) i })
+
+pub driver_stayed : (fs : List ℕ) (k at : ℕ) (me now between last : M) (b c : EndBook) (new : List Entry) (m : ℕ) → Stands k me → (w : FoundThere k at me now b) → between ≡ (with_frames fs now.0, now.1) → m ≡ between.0.mark
+    → last ≡ (with_known at (outside (published_with (λ (b : EndBook). b.end.log) (λ (b : EndBook). stands_at b.end) m c (known_at at between.0))) between.0, rest between.1) → c.end.settings ≡ b.end.settings → c.end.log ≡ b.end.log ++ new
+    → Stays k b.end.settings (stands_at c.end) w.0 new (with_frames fs me.0) last.0
+driver_stayed fs k at me now between last b c new m s w framed marked is set grown =
+    stayed_with fs k me now between last b c w.0 new m s.mine (entered_there k at me now b s w) framed
+    (record { mark = marked; is = subst (λ (j : ℕ). last ≡ (with_known j (outside (published_with (λ (b : EndBook). b.end.log) (λ (b : EndBook). stands_at b.end) m c (known_at j between.0))) between.0, rest between.1)) w.1 is }) set grown
+
+-- an enter leaves the claims of frames
+pub same_frames : (k at : ℕ) (me now : M) (b : EndBook) → FoundThere k at me now b → now ≡ (with_frames me.0.frames now.0, now.1)
+same_frames k at me now b w = w.3 ∙ (λ i. (with_frames me.0.frames (sym w.3 i).0, (sym w.3 i).1))
+
+-- a seat that has left is between turns
+pub left_idle : (id : TableId) (fs : List ℕ) (k at : ℕ) (me now between : M) (b : EndBook) (y : Known Entry) (last : Seat (Option EndBook) EndPass) → Stands k me → FoundThere k at me now b → between ≡ (with_frames fs now.0, now.1) → y.inside ≡ false
+    → last.me ≡ (with_known at y between.0, rest between.1) → last.table_id ≡ id → IsIdle id last
+left_idle id fs k at me now between b y last s w framed out is table =
+    record {
+      table = table;
+      hand = ap (λ (z : M). z.1) is ∙ ap (λ (z : M). rest z.1) framed ∙ ap (λ (z : M). rest z.1) w.3 ∙ s.hand;
+      outside = subst IsOutside (sym whole) all_outside;
+    }
+  where
+    x : Known Entry
+    x = inside_with (stands_at b.end) w.0 (known_at k me.0)
+
+    inner : between.0 ≡ with_frames fs (with_known k x me.0)
+    inner = ap (λ (z : M). z.0) framed ∙ ap (λ (z : M). with_frames fs z.0) w.3
+
+    whole : last.me.0 ≡ with_known at y (with_frames fs (with_known k x me.0))
+    whole = ap (λ (z : M). z.0) is ∙ ap (with_known at y) inner
+
+    long : length (slice_set me.0.known k x) ≡ length me.0.known
+    long = set_length me.0.known k x
+
+    all_outside : IsOutside (with_known at y (with_frames fs (with_known k x me.0)))
+    all_outside j low =
+        ⊎_elim
+        (λ (same : j ≡ at).
+        (let near : at < length (slice_set me.0.known k x) = (let n = s.near in let e = w.1 in omega (arith, n, e, long)) in
+        ap (λ (z : Known Entry). z.inside) (ap (λ (n : ℕ). slice_index_or (slice_set (slice_set me.0.known k x) at y) n nothing) same ∙ set_here (slice_set me.0.known k x) at y near) ∙ out))
+        (λ (other : j ≢ at).
+        ap (λ (z : Known Entry). z.inside) (set_there (slice_set me.0.known k x) at j y other ∙ set_there me.0.known k j x (λ same. other (same ∙ sym w.1)))
+        ∙ s.outside j (let e = set_length (slice_set me.0.known k x) at y in omega (arith, low, e, long)))
+        (same_or j at)

@@ -9,7 +9,7 @@ use Rattle.am_driver.specs.Lists.{ViewLists}
 use Rattle.am_scenario_types.specs.Lists.{ScenarioLists}
 use Rattle.am_follow.specs.Layout.{layout_of}
 use Rattle.am_works.specs.Drives.{IsLook, IsMoved}
-use Rattle.am_works.specs.Seats.{EndPass, Ids}
+use Rattle.am_works.specs.Seats.{EndPass, Ids, IsBusy}
 use Rattle.am_works.specs.Works.{DriverWorks}
 
 -- the endpoints are those of a node of the packet network, and so many turns can be counted
@@ -33,3 +33,8 @@ DriversGoOn =
 -- and one that made none
 abbrev pub DriversRest : Type 0
 DriversRest = (s : ScenarioLists) (ids : Ids) (node : NodeId) (turns clock : ℕ) (view : ViewLists) (swap : Store) (v : EndPass) → DriverWorks s ids node turns clock view swap v → DriverWorks s ids node (turns + 1) clock view swap v
+
+-- and one that met another seat
+abbrev pub DriversWait : Type 0
+DriversWait =
+    (s : ScenarioLists) (ids : Ids) (node : NodeId) (turns k holder clock : ℕ) (view : ViewLists) (swap : Store) (v w : EndPass) → DriverWorks s ids node turns clock view swap v → IsBusy k holder v w → DriverWorks s ids node turns clock view swap w

@@ -1,14 +1,12 @@
 -- What a node's driver keeps between its turns: its view, its frames and its disk are those of what its seat has seen. And what a look
 -- at an endpoint and a move make of them.
-use Rattle.std.specs.Prelude.{◌≡◌, ℕ, zero, suc, ◌+◌, ◌<◌, ◌≤◌, ◌^◌, max, true, false, Option, Some, List, [], ◌∷◌, ◌++◌, length, slice_get, slice_index, slice_set, if◌then◌else◌}
+use Rattle.std.specs.Prelude.{◌≡◌, ℕ, zero, suc, ◌+◌, ◌<◌, ◌≤◌, ◌^◌, max, true, false, Option, Some, List, [], ◌∷◌, ◌++◌, length, slice_get, slice_index, slice_set}
 use mathlib.Core.Option.{some}
 use lib.ListN.{get_elem?}
 use Rattle.am_names.specs.declared.EndpointId.{EndpointId}
 use Rattle.am_names.specs.declared.NodeId.{NodeId}
 use Rattle.am_office.specs.declared.Event.{Event}
 use Rattle.am_office.specs.declared.Event.TheVariants as Events
-use Rattle.am_office.specs.declared.Outcome.{Outcome}
-use Rattle.am_office.specs.declared.Outcome.TheVariants as Out
 use Rattle.am_office.specs.declared.Place.{Place}
 use Rattle.am_office.specs.declared.Place.TheVariants.{Frame}
 use Rattle.am_office.specs.declared.Entry.{Entry}
@@ -16,10 +14,10 @@ use Rattle.am_body.specs.declared.settings.EndSettings.{EndSettings}
 use Rattle.am_device.specs.Memory.{Store}
 use Rattle.am_endpoint.specs.View.{last_stamp, state_by}
 use Rattle.am_model.specs.Endpoint.{State, is_direct, is_on_disk}
-use Rattle.am_model.specs.History.{is_in_frame}
 use Rattle.am_local.specs.Driver.{end_moved}
 use Rattle.am_moves.specs.Logs.{EndLog}
-use Rattle.am_moves.specs.Pages.{HoldsBody, IsBodyValid, after_page, is_page, page_outcome}
+use Rattle.am_moves.specs.Moves.{outcome_with, swap_with}
+use Rattle.am_moves.specs.Pages.{HoldsBody, IsBodyValid}
 use Rattle.am_driver.specs.Lists.{ViewLists}
 use Rattle.am_driver.specs.Moves.{next_move}
 use Rattle.am_driver.specs.Shown.{event_of}
@@ -31,7 +29,7 @@ use Rattle.am_places.specs.Codes.{place_code}
 use Rattle.am_places.specs.Rule.{FrameFits, joined, known_at, of}
 use Rattle.am_places.specs.declared.board.Known.{Known}
 use Rattle.am_places.specs.declared.board.Tenure.{Tenure}
-use Rattle.am_works.specs.Seats.{EndPass, Stays}
+use Rattle.am_works.specs.Seats.{EndPass, IsBusy, Stays}
 
 -- ---- what it keeps
 
@@ -43,7 +41,6 @@ line_by set log = line_of set.id (state_by set log)
 -- there
 pub record LiesSo (frames : List ℕ) (swap : Store) (k : ℕ) (set : EndSettings) (s : State) : Type 0 where
   pub fits : FrameFits frames k (place_code s.head.place)
-  pub low : (frame : ℕ) → is_in_frame frame s.head.place ≡ true → frame < length frames
   pub network : is_direct s.head.place ≡ false
   pub disk : is_on_disk s.head.place ≡ true → HoldsBody swap set.pool set.id s.body
 
@@ -102,13 +99,6 @@ abbrev pub last_after : Move → Option EndpointId → Option EndpointId
 last_after (Moves.Drain e) last = Some e
 last_after move last = last
 
--- what comes of a move, and the disk after it: a page-out or a page-in is one call of the disk
-abbrev pub outcome_with : Store → Event → Outcome
-outcome_with swap event = if is_page event then page_outcome swap else Out.Silent
-
-abbrev pub swap_with : Store → EndLog → Event → Store
-swap_with swap e event = if is_page event then after_page swap e event else swap
-
 abbrev pub log_of : EndSettings → List (Tenure Entry) → EndLog
 log_of set log = record { settings = set; log = joined log }
 
@@ -141,3 +131,6 @@ LooksKeep = (frames : ℕ) (node : NodeId) (k : ℕ) (view view' : ViewLists) (s
 abbrev pub MovesKeep : Type 0
 MovesKeep =
     (frames : ℕ) (node : NodeId) (k clock : ℕ) (view view' : ViewLists) (swap swap' : Store) (v w : EndPass) (x : Entry) → CanDrive frames node view swap v → IsMoved node k clock view view' swap swap' v w x → CanDrive frames node view' swap' w
+
+abbrev pub CanWait : Type 0
+CanWait = (frames : ℕ) (node : NodeId) (k holder : ℕ) (view : ViewLists) (swap : Store) (v w : EndPass) → CanDrive frames node view swap v → IsBusy k holder v w → CanDrive frames node view swap w

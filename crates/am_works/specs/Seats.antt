@@ -1,5 +1,5 @@
 -- What a seat knows of the endpoints of its node, and how a stay at one of them changes it.
-use Rattle.std.specs.Prelude.{◌≡◌, ℕ, true, Option, Some, List, [], ◌∷◌, ◌++◌, Contains, length, slice_get}
+use Rattle.std.specs.Prelude.{◌≡◌, ◌+◌, ℕ, true, Option, Some, List, [], ◌∷◌, ◌++◌, Contains, length, slice_get}
 use mathlib.Core.Option.{some}
 use lib.ListN.{get_elem?}
 use Rattle.atomic_table.specs.Seated.{TableId}
@@ -12,7 +12,7 @@ use Rattle.am_endpoint.specs.View.{state_by}
 use Rattle.am_model.specs.Endpoint.{State, fresh}
 use Rattle.am_model.specs.Layout.{Layout, opening}
 use Rattle.am_merge.specs.Logs.{IsRising}
-use Rattle.am_places.specs.Rule.{Begins, IsOutside, calm, inside_with, joined, known_at, of, with_known}
+use Rattle.am_places.specs.Rule.{Begins, IsOutside, Met, calm, holder_word, inside_with, joined, known_at, of, read, with_known}
 use Rattle.am_places.specs.declared.board.Pass.{Pass}
 use Rattle.am_places.specs.declared.board.Tenure.{Tenure}
 use Rattle.am_books.specs.Books.{moves}
@@ -82,3 +82,7 @@ pub record Stayed (k : ℕ) (new : List Entry) (Why : EndSettings → List Entry
 -- the state in which it found the endpoint
 abbrev pub found : EndSettings → List (Tenure Entry) → State
 found set log = state_by set (joined log)
+
+-- where another seat was inside, the pass has the read
+abbrev pub IsBusy : ℕ → ℕ → EndPass → EndPass → Type 0
+IsBusy k holder v w = Met k (holder + 1) v × (w ≡ read (holder_word k) (holder + 1) v)

@@ -1,4 +1,4 @@
-use Rattle.am_works.proofs.Drivers.{drivers_go_on, drivers_look, drivers_rest}
+use Rattle.am_works.proofs.Drivers.{drivers_go_on, drivers_look, drivers_rest, drivers_wait}
 use Rattle.am_works.proofs.a_driver_goes_on.Goals as goal
 
 pub returns-clause-looks : goal.returns-clause-looks
@@ -9,3 +9,6 @@ returns-clause-moves c = drivers_go_on
 
 pub returns-clause-rests : goal.returns-clause-rests
 returns-clause-rests c = drivers_rest
+
+pub returns-clause-waits : goal.returns-clause-waits
+returns-clause-waits c = drivers_wait

@@ -1,3 +1,4 @@
+use Rattle.am_works.proofs.Drivers.{can_wait}
 use Rattle.am_works.proofs.Driving.{looks_keep, moves_keep}
 use Rattle.am_works.proofs.a_driver_may_drive_on.Goals as goal
 
@@ -6,3 +7,6 @@ returns-clause-looks c = looks_keep
 
 pub returns-clause-moves : goal.returns-clause-moves
 returns-clause-moves c = moves_keep
+
+pub returns-clause-waits : goal.returns-clause-waits
+returns-clause-waits c = can_wait
