@@ -7,7 +7,7 @@ while read -r name path; do
     word=${name##*::}
     case $path in
         */src/*) file=crates/$path.rt; form="\\b(fn|struct|enum|trait) $word\\b" ;;
-        *) file=crates/$path.antt; form="^((abbrev|unfoldable|pub|record|data) )+$word .*(:|where)" ;;
+        *) file=crates/$path.antt; form="^ *((abbrev|unfoldable|pub|record|data) )+$word .*(:|where)" ;;
     esac
     tested=$((tested + 1))
     grep -qE "$form" "$file" 2>/dev/null || { echo "docs/DEFINITIONS.md: $name doesn't stand in $file"; failed=1; }

@@ -1,2 +1,5 @@
 mod Taking
 mod Playable
+mod Knowing
+mod Walking
+mod Telling
