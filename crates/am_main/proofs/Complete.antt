@@ -7,6 +7,7 @@ use Rattle.am_scenario_types.specs.declared.parts.Form.TheVariants as Forms
 use Rattle.am_main.specs.Answer.{Answer, answer_of}
 use Rattle.am_io.specs.Causes.{Rose}
 use Rattle.am_main.specs.Offers.{Completes, CompletesMake, Finds, IsAnswered, IsMakeGiven, IsOffered, IsTextOffered, IsWhole, IsWholeText, no_memory, too_long}
+use Rattle.am_main.proofs.Refusals.{status_of}
 
 -- the status of a fault of the sink or of want of memory is the latter
 memory_alone : (status : ℕ) → (status ≡ 5 → ⊥) → (status ≡ 5) ⊎ (status ≡ 8) → status ≡ 8
@@ -19,11 +20,8 @@ not_eight status false is = inr (λ (same : status ≡ 8). let yes' : (status ==
 
 -- what was offered was given whole, where the sink has no fault and memory lasts
 offered_whole : (answer : Answer) (status : ℕ) (old new : Option (List ℕ)) → (status ≡ 5 → ⊥) → (status ≡ 8 → ⊥) → IsOffered answer status old new → IsWhole answer status old new
-offered_whole answer status old new write other offered =
-    ⊎_elim
-    (λ (same : status ≡ answer.status). record { status' = same; given = offered.whole write other })
-    (λ (fault : (status ≡ 5) ⊎ (status ≡ 8)). absurd (other (memory_alone status write fault)))
-    offered.status'
+offered_whole answer status old new write other (inl whole) = whole
+offered_whole answer status old new write other (inr cut) = absurd (other (memory_alone status write cut.status'))
 
 text_whole : (form : Form) (bytes : List ℕ) (status : ℕ) (old new : Option (List ℕ)) → (status ≡ 5 → ⊥) → (status ≡ 8 → ⊥) → IsTextOffered form bytes status old new → IsWholeText form bytes status old new
 text_whole Forms.Step bytes status old new write other offered = offered_whole (answer_of (grammar Forms.Step bytes)) status old new write other offered
@@ -38,7 +36,7 @@ given_whole form status most left old new write f =
 
 -- for want of memory the status is 8, where the sink has no fault
 memory_given : (status : ℕ) (old new : Option (List ℕ)) → (status ≡ 5 → ⊥) → IsOffered no_memory status old new → status ≡ 8
-memory_given status old new write offered = ⊎_elim (λ (eight : status ≡ 8). eight) (λ (fault : (status ≡ 5) ⊎ (status ≡ 8)). memory_alone status write fault) offered.status'
+memory_given status old new write offered = ⊎_elim (λ (eight : status ≡ 8). eight) (λ (fault : (status ≡ 5) ⊎ (status ≡ 8)). memory_alone status write fault) (status_of no_memory status old new offered)
 
 -- for too many bytes the status is 7, where the sink has no fault, unless memory ran out
 long_given : (form : Form) (most status : ℕ) (left old new : Option (List ℕ)) → (status ≡ 5 → ⊥) → IsOffered too_long status old new → Completes form most status left old new
@@ -46,7 +44,7 @@ long_given form most status left old new write offered =
     ⊎_elim
     (λ (seven : status ≡ 7). inl seven)
     (λ (fault : (status ≡ 5) ⊎ (status ≡ 8)). inr (inl (memory_alone status write fault)))
-    offered.status'
+    (status_of too_long status old new offered)
 
 pub completes : (form : Form) (most : ℕ) (left : Option (List ℕ)) (before now status : ℕ) (old new : Option (List ℕ))
     → (Rose before now → ⊥) → (status ≡ 5 → ⊥) → IsAnswered form most left before now status old new → Completes form most status left old new

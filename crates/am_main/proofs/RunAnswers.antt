@@ -9,7 +9,7 @@ use Rattle.am_scenario_types.specs.Lists.{ScenarioLists}
 use Rattle.am_main.specs.Answer.{Answer}
 use Rattle.am_main.specs.Offers.{IsGiven, IsMakeGiven, IsOfMake, IsOffered, IsOr, ReportsFullLog, ReportsRun, TellsFault, TellsMadeLog, TellsSummary, no_memory}
 use Rattle.am_main.specs.Runs.{MakeAnswers, RunAnswers}
-use Rattle.am_main.proofs.Refusals.{own_status, own_text}
+use Rattle.am_main.proofs.Refusals.{own_status, own_text, status_of}
 
 pub run_given : (bytes : List ℕ) (answer : Answer) (status : ℕ) (old new : Option (List ℕ)) → RunAnswers (grammar Forms.Run bytes) answer → IsOffered answer status old new → IsGiven Forms.Run bytes status old new
 run_given bytes answer status old new answers offered = inl (record { answer = answer; answers = answers; offered = offered })
@@ -24,11 +24,11 @@ pub record Earned (answer : Answer) (n : ℕ) (old new : Option (List ℕ)) : Ty
 
 earned : (answer : Answer) (status n : ℕ) (old new : Option (List ℕ)) → IsOffered answer status old new → status ≡ n → n ≢ 5 → n ≢ 8 → Earned answer n old new
 earned answer status n old new offered is write memory =
-    record { status = own_status answer.status status n offered.status' is write memory; text = own_text answer status n old new offered is write memory }
+    record { status = own_status answer.status status n (status_of answer status old new offered) is write memory; text = own_text answer status n old new offered is write memory }
 
 -- for want of memory the status is another
 out_of_memory : (status n : ℕ) (old new : Option (List ℕ)) → IsOffered no_memory status old new → status ≡ n → n ≢ 5 → n ≢ 8 → ⊥
-out_of_memory status n old new offered is write memory = memory (sym (own_status 8 status n offered.status' is write memory))
+out_of_memory status n old new offered is write memory = memory (sym (own_status 8 status n (status_of no_memory status old new offered) is write memory))
 
 -- ---- run
 
@@ -94,8 +94,8 @@ ends_by n status answer answers (inr (inl five)) = inr (inr (inl five))
 ends_by n status answer answers (inr (inr eight)) = inr (inr (inr eight))
 
 pub make_ends : (n status : ℕ) (old new : Option (List ℕ)) → IsMakeGiven n status old new → IsOfMake status
-make_ends n status old new (inl g) = ends_by n status g.answer g.answers g.offered.status'
-make_ends n status old new (inr none) = memory none.status'
+make_ends n status old new (inl g) = ends_by n status g.answer g.answers (status_of g.answer status old new g.offered)
+make_ends n status old new (inr none) = memory (status_of no_memory status old new none)
   where
     memory : IsOr 8 status → IsOfMake status
     memory (inl same) = inr (inr (inr same))

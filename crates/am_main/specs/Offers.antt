@@ -1,5 +1,5 @@
 -- What the top call leaves in the sink.
-use Rattle.std.specs.Prelude.{◌≡◌, ◌≢◌, ◌⊎◌, ℕ, ◌≤◌, List, ◌++◌, codes, length, Option, Result, Ok, Err}
+use Rattle.std.specs.Prelude.{◌≡◌, ◌≢◌, ◌⊎◌, ℕ, ◌≤◌, ◌<◌, List, codes, length, take, Option, Result, Ok, Err}
 use Rattle.std.specs.Io.KnownBytes.{Appends}
 use Rattle.am_scenario.specs.Grammar.{grammar}
 use Rattle.am_scenario_types.specs.declared.parts.Form.{Form}
@@ -15,16 +15,13 @@ use Rattle.am_office.specs.declared.Part.{Part}
 use Rattle.am_scenario_types.specs.declared.faults.ScenarioFault.{ScenarioFault}
 use Rattle.am_scenario_types.specs.Lists.{ScenarioLists}
 
--- a front of the text was appended
-pub record IsFront (old new : Option (List ℕ)) (text : List ℕ) : Type 0 where
-  pub front : List ℕ
-  pub rest : List ℕ
-  pub split : text ≡ front ++ rest
-  pub given : Appends old new front
-
 -- the status is this one, or that of a fault of the sink or of want of memory
 abbrev pub IsOr : ℕ → ℕ → Type 0
 IsOr number status = (status ≡ number) ⊎ ((status ≡ 5) ⊎ (status ≡ 8))
+
+-- the status is none that a fault of the sink or want of memory gives
+abbrev pub IsOwn : ℕ → Type 0
+IsOwn status = (status ≢ 5) × (status ≢ 8)
 
 -- P holds of the bytes that a source had left, which are at most so many; what it doesn't tell may be any bytes
 pub record Finds (most : ℕ) (left : Option (List ℕ)) (P : List ℕ → Type 0) : Type 0 where
@@ -33,12 +30,26 @@ pub record Finds (most : ℕ) (left : Option (List ℕ)) (P : List ℕ → Type 
   pub few : length bytes ≤ most
   pub holds : P bytes
 
--- The answer was offered to the sink. It took the text whole, under the answer's status; or a front of it, with status 5
--- where the sink failed, or with status 8 where the sink found no memory.
-pub record IsOffered (answer : Answer) (status : ℕ) (old new : Option (List ℕ)) : Type 0 where
-  pub status' : IsOr answer.status status
-  pub whole : status ≢ 5 → status ≢ 8 → Appends old new answer.text
-  pub front' : IsFront old new answer.text
+-- the status and the whole text are those of the answer
+pub record IsWhole (answer : Answer) (status : ℕ) (old new : Option (List ℕ)) : Type 0 where
+  pub status' : status ≡ answer.status
+  pub given : Appends old new answer.text
+
+-- a front of the text was appended, and not all of it: the status is that of a fault of the sink or of want of memory
+pub record IsCutShort (text : List ℕ) (status : ℕ) (old new : Option (List ℕ)) : Type 0 where
+  pub status' : (status ≡ 5) ⊎ (status ≡ 8)
+  pub count : ℕ
+  pub shorter : count < length text
+  pub given : Appends old new (take count text)
+
+-- The answer was offered to the sink. It took the text whole, under the answer's status; or a shorter front of it, with
+-- status 5 where the sink failed, or with status 8 where the sink found no memory.
+abbrev pub IsOffered : Answer → ℕ → Option (List ℕ) → Option (List ℕ) → Type 0
+IsOffered answer status old new = IsWhole answer status old new ⊎ IsCutShort answer.text status old new
+
+-- there was no memory: the line that says so was appended, or the sink's count of shortages rose
+abbrev pub LacksMemory : Option (List ℕ) → Option (List ℕ) → ℕ → ℕ → Type 0
+LacksMemory old new before now = Appends old new (codes "no memory\n") ⊎ Rose before now
 
 -- the answers that don't look at the bytes: wrong words, a read fault, too many bytes, and want of memory
 abbrev pub usage : Answer
@@ -169,11 +180,6 @@ IsOfText status = (status ≡ 0) ⊎ ((status ≡ 3) ⊎ (status ≡ 6))
 -- the status is one that `make` ends with: the summary, a full log, a write fault, no memory
 abbrev pub IsOfMake : ℕ → Type 0
 IsOfMake status = (status ≡ 0) ⊎ ((status ≡ 6) ⊎ ((status ≡ 5) ⊎ (status ≡ 8)))
-
--- the status and the whole text are those of the answer
-pub record IsWhole (answer : Answer) (status : ℕ) (old new : Option (List ℕ)) : Type 0 where
-  pub status' : status ≡ answer.status
-  pub given : Appends old new answer.text
 
 -- those of the answer of `run` to a text
 pub record IsWholeRunText (read : Result ScenarioLists ScenarioFault) (status : ℕ) (old new : Option (List ℕ)) : Type 0 where

@@ -1,15 +1,8 @@
 -- What the commands `run` and `make` answer, and what their answers say of the cluster.
-use Rattle.std.specs.Prelude.{◌≡◌, ◌≢◌, ◌⊎◌, ℕ, false, Some, List, [], ◌∷◌, ◌++◌, codes, length, Result, Ok, Err}
+use Rattle.std.specs.Prelude.{◌≡◌, ◌≢◌, ◌⊎◌, ℕ, Some, List, [], ◌∷◌, ◌++◌, codes, length, Result, Ok, Err}
 use Rattle.std.specs.Fmt.{decimal}
-use Rattle.am_names.specs.Rules.{is_transient}
-use Rattle.am_names.specs.declared.Cause.{Cause}
 use Rattle.am_names.specs.declared.Message.{Message}
-use Rattle.am_names.specs.declared.NodeId.{NodeId}
-use Rattle.am_names.specs.declared.Parcel.{Parcel}
-use Rattle.am_names.specs.declared.Serial.{Serial}
 use Rattle.am_office.specs.declared.Entry.{Entry}
-use Rattle.am_office.specs.declared.Event.TheVariants as Events
-use Rattle.am_office.specs.declared.Outcome.TheVariants as Out
 use Rattle.am_office.specs.declared.Part.{Part}
 use Rattle.am_office.specs.declared.endings.Fate.TheVariants as Fates
 use Rattle.am_office.specs.Fates.{fate}
@@ -18,44 +11,21 @@ use Rattle.am_text.specs.Words.{line}
 use Rattle.am_scenario_types.specs.declared.faults.ScenarioFault.{ScenarioFault}
 use Rattle.am_scenario_types.specs.Lists.{ScenarioLists}
 use Rattle.am_generator.specs.Scenarios.{generated}
-use Rattle.am_follow.specs.Layout.{layout_of}
-use Rattle.am_laws.specs.Fates.{HasOneFate}
-use Rattle.am_model.specs.History.{IsHistory}
-use Rattle.am_model.specs.PostOffice.{PostOffice, WasAccepted}
+use Rattle.am_model.specs.PostOffice.{WasAccepted}
 use Rattle.am_drain.specs.Cut.{IsDrainedWithRoom}
 use Rattle.am_drain.specs.Drain.{IsDrained}
 use Rattle.am_drain.specs.Follows.{FollowsScripts}
-use Rattle.am_drain_steps.specs.Endings.{IsLastTry, IsWithheld, WithholdsNothing}
-use Rattle.am_cluster.specs.Runs.{IsRunCutOff}
+use Rattle.am_cluster.specs.Runs.{IsRunCutOff, ObeysRunLaws}
 use Rattle.am_main.specs.declared.outputs.Output.{Output}
 use Rattle.am_main.specs.Answer.{Answer, full_line, ids_of, refused_line}
 
--- where a time-out leaves a message unknown, the plan withholds packets of its last try
-abbrev pub UnknownIsPlanned : ScenarioLists → List Entry → Type 0
-UnknownIsPlanned s journal =
-    (past later : List Entry) (x : Entry) (node peer : NodeId) (channel : ℕ) (serial : Serial) (p : Parcel) → journal ≡ past ++ x ∷ later → x.event ≡ Events.Expire node peer channel → x.outcome ≡ Out.Unknown serial → IsLastTry past node peer channel p → IsWithheld s past p
-
--- no message is unknown
-abbrev pub NothingIsUnknown : List Entry → Type 0
-NothingIsUnknown journal = (serial : Serial) → (fate journal serial ≢ Some Fates.Unknown) × (fate journal serial ≢ Some Fates.UnknownButRan)
-
--- what is returned is returned for a cause that isn't transient
-abbrev pub IsReturnedForGood : List Entry → Type 0
-IsReturnedForGood journal = (serial : Serial) (cause : Cause) → fate journal serial ≡ Some (Fates.Returned cause) → is_transient cause ≡ false
-
--- A journal is that of the run of a scenario: a history of the machine which the scenario describes, that follows its scripts and
--- obeys all the laws of the post office. Each message has its one fate, no message that was accepted is pending, and one is unknown
--- only where the plan withholds packets; where it withholds none, no message is unknown, and what is returned is returned for good.
--- And it is what the drain makes of the empty journal, which makes no other.
+-- A journal is that of the run of a scenario: it obeys the laws of runs, which say that it is a history, that it obeys the post office
+-- and what becomes of each message; it follows the scripts, and no message that was accepted is pending. And it is what the drain makes
+-- of the empty journal, which makes no other.
 pub record IsRunOf (s : ScenarioLists) (journal : List Entry) : Type 0 where
-  pub history : IsHistory (layout_of s) journal
+  pub obeys : ObeysRunLaws s journal
   pub follows : FollowsScripts s journal
-  pub laws : PostOffice (layout_of s) journal
-  pub fates : (serial : Serial) → HasOneFate journal serial
   pub settled : (m : Message) → WasAccepted journal m → fate journal m.serial ≢ Some Fates.Pending
-  pub unknown : UnknownIsPlanned s journal
-  pub complete : WithholdsNothing s → NothingIsUnknown journal
-  pub for_good : WithholdsNothing s → IsReturnedForGood journal
   pub drained : IsDrainedWithRoom s [] journal
   pub only : (other : List Entry) → IsDrained s [] other → other ≡ journal
 

@@ -1,7 +1,8 @@
 // The run of a generated scenario.
-ghost use Rattle.std.specs.Prelude.{◌≡◌, ◌≢◌, IfOk, length};
+ghost use Rattle.std.specs.Prelude.{◌≡◌, IfOk, length};
 ghost use Rattle.am_scenario_types.specs.Lawful.{IsLawful};
 ghost use Rattle.am_scenario_types.specs.declared.parts.Network.TheVariants as Networks;
+ghost use Rattle.am_main.specs.Offers.{IsOwn};
 ghost use Rattle.am_main.specs.Runs.{MakeAnswers, answer_in, make_text, scenario_of};
 
 use crate::outputs::Output;
@@ -55,7 +56,7 @@ fn scenario_summary(alloc: Global, n: u64, scenario: &Scenario) -> Result<Output
     requires packet { scenario.now.network ≡ Networks.Packet }
     requires calls { length scenario.now.script ≡ 1744 }
     ensures answers { IfOk result (λ output. MakeAnswers n (answer_in output)) }
-    ensures status { IfOk result (λ output. output.status ≢ 5) }
+    ensures status { IfOk result (λ output. IsOwn output.status) }
 {
     match alone(alloc, scenario) {
         Ok(finished) => {
@@ -74,7 +75,7 @@ fn scenario_summary(alloc: Global, n: u64, scenario: &Scenario) -> Result<Output
 /// The run has no threaded turns and starts no thread.
 pub fn make_output(alloc: Global, n: u64) -> Result<Output, AllocError>
     ensures answers { IfOk result (λ output. MakeAnswers n (answer_in output)) }
-    ensures status { IfOk result (λ output. output.status ≢ 5) }
+    ensures status { IfOk result (λ output. IsOwn output.status) }
 {
     match scenario_of(alloc, n) {
         Ok(scenario) => scenario_summary(alloc, n, &scenario),

@@ -1,6 +1,7 @@
 // The run of a scenario.
-ghost use Rattle.std.specs.Prelude.{◌≡◌, ◌≢◌, ◌++◌, IfOk};
+ghost use Rattle.std.specs.Prelude.{◌≡◌, ◌++◌, IfOk};
 ghost use Rattle.am_main.specs.Answer.{full_line, ids_of, refused_line};
+ghost use Rattle.am_main.specs.Offers.{IsOwn};
 ghost use Rattle.am_main.specs.Runs.{IsRunAnswer, RunAnswers, answer_in};
 ghost use Rattle.am_report.specs.Report.{report};
 ghost use Rattle.am_scenario.specs.Grammar.{grammar};
@@ -58,7 +59,7 @@ fn scenario_output<R: Threads + Sync>(
     requires lawful { IsLawful scenario.now }
     requires packet { scenario.now.network ≡ Networks.Packet }
     ensures answers { IfOk result (λ output. IsRunAnswer scenario.now (answer_in output)) }
-    ensures status { IfOk result (λ output. output.status ≢ 5) }
+    ensures status { IfOk result (λ output. IsOwn output.status) }
 {
     match run(rt, alloc, scenario, &OpenGate) {
         Ok(finished) => {
@@ -76,7 +77,7 @@ fn scenario_output<R: Threads + Sync>(
 // What is printed of a text's first fault.
 fn fault_output(alloc: Global, fault: ScenarioFault) -> Result<Output, AllocError>
     ensures answers { IfOk result (λ output. answer_in output ≡ record { status = 3; text = refused_line fault }) }
-    ensures status { IfOk result (λ output. output.status ≢ 5) }
+    ensures status { IfOk result (λ output. IsOwn output.status) }
 {
     let text = refused_line(alloc, fault)?;
     Ok(Output { status: 3, text })
@@ -90,7 +91,7 @@ pub fn run_output<R: Threads + Sync>(
     bytes: &[u8],
 ) -> Result<Output, AllocError>
     ensures answers { IfOk result (λ output. RunAnswers (grammar Forms.Run bytes.now) (answer_in output)) }
-    ensures status { IfOk result (λ output. output.status ≢ 5) }
+    ensures status { IfOk result (λ output. IsOwn output.status) }
 {
     match read(alloc, Form::Run, bytes) {
         Ok(scenario) => scenario_output(rt, alloc, &scenario),

@@ -1,11 +1,11 @@
 //! The top call.
 
-ghost use Rattle.std.specs.Prelude.{codes, ◌≡◌, ◌≢◌, ◌≤◌, ℕ, map, string_bytes, true, false};
+ghost use Rattle.std.specs.Prelude.{codes, ◌≡◌, ◌≢◌, ◌⊎◌, ◌+◌, ℕ, map, string_bytes, true, false};
 ghost use Rattle.std.specs.Io.KnownBytes.{Appends};
 ghost use Rattle.am_io.specs.Causes.{Rose};
-ghost use Rattle.am_io.specs.Whole.{IsLonger};
+ghost use Rattle.am_io.specs.Whole.{IsLonger, TakesAtMost};
 ghost use Rattle.am_main.specs.Commands.{Asks, HasNoForm, NeedsNoText, NeedsText};
-ghost use Rattle.am_main.specs.Offers.{Completes, CompletesMake, FillsLog, Finds, IsAnswered, IsGiven, IsMakeGiven, IsOfMake, IsOfText, IsOffered, Refuses, Reports, ReportsFullLog, ReportsRun, ReportsSteps, TellsFault, TellsFullLog, TellsMadeLog, TellsSummary, usage};
+ghost use Rattle.am_main.specs.Offers.{Completes, CompletesMake, FillsLog, Finds, IsAnswered, IsGiven, IsMakeGiven, IsOfMake, IsOfText, IsOffered, LacksMemory, Refuses, Reports, ReportsFullLog, ReportsRun, ReportsSteps, TellsFault, TellsFullLog, TellsMadeLog, TellsSummary, usage};
 ghost use Rattle.am_main.specs.Runs.{answer_in};
 ghost use Rattle.am_main.specs.Sessions.{CompletesSession, IsOfSession, IsSessionAnswered, RefusesSession, ReportsSession};
 ghost use Rattle.am_scenario_types.specs.declared.parts.Form.TheVariants as Forms;
@@ -40,7 +40,9 @@ pub struct Status {
 pub(crate) fn offer<K: Sink>(sink: &mut K, number: u8, text: &[u8]) -> Status
     ensures offered { IsOffered (record { status = number; text = text.now }) result.number (K.held sink.old) (K.held sink.new) }
     ensures cause { number ≢ 5 → result.number ≡ 5 → Rose (K.count sink.old) (K.count sink.new) }
-    ensures later { K.count sink.old ≤ K.count sink.new }
+    ensures kept { result.number ≢ 5 → K.count sink.new ≡ K.count sink.old }
+    ensures shortage { number ≢ 8 → result.number ≡ 8 → Rose (K.shortages sink.old) (K.shortages sink.new) }
+    ensures memory { result.number ≡ 8 → Appends (K.held sink.old) (K.held sink.new) text.now ⊎ Rose (K.shortages sink.old) (K.shortages sink.new) }
 {
     match give_all(sink, text) {
         Ok(()) => Status { number },
@@ -53,7 +55,8 @@ pub(crate) fn offer<K: Sink>(sink: &mut K, number: u8, text: &[u8]) -> Status
 fn offer_output<K: Sink>(sink: &mut K, output: &Output) -> Status
     ensures offered { IsOffered (answer_in output.now) result.number (K.held sink.old) (K.held sink.new) }
     ensures cause { output.now.status ≢ 5 → result.number ≡ 5 → Rose (K.count sink.old) (K.count sink.new) }
-    ensures later { K.count sink.old ≤ K.count sink.new }
+    ensures kept { result.number ≢ 5 → K.count sink.new ≡ K.count sink.old }
+    ensures shortage { output.now.status ≢ 8 → result.number ≡ 8 → Rose (K.shortages sink.old) (K.shortages sink.new) }
 {
     offer(sink, output.status, &output.text)
 }
@@ -65,7 +68,8 @@ fn answer_steps<K: Sink>(alloc: Global, bytes: &[u8], sink: &mut K) -> Status
     ensures refuses { result.number ≡ 3 → Refuses Forms.Step (K.held sink.old) (K.held sink.new) bytes.now }
     ensures full { result.number ≡ 6 → TellsFullLog (K.held sink.old) (K.held sink.new) bytes.now }
     ensures cause { result.number ≡ 5 → Rose (K.count sink.old) (K.count sink.new) }
-    ensures later { K.count sink.old ≤ K.count sink.new }
+    ensures kept { result.number ≢ 5 → K.count sink.new ≡ K.count sink.old }
+    ensures memory { result.number ≡ 8 → LacksMemory (K.held sink.old) (K.held sink.new) (K.shortages sink.old) (K.shortages sink.new) }
 {
     match step_text(alloc, bytes) {
         Ok(text) => offer(sink, 0, &text),
@@ -86,7 +90,8 @@ fn answer_run<R: Threads + Sync, K: Sink>(
 ) -> Status
     ensures given { IsGiven Forms.Run bytes.now result.number (K.held sink.old) (K.held sink.new) }
     ensures cause { result.number ≡ 5 → Rose (K.count sink.old) (K.count sink.new) }
-    ensures later { K.count sink.old ≤ K.count sink.new }
+    ensures kept { result.number ≢ 5 → K.count sink.new ≡ K.count sink.old }
+    ensures memory { result.number ≡ 8 → LacksMemory (K.held sink.old) (K.held sink.new) (K.shortages sink.old) (K.shortages sink.new) }
 {
     match run_output(rt, alloc, bytes) {
         Ok(output) => offer_output(sink, &output),
@@ -108,7 +113,8 @@ fn answer<R: Threads + Sync, K: Sink>(
     ensures refuses { result.number ≡ 3 → Refuses form (K.held sink.old) (K.held sink.new) bytes.now }
     ensures full { result.number ≡ 6 → FillsLog form (K.held sink.old) (K.held sink.new) bytes.now }
     ensures cause { result.number ≡ 5 → Rose (K.count sink.old) (K.count sink.new) }
-    ensures later { K.count sink.old ≤ K.count sink.new }
+    ensures kept { result.number ≢ 5 → K.count sink.new ≡ K.count sink.old }
+    ensures memory { result.number ≡ 8 → LacksMemory (K.held sink.old) (K.held sink.new) (K.shortages sink.old) (K.shortages sink.new) }
 {
     match form {
         Form::Step => answer_steps(alloc, bytes, sink),
@@ -130,8 +136,11 @@ fn script<R: Threads + Sync, S: Source, K: Sink>(
     ensures refuses { result.number ≡ 3 → Finds MOST_BYTES (S.left source.old) (Refuses form (K.held sink.old) (K.held sink.new)) }
     ensures full { result.number ≡ 6 → Finds MOST_BYTES (S.left source.old) (FillsLog form (K.held sink.old) (K.held sink.new)) }
     ensures ended { IsOfText result.number → S.has_ended source.new ≡ true }
+    ensures took { TakesAtMost (MOST_BYTES + 1) (S.left source.old) (S.left source.new) }
     ensures read { result.number ≡ 4 → Rose (S.count source.old) (S.count source.new) }
     ensures write { result.number ≡ 5 → Rose (K.count sink.old) (K.count sink.new) }
+    ensures kept { result.number ≢ 5 → K.count sink.new ≡ K.count sink.old }
+    ensures memory { result.number ≡ 8 → LacksMemory (K.held sink.old) (K.held sink.new) (K.shortages sink.old) (K.shortages sink.new) }
     ensures long { result.number ≡ 7 → IsLonger (S.left source.old) MOST_BYTES }
     ensures read_text { result.number ≡ 4 → Appends (K.held sink.old) (K.held sink.new) (codes "read fault\n") }
     ensures long_text { result.number ≡ 7 → Appends (K.held sink.old) (K.held sink.new) (codes "input too long\n") }
@@ -152,6 +161,8 @@ fn make<K: Sink>(alloc: Global, n: u64, sink: &mut K) -> Status
     ensures full { result.number ≡ 6 → TellsMadeLog n (K.held sink.old) (K.held sink.new) }
     ensures ends { IsOfMake result.number }
     ensures write { result.number ≡ 5 → Rose (K.count sink.old) (K.count sink.new) }
+    ensures kept { result.number ≢ 5 → K.count sink.new ≡ K.count sink.old }
+    ensures memory { result.number ≡ 8 → LacksMemory (K.held sink.old) (K.held sink.new) (K.shortages sink.old) (K.shortages sink.new) }
 {
     match make_output(alloc, n) {
         Ok(output) => offer_output(sink, &output),
@@ -167,7 +178,9 @@ fn make<K: Sink>(alloc: Global, n: u64, sink: &mut K) -> Status
 /// The status says how it ended. Each has its cause in a clause, and a text of its own, which is offered to the sink:
 /// 0 the report or the summary, 2 wrong words, 3 a text that spells no scenario or a step that can't happen, 4 a read fault, 5 a write
 /// fault, 6 a full log (behind its line stands for `run` the report of what was made before), 7 too many bytes, and 8 no memory, which
-/// may come at any time.
+/// may come at any time. It ends at the first read that fails and at the first write that is refused, and takes at most one byte more
+/// than `MOST_BYTES`.
+#[tactic(auto, using(am_io::proofs::Parts::took_none))]
 pub fn am2<R: Threads + Sync, S: Source, K: Sink>(
     rt: &R,
     alloc: Global,
@@ -196,6 +209,7 @@ pub fn am2<R: Threads + Sync, S: Source, K: Sink>(
     ensures not_ended { NeedsNoText (map string_bytes words.now) → S.has_ended source.new ≡ false }
     ensures not_counted { NeedsNoText (map string_bytes words.now) → S.count source.new ≡ S.count source.old }
     ensures ended { NeedsText (map string_bytes words.now) → IsOfText result.number → S.has_ended source.new ≡ true }
+    ensures took { TakesAtMost (MOST_BYTES + 1) (S.left source.old) (S.left source.new) }
     // Else a read failed, the bytes are too many, memory ran out, or the answer is offered that the bytes or the number ask for.
     ensures given_step { Asks (map string_bytes words.now) Command.Step → IsAnswered Forms.Step MOST_BYTES (S.left source.old) (S.count source.old) (S.count source.new) result.number (K.held sink.old) (K.held sink.new) }
     ensures given_run { Asks (map string_bytes words.now) Command.Run → IsAnswered Forms.Run MOST_BYTES (S.left source.old) (S.count source.old) (S.count source.new) result.number (K.held sink.old) (K.held sink.new) }
@@ -215,6 +229,8 @@ pub fn am2<R: Threads + Sync, S: Source, K: Sink>(
     ensures read { result.number ≡ 4 → Rose (S.count source.old) (S.count source.new) }
     ensures read_text { result.number ≡ 4 → Appends (K.held sink.old) (K.held sink.new) (codes "read fault\n") }
     ensures write { result.number ≡ 5 → Rose (K.count sink.old) (K.count sink.new) }
+    ensures kept { result.number ≢ 5 → K.count sink.new ≡ K.count sink.old }
+    ensures memory { result.number ≡ 8 → LacksMemory (K.held sink.old) (K.held sink.new) (K.shortages sink.old) (K.shortages sink.new) }
     ensures long { result.number ≡ 7 → IsLonger (S.left source.old) MOST_BYTES }
     ensures long_text { result.number ≡ 7 → Appends (K.held sink.old) (K.held sink.new) (codes "input too long\n") }
 {

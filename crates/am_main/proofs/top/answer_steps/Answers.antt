@@ -1,5 +1,5 @@
 use Rattle.std.proofs.Common.{◌≡◌, ◌≢◌, arith, ◌∙◌}
-use Rattle.am_main.proofs.Refusals.{earns, fills, refuses}
+use Rattle.am_main.proofs.Refusals.{earns, fills, lacks, refuses}
 use Rattle.am_main.proofs.top.answer_steps.Goals as goal
 
 pub returns-in-Ok-fault_line-clause-refuses : goal.returns-in-Ok-fault_line-clause-refuses
@@ -21,3 +21,12 @@ returns-in-Ok-fault_line-clause-full g c =
     (earns c.in-Err.fault c.fault_status.result c.offer-in-Ok-fault_line.result.number 6 c.deref-in-Ok-fault_line.result.now
     (g.K.Sink.held c.args.sink.now) (g.K.Sink.held c.offer-in-Ok-fault_line.new.sink) c.fault_status.ensures
     (c.deref-in-Ok-fault_line.ensures.value ∙ c.in-Ok-fault_line.ensures) c.offer-in-Ok-fault_line.ensures.offered six write memory)
+
+pub returns-in-Ok-fault_line-clause-memory : goal.returns-in-Ok-fault_line-clause-memory
+returns-in-Ok-fault_line-clause-memory g c =
+    λ (eight : c.offer-in-Ok-fault_line.result.number ≡ 8).
+    lacks c.in-Err.fault c.fault_status.result c.deref-in-Ok-fault_line.result.now
+    (g.K.Sink.held c.args.sink.now) (g.K.Sink.held c.offer-in-Ok-fault_line.new.sink)
+    (g.K.Sink.shortages c.args.sink.now) (g.K.Sink.shortages c.offer-in-Ok-fault_line.new.sink) c.fault_status.ensures
+    (c.deref-in-Ok-fault_line.ensures.value ∙ c.in-Ok-fault_line.ensures)
+    (λ other. c.offer-in-Ok-fault_line.ensures.shortage other eight) (c.offer-in-Ok-fault_line.ensures.memory eight)
