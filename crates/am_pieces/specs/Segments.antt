@@ -86,7 +86,7 @@ ran_count journal s number t = count_by (λ (piece : Piece). has_run journal s.e
 
 -- the segment of an endpoint
 abbrev pub segment_of : List SegmentLine → EndpointId → Option SegmentLine
-segment_of segments end = find (λ (s : SegmentLine). same_end end s.end) segments
+segment_of segments end = find (λ (s : SegmentLine). same_end s.end end) segments
 
 abbrev pub ran_in : List Entry → Option SegmentLine → ℕ → TransferLists → ℕ
 ran_in journal None number t = 0

@@ -119,7 +119,7 @@ fn segment_of(segments: &[SegmentLine], end: EndpointId) -> Option<SegmentLine>
     segments
         .iter()
         .copied()
-        .find(|segment| end.0 == segment.end.0)
+        .find(|segment| segment.end.0 == end.0)
 }
 
 // What ran of a transfer.

@@ -1,0 +1,4 @@
+pub mod Spelled
+pub mod Steps
+pub mod Grown
+pub mod Sizes

@@ -1,0 +1,11 @@
+pub mod Lists
+pub mod Own
+pub mod Hex
+pub mod Blocks
+pub mod Laid
+pub mod Drafts
+pub mod Saying
+pub mod Texts
+pub mod Expansion
+pub mod Spelling
+pub mod Printed
