@@ -9,8 +9,8 @@ ghost use Rattle.am_report.specs.Tables.{AreRuns};
 
 use crate::messages::{MessageFate, told};
 use crate::runs::{Run, RunTable};
-use am_names::EndpointId;
 use am_entry_lines::entry_line;
+use am_names::EndpointId;
 use am_office::{Entry, Fate, Journal, NoMemory};
 use am_text::Piece::{Number, Text};
 use am_text::{Piece, cause_word, kind_word, put_line, small, why_word};

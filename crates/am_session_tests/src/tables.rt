@@ -89,11 +89,7 @@ pub static FAULTS: [(&str, u32, What); 38] = [
     ("am2session 1 1\n", 1, What::UnknownWord),
     ("am2session 1\nam2session 1\n", 2, What::Twice),
     ("am2session 1\nam2session 2\n", 2, What::OutOfRange),
-    (
-        "am2session 1\ntries 2\nam2session 1\n",
-        3,
-        What::OutOfPlace,
-    ),
+    ("am2session 1\ntries 2\nam2session 1\n", 3, What::OutOfPlace),
     ("am2session 1\ntries\n", 2, What::Missing),
     ("am2session 1\ntries two\n", 2, What::BadNumber),
     ("am2session 1\ntries 1\n", 2, What::OutOfRange),

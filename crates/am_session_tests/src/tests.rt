@@ -1,8 +1,6 @@
 use crate::tables::{FAULTS, REPORTS, STOPS};
 use am_lexer::What;
-use am_restart::{
-    Say, Session, SessionCondition, SessionEvent, SessionFault, SessionOutcome,
-};
+use am_restart::{Say, Session, SessionCondition, SessionEvent, SessionFault, SessionOutcome};
 use am_session::{ReadFault, play, read_session, session_output, session_report};
 use std::alloc::Global;
 
@@ -25,21 +23,30 @@ fn answers(alloc: Global, text: &str, printed: &str) -> Option<(u8, bool)> {
 #[test]
 fn reports(rt: HostRuntime) {
     for (text, printed) in REPORTS.iter() {
-        assert!(rt; answers(rt.alloc(), text, printed) == Some((0, true)), "{text}");
+        assert!(rt;
+            answers(rt.alloc(), text, printed) == Some((0, true)),
+            "{text}"
+        );
     }
 }
 
 #[test]
 fn stops(rt: HostRuntime) {
     for (text, printed) in STOPS.iter() {
-        assert!(rt; answers(rt.alloc(), text, printed) == Some((3, true)), "{text}");
+        assert!(rt;
+            answers(rt.alloc(), text, printed) == Some((3, true)),
+            "{text}"
+        );
     }
 }
 
 #[test]
 fn faults(rt: HostRuntime) {
     for (text, line, what) in FAULTS.iter() {
-        assert!(rt; fault_of(rt.alloc(), text) == Some((*line, *what)), "{text}");
+        assert!(rt;
+            fault_of(rt.alloc(), text) == Some((*line, *what)),
+            "{text}"
+        );
     }
 }
 
@@ -58,7 +65,9 @@ fn at_most_65536_events(rt: HostRuntime) {
     let read = read_session(rt.alloc(), &most);
     assert!(rt; matches!(&read, Ok(script) if script.steps.len() == 65_536));
     let over = offers(rt.alloc(), 65_537).unwrap();
-    assert!(rt; matches!(read_session(rt.alloc(), &over), Err(ReadFault::Refused(fault)) if fault.line == 65_539 && fault.what == What::TooMany));
+    assert!(rt;
+        matches!(read_session(rt.alloc(), &over), Err(ReadFault::Refused(fault)) if fault.line == 65_539 && fault.what == What::TooMany)
+    );
 }
 
 #[test]
@@ -67,9 +76,14 @@ fn a_script_is_played(rt: HostRuntime) {
     let script = read_session(rt.alloc(), text).unwrap();
     let played = play(rt.alloc(), &script).unwrap();
     assert!(rt; played.entries.len() == 1);
-    assert!(rt; matches!(played.stopped, Some(stop) if stop.line == 4 && stop.condition == SessionCondition::Idle));
+    assert!(rt;
+        matches!(played.stopped, Some(stop) if stop.line == 4 && stop.condition == SessionCondition::Idle)
+    );
     let report = session_report(rt.alloc(), &played.entries).unwrap();
-    assert!(rt; report.as_slice() == b"session report 1\nentries 1\na offer -> ok 1\nmessages 1\nfate 1 pending\n".as_slice());
+    assert!(rt;
+        report.as_slice()
+            == b"session report 1\nentries 1\na offer -> ok 1\nmessages 1\nfate 1 pending\n".as_slice()
+    );
 }
 
 #[test]
@@ -87,7 +101,9 @@ fn an_event_is_refused(rt: HostRuntime) {
         say: Say::Accept,
     };
     let refused = session.apply(&event);
-    assert!(rt; matches!(refused, Err(SessionFault::NotEnabled(condition)) if condition == SessionCondition::NoPacket));
+    assert!(rt;
+        matches!(refused, Err(SessionFault::NotEnabled(condition)) if condition == SessionCondition::NoPacket)
+    );
 }
 
 // A text of so many messages, each of which is put at once.
@@ -98,7 +114,9 @@ fn deliveries(alloc: Global, count: u32) -> Result<Vec<u8>, std::alloc::AllocErr
     )?;
     for before in 0..count {
         let number = u64::from(before) + 2;
-        let lines = format!(in alloc; "a bind\nb receive {number} accept\na receive {number}\na offer\n")?;
+        let lines = format!(in alloc;
+            "a bind\nb receive {number} accept\na receive {number}\na offer\n"
+        )?;
         text.extend_from_slice(lines.as_bytes())?;
     }
     Ok(text)
@@ -111,5 +129,9 @@ fn many_messages_are_put(rt: HostRuntime) {
     assert!(rt; output.status == 0);
     let end = b"messages 16384\nfate 1 put\n".as_slice();
     assert!(rt; output.text.windows(end.len()).any(|part| part == end));
-    assert!(rt; output.text.ends_with(b"fate 16383 put\nfate 16384 pending\n"));
+    assert!(rt;
+        output
+            .text
+            .ends_with(b"fate 16383 put\nfate 16384 pending\n")
+    );
 }
