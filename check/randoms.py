@@ -1,0 +1,130 @@
+"""Random scenarios for `run` and for `step`. A step script is made event by event beside the second reading, mostly of events that may happen."""
+import copy
+import random
+
+from machine import Cluster, LogFull, NotEnabled
+from scenario import read
+
+
+def settings(draw, version, packet):
+    lines = [f"nodes {draw.randint(1, 4)}"]
+    for chance, name, least, most in ((0.7, "frames", 2, 4), (0.6, "channels", 1, 4), (0.7, "tries", 2, 5), (0.5, "bounces", 0, 4), (0.6, "keep", 0, 3), (0.2, "log", 1, 60)):
+        if draw.random() < chance:
+            lines.append(f"{name} {draw.randint(least, most)}")
+    if version == 2 and draw.random() < 0.7:
+        lines.append(f"pool {draw.randint(0, 20)}")
+    return lines
+
+
+def declarations(draw, nodes, packet):
+    """The lines of endpoints, and each endpoint's node and tag."""
+    ends = {}
+    for id in draw.sample(range(40), draw.randint(1, 9)):
+        ends[id] = (draw.randrange(nodes), draw.choice(["none", "all", *(str(draw.randint(1, 5)) for _ in range(6))]))
+    disk = lambda: " disk" if packet and draw.random() < 0.3 else ""
+    return [f"endpoint {id} {node} {tag}{disk()}" for id, (node, tag) in ends.items()], ends
+
+
+def threads(draw, ends):
+    homes = [node for node, _ in ends.values()]
+    of = {}
+    for thread in range(draw.randint(1, 5)):
+        node = draw.choice(homes)
+        if list(of.values()).count(node) < 4:
+            of[thread] = node
+    return of
+
+
+def faults(draw, nodes):
+    plan, pages = {}, set()
+    for _ in range(draw.choice([0, 0, 5, 20, 60])):
+        place = (draw.randrange(nodes), draw.randrange(nodes), draw.randint(1, 40))
+        plan.setdefault(place, draw.choice(["lose", "repeat", f"late {draw.randint(1, 16)}"]))
+    for _ in range(draw.choice([0, 0, 3, 8])):
+        pages.add((draw.randrange(nodes), draw.randint(1, 12)))
+    return ["plan {} {} {} ".format(*place) + fault for place, fault in plan.items()], ["swapfault {} {}".format(*it) for it in sorted(pages)]
+
+
+def call(draw, end, ends, version):
+    """A call on an endpoint."""
+    index, handler, odds = draw.choice([0, 0, 1, 2, 15, 16]), draw.choice([0, 1, 1, 2, 2, 3, 15, 16]), draw.random()
+    if odds < 0.18:
+        to = draw.choice(list(ends))
+        tag = ends[to][1] if draw.random() < 0.8 else str(draw.randint(1, 5))
+        return f"map {end} {index} {to} {tag} {draw.randint(1 if version == 1 else 0, 8)}"
+    if odds < 0.36:
+        return f"handler {end} {handler} " + draw.choice(["note", f"echo {draw.randint(1, 4)}", f"add {draw.randint(1, 4)}"])
+    if odds < 0.70:
+        return f"request {end} {index} {handler} {draw.randint(0, 99)} 1 2 3"
+    if odds < 0.88:
+        return f"poll {end}"
+    if odds < 0.90:
+        return f"tag {end} " + draw.choice(["none", "all", "3"])
+    if odds < 0.92:
+        return f"unmap {end} {index}"
+    if odds < 0.94:
+        return f"giveup {end} {end}.{draw.randint(1, 5)}"
+    return f"close {end}" if odds < 0.95 else f"event {end} notempty"
+
+
+def run_script(seed):
+    draw = random.Random(seed)
+    version = draw.choice([1, 1, 1, 2])
+    head = settings(draw, version, True)
+    nodes = int(head[0].split()[1])
+    lines, ends = declarations(draw, nodes, True)
+    of = threads(draw, ends)
+    members = [id for id, (node, _) in ends.items() if node == list(of.values())[0]]
+    bundle = [f"bundle 0 {draw.choice(['notempty', 'noevents'])} " + " ".join(map(str, members))]
+    plan, pages = faults(draw, nodes)
+    text = [f"am2 {version}", "network packet", *head, *lines, *bundle, *(f"thread {it} {node}" for it, node in of.items()), *plan, *pages]
+    for _ in range(draw.randint(0, 60)):
+        thread = draw.choice(list(of))
+        own = [id for id, (node, _) in ends.items() if node == of[thread]]
+        if of[thread] == list(of.values())[0] and draw.random() < 0.03:
+            text.append(f"t{thread} {draw.choice(['pollb', 'eventb'])} 0")
+        else:
+            text.append(f"t{thread} {call(draw, draw.choice(own), ends, version)}")
+    return "\n".join(text) + "\n"
+
+
+def event(draw, scenario, ends, packet):
+    """An event of the machine, which may happen or not."""
+    end = draw.choice(list(ends))
+    node, peer = draw.randrange(scenario.nodes), draw.randrange(scenario.nodes)
+    odds = draw.random()
+    if not packet:
+        return f"x carry {end}" if odds < 0.4 else "x " + call(draw, end, ends, scenario.version)
+    if odds < 0.35:
+        return "x " + call(draw, end, ends, scenario.version)
+    if odds < 0.55:
+        return f"i{node} receive {peer} {draw.randint(1, 8)}"
+    if odds < 0.70:
+        return f"i{ends[end][0]} bind {end}"
+    if odds < 0.78:
+        return f"i{node} expire {peer} {draw.randrange(scenario.channels)}"
+    home = ends[end][0] if draw.random() < 0.95 else node
+    moves = [f"load {end} {draw.randrange(scenario.frames)}"] * 3 + [f"drain {end}", f"unload {end}", f"pageout {end}", f"pagein {end}"]
+    return f"x want {end}" if odds < 0.80 else f"d{home} {draw.choice(moves)}"
+
+
+def step_script(seed):
+    draw = random.Random(seed)
+    version, packet = draw.choice([1, 1, 2]), draw.random() < 0.7
+    head = settings(draw, version, packet)
+    lines, ends = declarations(draw, int(head[0].split()[1]), packet)
+    pages = faults(draw, int(head[0].split()[1]))[1] if packet else []
+    text = [f"am2 {version}", "network " + ("packet" if packet else "direct"), *head, *lines, *pages]
+    scenario = read("\n".join(text))
+    cluster = Cluster(scenario)
+    for _ in range(draw.randint(0, 250)):
+        line = event(draw, scenario, ends, packet)
+        tried = copy.deepcopy(cluster) if draw.random() > 0.002 else None
+        try:
+            cluster.apply(line.split())
+        except (NotEnabled, LogFull):
+            if tried:
+                cluster = tried
+                continue
+        text.append(line)
+    return "\n".join(text) + "\n"

@@ -1,0 +1,52 @@
+#!/usr/bin/env python3
+"""A second reading of the rules: `reading.py step`, `reading.py run` and `reading.py make N` print what am2 should print, for texts without a fault.
+
+It is written from docs/MANUAL.md and not from the code, and shares nothing with it. It answers with the same statuses: 0, 3 for a step that can't happen, 6.
+"""
+import sys
+
+from drain import Run
+from machine import Cluster, LogFull, NotEnabled
+from made import make
+from scenario import read
+
+
+def step(scenario):
+    cluster = Cluster(scenario)
+    for line, words in scenario.steps:
+        try:
+            cluster.apply(words)
+        except NotEnabled as why:
+            return 3, [f"refused line {line} not-enabled {why}"]
+        except LogFull as part:
+            return 6, [f"log full {part}"]
+    return 0, cluster.report()
+
+
+def run(scenario):
+    made = Run(scenario)
+    try:
+        made.finish()
+    except LogFull as part:
+        return 6, [f"log full {part}", *made.cluster.report()]
+    return 0, made.cluster.report()
+
+
+def made_run(number):
+    scenario = make(int(number))
+    status, lines = run(scenario)
+    if status:
+        return status, lines[:1]
+    return 0, [f"am2 make {number}", f"calls {len(scenario.script)}", lines[1], lines[-1]]
+
+
+def answer(words, text):
+    """The status and the text for these words and this input."""
+    status, lines = made_run(words[1]) if words[0] == "make" else {"step": step, "run": run}[words[0]](read(text))
+    return status, "".join(line + "\n" for line in lines)
+
+
+if __name__ == "__main__":
+    status, printed = answer(sys.argv[1:], "" if sys.argv[1] == "make" else sys.stdin.read())
+    sys.stdout.write(printed)
+    sys.exit(status)
