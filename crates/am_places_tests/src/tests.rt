@@ -2,6 +2,7 @@
 ghost use Rattle.std.specs.Prelude.{◌≡◌, ℕ, ◌+◌, ◌-◌, ◌<◌, ◌≤◌, Contains, IfOk, IfSome, length};
 ghost use mathlib.Core.Option.{some};
 ghost use lib.ListN.{get_elem?};
+ghost use Rattle.am_places.specs.Rule.{HasGathered};
 ghost use Rattle.am_places_tests.specs.Stays.{IsInside, IsWaiting, nine};
 
 use super::*;
@@ -231,6 +232,29 @@ fn five_lines(places: &Places<Notes>, seat: &mut Seat<Notes>, at: usize) -> bool
     done
 }
 
+/// The driver's seat gathers the other four.
+fn gather_four(
+    places: &Places<Notes>,
+    driver: &mut Seat<Notes>,
+    third: Seat<Notes>,
+    second: Seat<Notes>,
+    first: Seat<Notes>,
+    zeroth: Seat<Notes>,
+)
+    requires driver { IsWaiting places.now.board.shared.table_id driver.old.token × (driver.old.token.me.0.mark ≡ 5) × (driver.old.token.me.0.seats ≡ 5) }
+    requires third { IsWaiting places.now.board.shared.table_id third.token × (third.token.me.0.mark ≡ 4) }
+    requires second { IsWaiting places.now.board.shared.table_id second.token × (second.token.me.0.mark ≡ 3) }
+    requires first { IsWaiting places.now.board.shared.table_id first.token × (first.token.me.0.mark ≡ 2) }
+    requires zeroth { IsWaiting places.now.board.shared.table_id zeroth.token × (zeroth.token.me.0.mark ≡ 1) }
+    ensures table { driver.new.token.table_id ≡ places.now.board.shared.table_id }
+    ensures gathered { HasGathered driver.new.token.me.0 }
+{
+    places.gather(driver, third);
+    places.gather(driver, second);
+    places.gather(driver, first);
+    places.gather(driver, zeroth);
+}
+
 #[test]
 fn a_frame_has_one_owner(rt: HostRuntime) -> Result<(), Fail> {
     let (places, mut seats) = four_books(rt.alloc(), 2, 5)?;
@@ -251,5 +275,23 @@ fn a_frame_has_one_owner(rt: HostRuntime) -> Result<(), Fail> {
     unload(&places, &mut driver, 2);
     assert!(rt; load(&places, &mut driver, 0).is_none());
     assert!(rt; load(&places, &mut driver, 2) == Some(EndpointId(4)));
+    let first = last_seat(&places, 5, &mut seats).ok_or("no seat 1")?;
+    let zeroth = last_seat(&places, 5, &mut seats).ok_or("no seat 0")?;
+    gather_four(&places, &mut driver, third, second, first, zeroth);
+    let book = places
+        .take_out(&mut driver, EndpointId(9))
+        .ok_or("no book")?;
+    assert!(rt; book.lines.as_slice() == [1, 2, 3, 4, 5].as_slice());
+    match places.try_enter(&mut driver, EndpointId(9)) {
+        Ok(
+            Entered {
+                book,
+                at: _,
+                frame: _,
+            },
+        ) => assert!(rt; book.lines.is_empty() && false),
+        Err(busy) => assert!(rt; busy.holder == 4),
+    }
+    assert!(rt; places.take_out(&mut driver, EndpointId(9)).is_none());
     Ok(())
 }
