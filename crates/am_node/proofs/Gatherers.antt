@@ -2,8 +2,8 @@
 use Rattle.std.specs.Prelude.{Contains, slice_get, slice_set, slice_index_or, if◌then◌else◌}
 use Rattle.std.specs.List.{filter}
 use Rattle.std.specs.Global.{Vec}
-use Rattle.std.proofs.Common.{◌≡◌, ◌⊎◌, inl, inr, ⊎_elim, ℕ, zero, suc, ◌+◌, ◌<◌, ◌==◌, Bool, true, false, cond, Some, List, [], ◌∷◌, ◌++◌, map, reverse, length, take, drop, get_or, refl, sym, ap, ◌∙◌, subst, arith, eq-eqb, eqb-true, length-append}
-use Rattle.std.proofs.lemmas.List.{append-nil, reverse-append, take_more, map-append}
+use Rattle.std.proofs.Common.{◌≡◌, ◌⊎◌, inl, inr, ⊎_elim, ℕ, zero, suc, ◌+◌, ◌<◌, ◌==◌, Bool, true, false, cond, Some, List, [], ◌∷◌, ◌++◌, map, reverse, length, take, drop, get_or, refl, sym, ap, ◌∙◌, subst, arith, eq-eqb, eqb-true}
+use Rattle.std.proofs.lemmas.List.{append-nil, reverse-append, map-append}
 use Rattle.std.proofs.lemmas.Option.{slice_get_within}
 use Rattle.am_names.specs.declared.NodeId.{NodeId}
 use Rattle.am_model.specs.Layout.{AllAre, EndSetting}

@@ -1,9 +1,6 @@
 -- Parts are taken apart one by one, from the first to the last.
-use Rattle.std.proofs.Common.{◌≡◌, List, [], ◌∷◌, ◌++◌, map, reverse, refl, sym, ap, ◌∙◌, subst, append_assoc}
+use Rattle.std.proofs.Common.{◌≡◌, List, [], ◌∷◌, ◌++◌, map, reverse, sym, ap, ◌∙◌, append_assoc}
 use Rattle.std.proofs.lemmas.List.{append-nil, reverse-append, reverse-reverse}
-use Rattle.am_endpoint.specs.View.{EndpointView}
-use Rattle.am_iface.specs.View.{InterfaceView}
-use Rattle.am_device.specs.Memory.{Store}
 use Rattle.am_node.specs.declared.NodePart.{NodePart}
 use Rattle.am_node.specs.declared.taking.Taken.{Taken}
 use Rattle.am_node.specs.Taken.{IsEmpty, IsTaken, IsTakenFrom, ends_of, iface_of, swap_of, turned}

@@ -1,4 +1,4 @@
-use Rattle.std.proofs.Common.{◌≡◌, ◌<◌, ◌++◌, ◌∷◌, [], List, ℕ, length, reverse, ap, ◌∙◌, sym, subst, arith}
+use Rattle.std.proofs.Common.{◌≡◌, ◌<◌, [], List, length, ap, ◌∙◌, sym, subst, arith}
 use Rattle.std.specs.Prelude.{slice_index_or, slice_set, vec_capacity, vec_len}
 use Rattle.am_names.specs.declared.NodeId.{NodeId}
 use Rattle.am_endpoint.specs.View.{EndpointView}

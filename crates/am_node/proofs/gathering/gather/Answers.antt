@@ -1,8 +1,7 @@
-use Rattle.std.proofs.Common.{◌≡◌, ◌<◌, ◌+◌, ◌++◌, ◌∷◌, [], List, ℕ, get_or, length, length-take, drop, take, ap, ◌∙◌, sym, subst, arith}
+use Rattle.std.proofs.Common.{◌≡◌, ◌+◌, ◌++◌, ◌∷◌, [], List, get_or, length, length-take, drop, take, ap, sym, subst, arith}
 use Rattle.std.proofs.lemmas.List.{length-map}
 use Rattle.std.proofs.lemmas.Grind.{common_steps}
 use Rattle.am_scenario_types.specs.declared.parts.EndLine.{EndLine}
-use Rattle.am_endpoint.specs.View.{EndpointView}
 use Rattle.am_node.specs.Gathered.{AreDeclared, setting_in}
 use Rattle.am_follow.specs.Layout.{setting_of}
 use Rattle.am_node.proofs.Gatherers.{AreGathering, begins, ends_made, goes_on, has_one, line_now, line_next, no_line}

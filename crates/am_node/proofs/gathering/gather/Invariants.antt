@@ -1,4 +1,4 @@
-use Rattle.std.proofs.Common.{◌≡◌, ◌≤◌, length, vec_capacity}
+use Rattle.std.proofs.Common.{◌≤◌, length, vec_capacity}
 use Rattle.am_node.proofs.Gatherers.{AreGathering}
 use Rattle.am_node.proofs.gathering.gather.Given as goal
 

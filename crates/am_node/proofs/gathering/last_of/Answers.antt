@@ -1,4 +1,4 @@
-use Rattle.std.proofs.Common.{◌≡◌, ◌++◌, Option, ap, ◌∙◌, sym}
+use Rattle.std.proofs.Common.{◌++◌, Option, ap, ◌∙◌, sym}
 use Rattle.std.specs.Option.{option_to_list}
 use Rattle.std.specs.Global.{Vec}
 use Rattle.am_endpoint.specs.View.{EndpointView}

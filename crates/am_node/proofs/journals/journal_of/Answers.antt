@@ -1,6 +1,6 @@
-use Rattle.std.proofs.Common.{◌≡◌, ◌++◌, List, ap, ◌∙◌, sym}
+use Rattle.std.proofs.Common.{◌++◌, List, ap, ◌∙◌, sym}
 use Rattle.am_office.specs.declared.Entry.{Entry}
-use Rattle.am_node.specs.Parts.{all_logs, logs_of_part}
+use Rattle.am_node.specs.Parts.{logs_of_part}
 use Rattle.am_node.proofs.Logs.{logs_more}
 use Rattle.am_node.proofs.journals.journal_of.Goals as goal
 

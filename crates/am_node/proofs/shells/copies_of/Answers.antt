@@ -1,4 +1,4 @@
-use Rattle.std.proofs.Common.{◌≡◌, ◌+◌, ◌++◌, ◌∷◌, [], ◌∙◌, ap, sym, subst, arith, length-append}
+use Rattle.std.proofs.Common.{◌≡◌, ◌+◌, ◌∷◌, [], ◌∙◌, sym, subst, arith, length-append}
 use Rattle.std.specs.Global.{Vec}
 use Rattle.am_names.specs.declared.Packet.{Packet}
 use Rattle.am_model.specs.Channels.{emitted}

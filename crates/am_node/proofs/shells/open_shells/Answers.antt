@@ -1,4 +1,4 @@
-use Rattle.std.proofs.Common.{◌≡◌, ◌+◌, ◌++◌, ◌∷◌, [], sym, subst, arith, length-append}
+use Rattle.std.proofs.Common.{◌+◌, ◌∷◌, [], sym, subst, arith, length-append}
 use Rattle.am_node.specs.Shells.{AreShells, IsShell, node_at}
 use Rattle.am_node.specs.declared.shells.Shell.{Shell}
 use Rattle.am_node.proofs.Pushed.{each_more}

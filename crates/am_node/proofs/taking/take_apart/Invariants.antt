@@ -1,4 +1,4 @@
-use Rattle.std.proofs.Common.{◌≡◌, ◌++◌, length, map, reverse}
+use Rattle.std.proofs.Common.{length}
 use Rattle.am_node.specs.Taken.{HasRoomFor}
 use Rattle.am_node.proofs.Takings.{AreBeingTaken}
 use Rattle.am_node.proofs.taking.take_apart.Given as goal
