@@ -1,0 +1,4 @@
+pub mod Making
+pub mod Looking
+pub mod Moving
+pub mod Turning

@@ -1,0 +1,41 @@
+-- A book that a move's entry was added to is a book again, and what a driver found there.
+use Rattle.std.proofs.Common.{◌≡◌, ◌≢◌, ℕ, suc, ◌+◌, ◌<◌, ◌≤◌, max, true, List, [], ◌∷◌, ◌++◌, length, Result, Ok, Err, sym, refl, ap, ◌∙◌, subst, arith}
+use Rattle.am_names.specs.declared.NoMemory.{NoMemory}
+use Rattle.am_office.specs.declared.Event.{Event}
+use Rattle.am_office.specs.declared.Event.TheVariants as Events
+use Rattle.am_office.specs.declared.Outcome.{Outcome}
+use Rattle.am_office.specs.declared.Entry.{Entry}
+use Rattle.am_body.specs.declared.settings.EndSettings.{EndSettings}
+use Rattle.am_books.specs.Books.{IsBook}
+use Rattle.am_device.specs.Memory.{Store}
+use Rattle.am_endpoint.specs.View.{EndpointView, last_stamp, state_after}
+use Rattle.am_moves.specs.Logs.{EndLog, kept}
+use Rattle.am_moves.specs.Moves.{CanMove, Moves}
+use Rattle.am_phase.specs.Lying.{keeps_body, keeps_on_disk}
+use Rattle.am_works.proofs.Books.{grown_book, kept_keeps, same_book}
+
+-- a move keeps the body
+move_kept : (s : Store) (e : EndLog) (event : Event) (o : Outcome) → CanMove s e event → keeps_body event o ≡ true
+move_kept s e (Events.Drain node end) o can = refl
+move_kept s e (Events.Unload node end) o can = refl
+move_kept s e (Events.Load node end frame) o can = refl
+move_kept s e (Events.PageOut node end) o can = refl
+move_kept s e (Events.PageIn node end) o can = refl
+move_kept s e event o can = absurd can
+
+-- what is known of an endpoint that made room is known of it before
+room_can : (s : Store) (e f : EndpointView) (event : Event) → f.settings ≡ e.settings → f.log ≡ e.log → CanMove s (kept e) event → CanMove s (kept f) event
+room_can s e f event set log can = coe 0 1 (i. CanMove s (record { settings = sym set i; log = sym log i }) event) can
+
+later : (clock last stamp : ℕ) → stamp ≡ 1 + max clock last → last < stamp
+later clock last stamp is = omega arith
+
+-- a book after a move, whatever came of it
+pub moved_book : (s t : Store) (b e f : EndpointView) (event : Event) (clock stamp : ℕ) (r : Result Entry NoMemory) → IsBook b → e.settings ≡ b.settings → e.log ≡ b.log → length e.log < e.settings.log → CanMove s (kept b) event → stamp ≡ 1 + max clock (last_stamp e.log)
+    → Moves s t (kept e) (kept f) event stamp r → IsBook f
+moved_book s t b e f event clock stamp (Ok x) book set log room can is m =
+    grown_book e f x (same_book b e book set log) m.settings m.log (λ full. absurd (let n : length e.log ≡ e.settings.log = full in omega (arith, n, room)))
+    (later clock (last_stamp e.log) x.stamp (ap (λ (y : Entry). y.stamp) m.entry ∙ is))
+    (kept_keeps (state_after e) x (ap (λ (y : Entry). keeps_body y.event y.outcome) m.entry ∙ move_kept s (kept b) event _ can))
+moved_book s t b e f event clock stamp (Err fault) book set log room can is m =
+    same_book e f (same_book b e book set log) (ap (λ (d : EndLog). d.settings) m.1) (ap (λ (d : EndLog). d.log) m.1)

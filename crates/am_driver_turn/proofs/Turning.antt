@@ -1,0 +1,133 @@
+-- What a driver's looks and its move come to.
+use Rattle.std.specs.Prelude.{position, slice_get, slice_set}
+use Rattle.std.specs.List.{position_or_len}
+use Rattle.std.proofs.Common.{◌≡◌, ◌⊎◌, ⊎_elim, ℕ, zero, suc, ◌+◌, ◌<◌, ◌≤◌, false, true, List, [], ◌∷◌, length, Option, Some, None, Ok, Err, get_or, refl, sym, ap, ◌∙◌, subst, arith, eqb-true, eq-eqb, true≢false}
+use Rattle.std.proofs.lemmas.Grind.{common_steps}
+use Rattle.std.proofs.lemmas.List.Quantifiers.{position-Some}
+use Rattle.std.proofs.lemmas.Option.{get_or_from_slice_get, slice_get-get_or, slice_get_within}
+use Rattle.std.proofs.lemmas.List.Sums.{fails_before_first}
+use Rattle.am_names.specs.declared.EndpointId.{EndpointId}
+use Rattle.am_names.specs.declared.NodeId.{NodeId}
+use Rattle.am_names.specs.Names.{same_end}
+use Rattle.am_office.specs.declared.Event.{Event}
+use Rattle.am_office.specs.declared.Event.TheVariants as Events
+use Rattle.am_office.specs.declared.Place.TheVariants.{Host}
+use Rattle.am_device.specs.Memory.{Store}
+use Rattle.am_model.proofs.Names.{same_end-is}
+use Rattle.am_local.specs.Driver.{end_moved}
+use Rattle.am_driver.specs.Chosen.{IsOfLine, Suits}
+use Rattle.am_driver.specs.Lists.{ViewLists}
+use Rattle.am_driver.specs.Moves.{next_move}
+use Rattle.am_driver.specs.Shown.{event_of}
+use Rattle.am_driver.specs.declared.EndView.{EndView}
+use Rattle.am_driver.specs.declared.Move.{Move}
+use Rattle.am_driver.specs.declared.Move.TheVariants as Moves
+use Rattle.am_driver.proofs.Chosen.{moves_of_lines}
+use Rattle.am_places.specs.Rule.{joined}
+use Rattle.am_scenario_types.specs.Lists.{ScenarioLists}
+use Rattle.am_works.specs.Drivers.{IsDriverOf}
+use Rattle.am_works.specs.Drives.{CanDrive, LooksTo, line_by}
+use Rattle.am_works.specs.Seats.{EndPass, Ids}
+use Rattle.am_works.specs.Works.{DriverWorks}
+use Rattle.am_works.proofs.Drivers.{can_wait, drivers_go_on, drivers_look, drivers_rest, drivers_wait}
+use Rattle.am_works.proofs.Driving.{looks_keep, moved_id, moves_keep}
+use Rattle.am_driver_turn.specs.Turns.{Answer, IsStopped, MoveTurns}
+use Rattle.am_driver_turn.specs.declared.turns.DriverFault.TheVariants as Faults
+use Rattle.am_driver_turn.specs.declared.turns.DriverTurn.TheVariants as Turns
+
+-- ---- looks
+
+pub looks_can : (n frames : ℕ) (node : NodeId) (view view' : ViewLists) (swap : Store) (v w : EndPass) → CanDrive frames node view swap v → LooksTo n view view' v w → CanDrive frames node view' swap w
+looks_can zero frames node view view' swap v w c l = coe 0 1 (i. CanDrive frames node (sym l.0 i) swap (sym l.1 i)) c
+looks_can (suc n) frames node view view' swap v w c l = looks_keep frames node n l.0 view' swap l.1 w (looks_can n frames node view l.0 swap v l.1 c l.2) l.3
+
+pub looks_works : (n : ℕ) (s : ScenarioLists) (ids : Ids) (node : NodeId) (turns clock : ℕ) (view view' : ViewLists) (swap : Store) (v w : EndPass) → DriverWorks s ids node turns clock view swap v → LooksTo n view view' v w → DriverWorks s ids node turns clock view' swap w
+looks_works zero s ids node turns clock view view' swap v w h l = coe 0 1 (i. DriverWorks s ids node turns clock (sym l.0 i) swap (sym l.1 i)) h
+looks_works (suc n) s ids node turns clock view view' swap v w h l = drivers_look s ids node turns n clock l.0 view' swap l.1 w (looks_works n s ids node turns clock view l.0 swap v l.1 h l.2) l.3
+
+lines_long : (xs : List EndView) (k : ℕ) (x : EndView) → length (slice_set xs k x) ≡ length xs
+lines_long [] k x = refl
+lines_long (y ∷ ys) zero x = refl
+lines_long (y ∷ ys) (suc k) x = ap suc (lines_long ys k x)
+
+pub looks_long : (n : ℕ) (view view' : ViewLists) (v w : EndPass) → LooksTo n view view' v w → length view.ends ≡ length view'.ends
+looks_long zero view view' v w l = ap (λ (z : ViewLists). length z.ends) (sym l.0)
+looks_long (suc n) view view' v w l =
+    looks_long n view l.0 v l.1 l.2 ∙ sym (ap (λ (z : ViewLists). length z.ends) l.3.shown ∙ lines_long l.0.ends n (line_by l.3.set (joined l.3.log)))
+
+pub stopped_can : (holder frames : ℕ) (node : NodeId) (view view' : ViewLists) (swap : Store) (v w : EndPass) → CanDrive frames node view swap v → IsStopped holder view view' v w → CanDrive frames node view' swap w
+stopped_can holder frames node view view' swap v w c l = can_wait frames node l.k holder view' swap l.between w (looks_can l.looked frames node view view' swap v l.between c l.looks) l.busy
+
+pub stopped_works : (holder : ℕ) (s : ScenarioLists) (ids : Ids) (node : NodeId) (turns clock : ℕ) (view view' : ViewLists) (swap : Store) (v w : EndPass) → DriverWorks s ids node turns clock view swap v → IsStopped holder view view' v w → DriverWorks s ids node (turns + 1) clock view' swap w
+stopped_works holder s ids node turns clock view view' swap v w h l =
+    drivers_rest s ids node turns clock view' swap w
+    (drivers_wait s ids node turns l.k holder clock view' swap l.between w (looks_works l.looked s ids node turns clock view view' swap v l.between h l.looks) l.busy)
+
+-- ---- the move
+
+same_now : (s : ScenarioLists) (ids : Ids) (node : NodeId) (turns clock now : ℕ) (view : ViewLists) (swap swap' : Store) (w : EndPass) → now ≡ clock → swap' ≡ swap → DriverWorks s ids node turns clock view swap w → DriverWorks s ids node (turns + 1) now view swap' w
+same_now s ids node turns clock now view swap swap' w later same h = drivers_rest s ids node turns now view swap' w (coe 0 1 (i. DriverWorks s ids node turns (sym later i) view (sym same i) w) h)
+
+pub moved_can : (frames : ℕ) (node : NodeId) (k clock now : ℕ) (shown view' : ViewLists) (swap swap' : Store) (u w : EndPass) (r : Answer) → CanDrive frames node shown swap u → MoveTurns node k clock now shown view' swap swap' u w r → CanDrive frames node view' swap' w
+moved_can frames node k clock now shown view' swap swap' u w (Ok (Turns.Did x)) c m = moves_keep frames node k clock shown view' swap swap' u w x c m.0
+moved_can frames node k clock now shown view' swap swap' u w (Ok (Turns.Busy holder)) c m = coe 0 1 (i. CanDrive frames node (sym m.1 i) (sym m.2.1 i) w) (can_wait frames node k holder shown swap u w c m.0)
+moved_can frames node k clock now shown view' swap swap' u w (Ok (Turns.Stale e)) c m = subst (λ (t : Store). CanDrive frames node view' t w) (sym m.1.1) (looks_keep frames node k shown view' swap u w c m.0.look)
+moved_can frames node k clock now shown view' swap swap' u w (Ok (Turns.Spent e)) c m = subst (λ (t : Store). CanDrive frames node view' t w) (sym m.1.1) (looks_keep frames node k shown view' swap u w c m.0.look)
+moved_can frames node k clock now shown view' swap swap' u w (Ok Turns.Nothing) c m = absurd m
+moved_can frames node k clock now shown view' swap swap' u w (Err (Faults.LogFull e)) c m = subst (λ (t : Store). CanDrive frames node view' t w) (sym m.1.1) (looks_keep frames node k shown view' swap u w c m.0.look)
+moved_can frames node k clock now shown view' swap swap' u w (Err Faults.NoMemory) c m = subst (λ (t : Store). CanDrive frames node view' t w) (sym m.2.1) (looks_keep frames node k shown view' swap u w c m.1.look)
+
+pub moved_works : (s : ScenarioLists) (ids : Ids) (node : NodeId) (turns k clock now : ℕ) (shown view' : ViewLists) (swap swap' : Store) (u w : EndPass) (r : Answer) → IsDriverOf s ids node turns → DriverWorks s ids node turns clock shown swap u → MoveTurns node k clock now shown view' swap swap' u w r → DriverWorks s ids node (turns + 1) now view' swap' w
+moved_works s ids node turns k clock now shown view' swap swap' u w (Ok (Turns.Did x)) d h m =
+    subst (λ (n : ℕ). DriverWorks s ids node (turns + 1) n view' swap' w) (sym m.1) (drivers_go_on s ids node turns k clock shown view' swap swap' u w x d h m.0)
+moved_works s ids node turns k clock now shown view' swap swap' u w (Ok (Turns.Busy holder)) d h m =
+    subst (λ (z : ViewLists). DriverWorks s ids node (turns + 1) now z swap' w) (sym m.1) (same_now s ids node turns clock now shown swap swap' w m.2.0 m.2.1 (drivers_wait s ids node turns k holder clock shown swap u w h m.0))
+moved_works s ids node turns k clock now shown view' swap swap' u w (Ok (Turns.Stale e)) d h m = same_now s ids node turns clock now view' swap swap' w m.1.0 m.1.1 (drivers_look s ids node turns k clock shown view' swap u w h m.0.look)
+moved_works s ids node turns k clock now shown view' swap swap' u w (Ok (Turns.Spent e)) d h m = same_now s ids node turns clock now view' swap swap' w m.1.0 m.1.1 (drivers_look s ids node turns k clock shown view' swap u w h m.0.look)
+moved_works s ids node turns k clock now shown view' swap swap' u w (Ok Turns.Nothing) d h m = absurd m
+moved_works s ids node turns k clock now shown view' swap swap' u w (Err (Faults.LogFull e)) d h m = same_now s ids node turns clock now view' swap swap' w m.1.0 m.1.1 (drivers_look s ids node turns k clock shown view' swap u w h m.0.look)
+moved_works s ids node turns k clock now shown view' swap swap' u w (Err Faults.NoMemory) d h m = same_now s ids node turns clock now view' swap swap' w m.2.0 m.2.1 (drivers_look s ids node turns k clock shown view' swap u w h m.1.look)
+
+-- ---- the line of the endpoint that is moved
+
+blank : EndpointId → EndView
+blank e = record { id = e; place = Host; wanted = false; draining = false; closed = false; in_flight = 0 }
+
+pub record IsFoundLine (e : EndpointId) (xs : List EndView) (k : ℕ) : Type 0 where
+  pub low : k < length xs
+  pub line : EndView
+  pub at : slice_get xs k ≡ Some line
+  pub id : line.id ≡ e
+
+pub line_found : (e : EndpointId) (xs : List EndView) (k : ℕ) → position (λ (l : EndView). same_end e l.id) xs ≡ Some k → IsFoundLine e xs k
+line_found e xs k is =
+    let t = position-Some (λ (l : EndView). same_end e l.id) xs k (blank e) is in
+    record { low = t.0; line = get_or xs k (blank e); at = slice_get-get_or xs k (blank e) t.0; id = sym (same_end-is e (get_or xs k (blank e)).id t.1) }
+
+past_all : (e : EndpointId) (xs : List EndView) → position (λ (l : EndView). same_end e l.id) xs ≡ None → length xs ≤ position_or_len (λ (l : EndView). same_end e l.id) xs
+past_all e xs none_is = grind (arith, common_steps)
+
+line_missing : (e : EndpointId) (xs : List EndView) (j : ℕ) (line : EndView) → slice_get xs j ≡ Some line → line.id ≡ e → position (λ (l : EndView). same_end e l.id) xs ≡ None → ⊥
+line_missing e xs j line at id none_is =
+    let past = past_all e xs none_is in let near = slice_get_within xs j line at in
+    let fails : same_end e (get_or xs j (blank e)).id ≡ false = fails_before_first (λ (l : EndView). same_end e l.id) xs j (blank e) (omega arith) in
+    let there : get_or xs j (blank e) ≡ line = get_or_from_slice_get xs j line (blank e) at in
+    true≢false (sym (ap (same_end e) (ap (λ (l : EndView). l.id) there ∙ id) ∙ eq-eqb e.0 e.0 refl) ∙ fails)
+
+suits_id : (view : ViewLists) (node : NodeId) (m : Move) (l : EndView) (event : Event) (d : EndpointId) → Suits view m l → event_of node m ≡ Some event → end_moved event ≡ Some d → l.id ≡ d
+suits_id view node (Moves.Unload e) l event d s is end = s.0 ∙ moved_id e (Events.Unload node e) event d is refl end
+suits_id view node (Moves.PageIn e) l event d s is end = s.0 ∙ moved_id e (Events.PageIn node e) event d is refl end
+suits_id view node (Moves.Load e frame) l event d s is end = s.0 ∙ moved_id e (Events.Load node e frame) event d is refl end
+suits_id view node (Moves.Drain e) l event d s is end = s.0 ∙ moved_id e (Events.Drain node e) event d is refl end
+suits_id view node (Moves.PageOut e) l event d s is end = s.0 ∙ moved_id e (Events.PageOut node e) event d is refl end
+suits_id view node Moves.Nothing l event d s is end = absurd s
+
+-- the endpoint that the rules move has a line
+pub has_line : (view : ViewLists) (node : NodeId) (event : Event) (e : EndpointId) → event_of node (next_move view) ≡ Some event → end_moved event ≡ Some e → position (λ (l : EndView). same_end e l.id) view.ends ≡ None → ⊥
+has_line view node event e is end none_is =
+    ⊎_elim {C = ⊥} (λ (nothing : next_move view ≡ Moves.Nothing). no_event (ap (event_of node) (sym nothing) ∙ is))
+    (λ (o : IsOfLine view (next_move view)). line_missing e view.ends o.place o.line o.at (suits_id view node (next_move view) o.line event e o.suits is end) none_is)
+    (moves_of_lines view)
+  where
+    no_event : None ≡ Some event → ⊥
+    no_event h = cc

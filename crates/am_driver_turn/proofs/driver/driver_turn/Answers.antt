@@ -1,0 +1,63 @@
+use Rattle.std.proofs.Common.{◌≡◌, ◌∙◌, ◌<◌, Some, ap, arith, length, sym}
+use Rattle.am_body.specs.declared.settings.EndSettings.{EndSettings}
+use Rattle.am_driver.specs.declared.EndView.{EndView}
+use Rattle.am_driver.specs.Moves.{next_move}
+use Rattle.am_driver.specs.Shown.{event_of}
+use Rattle.am_local.specs.Driver.{end_moved}
+use Rattle.am_names.specs.declared.EndpointId.{EndpointId}
+use Rattle.am_works.proofs.Drivers.{drivers_rest}
+use Rattle.am_driver_turn.proofs.Turning.{has_line, line_found, looks_can, looks_long, looks_works, moved_can, moved_works, stopped_can, stopped_works}
+use Rattle.am_driver_turn.proofs.driver.driver_turn.Goals as goal
+
+pub returns-in-Err-clause-can : goal.returns-in-Err-clause-can
+returns-in-Err-clause-can c = let l = c.look_at_each.new in let a = c.args in
+    stopped_can c.in-Err.busy.holder a.places.now.frames a.node a.view.now l.view a.swap.now a.seat.now.token.me.0 l.seat.token.me.0 c.requires.can c.in-Err.ensures.busy
+
+pub returns-in-Err-clause-works : goal.returns-in-Err-clause-works
+returns-in-Err-clause-works c s ids n of h = let l = c.look_at_each.new in let a = c.args in
+    stopped_works c.in-Err.busy.holder s ids a.node n a.clock.now a.view.now l.view a.swap.now a.seat.now.token.me.0 l.seat.token.me.0 h c.in-Err.ensures.busy
+
+pub returns-in_default-event_of-clause-can : goal.returns-in_default-event_of-clause-can
+returns-in_default-event_of-clause-can c = let l = c.look_at_each.new in let a = c.args in
+    looks_can (length a.view.now.ends) a.places.now.frames a.node a.view.now l.view a.swap.now a.seat.now.token.me.0 l.seat.token.me.0 c.requires.can c.in_default.ensures.looked
+
+pub returns-in_default-event_of-clause-works : goal.returns-in_default-event_of-clause-works
+returns-in_default-event_of-clause-works c s ids n of h = let l = c.look_at_each.new in let a = c.args in
+    drivers_rest s ids a.node n a.clock.now l.view a.swap.now l.seat.token.me.0
+    (looks_works (length a.view.now.ends) s ids a.node n a.clock.now a.view.now l.view a.swap.now a.seat.now.token.me.0 l.seat.token.me.0 h c.in_default.ensures.looked)
+
+pub unreachable-requires-in_default-line_at : goal.unreachable-requires-in_default-line_at
+unreachable-requires-in_default-line_at c = let l = c.look_at_each.new in let a = c.args in
+    has_line l.view a.node c.in-Some.event c.in-Some-end_moved.end (ap (event_of a.node) (sym c.next_move-chosen.ensures.rules) ∙ sym c.event_of.ensures ∙ c.in-Some.is) (sym c.end_moved.ensures ∙ c.in-Some-end_moved.is) (sym c.line_at.ensures ∙ c.in_default-line_at.is)
+
+pub move_turn-requires-clause-can : goal.move_turn-requires-clause-can
+move_turn-requires-clause-can c = let l = c.look_at_each.new in let a = c.args in
+    looks_can (length a.view.now.ends) a.places.now.frames a.node a.view.now l.view a.swap.now a.seat.now.token.me.0 l.seat.token.me.0 c.requires.can c.in_default.ensures.looked
+
+pub move_turn-requires-clause-count : goal.move_turn-requires-clause-count
+move_turn-requires-clause-count c = let l = c.look_at_each.new in
+    c.requires.count ∙ looks_long (length c.args.view.now.ends) c.args.view.now l.view c.args.seat.now.token.me.0 l.seat.token.me.0 c.in_default.ensures.looked
+
+pub move_turn-requires-clause-at : goal.move_turn-requires-clause-at
+move_turn-requires-clause-at c = let l = c.look_at_each.new in
+    let long : c.args.places.now.count ≡ length l.view.ends = c.requires.count ∙ looks_long (length c.args.view.now.ends) c.args.view.now l.view c.args.seat.now.token.me.0 l.seat.token.me.0 c.in_default.ensures.looked in
+    let found = line_found c.in-Some-end_moved.end l.view.ends c.in-Some-line_at.at (sym c.line_at.ensures ∙ c.in-Some-line_at.is) in
+    let low : c.in-Some-line_at.at < length l.view.ends = found.low in
+    omega (arith, low, long)
+
+pub move_turn-requires-clause-end : goal.move_turn-requires-clause-end
+move_turn-requires-clause-end c set born = let l = c.look_at_each.new in let a = c.args in
+    let can = looks_can (length a.view.now.ends) a.places.now.frames a.node a.view.now l.view a.swap.now a.seat.now.token.me.0 l.seat.token.me.0 c.requires.can c.in_default.ensures.looked in
+    let found = line_found c.in-Some-end_moved.end l.view.ends c.in-Some-line_at.at (sym c.line_at.ensures ∙ c.in-Some-line_at.is) in
+    let knows = can.each c.in-Some-line_at.at set found.line born found.at in
+    sym c.end_moved.ensures ∙ c.in-Some-end_moved.is ∙ ap (λ (e : EndpointId). Some e) (sym found.id ∙ ap (λ (x : EndView). x.id) knows.shows)
+
+pub returns-clause-can : goal.returns-clause-can
+returns-clause-can c = let l = c.look_at_each.new in let a = c.args in let m = c.move_turn.new in
+    moved_can a.places.now.frames a.node c.in-Some-line_at.at a.clock.now m.clock l.view m.view a.swap.now m.swap l.seat.token.me.0 m.seat.token.me.0 c.move_turn.result
+    (looks_can (length a.view.now.ends) a.places.now.frames a.node a.view.now l.view a.swap.now a.seat.now.token.me.0 l.seat.token.me.0 c.requires.can c.in_default.ensures.looked) c.move_turn.ensures.turn
+
+pub returns-clause-works : goal.returns-clause-works
+returns-clause-works c s ids n of h = let l = c.look_at_each.new in let a = c.args in let m = c.move_turn.new in
+    moved_works s ids a.node n c.in-Some-line_at.at a.clock.now m.clock l.view m.view a.swap.now m.swap l.seat.token.me.0 m.seat.token.me.0 c.move_turn.result of
+    (looks_works (length a.view.now.ends) s ids a.node n a.clock.now a.view.now l.view a.swap.now a.seat.now.token.me.0 l.seat.token.me.0 h c.in_default.ensures.looked) c.move_turn.ensures.turn

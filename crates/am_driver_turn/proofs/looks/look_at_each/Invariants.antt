@@ -1,0 +1,8 @@
+use Rattle.std.proofs.Common.{◌≡◌, length}
+use Rattle.am_works.specs.Drives.{LooksTo}
+use Rattle.am_works.specs.Seats.{IsIdle}
+use Rattle.am_driver_turn.proofs.Looking.{IsLooking}
+use Rattle.am_driver_turn.proofs.looks.look_at_each.Given as goal
+
+abbrev pub invariant-loop-at : goal.invariant-loop-at
+invariant-loop-at l = IsLooking l.places.board.shared.table_id l.at l.initial.view l.view l.initial.seat.token l.seat.token

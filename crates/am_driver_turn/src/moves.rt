@@ -1,0 +1,130 @@
+//! What a driver does with an endpoint that it has entered.
+ghost use Rattle.am_driver.specs.Moves as rules;
+ghost use Rattle.am_endpoint.specs.View.{last_stamp};
+ghost use Rattle.am_moves.specs.Logs.{kept};
+ghost use Rattle.am_moves.specs.Moves.{CanMove};
+ghost use Rattle.am_works.specs.Drives as drives;
+ghost use Rattle.am_works.specs.Drives.{line_by, with_line};
+ghost use Rattle.am_driver_turn.specs.Turns.{DecideFound, Follows, MakeFound, added_by};
+ghost use Rattle.std.specs.Prelude.{◌≡◌, ◌↔◌, ◌<◌, ◌≤◌, ◌^◌, ◌++◌, IsTrue, length, max};
+
+use crate::looks::{line_of, show};
+use crate::turns::{DriverFault, DriverTurn};
+use am_books::EndBook;
+use am_driver::{EndView, Move, View, next_move};
+use am_endpoint::{EndFault, Endpoint};
+use am_moves::make_move;
+use am_names::EndpointId;
+use am_office::Event;
+use am_swap::MemorySwap;
+use std::alloc::Global;
+
+/// No stamp of 2^63 or more is followed by another.
+const LAST: u64 = 1 << 63;
+
+/// Whether the clock or the endpoint's last stamp is 2^63 or more.
+fn is_spent(clock: u64, end: &Endpoint) -> bool
+    ensures { IsTrue result ↔ (2 ^ 63 ≤ max clock (last_stamp end.now.log)) }
+{
+    clock.max(end.last_stamp()) >= LAST
+}
+
+/// Makes the move of this event, unless the log is full or a stamp is spent.
+fn make(
+    alloc: Global,
+    swap: &mut MemorySwap,
+    book: &mut EndBook,
+    event: Event,
+    clock: u64,
+) -> Result<DriverTurn, DriverFault>
+    requires can { CanMove swap.old (kept book.old.end) event }
+    ensures settings { book.new.end.settings ≡ book.old.end.settings }
+    ensures added { book.new.end.log ≡ book.old.end.log ++ added_by result }
+    ensures found { MakeFound clock event swap.old swap.new result book.old.end.settings book.old.end.log }
+{
+    match book.end.room() {
+        Ok(()) => {}
+        Err(EndFault::LogFull) => return Err(DriverFault::LogFull(book.end.id())),
+        Err(EndFault::NoMemory) => return Err(DriverFault::NoMemory),
+    }
+    if is_spent(clock, &book.end) {
+        return Ok(DriverTurn::Spent(book.end.id()));
+    }
+    let stamp = 1 + clock.max(book.end.last_stamp());
+    match make_move(alloc, swap, &mut book.end, event, stamp) {
+        Ok(entry) => Ok(DriverTurn::Did(entry)),
+        Err(_) => Err(DriverFault::NoMemory),
+    }
+}
+
+/// The endpoint that was drained last.
+fn last_after(chosen: Move, last: Option<EndpointId>) -> Option<EndpointId>
+    ensures { result ≡ drives.last_after chosen last }
+{
+    match chosen {
+        Move::Drain(end) => Some(end),
+        Move::Unload(_) | Move::Load(..) | Move::PageOut(_) | Move::PageIn(_) | Move::Nothing =>
+            last,
+    }
+}
+
+/// Whether the rules give this move.
+fn is_still(view: &View, chosen: Move) -> bool
+    ensures { IsTrue result ↔ (rules.next_move view.now ≡ chosen) }
+{
+    next_move(view) == chosen
+}
+
+/// Remembers the endpoint that was drained.
+fn remember(view: &mut View, chosen: Move)
+    ensures { view.new ≡ record view.old { last = drives.last_after chosen view.old.last } }
+{
+    view.last = last_after(chosen, view.last);
+}
+
+/// The view after the turn: where it made the move, with the line that the endpoint has now.
+fn follow(
+    view: &mut View,
+    at: usize,
+    line: EndView,
+    chosen: Move,
+    turn: &Result<DriverTurn, DriverFault>,
+)
+    requires { at < length view.old.ends }
+    ensures { Follows at line chosen view.old view.new turn.now }
+{
+    match turn {
+        Ok(DriverTurn::Did(_)) => {
+            show(view, at, line);
+            remember(view, chosen);
+        }
+        _ => {}
+    }
+}
+
+/// Corrects the line of the endpoint at this position, and makes the move if the rules give it still.
+pub(crate) fn decide(
+    alloc: Global,
+    swap: &mut MemorySwap,
+    view: &mut View,
+    at: usize,
+    book: &mut EndBook,
+    chosen: Move,
+    event: Event,
+    clock: u64,
+) -> Result<DriverTurn, DriverFault>
+    requires line { at < length view.old.ends }
+    requires chosen { chosen ≡ rules.next_move view.old }
+    requires can { rules.next_move (with_line at (line_by book.old.end.settings book.old.end.log) view.old) ≡ rules.next_move view.old → CanMove swap.old (kept book.old.end) event }
+    ensures settings { book.new.end.settings ≡ book.old.end.settings }
+    ensures added { book.new.end.log ≡ book.old.end.log ++ added_by result }
+    ensures found { DecideFound at clock event view.old view.new swap.old swap.new result book.old.end.settings book.old.end.log }
+{
+    show(view, at, line_of(&book.end));
+    if !is_still(view, chosen) {
+        return Ok(DriverTurn::Stale(book.end.id()));
+    }
+    let turn = make(alloc, swap, book, event, clock);
+    follow(view, at, line_of(&book.end), chosen, &turn);
+    turn
+}
