@@ -10,4 +10,4 @@ mod Receiving
 mod Placing
 mod Causes
 mod Steps
-mod Session
+pub mod Session

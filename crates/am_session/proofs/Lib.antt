@@ -1,2 +1,6 @@
 mod Taking
 mod Playable
+mod Knowing
+mod Walking
+mod Telling
+mod Fating

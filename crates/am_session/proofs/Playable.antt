@@ -48,6 +48,7 @@ in_range low high words p e = over (comes (ℕ × List (List ℕ)) (ℕ × List 
         let parts : (nat_le low number.0 ≡ true) × (nat_le number.0 high ≡ true) = and_parts (nat_le low number.0) (nat_le number.0 high) t in
         subst (λ (q : ℕ × List (List ℕ)). (low ≤ q.0) × (q.0 ≤ high)) same (leb-true low number.0 parts.0, leb-true number.0 high parts.1)
     by_test number false t e = absurd (cc)
+
     over : Comes (ℕ × List (List ℕ)) (ℕ × List (List ℕ)) (number_at words) (λ (number : ℕ × List (List ℕ)). if nat_le low number.0 && nat_le number.0 high then Ok number else Err OutOfRange) p → (low ≤ p.0) × (p.0 ≤ high)
     over c = by_test c.value (nat_le low c.value.0 && nat_le c.value.0 high) refl c.then'
 

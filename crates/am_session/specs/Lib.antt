@@ -1,3 +1,9 @@
 pub mod Scripts
 pub mod Grammar
 pub mod Answers
+pub mod Plays
+pub mod Lines
+pub mod Tables
+pub mod Report
+pub mod Answer
+pub mod Meaning
