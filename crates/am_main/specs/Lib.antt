@@ -3,4 +3,5 @@ pub mod Commands
 pub mod Meaning
 pub mod Offers
 pub mod Runs
+pub mod Sessions
 pub mod Words

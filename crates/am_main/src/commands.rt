@@ -14,6 +14,8 @@ pub enum Command {
     Run,
     /// `make N`: the summary of the run of the scenario that is generated from this number. Nothing is read.
     Make(u64),
+    /// `session`: the report of the history that follows the lines of a session, which the source gives.
+    Session,
 }
 
 // The number that a word spells as numbers are printed.
@@ -34,6 +36,7 @@ fn of_one_word(word: &str) -> Option<Command>
     match word {
         "step" => Some(Command::Step),
         "run" => Some(Command::Run),
+        "session" => Some(Command::Session),
         _ => None,
     }
 }
@@ -49,7 +52,7 @@ fn of_two_words(word: &str, number: &str) -> Option<Command>
     }
 }
 
-/// What the words ask for, if they have one of the forms: the one word `step`, the one word `run`, or the two words `make N`.
+/// What the words ask for, if they have one of the forms: the one word `step`, `run` or `session`, or the two words `make N`.
 /// N is 0 to 2^64-1, in decimal digits without a sign or a leading zero.
 #[tactic(auto, unfolding(crate::specs::Commands::command_of))]
 pub fn command_of(words: &[String]) -> Option<Command>

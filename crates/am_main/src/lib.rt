@@ -7,6 +7,7 @@ mod laws;
 mod makes;
 mod outputs;
 mod runs;
+mod sessions;
 mod steps;
 mod top;
 mod words;

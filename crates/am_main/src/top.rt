@@ -7,12 +7,14 @@ ghost use Rattle.am_io.specs.Whole.{IsLonger};
 ghost use Rattle.am_main.specs.Commands.{Asks, HasNoForm, NeedsNoText, NeedsText};
 ghost use Rattle.am_main.specs.Offers.{Completes, CompletesMake, FillsLog, Finds, IsAnswered, IsGiven, IsMakeGiven, IsOfMake, IsOfText, IsOffered, Refuses, Reports, ReportsFullLog, ReportsRun, ReportsSteps, TellsFault, TellsFullLog, TellsMadeLog, TellsSummary, usage};
 ghost use Rattle.am_main.specs.Runs.{answer_in};
+ghost use Rattle.am_main.specs.Sessions.{CompletesSession, IsOfSession, IsSessionAnswered, RefusesSession, ReportsSession};
 ghost use Rattle.am_scenario_types.specs.declared.parts.Form.TheVariants as Forms;
 
 use crate::commands::{Command, command_of};
 use crate::makes::make_output;
 use crate::outputs::Output;
 use crate::runs::run_output;
+use crate::sessions::session;
 use crate::steps::step_text;
 use crate::words::{fault_line, fault_status};
 use am_io::{MOST_BYTES, Sink, SinkFault, Source, TakeFault, give_all, take_all};
@@ -20,13 +22,13 @@ use am_scenario::Form;
 use std::alloc::Global;
 use std::thread::Threads;
 
-const USAGE: &[u8] = b"usage: am2 step | am2 run | am2 make N\n";
+const USAGE: &[u8] = b"usage: am2 step | am2 run | am2 make N | am2 session\n";
 
-const READ_FAULT: &[u8] = b"read fault\n";
+pub(crate) const READ_FAULT: &[u8] = b"read fault\n";
 
-const TOO_LONG: &[u8] = b"input too long\n";
+pub(crate) const TOO_LONG: &[u8] = b"input too long\n";
 
-const NO_MEMORY: &[u8] = b"no memory\n";
+pub(crate) const NO_MEMORY: &[u8] = b"no memory\n";
 
 /// How the program ends: the number that the process ends with. docs/MANUAL.md lists them.
 #[derive(Clone, Copy, Debug, PartialEq, Eq)]
@@ -35,7 +37,7 @@ pub struct Status {
 }
 
 // Offers a text. The status is its own, or that of a fault of the sink.
-fn offer<K: Sink>(sink: &mut K, number: u8, text: &[u8]) -> Status
+pub(crate) fn offer<K: Sink>(sink: &mut K, number: u8, text: &[u8]) -> Status
     ensures offered { IsOffered (record { status = number; text = text.now }) result.number (K.held sink.old) (K.held sink.new) }
     ensures cause { number ≢ 5 → result.number ≡ 5 → Rose (K.count sink.old) (K.count sink.new) }
     ensures later { K.count sink.old ≤ K.count sink.new }
@@ -159,7 +161,8 @@ fn make<K: Sink>(alloc: Global, n: u64, sink: &mut K) -> Status
 
 /// The program, over any source that hasn't ended and any sink. Its words are `step`, which reads a step script and prints the report
 /// of the one history that follows its lines; `run`, which reads a scenario with the scripts of threads and prints the report of its
-/// run; or `make N`, which reads nothing and prints the summary of the run of a generated scenario.
+/// run; `make N`, which reads nothing and prints the summary of the run of a generated scenario; or `session`, which reads the events of
+/// two interfaces that restart and prints the report of the one history of its lines.
 ///
 /// The status says how it ended. Each has its cause in a clause, and a text of its own, which is offered to the sink:
 /// 0 the report or the summary, 2 wrong words, 3 a text that spells no scenario or a step that can't happen, 4 a read fault, 5 a write
@@ -178,10 +181,16 @@ pub fn am2<R: Threads + Sync, S: Source, K: Sink>(
     ensures reports_step { Asks (map string_bytes words.now) Command.Step → result.number ≡ 0 → Finds MOST_BYTES (S.left source.old) (ReportsSteps (K.held sink.old) (K.held sink.new)) }
     ensures reports_run { Asks (map string_bytes words.now) Command.Run → result.number ≡ 0 → Finds MOST_BYTES (S.left source.old) (ReportsRun (K.held sink.old) (K.held sink.new)) }
     ensures summarizes { (n : ℕ) → Asks (map string_bytes words.now) (Command.Make n) → result.number ≡ 0 → TellsSummary n (K.held sink.old) (K.held sink.new) }
+    // The headline of `session`: the sink took the report of the one history of the lines, which obeys the laws of a session.
+    ensures reports_session { Asks (map string_bytes words.now) Command.Session → result.number ≡ 0 → Finds MOST_BYTES (S.left source.old) (ReportsSession (K.held sink.old) (K.held sink.new)) }
+    ensures refuses_session { Asks (map string_bytes words.now) Command.Session → result.number ≡ 3 → Finds MOST_BYTES (S.left source.old) (RefusesSession (K.held sink.old) (K.held sink.new)) }
+    ensures given_session { Asks (map string_bytes words.now) Command.Session → IsSessionAnswered MOST_BYTES (S.left source.old) (S.count source.old) (S.count source.new) result.number (K.held sink.old) (K.held sink.new) }
+    ensures complete_session { Asks (map string_bytes words.now) Command.Session → (Rose (S.count source.old) (S.count source.new) → ⊥) → (Rose (K.count sink.old) (K.count sink.new) → ⊥) → CompletesSession MOST_BYTES result.number (S.left source.old) (K.held sink.old) (K.held sink.new) }
+    ensures session_ends { Asks (map string_bytes words.now) Command.Session → IsOfSession result.number }
     // Where the words have no form, the usage line is offered.
     ensures no_form { HasNoForm (map string_bytes words.now) → IsOffered usage result.number (K.held sink.old) (K.held sink.new) }
     ensures usage { result.number ≡ 2 → HasNoForm (map string_bytes words.now) }
-    ensures usage_text { result.number ≡ 2 → Appends (K.held sink.old) (K.held sink.new) (codes "usage: am2 step | am2 run | am2 make N\n") }
+    ensures usage_text { result.number ≡ 2 → Appends (K.held sink.old) (K.held sink.new) (codes "usage: am2 step | am2 run | am2 make N | am2 session\n") }
     // Wrong words and `make` are answered with nothing read; what needs a text read it to its end, where it answers the text.
     ensures unread { NeedsNoText (map string_bytes words.now) → S.left source.new ≡ S.left source.old }
     ensures not_ended { NeedsNoText (map string_bytes words.now) → S.has_ended source.new ≡ false }
@@ -213,6 +222,7 @@ pub fn am2<R: Threads + Sync, S: Source, K: Sink>(
         Some(Command::Step) => script(rt, alloc, Form::Step, source, sink),
         Some(Command::Run) => script(rt, alloc, Form::Run, source, sink),
         Some(Command::Make(n)) => make(alloc, n, sink),
+        Some(Command::Session) => session(alloc, source, sink),
         None => offer(sink, 2, USAGE),
     }
 }
