@@ -3,3 +3,4 @@ mod Playable
 mod Knowing
 mod Walking
 mod Telling
+mod Fating

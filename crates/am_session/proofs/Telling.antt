@@ -1,5 +1,8 @@
 -- What the answers mean.
-use Rattle.std.specs.Prelude.{slice_get, Result, Ok, Err}
+use Rattle.std.specs.Prelude.{slice_get, Result, Ok, Err, IfOk}
+use Rattle.am_names.specs.declared.NoMemory.{NoMemory}
+use Rattle.am_session.specs.declared.output.SessionOutput.{SessionOutput}
+use Rattle.am_session.specs.Grammar.{grammar}
 use Rattle.std.proofs.Common.{◌≡◌, ◌⊎◌, inl, inr, ℕ, zero, suc, ◌+◌, ◌<◌, ◌≤◌, List, [], ◌∷◌, ◌++◌, length, take, map, Option, Some, None, refl, sym, ap, ◌∙◌, subst, arith, append_assoc}
 use Rattle.std.proofs.lemmas.List.{append-nil, length-map, map-append}
 use Rattle.am_restart.specs.declared.events.SessionCondition.{SessionCondition}
@@ -15,7 +18,7 @@ use Rattle.am_session.specs.declared.script.SessionStep.{SessionStep}
 use Rattle.am_session.specs.declared.script.SessionTextFault.{SessionTextFault}
 use Rattle.am_session.specs.declared.stops.Stop.{Stop}
 use Rattle.am_session.specs.Answer.{Answer, answer_of_play, answer_of_played, not_enabled_line, refused_line}
-use Rattle.am_session.specs.Meaning.{PrintsSession, StopsSession, SessionMeans}
+use Rattle.am_session.specs.Meaning.{PrintsSession, StopsSession, SessionMeans, answer_in}
 use Rattle.am_session.specs.Plays.{Played, played, played_by, played_from}
 use Rattle.am_session.specs.Report.{report}
 use Rattle.am_session.specs.Scripts.{Script, events_of}
@@ -140,3 +143,8 @@ pub script_means : (script : Script) (answer : Answer) → answer ≡ answer_of_
 script_means script answer is =
     let made : IsMade script.tries script.steps (played script) = made_from script.tries [] script.steps [] tt refl in
     subst (λ (a : Answer). SessionMeans (Ok script) a) (sym is) (means_by script (played script).entries (played script).stopped made.history made.ends)
+
+-- so with what the code gives to print
+pub output_means : (bytes : List ℕ) (script : Script) (result : Result SessionOutput NoMemory) → grammar bytes ≡ Ok script → IfOk result (λ output. answer_in output ≡ answer_of_played (played script)) → IfOk result (λ output. SessionMeans (grammar bytes) (answer_in output))
+output_means bytes script (Ok output) e is = subst (λ (read : Result Script SessionTextFault). SessionMeans read (answer_in output)) (sym e) (script_means script (answer_in output) is)
+output_means bytes script (Err fault) e is = tt

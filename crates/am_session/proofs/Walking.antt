@@ -1,5 +1,8 @@
 -- What the events of a script make, one after the other.
-use Rattle.std.specs.Prelude.{slice_get, slice_index_or}
+use Rattle.std.specs.Prelude.{slice_index_or, Result, Ok, Err, IfOk}
+use Rattle.am_names.specs.declared.NoMemory.{NoMemory}
+use Rattle.am_restart.specs.declared.events.SessionFault.{SessionFault}
+use Rattle.am_restart.specs.declared.events.SessionFault.TheVariants as Faults
 use Rattle.std.proofs.Common.{◌≡◌, ℕ, zero, suc, ◌+◌, ◌<◌, ◌≤◌, List, [], ◌∷◌, ◌++◌, length, take, drop, map, Option, Some, None, refl, sym, ap, ◌∙◌, subst, arith, length-append}
 use Rattle.am_restart.specs.declared.events.SessionCondition.{SessionCondition}
 use Rattle.am_restart.specs.declared.events.SessionEntry.{SessionEntry}
@@ -7,7 +10,7 @@ use Rattle.am_restart.specs.History.{after, entry_of}
 use Rattle.am_restart.specs.Moves.{failing}
 use Rattle.am_restart.specs.State.{SessionState, opening}
 use Rattle.am_session.specs.declared.script.SessionStep.{SessionStep}
-use Rattle.am_session.specs.Plays.{Played, played, played_by, played_from}
+use Rattle.am_session.specs.Plays.{IsStoppedBy, Played, played, played_by, played_from}
 use Rattle.am_session.specs.Scripts.{Script}
 
 -- the steps from one on
@@ -53,3 +56,20 @@ walks_stop script i s entries d condition w below fails =
 
 pub walks_end : (script : Script) (i : ℕ) (s : SessionState) (entries : List SessionEntry) → Walks script i s entries → length script.steps ≤ i → record { entries = entries; stopped = None } ≡ played script
 walks_end script i s entries w h = sym (ap (λ (l : List SessionStep). played_from s entries l) (drop_none script.steps i h)) ∙ w.rest
+
+stopped_by : (script : Script) (i : ℕ) (s : SessionState) (entries : List SessionEntry) (d : SessionStep) (fault : SessionFault) (made : Played) → Walks script i s entries → i < length script.steps → ((condition : SessionCondition) → fault ≡ Faults.NotEnabled condition → failing s (slice_index_or script.steps i d).event ≡ Some condition) → IsStoppedBy fault (slice_index_or script.steps i d).line entries made → made ≡ played script
+stopped_by script i s entries d (Faults.NotEnabled condition) made w below tells is = is ∙ walks_stop script i s entries d condition w below (tells condition refl)
+stopped_by script i s entries d Faults.NoMemory made w below tells is = absurd is
+
+-- what a stopped loop returns
+pub stopped_play : (script : Script) (i : ℕ) (s : SessionState) (entries : List SessionEntry) (d : SessionStep) (fault : SessionFault) (result : Result Played NoMemory) → Walks script i s entries → i < length script.steps → ((condition : SessionCondition) → fault ≡ Faults.NotEnabled condition → failing s (slice_index_or script.steps i d).event ≡ Some condition) → IfOk result (IsStoppedBy fault (slice_index_or script.steps i d).line entries) → IfOk result (λ made. made ≡ played script)
+stopped_play script i s entries d fault (Ok made) w below tells is = stopped_by script i s entries d fault made w below tells is
+stopped_play script i s entries d fault (Err e) w below tells is = tt
+
+-- so where the loop goes over a list that is the script's
+pub stopped_over : (script : Script) (steps : List SessionStep) → steps ≡ script.steps → (i : ℕ) (s : SessionState) (entries : List SessionEntry) (d : SessionStep) (fault : SessionFault) (result : Result Played NoMemory) → Walks script i s entries → i < length steps → ((condition : SessionCondition) → fault ≡ Faults.NotEnabled condition → failing s (slice_index_or steps i d).event ≡ Some condition) → IfOk result (IsStoppedBy fault (slice_index_or steps i d).line entries) → IfOk result (λ made. made ≡ played script)
+stopped_over script steps e i s entries d fault result w =
+    subst
+    (λ (l : List SessionStep). i < length l → ((condition : SessionCondition) → fault ≡ Faults.NotEnabled condition → failing s (slice_index_or l i d).event ≡ Some condition) → IfOk result (IsStoppedBy fault (slice_index_or l i d).line entries) → IfOk result (λ made. made ≡ played script))
+    (sym e)
+    (λ below tells is. stopped_play script i s entries d fault result w below tells is)

@@ -1,7 +1,7 @@
 -- The line of an entry in a printed session: the interface, what happens there, `->`, and the outcome.
 use Rattle.std.specs.Prelude.{ℕ, List, [], ◌∷◌, ◌++◌, codes, Option, Some, None}
 use Rattle.std.specs.Fmt.{decimal}
-use Rattle.am_text.specs.Words.{Word, line}
+use Rattle.am_text.specs.Words.{Word, spaced}
 use Rattle.am_restart.specs.declared.events.Say.{Say}
 use Rattle.am_restart.specs.declared.events.Say.TheVariants as Says
 use Rattle.am_restart.specs.declared.events.SessionCondition.{SessionCondition}
@@ -60,7 +60,7 @@ outcome (Out.Refused message number) = codes "refused" ∷ decimal message ∷ c
 
 -- the line of an entry
 unfoldable pub line_of : SessionEntry → List ℕ
-line_of x = line (who x.event) (what x.event ++ (codes "->" ∷ outcome x.outcome))
+line_of x = who x.event ++ spaced (what x.event) ++ spaced (codes "->" ∷ []) ++ spaced (outcome x.outcome) ++ codes "\n"
 
 unfoldable pub fate_word : SessionFate → Word
 fate_word Fates.Put = codes "put"

@@ -2,6 +2,8 @@
 use Rattle.std.specs.Prelude.{◌≡◌, ℕ, Option, Some, None, List, [], ◌∷◌, ◌++◌}
 use Rattle.am_restart.specs.declared.events.SessionCondition.{SessionCondition}
 use Rattle.am_restart.specs.declared.events.SessionEntry.{SessionEntry}
+use Rattle.am_restart.specs.declared.events.SessionFault.{SessionFault}
+use Rattle.am_restart.specs.declared.events.SessionFault.TheVariants as Faults
 use Rattle.am_restart.specs.History.{after, entry_of}
 use Rattle.am_restart.specs.Moves.{failing}
 use Rattle.am_restart.specs.State.{SessionState, opening}
@@ -27,3 +29,8 @@ played_from s past (step ∷ steps) =
 -- what the events of a script make
 abbrev pub played : Script → Played
 played script = played_from (opening script.tries) [] script.steps
+
+-- these are the entries so far, where the event of this line can't happen
+abbrev pub IsStoppedBy : SessionFault → ℕ → List SessionEntry → Played → Type 0
+IsStoppedBy (Faults.NotEnabled condition) line entries made = made ≡ record { entries = entries; stopped = Some (record { line = line; condition = condition }) }
+IsStoppedBy Faults.NoMemory line entries made = ⊥

@@ -1,6 +1,6 @@
 //! The events of a script, one after the other.
 
-ghost use Rattle.am_session.specs.Plays.{played};
+ghost use Rattle.am_session.specs.Plays.{IsStoppedBy, played};
 ghost use Rattle.am_session.specs.Scripts.{IsPlayable};
 ghost use Rattle.std.specs.Prelude.{◌≡◌, IfOk};
 
@@ -26,6 +26,19 @@ impl Model for Played {
     ghost view = { λ p. record { entries = p.entries.items; stopped = p.stopped } };
 }
 
+// The entries so far, where the event of this line can't happen.
+fn stopped(entries: Vec<SessionEntry>, line: u32, fault: SessionFault) -> Result<Played, NoMemory>
+    ensures { IfOk result (IsStoppedBy fault line entries.items) }
+{
+    match fault {
+        SessionFault::NotEnabled(condition) => Ok(Played {
+            entries,
+            stopped: Some(Stop { line, condition }),
+        }),
+        SessionFault::NoMemory => Err(NoMemory),
+    }
+}
+
 /// Applies the events of a script in order, up to the first that can't happen (`specs/Plays.antt`). Where there is no memory it
 /// answers `NoMemory`.
 pub fn play(alloc: Global, script: &SessionScript) -> Result<Played, NoMemory>
@@ -37,14 +50,7 @@ pub fn play(alloc: Global, script: &SessionScript) -> Result<Played, NoMemory>
     for step in &script.steps {
         match session.apply(&step.event) {
             Ok(entry) => entries.push(entry)?,
-            Err(SessionFault::NotEnabled(condition)) => {
-                let stopped = Some(Stop {
-                    line: step.line,
-                    condition,
-                });
-                return Ok(Played { entries, stopped });
-            }
-            Err(SessionFault::NoMemory) => return Err(NoMemory),
+            Err(fault) => return stopped(entries, step.line, fault),
         }
     }
     Ok(Played {

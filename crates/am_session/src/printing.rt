@@ -120,6 +120,7 @@ fn put_outcome(out: &mut Vec<u8>, outcome: SessionOutcome) -> Result<(), AllocEr
 }
 
 /// Appends the line of an entry.
+#[tactic(auto, using(std::proofs::Common::append_assoc), unfolding(crate::specs::Lines::line_of))]
 pub(crate) fn put_entry(out: &mut Vec<u8>, entry: SessionEntry) -> Result<(), AllocError>
     ensures { OnOk result (out.new.items ≡ out.old.items ++ text.line_of entry) }
 {
