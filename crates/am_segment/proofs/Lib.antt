@@ -2,3 +2,4 @@ pub mod Spelled
 pub mod Steps
 pub mod Grown
 pub mod Sizes
+pub mod Lawfully

@@ -9,3 +9,4 @@ pub mod Texts
 pub mod Expansion
 pub mod Spelling
 pub mod Printed
+pub mod Lawful

@@ -4,6 +4,7 @@
 
 mod expansion;
 mod hex;
+mod laws;
 mod own;
 mod print;
 mod reading;
@@ -15,6 +16,7 @@ pub use am_pieces::{
     Piece, SegmentLine, Transfer, TransferRan, piece, segment_bytes, transfers_ran,
 };
 pub use expansion::Expanded;
+pub use laws::expansions_are_lawful;
 pub use print::segments_text;
 pub use reading::expand;
 pub use scenario::{SegmentScenario, read_segments};
