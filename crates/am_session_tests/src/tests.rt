@@ -61,10 +61,10 @@ fn offers(alloc: Global, count: u32) -> Result<Vec<u8>, std::alloc::AllocError> 
 
 #[test]
 fn at_most_65536_events(rt: HostRuntime) {
-    let most = offers(rt.alloc(), 65_536).unwrap();
+    let most = offers(rt.alloc(), 65_536).expect(&rt, "ample memory");
     let read = read_session(rt.alloc(), &most);
     assert!(rt; matches!(&read, Ok(script) if script.steps.len() == 65_536));
-    let over = offers(rt.alloc(), 65_537).unwrap();
+    let over = offers(rt.alloc(), 65_537).expect(&rt, "ample memory");
     assert!(rt;
         matches!(read_session(rt.alloc(), &over), Err(ReadFault::Refused(fault)) if fault.line == 65_539 && fault.what == What::TooMany)
     );
@@ -73,13 +73,13 @@ fn at_most_65536_events(rt: HostRuntime) {
 #[test]
 fn a_script_is_played(rt: HostRuntime) {
     let text = b"am2session 1\ntries 2\na offer\na expire\na offer\n".as_slice();
-    let script = read_session(rt.alloc(), text).unwrap();
-    let played = play(rt.alloc(), &script).unwrap();
+    let script = read_session(rt.alloc(), text).expect(&rt, "a session");
+    let played = play(rt.alloc(), &script).expect(&rt, "ample memory");
     assert!(rt; played.entries.len() == 1);
     assert!(rt;
         matches!(played.stopped, Some(stop) if stop.line == 4 && stop.condition == SessionCondition::Idle)
     );
-    let report = session_report(rt.alloc(), &played.entries).unwrap();
+    let report = session_report(rt.alloc(), &played.entries).expect(&rt, "ample memory");
     assert!(rt;
         report.as_slice()
             == b"session report 1\nentries 1\na offer -> ok 1\nmessages 1\nfate 1 pending\n".as_slice()
@@ -124,8 +124,8 @@ fn deliveries(alloc: Global, count: u32) -> Result<Vec<u8>, std::alloc::AllocErr
 
 #[test]
 fn many_messages_are_put(rt: HostRuntime) {
-    let text = deliveries(rt.alloc(), 16_383).unwrap();
-    let output = session_output(rt.alloc(), &text).unwrap();
+    let text = deliveries(rt.alloc(), 16_383).expect(&rt, "ample memory");
+    let output = session_output(rt.alloc(), &text).expect(&rt, "ample memory");
     assert!(rt; output.status == 0);
     let end = b"messages 16384\nfate 1 put\n".as_slice();
     assert!(rt; output.text.windows(end.len()).any(|part| part == end));
