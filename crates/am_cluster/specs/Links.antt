@@ -1,36 +1,34 @@
 -- What a link has released and what it holds back, by the numbers of its packets.
-use Rattle.std.specs.Prelude.{◌≡◌, ℕ, Bool, nat_lt, ◌+◌, ◌*◌, ◌≤◌, ◌<◌, ◌==◌, Option, Some, None, List, [], ◌∷◌, ◌++◌, map, length, slice_get, slice_set, slice_index_or, vec_len, vec_capacity, if◌then◌else◌}
-use Rattle.std.specs.List.{filter, flat_map}
+use Rattle.std.specs.Prelude.{◌≡◌, ℕ, ◌+◌, ◌*◌, ◌≤◌, ◌<◌, Option, Some, List, [], ◌++◌, map, length, slice_get, slice_set, slice_index_or}
 use Rattle.am_names.specs.declared.NodeId.{NodeId}
 use Rattle.am_names.specs.declared.Packet.{Packet}
 use Rattle.am_office.specs.declared.Entry.{Entry}
 use Rattle.am_model.specs.Channels.{emitted}
 use Rattle.am_plan.specs.declared.plan.LinkFault.{LinkFault}
-use Rattle.am_plan.specs.declared.plan.LinkFault.TheVariants.{Lose, Repeat, Late}
 use Rattle.am_plan.specs.declared.plan.PlanLine.{PlanLine}
 use Rattle.am_plan.specs.Shape.{fault_at, number_of, shape}
-use Rattle.am_cluster.specs.declared.links.Delayed.{Delayed}
-use Rattle.am_cluster.specs.declared.links.Link.{Link}
+use Rattle.am_release.specs.declared.stage.Held.{Held}
+use Rattle.am_release.specs.Staged.{Staged}
+use Rattle.am_release.specs.Stages.{freed, held_after, held_then}
 use Rattle.am_cluster.specs.declared.links.LinkTable.{LinkTable}
 
--- the numbers that a link released, and the packets that it will release later
+-- the numbers that a link released, and those that it will release later
 pub record Released : Type 0 where
   pub numbers : List ℕ
-  pub delayed : List Delayed
+  pub held : List (Held ℕ)
 
-abbrev pub released_in : Link → Released
-released_in l = record { numbers = l.released.items; delayed = l.delayed.items }
+abbrev pub released_in : Staged ℕ → Released
+released_in l = record { numbers = l.released; held = l.held }
 
 -- there is room for what one emission releases and holds back
-pub record HasRoom (l : Link) : Type 0 where
-  pub numbers : vec_len l.released + 2 + vec_len l.delayed ≤ vec_capacity l.released
-  pub delayed : vec_len l.delayed < vec_capacity l.delayed
+abbrev pub HasRoom : Staged ℕ → Type 0
+HasRoom l = 1 ≤ l.spare
 
 -- so on the link at a place, and on each link
-abbrev pub HasRoomAt : List Link → ℕ → Type 0
-HasRoomAt links k = (l : Link) → slice_get links k ≡ Some l → HasRoom l
+abbrev pub HasRoomAt : List (Staged ℕ) → ℕ → Type 0
+HasRoomAt links k = (l : Staged ℕ) → slice_get links k ≡ Some l → HasRoom l
 
-abbrev pub HasAllRoom : List Link → Type 0
+abbrev pub HasAllRoom : List (Staged ℕ) → Type 0
 HasAllRoom links = (k : ℕ) → HasRoomAt links k
 
 -- so on each link but the one that took the last packet
@@ -38,51 +36,20 @@ pub record IsSpared (t : LinkTable) : Type 0 where
   pub within : t.last < length t.all.items
   pub others : (k : ℕ) → (k ≡ t.last → ⊥) → HasRoomAt t.all.items k
 
--- what a packet's own emission releases of it
-abbrev pub copies : Option LinkFault → ℕ → List ℕ
-copies None number = number ∷ []
-copies (Some Repeat) number = number ∷ number ∷ []
-copies (Some Lose) number = []
-copies (Some (Late by)) number = []
-
--- what the emission at a place releases of a packet that is late
-abbrev pub falls_due : ℕ → Delayed → List ℕ
-falls_due place d = if d.due == place then d.number ∷ [] else []
-
--- what is held back of the packet at a place
-abbrev pub held_back : Option LinkFault → ℕ → ℕ → List Delayed
-held_back (Some (Late by)) place number = record { due = place + by; number = number } ∷ []
-held_back (Some Lose) place number = []
-held_back (Some Repeat) place number = []
-held_back None place number = []
-
--- whether the emission at a place was too early to release it
-abbrev pub is_later : ℕ → Delayed → Bool
-is_later place d = nat_lt place d.due
-
 -- one emission more, at this place
 abbrev pub fed : ℕ → Option LinkFault → ℕ → Released → Released
-fed place fault number r =
-    record {
-      numbers = (r.numbers ++ copies fault number) ++ flat_map (falls_due place) r.delayed;
-      delayed = filter (is_later place) (r.delayed ++ held_back fault place number);
-    }
-
--- what is held back at first of the packets, where the first of them has this place
-abbrev pub all_held : (ℕ → Option LinkFault) → ℕ → List Packet → List Delayed
-all_held fault place [] = []
-all_held fault place (p ∷ ps) = held_back (fault place) place (number_of p) ++ all_held fault (place + 1) ps
+fed place fault number r = record { numbers = r.numbers ++ freed place fault number r.held; held = held_then place fault number r.held }
 
 -- what the emissions on a link released, and what they hold back that was not released
 abbrev pub released_of : List PlanLine → NodeId → NodeId → List Packet → Released
-released_of plan from to sent = record { numbers = map number_of (shape plan from to sent); delayed = filter (is_later (length sent)) (all_held (fault_at plan from to) 1 sent) }
+released_of plan from to sent = record { numbers = map number_of (shape plan from to sent); held = held_after (fault_at plan from to) (map number_of sent) }
 
 abbrev pub node_at : ℕ → NodeId
 node_at n = record { 0 = n }
 
 -- a link that released nothing
 abbrev pub nothing : Released
-nothing = record { numbers = []; delayed = [] }
+nothing = record { numbers = []; held = [] }
 
 -- one emission more on the link at a place among them
 abbrev pub fed_at : ℕ → ℕ → Option LinkFault → ℕ → List Released → List Released

@@ -11,12 +11,13 @@ ghost use Rattle.am_scenario_types.specs.Lawful.{IsLawful};
 ghost use Rattle.am_scripts.specs.Links.{due};
 ghost use Rattle.std.specs.Prelude.{◌≡◌, ◌≤◌, ◌<◌, IfOk, IfSome, OnOk, Some, length, map};
 
-use crate::links::{Link, LinkTable, due_at, feed_at, link_place, make_all_room, no_links};
+use crate::links::{LinkTable, due_at, feed_at, link_place, make_all_room, no_links};
 use crate::plan_index::PlanIndex;
 use am_iface::emitted_of;
 use am_machine::Cluster;
 use am_names::{NodeId, Packet};
 use am_office::{Entry, NoMemory};
+use am_release::Stage;
 use am_scenario_types::Scenario;
 use std::alloc::Global;
 
@@ -24,7 +25,7 @@ use std::alloc::Global;
 pub(crate) fn due_on(
     cluster: &Cluster,
     scenario: &Scenario,
-    links: &[Link],
+    links: &[Stage<u32>],
     node: NodeId,
     peer: NodeId,
 ) -> Option<u32>

@@ -7,17 +7,17 @@ ghost use Rattle.std.specs.Prelude.{◌≡◌, ◌<◌, List, [], ◌∷◌, IfO
 use crate::links::link_place;
 use am_names::NodeId;
 use am_office::NoMemory;
+use am_release::LinkFaults;
 use am_scenario_types::{LinkFault, PlanLine};
 use std::alloc::Global;
-use std::collections::BTreeMap;
 use std::marker::Model;
 
 /// The lines of a plan. Contracts see the lines.
 #[derive(Drop)]
 pub(crate) struct PlanIndex<'a> {
     lines: &'a [PlanLine],
-    /// For each link, sixteen to a node, what the plan says of its packets, by their places.
-    faults: Vec<BTreeMap<u32, LinkFault>>,
+    /// For each link, sixteen to a node, what the plan says of its packets.
+    faults: Vec<LinkFaults>,
 }
 
 impl<'a> Model for PlanIndex<'a> {
@@ -33,31 +33,28 @@ impl<'a> Model for PlanIndex<'a> {
     ghost invariant = { IsIndexed };
 }
 
-/// The maps of links of which nothing is said.
-fn no_faults(alloc: Global) -> Result<Vec<BTreeMap<u32, LinkFault>>, NoMemory>
-    ensures { IfOk result (λ maps. HasFaults [] maps.items) }
+/// What is said of the links by no line.
+fn no_faults(alloc: Global) -> Result<Vec<LinkFaults>, NoMemory>
+    ensures { IfOk result (λ links. HasFaults [] links.items) }
 {
-    let mut maps = Vec::new(alloc);
+    let mut links = Vec::new(alloc);
     for i in 0..256u16 {
-        if maps.push(BTreeMap::new(alloc)).is_err() {
+        if links.push(LinkFaults::new(alloc)).is_err() {
             return Err(NoMemory);
         }
     }
-    Ok(maps)
+    Ok(links)
 }
 
-/// One line more, before those of which the maps tell.
-fn add_line(maps: &mut Vec<BTreeMap<u32, LinkFault>>, line: PlanLine) -> Result<(), NoMemory>
+/// One line more, before those that said what is said of the links.
+fn add_line(links: &mut Vec<LinkFaults>, line: PlanLine) -> Result<(), NoMemory>
     requires from { line.from.0 < 16 }
     requires to { line.to.0 < 16 }
-    requires all { length maps.old.items ≡ 256 }
-    ensures { (lines : List PlanLine) → HasFaults lines maps.old.items → OnOk result (HasFaults (line ∷ lines) maps.new.items) }
+    requires all { length links.old.items ≡ 256 }
+    ensures { (lines : List PlanLine) → HasFaults lines links.old.items → OnOk result (HasFaults (line ∷ lines) links.new.items) }
 {
-    let map = &mut maps[link_place(line.from, line.to)];
-    match map.insert(line.number, line.fault) {
-        Ok(_) => Ok(()),
-        Err(_) => Err(NoMemory),
-    }
+    let link = &mut links[link_place(line.from, line.to)];
+    link.say(u64::from(line.number), line.fault)
 }
 
 impl<'a> PlanIndex<'a> {
@@ -80,6 +77,7 @@ impl<'a> PlanIndex<'a> {
         requires to { to.0 < 16 }
         ensures { result ≡ fault_at self.now from to place }
     {
-        self.faults[link_place(from, to)].get(&place).copied()
+        let link = &self.faults[link_place(from, to)];
+        link.fault(u64::from(place))
     }
 }

@@ -13,7 +13,7 @@ use Rattle.am_release.specs.declared.stage.Held.{Held}
 use Rattle.am_release.specs.Laws.{HoldsOn, NumbersLeave, PacketsLeave}
 use Rattle.am_release.specs.Stages.{all_held, copies, falls_due, freed, held_after, held_back, is_later}
 
-map_append : {X Y : Type 0} (f : X → Y) (xs ys : List X) → map f (xs ++ ys) ≡ map f xs ++ map f ys
+pub map_append : {X Y : Type 0} (f : X → Y) (xs ys : List X) → map f (xs ++ ys) ≡ map f xs ++ map f ys
 map_append f [] ys = refl
 map_append f (x ∷ xs) ys = ap (λ l. f x ∷ l) (map_append f xs ys)
 

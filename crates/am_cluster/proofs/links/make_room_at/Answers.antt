@@ -1,4 +1,4 @@
-use Rattle.std.proofs.Common.{map, sym, ap, ◌∙◌, arith}
+use Rattle.std.proofs.Common.{◌≡◌, map, sym, ap, ◌∙◌, arith}
 use Rattle.am_journal.proofs.Lists.{index_map, map_length, map_set, set_same}
 use Rattle.am_cluster.specs.Links.{released_in}
 use Rattle.am_cluster.proofs.Rooms.{got_elsewhere, on_ok, room_written}
@@ -7,16 +7,17 @@ use Rattle.am_cluster.proofs.links.make_room_at.Goals as goal
 pub returns-clause-same : goal.returns-clause-same
 returns-clause-same c =
     let vs = c.args.links.now.items in
-    let was = c.index_mut.result.now in
+    let was = c.index_mut-link.result.now in
     let all = map_length released_in vs in
-    map_set released_in vs c.args.index c.make_room.new.link
-    ∙ set_same (map released_in vs) c.args.index (released_in c.make_room.new.link) (released_in was)
-    (c.make_room.ensures.same ∙ ap released_in c.index_mut.ensures.value ∙ sym (index_map released_in vs c.args.index was (released_in was) c.requires))
+    let same : released_in c.room.new.self ≡ released_in was = λ i. record { numbers = c.room.ensures.released i; held = c.room.ensures.held i } in
+    map_set released_in vs c.args.index c.room.new.self
+    ∙ set_same (map released_in vs) c.args.index (released_in c.room.new.self) (released_in was)
+    (same ∙ ap released_in c.index_mut-link.ensures.value ∙ sym (index_map released_in vs c.args.index was (released_in was) c.requires))
     (omega (arith, all, c.requires))
 
 pub returns-clause-room : goal.returns-clause-room
 returns-clause-room c =
-    on_ok c.make_room.result c.make_room.ensures.room (room_written c.args.links.now.items c.args.index c.make_room.new.link)
+    on_ok c.room.result c.room.ensures.spare (room_written c.args.links.now.items c.args.index c.room.new.self)
 
 pub returns-clause-others : goal.returns-clause-others
-returns-clause-others c = λ k apart. got_elsewhere c.args.links.now.items c.args.index k c.make_room.new.link apart
+returns-clause-others c = λ k apart. got_elsewhere c.args.links.now.items c.args.index k c.room.new.self apart

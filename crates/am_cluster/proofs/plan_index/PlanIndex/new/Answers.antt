@@ -7,6 +7,6 @@ loop-done-preserved c =
     let lines = c.args.lines.now in
     record {
       has =
-          one_before lines c.add_line.new.maps.items c.loop-done.done _ c.loop-done-test.true
+          one_before lines c.add_line.new.links.items c.loop-done.done _ c.loop-done-test.true
           (c.in_ok-add_line.ensures (drop (length lines - c.loop-done.done) lines) c.loop-done.invariant.has);
     }
