@@ -3,9 +3,10 @@ use Rattle.std.specs.Prelude.{Result, Ok, Err}
 use Rattle.std.specs.Io.KnownBytes.{Appends}
 use Rattle.std.proofs.Common.{◌≡◌, ◌≢◌, ◌⊎◌, inl, inr, ℕ, List, Option, refl, sym, ◌∙◌, ap, subst, arith}
 use Rattle.am_main.specs.Answer.{Answer}
-use Rattle.am_main.specs.Offers.{IsOffered, IsOr, no_memory}
+use Rattle.am_io.specs.Causes.{Rose}
+use Rattle.am_main.specs.Offers.{IsOffered, IsOr, LacksMemory, no_memory}
 use Rattle.am_main.specs.Sessions.{IsOfSession, IsSessionGiven, RefusesSession, ReportsSession, answer_as}
-use Rattle.am_main.proofs.Refusals.{own_status, own_text}
+use Rattle.am_main.proofs.Refusals.{own_status, own_text, status_of}
 use Rattle.am_session.specs.Answer as Sessions
 use Rattle.am_session.specs.Answer.{refused_line}
 use Rattle.am_session.specs.Grammar.{grammar}
@@ -23,7 +24,7 @@ record Earned (answer : Sessions.Answer) (n : ℕ) (old new : Option (List ℕ))
 
 earned : (answer : Sessions.Answer) (status n : ℕ) (old new : Option (List ℕ)) → IsOffered (answer_as answer) status old new → status ≡ n → n ≢ 5 → n ≢ 8 → Earned answer n old new
 earned answer status n old new offered is write memory =
-    record { status = own_status answer.status status n offered.status' is write memory; text = own_text (answer_as answer) status n old new offered is write memory }
+    record { status = own_status answer.status status n (status_of (answer_as answer) status old new offered) is write memory; text = own_text (answer_as answer) status n old new offered is write memory }
 
 reports_by : (read : Result Script SessionTextFault) (bytes : List ℕ) (answer : Sessions.Answer) (old new : Option (List ℕ)) → grammar bytes ≡ read → SessionMeans read answer → Earned answer 0 old new → ReportsSession old new bytes
 reports_by (Ok script) bytes answer old new is (inl (zero', prints)) e = record { script = script; text = answer.text; spells = is; prints = prints; given = e.text }
@@ -58,4 +59,11 @@ statuses (Ok script) answer (inr (three, stops)) = inr three
 statuses (Err fault) answer same = inr (ap (λ (a : Sessions.Answer). a.status) same)
 
 pub session_ends : (bytes : List ℕ) (answer : Sessions.Answer) (status : ℕ) (old new : Option (List ℕ)) → SessionMeans (grammar bytes) answer → IsOffered (answer_as answer) status old new → IsOfSession status
-session_ends bytes answer status old new means offered = own_or answer.status status (statuses (grammar bytes) answer means) offered.status'
+session_ends bytes answer status old new means offered = own_or answer.status status (statuses (grammar bytes) answer means) (status_of (answer_as answer) status old new offered)
+
+no_shortage : (status : ℕ) → (status ≡ 0) ⊎ (status ≡ 3) → status ≢ 8
+no_shortage status (inl zero') = λ (eight : status ≡ 8). absurd (omega (arith, zero', eight))
+no_shortage status (inr three) = λ (eight : status ≡ 8). absurd (omega (arith, three, eight))
+
+pub session_lacks : (bytes : List ℕ) (answer : Sessions.Answer) (status : ℕ) (old new : Option (List ℕ)) (before now : ℕ) → SessionMeans (grammar bytes) answer → (answer.status ≢ 8 → status ≡ 8 → Rose before now) → status ≡ 8 → LacksMemory old new before now
+session_lacks bytes answer status old new before now means short eight = inr (short (no_shortage answer.status (statuses (grammar bytes) answer means)) eight)
