@@ -1,5 +1,5 @@
 #!/usr/bin/env bash
-# Each example against its stored report: those named run-* by the command run, those named session* by session, the others by step. bin/am2 builds the program where it
+# Each example against its stored report: those named run-* by the command run, those named segments* by segments, those named session* by session, the others by step. bin/am2 builds the program where it
 # isn't built; without one this fails.
 set -u
 failed=0
@@ -7,6 +7,7 @@ compared=0
 for example in examples/*.am2; do
     case $example in
         examples/run-*) command=run ;;
+        examples/segments*) command=segments ;;
         examples/session*) command=session ;;
         *) command=step ;;
     esac

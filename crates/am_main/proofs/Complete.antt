@@ -10,16 +10,16 @@ use Rattle.am_main.specs.Offers.{Completes, CompletesMake, Finds, IsAnswered, Is
 use Rattle.am_main.proofs.Refusals.{status_of}
 
 -- the status of a fault of the sink or of want of memory is the latter
-memory_alone : (status : ℕ) → (status ≡ 5 → ⊥) → (status ≡ 5) ⊎ (status ≡ 8) → status ≡ 8
+pub memory_alone : (status : ℕ) → (status ≡ 5 → ⊥) → (status ≡ 5) ⊎ (status ≡ 8) → status ≡ 8
 memory_alone status write (inl five) = absurd (write five)
 memory_alone status write (inr eight) = eight
 
-not_eight : (status : ℕ) (b : Bool) → (status == 8) ≡ b → (status ≡ 8) ⊎ (status ≢ 8)
+pub not_eight : (status : ℕ) (b : Bool) → (status == 8) ≡ b → (status ≡ 8) ⊎ (status ≢ 8)
 not_eight status true is = inl (eqb-true status 8 is)
 not_eight status false is = inr (λ (same : status ≡ 8). let yes' : (status == 8) ≡ true = ap (λ (n : ℕ). n == 8) same in cc)
 
 -- what was offered was given whole, where the sink has no fault and memory lasts
-offered_whole : (answer : Answer) (status : ℕ) (old new : Option (List ℕ)) → (status ≡ 5 → ⊥) → (status ≡ 8 → ⊥) → IsOffered answer status old new → IsWhole answer status old new
+pub offered_whole : (answer : Answer) (status : ℕ) (old new : Option (List ℕ)) → (status ≡ 5 → ⊥) → (status ≡ 8 → ⊥) → IsOffered answer status old new → IsWhole answer status old new
 offered_whole answer status old new write other (inl whole) = whole
 offered_whole answer status old new write other (inr cut) = absurd (other (memory_alone status write cut.status'))
 
@@ -35,7 +35,7 @@ given_whole form status most left old new write f =
     (not_eight status (status == 8) refl)
 
 -- for want of memory the status is 8, where the sink has no fault
-memory_given : (status : ℕ) (old new : Option (List ℕ)) → (status ≡ 5 → ⊥) → IsOffered no_memory status old new → status ≡ 8
+pub memory_given : (status : ℕ) (old new : Option (List ℕ)) → (status ≡ 5 → ⊥) → IsOffered no_memory status old new → status ≡ 8
 memory_given status old new write offered = ⊎_elim (λ (eight : status ≡ 8). eight) (λ (fault : (status ≡ 5) ⊎ (status ≡ 8)). memory_alone status write fault) (status_of no_memory status old new offered)
 
 -- for too many bytes the status is 7, where the sink has no fault, unless memory ran out

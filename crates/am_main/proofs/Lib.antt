@@ -5,3 +5,5 @@ pub mod Refusals
 pub mod RunAnswers
 pub mod SessionAnswers
 pub mod RunMeaning
+pub mod SegmentAnswers
+pub mod SegmentMeaning

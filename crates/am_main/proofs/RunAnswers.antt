@@ -22,12 +22,12 @@ pub record Earned (answer : Answer) (n : ℕ) (old new : Option (List ℕ)) : Ty
   pub status : answer.status ≡ n
   pub text : Appends old new answer.text
 
-earned : (answer : Answer) (status n : ℕ) (old new : Option (List ℕ)) → IsOffered answer status old new → status ≡ n → n ≢ 5 → n ≢ 8 → Earned answer n old new
+pub earned : (answer : Answer) (status n : ℕ) (old new : Option (List ℕ)) → IsOffered answer status old new → status ≡ n → n ≢ 5 → n ≢ 8 → Earned answer n old new
 earned answer status n old new offered is write memory =
     record { status = own_status answer.status status n (status_of answer status old new offered) is write memory; text = own_text answer status n old new offered is write memory }
 
 -- for want of memory the status is another
-out_of_memory : (status n : ℕ) (old new : Option (List ℕ)) → IsOffered no_memory status old new → status ≡ n → n ≢ 5 → n ≢ 8 → ⊥
+pub out_of_memory : (status n : ℕ) (old new : Option (List ℕ)) → IsOffered no_memory status old new → status ≡ n → n ≢ 5 → n ≢ 8 → ⊥
 out_of_memory status n old new offered is write memory = memory (sym (own_status 8 status n (status_of no_memory status old new offered) is write memory))
 
 -- ---- run

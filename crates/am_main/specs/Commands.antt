@@ -20,12 +20,13 @@ unfoldable pub of_one_word : List ℕ → Option Command
 of_one_word word =
     if bytes_eq word (codes "step") then Some Commands.Step else
     if bytes_eq word (codes "run") then Some Commands.Run else
+    if bytes_eq word (codes "segments") then Some Commands.Segments else
     if bytes_eq word (codes "session") then Some Commands.Session else None
 
 unfoldable pub of_two_words : List ℕ → List ℕ → Option Command
 of_two_words word number = if bytes_eq word (codes "make") then option_map Commands.Make (exact_number number) else None
 
--- what the words ask for, if they have one of the forms: `step`, `run`, `make` and a number, or `session`
+-- what the words ask for, if they have one of the forms: `step`, `run`, `make` and a number, `segments`, or `session`
 unfoldable pub command_of : List (List ℕ) → Option Command
 command_of [] = None
 command_of (word ∷ []) = of_one_word word
@@ -45,6 +46,7 @@ reads_text None = false
 reads_text (Some Commands.Step) = true
 reads_text (Some Commands.Run) = true
 reads_text (Some (Commands.Make n)) = false
+reads_text (Some Commands.Segments) = true
 reads_text (Some Commands.Session) = true
 
 abbrev pub NeedsText : List (List ℕ) → Type 0

@@ -5,3 +5,4 @@ pub mod Offers
 pub mod Runs
 pub mod Sessions
 pub mod Words
+pub mod Segments

@@ -14,6 +14,9 @@ pub enum Command {
     Run,
     /// `make N`: the summary of the run of the scenario that is generated from this number. Nothing is read.
     Make(u64),
+    /// `segments`: the report of the run of a scenario with segments, which the source gives, their bytes and what ran of its
+    /// transfers.
+    Segments,
     /// `session`: the report of the history that follows the lines of a session, which the source gives.
     Session,
 }
@@ -36,6 +39,7 @@ fn of_one_word(word: &str) -> Option<Command>
     match word {
         "step" => Some(Command::Step),
         "run" => Some(Command::Run),
+        "segments" => Some(Command::Segments),
         "session" => Some(Command::Session),
         _ => None,
     }
@@ -52,7 +56,8 @@ fn of_two_words(word: &str, number: &str) -> Option<Command>
     }
 }
 
-/// What the words ask for, if they have one of the forms: the one word `step`, `run` or `session`, or the two words `make N`.
+/// What the words ask for, if they have one of the forms: the one word `step`, `run`, `segments` or `session`, or the two words
+/// `make N`.
 /// N is 0 to 2^64-1, in decimal digits without a sign or a leading zero.
 #[tactic(auto, unfolding(crate::specs::Commands::command_of))]
 pub fn command_of(words: &[String]) -> Option<Command>

@@ -7,6 +7,8 @@ mod laws;
 mod makes;
 mod outputs;
 mod runs;
+mod segment_script;
+mod segments;
 mod sessions;
 mod steps;
 mod top;

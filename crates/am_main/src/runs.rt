@@ -34,8 +34,8 @@ pub fn report_of(
     }
 }
 
-// The line that tells a full log, and behind it the report of what was made before.
-fn cut_text(
+/// The line that tells a full log, and behind it the report of what was made before.
+pub fn cut_text(
     alloc: Global,
     scenario: &Scenario,
     part: Part,
@@ -74,8 +74,8 @@ fn scenario_output<R: Threads + Sync>(
     }
 }
 
-// What is printed of a text's first fault.
-fn fault_output(alloc: Global, fault: ScenarioFault) -> Result<Output, AllocError>
+/// What is printed of a text's first fault.
+pub fn fault_output(alloc: Global, fault: ScenarioFault) -> Result<Output, AllocError>
     ensures answers { IfOk result (λ output. answer_in output ≡ record { status = 3; text = refused_line fault }) }
     ensures status { IfOk result (λ output. IsOwn output.status) }
 {

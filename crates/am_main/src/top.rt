@@ -7,6 +7,7 @@ ghost use Rattle.am_io.specs.Whole.{IsLonger, TakesAtMost};
 ghost use Rattle.am_main.specs.Commands.{Asks, HasNoForm, NeedsNoText, NeedsText};
 ghost use Rattle.am_main.specs.Offers.{Completes, CompletesMake, FillsLog, Finds, IsAnswered, IsGiven, IsMakeGiven, IsOfMake, IsOfText, IsOffered, LacksMemory, Refuses, Reports, ReportsFullLog, ReportsRun, ReportsSteps, TellsFault, TellsFullLog, TellsMadeLog, TellsSummary, usage};
 ghost use Rattle.am_main.specs.Runs.{answer_in};
+ghost use Rattle.am_main.specs.Segments.{CompletesSegments, IsSegmentsAnswered, ReportsFullSegments, ReportsSegments, TellsSegmentFault};
 ghost use Rattle.am_main.specs.Sessions.{CompletesSession, IsOfSession, IsSessionAnswered, RefusesSession, ReportsSession};
 ghost use Rattle.am_scenario_types.specs.declared.parts.Form.TheVariants as Forms;
 
@@ -14,6 +15,7 @@ use crate::commands::{Command, command_of};
 use crate::makes::make_output;
 use crate::outputs::Output;
 use crate::runs::run_output;
+use crate::segment_script::segments;
 use crate::sessions::session;
 use crate::steps::step_text;
 use crate::words::{fault_line, fault_status};
@@ -22,7 +24,7 @@ use am_scenario::Form;
 use std::alloc::Global;
 use std::thread::Threads;
 
-const USAGE: &[u8] = b"usage: am2 step | am2 run | am2 make N | am2 session\n";
+const USAGE: &[u8] = b"usage: am2 step | am2 run | am2 make N | am2 segments | am2 session\n";
 
 pub(crate) const READ_FAULT: &[u8] = b"read fault\n";
 
@@ -52,7 +54,7 @@ pub(crate) fn offer<K: Sink>(sink: &mut K, number: u8, text: &[u8]) -> Status
 }
 
 // Offers what a command gives to print.
-fn offer_output<K: Sink>(sink: &mut K, output: &Output) -> Status
+pub(crate) fn offer_output<K: Sink>(sink: &mut K, output: &Output) -> Status
     ensures offered { IsOffered (answer_in output.now) result.number (K.held sink.old) (K.held sink.new) }
     ensures cause { output.now.status ≢ 5 → result.number ≡ 5 → Rose (K.count sink.old) (K.count sink.new) }
     ensures kept { result.number ≢ 5 → K.count sink.new ≡ K.count sink.old }
@@ -172,14 +174,15 @@ fn make<K: Sink>(alloc: Global, n: u64, sink: &mut K) -> Status
 
 /// The program, over any source that hasn't ended and any sink. Its words are `step`, which reads a step script and prints the report
 /// of the one history that follows its lines; `run`, which reads a scenario with the scripts of threads and prints the report of its
-/// run; `make N`, which reads nothing and prints the summary of the run of a generated scenario; or `session`, which reads the events of
-/// two interfaces that restart and prints the report of the one history of its lines.
+/// run; `make N`, which reads nothing and prints the summary of the run of a generated scenario; `segments`, which reads a scenario with
+/// segments and prints also their bytes and what ran of each transfer; or `session`, which reads the events of two interfaces that
+/// restart and prints the report of the one history of its lines.
 ///
 /// The status says how it ended. Each has its cause in a clause, and a text of its own, which is offered to the sink:
 /// 0 the report or the summary, 2 wrong words, 3 a text that spells no scenario or a step that can't happen, 4 a read fault, 5 a write
-/// fault, 6 a full log (behind its line stands for `run` the report of what was made before), 7 too many bytes, and 8 no memory, which
-/// may come at any time. It ends at the first read that fails and at the first write that is refused, and takes at most one byte more
-/// than `MOST_BYTES`.
+/// fault, 6 a full log (behind its line stands for `run` and `segments` the report of what was made before), 7 too many bytes, and 8 no
+/// memory, which may come at any time. It ends at the first read that fails and at the first write that is refused, and takes at most
+/// one byte more than `MOST_BYTES`.
 #[tactic(auto, using(am_io::proofs::Parts::took_none))]
 pub fn am2<R: Threads + Sync, S: Source, K: Sink>(
     rt: &R,
@@ -194,6 +197,8 @@ pub fn am2<R: Threads + Sync, S: Source, K: Sink>(
     ensures reports_step { Asks (map string_bytes words.now) Command.Step → result.number ≡ 0 → Finds MOST_BYTES (S.left source.old) (ReportsSteps (K.held sink.old) (K.held sink.new)) }
     ensures reports_run { Asks (map string_bytes words.now) Command.Run → result.number ≡ 0 → Finds MOST_BYTES (S.left source.old) (ReportsRun (K.held sink.old) (K.held sink.new)) }
     ensures summarizes { (n : ℕ) → Asks (map string_bytes words.now) (Command.Make n) → result.number ≡ 0 → TellsSummary n (K.held sink.old) (K.held sink.new) }
+    // And with segments: the report of the run, behind it the bytes that the runs wrote to each segment, and what ran of each transfer.
+    ensures reports_segments { Asks (map string_bytes words.now) Command.Segments → result.number ≡ 0 → Finds MOST_BYTES (S.left source.old) (ReportsSegments (K.held sink.old) (K.held sink.new)) }
     // The headline of `session`: the sink took the report of the one history of the lines, which obeys the laws of a session.
     ensures reports_session { Asks (map string_bytes words.now) Command.Session → result.number ≡ 0 → Finds MOST_BYTES (S.left source.old) (ReportsSession (K.held sink.old) (K.held sink.new)) }
     ensures refuses_session { Asks (map string_bytes words.now) Command.Session → result.number ≡ 3 → Finds MOST_BYTES (S.left source.old) (RefusesSession (K.held sink.old) (K.held sink.new)) }
@@ -203,7 +208,7 @@ pub fn am2<R: Threads + Sync, S: Source, K: Sink>(
     // Where the words have no form, the usage line is offered.
     ensures no_form { HasNoForm (map string_bytes words.now) → IsOffered usage result.number (K.held sink.old) (K.held sink.new) }
     ensures usage { result.number ≡ 2 → HasNoForm (map string_bytes words.now) }
-    ensures usage_text { result.number ≡ 2 → Appends (K.held sink.old) (K.held sink.new) (codes "usage: am2 step | am2 run | am2 make N | am2 session\n") }
+    ensures usage_text { result.number ≡ 2 → Appends (K.held sink.old) (K.held sink.new) (codes "usage: am2 step | am2 run | am2 make N | am2 segments | am2 session\n") }
     // Wrong words and `make` are answered with nothing read; what needs a text read it to its end, where it answers the text.
     ensures unread { NeedsNoText (map string_bytes words.now) → S.left source.new ≡ S.left source.old }
     ensures not_ended { NeedsNoText (map string_bytes words.now) → S.has_ended source.new ≡ false }
@@ -213,16 +218,20 @@ pub fn am2<R: Threads + Sync, S: Source, K: Sink>(
     // Else a read failed, the bytes are too many, memory ran out, or the answer is offered that the bytes or the number ask for.
     ensures given_step { Asks (map string_bytes words.now) Command.Step → IsAnswered Forms.Step MOST_BYTES (S.left source.old) (S.count source.old) (S.count source.new) result.number (K.held sink.old) (K.held sink.new) }
     ensures given_run { Asks (map string_bytes words.now) Command.Run → IsAnswered Forms.Run MOST_BYTES (S.left source.old) (S.count source.old) (S.count source.new) result.number (K.held sink.old) (K.held sink.new) }
+    ensures given_segments { Asks (map string_bytes words.now) Command.Segments → IsSegmentsAnswered MOST_BYTES (S.left source.old) (S.count source.old) (S.count source.new) result.number (K.held sink.old) (K.held sink.new) }
     ensures given_make { (n : ℕ) → Asks (map string_bytes words.now) (Command.Make n) → IsMakeGiven n result.number (K.held sink.old) (K.held sink.new) }
     // Where no read and no write fails, the answer is given whole, unless the bytes are too many or memory runs out.
     ensures complete_step { Asks (map string_bytes words.now) Command.Step → (Rose (S.count source.old) (S.count source.new) → ⊥) → (Rose (K.count sink.old) (K.count sink.new) → ⊥) → Completes Forms.Step MOST_BYTES result.number (S.left source.old) (K.held sink.old) (K.held sink.new) }
     ensures complete_run { Asks (map string_bytes words.now) Command.Run → (Rose (S.count source.old) (S.count source.new) → ⊥) → (Rose (K.count sink.old) (K.count sink.new) → ⊥) → Completes Forms.Run MOST_BYTES result.number (S.left source.old) (K.held sink.old) (K.held sink.new) }
+    ensures complete_segments { Asks (map string_bytes words.now) Command.Segments → (Rose (S.count source.old) (S.count source.new) → ⊥) → (Rose (K.count sink.old) (K.count sink.new) → ⊥) → CompletesSegments MOST_BYTES result.number (S.left source.old) (K.held sink.old) (K.held sink.new) }
     ensures complete_make { (n : ℕ) → Asks (map string_bytes words.now) (Command.Make n) → (Rose (K.count sink.old) (K.count sink.new) → ⊥) → CompletesMake n result.number (K.held sink.old) (K.held sink.new) }
     // The bytes spell no scenario, or have a step that isn't enabled; a step or the run finds a log full.
     ensures refuses_step { Asks (map string_bytes words.now) Command.Step → result.number ≡ 3 → Finds MOST_BYTES (S.left source.old) (Refuses Forms.Step (K.held sink.old) (K.held sink.new)) }
     ensures refuses_run { Asks (map string_bytes words.now) Command.Run → result.number ≡ 3 → Finds MOST_BYTES (S.left source.old) (TellsFault Forms.Run (K.held sink.old) (K.held sink.new)) }
+    ensures refuses_segments { Asks (map string_bytes words.now) Command.Segments → result.number ≡ 3 → Finds MOST_BYTES (S.left source.old) (TellsSegmentFault (K.held sink.old) (K.held sink.new)) }
     ensures full_step { Asks (map string_bytes words.now) Command.Step → result.number ≡ 6 → Finds MOST_BYTES (S.left source.old) (TellsFullLog (K.held sink.old) (K.held sink.new)) }
     ensures full_run { Asks (map string_bytes words.now) Command.Run → result.number ≡ 6 → Finds MOST_BYTES (S.left source.old) (ReportsFullLog (K.held sink.old) (K.held sink.new)) }
+    ensures full_segments { Asks (map string_bytes words.now) Command.Segments → result.number ≡ 6 → Finds MOST_BYTES (S.left source.old) (ReportsFullSegments (K.held sink.old) (K.held sink.new)) }
     ensures full_make { (n : ℕ) → Asks (map string_bytes words.now) (Command.Make n) → result.number ≡ 6 → TellsMadeLog n (K.held sink.old) (K.held sink.new) }
     // What `make` ends with; statuses 3, 4 and 7 are of commands that read a text.
     ensures make_ends { (n : ℕ) → Asks (map string_bytes words.now) (Command.Make n) → IsOfMake result.number }
@@ -238,6 +247,7 @@ pub fn am2<R: Threads + Sync, S: Source, K: Sink>(
         Some(Command::Step) => script(rt, alloc, Form::Step, source, sink),
         Some(Command::Run) => script(rt, alloc, Form::Run, source, sink),
         Some(Command::Make(n)) => make(alloc, n, sink),
+        Some(Command::Segments) => segments(rt, alloc, source, sink),
         Some(Command::Session) => session(alloc, source, sink),
         None => offer(sink, 2, USAGE),
     }

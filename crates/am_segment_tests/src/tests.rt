@@ -1,0 +1,278 @@
+use crate::tables::{HEAD, OTHER_FAULTS, OWN_FAULTS};
+use am_lexer::What;
+use am_names::{EndpointId, Message, MsgKind, Serial, Tag, Words};
+use am_office::{Actor, Call, Entry, Event, Journal, Outcome};
+use am_scenario::{ReadFault, Scenario};
+use am_segment::{
+    Expanded, SegmentLine, TransferRan, expand, piece, read_segments, segment_bytes, segments_text,
+    transfers_ran,
+};
+use std::alloc::Global;
+use std::fmt::Write;
+use std::test::Fail;
+
+// The first fault of the own lines of a text.
+fn own_fault(alloc: Global, text: &str) -> Option<(u32, What)> {
+    match expand(alloc, text.as_bytes()) {
+        Err(ReadFault::Refused(fault)) => Some((fault.line, fault.what)),
+        _ => None,
+    }
+}
+
+// The first fault of a text.
+fn fault(alloc: Global, text: &str) -> Option<(u32, What)> {
+    match read_segments(alloc, text.as_bytes()) {
+        Err(ReadFault::Refused(fault)) => Some((fault.line, fault.what)),
+        _ => None,
+    }
+}
+
+// The expansion of a text.
+fn expanded(alloc: Global, text: &str) -> Result<Expanded, Fail> {
+    match expand(alloc, text.as_bytes()) {
+        Ok(expanded) => Ok(expanded),
+        Err(_) => Err("not expanded")?,
+    }
+}
+
+#[test]
+fn faults_of_own_lines(rt: HostRuntime) -> Result<(), Fail> {
+    for (lines, line, what) in OWN_FAULTS.iter() {
+        let text = format!(in rt.alloc(); "{HEAD}{lines}")?;
+        assert!(rt;
+            own_fault(rt.alloc(), text.as_str()) == Some((*line, *what)),
+            "{lines}"
+        );
+        assert!(rt;
+            fault(rt.alloc(), text.as_str()) == Some((*line, *what)),
+            "{lines}"
+        );
+    }
+    Ok(())
+}
+
+#[test]
+fn faults_of_other_lines(rt: HostRuntime) -> Result<(), Fail> {
+    for (lines, line, what) in OTHER_FAULTS.iter() {
+        let text = format!(in rt.alloc(); "{HEAD}{lines}")?;
+        assert!(rt; own_fault(rt.alloc(), text.as_str()) == None, "{lines}");
+        assert!(rt;
+            fault(rt.alloc(), text.as_str()) == Some((*line, *what)),
+            "{lines}"
+        );
+    }
+    assert!(rt; fault(rt.alloc(), "# nothing\n") == Some((2, What::Missing)));
+    Ok(())
+}
+
+// Sixteen segments and no more; and 16,384 calls, and no more.
+#[test]
+fn too_many(rt: HostRuntime) -> Result<(), Fail> {
+    let mut text = format!(in rt.alloc(); "am2 1\nnetwork packet\nnodes 1\n")?;
+    for end in 0..17u32 {
+        write!(text, "endpoint {end} 0 5\n")?;
+    }
+    for end in 0..16u32 {
+        write!(text, "segment {end} 1 4\n")?;
+    }
+    assert!(rt; own_fault(rt.alloc(), text.as_str()) == None);
+    write!(text, "segment 16 1 4\n")?;
+    assert!(rt; own_fault(rt.alloc(), text.as_str()) == Some((37, What::TooMany)));
+    let mut text = format!(in rt.alloc(); "{HEAD}")?;
+    for _ in 0..16u32 {
+        write!(text, "t0 serve 1 1024\n")?;
+    }
+    assert!(rt; own_fault(rt.alloc(), text.as_str()) == None);
+    write!(text, "t0 serve 1 1\n")?;
+    assert!(rt; own_fault(rt.alloc(), text.as_str()) == Some((23, What::TooMany)));
+    Ok(())
+}
+
+// The lines of a text, and where they came from.
+#[test]
+fn text_and_origins(rt: HostRuntime) -> Result<(), Fail> {
+    let lines =
+        "segment 1 1 4\nt0 handler 1 1 note\n # more\nt0 map 0 0 1 7 1\nt00 xfer 00 0 1 01 6869\nt7  serve 1 2";
+    let text = format!(in rt.alloc(); "{HEAD}{lines}")?;
+    let expanded = expanded(rt.alloc(), text.as_str())?;
+    let behind =
+        "t0 handler 1 1 note\n # more\nt0 map 0 0 1 7 1\nt0 request 0 0 1 4295098369 7523544652499124224 0 0\nt0 poll 0\nt7 poll 1\nt7 poll 1\n";
+    let wanted = format!(in rt.alloc(); "{HEAD}{behind}")?;
+    assert!(rt; expanded.text.as_slice() == wanted.as_bytes());
+    let origin: [u32; 13] = [1, 2, 3, 4, 5, 6, 8, 9, 10, 11, 11, 12, 12];
+    assert!(rt; expanded.origin.as_slice() == origin.as_slice());
+    let segment = SegmentLine {
+        end: EndpointId(1),
+        handler: 1,
+        size: 4,
+    };
+    assert!(rt; expanded.segments.as_slice() == [segment].as_slice());
+    assert!(rt; expanded.transfers.len() == 1);
+    assert!(rt; expanded.transfers[0].bytes.as_slice() == b"hi".as_slice());
+    Ok(())
+}
+
+// The first word of a piece.
+fn place(transfer: u32, offset: u16, len: u16) -> u64 {
+    u64::from(offset) + 65_536 * u64::from(len) + 0x1_0000_0000 * u64::from(transfer)
+}
+
+// The words of a piece of up to eight bytes.
+fn short(transfer: u32, offset: u16, len: u16, b: u64) -> Words {
+    Words {
+        a: place(transfer, offset, len),
+        b,
+        c: 0,
+        d: 0,
+    }
+}
+
+#[test]
+fn pieces(rt: HostRuntime) -> Result<(), Fail> {
+    let found = piece(short(1, 1, 2, 0x6869_0000_0000_0000)).ok_or("no piece")?;
+    assert!(rt; found.transfer == 1 && found.offset == 1 && found.len == 2);
+    assert!(rt; found.bytes[0] == 0x68 && found.bytes[1] == 0x69 && found.bytes[2] == 0);
+    assert!(rt; piece(short(1, 1, 0, 0)).is_none());
+    assert!(rt; piece(short(1, 1, 25, 0)).is_none());
+    assert!(rt; piece(short(1, 1, 1, 0x6869_0000_0000_0000)).is_none());
+    assert!(rt; piece(short(u32::MAX, u16::MAX, 24, 1)).is_some());
+    Ok(())
+}
+
+// A run of a handler of an endpoint, with these words.
+fn ran(end: u8, handler: u8, kind: MsgKind, words: Words) -> Entry {
+    let (actor, end) = (Actor::Outside, EndpointId(end));
+    let source = EndpointId(0);
+    let message = Message {
+        serial: Serial { source, count: 1 },
+        kind,
+        dest: end,
+        tag: Tag(7),
+        reply_tag: Tag(5),
+        handler,
+        words,
+        about: None,
+    };
+    Entry {
+        stamp: 1,
+        event: Event::Call {
+            actor,
+            end,
+            call: Call::Poll,
+        },
+        outcome: Outcome::Ran {
+            message,
+            handler: Some(handler),
+            sends: None,
+        },
+    }
+}
+
+#[test]
+fn overlapping_pieces(rt: HostRuntime) -> Result<(), Fail> {
+    let alloc = rt.alloc();
+    let entries = vec![in alloc;
+        ran(
+            1,
+            1,
+            MsgKind::Request,
+            short(1, 0, 4, 0x6161_6161_0000_0000)
+        ),
+        ran(1, 1, MsgKind::Reply, short(2, 2, 2, 0x6262_0000_0000_0000)),
+        ran(
+            1,
+            1,
+            MsgKind::Request,
+            short(3, 1, 1, 0x6300_0000_0000_0000)
+        ),
+        ran(
+            1,
+            1,
+            MsgKind::Request,
+            short(4, 5, 2, 0x6464_0000_0000_0000)
+        ),
+        ran(
+            1,
+            2,
+            MsgKind::Request,
+            short(5, 0, 1, 0x6500_0000_0000_0000)
+        ),
+        ran(
+            0,
+            1,
+            MsgKind::Request,
+            short(6, 0, 1, 0x6600_0000_0000_0000)
+        ),
+    ]?;
+    let journal = Journal { entries };
+    let segment = SegmentLine {
+        end: EndpointId(1),
+        handler: 1,
+        size: 6,
+    };
+    let bytes = segment_bytes(alloc, &journal, &segment)
+        .ok()
+        .ok_or("no memory")?;
+    assert!(rt; bytes.as_slice() == b"acbb\0\0".as_slice());
+    Ok(())
+}
+
+// The runs that the requests of a scenario's scripts make, at endpoint 1.
+fn all_run(alloc: Global, scenario: &Scenario) -> Result<Journal, Fail> {
+    let mut entries = Vec::new(alloc);
+    for line in &scenario.script {
+        if let Call::Request { handler, words, .. } = line.call {
+            entries.push(ran(1, handler, MsgKind::Request, words))?;
+        }
+    }
+    Ok(Journal { entries })
+}
+
+// A block of 512 bytes, whole: 22 pieces.
+#[test]
+fn whole_block(rt: HostRuntime) -> Result<(), Fail> {
+    let alloc = rt.alloc();
+    let mut text = format!(in alloc; "{HEAD}segment 1 3 600\nt0 xfer 0 0 1 40 ")?;
+    for _ in 0..256u32 {
+        write!(text, "5aa5")?;
+    }
+    let Ok(read) = read_segments(alloc, text.as_bytes()) else {
+        return Err("not read")?;
+    };
+    let journal = all_run(alloc, &read.scenario)?;
+    assert!(rt; journal.entries.len() == 22);
+    let Ok(rows) = transfers_ran(
+        alloc,
+        &journal,
+        &read.expanded.segments,
+        &read.expanded.transfers,
+    ) else {
+        return Err("no memory")?;
+    };
+    let row = TransferRan {
+        number: 1,
+        ran: 22,
+        pieces: 22,
+    };
+    assert!(rt; rows.as_slice() == [row].as_slice());
+    let Ok(printed) = segments_text(alloc, &read.expanded, &journal) else {
+        return Err("no memory")?;
+    };
+    let mut wanted = format!(in alloc; "segment 1 3 600\n")?;
+    let zeros = "0000000000000000";
+    let block = "5aa55aa55aa55aa5";
+    write!(
+        wanted,
+        "{zeros}{zeros}{zeros}{zeros}\n{zeros}{block}{block}{block}\n"
+    )?;
+    for _ in 0..15u32 {
+        write!(wanted, "{block}{block}{block}{block}\n")?;
+    }
+    write!(
+        wanted,
+        "{block}{zeros}{zeros}{zeros}\n{zeros}{zeros}{zeros}\n"
+    )?;
+    write!(wanted, "transfer 1 ran 22 of 22\n")?;
+    assert!(rt; printed.as_slice() == wanted.as_bytes());
+    Ok(())
+}
