@@ -10,7 +10,8 @@ use Rattle.am_scripts.specs.Links.{node_at}
 use Rattle.am_local.specs.Together.{IsSet}
 use Rattle.am_iface.specs.Settings.{AreLawful}
 use Rattle.am_iface.specs.View.{own}
-use Rattle.am_wire.specs.Links.{IsOf, SameEnd, SameLink, emitted, received, spare}
+use Rattle.am_plan.specs.Shape.{shape}
+use Rattle.am_wire.specs.Links.{SameEnd, SameLink, emitted, received, spare}
 use Rattle.am_wire.specs.declared.receiving.LinkIn.{LinkIn}
 use Rattle.am_wire.specs.declared.sending.LinkOut.{LinkOut}
 use Rattle.am_works.specs.Drivers.{IsDriverOf}
@@ -50,11 +51,16 @@ sent_by outs to = sent_on (slice_get outs to.0)
 abbrev pub taken_by : List LinkIn → NodeId → List Packet
 taken_by ins from = taken_on (slice_get ins from.0)
 
--- the ends of the links from the node to each, with the plan of the scenario: on each there is room for a packet more, but on the
--- one that took the last packet
+-- the end of the link from a node to a node, which releases what the scenario's plan says
+pub record IsWay (s : ScenarioLists) (from to : NodeId) (o : LinkOut) : Type 0 where
+  pub from_is : o.from ≡ from
+  pub to_is : o.to ≡ to
+  pub planned : (sent : List Packet) → shape o.plan.items from to sent ≡ shape s.plan from to sent
+
+-- the ends of the links from the node to each: on each there is room for a packet more, but on the one that took the last packet
 pub record AreOuts (s : ScenarioLists) (node : NodeId) (last : ℕ) (outs : List LinkOut) : Type 0 where
   pub all : length outs ≡ s.nodes
-  pub of : (k : ℕ) (o : LinkOut) → slice_get outs k ≡ Some o → IsOf s.plan node (node_at k) o
+  pub of : (k : ℕ) (o : LinkOut) → slice_get outs k ≡ Some o → IsWay s node (node_at k) o
   pub spared : (k : ℕ) (o : LinkOut) → slice_get outs k ≡ Some o → k ≢ last → 1 ≤ spare o
 
 -- they are the same ends of the same links
