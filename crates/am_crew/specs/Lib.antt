@@ -1,0 +1,4 @@
+pub mod Running
+pub mod Ending
+pub mod Closing
+pub mod Parting

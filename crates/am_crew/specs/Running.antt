@@ -1,0 +1,27 @@
+-- What no turn changes of a worker, and of a node's crew.
+use Rattle.std.specs.Prelude.{◌≡◌, List}
+use Rattle.am_works.specs.Seats.{SameSeat}
+use Rattle.am_workers.specs.AtWork.{SameIns, SameOuts}
+use Rattle.am_workers.specs.declared.workers.ThreadWorker.{ThreadWorker}
+use Rattle.am_workers.specs.declared.workers.InterfaceWorker.{InterfaceWorker}
+use Rattle.am_workers.specs.declared.workers.DriverWorker.{DriverWorker}
+use Rattle.am_crew_opening.specs.declared.crew.NodeCrew.{NodeCrew}
+
+pub record SameThread (v w : ThreadWorker) : Type 0 where
+  pub seat : SameSeat v.seat.token.me.0 w.seat.token.me.0
+  pub thread : w.thread ≡ v.thread
+
+pub record SameInterface (v w : InterfaceWorker) : Type 0 where
+  pub seat : SameSeat v.seat.token.me.0 w.seat.token.me.0
+  pub outs : SameOuts v.outs.items w.outs.items
+  pub ins : SameIns v.ins.items w.ins.items
+
+pub record SameDriver (v w : DriverWorker) : Type 0 where
+  pub seat : SameSeat v.seat.token.me.0 w.seat.token.me.0
+  pub node : w.node ≡ v.node
+
+-- it is the crew of the same node, with the same ends of the same links
+pub record SameCrew (c d : NodeCrew) : Type 0 where
+  pub node : d.node ≡ c.node
+  pub outs : SameOuts c.interface.outs.items d.interface.outs.items
+  pub ins : SameIns c.interface.ins.items d.interface.ins.items

@@ -1,0 +1,202 @@
+//! How the workers of all nodes make their turns at the same time.
+
+ghost use Rattle.am_crew.specs.Running.{SameCrew, SameDriver, SameInterface, SameThread};
+ghost use Rattle.am_crew_opening.specs.Crews.{AreCrews, AreLinked, AreNumbered, IsCrew};
+ghost use Rattle.am_follow.specs.Layout.{layout_of};
+ghost use Rattle.am_local.specs.Together.{ends_of};
+ghost use Rattle.am_scenario_types.specs.Lawful.{IsLawful};
+ghost use Rattle.am_scenario_types.specs.declared.parts.Network.TheVariants as Networks;
+ghost use Rattle.am_workers.specs.AtWork.{IsDriverAtWork, IsInterfaceAtWork, IsThreadAtWork};
+ghost use Rattle.am_workers.specs.declared.workers.ThreadWorker.{ThreadWorker};
+ghost use Rattle.am_crew_opening.specs.declared.crew.NodeCrew.{NodeCrew};
+ghost use Rattle.std.specs.Prelude.{◌≡◌, ◌+◌, ◌<◌, ◌≤◌, ◌^◌, ℕ, Some, length, slice_get};
+ghost use Rattle.std.specs.Thread.{IsSync};
+
+use am_books::EndBook;
+use am_crew_opening::NodeCrew;
+use am_names::NodeId;
+use am_places::Places;
+use am_scenario_types::Scenario;
+use am_workers::{
+    DriverWorker, Gate, InterfaceWorker, Stop, ThreadWorker, work_as_driver, work_as_interface,
+    work_as_thread,
+};
+use std::alloc::Global;
+use std::thread;
+use std::thread::{Threads, join_mut};
+
+/// Each thread of a node makes its turns, all at the same time.
+fn run_threads<R: Threads + Sync, G: Gate + Sync>(
+    rt: &R,
+    scenario: &Scenario,
+    gate: &G,
+    places: &Places<EndBook>,
+    first: u32,
+    threads: &mut [ThreadWorker],
+)
+    requires lawful { IsLawful scenario.now }
+    requires few { length threads.old ≤ 4 }
+    requires first { first ≤ 4096 }
+    requires at_work { (k : ℕ) (w : ThreadWorker) → slice_get threads.old k ≡ Some w → IsThreadAtWork scenario.now places.now.board.shared.table_id places.now.ids.items 0 w }
+    ensures at_work { (k : ℕ) (w : ThreadWorker) → slice_get threads.new k ≡ Some w → IsThreadAtWork scenario.now places.now.board.shared.table_id places.now.ids.items scenario.now.turns w }
+    ensures same { (k : ℕ) (v w : ThreadWorker) → slice_get threads.old k ≡ Some v → slice_get threads.new k ≡ Some w → SameThread v w }
+    ensures all { length threads.new ≡ length threads.old }
+{
+    if threads.is_empty() {
+        return;
+    }
+    let count = threads.len();
+    thread::for_each_mut(rt, threads, count, &|k, worker| {
+        work_as_thread(worker, places, scenario, first + k as u32, gate)
+    });
+}
+
+/// The interface and the driver of a node make their turns at the same time.
+fn run_both<R: Threads + Sync, G: Gate + Sync>(
+    rt: &R,
+    alloc: Global,
+    scenario: &Scenario,
+    gate: &G,
+    places: &Places<EndBook>,
+    node: NodeId,
+    first: u32,
+    interface: &mut InterfaceWorker,
+    driver: &mut DriverWorker,
+)
+    requires lawful { IsLawful scenario.now }
+    requires packet { scenario.now.network ≡ Networks.Packet }
+    requires declared { node.0 < scenario.now.nodes }
+    requires first { first ≤ 8192 }
+    requires ends { places.now.ids.items ≡ ends_of (layout_of scenario.now) node }
+    requires frames { places.now.frames ≡ scenario.now.frames }
+    requires of_node { driver.old.node ≡ node }
+    requires interface { IsInterfaceAtWork scenario.now places.now.board.shared.table_id places.now.ids.items node 0 interface.old }
+    requires driver { IsDriverAtWork scenario.now places.now.board.shared.table_id places.now.ids.items node 0 driver.old }
+    ensures interface { IsInterfaceAtWork scenario.now places.now.board.shared.table_id places.now.ids.items node scenario.now.turns interface.new }
+    ensures driver { IsDriverAtWork scenario.now places.now.board.shared.table_id places.now.ids.items node scenario.now.turns driver.new }
+    ensures same_interface { SameInterface interface.old interface.new }
+    ensures same_driver { SameDriver driver.old driver.new }
+{
+    join_mut(
+        rt,
+        &mut || work_as_interface(interface, places, scenario, node, first, gate),
+        &mut || work_as_driver(alloc, driver, places, scenario, first + 1, gate),
+    );
+}
+
+/// The workers of a node make their turns, all at the same time.
+fn run_workers<R: Threads + Sync, G: Gate + Sync>(
+    rt: &R,
+    alloc: Global,
+    scenario: &Scenario,
+    gate: &G,
+    places: &Places<EndBook>,
+    node: NodeId,
+    first: u32,
+    threads: &mut [ThreadWorker],
+    interface: &mut InterfaceWorker,
+    driver: &mut DriverWorker,
+)
+    requires lawful { IsLawful scenario.now }
+    requires packet { scenario.now.network ≡ Networks.Packet }
+    requires declared { node.0 < scenario.now.nodes }
+    requires few { length threads.old ≤ 4 }
+    requires first { first ≤ 4096 }
+    requires ends { places.now.ids.items ≡ ends_of (layout_of scenario.now) node }
+    requires frames { places.now.frames ≡ scenario.now.frames }
+    requires of_node { driver.old.node ≡ node }
+    requires threads { (k : ℕ) (w : ThreadWorker) → slice_get threads.old k ≡ Some w → IsThreadAtWork scenario.now places.now.board.shared.table_id places.now.ids.items 0 w }
+    requires interface { IsInterfaceAtWork scenario.now places.now.board.shared.table_id places.now.ids.items node 0 interface.old }
+    requires driver { IsDriverAtWork scenario.now places.now.board.shared.table_id places.now.ids.items node 0 driver.old }
+    ensures threads { (k : ℕ) (w : ThreadWorker) → slice_get threads.new k ≡ Some w → IsThreadAtWork scenario.now places.now.board.shared.table_id places.now.ids.items scenario.now.turns w }
+    ensures same_threads { (k : ℕ) (v w : ThreadWorker) → slice_get threads.old k ≡ Some v → slice_get threads.new k ≡ Some w → SameThread v w }
+    ensures all_threads { length threads.new ≡ length threads.old }
+    ensures interface { IsInterfaceAtWork scenario.now places.now.board.shared.table_id places.now.ids.items node scenario.now.turns interface.new }
+    ensures driver { IsDriverAtWork scenario.now places.now.board.shared.table_id places.now.ids.items node scenario.now.turns driver.new }
+    ensures same_interface { SameInterface interface.old interface.new }
+    ensures same_driver { SameDriver driver.old driver.new }
+{
+    let next = first + threads.len() as u32;
+    join_mut(
+        rt,
+        &mut ||
+            requires { IsSync R.row × IsSync G.row × IsLawful scenario.now × (length threads.now ≤ 4) × (first ≤ 4096) × ((k : ℕ) (w : ThreadWorker) → slice_get threads.now k ≡ Some w → IsThreadAtWork scenario.now places.now.board.shared.table_id places.now.ids.items 0 w) }
+            ensures { ((k : ℕ) (w : ThreadWorker) → slice_get threads.exit.now k ≡ Some w → IsThreadAtWork scenario.exit.now places.exit.now.board.shared.table_id places.exit.now.ids.items scenario.exit.now.turns w) × ((k : ℕ) (v w : ThreadWorker) → slice_get threads.entry.now k ≡ Some v → slice_get threads.exit.now k ≡ Some w → SameThread v w) × (length threads.exit.now ≡ length threads.entry.now) }
+        { run_threads(rt, scenario, gate, places, first, threads) },
+        &mut ||
+            requires { IsSync R.row × IsSync G.row × IsLawful scenario.now × (scenario.now.network ≡ Networks.Packet) × (node.0 < scenario.now.nodes) × (next ≤ 8192) × (places.now.ids.items ≡ ends_of (layout_of scenario.now) node) × (places.now.frames ≡ scenario.now.frames) × (driver.now.node ≡ node) × IsInterfaceAtWork scenario.now places.now.board.shared.table_id places.now.ids.items node 0 interface.now × IsDriverAtWork scenario.now places.now.board.shared.table_id places.now.ids.items node 0 driver.now }
+            ensures { IsInterfaceAtWork scenario.exit.now places.exit.now.board.shared.table_id places.exit.now.ids.items node.exit scenario.exit.now.turns interface.exit.now × IsDriverAtWork scenario.exit.now places.exit.now.board.shared.table_id places.exit.now.ids.items node.exit scenario.exit.now.turns driver.exit.now × SameInterface interface.entry.now interface.exit.now × SameDriver driver.entry.now driver.exit.now }
+        { run_both(rt, alloc, scenario, gate, places, node, next, interface, driver) },
+    );
+}
+
+/// The workers of a node's crew make their turns.
+fn run_crew<R: Threads + Sync, G: Gate + Sync>(
+    rt: &R,
+    alloc: Global,
+    scenario: &Scenario,
+    gate: &G,
+    crew: &mut NodeCrew,
+)
+    requires lawful { IsLawful scenario.now }
+    requires packet { scenario.now.network ≡ Networks.Packet }
+    requires declared { crew.old.node.0 < scenario.now.nodes }
+    requires first { crew.old.first ≤ 4096 }
+    requires crew { IsCrew scenario.now crew.old.node 0 crew.old }
+    ensures crew { IsCrew scenario.now crew.old.node scenario.now.turns crew.new }
+    ensures same { SameCrew crew.old crew.new }
+{
+    run_workers(
+        rt,
+        alloc,
+        scenario,
+        gate,
+        &crew.places,
+        crew.node,
+        crew.first,
+        &mut crew.threads,
+        &mut crew.interface,
+        &mut crew.driver,
+    );
+}
+
+/// All workers make their turns, those of all nodes at the same time. One whose thread can't be started makes them in its caller's.
+pub(crate) fn run_crews<R: Threads + Sync, G: Gate + Sync>(
+    rt: &R,
+    alloc: Global,
+    scenario: &Scenario,
+    gate: &G,
+    crews: &mut [NodeCrew],
+)
+    requires lawful { IsLawful scenario.now }
+    requires packet { scenario.now.network ≡ Networks.Packet }
+    requires crews { AreCrews scenario.now 0 crews.old }
+    requires numbered { AreNumbered 0 crews.old }
+    requires linked { AreLinked crews.old }
+    ensures crews { AreCrews scenario.now scenario.now.turns crews.new }
+    ensures linked { AreLinked crews.new }
+{
+    if crews.is_empty() {
+        return;
+    }
+    let count = crews.len();
+    thread::for_each_mut(rt, crews, count, &|_number, crew|
+        requires { IsSync R.row × IsSync G.row × IsLawful scenario.now × (scenario.now.network ≡ Networks.Packet) × (crew.now.node.0 < scenario.now.nodes) × (crew.now.first ≤ 4096) × IsCrew scenario.now crew.now.node 0 crew.now }
+        ensures { IsCrew scenario.entry.now crew.entry.now.node scenario.entry.now.turns crew.exit.now × SameCrew crew.entry.now crew.exit.now }
+    { run_crew(rt, alloc, scenario, gate, crew) });
+}
+
+/// Whether a worker of the node found no memory.
+fn is_starved(crew: &NodeCrew) -> bool {
+    crew.interface.stop == Some(Stop::NoMemory)
+        || crew.driver.stop == Some(Stop::NoMemory)
+        || crew
+            .threads
+            .iter()
+            .any(|worker| worker.stop == Some(Stop::NoMemory))
+}
+
+/// Whether a worker found no memory.
+pub(crate) fn found_no_memory(crews: &[NodeCrew]) -> bool {
+    crews.iter().any(|crew| is_starved(crew))
+}
