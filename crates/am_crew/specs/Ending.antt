@@ -55,8 +55,11 @@ pub record IsEndedOf (c : NodeCrew) (e : Ended) : Type 0 where
   pub outs : e.outs.items ≡ c.interface.outs.items
   pub ins : e.ins.items ≡ c.interface.ins.items
 
+-- each node of these crews is over, and the ends of its links are there beside
 pub record AreEnded (crews : List NodeCrew) (all : AllEnded) : Type 0 where
-  pub nodes : length all.nodes.items ≡ length crews
-  pub outs : map (λ (os : Vec LinkOut). os.items) all.outs.items ≡ map (λ (c : NodeCrew). c.interface.outs.items) crews
-  pub ins : map (λ (is : Vec LinkIn). is.items) all.ins.items ≡ map (λ (c : NodeCrew). c.interface.ins.items) crews
-  pub each : (k : ℕ) (c : NodeCrew) (n : NodeEnded) → slice_get crews k ≡ Some c → slice_get all.nodes.items k ≡ Some n → IsNodeEndedOf c n
+  pub all_nodes : length all.nodes.items ≡ length crews
+  pub all_outs : length all.outs.items ≡ length crews
+  pub all_ins : length all.ins.items ≡ length crews
+  pub node : (k : ℕ) (c : NodeCrew) (n : NodeEnded) → slice_get crews k ≡ Some c → slice_get all.nodes.items k ≡ Some n → IsNodeEndedOf c n
+  pub outs : (k : ℕ) (c : NodeCrew) (os : Vec LinkOut) → slice_get crews k ≡ Some c → slice_get all.outs.items k ≡ Some os → os.items ≡ c.interface.outs.items
+  pub ins : (k : ℕ) (c : NodeCrew) (is : Vec LinkIn) → slice_get crews k ≡ Some c → slice_get all.ins.items k ≡ Some is → is.items ≡ c.interface.ins.items

@@ -1,5 +1,5 @@
 -- The parts of nodes whose phase is over.
-use Rattle.std.specs.Prelude.{◌≡◌, ℕ, Some, List, length, map, slice_get}
+use Rattle.std.specs.Prelude.{◌≡◌, ℕ, ◌≤◌, Some, List, length, map, slice_get}
 use Rattle.std.specs.Global.{Vec}
 use Rattle.am_names.specs.declared.Packet.{Packet}
 use Rattle.am_endpoint.specs.View.{EndpointView}
@@ -23,6 +23,7 @@ pub record IsPartOf (nodes : ℕ) (n : NodeEnded) (records : List LinkRecord) (p
   pub disk : p.swap ≡ n.swap
   pub emitted' : p.emitted.items ≡ map emitted_in records
   pub counts : AreCounts n.interface.log n.node nodes p.received.items
+  pub few : length n.interface.log ≤ n.interface.settings.log
 
 pub record ArePartsOf (nodes : ℕ) (all : List NodeEnded) (records : List (Vec LinkRecord)) (parts : List NodePart) : Type 0 where
   pub all_parts : length parts ≡ length all

@@ -70,11 +70,13 @@ fn counts_of(
     node: NodeId,
     nodes: u8,
 ) -> Result<Vec<u32>, NoMemory>
-    ensures { IfOk result (λ counts. AreCounts interface.now.log node nodes counts.items) }
+    ensures counts { IfOk result (λ counts. AreCounts interface.now.log node nodes counts.items) }
+    ensures few { length interface.now.log ≤ interface.now.settings.log }
 {
+    let log = interface.log();
     let mut counts = Vec::with_capacity(alloc, nodes as usize)?;
     for from in 0..nodes {
-        counts.push(receipts(interface.log(), NodeId(from), node))?;
+        counts.push(receipts(log, NodeId(from), node))?;
     }
     Ok(counts)
 }

@@ -1,0 +1,4 @@
+mod Gathering
+mod Teams
+mod Links
+mod Phase
