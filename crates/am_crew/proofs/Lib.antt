@@ -2,3 +2,4 @@ mod Gathering
 mod Teams
 mod Links
 mod Phase
+mod Ended

@@ -36,8 +36,8 @@ fn emitted_of(alloc: Global, records: Vec<LinkRecord>) -> Result<Vec<Vec<Packet>
     ensures { IfOk result (λ all. all.items ≡ map emitted_in records.items) }
 {
     let mut all = Vec::with_capacity(alloc, records.len())?;
-    for record in records {
-        let LinkRecord { emitted, .. } = record;
+    for link in records {
+        let LinkRecord { emitted, .. } = link;
         all.push(emitted)?;
     }
     Ok(all)
