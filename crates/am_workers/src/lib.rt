@@ -3,7 +3,10 @@
 #![tactic(auto)]
 
 mod gate;
+mod interfaces;
+mod ways;
 mod workers;
 
 pub use crate::gate::{Gate, OpenGate};
+pub use crate::interfaces::work_as_interface;
 pub use crate::workers::{DriverWorker, InterfaceWorker, Stop, ThreadWorker};
