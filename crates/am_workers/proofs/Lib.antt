@@ -1,2 +1,4 @@
-mod Begins
-mod Working
+pub mod Begins
+pub mod Working
+pub mod Linking
+pub mod Turned
