@@ -1,4 +1,4 @@
 pub mod Lists
 pub mod Planned
-pub mod Spreading
+pub mod Spread
 pub mod Weaving

@@ -1,5 +1,5 @@
 use Rattle.std.proofs.Common.{length}
-use Rattle.am_links.proofs.Spreading.{AreSpreading}
+use Rattle.am_links.proofs.Spread.{AreSpreading}
 use Rattle.am_links.proofs.spreading.spread.Given as goal
 
 abbrev pub invariant-loop-end : goal.invariant-loop-end
