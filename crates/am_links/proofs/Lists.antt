@@ -26,10 +26,6 @@ module _ {X : Type 0} where
   got_last [] ys y = refl
   got_last (x ∷ xs) ys y = got_last xs ys y
 
-  pub length_push : (xs : List X) (y : X) → length (xs ++ y ∷ []) ≡ length xs + 1
-  length_push [] y = refl
-  length_push (x ∷ xs) y = ap suc (length_push xs y)
-
   pub set_length : (xs : List X) (k : ℕ) (y : X) → length (slice_set xs k y) ≡ length xs
   set_length [] k y = refl
   set_length (x ∷ xs) zero y = refl

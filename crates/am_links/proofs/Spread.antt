@@ -1,10 +1,11 @@
 -- Ends are put into the lists of their places, from the last to the first.
 use Rattle.std.specs.Prelude.{slice_get, slice_index_or, slice_set}
 use Rattle.std.specs.Global.{Vec}
-use Rattle.std.proofs.Common.{◌≡◌, ◌≢◌, ◌⊎◌, inl, inr, ⊎_elim, ℕ, ◌+◌, ◌<◌, ◌≤◌, Some, List, [], ◌∷◌, ◌++◌, length, refl, sym, ap, ◌∙◌, subst, arith, append-nil, append_assoc}
+use Rattle.std.proofs.Common.{◌≡◌, ◌≢◌, ◌⊎◌, inl, inr, ⊎_elim, ℕ, zero, suc, ◌+◌, ◌<◌, ◌≤◌, Some, List, [], ◌∷◌, ◌++◌, length, refl, sym, ap, ◌∙◌, subst, arith, append-nil, append_assoc}
+use Rattle.std.proofs.lemmas.List.{length_push}
 use Rattle.am_wire.specs.declared.receiving.LinkIn.{LinkIn}
 use Rattle.am_links.specs.Links.{AreSpread}
-use Rattle.am_links.proofs.Lists.{got_last, got_low, got_one, index_got, length_push, set_here, set_length, set_there}
+use Rattle.am_links.proofs.Lists.{got_last, got_low, got_one, index_got, set_here, set_length, set_there}
 
 abbrev pub Columns : Type 0
 Columns = List (Vec LinkIn)
@@ -30,10 +31,10 @@ begins whole old same =
     }
 
 at_or_apart : (k n : ℕ) → n ≤ k → (k ≡ n) ⊎ (n + 1 ≤ k)
-at_or_apart k n h = by_cases (decide k n)
-  where
-    by_cases : (k ≡ n) ⊎ (k ≢ n) → (k ≡ n) ⊎ (n + 1 ≤ k)
-    by_cases c = ⊎_elim (λ (e : k ≡ n). inl e) (λ (d : k ≢ n). inr (omega (arith, h, d))) c
+at_or_apart zero zero h = inl refl
+at_or_apart (suc k) zero h = inr (omega arith)
+at_or_apart zero (suc n) h = absurd (omega (arith, h))
+at_or_apart (suc k) (suc n) h = ⊎_elim (λ (e : k ≡ n). inl (ap suc e)) (λ (more : n + 1 ≤ k). inr (omega (arith, more))) (at_or_apart k n (omega (arith, h)))
 
 pub goes_on : (whole rest : List LinkIn) (x : LinkIn) (old now : Columns) (d u : Vec LinkIn) → AreSpreading whole (rest ++ x ∷ []) old now → u.items ≡ (slice_index_or now (length rest) d).items ++ x ∷ [] → AreSpreading whole rest old (slice_set now (length rest) u)
 goes_on whole rest x old now d u a put =

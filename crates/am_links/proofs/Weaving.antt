@@ -2,13 +2,14 @@
 use Rattle.std.specs.Prelude.{slice_get}
 use Rattle.std.specs.Global.{Vec}
 use Rattle.std.proofs.Common.{◌≡◌, ◌⊎◌, inl, inr, ⊎_elim, ℕ, ◌+◌, ◌<◌, Some, List, [], ◌∷◌, ◌++◌, length, refl, sym, ap, ◌∙◌, subst, arith}
+use Rattle.std.proofs.lemmas.List.{length_push}
 use Rattle.am_names.specs.declared.NodeId.{NodeId}
 use Rattle.am_plan.specs.declared.plan.PlanLine.{PlanLine}
 use Rattle.am_wire.specs.Links.{IsLink, received}
 use Rattle.am_wire.specs.declared.receiving.LinkIn.{LinkIn}
 use Rattle.am_wire.specs.declared.sending.LinkOut.{LinkOut}
 use Rattle.am_links.specs.Links.{AreSpread, AreWoven, IsOpened, IsOutOpened, IsRow, node_at}
-use Rattle.am_links.proofs.Lists.{got_low, got_push, got_some, length_push}
+use Rattle.am_links.proofs.Lists.{got_low, got_push, got_some}
 
 -- ---- a row
 
@@ -36,6 +37,10 @@ row_more plan from n outs ins o i r new =
 
 -- ---- all rows
 
+none_at : (l : List LinkIn) (k : ℕ) (i : LinkIn) → l ≡ [] → slice_get l k ≡ Some i → received i ≡ []
+none_at [] k i e h = absurd (cc)
+none_at (x ∷ l) k i e h = absurd (cc)
+
 pub woven_begins : (plan : List PlanLine) (nodes : ℕ) (ins : List (Vec LinkIn)) → length ins ≡ nodes → ((k : ℕ) (is : Vec LinkIn) → slice_get ins k ≡ Some is → is.items ≡ []) → AreWoven plan nodes 0 [] ins
 woven_begins plan nodes ins all none =
     record {
@@ -44,7 +49,7 @@ woven_begins plan nodes ins all none =
       row = λ from os h. absurd (cc);
       column = λ to is h. ap length (none to is h);
       out = λ from to os o h g. absurd (cc);
-      taken = λ from to is i h g. absurd (let e : slice_get {A = LinkIn} [] from ≡ Some i = subst (λ (l : List LinkIn). slice_get l from ≡ Some i) (none to is h) g in (cc));
+      taken = λ from to is i h g. none_at is.items from i (none to is h) g;
       link = λ from to os is o i h g a b. absurd (cc);
     }
 

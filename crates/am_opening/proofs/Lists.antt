@@ -1,7 +1,7 @@
 -- Elements of lists by their places, and lists that are taken from the front.
 use Rattle.std.specs.Prelude.{slice_get, filter}
 use Rattle.std.proofs.Common.{◌≡◌, ◌⊎◌, inl, inr, ⊎_elim, ℕ, zero, suc, ◌+◌, ◌<◌, Bool, true, false, cond, Some, List, [], ◌∷◌, ◌++◌, length, map, reverse, refl, sym, ap, ◌∙◌, subst, arith, append_assoc}
-use Rattle.std.proofs.lemmas.List.{reverse-append, reverse-reverse}
+use Rattle.std.proofs.lemmas.List.{length_push, reverse-append, reverse-reverse}
 use lib.ListN.{get_elem?}
 use mathlib.Core.Option.{some}
 use Rattle.am_model.specs.Layout.{AllAre}
@@ -78,10 +78,6 @@ module _ {X : Type 0} where
 
   pub taking_begins : (whole : List X) → AreTaking whole (reverse whole) 0
   taking_begins whole = record { taken = []; all = refl; left = reverse-reverse whole }
-
-  length_push : (xs : List X) (y : X) → length (xs ++ y ∷ []) ≡ length xs + 1
-  length_push [] y = refl
-  length_push (x ∷ xs) y = ap suc (length_push xs y)
 
   pub taking_more : (whole rest : List X) (x : X) (count : ℕ) → AreTaking whole (rest ++ x ∷ []) count → AreTaking whole rest (count + 1)
   taking_more whole rest x count t =
