@@ -1,6 +1,6 @@
 -- Elements of lists by their places.
 use Rattle.std.specs.Prelude.{slice_get, slice_index_or, slice_set}
-use Rattle.std.proofs.Common.{◌≡◌, ◌≢◌, ◌⊎◌, inl, inr, ⊎_elim, ℕ, zero, suc, ◌+◌, ◌<◌, Some, List, [], ◌∷◌, ◌++◌, length, refl, sym, ap, ◌∙◌, subst, arith}
+use Rattle.std.proofs.Common.{◌≡◌, ◌≢◌, ◌⊎◌, inl, inr, ⊎_elim, ℕ, zero, suc, ◌<◌, Some, List, [], ◌∷◌, ◌++◌, length, refl, sym, ap, ◌∙◌, arith}
 
 module _ {X : Type 0} where
   pub got_low : (xs : List X) (k : ℕ) (x : X) → slice_get xs k ≡ Some x → k < length xs

@@ -1,6 +1,6 @@
 -- What the plan says of a link it says by the lines that name the link.
-use Rattle.std.specs.Prelude.{◌==◌, ◌&&◌, find, filter}
-use Rattle.std.proofs.Common.{◌≡◌, ℕ, Bool, true, false, cond, List, [], ◌∷◌, ◌++◌, Option, Some, None, refl, sym, ap, ◌∙◌, append-nil}
+use Rattle.std.specs.Prelude.{◌==◌, ◌&&◌, find}
+use Rattle.std.proofs.Common.{◌≡◌, ℕ, Bool, true, false, cond, List, [], ◌∷◌, ◌++◌, Option, Some, refl, ap, ◌∙◌, append-nil}
 use Rattle.std.proofs.lemmas.List.Elements.{filter-append}
 use Rattle.am_names.specs.declared.NodeId.{NodeId}
 use Rattle.am_names.specs.declared.Packet.{Packet}

@@ -29,10 +29,7 @@ fn put(column: &mut Vec<LinkIn>, end: LinkIn) -> Result<(), NoMemory>
 }
 
 /// Puts each end last in the list with its place.
-pub(crate) fn spread(
-    mut ends: Vec<LinkIn>,
-    columns: &mut Vec<Vec<LinkIn>>,
-) -> Result<(), NoMemory>
+pub(crate) fn spread(mut ends: Vec<LinkIn>, columns: &mut Vec<Vec<LinkIn>>) -> Result<(), NoMemory>
     requires { length ends.items ≡ length columns.old.items }
     ensures { OnOk result (AreSpread ends.items columns.old.items columns.new.items) }
 {

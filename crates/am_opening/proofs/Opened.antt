@@ -1,6 +1,7 @@
 -- What a node is opened to, by the cluster's part of the node.
 use Rattle.std.specs.Prelude.{slice_get, filter}
-use Rattle.std.proofs.Common.{◌≡◌, ℕ, ◌+◌, ◌<◌, ◌≤◌, ◌^◌, None, Some, List, [], ◌∷◌, ◌++◌, length, map, refl, sym, ap, ◌∙◌, subst, arith}
+use Rattle.std.proofs.Common.{◌≡◌, ℕ, ◌+◌, ◌<◌, ◌≤◌, ◌^◌, None, Some, List, [], ◌∷◌, ◌++◌, length, map, reverse, refl, sym, ap, ◌∙◌, subst, arith}
+use Rattle.std.proofs.lemmas.List.{length_push}
 use lib.ListN.{get_elem?}
 use mathlib.Core.Option.{some}
 use Rattle.atomic_table.specs.Seated.{TableId}
@@ -35,7 +36,7 @@ use Rattle.am_crew_laws.proofs.Homes.{ends_apart}
 use Rattle.am_opening.specs.Openings.{AreDeclared, AreOpenings, IsFreshDisk, IsFreshSeat, IsOpening, births_of, lines_of, setting_by, thread_ids, threads_of}
 use Rattle.am_opening.specs.declared.opening.Opening.{Opening}
 use Rattle.am_opening.proofs.Fresh.{is_born, is_homely, no_log, part_at, part_books, part_disk, part_few, part_home, part_ids}
-use Rattle.am_opening.proofs.Lists.{AreTaking, all_got, elem_got, got_elem, got_low, got_map, length_map, map_all, map_twice, taking_next}
+use Rattle.am_opening.proofs.Lists.{AreTaking, all_got, each_more, elem_got, got_elem, got_map, length_map, map_all, map_twice, taking_begins, taking_ends, taking_more, taking_next}
 
 abbrev end_of : EndBook → EndpointView
 end_of b = b.end
@@ -128,18 +129,27 @@ module _ (s : ScenarioLists) (p : NodePart) (ok : lawful.IsLawful s) (packet : s
 
 -- ---- one node after the other
 
-pub next_part : (s : ScenarioLists) (whole rest : List NodePart) (p : NodePart) (count : ℕ) → AreNodeParts (layout_of s) [] whole → AreTaking whole (rest ++ p ∷ []) count → IsNodePart (layout_of s) [] p.node p
-next_part s whole rest p count parts taking =
-    let part = parts.each count p (taking_next whole rest p count taking) in
-    subst (λ (n : NodeId). IsNodePart (layout_of s) [] n p) (sym part.is_node) part
+-- these were opened, and of these parts nodes are still to be opened, the last first
+pub record AreOpened (s : ScenarioLists) (whole rest : List NodePart) (os : List Opening) : Type 0 where
+  pub taking : AreTaking whole rest (length os)
+  pub each : (k : ℕ) (o : Opening) → slice_get os k ≡ Some o → IsOpening s (node_at k) o
 
-pub next_node : (s : ScenarioLists) (whole rest : List NodePart) (p : NodePart) (count : ℕ) → AreNodeParts (layout_of s) [] whole → AreTaking whole (rest ++ p ∷ []) count → p.node ≡ node_at count
-next_node s whole rest p count parts taking = (parts.each count p (taking_next whole rest p count taking)).is_node
+pub opened_begins : (s : ScenarioLists) (whole : List NodePart) → AreOpened s whole (reverse whole) []
+opened_begins s whole = record { taking = taking_begins whole; each = λ k o h. absurd (cc) }
 
-pub next_declared : (s : ScenarioLists) (whole rest : List NodePart) (p : NodePart) (count : ℕ) → AreNodeParts (layout_of s) [] whole → AreTaking whole (rest ++ p ∷ []) count → p.node.0 < s.nodes
-next_declared s whole rest p count parts taking =
-    let at = taking_next whole rest p count taking in
-    let low = got_low whole count p at in
-    let all = parts.all in
-    let same : p.node.0 ≡ count = ap (λ (n : NodeId). n.0) (parts.each count p at).is_node in
-    omega (arith, low, all, same)
+module _ (s : ScenarioLists) (whole rest : List NodePart) (p : NodePart) (os : List Opening) (parts : AreNodeParts (layout_of s) [] whole) (so : AreOpened s whole (rest ++ p ∷ []) os) where
+  part_next : IsNodePart (layout_of s) [] (node_at (length os)) p
+  part_next = parts.each (length os) p (taking_next whole rest p (length os) so.taking)
+
+  pub next_part : IsNodePart (layout_of s) [] p.node p
+  next_part = subst (λ (n : NodeId). IsNodePart (layout_of s) [] n p) (sym part_next.is_node) part_next
+
+  pub opened_more : (o : Opening) → IsOpening s p.node o → AreOpened s whole rest (os ++ o ∷ [])
+  opened_more o is =
+      record {
+        taking = subst (AreTaking whole rest) (sym (length_push os o)) (taking_more whole rest p (length os) so.taking);
+        each = each_more (λ (k : ℕ) (x : Opening). IsOpening s (node_at k) x) os o (length os) refl so.each (subst (λ (n : NodeId). IsOpening s n o) part_next.is_node is);
+      }
+
+pub opened_ends : (s : ScenarioLists) (whole : List NodePart) (os : List Opening) → AreNodeParts (layout_of s) [] whole → AreOpened s whole [] os → AreOpenings s os
+opened_ends s whole os parts so = record { all = sym (taking_ends whole (length os) so.taking) ∙ parts.all; each = so.each }

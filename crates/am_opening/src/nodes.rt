@@ -63,7 +63,8 @@ fn open_each(
     let mut openings = Vec::new(alloc);
     parts.reverse();
     while let Some(part) = parts.pop() {
-        openings.push(open_node(alloc, scenario, part)?)?;
+        let opening = open_node(alloc, scenario, part)?;
+        openings.push(opening)?;
     }
     Ok(openings)
 }

@@ -1,4 +1,4 @@
-use Rattle.std.proofs.Common.{◌≡◌, ℕ, Some, List, [], length}
+use Rattle.std.proofs.Common.{◌≡◌, ℕ, Some, [], length}
 use Rattle.std.specs.Prelude.{slice_get}
 use Rattle.std.specs.Global.{Vec}
 use Rattle.am_wire.specs.declared.receiving.LinkIn.{LinkIn}
