@@ -1,38 +1,20 @@
 -- The workers of a node around its places, and the crews of a scenario's nodes.
-use Rattle.std.specs.Prelude.{◌≡◌, ℕ, ◌+◌, Some, None, List, [], ◌∷◌, filter, length, map, slice_get}
+use Rattle.std.specs.Prelude.{◌≡◌, ℕ, ◌+◌, Some, None, List, [], ◌∷◌, length, map, slice_get}
 use Rattle.atomic_table.specs.Seated.{TableId}
 use Rattle.am_names.specs.declared.NodeId.{NodeId}
-use Rattle.am_names.specs.Names.{same_node}
 use Rattle.am_body.specs.declared.settings.EndSettings.{EndSettings}
-use Rattle.am_model.specs.Endpoint.{is_on_disk}
-use Rattle.am_model.specs.Layout.{AllAre, EndSetting, Layout}
 use Rattle.am_local.specs.Together.{ends_of}
-use Rattle.am_scenario_types.specs.declared.parts.ThreadLine.{ThreadLine}
 use Rattle.am_scenario_types.specs.Lists.{ScenarioLists}
 use Rattle.am_scripts.specs.Links.{node_at}
 use Rattle.am_follow.specs.Layout.{layout_of}
 use Rattle.am_wire.specs.Links.{IsLink, emitted, pumped, received}
 use Rattle.am_wire.specs.declared.receiving.LinkIn.{LinkIn}
 use Rattle.am_wire.specs.declared.sending.LinkOut.{LinkOut}
-use Rattle.am_works.specs.Seats.{EndPass, Ids, IsBorn}
+use Rattle.am_works.specs.Seats.{EndPass, Ids}
+use Rattle.am_opening.specs.Openings.{AreDeclared, threads_of}
 use Rattle.am_workers.specs.AtWork.{IsDriverAtWork, IsInterfaceAtWork, IsThreadAtWork}
 use Rattle.am_workers.specs.declared.workers.ThreadWorker.{ThreadWorker}
 use Rattle.am_crew_opening.specs.declared.crew.NodeCrew.{NodeCrew}
-
--- ---- what is declared
-
--- how an endpoint is declared that has these settings
-abbrev pub setting_by : EndSettings → EndSetting
-setting_by set = record { id = set.id; node = set.node; tag = set.tag; disk = is_on_disk set.place }
-
--- these are the settings of the node's endpoints, in order
-pub record AreDeclared (layout : Layout) (node : NodeId) (births : List EndSettings) : Type 0 where
-  pub declared : map setting_by births ≡ filter (λ (s : EndSetting). same_node node s.node) layout.ends
-  pub each : AllAre (IsBorn layout) births
-
--- the numbers of the threads that the scenario declares on the node, in order
-abbrev pub threads_of : ScenarioLists → NodeId → List ℕ
-threads_of s node = map (λ (t : ThreadLine). t.id) (filter (λ (t : ThreadLine). same_node node t.node) s.threads)
 
 -- ---- a crew
 

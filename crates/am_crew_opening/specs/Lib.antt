@@ -1,3 +1,2 @@
 pub mod Crews
-pub mod Links
-pub mod Openings
+pub mod Making

@@ -1,14 +1,17 @@
--- The links of a scenario's nodes, as they are made.
+-- The links between nodes, as they are made.
 use Rattle.std.specs.Prelude.{◌≡◌, ℕ, ◌≤◌, ◌==◌, ◌&&◌, Bool, Some, List, [], ◌∷◌, ◌++◌, filter, length, slice_get}
 use Rattle.std.specs.Global.{Vec}
 use Rattle.am_names.specs.declared.NodeId.{NodeId}
+use Rattle.am_names.specs.declared.Packet.{Packet}
+use Rattle.am_plan.specs.Shape.{shape}
 use Rattle.am_plan.specs.declared.plan.PlanLine.{PlanLine}
-use Rattle.am_scripts.specs.Links.{node_at}
 use Rattle.am_wire.specs.Links.{IsLink, emitted, pumped, received, spare}
 use Rattle.am_wire.specs.declared.receiving.LinkIn.{LinkIn}
 use Rattle.am_wire.specs.declared.sending.LinkOut.{LinkOut}
-use Rattle.am_crew_opening.specs.declared.links.Links.{Links}
-use Rattle.am_crew_opening.specs.declared.links.Row.{Row}
+use Rattle.am_links.specs.declared.Links.{Links}
+
+abbrev pub node_at : ℕ → NodeId
+node_at number = record { 0 = number }
 
 -- whether the line is one of the link from a node to a node
 abbrev pub is_of_link : NodeId → NodeId → PlanLine → Bool
@@ -18,11 +21,11 @@ is_of_link from to line = (from.0 == line.from.0) && (to.0 == line.to.0)
 abbrev pub plan_of : List PlanLine → NodeId → NodeId → List PlanLine
 plan_of plan from to = filter (is_of_link from to) plan
 
--- the end of a link that emits: it has the lines of the plan that name the link, and room for a packet, and sent nothing
+-- the end of a link that emits: it releases what the plan says, has room for a packet, and sent nothing
 pub record IsOutOpened (plan : List PlanLine) (from to : NodeId) (o : LinkOut) : Type 0 where
-  pub plan_is : o.plan.items ≡ plan_of plan from to
   pub from_is : o.from ≡ from
   pub to_is : o.to ≡ to
+  pub planned : (packets : List Packet) → shape o.plan.items from to packets ≡ shape plan from to packets
   pub room : 1 ≤ spare o
   pub sent : (emitted o ≡ []) × (pumped o ≡ [])
 
@@ -32,11 +35,11 @@ pub record IsOpened (plan : List PlanLine) (from to : NodeId) (o : LinkOut) (i :
   pub taken : received i ≡ []
   pub link : IsLink o i
 
--- the links from a node to each of so many nodes
-pub record IsRow (plan : List PlanLine) (from : NodeId) (count : ℕ) (r : Row) : Type 0 where
-  pub outs : length r.outs.items ≡ count
-  pub ins : length r.ins.items ≡ count
-  pub each : (k : ℕ) (o : LinkOut) (i : LinkIn) → slice_get r.outs.items k ≡ Some o → slice_get r.ins.items k ≡ Some i → IsOpened plan from (node_at k) o i
+-- the links from a node to each of so many nodes, by their two ends
+pub record IsRow (plan : List PlanLine) (from : NodeId) (count : ℕ) (outs : List LinkOut) (ins : List LinkIn) : Type 0 where
+  pub all_outs : length outs ≡ count
+  pub all_ins : length ins ≡ count
+  pub each : (k : ℕ) (o : LinkOut) (i : LinkIn) → slice_get outs k ≡ Some o → slice_get ins k ≡ Some i → IsOpened plan from (node_at k) o i
 
 -- each of these ends was put last in the list with its place
 pub record AreSpread (ends : List LinkIn) (old new : List (Vec LinkIn)) : Type 0 where
@@ -53,5 +56,6 @@ pub record AreWoven (plan : List PlanLine) (nodes count : ℕ) (outs : List (Vec
   pub taken : (from to : ℕ) (is : Vec LinkIn) (i : LinkIn) → slice_get ins to ≡ Some is → slice_get is.items from ≡ Some i → received i ≡ []
   pub link : (from to : ℕ) (os : Vec LinkOut) (is : Vec LinkIn) (o : LinkOut) (i : LinkIn) → slice_get outs from ≡ Some os → slice_get ins to ≡ Some is → slice_get os.items to ≡ Some o → slice_get is.items from ≡ Some i → IsLink o i
 
-abbrev pub AreAllWoven : List PlanLine → ℕ → Links → Type 0
-AreAllWoven plan nodes l = AreWoven plan nodes nodes l.outs.items l.ins.items
+-- the links between all of so many nodes
+abbrev pub AreLinks : List PlanLine → ℕ → Links → Type 0
+AreLinks plan nodes l = AreWoven plan nodes nodes l.outs.items l.ins.items

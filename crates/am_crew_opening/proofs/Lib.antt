@@ -1,0 +1,4 @@
+mod Scripted
+mod Seated
+mod Opened
+mod Linked

@@ -1,0 +1,50 @@
+// A worker is made of its seat and what it has beside.
+ghost use Rattle.am_crew_opening.specs.Making.{AreThreadsMade, IsThreadMade};
+ghost use Rattle.std.specs.Prelude.{◌≡◌, IfOk, None, length};
+
+use am_books::EndBook;
+use am_names::NoMemory;
+use am_opening::calls_of;
+use am_places::Seat;
+use am_scenario_types::Scenario;
+use am_workers::ThreadWorker;
+use std::alloc::Global;
+
+/// A thread with its script, of which it made no call.
+fn open_thread(
+    alloc: Global,
+    scenario: &Scenario,
+    thread: u8,
+    seat: Seat<EndBook>,
+) -> Result<ThreadWorker, NoMemory>
+    ensures { IfOk result (IsThreadMade scenario.now thread seat) }
+{
+    let script = calls_of(alloc, &scenario.script, thread)?;
+    Ok(ThreadWorker {
+        seat,
+        thread,
+        script,
+        next: 0,
+        clock: 0,
+        stop: None,
+    })
+}
+
+/// The threads of these numbers, each with the seat of the same place.
+pub(crate) fn open_threads(
+    alloc: Global,
+    scenario: &Scenario,
+    ids: &[u8],
+    mut seats: Vec<Seat<EndBook>>,
+) -> Result<Vec<ThreadWorker>, NoMemory>
+    requires { length seats.items ≡ length ids.now }
+    ensures { IfOk result (λ threads. AreThreadsMade scenario.now ids.now seats.items (length ids.now) threads.items) }
+{
+    let mut threads = Vec::new(alloc);
+    seats.reverse();
+    while let Some(seat) = seats.pop() {
+        let thread = open_thread(alloc, scenario, ids[threads.len()], seat)?;
+        threads.push(thread)?;
+    }
+    Ok(threads)
+}

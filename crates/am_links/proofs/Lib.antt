@@ -1,0 +1,4 @@
+pub mod Lists
+pub mod Planned
+pub mod Spread
+pub mod Weaving

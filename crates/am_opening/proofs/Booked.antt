@@ -1,0 +1,36 @@
+-- Books are made of endpoints one after the other.
+use Rattle.std.proofs.Common.{◌≡◌, List, [], ◌∷◌, ◌++◌, map, reverse, refl, sym, ap, ◌∙◌, append-nil, append_assoc}
+use Rattle.std.proofs.lemmas.List.{reverse-append, reverse-reverse}
+use Rattle.am_books.specs.Books.{IsBook}
+use Rattle.am_books.specs.declared.EndBook.{EndBook}
+use Rattle.am_endpoint.specs.View.{EndpointView}
+use Rattle.am_model.specs.Layout.{AllAre}
+use Rattle.am_opening.proofs.Lists.{all_front, all_last, all_reversed, map_push}
+
+abbrev end_of : EndBook → EndpointView
+end_of b = b.end
+
+-- these books were made, and of these endpoints books are still to be made, the last first
+pub record AreBooked (whole rest : List EndpointView) (books : List EndBook) : Type 0 where
+  pub fine : AllAre IsBook rest
+  pub made : map end_of books ++ reverse rest ≡ whole
+
+pub booked_begins : (whole : List EndpointView) → AllAre IsBook whole → AreBooked whole (reverse whole) []
+booked_begins whole fine = record { fine = all_reversed IsBook whole fine; made = reverse-reverse whole }
+
+pub booked_next : (whole rest : List EndpointView) (x : EndpointView) (books : List EndBook) → AreBooked whole (rest ++ x ∷ []) books → IsBook x
+booked_next whole rest x books b = all_last IsBook rest x b.fine
+
+pub booked_more : (whole rest : List EndpointView) (x : EndpointView) (books : List EndBook) (b : EndBook) → AreBooked whole (rest ++ x ∷ []) books → b.end ≡ x → AreBooked whole rest (books ++ b ∷ [])
+booked_more whole rest x books b so is =
+    record {
+      fine = all_front IsBook rest x so.fine;
+      made =
+          ap (λ (l : List EndpointView). l ++ reverse rest) (map_push end_of books b ∙ ap (λ (y : EndpointView). map end_of books ++ y ∷ []) is)
+          ∙ append_assoc (map end_of books) (x ∷ []) (reverse rest)
+          ∙ ap (λ (l : List EndpointView). map end_of books ++ l) (sym (reverse-append rest (x ∷ [])))
+          ∙ so.made;
+    }
+
+pub booked_ends : (whole : List EndpointView) (books : List EndBook) → AreBooked whole [] books → map end_of books ≡ whole
+booked_ends whole books b = sym (append-nil (map end_of books)) ∙ b.made

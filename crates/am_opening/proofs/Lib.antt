@@ -1,0 +1,5 @@
+pub mod Kept
+pub mod Lists
+pub mod Fresh
+pub mod Booked
+pub mod Opened
