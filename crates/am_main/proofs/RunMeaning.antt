@@ -35,6 +35,7 @@ is_run_of s journal done whole obeys =
       follows = whole.follows;
       settled = whole.settled;
       done = done;
+      only = λ (other : List Entry) (is : IsDrained s done.phase other). drain_is_determined s done.phase other journal is done.drained.drained;
       alone = done_alone s journal done;
     }
 

@@ -26,13 +26,14 @@ pub record IsDrainedAlone (s : ScenarioLists) (journal : List Entry) : Type 0 wh
 
 -- A journal is that of a run of a scenario: it obeys the laws of runs, which say that it is a history, that it obeys the post office
 -- and what becomes of each message; it follows the scripts, and no message that was accepted is pending. And it is a phase, of what
--- the threads, interfaces and drivers made at the same time, and then what the drain makes of it. Where there are no turns the phase
--- is empty, and there is no other run.
+-- the threads, interfaces and drivers made at the same time, and then what the drain makes of that phase, which is nothing else. Where
+-- there are no turns the phase is empty, so there is no other run.
 pub record IsRunOf (s : ScenarioLists) (journal : List Entry) : Type 0 where
   pub obeys : ObeysRunLaws s journal
   pub follows : FollowsScripts s journal
   pub settled : (m : Message) → WasAccepted journal m → fate journal m.serial ≢ Some Fates.Pending
   pub done : IsRunDone s journal
+  pub only : (other : List Entry) → IsDrained s done.phase other → other ≡ journal
   pub alone : s.turns ≡ 0 → IsDrainedAlone s journal
 
 -- THE HEADLINE, for the command `run`: the text is the report of the journal of a run of the scenario, with its threads.
