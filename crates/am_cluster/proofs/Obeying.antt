@@ -1,6 +1,6 @@
 -- The journal of a run obeys the laws of runs, whether it came to its end or met a full log.
 use Rattle.std.specs.Prelude.{length}
-use Rattle.std.proofs.Common.{◌≡◌, ◌≤◌, ◌^◌, List, [], arith}
+use Rattle.std.proofs.Common.{◌≡◌, ◌≤◌, ◌<◌, ◌^◌, List, [], arith}
 use Rattle.am_names.specs.declared.Cause.{Cause}
 use Rattle.am_names.specs.declared.Serial.{Serial}
 use Rattle.am_office.specs.declared.Entry.{Entry}
@@ -11,18 +11,20 @@ use Rattle.am_scenario_types.specs.declared.parts.Network.TheVariants.{Packet}
 use Rattle.am_scenario_types.specs.Lawful.{IsLawful}
 use Rattle.am_scenario_types.specs.Lists.{ScenarioLists}
 use Rattle.am_follow.specs.Layout.{layout_of}
-use Rattle.am_drain.specs.Cut.{IsDrainCutOff}
-use Rattle.am_drain.specs.Follows.{IsStoppedFor}
+use Rattle.am_drain.specs.Cut.{IsDrainCutOff, IsDrainedWithRoom}
+use Rattle.am_drain.specs.Follows.{IsGoodPhase, IsStoppedFor}
+use Rattle.am_drain.proofs.Stopped.{cut_off_is_stopped}
 use Rattle.am_drain_steps.specs.Enabled.{IsOfRun}
 use Rattle.am_drain_steps.specs.Endings.{IsOrderly, WithholdsNothing}
 use Rattle.am_drain_steps.specs.Runs.{IsWholeRun}
 use Rattle.am_drain_steps.proofs.Nothing.{none_is_unknown}
+use Rattle.am_drain_steps.proofs.Turning.{drains_make_runs}
 use Rattle.am_drain_steps.proofs.Unknown.{unknown_is_withheld}
-use Rattle.am_run_laws.specs.Drained.{IsShortHistory}
-use Rattle.am_run_laws.proofs.Drained.{cut_off_runs_are_stopped, cut_offs_are_short, far_below, no_logs}
+use Rattle.am_run_laws.specs.Drained.{HasShortLogs, IsShortHistory}
+use Rattle.am_run_laws.proofs.Drained.{cut_offs_are_short, drains_are_short, empty_is_good_phase, far_below, no_logs}
 use Rattle.am_run_laws.proofs.Returns.{returns_are_for_good}
 use Rattle.am_run_laws.proofs.Stopped.{stopped_returns_are_for_good, stopped_runs_are_orderly}
-use Rattle.am_cluster.specs.Runs.{IsRunCutOff, ObeysRunLaws}
+use Rattle.am_cluster.specs.Runs.{IsAloneCutOff, IsPhaseOfRun, IsRunCutOff, ObeysRunLaws}
 
 pub whole_obeys : (s : ScenarioLists) (journal : List Entry) → IsLawful s → s.network ≡ Packet → IsWholeRun s journal → PostOffice (layout_of s) journal → ObeysRunLaws s journal
 whole_obeys s journal lawful packet whole laws =
@@ -37,15 +39,26 @@ whole_obeys s journal lawful packet whole laws =
       for_good = λ (nothing : WithholdsNothing s) (serial : Serial) (cause : Cause) returned. returns_are_for_good s journal run whole.follows nothing serial cause returned;
     }
 
-pub run_is_cut_off : (s : ScenarioLists) (part : Part) (journal : List Entry) → IsLawful s → s.network ≡ Packet → IsDrainCutOff s [] part journal → PostOffice (layout_of s) journal → IsRunCutOff s part journal
-run_is_cut_off s part journal lawful packet c laws =
-    let short : IsShortHistory s journal = cut_offs_are_short s [] journal part (record { lawful = lawful; packet = packet; history = tt }) (no_logs s) c in
+-- a drain with room of a good phase makes a whole run
+pub phase_is_whole : (s : ScenarioLists) (phase journal : List Entry) → IsLawful s → s.network ≡ Packet → IsGoodPhase s phase → HasShortLogs s phase → IsDrainedWithRoom s phase journal → IsWholeRun s journal
+phase_is_whole s phase journal lawful packet good logs d =
+    let short : IsShortHistory s journal = drains_are_short s phase journal (record { lawful = lawful; packet = packet; history = good.history }) logs d in
+    let few : length journal < 2 ^ 31 = far_below (length journal) s.log short.short lawful.settings.log.1 in
+    drains_make_runs s phase journal lawful packet good d.drained (omega (arith, few))
+
+-- one that meets a full log has the same rights
+pub record IsCutOffOf (s : ScenarioLists) (part : Part) (journal : List Entry) : Type 0 where
+  pub obeys : ObeysRunLaws s journal
+  pub stopped : IsStoppedFor s part journal
+
+pub cut_off_obeys : (s : ScenarioLists) (phase : List Entry) (part : Part) (journal : List Entry) → IsLawful s → s.network ≡ Packet → IsGoodPhase s phase → HasShortLogs s phase → IsDrainCutOff s phase part journal → PostOffice (layout_of s) journal → IsCutOffOf s part journal
+cut_off_obeys s phase part journal lawful packet good logs c laws =
+    let short : IsShortHistory s journal = cut_offs_are_short s phase journal part (record { lawful = lawful; packet = packet; history = good.history }) logs c in
     let run : IsOfRun s journal = record { lawful = lawful; packet = packet; history = short.history } in
-    let stopped : IsStoppedFor s part journal = cut_off_runs_are_stopped s journal part lawful packet c in
+    let stopped : IsStoppedFor s part journal = cut_off_is_stopped s phase journal part good short.logs c in
     let orderly : IsOrderly s journal = stopped_runs_are_orderly s journal part run stopped in
     let few : length journal ≤ 2 ^ 32 = (let low = far_below (length journal) s.log short.short lawful.settings.log.1 in omega (arith, low)) in
     record {
-      cut = c;
       stopped = stopped;
       obeys =
           record {
@@ -57,3 +70,13 @@ run_is_cut_off s part journal lawful packet c laws =
             for_good = λ (nothing : WithholdsNothing s) (serial : Serial) (cause : Cause) returned. stopped_returns_are_for_good s journal part run few stopped nothing serial cause returned;
           };
     }
+
+pub alone_is_cut_off : (s : ScenarioLists) (part : Part) (journal : List Entry) → IsLawful s → s.network ≡ Packet → IsDrainCutOff s [] part journal → PostOffice (layout_of s) journal → IsAloneCutOff s part journal
+alone_is_cut_off s part journal lawful packet c laws =
+    let k : IsCutOffOf s part journal = cut_off_obeys s [] part journal lawful packet (empty_is_good_phase s) (no_logs s) c laws in
+    record { cut = c; obeys = k.obeys; stopped = k.stopped }
+
+pub run_is_cut_off : (s : ScenarioLists) (phase : List Entry) (part : Part) (journal : List Entry) → IsLawful s → s.network ≡ Packet → IsPhaseOfRun s phase → IsDrainCutOff s phase part journal → PostOffice (layout_of s) journal → IsRunCutOff s part journal
+run_is_cut_off s phase part journal lawful packet made c laws =
+    let k : IsCutOffOf s part journal = cut_off_obeys s phase part journal lawful packet made.good made.logs c laws in
+    record { phase = phase; made = made; cut = c; obeys = k.obeys; stopped = k.stopped }

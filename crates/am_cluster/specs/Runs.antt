@@ -1,4 +1,4 @@
--- What a run of a scenario without threads answers, and what a drain of a cluster leaves.
+-- What a run of a scenario answers, with threads and without, and what a drain of a cluster leaves.
 use Rattle.std.specs.Prelude.{◌≡◌, ◌≢◌, Some, false, List, []}
 use Rattle.am_names.specs.Rules.{is_transient}
 use Rattle.am_names.specs.declared.Cause.{Cause}
@@ -12,10 +12,11 @@ use Rattle.am_model.specs.History.{IsHistory}
 use Rattle.am_model.specs.PostOffice.{PostOffice}
 use Rattle.am_scenario_types.specs.Lists.{ScenarioLists}
 use Rattle.am_follow.specs.Layout.{layout_of}
-use Rattle.am_drain.specs.Cut.{IsDrainCutOff}
-use Rattle.am_drain.specs.Follows.{IsStoppedFor}
+use Rattle.am_drain.specs.Cut.{IsDrainCutOff, IsDrainedWithRoom}
+use Rattle.am_drain.specs.Follows.{IsGoodPhase, IsStoppedFor}
 use Rattle.am_drain_loop.specs.Stops.{IsDrainBeginning}
 use Rattle.am_drain_steps.specs.Endings.{UnknownIsPlanned, WithholdsNothing}
+use Rattle.am_run_laws.specs.Drained.{HasShortLogs}
 use Rattle.am_cluster.specs.declared.RunFault.{RunFault}
 use Rattle.am_cluster.specs.declared.RunFault.TheVariants as Runs
 use Rattle.am_cluster.specs.declared.DrainFault.{DrainFault}
@@ -40,9 +41,30 @@ pub record ObeysRunLaws (s : ScenarioLists) (journal : List Entry) : Type 0 wher
   pub complete : WithholdsNothing s → NothingIsUnknown journal
   pub for_good : WithholdsNothing s → IsReturnedForGood journal
 
--- the journal is what the drain of an empty one makes before the first entry that meets a full log, which is that of the part; it has
--- the same rights as that of a run which came to its end
+-- The phase of a run: what its threads, interfaces and drivers made, each in at most so many turns as the scenario gives. It is a good
+-- phase with no log longer than it may be, and without turns it is empty.
+pub record IsPhaseOfRun (s : ScenarioLists) (phase : List Entry) : Type 0 where
+  pub good : IsGoodPhase s phase
+  pub logs : HasShortLogs s phase
+  pub none : s.turns ≡ 0 → phase ≡ []
+
+-- phase, then drain: the journal is what the drain makes of a phase of the run, and no entry of the drain meets a full log
+pub record IsRunDone (s : ScenarioLists) (journal : List Entry) : Type 0 where
+  pub phase : List Entry
+  pub made : IsPhaseOfRun s phase
+  pub drained : IsDrainedWithRoom s phase journal
+
+-- the journal is what the drain makes of a phase of the run before the first entry that meets a full log, which is that of the part; it
+-- has the same rights as that of a run which came to its end
 pub record IsRunCutOff (s : ScenarioLists) (part : Part) (journal : List Entry) : Type 0 where
+  pub phase : List Entry
+  pub made : IsPhaseOfRun s phase
+  pub cut : IsDrainCutOff s phase part journal
+  pub obeys : ObeysRunLaws s journal
+  pub stopped : IsStoppedFor s part journal
+
+-- so without threads, where the drain begins with the empty journal
+pub record IsAloneCutOff (s : ScenarioLists) (part : Part) (journal : List Entry) : Type 0 where
   pub cut : IsDrainCutOff s [] part journal
   pub obeys : ObeysRunLaws s journal
   pub stopped : IsStoppedFor s part journal
@@ -51,6 +73,11 @@ pub record IsRunCutOff (s : ScenarioLists) (part : Part) (journal : List Entry) 
 abbrev pub IsRunStopped : ScenarioLists → RunFault → Type 0
 IsRunStopped s (Runs.LogFull part journal) = IsRunCutOff s part journal
 IsRunStopped s Runs.NoMemory = Unit {0}
+
+-- and why one without threads did not
+abbrev pub IsAloneStopped : ScenarioLists → RunFault → Type 0
+IsAloneStopped s (Runs.LogFull part journal) = IsAloneCutOff s part journal
+IsAloneStopped s Runs.NoMemory = Unit {0}
 
 -- why a drain of the journal `past` did not come to its end, and what it left
 abbrev pub IsDrainHalted : ScenarioLists → List Entry → DrainFault → List Entry → Type 0

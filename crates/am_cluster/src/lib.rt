@@ -1,9 +1,10 @@
-//! A whole cluster run by the scripts of its scenario.
+//! A whole cluster run by the scripts of its scenario: what its threads make at the same time, and then the drain.
 #![tactic(auto)]
 
 ghost use Rattle.am_cluster.specs.Threads.{scripted_in, scripted_of};
-ghost use Rattle.am_cluster.specs.Runs.{IsDrainHalted, IsRunStopped, ObeysRunLaws};
+ghost use Rattle.am_cluster.specs.Runs.{IsAloneStopped, IsDrainHalted, IsRunDone, IsRunStopped, ObeysRunLaws};
 ghost use Rattle.am_drain.specs.Cut.{IsDrainedWithRoom};
+ghost use Rattle.am_drain.specs.Follows.{IsGoodPhase};
 ghost use Rattle.am_drain_loop.specs.Stops.{IsDrainStopped};
 ghost use Rattle.am_drain_steps.specs.Runs.{IsWholeRun};
 ghost use Rattle.am_follow.specs.Layout.{layout_of};
@@ -26,7 +27,9 @@ mod reads;
 mod scripted;
 mod threads;
 
-use am_machine::Cluster;
+pub use am_crew::{Gate, OpenGate};
+use am_crew::make_phase;
+use am_machine::{Cluster, NoMemory};
 use am_office::{Journal, Part};
 use am_run_laws::{
     drains_leave_nothing, drains_receive_all, none_is_refused, runs_have_short_logs,
@@ -66,19 +69,6 @@ pub enum DrainFault {
     /// There is no memory for an entry.
     #[error("there is no memory for an entry")]
     NoMemory,
-}
-
-/// What each worker passes at the start of each of its turns, by its own number and the number of the turn, both from 0.
-pub trait Gate {
-    fn pass(&self, worker: u32, turn: u32);
-}
-
-/// A gate that does nothing.
-#[derive(Clone, Copy, Debug)]
-pub struct OpenGate;
-
-impl Gate for OpenGate {
-    fn pass(&self, _worker: u32, _turn: u32) {}
 }
 
 /// Tells how many calls each thread made in the journal of a cluster, which is a history.
@@ -159,7 +149,7 @@ pub fn drain(cluster: &mut Cluster, scenario: &Scenario, made: &mut [u32]) -> Re
 }
 
 /// What the drain of an empty journal comes to, by what it answered and the journal that it left.
-#[tactic(auto, using(crate::proofs::Obeying::whole_obeys, crate::proofs::Obeying::run_is_cut_off))]
+#[tactic(auto, using(crate::proofs::Obeying::whole_obeys, crate::proofs::Obeying::alone_is_cut_off))]
 fn run_of(
     scenario: &Scenario,
     drained: Result<(), am_drain_loop::DrainFault>,
@@ -173,7 +163,7 @@ fn run_of(
     ensures drained { IfOk result (λ finished. IsDrainedWithRoom scenario.now [] finished.journal) }
     ensures whole { IfOk result (λ finished. IsWholeRun scenario.now finished.journal) }
     ensures obeys { IfOk result (λ finished. ObeysRunLaws scenario.now finished.journal) }
-    ensures stopped { IfErr result (IsRunStopped scenario.now) }
+    ensures stopped { IfErr result (IsAloneStopped scenario.now) }
 {
     none_is_refused();
     runs_with_room_are_whole();
@@ -195,7 +185,7 @@ pub fn alone(alloc: Global, scenario: &Scenario) -> Result<Finished, RunFault>
     ensures drained { IfOk result (λ finished. IsDrainedWithRoom scenario.now [] finished.journal) }
     ensures whole { IfOk result (λ finished. IsWholeRun scenario.now finished.journal) }
     ensures obeys { IfOk result (λ finished. ObeysRunLaws scenario.now finished.journal) }
-    ensures stopped { IfErr result (IsRunStopped scenario.now) }
+    ensures stopped { IfErr result (IsAloneStopped scenario.now) }
 {
     let mut machine = match ScriptedCluster::new(alloc, scenario) {
         Ok(machine) => machine,
@@ -208,19 +198,80 @@ pub fn alone(alloc: Global, scenario: &Scenario) -> Result<Finished, RunFault>
     }
 }
 
-/// Runs a scenario of the packet network. It does what `alone` does.
-pub fn run<R: Threads + Sync, G: Gate + Sync>(
-    _rt: &R,
+/// How many calls each thread made in the journal of a cluster, in the order of the threads.
+fn calls_made(
     alloc: Global,
     scenario: &Scenario,
-    _gate: &G,
+    cluster: &Cluster,
+) -> Result<Vec<u32>, NoMemory>
+    requires lawful { IsLawful scenario.now }
+    requires packet { scenario.now.network ≡ Packet }
+    requires layout { cluster.now.layout ≡ layout_of scenario.now }
+    ensures { IfOk result (λ made. made.items ≡ map (λ (t : ThreadLine). length (calls_of t.id cluster.now.journal)) scenario.now.threads) }
+{
+    tell_logs(cluster, scenario);
+    let journal = cluster.journal(alloc)?;
+    let threads = scripts_after(alloc, scenario, &journal.entries)?;
+    let mut made = vec![in alloc; 0; threads.len()]?;
+    tell_of(scenario, cluster, &threads, &mut made);
+    Ok(made)
+}
+
+/// The drain of what the threads of a run made.
+fn drain_phase(
+    alloc: Global,
+    scenario: &Scenario,
+    mut cluster: Cluster,
+    made: &mut [u32],
 ) -> Result<Finished, RunFault>
     requires lawful { IsLawful scenario.now }
     requires packet { scenario.now.network ≡ Packet }
-    ensures drained { IfOk result (λ finished. IsDrainedWithRoom scenario.now [] finished.journal) }
+    requires layout { cluster.layout ≡ layout_of scenario.now }
+    requires good { IsGoodPhase scenario.now cluster.journal }
+    requires none { scenario.now.turns ≡ 0 → cluster.journal ≡ [] }
+    requires made { made.old ≡ map (λ (t : ThreadLine). length (calls_of t.id cluster.journal)) scenario.now.threads }
+    ensures done { IfOk result (λ finished. IsRunDone scenario.now finished.journal) }
     ensures whole { IfOk result (λ finished. IsWholeRun scenario.now finished.journal) }
     ensures obeys { IfOk result (λ finished. ObeysRunLaws scenario.now finished.journal) }
     ensures stopped { IfErr result (IsRunStopped scenario.now) }
 {
-    alone(alloc, scenario)
+    tell_logs(&cluster, scenario);
+    let drained = drain(&mut cluster, scenario, made);
+    let journal = match cluster.journal(alloc) {
+        Ok(journal) => journal,
+        Err(_) => return Err(RunFault::NoMemory),
+    };
+    match drained {
+        Ok(()) => Ok(Finished { journal }),
+        Err(DrainFault::LogFull(part)) => Err(RunFault::LogFull { part, journal }),
+        Err(DrainFault::NoMemory) => Err(RunFault::NoMemory),
+    }
+}
+
+/// Runs a scenario of the packet network: its threads, interfaces and drivers at the same time, each for the scenario's number of
+/// turns, and then the drain. Nothing is asked of the turns or of the schedule. Ok: the journal is a good phase, which is empty
+/// where there are no turns, and what the drain makes of it with no entry meeting a full log. It is a history that follows the
+/// scripts and obeys the laws of runs, and no message that was accepted is pending. LogFull: it is a good phase, and what the drain
+/// makes of it before the first entry that meets a full log, which is the part's, and obeys the laws of runs too. NoMemory: there
+/// is no memory for the run.
+pub fn run<R: Threads + Sync, G: Gate + Sync>(
+    rt: &R,
+    alloc: Global,
+    scenario: &Scenario,
+    gate: &G,
+) -> Result<Finished, RunFault>
+    requires lawful { IsLawful scenario.now }
+    requires packet { scenario.now.network ≡ Packet }
+    ensures done { IfOk result (λ finished. IsRunDone scenario.now finished.journal) }
+    ensures whole { IfOk result (λ finished. IsWholeRun scenario.now finished.journal) }
+    ensures obeys { IfOk result (λ finished. ObeysRunLaws scenario.now finished.journal) }
+    ensures stopped { IfErr result (IsRunStopped scenario.now) }
+{
+    let Ok(cluster) = make_phase(rt, alloc, scenario, gate) else {
+        return Err(RunFault::NoMemory);
+    };
+    let Ok(mut made) = calls_made(alloc, scenario, &cluster) else {
+        return Err(RunFault::NoMemory);
+    };
+    drain_phase(alloc, scenario, cluster, &mut made)
 }

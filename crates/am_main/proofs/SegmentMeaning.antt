@@ -1,4 +1,4 @@
--- What a whole drain of an empty journal says of the run of a scenario with segments.
+-- What a whole drain says of the run of a scenario with segments.
 use Rattle.std.proofs.Common.{◌≡◌, ℕ, zero, suc, ◌+◌, ◌<◌, ◌≤◌, Bool, true, false, List, [], ◌∷◌, ◌++◌, length, Option, Some, None, Result, Ok, Err, inl, inr, refl, sym, ◌∙◌, subst, arith, zero-add, slice_index}
 use Rattle.std.specs.Prelude.{slice_get, ◌||◌, ◌≢◌, filter_map}
 use Rattle.std.specs.List.{All, cons_option}
@@ -22,10 +22,9 @@ use Rattle.am_scenario.specs.Grammar.{grammar}
 use Rattle.am_scenario_types.specs.declared.parts.Form.TheVariants as Forms
 use Rattle.am_scenario_types.specs.Lists.{ScenarioLists}
 use Rattle.am_model.specs.PostOffice.{WasAccepted}
-use Rattle.am_drain.specs.Cut.{IsDrainedWithRoom}
 use Rattle.am_drain_steps.specs.Endings.{WithholdsNothing}
 use Rattle.am_drain_steps.specs.Runs.{IsWholeRun}
-use Rattle.am_cluster.specs.Runs.{IsRunCutOff, ObeysRunLaws}
+use Rattle.am_cluster.specs.Runs.{IsRunCutOff, IsRunDone, ObeysRunLaws}
 use Rattle.am_pieces.specs.declared.segment.SegmentLine.{SegmentLine}
 use Rattle.am_pieces.specs.Segments.{byte_at, segment_bytes}
 use Rattle.am_segment.specs.declared.scenario.SegmentScenario.{SegmentScenario}
@@ -99,9 +98,9 @@ settled_for_good s journal run nothing m accepted =
 -- ---- the answers
 
 -- where the run came to its end
-pub segments_reported : (s : SegmentScenario) (journal : List Entry) (text : List ℕ) → All (HasSegment s.expanded.segments) s.expanded.transfers → IsDrainedWithRoom s.scenario [] journal → IsWholeRun s.scenario journal → ObeysRunLaws s.scenario journal → text ≡ report (ids_of s.scenario.ends) journal ++ segments_text s.expanded journal → IsSegmentsAnswer s (record { status = 0; text = text })
-segments_reported s journal text placed drained whole obeys printed =
-    let run : IsRunOf s.scenario journal = is_run_of s.scenario journal drained whole obeys in
+pub segments_reported : (s : SegmentScenario) (journal : List Entry) (text : List ℕ) → All (HasSegment s.expanded.segments) s.expanded.transfers → IsRunDone s.scenario journal → IsWholeRun s.scenario journal → ObeysRunLaws s.scenario journal → text ≡ report (ids_of s.scenario.ends) journal ++ segments_text s.expanded journal → IsSegmentsAnswer s (record { status = 0; text = text })
+segments_reported s journal text placed done whole obeys printed =
+    let run : IsRunOf s.scenario journal = is_run_of s.scenario journal done whole obeys in
     inl (refl, record { journal = journal; run = run; text' = printed; arrived = blocks_arrived s.expanded journal placed; settled = settled_for_good s.scenario journal run })
 
 -- and where it met a full log

@@ -15,21 +15,28 @@ use Rattle.am_model.specs.PostOffice.{WasAccepted}
 use Rattle.am_drain.specs.Cut.{IsDrainedWithRoom}
 use Rattle.am_drain.specs.Drain.{IsDrained}
 use Rattle.am_drain.specs.Follows.{FollowsScripts}
-use Rattle.am_cluster.specs.Runs.{IsRunCutOff, ObeysRunLaws}
+use Rattle.am_cluster.specs.Runs.{IsAloneCutOff, IsRunCutOff, IsRunDone, ObeysRunLaws}
 use Rattle.am_main.specs.declared.outputs.Output.{Output}
 use Rattle.am_main.specs.Answer.{Answer, full_line, ids_of, refused_line}
 
--- A journal is that of the run of a scenario: it obeys the laws of runs, which say that it is a history, that it obeys the post office
--- and what becomes of each message; it follows the scripts, and no message that was accepted is pending. And it is what the drain makes
--- of the empty journal, which makes no other.
+-- without threads a run is what the drain makes of the empty journal, which makes no other
+pub record IsDrainedAlone (s : ScenarioLists) (journal : List Entry) : Type 0 where
+  pub drained : IsDrainedWithRoom s [] journal
+  pub only : (other : List Entry) → IsDrained s [] other → other ≡ journal
+
+-- A journal is that of a run of a scenario: it obeys the laws of runs, which say that it is a history, that it obeys the post office
+-- and what becomes of each message; it follows the scripts, and no message that was accepted is pending. And it is a phase, of what
+-- the threads, interfaces and drivers made at the same time, and then what the drain makes of that phase, which is nothing else. Where
+-- there are no turns the phase is empty, so there is no other run.
 pub record IsRunOf (s : ScenarioLists) (journal : List Entry) : Type 0 where
   pub obeys : ObeysRunLaws s journal
   pub follows : FollowsScripts s journal
   pub settled : (m : Message) → WasAccepted journal m → fate journal m.serial ≢ Some Fates.Pending
-  pub drained : IsDrainedWithRoom s [] journal
-  pub only : (other : List Entry) → IsDrained s [] other → other ≡ journal
+  pub done : IsRunDone s journal
+  pub only : (other : List Entry) → IsDrained s done.phase other → other ≡ journal
+  pub alone : s.turns ≡ 0 → IsDrainedAlone s journal
 
--- THE HEADLINE, for the command `run`: the text is the report of the journal of the scenario's run.
+-- THE HEADLINE, for the command `run`: the text is the report of the journal of a run of the scenario, with its threads.
 pub record PrintsRun (s : ScenarioLists) (text : List ℕ) : Type 0 where
   pub journal : List Entry
   pub run : IsRunOf s journal
@@ -59,18 +66,19 @@ make_text n calls journal =
 unfoldable pub scenario_of : ℕ → ScenarioLists
 scenario_of n = generated n
 
--- THE HEADLINE, for the command `make`: the text is the summary of the run of the scenario that is generated from the number,
--- whose scripts have 1744 calls.
+-- THE HEADLINE, for the command `make`: the text is the summary of the run without threads of the scenario that is generated from the
+-- number, whose scripts have 1744 calls.
 pub record Summarizes (n : ℕ) (text : List ℕ) : Type 0 where
   pub journal : List Entry
   pub run : IsRunOf (scenario_of n) journal
+  pub alone : IsDrainedAlone (scenario_of n) journal
   pub calls : length (scenario_of n).script ≡ 1744
   pub text' : text ≡ make_text n 1744 journal
 
--- the text is the line that tells a full log, which the run met
+-- the text is the line that tells a full log, which that run met
 pub record TellsCutRun (n : ℕ) (part : Part) (text : List ℕ) : Type 0 where
   pub journal : List Entry
-  pub cut : IsRunCutOff (scenario_of n) part journal
+  pub cut : IsAloneCutOff (scenario_of n) part journal
   pub text' : text ≡ full_line part
 
 -- the answer of `make` to a number
@@ -81,7 +89,12 @@ MakeAnswers n answer = ((answer.status ≡ 0) × Summarizes n answer.text) ⊎ (
 abbrev pub answer_in : Output → Answer
 answer_in output = record { status = output.status; text = output.text.items }
 
--- `run` has at most one answer to what a text spells, and `make` to a number
+-- a text spells no scenario, or one without turns
+abbrev pub HasNoTurns : Result ScenarioLists ScenarioFault → Type 0
+HasNoTurns (Ok s) = s.turns ≡ 0
+HasNoTurns (Err fault) = Unit {0}
+
+-- `run` has at most one answer to what a text without turns spells, and `make` to a number
 pub record HaveOneAnswer : Type 0 where
-  pub run : (read : Result ScenarioLists ScenarioFault) (one other : Answer) → RunAnswers read one → RunAnswers read other → one ≡ other
+  pub run : (read : Result ScenarioLists ScenarioFault) (one other : Answer) → HasNoTurns read → RunAnswers read one → RunAnswers read other → one ≡ other
   pub make : (n : ℕ) (one other : Answer) → MakeAnswers n one → MakeAnswers n other → one ≡ other

@@ -10,11 +10,11 @@ use am_lexer::parse_number;
 pub enum Command {
     /// `step`: the report of the history that follows the lines of a step script, which the source gives.
     Step,
-    /// `run`: the report of the run of a scenario by the scripts of its threads, which the source gives.
+    /// `run`: the report of a run of a scenario by the scripts of its threads, which the source gives.
     Run,
     /// `make N`: the summary of the run of the scenario that is generated from this number. Nothing is read.
     Make(u64),
-    /// `segments`: the report of the run of a scenario with segments, which the source gives, their bytes and what ran of its
+    /// `segments`: the report of a run of a scenario with segments, which the source gives, their bytes and what ran of its
     /// transfers.
     Segments,
     /// `session`: the report of the history that follows the lines of a session, which the source gives.

@@ -2,7 +2,8 @@
 
 ghost use Rattle.am_main.specs.Runs.{HaveOneAnswer};
 
-/// The command `run` has at most one answer to a text, and `make` to a number: a status and a text.
+/// The command `run` has at most one answer to a text whose scenario has no turns, and `make` to a number: a status and a text. With turns
+/// the threads may interleave in more than one way, and each answer is that of a run.
 #[tactic(auto, using(crate::proofs::OneAnswer::have_one_answer))]
 pub fn have_one_answer()
     ensures { HaveOneAnswer }

@@ -83,8 +83,8 @@ pub fn fault_output(alloc: Global, fault: ScenarioFault) -> Result<Output, Alloc
     Ok(Output { status: 3, text })
 }
 
-/// What `run` prints of a text: the report of the run of the scenario that it spells; the full log that the run met, and the report of
-/// what it made before; or the first fault of the text.
+/// What `run` prints of a text: the report of a run of the scenario that it spells, a phase of its threads and then the drain; the full
+/// log that the drain met, and the report of what was made before; or the first fault of the text.
 pub fn run_output<R: Threads + Sync>(
     rt: &R,
     alloc: Global,

@@ -173,10 +173,11 @@ fn make<K: Sink>(alloc: Global, n: u64, sink: &mut K) -> Status
 }
 
 /// The program, over any source that hasn't ended and any sink. Its words are `step`, which reads a step script and prints the report
-/// of the one history that follows its lines; `run`, which reads a scenario with the scripts of threads and prints the report of its
-/// run; `make N`, which reads nothing and prints the summary of the run of a generated scenario; `segments`, which reads a scenario with
-/// segments and prints also their bytes and what ran of each transfer; or `session`, which reads the events of two interfaces that
-/// restart and prints the report of the one history of its lines.
+/// of the one history that follows its lines; `run`, which reads a scenario with the scripts of threads, runs them with the interfaces
+/// and drivers at the same time for the scenario's number of turns, drains what is left, and prints the report of that run; `make N`,
+/// which reads nothing and prints the summary of the run of a generated scenario without turns; `segments`, which reads a scenario with
+/// segments, runs it so and prints also their bytes and what ran of each transfer; or `session`, which reads the events of two
+/// interfaces that restart and prints the report of the one history of its lines.
 ///
 /// The status says how it ended. Each has its cause in a clause, and a text of its own, which is offered to the sink:
 /// 0 the report or the summary, 2 wrong words, 3 a text that spells no scenario or a step that can't happen, 4 a read fault, 5 a write
@@ -192,8 +193,8 @@ pub fn am2<R: Threads + Sync, S: Source, K: Sink>(
     sink: &mut K,
 ) -> Status
     requires { S.has_ended source.old ≡ false }
-    // The headlines: the sink took the report of a history that follows the lines and obeys the laws; that of a run of the scripts; the
-    // summary of such a run.
+    // The headlines: the sink took the report of a history that follows the lines and obeys the laws; that of a run of the scripts, which
+    // is a phase of the threads and then its drain; the summary of such a run without turns.
     ensures reports_step { Asks (map string_bytes words.now) Command.Step → result.number ≡ 0 → Finds MOST_BYTES (S.left source.old) (ReportsSteps (K.held sink.old) (K.held sink.new)) }
     ensures reports_run { Asks (map string_bytes words.now) Command.Run → result.number ≡ 0 → Finds MOST_BYTES (S.left source.old) (ReportsRun (K.held sink.old) (K.held sink.new)) }
     ensures summarizes { (n : ℕ) → Asks (map string_bytes words.now) (Command.Make n) → result.number ≡ 0 → TellsSummary n (K.held sink.old) (K.held sink.new) }
