@@ -1,5 +1,5 @@
 -- The workers of each node at the end of the phase, node by node, and the run that they make.
-use Rattle.std.specs.Prelude.{if◌then◌else◌, ◌≡◌, ℕ, ◌+◌, ◌≤◌, ◌<◌, ◌==◌, Bool, Option, Some, None, List, [], ◌∷◌, ◌++◌, length, map, slice_get}
+use Rattle.std.specs.Prelude.{if◌then◌else◌, ◌≡◌, ℕ, ◌+◌, ◌≤◌, ◌<◌, ◌==◌, Bool, Option, Some, None, List, [], ◌∷◌, ◌++◌, drop, length, map, slice_get}
 use Rattle.std.specs.List.{filter}
 use Rattle.std.specs.Global.{Vec}
 use Rattle.am_names.specs.declared.NodeId.{NodeId}
@@ -22,7 +22,7 @@ use Rattle.am_scenario_types.specs.Lawful.{IsLawful}
 use Rattle.am_scripts.specs.Scripts.{calls_of}
 use Rattle.am_drain.specs.Follows.{IsGoodPhase}
 use Rattle.am_follow.specs.Layout.{layout_of}
-use Rattle.am_places.specs.Rule.{HasGathered, spent}
+use Rattle.am_places.specs.Rule.{Begins, HasGathered, spent}
 use Rattle.am_books.specs.declared.EndBook.{EndBook}
 use Rattle.am_phase.specs.Makers.{Driver, Interface, Maker, Thread}
 use Rattle.am_works.specs.Seats.{EndPass, Ids}
@@ -39,14 +39,13 @@ pub record TeamThread : Type 0 where
   pub pass : EndPass
 
 -- the workers of a node: its threads, its interface with its log and its links, and its driver, which took out the books and has the disk.
--- `sent` is what was emitted to each node, `taken` what was taken out of the link from each, and `left` what was left in it
+-- `sent` is what was emitted to each node, and `taken` what was taken out of the link from each
 pub record Team : Type 0 where
   pub threads : List TeamThread
   pub log : List Entry
   pub interface : EndPass
   pub sent : NodeId → List Packet
   pub taken : NodeId → List Packet
-  pub left : NodeId → List Packet
   pub driven : List Entry
   pub driver : EndPass
   pub books : List EndBook
@@ -105,18 +104,18 @@ abbrev pub taken_in : Option Team → NodeId → List Packet
 taken_in None from = []
 taken_in (Some t) from = t.taken from
 
-abbrev pub left_in : Option Team → NodeId → List Packet
-left_in None from = []
-left_in (Some t) from = t.left from
+-- what the link still has
+abbrev pub left_in : ScenarioLists → List Team → NodeId → NodeId → List Packet
+left_in s teams from to = drop (length (taken_in (slice_get teams to.0) from)) (shape s.plan from to (sent_in (slice_get teams from.0) to))
 
-abbrev pub run_of : List Team → RunEnd
-run_of teams =
+abbrev pub run_of : ScenarioLists → List Team → RunEnd
+run_of s teams =
     record {
       made = made_in teams;
       nodes = λ (node : NodeId). node_in node (slice_get teams node.0);
       sent = λ (from : NodeId). sent_in (slice_get teams from.0);
       taken = λ (from to : NodeId). taken_in (slice_get teams to.0) from;
-      left = λ (from to : NodeId). left_in (slice_get teams to.0) from;
+      left = left_in s teams;
     }
 
 -- ---- what is asked of them
@@ -148,15 +147,14 @@ number_of_line line = line.id
 abbrev pub HasThreads : ScenarioLists → NodeId → Team → Type 0
 HasThreads s node t = map thread_of t.threads ≡ map number_of_line (filter (is_on node) s.threads)
 
--- there is a team for each node, and each link between two of them was closed: what was taken out of it and then what was left in it is
--- the shape of what was sent
+-- there is a team for each node, and what was taken out of each link between two of them is a beginning of the shape of what was sent
 pub record AreTeams (s : ScenarioLists) (teams : List Team) : Type 0 where
   pub lawful : IsLawful s
   pub all : length teams ≡ s.nodes
   pub each : (k : ℕ) (t : Team) → slice_get teams k ≡ Some t → IsTeam s (node_at k) t
   pub threads' : (k : ℕ) (t : Team) → slice_get teams k ≡ Some t → HasThreads s (node_at k) t
   pub out : (k : ℕ) (t : Team) → slice_get teams k ≡ Some t → AreTakenOut s (node_at k) t
-  pub closed : (j k : ℕ) (f t : Team) → slice_get teams j ≡ Some f → slice_get teams k ≡ Some t → t.taken (node_at j) ++ t.left (node_at j) ≡ shape s.plan (node_at j) (node_at k) (f.sent (node_at k))
+  pub closed : (j k : ℕ) (f t : Team) → slice_get teams j ≡ Some f → slice_get teams k ≡ Some t → Begins (shape s.plan (node_at j) (node_at k) (f.sent (node_at k))) (t.taken (node_at j))
   pub strange : (k : ℕ) (t : Team) (from : NodeId) → slice_get teams k ≡ Some t → s.nodes ≤ from.0 → t.taken from ≡ []
 
 -- the part has what the team of the node has
@@ -185,7 +183,7 @@ TeamsGather = (s : ScenarioLists) (node : NodeId) (t : Team) → IsTeam s node t
 
 -- teams that are done end a run
 abbrev pub TeamsEnd : Type 0
-TeamsEnd = (s : ScenarioLists) (teams : List Team) → AreTeams s teams → IsEnded s (run_of teams)
+TeamsEnd = (s : ScenarioLists) (teams : List Team) → AreTeams s teams → IsEnded s (run_of s teams)
 
 -- the parts can be united, and their journal is a phase, in which each thread made its calls
 pub record AreUnited (s : ScenarioLists) (teams : List Team) (parts : List NodePart) : Type 0 where
