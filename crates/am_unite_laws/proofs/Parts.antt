@@ -115,7 +115,7 @@ born_as s r node (Interface n) v h = h.1.works.born
 born_as s r node (Driver n) v h = h.1.works.born
 
 module _ (s : ScenarioLists) (r : RunEnd) (end : IsEnded s r) (node : NodeId) (d : node.0 < s.nodes) where
-  journal : List Entry
+  abbrev journal : List Entry
   journal = merged (all_lists s r)
 
   phase : IsPhaseAtEnd s r

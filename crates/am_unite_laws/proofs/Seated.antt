@@ -17,38 +17,32 @@ use Rattle.am_unite_laws.specs.Teams.{AreSeated, IsTeam, Team, TeamThread, Teams
 -- ---- marks in order
 
 -- the marks of these are the numbers from n on
-Numbered : ℕ → List Worker → Type 0
+abbrev Numbered : ℕ → List Worker → Type 0
 Numbered n [] = Unit {0}
 Numbered n (w ∷ ws) = (w.pass.mark ≡ n) × Numbered (suc n) ws
 
 numbered : (n : ℕ) (ws : List Worker) → ((k : ℕ) (w : Worker) → slice_get ws k ≡ Some w → w.pass.mark ≡ k + n) → Numbered n ws
-unfolding Numbered
 numbered n [] h = tt
 numbered n (w ∷ ws) h = (h 0 w refl, numbered (suc n) ws (λ k u at. (let is = h (suc k) u at in omega (arith, is))))
 
 -- those before the last, and the last
 before_last : (n : ℕ) (ws : List Worker) (w : Worker) → Numbered n (ws ++ w ∷ []) → Numbered n ws × (w.pass.mark ≡ n + length ws)
-unfolding Numbered
 before_last n [] w h = (tt, (let is = h.0 in omega (arith, is)))
 before_last n (u ∷ us) w h = let more = before_last (suc n) us w h.1 in ((h.0, more.0), (let is = more.1 in omega (arith, is)))
 
 others_above : (m n : ℕ) (ws : List Worker) → m < n → Numbered n ws → AllAre (λ (u : Worker). m ≢ u.pass.mark) ws
-unfolding Numbered
 others_above m n [] less h = tt
 others_above m n (w ∷ ws) less h = ((λ same. (let is = h.0 in absurd (omega (arith, less, is, same)))), others_above m (suc n) ws (omega (arith, less)) h.1)
 
 others_below : (m n : ℕ) (ws : List Worker) → n + length ws ≤ m → Numbered n ws → AllAre (λ (u : Worker). m ≢ u.pass.mark) ws
-unfolding Numbered
 others_below m n [] most h = tt
 others_below m n (w ∷ ws) most h = ((λ same. (let is = h.0 in absurd (omega (arith, most, is, same)))), others_below m (suc n) ws (omega (arith, most)) h.1)
 
 seats_apart : (n : ℕ) (ws : List Worker) → Numbered n ws → HaveSeats ws
-unfolding Numbered
 seats_apart n [] h = tt
 seats_apart n (w ∷ ws) h = (subst (λ (m : ℕ). AllAre (λ (u : Worker). m ≢ u.pass.mark) ws) (sym h.0) (others_above n (suc n) ws (omega arith) h.1), seats_apart (suc n) ws h.1)
 
 all_seats : (seats n : ℕ) (ws : List Worker) → 0 < n → n + length ws ≤ suc seats → Numbered n ws → AllAre (λ (w : Worker). IsSeat seats w.pass.mark) ws
-unfolding Numbered
 all_seats seats n [] some_seat most h = tt
 all_seats seats n (w ∷ ws) some_seat most h = (
   (let is = h.0 in (omega (arith, is, some_seat), omega (arith, is, most))),
@@ -57,7 +51,6 @@ all_seats seats n (w ∷ ws) some_seat most h = (
 
 -- the one with this mark
 with_mark : (m n : ℕ) (ws : List Worker) → n ≤ m → m < n + length ws → Numbered n ws → (w : Worker) × (IsIn ws w × (w.pass.mark ≡ m))
-unfolding Numbered
 with_mark m n [] low high h = absurd (omega (arith, low, high))
 with_mark m n (w ∷ ws) low high h =
     ⊎_elim (λ (here : m ≡ n). (w, (inl refl, h.0 ∙ sym here))) (λ (later : suc n ≤ m). (let r = with_mark m (suc n) ws later (omega (arith, high)) h.1 in (r.0, (inr r.1.0, r.1.1))))

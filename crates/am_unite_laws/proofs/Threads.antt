@@ -18,7 +18,7 @@ use Rattle.am_unite_laws.specs.Teams.{AreTeams, HasThreads, Team, TeamThread, al
 
 -- ---- the lines of threads
 
-Rise : List ThreadLine → Type 0
+abbrev Rise : List ThreadLine → Type 0
 Rise [] = Unit {0}
 Rise (x ∷ xs) = AllAre (λ (y : ThreadLine). x.id < y.id) xs × Rise xs
 
@@ -27,7 +27,6 @@ above_first x [] h = tt
 above_first x (y ∷ ys) h = (h 0 y (omega arith), above_first x ys (λ k d less. h (suc k) d (omega (arith, less))))
 
 rise : (xs : List ThreadLine) → AllPairs (λ (a b : ThreadLine). a.id < b.id) xs → Rise xs
-unfolding Rise
 rise [] h = tt
 rise (x ∷ xs) h = (
   above_first x xs (λ k d less. h 0 (suc k) d (omega arith) (omega (arith, less))),
@@ -49,7 +48,6 @@ not_later p x xs k l above at same =
     absurd (omega (arith, less, same))
 
 lines_apart : (j k : ℕ) (xs : List ThreadLine) (a b : ℕ) (l m : ThreadLine) → Rise xs → slice_get (filter (is_on (node_at j)) xs) a ≡ Some l → slice_get (filter (is_on (node_at k)) xs) b ≡ Some m → l.id ≡ m.id → (j ≡ k) × (a ≡ b)
-unfolding Rise
 lines_apart j k [] a b l m rising at_l at_m same = absurd (cc)
 lines_apart j k (x ∷ xs) a b l m rising at_l at_m same = by_tests (j == x.node.0) (k == x.node.0) a b refl refl at_l at_m
   where
