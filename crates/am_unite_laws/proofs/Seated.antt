@@ -6,13 +6,13 @@ use Rattle.am_model.specs.Layout.{AllAre}
 use Rattle.am_local.specs.Together.{ends_of}
 use Rattle.am_scenario_types.specs.Lists.{ScenarioLists}
 use Rattle.am_follow.specs.Layout.{layout_of}
-use Rattle.am_places.specs.Rule.{HasGathered, gathered, has}
-use Rattle.am_phase.specs.Makers.{Driver, Interface}
+use Rattle.am_places.specs.Rule.{gathered, has}
+use Rattle.am_phase.specs.Makers.{Interface}
 use Rattle.am_phase.specs.Tenures.{IsSeat}
 use Rattle.am_works.specs.Seats.{EndPass}
-use Rattle.am_crew_laws.specs.Ended.{HaveSeats, ThreadEnd, Worker, gathering, whole_pass, workers}
+use Rattle.am_crew_laws.specs.Ended.{HaveSeats, ThreadEnd, Worker, gathering, whole_pass}
 use Rattle.am_crew_laws.proofs.Passes.{IsIn, KeepOwn, seats_same}
-use Rattle.am_unite_laws.specs.Teams.{AreSeated, IsTeam, Team, TeamThread, TeamsGather, gathered_in, keeper_in, node_end, worker_of_thread}
+use Rattle.am_unite_laws.specs.Teams.{AreSeated, Team, TeamThread, TeamsGather, gathered_in, keeper_in, node_end, worker_of_thread}
 
 -- ---- marks in order
 
@@ -23,7 +23,7 @@ Numbered n (w ∷ ws) = (w.pass.mark ≡ n) × Numbered (suc n) ws
 
 numbered : (n : ℕ) (ws : List Worker) → ((k : ℕ) (w : Worker) → slice_get ws k ≡ Some w → w.pass.mark ≡ k + n) → Numbered n ws
 numbered n [] h = tt
-numbered n (w ∷ ws) h = (h 0 w refl, numbered (suc n) ws (λ k u at. (let is = h (suc k) u at in omega (arith, is))))
+numbered n (w ∷ ws) h = ((let is = h 0 w refl in omega (arith, is)), numbered (suc n) ws (λ k u at. (let is = h (suc k) u at in omega (arith, is))))
 
 -- those before the last, and the last
 before_last : (n : ℕ) (ws : List Worker) (w : Worker) → Numbered n (ws ++ w ∷ []) → Numbered n ws × (w.pass.mark ≡ n + length ws)

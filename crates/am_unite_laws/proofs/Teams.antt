@@ -1,12 +1,10 @@
 -- The workers of all nodes end a run, and what their nodes have can be united.
 use Rattle.std.specs.Prelude.{drop, slice_get}
 use Rattle.std.specs.List.{filter}
-use Rattle.std.specs.Global.{Vec}
-use Rattle.std.proofs.Common.{◌≡◌, ◌⊎◌, inl, inr, ⊎_elim, ℕ, zero, suc, ◌+◌, ◌<◌, ◌≤◌, List, [], ◌∷◌, ◌++◌, map, length, Option, Some, None, refl, sym, ap, ◌∙◌, subst, arith, Contains}
+use Rattle.std.proofs.Common.{◌≡◌, ◌⊎◌, inl, inr, ⊎_elim, ℕ, zero, suc, ◌<◌, ◌≤◌, List, [], ◌∷◌, ◌++◌, map, length, Option, Some, None, refl, sym, ap, ◌∙◌, subst, arith, Contains}
 use Rattle.std.proofs.lemmas.Option.{slice_get_within}
 use Rattle.std.proofs.Math.Seq.{drop-append_seam}
 use Rattle.am_names.specs.declared.NodeId.{NodeId}
-use Rattle.am_names.specs.declared.Packet.{Packet}
 use Rattle.am_office.specs.declared.Entry.{Entry}
 use Rattle.am_join.proofs.Standing.{behind}
 use Rattle.am_model.specs.Layout.{AllAre}
@@ -14,9 +12,7 @@ use Rattle.am_local.specs.Together.{ends_of}
 use Rattle.am_journal.specs.View.{receipts}
 use Rattle.am_machine.specs.Interfaces.{node_at}
 use Rattle.am_machine.specs.Parts.{is_declared_at}
-use Rattle.am_merge.specs.Merged.{merged}
 use Rattle.am_node.specs.declared.NodePart.{NodePart}
-use Rattle.am_node.specs.Parts.{journal_of}
 use Rattle.am_plan.specs.Shape.{shape}
 use Rattle.am_scenario_types.specs.Lists.{ScenarioLists}
 use Rattle.am_scripts.specs.Scripts.{calls_of}
@@ -26,13 +22,13 @@ use Rattle.am_books.specs.declared.EndBook.{EndBook}
 use Rattle.am_phase.specs.Makers.{Driver, Interface, Maker, Thread}
 use Rattle.am_phase.specs.Tenures.{IsSeat}
 use Rattle.am_crew_laws.specs.Ended.{DriverEnd, HaveSeats, InterfaceEnd, IsAtWork, IsClosed, IsEnded, IsNodeEnd, IsTakenOut, Keeps, NodeEnd, ThreadEnd, Worker, whole_pass, workers}
-use Rattle.am_crew_laws.proofs.Passes.{IsIn, each_in}
+use Rattle.am_crew_laws.proofs.Passes.{IsIn}
 use Rattle.am_crew_laws.proofs.Homes.{got_in}
 use Rattle.am_crew_laws.proofs.Ends.{in_got, in_map}
 use Rattle.am_unite_laws.specs.Ended.{ArePartEnds, IsPartEnd, end_of, setting_by}
-use Rattle.am_unite_laws.specs.Teams.{ArePartsOfTeams, AreTeams, AreUnited, IsPartOfTeam, IsTeam, Team, TeamThread, TeamsEnd, TeamsUnite, all_threads, driven_in, gathered_in, keeper_in, log_in, node_end, node_in, run_of, sent_in, taken_in, worker_of_thread}
+use Rattle.am_unite_laws.specs.Teams.{ArePartsOfTeams, AreTeams, IsPartOfTeam, IsTeam, Team, TeamThread, TeamsEnd, TeamsUnite, all_threads, driven_in, gathered_in, keeper_in, log_in, node_end, node_in, run_of, sent_in, taken_in, worker_of_thread}
 use Rattle.am_unite_laws.proofs.Seated.{IsSeatedTeam, seated_team, teams_gather}
-use Rattle.am_unite_laws.proofs.Threads.{IsFirst, IsInTeam, IsNone, first_of, in_first, in_last, in_team, made_is}
+use Rattle.am_unite_laws.proofs.Threads.{IsFirst, IsNone, first_of, in_first, in_last, in_team, made_is}
 use Rattle.am_unite_laws.proofs.Unite.{are_a_phase, ends_unite, keep_calls, no_journal}
 
 -- ---- words on lists
@@ -127,17 +123,17 @@ module _ (s : ScenarioLists) (teams : List Team) (a : AreTeams s teams) where
     interface_keeps = (
       refl,
       subst (λ (o : Option Team). InterfaceEnd s (ends_of (layout_of s) node) node (log_in o) (sent_in o) (λ (from : NodeId). taken_in o from) t.interface) (sym h.at)
-      h.team.interface',
+          h.team.interface',
     )
 
     all_keep : AllAre (Keeps s (run_of s teams) node) (keeper_in node t ∷ gathered_in node t)
     all_keep = (
       driver_keeps,
       all_pushed (Keeps s (run_of s teams) node) (map worker_of_thread t.threads) (record { maker = Interface node; pass = t.interface })
-      (all_of_map worker_of_thread (Keeps s (run_of s teams) node) t.threads
-      (all_with (λ (w : TeamThread). ThreadEnd s (ends_of (layout_of s) node) w.thread w.made w.pass) (λ (w : TeamThread). Keeps s (run_of s teams) node (worker_of_thread w)) t.threads
-      h.team.threads' thread_keeps))
-      interface_keeps,
+          (all_of_map worker_of_thread (Keeps s (run_of s teams) node) t.threads
+          (all_with (λ (w : TeamThread). ThreadEnd s (ends_of (layout_of s) node) w.thread w.made w.pass) (λ (w : TeamThread). Keeps s (run_of s teams) node (worker_of_thread w)) t.threads
+          h.team.threads' thread_keeps))
+          interface_keeps,
     )
 
     seated : IsSeatedTeam node t

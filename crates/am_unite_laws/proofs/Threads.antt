@@ -2,10 +2,8 @@
 use Rattle.std.specs.Prelude.{slice_get, slice_index_or}
 use Rattle.std.specs.List.{AllPairs, filter}
 use Rattle.std.specs.Option.{option_map}
-use Rattle.std.proofs.Common.{◌≡◌, ◌≢◌, ◌⊎◌, inl, inr, ⊎_elim, ℕ, zero, suc, ◌<◌, ◌==◌, Bool, true, false, cond, List, [], ◌∷◌, ◌++◌, map, length, Some, refl, sym, ap, ◌∙◌, subst, arith, eqb-true, eq-eqb, true≢false}
+use Rattle.std.proofs.Common.{◌≡◌, ◌≢◌, ◌⊎◌, inl, inr, ⊎_elim, ℕ, zero, suc, ◌<◌, ◌==◌, Bool, true, false, cond, List, [], ◌∷◌, ◌++◌, length, Some, refl, sym, ap, ◌∙◌, subst, arith, eqb-true, eq-eqb, true≢false}
 use Rattle.std.proofs.lemmas.Option.{same_Some, slice_get-map}
-use Rattle.am_names.specs.declared.NodeId.{NodeId}
-use Rattle.am_office.specs.declared.Entry.{Entry}
 use Rattle.am_model.specs.Layout.{AllAre}
 use Rattle.am_machine.specs.Interfaces.{node_at}
 use Rattle.am_machine.proofs.PartLogs.{got_mapped}
@@ -14,7 +12,7 @@ use Rattle.am_scenario_types.specs.Lists.{ScenarioLists}
 use Rattle.am_crew_laws.proofs.Passes.{IsIn, all_in}
 use Rattle.am_crew_laws.proofs.Ends.{in_got}
 use Rattle.am_crew_laws.proofs.Homes.{got_in}
-use Rattle.am_unite_laws.specs.Teams.{AreTeams, HasThreads, Team, TeamThread, all_threads, is_on, made_among, number_of_line, thread_of}
+use Rattle.am_unite_laws.specs.Teams.{AreTeams, Team, TeamThread, all_threads, is_on, made_among, number_of_line, thread_of}
 
 -- ---- the lines of threads
 
@@ -49,7 +47,8 @@ not_later p x xs k l above at same =
 
 lines_apart : (j k : ℕ) (xs : List ThreadLine) (a b : ℕ) (l m : ThreadLine) → Rise xs → slice_get (filter (is_on (node_at j)) xs) a ≡ Some l → slice_get (filter (is_on (node_at k)) xs) b ≡ Some m → l.id ≡ m.id → (j ≡ k) × (a ≡ b)
 lines_apart j k [] a b l m rising at_l at_m same = absurd (cc)
-lines_apart j k (x ∷ xs) a b l m rising at_l at_m same = by_tests (j == x.node.0) (k == x.node.0) a b refl refl at_l at_m
+lines_apart j k (x ∷ xs) a b l m rising at_l at_m same =
+    by_tests (j == x.node.0) (k == x.node.0) a b refl refl at_l at_m (λ c d g h. lines_apart j k xs c d l m rising.1 g h same)
   where
     P : ThreadLine → Bool
     P = is_on (node_at j)
@@ -60,18 +59,17 @@ lines_apart j k (x ∷ xs) a b l m rising at_l at_m same = by_tests (j == x.node
     is_first : (y z : ThreadLine) → Some y ≡ Some z → y.id ≡ z.id
     is_first y z h = ap (λ (u : ThreadLine). u.id) (same_Some y z h)
 
-    by_tests : (t u : Bool) (c d : ℕ) → (j == x.node.0) ≡ t → (k == x.node.0) ≡ u → slice_get (cond t (x ∷ filter P xs) (filter P xs)) c ≡ Some l → slice_get (cond u (x ∷ filter Q xs) (filter Q xs)) d ≡ Some m → (j ≡ k) × (c ≡ d)
-    by_tests true true zero zero on_j on_k g h = (eqb-true j x.node.0 on_j ∙ sym (eqb-true k x.node.0 on_k), refl)
-    by_tests true true zero (suc d) on_j on_k g h = absurd (not_later Q x xs d m rising.0 h (is_first x l g ∙ same))
-    by_tests true true (suc c) zero on_j on_k g h = absurd (not_later P x xs c l rising.0 g (is_first x m h ∙ sym same))
-    by_tests true true (suc c) (suc d) on_j on_k g h = let r = lines_apart j k xs c d l m rising.1 g h same in (r.0, ap suc r.1)
-    by_tests true false zero d on_j on_k g h = absurd (not_later Q x xs d m rising.0 h (is_first x l g ∙ same))
-    by_tests true false (suc c) d on_j on_k g h =
-        let r = lines_apart j k xs c d l m rising.1 g h same in absurd (true≢false (sym on_j ∙ ap (λ (n : ℕ). n == x.node.0) r.0 ∙ on_k))
-    by_tests false true c zero on_j on_k g h = absurd (not_later P x xs c l rising.0 g (is_first x m h ∙ sym same))
-    by_tests false true c (suc d) on_j on_k g h =
-        let r = lines_apart j k xs c d l m rising.1 g h same in absurd (true≢false (sym on_k ∙ ap (λ (n : ℕ). n == x.node.0) (sym r.0) ∙ on_j))
-    by_tests false false c d on_j on_k g h = lines_apart j k xs c d l m rising.1 g h same
+    by_tests : (t u : Bool) (c d : ℕ) → (j == x.node.0) ≡ t → (k == x.node.0) ≡ u → slice_get (cond t (x ∷ filter P xs) (filter P xs)) c ≡ Some l → slice_get (cond u (x ∷ filter Q xs) (filter Q xs)) d ≡ Some m
+        → ((e f : ℕ) → slice_get (filter P xs) e ≡ Some l → slice_get (filter Q xs) f ≡ Some m → (j ≡ k) × (e ≡ f)) → (j ≡ k) × (c ≡ d)
+    by_tests true true zero zero on_j on_k g h more = (eqb-true j x.node.0 on_j ∙ sym (eqb-true k x.node.0 on_k), refl)
+    by_tests true true zero (suc d) on_j on_k g h more = absurd (not_later Q x xs d m rising.0 h (is_first x l g ∙ same))
+    by_tests true true (suc c) zero on_j on_k g h more = absurd (not_later P x xs c l rising.0 g (is_first x m h ∙ sym same))
+    by_tests true true (suc c) (suc d) on_j on_k g h more = let r = more c d g h in (r.0, ap suc r.1)
+    by_tests true false zero d on_j on_k g h more = absurd (not_later Q x xs d m rising.0 h (is_first x l g ∙ same))
+    by_tests true false (suc c) d on_j on_k g h more = absurd (true≢false (sym on_j ∙ ap (λ (n : ℕ). n == x.node.0) (more c d g h).0 ∙ on_k))
+    by_tests false true c zero on_j on_k g h more = absurd (not_later P x xs c l rising.0 g (is_first x m h ∙ sym same))
+    by_tests false true c (suc d) on_j on_k g h more = absurd (true≢false (sym on_k ∙ ap (λ (n : ℕ). n == x.node.0) (sym (more c d g h).0) ∙ on_j))
+    by_tests false false c d on_j on_k g h more = more c d g h
 
 -- ---- the threads of all teams
 

@@ -1,10 +1,7 @@
 -- The parts of a run's nodes can be united, and have the journal of the phase.
-use Rattle.std.specs.Prelude.{slice_get}
-use Rattle.std.specs.List.{filter}
-use Rattle.std.proofs.Common.{◌≡◌, ℕ, ◌+◌, ◌^◌, ◌≤◌, true, List, [], Some, refl, sym, ap, ◌∙◌, subst, arith, Contains}
+use Rattle.std.proofs.Common.{◌≡◌, ℕ, ◌^◌, ◌<◌, ◌≤◌, List, sym, ap, ◌∙◌, subst, arith, Contains}
 use Rattle.am_office.specs.declared.Entry.{Entry}
 use Rattle.am_office.specs.Entries.{touches}
-use Rattle.am_model.specs.History.{IsHistory}
 use Rattle.am_model.specs.Layout.{AllAre}
 use Rattle.am_machine.specs.Interfaces.{node_at}
 use Rattle.am_machine.specs.Parts.{AreNodeParts}
@@ -14,16 +11,15 @@ use Rattle.am_merge.proofs.Sorted.{Has, contains_has, has_contains, has_filter}
 use Rattle.am_node.specs.declared.NodePart.{NodePart}
 use Rattle.am_node.specs.Parts.{all_logs, journal_of}
 use Rattle.am_scenario_types.specs.Lists.{ScenarioLists}
-use Rattle.am_scripts.specs.Links.{ReceivesInOrder}
 use Rattle.am_scripts.specs.Scripts.{calls_of}
 use Rattle.am_drain.specs.Follows.{IsGoodPhase}
 use Rattle.am_follow.specs.Layout.{layout_of}
 use Rattle.am_phase.specs.Crew.{ByDriver, ByInterface, ByThread, IsMade}
-use Rattle.am_phase.specs.Makers.{Driver, Interface, IsDone, IsOfMaker, Maker, Thread}
+use Rattle.am_phase.specs.Makers.{Driver, Interface, IsOfMaker, Maker, Thread}
 use Rattle.am_phase.proofs.Makers.{thread_end}
 use Rattle.am_phase.proofs.Phase.{same_test}
 use Rattle.am_phase.proofs.Splits.{all_at, all_from}
-use Rattle.am_phase.proofs.Threads.{calls_within, is_by, of_thread}
+use Rattle.am_phase.proofs.Threads.{calls_within, of_thread}
 use Rattle.am_crew_laws.specs.Ended.{IsEnded, RunEnd, all_lists, logs_at}
 use Rattle.am_crew_laws.specs.Laws.{IsPhaseAtEnd}
 use Rattle.am_crew_laws.proofs.Homes.{got_low}
@@ -68,7 +64,7 @@ module _ (s : ScenarioLists) (r : RunEnd) (end : IsEnded s r) where
         each = λ k p at.
             (let less = got_low parts k p at in
             let all = ps.all in
-            let low = omega (arith, less, all) in
+            let low : k < s.nodes = omega (arith, less, all) in
             node_part s r end (node_at k) low p ps.packet (driver_at s r end (node_at k) (ps.drivers (node_at k) low)) (ps.each k p at));
       }
 
