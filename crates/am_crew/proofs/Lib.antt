@@ -1,5 +1,3 @@
-mod Gathering
-mod Teams
 mod Links
-mod Phase
+mod Left
 mod Ended

@@ -1,7 +1,8 @@
 //! How a node's phase ends: its driver gathers the other seats, and takes the endpoints out.
 
-ghost use Rattle.am_crew.specs.Ending.{AreEnded, AreTakenOut, IsEndedOf, thread_end};
-ghost use Rattle.am_crew_laws.specs.Ended.{ComesTo, IsTakenOut, gathering};
+ghost use Rattle.am_crew.specs.Ending.{AreEnded, AreTakenOut, IsEndedOf};
+ghost use Rattle.am_crew_ends.specs.Ends.{gathered_all, pass_of};
+ghost use Rattle.am_crew_laws.specs.Ended.{ComesTo};
 ghost use Rattle.am_crew_opening.specs.Crews.{AreCrews, IsCrew};
 ghost use Rattle.am_office.specs.declared.Entry.{Entry};
 ghost use Rattle.am_places.specs.Rule.{HasGathered, IsOutside, inside_with, known_at, with_known};
@@ -29,7 +30,7 @@ fn gather_threads(
     requires keeper { keeper.old.token.table_id ≡ places.now.board.shared.table_id }
     requires ended { All (λ w. IsIdle places.now.board.shared.table_id w.seat.token) threads.items }
     ensures keeper { keeper.new.token.table_id ≡ keeper.old.token.table_id }
-    ensures gathered { keeper.new.token.me ≡ (gathering keeper.old.token.me.0 (map thread_end threads.items), keeper.old.token.me.1) }
+    ensures gathered { keeper.new.token.me ≡ (gathered_all keeper.old.token.me.0 (map pass_of threads.items), keeper.old.token.me.1) }
 {
     for worker in threads {
         let ThreadWorker { seat, .. } = worker;

@@ -1,7 +1,6 @@
 use Rattle.std.proofs.Common.{◌≡◌, map}
 use Rattle.std.specs.List.{AllByRecursion}
-use Rattle.am_crew.specs.Ending.{thread_end}
-use Rattle.am_crew_laws.specs.Ended.{gathering}
+use Rattle.am_crew_ends.specs.Ends.{gathered_all, pass_of}
 use Rattle.am_workers.specs.declared.workers.ThreadWorker.{ThreadWorker}
 use Rattle.am_works.specs.Seats.{IsIdle}
 use Rattle.am_crew.proofs.ending.gather_threads.Given as goal
@@ -10,6 +9,6 @@ abbrev pub invariant-loop-worker : goal.invariant-loop-worker
 invariant-loop-worker l =
     record {
       table : l.keeper.token.table_id ≡ l.fn.keeper.token.table_id;
-      gathered : (gathering l.keeper.token.me.0 (map thread_end l.worker-iterator.rest.items), l.keeper.token.me.1) ≡ (gathering l.fn.keeper.token.me.0 (map thread_end l.fn.threads.items), l.fn.keeper.token.me.1);
+      gathered : (gathered_all l.keeper.token.me.0 (map pass_of l.worker-iterator.rest.items), l.keeper.token.me.1) ≡ (gathered_all l.fn.keeper.token.me.0 (map pass_of l.fn.threads.items), l.fn.keeper.token.me.1);
       idle : AllByRecursion (λ (w : ThreadWorker). IsIdle l.fn.places.board.shared.table_id w.seat.token) l.worker-iterator.rest.items;
     }
