@@ -91,7 +91,7 @@ fits_nowhere frames k place h =
 
 -- ---- a fresh seat, book by book
 
-abbrev line_now : EndBook → EndView
+abbrev pub line_now : EndBook → EndView
 line_now b = line_of b.end.settings.id (state_after b.end)
 
 abbrev known_of : EndBook → Known Entry
@@ -189,9 +189,9 @@ can_begin s books named node k seats keep swap a last disk =
       homes = λ j set at. (let r = book_at (λ (b : EndBook). b.end.settings.node ≡ node) books j set a.homes at in ap (λ (z : EndSettings). z.node) (sym r.is) ∙ r.holds);
       apart = λ i j b c at_i at_j same. knows.apart i j c.id (knows.births i b at_i ∙ ap (λ (e : EndpointId). Some e) same) (knows.births j c at_j);
       each = λ j set line at shown. (
-        let r = book_at (Opens s node books swap k s.frames) books j set (all_open s node books swap k s.frames a disk) at in
-        knows_fresh s node books swap k s.frames j set line r.b (known_at j (fresh_pass books named k seats s.frames)) a.packet r.holds r.is r.known (same_line line (line_now r.b) (sym shown ∙ r.line))
-      );
+          let r = book_at (Opens s node books swap k s.frames) books j set (all_open s node books swap k s.frames a disk) at in
+          knows_fresh s node books swap k s.frames j set line r.b (known_at j (fresh_pass books named k seats s.frames)) a.packet r.holds r.is r.known (same_line line (line_now r.b) (sym shown ∙ r.line))
+          );
     }
 
 pub drivers_begin : DriversBegin
@@ -219,11 +219,10 @@ books_are_homely s node books a = by_book books a.fresh_books.born a.fresh_books
   where
     by_book : (bs : List EndBook) → AllAre (λ (b : EndBook). IsBorn (layout_of s) b.end.settings) bs → AllAre (λ (b : EndBook). b.end.log ≡ []) bs → AllAre (λ (b : EndBook). stands_at b.end < 2) bs
     by_book [] born none = tt
-    by_book (b ∷ bs) born none =
-        (
-          subst (λ (xs : List Entry). place_code (state_by b.end.settings xs).head.place < 2) (sym none.0) (low_code b.end.settings.place (born_homely (layout_of s) b.end.settings a.packet born.0)),
-          by_book bs born.1 none.1,
-        )
+    by_book (b ∷ bs) born none = (
+      subst (λ (xs : List Entry). place_code (state_by b.end.settings xs).head.place < 2) (sym none.0) (low_code b.end.settings.place (born_homely (layout_of s) b.end.settings a.packet born.0)),
+      by_book bs born.1 none.1,
+    )
 
 pub new_drivers_are_at_work : NewDriversAreAtWork
 new_drivers_are_at_work s table books named k seats keep node w a n =
