@@ -1,13 +1,8 @@
 -- A worker that made its turn, or that stopped, is at work with one turn more.
-use Rattle.std.proofs.Common.{◌≡◌, ℕ, ◌+◌, ◌<◌, ◌≤◌, ◌^◌, Bool, true, false, ◌&&◌, List, length, Some, refl, sym, ap, ◌∙◌, subst, arith}
-use Rattle.std.specs.Prelude.{slice_get}
-use lib.ListN.{get_elem?}
-use mathlib.Core.Option.{some}
+use Rattle.std.proofs.Common.{◌≡◌, ℕ, ◌+◌, ◌<◌, ◌^◌, true, ◌&&◌, List, refl, sym, ap, ◌∙◌, subst}
 use Rattle.atomic_table.specs.Seated.{TableId}
-use Rattle.am_names.specs.declared.EndpointId.{EndpointId}
 use Rattle.am_names.specs.declared.NodeId.{NodeId}
 use Rattle.am_office.specs.declared.Actor.TheVariants.{Thread}
-use Rattle.am_body.specs.declared.settings.EndSettings.{EndSettings}
 use Rattle.am_driver.proofs.Found.{and_right}
 use Rattle.am_follow.specs.Layout.{is_direct, layout_of}
 use Rattle.am_follow.proofs.Lawful.{lawful_layout}
@@ -18,12 +13,11 @@ use Rattle.am_model.specs.Layout.{declared}
 use Rattle.am_model.proofs.Carries.{numbers_in_range}
 use Rattle.am_scenario_types.specs.Lawful.{IsLawful}
 use Rattle.am_scenario_types.specs.Lists.{ScenarioLists}
-use Rattle.am_scenario_types.specs.declared.parts.Network.{Network}
 use Rattle.am_scenario_types.specs.declared.parts.Network.TheVariants.{Packet}
 use Rattle.am_scenario_types.specs.declared.parts.ScriptCall.{ScriptCall}
 use Rattle.am_turns.specs.Callers.{HaveRange, IsScript}
 use Rattle.am_works.specs.Drivers.{IsDriverOf}
-use Rattle.am_works.specs.Seats.{AreBorn, EndPass, Ids, IsIdle, SameSeat}
+use Rattle.am_works.specs.Seats.{AreBorn, EndPass, Ids, SameSeat}
 use Rattle.am_workers.specs.AtWork.{IsDriverAtWork, IsThreadAtWork}
 use Rattle.am_workers.specs.declared.workers.DriverWorker.{DriverWorker}
 use Rattle.am_workers.specs.declared.workers.ThreadWorker.{ThreadWorker}

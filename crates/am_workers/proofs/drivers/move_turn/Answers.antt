@@ -1,4 +1,4 @@
-use Rattle.std.proofs.Common.{◌+◌, ◌<◌, ◌≤◌, ◌^◌, arith, refl}
+use Rattle.std.proofs.Common.{◌+◌, ◌<◌, ◌^◌, arith, refl}
 use Rattle.am_workers.proofs.Working.{is_driver_of}
 use Rattle.am_workers.proofs.drivers.move_turn.Goals as goal
 

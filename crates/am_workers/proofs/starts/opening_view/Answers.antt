@@ -1,4 +1,4 @@
-use Rattle.std.proofs.Common.{rules, ◌≡◌, ◌∙◌, ◌<◌, ◌++◌, ◌∷◌, [], ap, length, sym}
+use Rattle.std.proofs.Common.{rules, ◌∙◌, ◌<◌, ◌++◌, ◌∷◌, [], ap, length, sym}
 use Rattle.std.proofs.lemmas.List.{map_more}
 use Rattle.am_workers.proofs.Begins.{line_now}
 use Rattle.am_workers.proofs.starts.opening_view.Goals as goal

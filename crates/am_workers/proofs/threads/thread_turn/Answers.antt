@@ -1,4 +1,4 @@
-use Rattle.std.proofs.Common.{◌+◌, ◌≤◌, List, arith, subst, sym}
+use Rattle.std.proofs.Common.{◌+◌, List, arith, subst, sym}
 use Rattle.am_names.specs.declared.EndpointId.{EndpointId}
 use Rattle.am_scenario_types.specs.declared.parts.ScriptCall.{ScriptCall}
 use Rattle.am_turns.specs.Callers.{HaveRange, IsScript}
