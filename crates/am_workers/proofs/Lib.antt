@@ -1,2 +1,4 @@
-pub mod Linking
-pub mod Turned
+mod Begins
+mod Linking
+mod Turned
+mod Working
