@@ -5,7 +5,8 @@ ghost use Rattle.am_scenario_types.specs.Lawful.{IsLawful};
 ghost use Rattle.am_scenario_types.specs.declared.parts.Network.TheVariants.{Packet as IsPacket};
 ghost use Rattle.am_turns.specs.Servers.{HandHolds, out_of};
 ghost use Rattle.am_workers.specs.AtWork.{IsInterfaceAtWork, SameIns, SameOuts};
-ghost use Rattle.am_workers.specs.Ways.{HaveRoom, HaveRoomBut, Prepares, Serves, stop_after};
+ghost use Rattle.am_workers.specs.Ways.{HaveRoom, HaveRoomBut, Prepares, Serves};
+ghost use Rattle.am_workers.specs.Stops.{stop_after_work};
 ghost use Rattle.am_works.specs.Seats.{IsIdle, SameSeat};
 ghost use Rattle.std.specs.Prelude.{◌≡◌, ◌≢◌, ◌+◌, ◌<◌, ◌≤◌, ℕ, OnOk, Some, length, slice_get};
 ghost use lib.ListN.{get_elem?};
@@ -49,8 +50,8 @@ fn out_of(turn: &InterfaceTurn) -> Option<Packet>
 }
 
 /// Why a worker makes no further turn after this one.
-fn stop_after(turn: &InterfaceTurn) -> Option<Stop>
-    ensures { result ≡ stop_after turn.now }
+fn stop_after_work(turn: &InterfaceTurn) -> Option<Stop>
+    ensures { result ≡ stop_after_work turn.now }
 {
     match turn {
         InterfaceTurn::Full => Some(Stop::LogFull),
@@ -96,7 +97,7 @@ fn do_work(worker: &mut InterfaceWorker, places: &Places<EndBook>, ids: &[Endpoi
     worker.last = send(&mut worker.outs, worker.last, out);
     worker.waits.emitted(out);
     worker.end = next_place(worker.end, work, ids.len());
-    worker.stop = stop_after(&turn);
+    worker.stop = stop_after_work(&turn);
 }
 
 /// Chooses a work and does it, if there is one to do.
