@@ -1,3 +1,4 @@
-mod Links
+mod Adding
 mod Left
-mod Ended
+mod Links
+mod Ran
