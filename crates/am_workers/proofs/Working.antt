@@ -1,5 +1,5 @@
 -- What a thread and a driver keep from turn to turn.
-use Rattle.std.proofs.Common.{◌≡◌, ℕ, ◌+◌, ◌<◌, ◌^◌, true, ◌&&◌, List, sym, ap, subst}
+use Rattle.std.proofs.Common.{◌≡◌, ℕ, ◌+◌, ◌<◌, ◌^◌, true, ◌&&◌, List, Some, sym, ap, subst}
 use Rattle.atomic_table.specs.Seated.{TableId}
 use Rattle.am_names.specs.declared.NodeId.{NodeId}
 use Rattle.am_office.specs.declared.Actor.TheVariants.{Thread}
@@ -20,6 +20,7 @@ use Rattle.am_works.specs.Drivers.{IsDriverOf}
 use Rattle.am_works.specs.Seats.{AreBorn, EndPass, Ids, SameSeat}
 use Rattle.am_workers.specs.AtWork.{IsDriverAtWork, IsThreadAtWork}
 use Rattle.am_workers.specs.declared.workers.DriverWorker.{DriverWorker}
+use Rattle.am_workers.specs.declared.workers.Stop.{Stop}
 use Rattle.am_workers.specs.declared.workers.ThreadWorker.{ThreadWorker}
 
 -- ---- a thread
@@ -35,6 +36,7 @@ pub record IsSameThread (s : ScenarioLists) (table : TableId) (ids : Ids) (turns
   pub at_work : IsThreadAtWork s table ids turns w'
   pub seat : SameSeat w.seat.token.me.0 w'.seat.token.me.0
   pub thread : w'.thread ≡ w.thread
+  pub stopped : (why : Stop) → w.stop ≡ Some why → w' ≡ w
 
 -- ---- a driver
 
@@ -47,3 +49,4 @@ pub record IsSameDriver (s : ScenarioLists) (table : TableId) (ids : Ids) (node 
   pub at_work : IsDriverAtWork s table ids node turns w'
   pub seat : SameSeat w.seat.token.me.0 w'.seat.token.me.0
   pub is_node : w'.node ≡ w.node
+  pub stopped : (why : Stop) → w.stop ≡ Some why → w' ≡ w
