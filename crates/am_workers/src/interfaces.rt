@@ -7,6 +7,7 @@ ghost use Rattle.am_turns.specs.Servers.{HandHolds, out_of};
 ghost use Rattle.am_workers.specs.AtWork.{IsInterfaceAtWork, SameIns, SameOuts};
 ghost use Rattle.am_workers.specs.Ways.{HaveRoom, HaveRoomBut, Prepares, Serves};
 ghost use Rattle.am_workers.specs.Stops.{stop_after_work};
+ghost use Rattle.am_workers.specs.declared.workers.Stop.{Stop};
 ghost use Rattle.am_works.specs.Seats.{IsIdle, SameSeat};
 ghost use Rattle.std.specs.Prelude.{◌≡◌, ◌≢◌, ◌+◌, ◌<◌, ◌≤◌, ℕ, OnOk, Some, length, slice_get};
 ghost use lib.ListN.{get_elem?};
@@ -141,6 +142,7 @@ fn take_turn(
     ensures seat { SameSeat worker.old.seat.token.me.0 worker.new.seat.token.me.0 }
     ensures outs { SameOuts worker.old.outs.items worker.new.outs.items }
     ensures ins { SameIns worker.old.ins.items worker.new.ins.items }
+    ensures stopped { (why : Stop) → worker.old.stop ≡ Some why → worker.new ≡ worker.old }
 {
     if worker.stop.is_some() {
         return;
@@ -169,6 +171,7 @@ pub fn work_as_interface<G: Gate>(
     ensures seat { SameSeat worker.old.seat.token.me.0 worker.new.seat.token.me.0 }
     ensures outs { SameOuts worker.old.outs.items worker.new.outs.items }
     ensures ins { SameIns worker.old.ins.items worker.new.ins.items }
+    ensures stopped { (why : Stop) → worker.old.stop ≡ Some why → worker.new ≡ worker.old }
 {
     for turn in 0..scenario.turns {
         gate.pass(number, turn);
