@@ -23,7 +23,6 @@ use Rattle.am_machine.specs.Ends.{kept, setting_in}
 use Rattle.am_machine.specs.Interfaces.{IsInterface, node_at}
 use Rattle.am_machine.specs.Parts.{AreNodeParts, IsNodePart, is_declared_at}
 use Rattle.am_node.specs.declared.NodePart.{NodePart}
-use Rattle.am_places.specs.declared.places.Seat.{Seat}
 use Rattle.am_scenario_types.specs.Lawful as lawful
 use Rattle.am_scenario_types.specs.Lists.{ScenarioLists}
 use Rattle.am_scenario_types.specs.declared.parts.Network.TheVariants as Networks
@@ -33,7 +32,7 @@ use Rattle.am_works.specs.Begins.{AreFresh, ids_of}
 use Rattle.am_works.specs.Seats.{IsBorn}
 use Rattle.am_works.specs.Stands.{fresh_pass}
 use Rattle.am_crew_laws.proofs.Homes.{ends_apart}
-use Rattle.am_opening.specs.Openings.{AreDeclared, AreOpenings, IsFreshDisk, IsFreshSeat, IsOpening, births_of, lines_of, setting_by, thread_ids, threads_of}
+use Rattle.am_opening.specs.Openings.{AreDeclared, AreOpenings, EndSeat, IsFreshDisk, IsFreshSeat, IsOpening, births_of, lines_of, setting_by, thread_ids, threads_of}
 use Rattle.am_opening.specs.declared.opening.Opening.{Opening}
 use Rattle.am_opening.proofs.Fresh.{is_born, is_homely, no_log, part_at, part_books, part_disk, part_few, part_home, part_ids}
 use Rattle.am_opening.proofs.Lists.{AreTaking, all_got, each_more, elem_got, got_elem, got_map, length_map, map_all, map_twice, taking_begins, taking_ends, taking_more, taking_next}
@@ -42,9 +41,9 @@ abbrev end_of : EndBook → EndpointView
 end_of b = b.end
 
 -- what Places::new says of the seats
-abbrev pub AreSeats : TableId → List EndBook → List EndpointId → ℕ → ℕ → List (Seat EndBook) → Type 0
+abbrev pub AreSeats : TableId → List EndBook → List EndpointId → ℕ → ℕ → List (EndSeat) → Type 0
 AreSeats table books named seats frames list =
-    (length list ≡ seats) × ((k : ℕ) (seat : Seat EndBook) → get_elem? list k ≡ some seat → (seat.token.table_id ≡ table) × (seat.mark ≡ k + 1) × (seat.token.me ≡ (fresh_pass books named k seats frames, [])))
+    (length list ≡ seats) × ((k : ℕ) (seat : EndSeat) → get_elem? list k ≡ some seat → (seat.token.table_id ≡ table) × (seat.mark ≡ k + 1) × (seat.token.me ≡ (fresh_pass books named k seats frames, [])))
 
 packet_layout : (s : ScenarioLists) → s.network ≡ Networks.Packet → (layout_of s).direct ≡ false
 packet_layout s packet = ap is_direct packet

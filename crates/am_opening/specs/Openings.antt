@@ -5,7 +5,9 @@ use Rattle.am_names.specs.declared.EndpointId.{EndpointId}
 use Rattle.am_names.specs.declared.NodeId.{NodeId}
 use Rattle.am_names.specs.Names.{same_node}
 use Rattle.am_body.specs.declared.settings.EndSettings.{EndSettings}
+use Rattle.am_office.specs.declared.Entry.{Entry}
 use Rattle.am_books.specs.declared.EndBook.{EndBook}
+use Rattle.am_books.specs.contracts.EndBookBook.TheImpl.{ghosts}
 use Rattle.am_device.specs.Memory.{Store}
 use Rattle.am_driver.specs.Lists.{ViewLists}
 use Rattle.am_driver.specs.Views.{line_of}
@@ -61,8 +63,12 @@ threads_of s node = thread_ids s.threads node
 
 -- ---- a node
 
+-- a seat of the places of a node's endpoints
+abbrev pub EndSeat : Type 0
+EndSeat = Seat EndBook Entry EndSettings ghosts
+
 -- the seat with this number, from 0, of so many of the places for these books, which were just made
-pub record IsFreshSeat (table : TableId) (books : List EndBook) (named : List EndpointId) (k seats frames : ℕ) (seat : Seat EndBook) : Type 0 where
+pub record IsFreshSeat (table : TableId) (books : List EndBook) (named : List EndpointId) (k seats frames : ℕ) (seat : EndSeat) : Type 0 where
   pub table_is : seat.token.table_id ≡ table
   pub pass : seat.token.me ≡ (fresh_pass books named k seats frames, [])
 
@@ -85,7 +91,7 @@ pub record IsOpening (s : ScenarioLists) (node : NodeId) (o : Opening) : Type 0 
   pub fresh_books : AreFresh s books
   pub threads' : o.threads.items ≡ threads_of s node
   pub all : length o.seats.items ≡ length o.threads.items + 2
-  pub seats' : (k : ℕ) (seat : Seat EndBook) → slice_get o.seats.items k ≡ Some seat → IsFreshSeat o.places.board.shared.table_id books o.places.ids.items k (length o.threads.items + 2) s.frames seat
+  pub seats' : (k : ℕ) (seat : EndSeat) → slice_get o.seats.items k ≡ Some seat → IsFreshSeat o.places.board.shared.table_id books o.places.ids.items k (length o.threads.items + 2) s.frames seat
   pub interface' : IsInterface (layout_of s) [] node o.interface
   pub set' : o.set ≡ o.interface.settings
   pub lawful : AreLawful o.set
