@@ -155,3 +155,9 @@ few_threads s node ok =
     let same = count_threads node s.threads in
     let most = ok.threads_of_a_node node.0 in
     omega (arith, mapped, counted, same, most)
+
+pub count_low : (s : ScenarioLists) (node : NodeId) (n : ℕ) (ids : List ℕ) (lines : List ThreadLine) → lawful.IsLawful s → n ≡ length ids → ids ≡ thread_ids lines node → lines ≡ s.threads → n ≤ 4
+count_low s node n ids lines ok all are same =
+    let e : length ids ≡ length (thread_ids s.threads node) = ap length are ∙ ap (λ (ls : List ThreadLine). length (thread_ids ls node)) same in
+    let few = few_threads s node ok in
+    omega (arith, all, e, few)

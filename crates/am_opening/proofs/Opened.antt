@@ -1,6 +1,6 @@
 -- What a node is opened to, by the cluster's part of the node.
 use Rattle.std.specs.Prelude.{slice_get, filter}
-use Rattle.std.proofs.Common.{◌≡◌, ℕ, ◌+◌, ◌<◌, ◌≤◌, ◌^◌, None, Some, List, [], ◌∷◌, ◌++◌, length, map, reverse, refl, sym, ap, ◌∙◌, subst, arith}
+use Rattle.std.proofs.Common.{◌≡◌, ℕ, ◌+◌, ◌<◌, ◌≤◌, ◌^◌, false, None, Some, List, [], ◌∷◌, ◌++◌, length, map, reverse, refl, sym, ap, ◌∙◌, subst, arith}
 use Rattle.std.proofs.lemmas.List.{length_push}
 use lib.ListN.{get_elem?}
 use mathlib.Core.Option.{some}
@@ -118,7 +118,7 @@ module _ (s : ScenarioLists) (p : NodePart) (ok : lawful.IsLawful s) (packet : s
           fresh_books = books_fresh;
           threads' = threads;
           all = seats.0 ∙ all;
-          seats' = λ k seat at. (let told = seats.1 k seat (got_elem o.seats.items k seat at) in record { table_is = told.0; pass = told.1.1 ∙ ap (λ (n : ℕ). (fresh_pass books o.places.ids.items k n s.frames, [])) all });
+          seats' = λ k seat at. (let told = seats.1 k seat (got_elem o.seats.items k seat at) in record { table_is = told.0; pass = told.2 ∙ ap (λ (n : ℕ). (fresh_pass books o.places.ids.items k n s.frames, [])) all });
           interface' = subst (IsInterface (layout_of s) [] p.node) (sym interface) part.interface;
           set' = set ∙ ap (λ (i : InterfaceView). i.settings) (sym interface);
           lawful = subst AreLawful (sym set) good;

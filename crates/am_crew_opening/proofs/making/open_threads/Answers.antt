@@ -6,7 +6,7 @@ use Rattle.am_crew_opening.proofs.Seated.{AreSeating, seating_begins, seating_en
 use Rattle.am_crew_opening.proofs.making.open_threads.Goals as goal
 
 pub loop-seat-init : goal.loop-seat-init
-loop-seat-init c = subst (λ (rest : List EndSeat). AreSeating c.args.scenario.now c.args.ids.now c.args.seats.items rest []) (sym c.reverse.ensures.items) (seating_begins c.args.scenario.now c.args.ids.now c.args.seats.items)
+loop-seat-init c = coe 0 1 (i. AreSeating c.args.scenario.now c.args.ids.now c.args.seats.items (sym c.reverse.ensures.items i) (sym c.new-threads.ensures.items i)) (seating_begins c.args.scenario.now c.args.ids.now c.args.seats.items)
 
 pub returns : goal.returns
 returns c =
