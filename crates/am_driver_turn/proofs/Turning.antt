@@ -12,7 +12,10 @@ use Rattle.am_names.specs.Names.{same_end}
 use Rattle.am_office.specs.declared.Event.{Event}
 use Rattle.am_office.specs.declared.Event.TheVariants as Events
 use Rattle.am_office.specs.declared.Place.TheVariants.{Host}
+use Rattle.am_body.specs.declared.settings.EndSettings.{EndSettings}
 use Rattle.am_device.specs.Memory.{Store}
+use Rattle.am_endpoint.specs.View.{state_by}
+use Rattle.am_office.specs.declared.Entry.{Entry}
 use Rattle.am_model.proofs.Names.{same_end-is}
 use Rattle.am_local.specs.Driver.{end_moved}
 use Rattle.am_driver.specs.Chosen.{IsOfLine, Suits}
@@ -26,12 +29,13 @@ use Rattle.am_driver.proofs.Chosen.{moves_of_lines}
 use Rattle.am_places.specs.Rule.{joined}
 use Rattle.am_scenario_types.specs.Lists.{ScenarioLists}
 use Rattle.am_works.specs.Drivers.{IsDriverOf}
-use Rattle.am_works.specs.Drives.{CanDrive, LooksTo, line_by}
-use Rattle.am_works.specs.Seats.{EndPass, Ids}
+use Rattle.am_works.specs.Drives.{CanDrive, LooksTo, frames_after, line_by, with_frames}
+use Rattle.am_works.specs.Seats.{EndPass, Ids, SameSeat}
 use Rattle.am_works.specs.Works.{DriverWorks}
 use Rattle.am_works.proofs.Drivers.{can_wait, drivers_go_on, drivers_look, drivers_rest, drivers_wait}
 use Rattle.am_works.proofs.Driving.{looks_keep, moved_id, moves_keep}
-use Rattle.am_driver_turn.specs.Turns.{Answer, IsStopped, MoveTurns}
+use Rattle.am_works.proofs.Same.{busy_same, stays_same}
+use Rattle.am_driver_turn.specs.Turns.{Answer, IsFull, IsHeld, IsLate, IsSpent, IsStarved, IsStopped, MoveTurns}
 use Rattle.am_driver_turn.specs.declared.turns.DriverFault.TheVariants as Faults
 use Rattle.am_driver_turn.specs.declared.turns.DriverTurn.TheVariants as Turns
 
@@ -131,3 +135,33 @@ has_line view node event e is end none_is =
   where
     no_event : None ≡ Some event → ⊥
     no_event h = cc
+
+-- ---- the seat
+
+same_then : (u v w : EndPass) → SameSeat u v → SameSeat v w → SameSeat u w
+same_then u v w g h = record { mark = h.mark ∙ g.mark; seats = h.seats ∙ g.seats; births = h.births ∙ g.births }
+
+pub looks_same : (n : ℕ) (view view' : ViewLists) (v w : EndPass) → LooksTo n view view' v w → SameSeat v w
+looks_same zero view view' v w l = record { mark = ap (λ (x : EndPass). x.mark) l.1; seats = ap (λ (x : EndPass). x.seats) l.1; births = ap (λ (x : EndPass). x.births) l.1 }
+looks_same (suc n) view view' v w l = same_then v l.1 w (looks_same n view l.0 v l.1 l.2) (stays_same n l.3.set l.3.place l.3.log [] l.1 w l.3.stays)
+
+pub stopped_same : (holder : ℕ) (view view' : ViewLists) (v w : EndPass) → IsStopped holder view view' v w → SameSeat v w
+stopped_same holder view view' v w l = same_then v l.between w (looks_same l.looked view view' v l.between l.looks) (busy_same l.k holder l.between w l.busy)
+
+held_same : (k : ℕ) (e : EndpointId) (Why : ViewLists → EndSettings → List Entry → Type 0) (shown view' : ViewLists) (u w : EndPass) → IsHeld k e Why shown view' u w → SameSeat u w
+held_same k e Why shown view' u w h = stays_same k h.look.set h.look.place h.look.log [] u w h.look.stays
+
+moved_same : (node : NodeId) (k clock now : ℕ) (shown view' : ViewLists) (swap swap' : Store) (u w : EndPass) (r : Answer) → MoveTurns node k clock now shown view' swap swap' u w r → SameSeat u w
+moved_same node k clock now shown view' swap swap' u w (Ok (Turns.Did x)) m =
+    let s = stays_same k m.0.set m.0.place m.0.log (x ∷ []) (with_frames (frames_after k x.event (state_by m.0.set (joined m.0.log)).head.place u.frames) u) w m.0.stays in
+    record { mark = s.mark; seats = s.seats; births = s.births }
+moved_same node k clock now shown view' swap swap' u w (Ok (Turns.Busy holder)) m = busy_same k holder u w m.0
+moved_same node k clock now shown view' swap swap' u w (Ok (Turns.Stale e)) m = held_same k e (IsLate view') shown view' u w m.0
+moved_same node k clock now shown view' swap swap' u w (Ok (Turns.Spent e)) m = held_same k e (IsSpent clock view') shown view' u w m.0
+moved_same node k clock now shown view' swap swap' u w (Ok Turns.Nothing) m = absurd m
+moved_same node k clock now shown view' swap swap' u w (Err (Faults.LogFull e)) m = held_same k e (IsFull view') shown view' u w m.0
+moved_same node k clock now shown view' swap swap' u w (Err Faults.NoMemory) m = held_same k m.0 (IsStarved view') shown view' u w m.1
+
+-- the same seat after the looks and the move
+pub turned_same : (n : ℕ) (node : NodeId) (k clock now : ℕ) (view shown view' : ViewLists) (swap swap' : Store) (v u w : EndPass) (r : Answer) → LooksTo n view shown v u → MoveTurns node k clock now shown view' swap swap' u w r → SameSeat v w
+turned_same n node k clock now view shown view' swap swap' v u w r looks m = same_then v u w (looks_same n view shown v u looks) (moved_same node k clock now shown view' swap swap' u w r m)

@@ -8,4 +8,5 @@ mod settling;
 mod turns;
 
 pub use crate::driver::driver_turn;
+pub use crate::looks::line_of;
 pub use crate::turns::{DriverFault, DriverTurn};

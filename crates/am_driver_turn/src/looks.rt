@@ -11,8 +11,8 @@ use am_driver::{EndView, View};
 use am_endpoint::Endpoint;
 use am_places::{Busy, Places, Seat};
 
-/// The line of an endpoint.
-pub(crate) fn line_of(end: &Endpoint) -> EndView
+/// The line of an endpoint in a driver's view, as it is now.
+pub fn line_of(end: &Endpoint) -> EndView
     ensures { result ≡ views.line_of end.now.settings.id (state_after end.now) }
 {
     EndView {

@@ -1,1 +1,3 @@
 pub mod AtWork
+pub mod Begins
+pub mod Stops

@@ -2,8 +2,14 @@
 //! with its disk. Each makes its turns alone, and meets the others only at the places and the links that they share.
 #![tactic(auto)]
 
+mod drivers;
 mod gate;
+mod starts;
+mod threads;
 mod workers;
 
+pub use crate::drivers::work_as_driver;
 pub use crate::gate::{Gate, OpenGate};
+pub use crate::starts::{drivers_begin, new_workers_are_at_work, opening_view};
+pub use crate::threads::work_as_thread;
 pub use crate::workers::{DriverWorker, InterfaceWorker, Stop, ThreadWorker};

@@ -6,7 +6,7 @@ use Rattle.am_driver.specs.Shown.{event_of}
 use Rattle.am_local.specs.Driver.{end_moved}
 use Rattle.am_names.specs.declared.EndpointId.{EndpointId}
 use Rattle.am_works.proofs.Drivers.{drivers_rest}
-use Rattle.am_driver_turn.proofs.Turning.{has_line, line_found, looks_can, looks_long, looks_works, moved_can, moved_works, stopped_can, stopped_works}
+use Rattle.am_driver_turn.proofs.Turning.{has_line, line_found, looks_can, looks_long, looks_same, looks_works, moved_can, moved_works, stopped_can, stopped_same, stopped_works, turned_same}
 use Rattle.am_driver_turn.proofs.driver.driver_turn.Goals as goal
 
 pub returns-in-Err-clause-can : goal.returns-in-Err-clause-can
@@ -16,6 +16,18 @@ returns-in-Err-clause-can c = let l = c.look_at_each.new in let a = c.args in
 pub returns-in-Err-clause-works : goal.returns-in-Err-clause-works
 returns-in-Err-clause-works c s ids n of h = let l = c.look_at_each.new in let a = c.args in
     stopped_works c.in-Err.busy.holder s ids a.node n a.clock.now a.view.now l.view a.swap.now a.seat.now.token.me.0 l.seat.token.me.0 h c.in-Err.ensures.busy
+
+pub returns-in-Err-clause-seat : goal.returns-in-Err-clause-seat
+returns-in-Err-clause-seat c = let l = c.look_at_each.new in let a = c.args in
+    stopped_same c.in-Err.busy.holder a.view.now l.view a.seat.now.token.me.0 l.seat.token.me.0 c.in-Err.ensures.busy
+
+pub returns-in_default-event_of-clause-seat : goal.returns-in_default-event_of-clause-seat
+returns-in_default-event_of-clause-seat c = let l = c.look_at_each.new in let a = c.args in
+    looks_same (length a.view.now.ends) a.view.now l.view a.seat.now.token.me.0 l.seat.token.me.0 c.in_default.ensures.looked
+
+pub returns-clause-seat : goal.returns-clause-seat
+returns-clause-seat c = let l = c.look_at_each.new in let a = c.args in let m = c.move_turn.new in
+    turned_same (length a.view.now.ends) a.node c.in-Some-line_at.at a.clock.now m.clock a.view.now l.view m.view a.swap.now m.swap a.seat.now.token.me.0 l.seat.token.me.0 m.seat.token.me.0 c.move_turn.result c.in_default.ensures.looked c.move_turn.ensures.turn
 
 pub returns-in_default-event_of-clause-can : goal.returns-in_default-event_of-clause-can
 returns-in_default-event_of-clause-can c = let l = c.look_at_each.new in let a = c.args in

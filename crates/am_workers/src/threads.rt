@@ -1,0 +1,74 @@
+//! The turns of an application thread.
+ghost use Rattle.am_scenario_types.specs.Lawful.{IsLawful};
+ghost use Rattle.am_workers.specs.AtWork.{IsThreadAtWork};
+ghost use Rattle.am_workers.specs.Stops.{stop_after_call};
+ghost use Rattle.am_works.specs.Seats.{SameSeat};
+ghost use Rattle.std.specs.Prelude.{◌≡◌, ◌+◌};
+
+use crate::gate::Gate;
+use crate::workers::{Stop, ThreadWorker};
+use am_books::EndBook;
+use am_places::Places;
+use am_scenario_types::Scenario;
+use am_turns::{ThreadTurn, call_turn};
+
+/// Why a thread makes no further turn after this one, if it makes none.
+fn stop_after_call(turn: Option<ThreadTurn>) -> Option<Stop>
+    ensures { result ≡ stop_after_call turn }
+{
+    match turn {
+        Some(ThreadTurn::Full) => Some(Stop::LogFull),
+        Some(ThreadTurn::NoMemory) => Some(Stop::NoMemory),
+        _ => None,
+    }
+}
+
+/// A turn of a thread: it passes the gate, and makes its next call unless it stopped.
+fn thread_turn<G: Gate>(
+    worker: &mut ThreadWorker,
+    places: &Places<EndBook>,
+    scenario: &Scenario,
+    number: u32,
+    turn: u32,
+    gate: &G,
+)
+    requires at_work { IsThreadAtWork scenario.now places.now.board.shared.table_id places.now.ids.items turn worker.old }
+    ensures at_work { IsThreadAtWork scenario.now places.now.board.shared.table_id places.now.ids.items (turn + 1) worker.new }
+    ensures seat { SameSeat worker.old.seat.token.me.0 worker.new.seat.token.me.0 }
+    ensures thread { worker.new.thread ≡ worker.old.thread }
+{
+    gate.pass(number, turn);
+    if worker.stop.is_some() {
+        return;
+    }
+    let made = call_turn(
+        places,
+        &mut worker.seat,
+        &places.ids,
+        &worker.script,
+        worker.thread,
+        &mut worker.next,
+        &mut worker.clock,
+    );
+    worker.stop = stop_after_call(made);
+}
+
+/// The turns of a thread in a phase of the scenario, as the worker with this number: in each it passes the gate, and makes its next
+/// call, if one is left. A full log stops it, and want of memory does; a stopped worker passes the gate alone.
+pub fn work_as_thread<G: Gate>(
+    worker: &mut ThreadWorker,
+    places: &Places<EndBook>,
+    scenario: &Scenario,
+    number: u32,
+    gate: &G,
+)
+    requires lawful { IsLawful scenario.now }
+    requires at_work { IsThreadAtWork scenario.now places.now.board.shared.table_id places.now.ids.items 0 worker.old }
+    ensures at_work { IsThreadAtWork scenario.now places.now.board.shared.table_id places.now.ids.items scenario.now.turns worker.new }
+    ensures seat { SameSeat worker.old.seat.token.me.0 worker.new.seat.token.me.0 }
+    ensures thread { worker.new.thread ≡ worker.old.thread }
+{
+    for turn in 0..scenario.turns {
+        thread_turn(worker, places, scenario, number, turn, gate);
+    }
+}
