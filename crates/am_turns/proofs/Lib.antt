@@ -5,4 +5,7 @@ pub mod Working
 pub mod Turning
 pub mod Serving
 pub mod Receiving
+pub mod Ranged
 pub mod Done
+pub mod Sending
+pub mod Same

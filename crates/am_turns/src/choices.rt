@@ -7,50 +7,83 @@ ghost use Rattle.std.specs.Prelude.{◌≡◌, ◌<◌, IfSome, length};
 
 use crate::services::may_retry;
 use am_iface::{IfaceSettings, Interface, Work};
-use am_names::{EndpointId, NodeId, Packet};
+use am_names::{EndpointId, NoMemory, NodeId, Packet};
+use std::alloc::Global;
 
 /// For so many turns a channel waits for an answer.
-const PATIENCE: u8 = 16;
+const PATIENCE: u64 = 16;
 
-/// How long each channel has been bound since it emitted, in turns of its interface: four for each of 16 peers.
+/// What stands in place of a turn where a channel waits for nothing.
+const NEVER: u64 = u64::MAX;
+
+/// Since when each channel of an interface waits for an answer, in turns of the interface: four channels for each of 16 peers.
 #[derive(Drop)]
 pub struct Waits {
-    pub turns: Vec<u8>,
-    ghost sized: { length turns.items ≡ 64 },
+    /// How many turns the interface has begun.
+    turn: u64,
+    /// The turn of each channel's last emission, or `NEVER`.
+    since: Vec<u64>,
+    ghost sized: { length since.items ≡ 64 },
+}
+
+/// The place of a channel among the 64.
+fn place_of(peer: NodeId, channel: u8) -> usize {
+    4 * peer.0 as usize + channel as usize
 }
 
 impl Waits {
-    /// One more turn of a channel that is bound, and none of one that is not.
-    fn count(&mut self, at: usize, is_bound: bool)
-        requires at { at < 64 }
-    {
-        let so_far = self.turns[at];
-        self.turns[at] = if is_bound {
-            so_far.saturating_add(1)
-        } else {
-            0
-        };
+    /// Those of an interface that has begun no turn. `NoMemory` comes only for want of memory.
+    pub fn new(alloc: Global) -> Result<Waits, NoMemory> {
+        let since = vec![in alloc; NEVER; 64]?;
+        Ok(Waits { turn: 0, since })
     }
 
-    /// Whether the channel has waited long enough.
-    fn is_over(&self, at: usize) -> bool
-        requires at { at < 64 }
-    {
-        self.turns[at] >= PATIENCE
+    /// The interface begins a turn.
+    pub fn begin_turn(&mut self) {
+        self.turn = self.turn.saturating_add(1);
+    }
+
+    /// In this turn the interface emitted the packet, if there is one. After a parcel its channel waits for an answer from now on.
+    pub fn emitted(&mut self, out: Option<Packet>) {
+        if let Some(Packet::Parcel(p)) = out {
+            let turn = self.turn;
+            self.wait_from(place_of(p.to, p.channel), turn);
+        }
+    }
+
+    /// The channel at this place, if it is one, waits since that turn.
+    fn wait_from(&mut self, at: usize, turn: u64) {
+        if at < 64 {
+            self.since[at] = turn;
+        }
+    }
+
+    /// Whether the channel at this place has waited long enough.
+    fn is_over(&self, at: usize) -> bool {
+        at < 64 && self.turn.saturating_sub(self.since[at]) >= PATIENCE
     }
 }
 
-/// The least channel to the peer that has waited long enough, and has a try left for others.
-fn late_to(interface: &Interface, set: &IfaceSettings, waits: &Waits, peer: NodeId) -> Option<u8>
+/// The least channel to the peer that has waited long enough, and has a try left for others. One that has waited and is free, or
+/// has no such try, waits for nothing until it emits again.
+fn late_to(
+    interface: &Interface,
+    set: &IfaceSettings,
+    waits: &mut Waits,
+    peer: NodeId,
+) -> Option<u8>
     requires set { set.now ≡ interface.now.settings }
     requires lawful { AreLawful set.now }
     requires peer { peer.0 < set.now.nodes }
     ensures { IfSome result (λ channel. channel < set.now.channels) }
 {
     for channel in 0..set.channels {
-        let at = 4 * peer.0 as usize + channel as usize;
-        if waits.is_over(at) && may_retry(interface, set, peer, channel) {
-            return Some(channel);
+        let at = place_of(peer, channel);
+        if waits.is_over(at) {
+            if may_retry(interface, set, peer, channel) {
+                return Some(channel);
+            }
+            waits.wait_from(at, NEVER);
         }
     }
     None
@@ -60,7 +93,7 @@ fn late_to(interface: &Interface, set: &IfaceSettings, waits: &Waits, peer: Node
 pub(crate) fn next_time_out(
     interface: &Interface,
     set: &IfaceSettings,
-    waits: &Waits,
+    waits: &mut Waits,
 ) -> Option<Work>
     requires set { set.now ≡ interface.now.settings }
     requires lawful { AreLawful set.now }
@@ -101,14 +134,15 @@ pub(crate) fn receipt_of(hand: Option<(NodeId, Packet)>) -> Option<Work>
 }
 
 /// What an interface does in this turn: it receives the packet in hand, or lets the least channel time out that has waited long
-/// enough, or binds the front message of its next endpoint.
+/// enough, or binds the front message of an endpoint of its node: the one that is next, in the order of `ids`, whose places are
+/// counted round.
 pub fn next_work(
     interface: &Interface,
     set: &IfaceSettings,
-    waits: &Waits,
+    waits: &mut Waits,
     hand: Option<(NodeId, Packet)>,
     ids: &[EndpointId],
-    turn: usize,
+    next: usize,
 ) -> Option<Work>
     requires set { set.now ≡ interface.now.settings }
     requires lawful { AreLawful set.now }
@@ -123,5 +157,5 @@ pub fn next_work(
     if ids.is_empty() {
         return None;
     }
-    Some(Work::Bind(ids[turn % ids.len()]))
+    Some(Work::Bind(ids[next % ids.len()]))
 }

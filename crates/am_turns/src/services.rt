@@ -6,6 +6,7 @@ ghost use Rattle.am_iface.specs.View.{FitsInterface, last_stamp, own};
 ghost use Rattle.am_local.specs.Interface.{needs};
 ghost use Rattle.am_local.specs.declared.work.Work.TheVariants as Works;
 ghost use Rattle.am_works.specs.Seats.{IsIdle};
+ghost use Rattle.am_turns.specs.Servers.{IfMade, IsRanged};
 ghost use Rattle.am_turns.specs.Turns.{AloneTurns, HasTries, WorkTurns};
 ghost use Rattle.std.specs.Prelude.{◌≡◌, ◌≢◌, ◌<◌, ◌^◌, ℕ, IsTrue, None, Some, length, slice_get};
 ghost use lib.ListN.{get_elem?};
@@ -13,7 +14,7 @@ ghost use mathlib.Core.Option.{some};
 
 use crate::callers::place_of;
 use crate::calls::LAST;
-use crate::fits::fits;
+use crate::fits::{fits, is_ranged};
 use crate::interfaces::interface_turn;
 use crate::turns::InterfaceTurn;
 use crate::works::stamp_in;
@@ -55,9 +56,11 @@ fn has_tries(interface: &Interface, set: &IfaceSettings, work: &Work) -> bool
 /// Whether the interface may be given the work.
 fn fits_here(interface: &Interface, set: &IfaceSettings, work: &Work) -> bool
     requires set { set.now ≡ interface.now.settings }
-    ensures { IsTrue result → FitsInterface interface.now work.now }
+    requires lawful { AreLawful set.now }
+    ensures fits { IsTrue result → FitsInterface interface.now work.now }
+    ensures ranged { IsTrue result → IsRanged set.now work.now }
 {
-    fits(set, work)
+    fits(set, work) && is_ranged(set, work)
 }
 
 /// Does the work, which every test lets through.
@@ -137,6 +140,7 @@ pub fn work_turn(
     requires set { set.now ≡ interface.old.settings }
     ensures idle { IsIdle places.now.board.shared.table_id seat.new.token }
     ensures turn { WorkTurns work.now interface.old interface.new seat.old.token.me.0 seat.new.token.me.0 result }
+    ensures ranged { IfMade result (IsRanged set.now work.now) }
 {
     if !fits_here(interface, set, work) {
         return InterfaceTurn::NotYet;

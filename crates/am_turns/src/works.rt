@@ -14,7 +14,6 @@ ghost use Rattle.am_turns.specs.Turns.{InterfaceFound, MayBounce, SettlesHere, w
 ghost use Rattle.std.specs.Prelude.{◌≡◌, ◌<◌, ◌^◌, ◌++◌, IsTrue, Some, false, length, max};
 
 use crate::calls::{is_on_disk, is_spent};
-use crate::fits::fits;
 use crate::turns::InterfaceTurn;
 use am_books::EndBook;
 use am_endpoint::Endpoint;
@@ -24,7 +23,7 @@ use am_names::{EndpointId, NodeId, Packet};
 use am_office::Place;
 
 /// The node of an endpoint, if it is declared.
-fn home(set: &IfaceSettings, end: EndpointId) -> Option<NodeId>
+pub(crate) fn home(set: &IfaceSettings, end: EndpointId) -> Option<NodeId>
     requires lawful { AreLawful set.now }
     ensures { result ≡ entry_at set.now.homes end.0 }
 {

@@ -91,6 +91,7 @@ impl LinkOut {
     pub fn pump(&mut self)
         ensures same { SameLink self.old self.new }
         ensures store { store self.new ≡ store self.old }
+        ensures spare { spare self.new ≡ spare self.old }
         ensures emitted { emitted self.new ≡ emitted self.old }
         ensures moved { IsPrefix (pumped self.old) (pumped self.new) }
         ensures order { pumped self.new ++ waiting self.new ≡ released self.new }

@@ -23,13 +23,13 @@ overflow_add-count c =
     omega (arith, low)
 
 pub new-requires-clause-few : goal.new-requires-clause-few
-new-requires-clause-few c =
+new-requires-clause-few c κs =
     let same = ap (λ (w : ScenarioLists). w.frames) c.scenario.view_is in
     let most = c.requires.lawful.settings.frames.1 in
     (books_few c.args.scenario.now c.args.part c.requires.lawful c.requires.packet c.requires.part c.in_ok-books.books.items c.in_ok-books.ensures, omega (arith, same, most))
 
 pub new-requires-clause-homely : goal.new-requires-clause-homely
-new-requires-clause-homely c = books_homely c.args.scenario.now c.args.part c.requires.lawful c.requires.packet c.requires.part c.in_ok-books.books.items c.in_ok-books.ensures
+new-requires-clause-homely c κs = books_homely c.args.scenario.now c.args.part c.requires.lawful c.requires.packet c.requires.part c.in_ok-books.books.items c.in_ok-books.ensures
 
 pub returns : goal.returns
 returns c =

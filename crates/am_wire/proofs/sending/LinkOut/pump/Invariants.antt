@@ -1,6 +1,6 @@
 use Rattle.std.proofs.Common.{◌≡◌, ◌-◌, length}
 use mathlib.Core.List.{IsPrefix}
-use Rattle.am_wire.specs.Links.{SameLink, emitted, pumped, store}
+use Rattle.am_wire.specs.Links.{SameLink, emitted, pumped, spare, store}
 use Rattle.am_wire.proofs.sending.LinkOut.pump.Given as goal
 
 abbrev pub invariant-loop-self : goal.invariant-loop-self
@@ -8,6 +8,7 @@ invariant-loop-self l = record {
   same : SameLink l.initial.self l.self;
   emitted_same : emitted l.self ≡ emitted l.initial.self;
   store_same : store l.self ≡ store l.initial.self;
+  spare_same : spare l.self ≡ spare l.initial.self;
   moved : IsPrefix (pumped l.initial.self) (pumped l.self);
 }
 
