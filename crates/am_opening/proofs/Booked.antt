@@ -13,7 +13,7 @@ abbrev end_of : EndBook → EndpointView
 end_of b = b.end
 
 -- the line of an endpoint as it is now
-pub line_now : EndpointView → EndView
+abbrev pub line_now : EndpointView → EndView
 line_now e = line_of e.settings.id (state_after e)
 
 -- these books were made, and of these endpoints books are still to be made, the last first
