@@ -1,2 +1,4 @@
 mod Begins
+mod Linking
+mod Turned
 mod Working

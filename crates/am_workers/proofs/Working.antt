@@ -1,5 +1,5 @@
--- A worker that made its turn, or that stopped, is at work with one turn more.
-use Rattle.std.proofs.Common.{◌≡◌, ℕ, ◌+◌, ◌<◌, ◌^◌, true, ◌&&◌, List, refl, sym, ap, ◌∙◌, subst}
+-- What a thread and a driver keep from turn to turn.
+use Rattle.std.proofs.Common.{◌≡◌, ℕ, ◌+◌, ◌<◌, ◌^◌, true, ◌&&◌, List, sym, ap, subst}
 use Rattle.atomic_table.specs.Seated.{TableId}
 use Rattle.am_names.specs.declared.NodeId.{NodeId}
 use Rattle.am_office.specs.declared.Actor.TheVariants.{Thread}
@@ -21,14 +21,6 @@ use Rattle.am_works.specs.Seats.{AreBorn, EndPass, Ids, SameSeat}
 use Rattle.am_workers.specs.AtWork.{IsDriverAtWork, IsThreadAtWork}
 use Rattle.am_workers.specs.declared.workers.DriverWorker.{DriverWorker}
 use Rattle.am_workers.specs.declared.workers.ThreadWorker.{ThreadWorker}
-
--- ---- the seat
-
-pub same_seat : (v : EndPass) → SameSeat v v
-same_seat v = record { mark = refl; seats = refl; births = refl }
-
-pub seat_then : (u v w : EndPass) → SameSeat u v → SameSeat v w → SameSeat u w
-seat_then u v w g h = record { mark = h.mark ∙ g.mark; seats = h.seats ∙ g.seats; births = h.births ∙ g.births }
 
 -- ---- a thread
 

@@ -1,3 +1,4 @@
 pub mod AtWork
 pub mod Begins
 pub mod Stops
+pub mod Ways

@@ -1,0 +1,177 @@
+//! An interface between its links, from turn to turn.
+ghost use Rattle.am_body.specs.declared.settings.EndSettings.{EndSettings};
+ghost use Rattle.am_iface.specs.Settings.{AreLawful};
+ghost use Rattle.am_scenario_types.specs.Lawful.{IsLawful};
+ghost use Rattle.am_scenario_types.specs.declared.parts.Network.TheVariants.{Packet as IsPacket};
+ghost use Rattle.am_turns.specs.Servers.{HandHolds, out_of};
+ghost use Rattle.am_workers.specs.AtWork.{IsInterfaceAtWork, SameIns, SameOuts};
+ghost use Rattle.am_workers.specs.Ways.{HaveRoom, HaveRoomBut, Prepares, Serves};
+ghost use Rattle.am_workers.specs.Stops.{stop_after_work};
+ghost use Rattle.am_works.specs.Seats.{IsIdle, SameSeat};
+ghost use Rattle.std.specs.Prelude.{◌≡◌, ◌≢◌, ◌+◌, ◌<◌, ◌≤◌, ℕ, OnOk, Some, length, slice_get};
+ghost use lib.ListN.{get_elem?};
+ghost use mathlib.Core.Option.{some};
+
+use crate::gate::Gate;
+use crate::ways::{make_room, pump_all, send, take_in_hand};
+use crate::workers::{InterfaceWorker, Stop};
+use am_books::EndBook;
+use am_iface::Work;
+use am_names::{EndpointId, NoMemory, NodeId, Packet};
+use am_places::Places;
+use am_scenario_types::Scenario;
+use am_turns::{InterfaceTurn, next_work, serve};
+
+/// Makes room on each link for a packet more, pumps the links, and takes the first packet that they have, if none is in hand.
+/// `NoMemory` comes only where there is no room: no packet is taken then.
+fn prepare(worker: &mut InterfaceWorker) -> Result<(), NoMemory>
+    requires from { worker.old.from < length worker.old.ins.items }
+    requires few { length worker.old.ins.items ≤ 16 }
+    ensures prepared { Prepares worker.old worker.new }
+    ensures room { HaveRoomBut worker.old.last worker.old.outs.items → OnOk result (HaveRoom worker.new.outs.items) }
+{
+    make_room(&mut worker.outs, worker.last)?;
+    pump_all(&mut worker.outs);
+    take_in_hand(&mut worker.hand, &mut worker.ins, &mut worker.from);
+    Ok(())
+}
+
+/// The packet that the turn's entry emits, if any.
+fn out_of(turn: &InterfaceTurn) -> Option<Packet>
+    ensures { result ≡ out_of turn.now }
+{
+    match turn {
+        InterfaceTurn::Made(turned) => turned.out,
+        InterfaceTurn::Busy { .. }
+        | InterfaceTurn::NotYet
+        | InterfaceTurn::Full
+        | InterfaceTurn::NoMemory => None,
+    }
+}
+
+/// Why a worker makes no further turn after this one.
+fn stop_after_work(turn: &InterfaceTurn) -> Option<Stop>
+    ensures { result ≡ stop_after_work turn.now }
+{
+    match turn {
+        InterfaceTurn::Full => Some(Stop::LogFull),
+        InterfaceTurn::NoMemory => Some(Stop::NoMemory),
+        InterfaceTurn::Made(_) | InterfaceTurn::Busy { .. } | InterfaceTurn::NotYet => None,
+    }
+}
+
+/// The place of the endpoint that is next, of so many, counted round: after a bind it is the one after this.
+fn next_place(at: usize, work: &Work, count: usize) -> usize {
+    match work {
+        Work::Bind(_) => {
+            let next = at.wrapping_add(1);
+            if next < count { next } else { 0 }
+        }
+        Work::Receive(_) | Work::Expire { .. } => at,
+    }
+}
+
+/// Does this work, and emits what its entry emits on the link to its receiver.
+fn do_work(worker: &mut InterfaceWorker, places: &Places<EndBook>, ids: &[EndpointId], work: &Work)
+    requires idle { IsIdle places.now.board.shared.table_id worker.old.seat.token }
+    requires count { places.now.count ≡ length ids.now }
+    requires guest { worker.old.seat.token.me.0.mark ≢ worker.old.seat.token.me.0.seats }
+    requires births { (k : ℕ) (set : EndSettings) → get_elem? worker.old.seat.token.me.0.births k ≡ some set → slice_get ids.now k ≡ Some set.id }
+    requires lawful { AreLawful worker.old.set }
+    requires set { worker.old.set ≡ worker.old.interface.settings }
+    requires nodes { length worker.old.outs.items ≡ worker.old.interface.settings.nodes }
+    requires room { HaveRoom worker.old.outs.items }
+    requires hand { HandHolds worker.old.hand work.now }
+    ensures { Serves places.now.board.shared.table_id ids.now worker.old worker.new }
+{
+    let turn = serve(
+        places,
+        &mut worker.seat,
+        ids,
+        &mut worker.interface,
+        &worker.set,
+        work,
+        &mut worker.hand,
+    );
+    let out = out_of(&turn);
+    worker.last = send(&mut worker.outs, worker.last, out);
+    worker.waits.emitted(out);
+    worker.end = next_place(worker.end, work, ids.len());
+    worker.stop = stop_after_work(&turn);
+}
+
+/// Chooses a work and does it, if there is one to do.
+fn find_work(worker: &mut InterfaceWorker, places: &Places<EndBook>, ids: &[EndpointId])
+    requires idle { IsIdle places.now.board.shared.table_id worker.old.seat.token }
+    requires count { places.now.count ≡ length ids.now }
+    requires guest { worker.old.seat.token.me.0.mark ≢ worker.old.seat.token.me.0.seats }
+    requires births { (k : ℕ) (set : EndSettings) → get_elem? worker.old.seat.token.me.0.births k ≡ some set → slice_get ids.now k ≡ Some set.id }
+    requires lawful { AreLawful worker.old.set }
+    requires set { worker.old.set ≡ worker.old.interface.settings }
+    requires nodes { length worker.old.outs.items ≡ worker.old.interface.settings.nodes }
+    requires room { HaveRoom worker.old.outs.items }
+    ensures { Serves places.now.board.shared.table_id ids.now worker.old worker.new }
+{
+    worker.waits.begin_turn();
+    let chosen = next_work(
+        &worker.interface,
+        &worker.set,
+        &mut worker.waits,
+        worker.hand,
+        ids,
+        worker.end,
+    );
+    if let Some(work) = chosen {
+        do_work(worker, places, ids, &work);
+    }
+}
+
+/// One turn of the interface of a node, the one with this number from 0, unless it stopped. It looks at its links, and then does one
+/// work. Where there is no memory, or a log has as many entries as it may, it stops.
+fn take_turn(
+    worker: &mut InterfaceWorker,
+    places: &Places<EndBook>,
+    scenario: &Scenario,
+    node: NodeId,
+    turn: u32,
+)
+    requires lawful { IsLawful scenario.now }
+    requires at_work { IsInterfaceAtWork scenario.now places.now.board.shared.table_id places.now.ids.items node turn worker.old }
+    ensures at_work { IsInterfaceAtWork scenario.now places.now.board.shared.table_id places.now.ids.items node (turn + 1) worker.new }
+    ensures seat { SameSeat worker.old.seat.token.me.0 worker.new.seat.token.me.0 }
+    ensures outs { SameOuts worker.old.outs.items worker.new.outs.items }
+    ensures ins { SameIns worker.old.ins.items worker.new.ins.items }
+{
+    if worker.stop.is_some() {
+        return;
+    }
+    if prepare(worker).is_err() {
+        worker.stop = Some(Stop::NoMemory);
+        return;
+    }
+    find_work(worker, places, places.ids.as_slice());
+}
+
+/// All turns of the interface of a node, whose number among the workers is this. It passes the gate at the start of each.
+pub fn work_as_interface<G: Gate>(
+    worker: &mut InterfaceWorker,
+    places: &Places<EndBook>,
+    scenario: &Scenario,
+    node: NodeId,
+    number: u32,
+    gate: &G,
+)
+    requires lawful { IsLawful scenario.now }
+    requires packet { scenario.now.network ≡ IsPacket }
+    requires declared { node.0 < scenario.now.nodes }
+    requires at_work { IsInterfaceAtWork scenario.now places.now.board.shared.table_id places.now.ids.items node 0 worker.old }
+    ensures at_work { IsInterfaceAtWork scenario.now places.now.board.shared.table_id places.now.ids.items node scenario.now.turns worker.new }
+    ensures seat { SameSeat worker.old.seat.token.me.0 worker.new.seat.token.me.0 }
+    ensures outs { SameOuts worker.old.outs.items worker.new.outs.items }
+    ensures ins { SameIns worker.old.ins.items worker.new.ins.items }
+{
+    for turn in 0..scenario.turns {
+        gate.pass(number, turn);
+        take_turn(worker, places, scenario, node, turn);
+    }
+}
