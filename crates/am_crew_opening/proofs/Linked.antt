@@ -137,7 +137,7 @@ module _ (s : ScenarioLists) (os : List Opening) (l : Links) (first : ℕ) (crew
               each_more (HasEnds l.outs.items l.ins.items) crews c (length crews) refl made.ends
               (record { outs_at = outs_next ∙ ap (λ (v : Vec LinkOut). Some v) (sym is_outs); ins_at = ins_next ∙ ap (λ (v : Vec LinkIn). Some v) (sym is_ins) });
           unused = all_push IsUnused crews c made.unused fresh;
-          numbered = numbered_push 0 crews c made.numbered (is_first ∙ made.counted);
+          numbered = numbered_push 0 crews c made.numbered (let same = is_first ∙ made.counted in omega (arith, same));
           counted = ap (λ (n : ℕ). n + seats_of c) made.counted ∙ sym (workers_push crews c);
           low =
               (let e = length_push crews c in

@@ -1,11 +1,13 @@
 -- A crew that is made of what its workers begin with and of its links is at work, with no turn made.
 use Rattle.std.specs.Prelude.{slice_get}
 use Rattle.std.proofs.Common.{◌≡◌, ◌≢◌, ℕ, zero, suc, ◌+◌, ◌<◌, ◌≤◌, Option, None, Some, List, [], ◌∷◌, ◌++◌, length, map, refl, sym, ap, ◌∙◌, subst, arith, append-nil}
+use Rattle.std.specs.Global.{Vec}
 use Rattle.std.proofs.lemmas.List.{length_push}
 use Rattle.atomic_table.specs.Seated.{TableId}
 use Rattle.atomic_table.specs.Table.{Me}
 use Rattle.am_names.specs.declared.EndpointId.{EndpointId}
 use Rattle.am_names.specs.declared.NodeId.{NodeId}
+use Rattle.am_office.specs.declared.Entry.{Entry}
 use Rattle.am_body.specs.declared.settings.EndSettings.{EndSettings}
 use Rattle.am_books.specs.declared.EndBook.{EndBook}
 use Rattle.am_model.specs.Layout.{AllAre}
@@ -21,6 +23,7 @@ use Rattle.am_iface.specs.View.{InterfaceView, own}
 use Rattle.am_local.specs.Together.{IsSet}
 use Rattle.am_scripts.specs.Follows.{is_thread}
 use Rattle.am_turns.specs.Callers.{IsScript}
+use Rattle.am_turns.specs.declared.choices.Waits.{Waits}
 use Rattle.am_opening.proofs.Lists.{all_mapped}
 use Rattle.am_links.specs.Links.{IsOutOpened, node_at}
 use Rattle.am_links.proofs.Lists.{got_last, got_low, got_one, got_some}
@@ -38,6 +41,9 @@ use Rattle.am_crew_opening.specs.Crews.{IsCrew, IsSeatOf, IsThreadOf, IsUnused}
 use Rattle.am_crew_opening.specs.Making.{AreNodeLinks, AreThreadsMade, IsThreadMade}
 use Rattle.am_crew_opening.specs.declared.crew.NodeCrew.{NodeCrew}
 use Rattle.am_crew_opening.proofs.Scripted.{is_declared, is_script, is_short}
+
+abbrev EndPlaces : Type 0
+EndPlaces = Places EndBook Entry EndSettings
 
 -- the crew has these
 pub record IsCrewMade (s : ScenarioLists) (o : Opening) (guests : List EndSeat) (inner last : EndSeat) (outs : List LinkOut) (ins : List LinkIn) (c : NodeCrew) : Type 0 where
@@ -58,18 +64,46 @@ pub record IsCrewMade (s : ScenarioLists) (o : Opening) (guests : List EndSeat) 
   pub view' : c.driver.view ≡ o.view
   pub clock' : c.driver.clock ≡ 0
 
+-- the crew that is made of these
+abbrev pub made_of : ℕ → Opening → Vec ThreadWorker → EndSeat → EndSeat → Vec LinkOut → Vec LinkIn → Waits → NodeCrew
+made_of first o threads inner last outs ins waits =
+    record {
+      node = o.node;
+      first = first;
+      places = o.places;
+      threads = threads;
+      interface = record { seat = inner; interface = o.interface; set = o.set; waits = waits; hand = None; ins = ins; outs = outs; last = 0; from = 0; end = 0; stop = None };
+      driver = record { seat = last; node = o.node; swap = o.swap; view = o.view; clock = 0; stop = None };
+    }
+
+pub is_made : (s : ScenarioLists) (first : ℕ) (o : Opening) (guests : List EndSeat) (threads : Vec ThreadWorker) (inner last : EndSeat) (outs : Vec LinkOut) (ins : Vec LinkIn) (waits : Waits) → o.seats.items ≡ (guests ++ inner ∷ []) ++ last ∷ [] → AreThreadsMade s o.threads.items guests (length o.threads.items) threads.items
+    → IsCrewMade s o guests inner last outs.items ins.items (made_of first o threads inner last outs ins waits)
+is_made s first o guests threads inner last outs ins waits seats made =
+    record {
+      node' = refl;
+      places' = refl;
+      seats = seats;
+      threads' = made;
+      inner_seat = refl;
+      interface' = refl;
+      set' = refl;
+      hand' = refl;
+      outs' = refl;
+      ins' = refl;
+      starts = (refl, refl);
+      last_seat = refl;
+      driver_node = refl;
+      swap' = refl;
+      view' = refl;
+      clock' = refl;
+    }
+
 got_left : {X : Type 0} (xs ys : List X) (k : ℕ) (x : X) → slice_get xs k ≡ Some x → slice_get (xs ++ ys) k ≡ Some x
 got_left [] ys k x h = absurd (cc)
 got_left (z ∷ xs) ys zero x h = h
 got_left (z ∷ xs) ys (suc k) x h = got_left xs ys k x h
 
 module _ (s : ScenarioLists) (o : Opening) (guests : List EndSeat) (inner last : EndSeat) (outs : List LinkOut) (ins : List LinkIn) (c : NodeCrew) (ok : lawful.IsLawful s) (packet : s.network ≡ Networks.Packet) (op : IsOpening s o.node o) (declared : o.node.0 < s.nodes) (links : AreNodeLinks s o.node outs ins) (made : IsCrewMade s o guests inner last outs ins c) where
-  table : TableId
-  table = o.places.board.shared.table_id
-
-  count : ℕ
-  count = length o.threads.items + 2
-
   guests_all : length guests ≡ length o.threads.items
   guests_all =
       let seats : length o.seats.items ≡ length ((guests ++ inner ∷ []) ++ last ∷ []) = ap length made.seats in
@@ -231,22 +265,23 @@ module _ (s : ScenarioLists) (o : Opening) (guests : List EndSeat) (inner last :
   crew_is threads interfaces drivers =
       record {
         is_node = made.node';
-        ids = ap (λ (p : Places EndBook). p.ids.items) made.places' ∙ op.ids;
-        frames = ap (λ (p : Places EndBook). p.frames) made.places' ∙ op.frames;
+        ids = ap (λ (p : EndPlaces). p.ids.items) made.places' ∙ op.ids;
+        frames = ap (λ (p : EndPlaces). p.frames) made.places' ∙ op.frames;
         births = births_of op.books;
         declared = op.declared;
         named = threads_named;
-        threads = λ k w at. record { at_work = subst (λ (p : Places EndBook). IsThreadAtWork s p.board.shared.table_id p.ids.items 0 w) (sym made.places') (thread_works threads k w at); seat = thread_sits k w at };
-        interface = subst (λ (p : Places EndBook). IsInterfaceAtWork s p.board.shared.table_id p.ids.items o.node 0 c.interface) (sym made.places') (interface_works interfaces);
+        threads = λ k w at. record { at_work = subst (λ (p : EndPlaces). IsThreadAtWork s p.board.shared.table_id p.ids.items 0 w) (sym made.places') (thread_works threads k w at); seat = thread_sits k w at };
+        interface = subst (λ (p : EndPlaces). IsInterfaceAtWork s p.board.shared.table_id p.ids.items o.node 0 c.interface) (sym made.places') (interface_works interfaces);
         interface_seat = interface_sits;
-        driver = subst (λ (p : Places EndBook). IsDriverAtWork s p.board.shared.table_id p.ids.items o.node 0 c.driver) (sym made.places') (driver_works drivers);
+        driver = subst (λ (p : EndPlaces). IsDriverAtWork s p.board.shared.table_id p.ids.items o.node 0 c.driver) (sym made.places') (driver_works drivers);
         driver_seat = driver_sits;
       }
 
-  pub crew_unused : IsUnused c
-  crew_unused =
-      record {
-        hand = made.hand';
-        sent = λ k out at. (links.opened k out (subst (λ (l : List LinkOut). slice_get l k ≡ Some out) made.outs' at)).sent;
-        taken = λ k inn at. links.taken k inn (subst (λ (l : List LinkIn). slice_get l k ≡ Some inn) made.ins' at);
-      }
+-- nothing went over the links
+pub crew_unused : (s : ScenarioLists) (node : NodeId) (outs : List LinkOut) (ins : List LinkIn) (c : NodeCrew) → AreNodeLinks s node outs ins → c.interface.hand ≡ None → c.interface.outs.items ≡ outs → c.interface.ins.items ≡ ins → IsUnused c
+crew_unused s node outs ins c links hand is_outs is_ins =
+    record {
+      hand = hand;
+      sent = λ k out at. (links.opened k out (subst (λ (l : List LinkOut). slice_get l k ≡ Some out) is_outs at)).sent;
+      taken = λ k inn at. links.taken k inn (subst (λ (l : List LinkIn). slice_get l k ≡ Some inn) is_ins at);
+    }

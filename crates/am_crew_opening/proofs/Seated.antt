@@ -1,12 +1,12 @@
 -- Threads that are made one after the other, each at its seat.
-use Rattle.std.specs.Prelude.{slice_get, slice_index_or}
+use Rattle.std.specs.Prelude.{slice_get}
 use Rattle.std.proofs.Common.{◌≡◌, ◌⊎◌, ⊎_elim, ℕ, ◌+◌, ◌<◌, Some, List, [], ◌∷◌, ◌++◌, length, reverse, refl, sym, ap, ◌∙◌, subst, arith}
 use Rattle.std.proofs.lemmas.List.{length_push}
 use Rattle.am_opening.specs.Openings.{EndSeat}
 use Rattle.am_books.specs.declared.EndBook.{EndBook}
 use Rattle.am_scenario_types.specs.Lists.{ScenarioLists}
 use Rattle.am_workers.specs.declared.workers.ThreadWorker.{ThreadWorker}
-use Rattle.am_links.proofs.Lists.{got_low, got_one, got_push, index_got}
+use Rattle.am_links.proofs.Lists.{got_low, got_one, got_push}
 use Rattle.am_opening.proofs.Lists.{AreTaking, taking_begins, taking_ends, taking_more, taking_next}
 use Rattle.am_crew_opening.specs.Making.{AreThreadsMade, IsThreadMade}
 
@@ -44,11 +44,11 @@ module _ (s : ScenarioLists) (ids : List ℕ) (whole rest : List EndSeat) (seat 
   pub seating_low : length ws < length ids
   seating_low = let low = got_low whole (length ws) seat seat_next in omega (arith, low, all)
 
-  pub seating_more : (d : ℕ) (w : ThreadWorker) → IsThreadMade s (slice_index_or ids (length ws) d) seat w → AreSeating s ids whole rest (ws ++ w ∷ [])
-  seating_more d w new =
+  pub seating_more : (id : ℕ) (w : ThreadWorker) → slice_get ids (length ws) ≡ Some id → IsThreadMade s id seat w → AreSeating s ids whole rest (ws ++ w ∷ [])
+  seating_more id w at new =
       record {
         taking = subst (AreTaking whole rest) (sym (length_push ws w)) (taking_more whole rest seat (length ws) so.taking);
-        made = subst (λ (n : ℕ). AreThreadsMade s ids whole n (ws ++ w ∷ [])) (sym (length_push ws w)) (threads_more s ids whole (length ws) ws (slice_index_or ids (length ws) d) seat w so.made (index_got ids (length ws) d seating_low) seat_next new);
+        made = subst (λ (n : ℕ). AreThreadsMade s ids whole n (ws ++ w ∷ [])) (sym (length_push ws w)) (threads_more s ids whole (length ws) ws id seat w so.made at seat_next new);
       }
 
 pub seating_ends : (s : ScenarioLists) (ids : List ℕ) (whole : List EndSeat) (ws : List ThreadWorker) → length whole ≡ length ids → AreSeating s ids whole [] ws → AreThreadsMade s ids whole (length ids) ws
