@@ -1,27 +1,25 @@
 -- What a node is opened to, by the cluster's part of the node.
-use Rattle.std.specs.Prelude.{slice_get, filter}
-use Rattle.std.proofs.Common.{◌≡◌, ℕ, ◌+◌, ◌<◌, ◌≤◌, ◌^◌, false, None, Some, List, [], ◌∷◌, ◌++◌, length, map, reverse, refl, sym, ap, ◌∙◌, subst, arith}
+use Rattle.std.specs.Prelude.{slice_get}
+use Rattle.std.proofs.Common.{◌≡◌, ℕ, ◌+◌, ◌<◌, ◌^◌, false, None, Some, List, [], ◌∷◌, ◌++◌, length, map, reverse, refl, sym, ap, ◌∙◌, subst, arith}
 use Rattle.std.proofs.lemmas.List.{length_push}
 use lib.ListN.{get_elem?}
 use mathlib.Core.Option.{some}
 use Rattle.atomic_table.specs.Seated.{TableId}
 use Rattle.am_names.specs.declared.EndpointId.{EndpointId}
 use Rattle.am_names.specs.declared.NodeId.{NodeId}
-use Rattle.am_names.specs.Names.{same_end, same_node}
-use Rattle.am_office.specs.declared.Entry.{Entry}
-use Rattle.am_body.specs.declared.settings.EndSettings.{EndSettings}
+use Rattle.am_names.specs.Names.{same_end}
 use Rattle.am_books.specs.Books.{IsBook, stands_at}
 use Rattle.am_books.specs.declared.EndBook.{EndBook}
 use Rattle.am_driver.specs.Views.{line_of}
 use Rattle.am_driver.specs.declared.EndView.{EndView}
 use Rattle.am_endpoint.specs.View.{EndpointView, state_after}
-use Rattle.am_model.specs.Layout.{AllAre, AreApart, EndSetting, IsLawful}
+use Rattle.am_model.specs.Layout.{AllAre, AreApart}
 use Rattle.am_local.specs.Together.{ends_of}
 use Rattle.am_iface.specs.Settings.{AreLawful}
 use Rattle.am_iface.specs.View.{InterfaceView}
 use Rattle.am_machine.specs.Ends.{kept, setting_in}
 use Rattle.am_machine.specs.Interfaces.{IsInterface, node_at}
-use Rattle.am_machine.specs.Parts.{AreNodeParts, IsNodePart, is_declared_at}
+use Rattle.am_machine.specs.Parts.{AreNodeParts, IsNodePart}
 use Rattle.am_node.specs.declared.NodePart.{NodePart}
 use Rattle.am_scenario_types.specs.Lawful as lawful
 use Rattle.am_scenario_types.specs.Lists.{ScenarioLists}
@@ -32,7 +30,7 @@ use Rattle.am_works.specs.Begins.{AreFresh, ids_of}
 use Rattle.am_works.specs.Seats.{IsBorn}
 use Rattle.am_works.specs.Stands.{fresh_pass}
 use Rattle.am_crew_laws.proofs.Homes.{ends_apart}
-use Rattle.am_opening.specs.Openings.{AreDeclared, AreOpenings, EndSeat, IsFreshDisk, IsFreshSeat, IsOpening, births_of, lines_of, setting_by, thread_ids, threads_of}
+use Rattle.am_opening.specs.Openings.{AreDeclared, AreOpenings, EndSeat, IsFreshDisk, IsOpening, births_of, lines_of, setting_by, thread_ids}
 use Rattle.am_opening.specs.declared.opening.Opening.{Opening}
 use Rattle.am_opening.proofs.Fresh.{is_born, is_homely, no_log, part_at, part_books, part_disk, part_few, part_home, part_ids}
 use Rattle.am_opening.proofs.Lists.{AreTaking, all_got, each_more, elem_got, got_elem, got_map, length_map, map_all, map_twice, taking_begins, taking_ends, taking_more, taking_next}

@@ -9,7 +9,6 @@ use Rattle.am_office.specs.declared.Entry.{Entry}
 use Rattle.am_books.specs.declared.EndBook.{EndBook}
 use Rattle.am_books.specs.contracts.EndBookBook.TheImpl.{ghosts}
 use Rattle.am_device.specs.Memory.{Store}
-use Rattle.am_driver.specs.Lists.{ViewLists}
 use Rattle.am_driver.specs.Views.{line_of}
 use Rattle.am_driver.specs.declared.EndView.{EndView}
 use Rattle.am_endpoint.specs.View.{EndpointView, state_after}
@@ -19,7 +18,6 @@ use Rattle.am_local.specs.Together.{ends_of, faults_of}
 use Rattle.am_moves.specs.Pages.{HoldsBody}
 use Rattle.am_places.specs.declared.places.Seat.{Seat}
 use Rattle.am_scenario_types.specs.declared.parts.ThreadLine.{ThreadLine}
-use Rattle.am_scenario_types.specs.declared.parts.ScriptCall.{ScriptCall}
 use Rattle.am_scenario_types.specs.Lists.{ScenarioLists}
 use Rattle.am_scripts.specs.Links.{node_at}
 use Rattle.am_follow.specs.Layout.{layout_of}

@@ -1,8 +1,5 @@
 use Rattle.std.proofs.Common.{rules, ◌<◌, ◌++◌, ◌∷◌, [], length, ap, ◌∙◌, sym}
 use Rattle.std.proofs.lemmas.List.{map_more}
-use Rattle.am_driver.specs.Views.{line_of}
-use Rattle.am_driver.specs.declared.EndView.{EndView}
-use Rattle.am_endpoint.specs.View.{EndpointView, state_after}
 use Rattle.am_opening.proofs.Booked.{line_now}
 use Rattle.am_opening.proofs.ends.view_of.Goals as goal
 

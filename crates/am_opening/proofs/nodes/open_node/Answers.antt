@@ -1,11 +1,10 @@
-use Rattle.std.proofs.Common.{rules, ◌≡◌, ◌+◌, None, List, [], length, map, refl, sym, ap, ◌∙◌, arith}
-use Rattle.am_names.specs.declared.EndpointId.{EndpointId}
+use Rattle.std.proofs.Common.{rules, ◌≡◌, ◌+◌, None, List, length, map, refl, sym, ap, ◌∙◌, arith}
 use Rattle.am_endpoint.specs.View.{EndpointView}
 use Rattle.am_scenario_types.specs.declared.parts.ThreadLine.{ThreadLine}
 use Rattle.am_scenario_types.specs.Lists.{ScenarioLists}
 use Rattle.am_opening.specs.Openings.{lines_of, thread_ids}
 use Rattle.am_opening.proofs.Fresh.{count_low}
-use Rattle.am_opening.proofs.Opened.{AreSeats, books_few, books_fine, books_homely, opening_is}
+use Rattle.am_opening.proofs.Opened.{AreSeats, books_few, books_homely, opening_is}
 use Rattle.am_opening.proofs.nodes.open_node.Goals as goal
 
 pub overflow_cast-count : goal.overflow_cast-count
