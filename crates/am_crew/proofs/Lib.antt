@@ -2,3 +2,4 @@ mod Adding
 mod Left
 mod Links
 mod Ran
+mod Taking
