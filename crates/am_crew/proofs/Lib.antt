@@ -3,3 +3,4 @@ mod Left
 mod Links
 mod Ran
 mod Taking
+mod Gathered
