@@ -2,4 +2,5 @@ mod Adding
 mod Left
 mod Links
 mod Ran
+mod Rows
 mod Taking
