@@ -1,6 +1,7 @@
 mod Adding
 mod Left
 mod Links
+mod Parts
 mod Ran
 mod Rows
 mod Taking

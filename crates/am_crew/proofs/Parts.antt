@@ -1,7 +1,7 @@
 -- The parts of the first nodes.
 use Rattle.std.specs.Prelude.{slice_get}
 use Rattle.std.specs.Global.{Vec}
-use Rattle.std.proofs.Common.{◌≡◌, ◌⊎◌, ⊎_elim, ℕ, zero, suc, ◌+◌, ◌-◌, ◌<◌, ◌≤◌, List, [], ◌∷◌, ◌++◌, length, length-append, drop, Some, refl, sym, ap, ◌∙◌, subst, arith}
+use Rattle.std.proofs.Common.{◌≡◌, ◌⊎◌, ⊎_elim, ℕ, zero, suc, ◌+◌, ◌<◌, ◌≤◌, List, [], ◌∷◌, ◌++◌, length, length-append, drop, Some, refl, sym, ap, ◌∙◌, subst, arith}
 use Rattle.std.proofs.lemmas.Option.{slice_get_within}
 use Rattle.am_node.proofs.Pushed.{each_more}
 use Rattle.am_node.specs.declared.NodePart.{NodePart}
@@ -58,11 +58,11 @@ parts_more count all records parts more left left_now rows rows_now n rs p h is_
           each_more (λ (j : ℕ) (u : NodePart). (w : NodeEnded) (ws : Vec LinkRecord) → slice_get all j ≡ Some w → slice_get records j ≡ Some ws → IsPartOf count w ws.items u) parts p (length parts) refl
           (λ j u at_u w ws at_w at_ws. h.each j w ws u at_w at_ws at_u)
           (λ w ws at_w at_ws.
-              let got_n = a.got in
-              let got_rs = b.got in
-              let same : n ≡ w = cc in
-              let same_rows : rs ≡ ws = cc in
-              subst (λ (u : NodeEnded). IsPartOf count u ws.items p) same (subst (λ (us : Vec LinkRecord). IsPartOf count n us.items p) same_rows part))
+          let got_n = a.got in
+          let got_rs = b.got in
+          let same : n ≡ w = cc in
+          let same_rows : rs ≡ ws = cc in
+          subst (λ (u : NodeEnded). IsPartOf count u ws.items p) same (subst (λ (us : Vec LinkRecord). IsPartOf count n us.items p) same_rows part))
           k q (subst (λ (xs : List NodePart). slice_get xs k ≡ Some q) pushed at_q) m qs at_m at_qs;
     }
 

@@ -1,7 +1,7 @@
 -- The links that are closed so far, of a node and of all nodes.
 use Rattle.std.specs.Prelude.{remove, slice_get, slice_index_or, slice_set}
 use Rattle.std.specs.Global.{Vec}
-use Rattle.std.proofs.Common.{◌≡◌, ◌≢◌, ◌⊎◌, ⊎_elim, ℕ, zero, suc, ◌+◌, ◌<◌, ◌≤◌, List, [], ◌∷◌, ◌++◌, length, length-append, drop, Some, refl, sym, ap, ◌∙◌, subst, arith}
+use Rattle.std.proofs.Common.{◌≡◌, ◌≢◌, ⊎_elim, ℕ, zero, suc, ◌+◌, ◌<◌, ◌≤◌, List, [], ◌∷◌, ◌++◌, length, length-append, drop, Some, refl, sym, ap, ◌∙◌, subst, arith}
 use Rattle.std.proofs.lemmas.Option.{slice_get_read, slice_get_within}
 use Rattle.am_wire.specs.Links.{IsLink}
 use Rattle.am_wire.specs.declared.closing.LinkRecord.{LinkRecord}
@@ -215,24 +215,24 @@ rows_more done rest outs ins records more now now' os rs linked so_far all row p
       each = λ from to ps is qs o i r at_ps at_is at_qs at_o at_i at_r.
           ⊎_elim
           (λ (old : slice_get done from ≡ Some ps).
-              let low = slice_get_within done from ps old in
-              ⊎_elim
-              (λ (was : slice_get records from ≡ Some qs). so_far.each from to ps is qs o i r old at_is was at_o at_i at_r)
-              (λ (last : (from ≡ length records) × (qs ≡ rs)). (let e = last.0 in let m = so_far.all in absurd (omega (arith, e, m, low))))
-              (got_push records rs from qs (subst (λ (xs : List (Vec LinkRecord)). slice_get xs from ≡ Some qs) pushed at_qs)))
+          let low = slice_get_within done from ps old in
+          ⊎_elim
+          (λ (was : slice_get records from ≡ Some qs). so_far.each from to ps is qs o i r old at_is was at_o at_i at_r)
+          (λ (last : (from ≡ length records) × (qs ≡ rs)). (let e = last.0 in let m = so_far.all in absurd (omega (arith, e, m, low))))
+          (got_push records rs from qs (subst (λ (xs : List (Vec LinkRecord)). slice_get xs from ≡ Some qs) pushed at_qs)))
           (λ (new : (from ≡ length done) × (ps ≡ os)).
-              ⊎_elim
-              (λ (was : slice_get records from ≡ Some qs). (let low = slice_get_within records from qs was in let e = new.0 in let m = so_far.all in absurd (omega (arith, e, m, low))))
-              (λ (last : (from ≡ length records) × (qs ≡ rs)).
-                  let low_to = slice_get_within ins to is at_is in
-                  let gone = row.left in
-                  let is'' = there now' to (omega (arith, low_to, left, gone)) in
-                  let next = closed_next done rest outs ins records now now' os rs.items to is is''.0 o r linked so_far all row at_is is''.1 (subst (λ (v : Vec LinkOut). slice_get v.items to ≡ Some o) new.1 at_o) (subst (λ (v : Vec LinkRecord). slice_get v.items to ≡ Some r) last.1 at_r) in
-                  let here : slice_get is.items (length done) ≡ Some i = subst (λ (k : ℕ). slice_get is.items k ≡ Some i) new.0 at_i in
-                  let got = next.got in
-                  let same : next.first ≡ i = cc in
-                  subst (λ (k : LinkIn). IsRecordOf o k r) same next.closed)
-              (got_push records rs from qs (subst (λ (xs : List (Vec LinkRecord)). slice_get xs from ≡ Some qs) pushed at_qs)))
+          ⊎_elim
+          (λ (was : slice_get records from ≡ Some qs). (let low = slice_get_within records from qs was in let e = new.0 in let m = so_far.all in absurd (omega (arith, e, m, low))))
+          (λ (last : (from ≡ length records) × (qs ≡ rs)).
+          let low_to = slice_get_within ins to is at_is in
+          let gone = row.left in
+          let is'' = there now' to (omega (arith, low_to, left, gone)) in
+          let next = closed_next done rest outs ins records now now' os rs.items to is is''.0 o r linked so_far all row at_is is''.1 (subst (λ (v : Vec LinkOut). slice_get v.items to ≡ Some o) new.1 at_o) (subst (λ (v : Vec LinkRecord). slice_get v.items to ≡ Some r) last.1 at_r) in
+          let here : slice_get is.items (length done) ≡ Some i = subst (λ (k : ℕ). slice_get is.items k ≡ Some i) new.0 at_i in
+          let got = next.got in
+          let same : next.first ≡ i = cc in
+          subst (λ (k : LinkIn). IsRecordOf o k r) same next.closed)
+          (got_push records rs from qs (subst (λ (xs : List (Vec LinkRecord)). slice_get xs from ≡ Some qs) pushed at_qs)))
           (got_push done os from ps at_ps);
     }
 

@@ -1,9 +1,8 @@
-use Rattle.std.proofs.Common.{◌≡◌, ◌<◌, ◌++◌, length, vec_len, slice_index_or, remove, ℕ, ◌+◌, List, ap, ◌∙◌, sym, subst, arith}
+use Rattle.std.proofs.Common.{◌<◌, ◌++◌, length, vec_len, slice_index_or, remove, ℕ, ◌+◌, List, ap, ◌∙◌, sym, subst, arith}
 use Rattle.std.specs.Global.{Vec}
 use Rattle.am_wire.specs.Links.{IsLink}
 use Rattle.am_wire.specs.declared.receiving.LinkIn.{LinkIn}
 use Rattle.am_wire.specs.declared.sending.LinkOut.{LinkOut}
-use Rattle.am_crew.specs.Closing.{IsRowClosed}
 use Rattle.am_crew.proofs.Rows.{IsRowSoFar, all_done, first_left, longer, moved, next_within, row_end, row_more}
 use Rattle.am_crew.proofs.closing.close_row.Goals as goal
 

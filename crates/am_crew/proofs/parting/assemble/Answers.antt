@@ -1,10 +1,10 @@
-use Rattle.std.proofs.Common.{◌≡◌, ◌⊎◌, inl, inr, ⊎_elim, ◌∙◌, sym}
+use Rattle.std.proofs.Common.{inl, inr, ⊎_elim, ◌∙◌, sym}
 use Rattle.am_crew.proofs.Parts.{none_parted, parts_end, parts_more}
 use Rattle.am_crew.proofs.parting.assemble.Goals as goal
 
 pub loop-ended-init : goal.loop-ended-init
 loop-ended-init c =
-    none_parted c.args.count c.args.nodes.items c.args.records.items c.in_ok-parts.parts.items c.into_iter-ended-iterator.result.a.rest.items c.into_iter-ended-iterator.result.b.rest.items c.in_ok-parts.ensures.items search search
+    none_parted c.args.count c.args.nodes.items c.args.records.items c.in_ok-parts.parts.items c.into_iter-ended-iterator.result.a.rest.items c.into_iter-ended-iterator.result.b.rest.items c.in_ok-parts.ensures.items (search) (search)
 
 pub loop-ended-preserved : goal.loop-ended-preserved
 loop-ended-preserved c =
