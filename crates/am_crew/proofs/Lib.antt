@@ -1,6 +1,8 @@
 mod Adding
 mod Left
 mod Links
+mod Parts
 mod Ran
+mod Rows
 mod Taking
 mod Gathered
