@@ -33,15 +33,14 @@ use Rattle.am_crew.specs.declared.ended.AllEnded.{AllEnded}
 use Rattle.am_crew.specs.declared.ended.NodeEnded.{NodeEnded}
 use Rattle.am_crew.proofs.Links.{links_are_closed, there}
 
-books_in : NodeEnded → List EndBook
+abbrev books_in : NodeEnded → List EndBook
 books_in n = n.books.items
 
-pub books_of : List NodeEnded → List (List EndBook)
+abbrev pub books_of : List NodeEnded → List (List EndBook)
 books_of ns = map books_in ns
 
 -- the node with these books
 node_with : (ns : List NodeEnded) (k : ℕ) (bs : List EndBook) → slice_get (books_of ns) k ≡ Some bs → (n : NodeEnded) × (slice_get ns k ≡ Some n) × (n.books.items ≡ bs)
-unfolding books_of
 node_with ns k bs at =
     let low = slice_get_within (map books_in ns) k bs at in
     let long = length-map ns books_in in
@@ -103,7 +102,6 @@ part_left count s crews all records k c n rs p crewed ended closed at_c at_n at_
 
 -- it is what the law of crews asks for
 pub crews_are_left : ReceiptsCount → (s : ScenarioLists) (crews : List NodeCrew) (all : AllEnded) (records : List (Vec LinkRecord)) (parts : List NodePart) → IsLawful s → s.network ≡ Networks.Packet → AreCrews s s.turns crews → AreEnded crews all → AreClosed all.outs.items all.ins.items records → ArePartsOf s.nodes all.nodes.items records parts → AreLeft s crews (books_of all.nodes.items) parts
-unfolding books_of
 crews_are_left count s crews all records parts lawful packet crewed ended closed parted =
     record {
       lawful = lawful;

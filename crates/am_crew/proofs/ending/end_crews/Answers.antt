@@ -26,8 +26,8 @@ loop-crew-preserved c =
     record {
       so_far =
           ended_more c.loop-crew.yielded c.loop-crew.all (record { nodes = c.push.new.self; outs = c.push-in-loop-crew.new.self; ins = c.push-in-loop-crew-2.new.self }) c.in-Some.crew c.in_ok-node.field-0 c.loop-crew.invariant.so_far c.in_ok-node.ensures
-          (c.in_ok-push.ensures.items ∙ ap (λ (n : NodeEnded). c.loop-crew.all.nodes.items ++ n ∷ []) c.in_ok-node.node-is)
-          (c.in_ok-push-2.ensures.items ∙ ap (λ (os : Vec LinkOut). c.loop-crew.all.outs.items ++ os ∷ []) c.in_ok-node.outs-is)
-          (c.in_ok-push-3.ensures.items ∙ ap (λ (is : Vec LinkIn). c.loop-crew.all.ins.items ++ is ∷ []) c.in_ok-node.ins-is);
+          (c.in_ok-push.ensures.items ∙ ap (λ (n : NodeEnded). c.loop-crew.all.nodes.items ++ n ∷ []) (sym c.in_ok-node.node-is))
+          (c.in_ok-push-2.ensures.items ∙ ap (λ (os : Vec LinkOut). c.loop-crew.all.outs.items ++ os ∷ []) (sym c.in_ok-node.outs-is))
+          (c.in_ok-push-3.ensures.items ∙ ap (λ (is : Vec LinkIn). c.loop-crew.all.ins.items ++ is ∷ []) (sym c.in_ok-node.ins-is));
       left = moved_on c.loop-crew.yielded c.in-Some.crew c.next.new.self.rest.items c.loop-crew.crew-iterator.rest.items c.args.crews.items c.in-Some.ensures.steps.0 c.loop-crew.invariant.left;
     }
