@@ -1,4 +1,5 @@
 mod Adding
+mod Gathered
 mod Left
 mod Links
 mod Parts

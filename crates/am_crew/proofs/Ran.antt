@@ -2,8 +2,10 @@
 use Rattle.std.specs.Prelude.{slice_get}
 use Rattle.std.specs.Global.{Vec}
 use Rattle.std.proofs.Common.{◌≡◌, ℕ, zero, suc, ◌+◌, ◌*◌, ◌<◌, ◌≤◌, List, [], ◌∷◌, map, length, Some, refl, sym, ap, ◌∙◌, subst, arith}
+use Rattle.std.proofs.lemmas.List.{length-map}
 use Rattle.std.proofs.lemmas.Option.{slice_get_within}
 use Rattle.am_names.specs.declared.NodeId.{NodeId}
+use Rattle.am_scenario_types.specs.Lawful as lawful
 use Rattle.am_scenario_types.specs.Lists.{ScenarioLists}
 use Rattle.am_scripts.specs.Links.{node_at}
 use Rattle.am_body.specs.declared.settings.EndSettings.{EndSettings}
@@ -18,6 +20,7 @@ use Rattle.am_workers.specs.declared.workers.DriverWorker.{DriverWorker}
 use Rattle.am_crew_opening.specs.Crews.{AreCrews, AreLinked, AreNumbered, IsCrew, IsSeatOf, ids_of, seats_of, table_of}
 use Rattle.am_crew_opening.specs.declared.crew.NodeCrew.{NodeCrew}
 use Rattle.am_crew.specs.Running.{SameCrew, SameDriver, SameInterface, SameThread}
+use Rattle.am_opening.proofs.Fresh.{few_threads}
 use Rattle.am_crew.proofs.Links.{there}
 
 -- ---- a crew
@@ -62,12 +65,25 @@ crew_ran s c ts i w h long threads same interface same_i driver same_d =
 
 -- ---- the crews of all nodes
 
+-- a crew has no more threads than a node may have
+pub few_workers : (s : ScenarioLists) (node : NodeId) (turns : ℕ) (c : NodeCrew) → lawful.IsLawful s → IsCrew s node turns c → length c.threads.items ≤ 4
+few_workers s node turns c ok h =
+    let named = ap (λ (ns : List ℕ). length ns) h.named in
+    let mapped = length-map c.threads.items (λ (w : ThreadWorker). w.thread) in
+    let few = few_threads s node ok in
+    omega (arith, named, mapped, few)
+
+pub few_in_each : (s : ScenarioLists) (turns : ℕ) (crews : List NodeCrew) → lawful.IsLawful s → AreCrews s turns crews → (k : ℕ) (c : NodeCrew) → slice_get crews k ≡ Some c → length c.threads.items ≤ 4
+few_in_each s turns crews ok h k c at = few_workers s (node_at k) turns c ok (h.each k c at)
+
 -- each first number is small, where no crew has more than four threads
-pub numbers_are_small : (first n : ℕ) (crews : List NodeCrew) → AreNumbered first crews → ((k : ℕ) (c : NodeCrew) → slice_get crews k ≡ Some c → length c.threads.items ≤ 4) → (k : ℕ) (c : NodeCrew) → slice_get crews k ≡ Some c → c.first ≤ first + 6 * k
-numbers_are_small first n [] h few k c at = absurd (cc)
-numbers_are_small first n (d ∷ ds) h few zero c at = subst (λ (x : NodeCrew). x.first ≤ first + 6 * 0) (cc) (let e = h.0 in omega (arith, e))
-numbers_are_small first n (d ∷ ds) h few (suc k) c at =
-    let more : c.first ≤ first + seats_of d + 6 * k = numbers_are_small (first + seats_of d) n ds h.1 (λ j x e. few (suc j) x e) k c at in
+pub numbers_are_small : (first : ℕ) (crews : List NodeCrew) → AreNumbered first crews → ((k : ℕ) (c : NodeCrew) → slice_get crews k ≡ Some c → length c.threads.items ≤ 4) → (k : ℕ) (c : NodeCrew) → slice_get crews k ≡ Some c → c.first ≤ first + 6 * k
+numbers_are_small first [] h few k c at = absurd (cc)
+numbers_are_small first (d ∷ ds) h few zero c at =
+    let same : d ≡ c = cc in
+    subst (λ (x : NodeCrew). x.first ≤ first + 6 * 0) same (let e = h.0 in omega (arith, e))
+numbers_are_small first (d ∷ ds) h few (suc k) c at =
+    let more : c.first ≤ first + seats_of d + 6 * k = numbers_are_small (first + seats_of d) ds h.1 (λ j x e. few (suc j) x e) k c at in
     let four = few 0 d refl in
     omega (arith, more, four)
 
