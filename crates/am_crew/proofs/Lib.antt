@@ -1,8 +1,8 @@
 mod Adding
+mod Gathered
 mod Left
 mod Links
 mod Parts
 mod Ran
 mod Rows
 mod Taking
-mod Gathered

@@ -1,5 +1,5 @@
 -- The links of all nodes, closed.
-use Rattle.std.specs.Prelude.{◌≡◌, ℕ, ◌<◌, Some, List, ◌∷◌, ◌++◌, length, slice_get}
+use Rattle.std.specs.Prelude.{◌≡◌, ℕ, Some, List, ◌∷◌, ◌++◌, length, slice_get}
 use Rattle.std.specs.Global.{Vec}
 use Rattle.am_wire.specs.Links.{IsLink, emitted, received, released}
 use Rattle.am_wire.specs.declared.closing.LinkRecord.{LinkRecord}

@@ -19,7 +19,8 @@ fn close_row(
 {
     let mut records = Vec::with_capacity(alloc, outs.len())?;
     for out in outs {
-        let inn = ins[records.len()].remove(0);
+        let to = records.len();
+        let inn = ins[to].remove(0);
         records.push(close(alloc, out, inn)?)?;
     }
     Ok(records)
