@@ -17,15 +17,15 @@ pub pairs_more : {X Y : Type 0} (P : X → Y → Type 0) (xs : List X) (ys : Lis
 pairs_more {X} {Y} P xs ys x y long old new k a b at_a at_b =
     ⊎_elim
     (λ (here : slice_get xs k ≡ Some a).
-        ⊎_elim
-        (λ (there : slice_get ys k ≡ Some b). old k a b here there)
-        (λ (last : (k ≡ length ys) × (b ≡ y)). (let low = slice_get_within xs k a here in let is = last.0 in absurd (omega (arith, low, is, long))))
-        (got_push ys y k b at_b))
+    ⊎_elim
+    (λ (there : slice_get ys k ≡ Some b). old k a b here there)
+    (λ (last : (k ≡ length ys) × (b ≡ y)). (let low = slice_get_within xs k a here in let is = last.0 in absurd (omega (arith, low, is, long))))
+    (got_push ys y k b at_b))
     (λ (last : (k ≡ length xs) × (a ≡ x)).
-        ⊎_elim
-        (λ (there : slice_get ys k ≡ Some b). (let low = slice_get_within ys k b there in let is = last.0 in absurd (omega (arith, low, is, long))))
-        (λ (end : (k ≡ length ys) × (b ≡ y)). subst (λ (u : X). P u b) (sym last.1) (subst (λ (v : Y). P x v) (sym end.1) new))
-        (got_push ys y k b at_b))
+    ⊎_elim
+    (λ (there : slice_get ys k ≡ Some b). (let low = slice_get_within ys k b there in let is = last.0 in absurd (omega (arith, low, is, long))))
+    (λ (end : (k ≡ length ys) × (b ≡ y)). subst (λ (u : X). P u b) (sym last.1) (subst (λ (v : Y). P x v) (sym end.1) new))
+    (got_push ys y k b at_b))
     (got_push xs x k a at_a)
 
 long_more : {X Y : Type 0} (xs : List X) (ys : List Y) (x : X) (y : Y) → length ys ≡ length xs → length (ys ++ y ∷ []) ≡ length (xs ++ x ∷ [])

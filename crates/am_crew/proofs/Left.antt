@@ -94,7 +94,7 @@ part_left count s crews all records k c n rs p crewed ended closed at_c at_n at_
           let its = h.interface in
           let all_of = count s (ids_of c) (node_at k) its.so_far c.interface.interface.log (sent_by c.interface.outs.items) (taken_by c.interface.ins.items) c.interface.hand c.interface.seat.token.me.0 its.works (node_at j) in
           let m_is : m ≡ receipts (node_at j) (node_at k) c.interface.interface.log =
-              part.counts.each j m at_m ∙ ap (λ (x : NodeId). receipts (node_at j) x n.interface.log) (over.node ∙ h.is_node) ∙ ap (λ (v : InterfaceView). receipts (node_at j) (node_at k) v.log) over.interface
+          part.counts.each j m at_m ∙ ap (λ (x : NodeId). receipts (node_at j) x n.interface.log) (over.node ∙ h.is_node) ∙ ap (λ (v : InterfaceView). receipts (node_at j) (node_at k) v.log) over.interface
           in
           let taken : length (taken_by c.interface.ins.items (node_at j)) ≡ length (received i) = ap (λ (x : Option LinkIn). length (taken_on x)) at_i in
           omega (arith, all_of, m_is, taken);

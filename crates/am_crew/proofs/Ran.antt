@@ -88,13 +88,12 @@ numbers_are_small first (d ∷ ds) h few (suc k) c at =
     omega (arith, more, four)
 
 same_links : (p o : LinkOut) (q i : LinkIn) → SameLink p o → SameEnd q i → IsLink p q → IsLink o i
-same_links p o q i a b h =
-    (
-      b.0.0 ∙ h.0 ∙ sym a.ring.0.0,
-      b.0.1 ∙ h.1 ∙ sym a.ring.0.1,
-      b.0.2 ∙ h.2 ∙ sym a.ring.0.2,
-      b.0.3 ∙ h.3 ∙ sym a.ring.0.3,
-    )
+same_links p o q i a b h = (
+  b.0.0 ∙ h.0 ∙ sym a.ring.0.0,
+  b.0.1 ∙ h.1 ∙ sym a.ring.0.1,
+  b.0.2 ∙ h.2 ∙ sym a.ring.0.2,
+  b.0.3 ∙ h.3 ∙ sym a.ring.0.3,
+)
 
 -- the links' ends still belong together
 pub still_linked : (cs ds : List NodeCrew) → length ds ≡ length cs → ((k : ℕ) (c d : NodeCrew) → slice_get cs k ≡ Some c → slice_get ds k ≡ Some d → SameCrew c d) → AreLinked cs → AreLinked ds

@@ -23,11 +23,7 @@ use am_workers::{DriverWorker, InterfaceWorker, ThreadWorker};
 use std::alloc::Global;
 
 /// The driver's seat gathers the seats of the threads.
-fn gather_threads(
-    places: &Places<EndBook>,
-    keeper: &mut Seat<EndBook>,
-    threads: Vec<ThreadWorker>,
-)
+fn gather_threads(places: &Places<EndBook>, keeper: &mut Seat<EndBook>, threads: Vec<ThreadWorker>)
     requires keeper { keeper.old.token.table_id ≡ places.now.board.shared.table_id }
     requires ended { All (λ w. IsIdle places.now.board.shared.table_id w.seat.token) threads.items }
     ensures keeper { keeper.new.token.table_id ≡ keeper.old.token.table_id }

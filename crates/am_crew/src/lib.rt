@@ -15,8 +15,6 @@ mod ending;
 mod parting;
 mod running;
 
-pub use am_workers::{Gate, OpenGate};
-
 use crate::ending::end_crews;
 use crate::parting::parts_of;
 use crate::running::{found_no_memory, run_crews};
@@ -26,6 +24,7 @@ use am_machine::Cluster;
 use am_office::NoMemory;
 use am_scenario_types::Scenario;
 use am_unite_laws::receipts_are_counted;
+pub use am_workers::{Gate, OpenGate};
 use std::alloc::Global;
 use std::thread::Threads;
 

@@ -42,10 +42,15 @@ fn run_threads<R: Threads + Sync, G: Gate + Sync>(
     ensures ran { HaveRun scenario.now places.now.board.shared.table_id places.now.ids.items threads.old threads.new }
 {
     let count = threads.len().max(1);
-    thread::for_each_mut(rt, threads, count, &|k, worker|
-        requires { IsLawful scenario.now × (k < 4) × (first ≤ 4096) × IsThreadAtWork scenario.now places.now.board.shared.table_id places.now.ids.items 0 worker.now }
-        ensures { IsThreadAtWork scenario.entry.now places.entry.now.board.shared.table_id places.entry.now.ids.items scenario.entry.now.turns worker.exit.now × SameThread worker.entry.now worker.exit.now }
-    { work_as_thread(worker, places, scenario, first + k as u32, gate) });
+    thread::for_each_mut(
+        rt,
+        threads,
+        count,
+        &|k, worker|
+            requires { IsLawful scenario.now × (k < 4) × (first ≤ 4096) × IsThreadAtWork scenario.now places.now.board.shared.table_id places.now.ids.items 0 worker.now }
+            ensures { IsThreadAtWork scenario.entry.now places.entry.now.board.shared.table_id places.entry.now.ids.items scenario.entry.now.turns worker.exit.now × SameThread worker.entry.now worker.exit.now }
+        { work_as_thread(worker, places, scenario, first + k as u32, gate) },
+    );
 }
 
 /// The interface and the driver of a node make their turns at the same time.
@@ -121,7 +126,11 @@ fn run_workers<R: Threads + Sync, G: Gate + Sync>(
         &mut ||
             requires { IsSync R.row × IsSync G.row × IsLawful scenario.now × (scenario.now.network ≡ Networks.Packet) × (node.0 < scenario.now.nodes) × (next ≤ 8192) × (places.now.ids.items ≡ ends_of (layout_of scenario.now) node) × (places.now.frames ≡ scenario.now.frames) × (driver.now.node ≡ node) × IsInterfaceAtWork scenario.now places.now.board.shared.table_id places.now.ids.items node 0 interface.now × IsDriverAtWork scenario.now places.now.board.shared.table_id places.now.ids.items node 0 driver.now }
             ensures { IsInterfaceAtWork scenario.exit.now places.exit.now.board.shared.table_id places.exit.now.ids.items node scenario.exit.now.turns interface.exit.now × IsDriverAtWork scenario.exit.now places.exit.now.board.shared.table_id places.exit.now.ids.items node scenario.exit.now.turns driver.exit.now × SameInterface interface.entry.now interface.exit.now × SameDriver driver.entry.now driver.exit.now }
-        { run_both(rt, alloc, scenario, gate, places, node, next, interface, driver) },
+        {
+            run_both(
+                rt, alloc, scenario, gate, places, node, next, interface, driver,
+            )
+        },
     );
 }
 
@@ -172,10 +181,15 @@ pub(crate) fn run_crews<R: Threads + Sync, G: Gate + Sync>(
     ensures linked { AreLinked crews.new }
 {
     let count = crews.len().max(1);
-    thread::for_each_mut(rt, crews, count, &|_number, crew|
-        requires { IsSync R.row × IsSync G.row × IsLawful scenario.now × (scenario.now.network ≡ Networks.Packet) × (crew.now.node.0 < scenario.now.nodes) × (crew.now.first ≤ 4096) × IsCrew scenario.now crew.now.node 0 crew.now }
-        ensures { IsCrew scenario.entry.now crew.entry.now.node scenario.entry.now.turns crew.exit.now × SameCrew crew.entry.now crew.exit.now }
-    { run_crew(rt, alloc, scenario, gate, crew) });
+    thread::for_each_mut(
+        rt,
+        crews,
+        count,
+        &|_number, crew|
+            requires { IsSync R.row × IsSync G.row × IsLawful scenario.now × (scenario.now.network ≡ Networks.Packet) × (crew.now.node.0 < scenario.now.nodes) × (crew.now.first ≤ 4096) × IsCrew scenario.now crew.now.node 0 crew.now }
+            ensures { IsCrew scenario.entry.now crew.entry.now.node scenario.entry.now.turns crew.exit.now × SameCrew crew.entry.now crew.exit.now }
+        { run_crew(rt, alloc, scenario, gate, crew) },
+    );
 }
 
 /// Whether this is want of memory.
@@ -199,9 +213,7 @@ fn some_is_starved(threads: &[ThreadWorker]) -> bool
 fn is_starved(crew: &NodeCrew) -> bool
     ensures { result ≡ is_starved crew.now }
 {
-    is_want(crew.interface.stop)
-        || is_want(crew.driver.stop)
-        || some_is_starved(&crew.threads)
+    is_want(crew.interface.stop) || is_want(crew.driver.stop) || some_is_starved(&crew.threads)
 }
 
 /// Whether a worker of any node found no memory.

@@ -14,7 +14,7 @@ pub unite-requires-clause-parts : goal.unite-requires-clause-parts
 unite-requires-clause-parts c =
     let told = c.in_ok-parts.ensures in
     let left = crews_are_left c.receipts_are_counted.ensures c.args.scenario.now c.args.crews.items c.in_ok-ended.ended told.0 c.in_ok-parts.parts.items c.requires.lawful c.requires.packet c.requires.crews c.in_ok-ended.ensures told.1
-        (subst (λ (n : ℕ). ArePartsOf n c.in_ok-ended.ended.nodes.items told.0 c.in_ok-parts.parts.items) (ap (λ (s : ScenarioLists). s.nodes) c.scenario.view_is) told.2)
+    (subst (λ (n : ℕ). ArePartsOf n c.in_ok-ended.ended.nodes.items told.0 c.in_ok-parts.parts.items) (ap (λ (s : ScenarioLists). s.nodes) c.scenario.view_is) told.2)
     in
     (c.crews_unite.ensures c.args.scenario.now c.args.crews.items (books_of c.in_ok-ended.ended.nodes.items) c.in_ok-parts.parts.items left).can
 
@@ -22,7 +22,7 @@ pub returns-in-Ok-clause-good : goal.returns-in-Ok-clause-good
 returns-in-Ok-clause-good c =
     let told = c.in_ok-parts.ensures in
     let left = crews_are_left c.receipts_are_counted.ensures c.args.scenario.now c.args.crews.items c.in_ok-ended.ended told.0 c.in_ok-parts.parts.items c.requires.lawful c.requires.packet c.requires.crews c.in_ok-ended.ensures told.1
-        (subst (λ (n : ℕ). ArePartsOf n c.in_ok-ended.ended.nodes.items told.0 c.in_ok-parts.parts.items) (ap (λ (s : ScenarioLists). s.nodes) c.scenario.view_is) told.2)
+    (subst (λ (n : ℕ). ArePartsOf n c.in_ok-ended.ended.nodes.items told.0 c.in_ok-parts.parts.items) (ap (λ (s : ScenarioLists). s.nodes) c.scenario.view_is) told.2)
     in
     subst (λ (journal : List Entry). IsGoodPhase c.args.scenario.now journal) (sym c.in-Ok.ensures.journal) (c.crews_unite.ensures c.args.scenario.now c.args.crews.items (books_of c.in_ok-ended.ended.nodes.items) c.in_ok-parts.parts.items left).good
 
@@ -30,6 +30,6 @@ pub returns-in-Ok-clause-none : goal.returns-in-Ok-clause-none
 returns-in-Ok-clause-none c none =
     let told = c.in_ok-parts.ensures in
     let left = crews_are_left c.receipts_are_counted.ensures c.args.scenario.now c.args.crews.items c.in_ok-ended.ended told.0 c.in_ok-parts.parts.items c.requires.lawful c.requires.packet c.requires.crews c.in_ok-ended.ensures told.1
-        (subst (λ (n : ℕ). ArePartsOf n c.in_ok-ended.ended.nodes.items told.0 c.in_ok-parts.parts.items) (ap (λ (s : ScenarioLists). s.nodes) c.scenario.view_is) told.2)
+    (subst (λ (n : ℕ). ArePartsOf n c.in_ok-ended.ended.nodes.items told.0 c.in_ok-parts.parts.items) (ap (λ (s : ScenarioLists). s.nodes) c.scenario.view_is) told.2)
     in
     c.in-Ok.ensures.journal ∙ (c.crews_unite.ensures c.args.scenario.now c.args.crews.items (books_of c.in_ok-ended.ended.nodes.items) c.in_ok-parts.parts.items left).none none

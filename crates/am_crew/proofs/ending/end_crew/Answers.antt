@@ -16,27 +16,27 @@ gather_threads-requires-clause-ended c k d low = (c.requires.crew.threads k (get
 pub take_out_all-books-requires-clause-gathered : goal.take_out_all-books-requires-clause-gathered
 take_out_all-books-requires-clause-gathered c =
     let whole : c.gather.new.keeper.token.me.0 ≡ whole_of c.args.crew =
-        ap (λ (m : Me (Option EndBook) EndPass). m.0) c.gather.ensures.gathered
-        ∙ ap (λ (m : Me (Option EndBook) EndPass). gathered m.0 c.args.crew.interface.seat.token.me.0) c.gather_threads.ensures.gathered
-        ∙ sym (gathered_push c.args.crew.driver.seat.token.me.0 (map pass_of c.args.crew.threads.items) c.args.crew.interface.seat.token.me.0)
+    ap (λ (m : Me (Option EndBook) EndPass). m.0) c.gather.ensures.gathered
+    ∙ ap (λ (m : Me (Option EndBook) EndPass). gathered m.0 c.args.crew.interface.seat.token.me.0) c.gather_threads.ensures.gathered
+    ∙ sym (gathered_push c.args.crew.driver.seat.token.me.0 (map pass_of c.args.crew.threads.items) c.args.crew.interface.seat.token.me.0)
     in
     subst (λ (v : EndPass). HasGathered v) (sym whole) (c.a_crew_is_gathered.ensures c.args.scenario.now c.args.crew.node c.args.scenario.now.turns c.args.crew c.requires.crew (omega arith))
 
 pub take_out_all-books-requires-clause-outside : goal.take_out_all-books-requires-clause-outside
 take_out_all-books-requires-clause-outside c =
     let whole : c.gather.new.keeper.token.me.0 ≡ whole_of c.args.crew =
-        ap (λ (m : Me (Option EndBook) EndPass). m.0) c.gather.ensures.gathered
-        ∙ ap (λ (m : Me (Option EndBook) EndPass). gathered m.0 c.args.crew.interface.seat.token.me.0) c.gather_threads.ensures.gathered
-        ∙ sym (gathered_push c.args.crew.driver.seat.token.me.0 (map pass_of c.args.crew.threads.items) c.args.crew.interface.seat.token.me.0)
+    ap (λ (m : Me (Option EndBook) EndPass). m.0) c.gather.ensures.gathered
+    ∙ ap (λ (m : Me (Option EndBook) EndPass). gathered m.0 c.args.crew.interface.seat.token.me.0) c.gather_threads.ensures.gathered
+    ∙ sym (gathered_push c.args.crew.driver.seat.token.me.0 (map pass_of c.args.crew.threads.items) c.args.crew.interface.seat.token.me.0)
     in
     subst (λ (v : EndPass). IsOutside v) (sym whole) (outside_all c.args.crew.driver.seat.token.me.0 (passes_of c.args.crew) c.requires.crew.driver.idle.outside)
 
 pub returns : goal.returns
 returns c =
     let whole : c.gather.new.keeper.token.me.0 ≡ whole_of c.args.crew =
-        ap (λ (m : Me (Option EndBook) EndPass). m.0) c.gather.ensures.gathered
-        ∙ ap (λ (m : Me (Option EndBook) EndPass). gathered m.0 c.args.crew.interface.seat.token.me.0) c.gather_threads.ensures.gathered
-        ∙ sym (gathered_push c.args.crew.driver.seat.token.me.0 (map pass_of c.args.crew.threads.items) c.args.crew.interface.seat.token.me.0)
+    ap (λ (m : Me (Option EndBook) EndPass). m.0) c.gather.ensures.gathered
+    ∙ ap (λ (m : Me (Option EndBook) EndPass). gathered m.0 c.args.crew.interface.seat.token.me.0) c.gather_threads.ensures.gathered
+    ∙ sym (gathered_push c.args.crew.driver.seat.token.me.0 (map pass_of c.args.crew.threads.items) c.args.crew.interface.seat.token.me.0)
     in
     let taken = c.take_out_all-books.ensures.taken in
     record {
