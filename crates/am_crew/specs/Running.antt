@@ -1,7 +1,10 @@
 -- What no turn changes of a worker, and of a node's crew.
-use Rattle.std.specs.Prelude.{◌≡◌, List}
+use Rattle.std.specs.Prelude.{◌≡◌, Bool, true, false, ◌||◌, Option, Some}
+use Rattle.std.specs.List.{list_any}
 use Rattle.am_works.specs.Seats.{SameSeat}
 use Rattle.am_workers.specs.AtWork.{SameIns, SameOuts}
+use Rattle.am_workers.specs.declared.workers.Stop.{Stop}
+use Rattle.am_workers.specs.declared.workers.Stop.TheVariants as Stops
 use Rattle.am_workers.specs.declared.workers.ThreadWorker.{ThreadWorker}
 use Rattle.am_workers.specs.declared.workers.InterfaceWorker.{InterfaceWorker}
 use Rattle.am_workers.specs.declared.workers.DriverWorker.{DriverWorker}
@@ -25,3 +28,13 @@ pub record SameCrew (c d : NodeCrew) : Type 0 where
   pub node : d.node ≡ c.node
   pub outs : SameOuts c.interface.outs.items d.interface.outs.items
   pub ins : SameIns c.interface.ins.items d.interface.ins.items
+
+-- ---- want of memory
+
+abbrev pub is_want : Option Stop → Bool
+is_want (Some Stops.NoMemory) = true
+is_want stop = false
+
+-- a worker of the node found no memory
+abbrev pub is_starved : NodeCrew → Bool
+is_starved c = is_want c.interface.stop || (is_want c.driver.stop || list_any (λ (w : ThreadWorker). is_want w.stop) c.threads.items)

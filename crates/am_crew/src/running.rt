@@ -1,6 +1,6 @@
 //! How the workers of all nodes make their turns at the same time.
 
-ghost use Rattle.am_crew.specs.Running.{SameCrew, SameDriver, SameInterface, SameThread};
+ghost use Rattle.am_crew.specs.Running.{SameCrew, SameDriver, SameInterface, SameThread, is_starved, is_want};
 ghost use Rattle.am_crew_opening.specs.Crews.{AreCrews, AreLinked, AreNumbered, IsCrew};
 ghost use Rattle.am_follow.specs.Layout.{layout_of};
 ghost use Rattle.am_local.specs.Together.{ends_of};
@@ -10,6 +10,7 @@ ghost use Rattle.am_workers.specs.AtWork.{IsDriverAtWork, IsInterfaceAtWork, IsT
 ghost use Rattle.am_workers.specs.declared.workers.ThreadWorker.{ThreadWorker};
 ghost use Rattle.am_crew_opening.specs.declared.crew.NodeCrew.{NodeCrew};
 ghost use Rattle.std.specs.Prelude.{◌≡◌, ◌+◌, ◌<◌, ◌≤◌, ◌^◌, ℕ, Some, length, slice_get};
+ghost use Rattle.std.specs.List.{list_any};
 ghost use Rattle.std.specs.Thread.{IsSync};
 
 use am_books::EndBook;
@@ -186,17 +187,28 @@ pub(crate) fn run_crews<R: Threads + Sync, G: Gate + Sync>(
     { run_crew(rt, alloc, scenario, gate, crew) });
 }
 
-/// Whether a worker of the node found no memory.
-fn is_starved(crew: &NodeCrew) -> bool {
-    crew.interface.stop == Some(Stop::NoMemory)
-        || crew.driver.stop == Some(Stop::NoMemory)
-        || crew
-            .threads
-            .iter()
-            .any(|worker| worker.stop == Some(Stop::NoMemory))
+/// Whether this is want of memory.
+fn is_want(stop: Option<Stop>) -> bool
+    ensures { result ≡ is_want stop }
+{
+    match stop {
+        Some(Stop::NoMemory) => true,
+        Some(Stop::LogFull) | None => false,
+    }
 }
 
-/// Whether a worker found no memory.
-pub(crate) fn found_no_memory(crews: &[NodeCrew]) -> bool {
+/// Whether a worker of the node found no memory.
+fn is_starved(crew: &NodeCrew) -> bool
+    ensures { result ≡ is_starved crew.now }
+{
+    is_want(crew.interface.stop)
+        || is_want(crew.driver.stop)
+        || crew.threads.iter().any(|worker| is_want(worker.stop))
+}
+
+/// Whether a worker of any node found no memory.
+pub(crate) fn found_no_memory(crews: &[NodeCrew]) -> bool
+    ensures { result ≡ list_any is_starved crews.now }
+{
     crews.iter().any(|crew| is_starved(crew))
 }
