@@ -1,11 +1,11 @@
 #!/usr/bin/env python3
-"""crowd.py NODES TURNS: a scenario for bench/threads.sh. Each node has eight endpoints, all with room in frames, and four threads of 250 calls.
+"""crowd.py NODES TURNS: a scenario for bench/threads.sh. Each node has eight endpoints, all with room in frames, and four threads of 256 calls.
 
 A thread has two endpoints of its node. From both it sends requests in turn within the node and to the next node, and polls both.
 """
 import sys
 
-CALLS = 250
+CALLS = 256
 
 
 def calls_of(thread, nodes):

@@ -1,5 +1,6 @@
 #!/usr/bin/env python3
-"""soak.py PROGRAM [FIRST] [COUNT]: random scenarios FIRST, FIRST + 1 .. (1,000 from 1) with turns, each run by the program, and each report judged.
+"""soak.py PROGRAM [FIRST] [COUNT] [JOBS]: random scenarios FIRST, FIRST + 1 .. (1,000 from 1) with turns, each run by the program, JOBS at a time, and
+each report judged.
 
 The scenarios have 1 to 16 nodes, up to 256 endpoints and 64 threads, 1 to 10,000 turns, packets that are lost, repeated and late, swap faults, and now and then a small log.
 A report is judged by check/judge.py, and made again entry by entry by the second reading in check/replay.py. Prints each bad one, and then what all came to. A bad
@@ -61,9 +62,9 @@ def keep(seed, text, printed):
     print(f"scenario {seed} and its report are kept in {folder}")
 
 
-def main(program, first=1, count=1000):
+def main(program, first=1, count=1000, jobs=None):
     statuses, bad, all_entries, drained = Counter(), 0, 0, 0
-    with ProcessPoolExecutor() as pool:
+    with ProcessPoolExecutor(jobs) as pool:
         for seed, status, wrong, (entries, by_drain) in pool.map(tried, [program] * count, range(first, first + count)):
             statuses[status] += 1
             all_entries += entries
@@ -77,4 +78,4 @@ def main(program, first=1, count=1000):
 
 
 if __name__ == "__main__":
-    sys.exit(main(sys.argv[1], *(int(it) for it in sys.argv[2:4])))
+    sys.exit(main(sys.argv[1], *(int(it) for it in sys.argv[2:5])))

@@ -1,6 +1,7 @@
 #!/usr/bin/env bash
 # What threads bring: bench/threads.sh PROGRAM [TURNS]. The scenarios of bench/crowd.py on 1 to 16 nodes, run by the drain alone (turns 0) and with 10,000 turns. Prints the
-# table of docs/PERFORMANCE.md; the slowest of three runs counts. How many entries the workers made, check/replay.py reads off the report. The status is 1 where a run failed.
+# table of docs/PERFORMANCE.md. The slowest of three whole runs counts, reading and printing included. How many entries the workers made at most, check/replay.py reads off the
+# report. The status is 1 where a run failed.
 set -u
 program=${1:-crates/am2/out/am2}
 turns=${2:-10000}
@@ -26,20 +27,15 @@ entries() {
     sed -n '2s/entries //p' "$slowest"
 }
 
-echo "| Nodes | Workers | Drain alone: entries | time | entries a second | With $turns turns: entries | made by workers | time | turns a second | entries of workers a second |"
+echo "| Nodes | Workers | Drain alone: entries | time | entries a second | With $turns turns: entries | of workers | time | entries a second | turns a second |"
 echo "|---|---|---|---|---|---|---|---|---|---|"
 for nodes in 1 2 4 8 16; do
     python3 "$top/bench/crowd.py" "$nodes" 0 > "$input"
     timed || { echo "a run of $nodes nodes failed"; exit 1; }
-    alone=$(entries)
-    alone_time=$milliseconds
+    alone="$(entries) | $milliseconds ms | $(($(entries) * 1000 / milliseconds))"
     python3 "$top/bench/crowd.py" "$nodes" "$turns" > "$input"
     timed || { echo "a run of $nodes nodes with turns failed"; exit 1; }
-    all=$(entries)
-    made=$(python3 -B "$top/check/replay.py" "$input" "$slowest") || { echo "the report of $nodes nodes is wrong: $made"; exit 1; }
-    # the drain's share of the time, by what it takes alone for an entry, is not the workers'
-    rest=$(((all - made) * alone_time / alone))
-    phase=$((milliseconds > rest ? milliseconds - rest : 1))
     workers=$((6 * nodes))
-    echo "| $nodes | $workers | $alone | $alone_time ms | $((alone * 1000 / alone_time)) | $all | $made | $milliseconds ms | $((workers * turns * 1000 / phase)) | $((made * 1000 / phase)) |"
+    made=$(python3 -B "$top/check/replay.py" "$input" "$slowest") || { echo "the report of $nodes nodes is wrong: $made"; exit 1; }
+    echo "| $nodes | $workers | $alone | $(entries) | $made | $milliseconds ms | $(($(entries) * 1000 / milliseconds)) | $((workers * turns * 1000 / milliseconds)) |"
 done
