@@ -24,19 +24,17 @@ SECONDS = 120
 
 
 def judged(status, text, printed):
-    """What is wrong with an answer, and its numbers of entries: all, and the fewest that are the drain's."""
+    """What is wrong with an answer, and its numbers of entries: all, and at least how many the drain made."""
     scenario, full = read(text), None
     if status == 6:
         first, printed = printed.split("\n", 1)
         full = first.removeprefix("log full ")
     elif status:
         return [f"status {status}"], (0, 0)
-    whole = judge.faults(scenario, printed) if status == 0 else []
-    count = int(printed.split("\n")[1].split()[1])
-    again = replay.faults(scenario, printed, full)
-    if again:
-        return whole + again, (count, 0)
-    return whole, (count, count - replay.phase_of(scenario, printed.split("\n")[2 : 2 + count], full))
+    wrong = judge.faults(scenario, printed) if status == 0 else []
+    again, phase = replay.made_again(scenario, printed, full)
+    entries = int(printed.split("\n")[1].split()[1])
+    return wrong + again, (entries, entries - phase)
 
 
 def tried(program, seed):

@@ -1,9 +1,9 @@
 #!/usr/bin/env python3
 """replay.py SCENARIO REPORT: a run's report against the second reading of the rules. Prints what is wrong, or how many of its entries the workers made.
 
-The journal is made again entry by entry, and must be a phase of the workers and then the drain. Which of the possible journals a run with turns prints nobody can foretell. But each entry must have the outcome that the rules give it, packets must be received as
-their link released them, threads must make the calls of their scripts in order, and behind some place the journal must be just what the drain makes of what stands before.
-Before that place no worker may have made more entries than it has turns, none that belongs to the drain alone, and nobody polled beside the threads.
+Which of the possible journals a run with turns prints nobody can foretell. But made again entry by entry, each must have the outcome that the rules give it; packets must be
+received as their link released them; threads must make the calls of their scripts in order; and behind some place the journal must be just what the drain makes of what stands
+before. Before that place no worker may have made more entries than it has turns, nor one that belongs to the drain alone.
 """
 import sys
 
@@ -79,7 +79,7 @@ def is_drains_own(replay, words):
 
 
 def longest_phase(scenario, journal):
-    """How many of the first entries the workers may have made, and the whole of them made again."""
+    """How many of the first entries the workers may have made at most, and the whole journal made again."""
     replay, made, longest = Replay(scenario, journal), {}, None
     for place, line in enumerate(journal):
         words = line.split()
@@ -103,29 +103,23 @@ def drains(scenario, journal, place, full):
     return full is None and len(replay.cluster.lines) == len(journal)
 
 
-def faults(scenario, report, full=None):
-    """What is wrong with a report; `full` names the full log that a cut off run told."""
+def made_again(scenario, report, full=None):
+    """What is wrong with a report, and how many entries its longest phase has. `full` names the full log that a run told which was cut off."""
     lines = report.split("\n")[:-1]
     journal = lines[2 : 2 + int(lines[1].split()[1])]
     try:
         longest, replay = longest_phase(scenario, journal)
     except Differs as why:
-        return [str(why)]
+        return [str(why)], 0
     found = [] if replay.cluster.report() == lines else ["the report is not that of its journal"]
-    if not any(drains(scenario, journal, place, full) for place in range(longest, -1, -1)):
-        found.append(f"no phase of at most {longest} entries is followed by its drain")
-    return found
-
-
-def phase_of(scenario, journal, full=None):
-    """The length of the longest phase that this journal's drain can follow."""
-    longest, _ = longest_phase(scenario, journal)
-    return next(place for place in range(longest, -1, -1) if drains(scenario, journal, place, full))
+    for place in range(longest, -1, -1):
+        if drains(scenario, journal, place, full):
+            return found, place
+    return [*found, f"no phase of at most {longest} entries is followed by its drain"], 0
 
 
 if __name__ == "__main__":
-    with open(sys.argv[1], encoding="ascii") as given, open(sys.argv[2], encoding="ascii") as text:
-        read_scenario, told = read(given.read()), text.read()
-    wrong = faults(read_scenario, told)
-    print("\n".join(wrong) or phase_of(read_scenario, told.split("\n")[2 : 2 + int(told.split("\n")[1].split()[1])]))
+    with open(sys.argv[1], encoding="ascii") as given, open(sys.argv[2], encoding="ascii") as printed:
+        wrong, phase = made_again(read(given.read()), printed.read())
+    print("\n".join(wrong) or phase)
     sys.exit(1 if wrong else 0)
