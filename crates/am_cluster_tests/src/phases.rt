@@ -1,12 +1,16 @@
 // Runs whose threads, interfaces and drivers work at the same time. That two of them do, and that they make entries at all,
 // no clause says.
+ghost use Rattle.am_scenario_types.specs.Lawful.{IsLawful};
+ghost use Rattle.am_scenario_types.specs.declared.parts.Network.TheVariants.{Packet};
+ghost use Rattle.std.specs.Prelude.{◌≡◌, ◌≤◌, IfOk};
+
 use crate::gates::{Hold, HoldingGate, Moment, StepGate};
 use am_cluster::{Finished, OpenGate, run};
 use am_crew::make_phase;
 use am_entry_lines::entry_line;
-use am_office::{Actor, Entry, Event, Journal, accepted_of};
+use am_office::{Actor, Entry, Event, Journal, NoMemory, accepted_of};
 use am_report::report;
-use am_scenario::{Form, Network, Scenario, ScriptCall, generate, read};
+use am_scenario::{Form, Scenario, ScriptCall, generate, read};
 use std::alloc::{AllocError, Global};
 use std::test::Fail;
 
@@ -149,15 +153,21 @@ fn thread_driver_and_interface_make_the_first_entries(rt: HostRuntime) -> Result
     Ok(())
 }
 
+/// The made workload with a number of turns, 0 to 10,000.
+fn workload(alloc: Global, turns: u32) -> Result<Scenario, NoMemory>
+    requires turns { turns ≤ 10_000 }
+    ensures lawful { IfOk result IsLawful }
+    ensures packet { IfOk result (λ scenario. scenario.network ≡ Packet) }
+{
+    let scenario = generate(alloc, 0)?;
+    Ok(Scenario { turns, ..scenario })
+}
+
 /// The made workload has 16 workers: eight threads, and an interface and a driver on each of four nodes. Kept in step they make more entries
 /// than the drain has to make after them.
 #[test]
 fn most_entries_are_made_in_the_phase(rt: HostRuntime) -> Result<(), Fail> {
-    let mut scenario = generate(rt.alloc(), 0)?;
-    let Network::Packet = scenario.network else {
-        return Ok(());
-    };
-    scenario.turns = 1000;
+    let scenario = workload(rt.alloc(), 1000)?;
     let gate = StepGate::new(&rt, 16);
     let phase = make_phase(&rt, rt.alloc(), &scenario, &gate)?;
     let by_workers = phase.journal(rt.alloc())?.entries.len();
