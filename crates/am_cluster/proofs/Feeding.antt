@@ -8,7 +8,6 @@ use Rattle.am_plan.specs.declared.plan.LinkFault.{LinkFault}
 use Rattle.am_plan.specs.Shape.{fault_at, number_of, released_by, shape}
 use Rattle.am_plan.proofs.Shapes.{one_packet_more}
 use Rattle.am_journal.proofs.Lists.{map_length}
-use Rattle.am_release.specs.declared.stage.Held.{Held}
 use Rattle.am_release.specs.Stages.{freed, held_after, held_then}
 use Rattle.am_release.proofs.Releasing.{held_more, map_append, numbers_leave}
 use Rattle.am_cluster.specs.Links.{fed, released_of}

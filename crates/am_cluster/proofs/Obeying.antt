@@ -1,10 +1,11 @@
 -- The journal of a run obeys the laws of runs, whether it came to its end or met a full log.
 use Rattle.std.specs.Prelude.{length}
-use Rattle.std.proofs.Common.{◌≡◌, ◌≤◌, ◌<◌, ◌^◌, List, [], arith}
+use Rattle.std.proofs.Common.{◌≡◌, ◌≤◌, ◌<◌, ◌^◌, List, [], arith, sym, subst}
 use Rattle.am_names.specs.declared.Cause.{Cause}
 use Rattle.am_names.specs.declared.Serial.{Serial}
 use Rattle.am_office.specs.declared.Entry.{Entry}
 use Rattle.am_office.specs.declared.Part.{Part}
+use Rattle.am_model.specs.Layout.{Layout}
 use Rattle.am_model.specs.PostOffice.{PostOffice}
 use Rattle.am_laws.proofs.OneFate.{one_fate}
 use Rattle.am_scenario_types.specs.declared.parts.Network.TheVariants.{Packet}
@@ -40,18 +41,18 @@ whole_obeys s journal lawful packet whole laws =
     }
 
 -- a drain with room of a good phase makes a whole run
-pub phase_is_whole : (s : ScenarioLists) (phase journal : List Entry) → IsLawful s → s.network ≡ Packet → IsGoodPhase s phase → HasShortLogs s phase → IsDrainedWithRoom s phase journal → IsWholeRun s journal
+phase_is_whole : (s : ScenarioLists) (phase journal : List Entry) → IsLawful s → s.network ≡ Packet → IsGoodPhase s phase → HasShortLogs s phase → IsDrainedWithRoom s phase journal → IsWholeRun s journal
 phase_is_whole s phase journal lawful packet good logs d =
     let short : IsShortHistory s journal = drains_are_short s phase journal (record { lawful = lawful; packet = packet; history = good.history }) logs d in
     let few : length journal < 2 ^ 31 = far_below (length journal) s.log short.short lawful.settings.log.1 in
     drains_make_runs s phase journal lawful packet good d.drained (omega (arith, few))
 
 -- one that meets a full log has the same rights
-pub record IsCutOffOf (s : ScenarioLists) (part : Part) (journal : List Entry) : Type 0 where
-  pub obeys : ObeysRunLaws s journal
-  pub stopped : IsStoppedFor s part journal
+record IsCutOffOf (s : ScenarioLists) (part : Part) (journal : List Entry) : Type 0 where
+  obeys : ObeysRunLaws s journal
+  stopped : IsStoppedFor s part journal
 
-pub cut_off_obeys : (s : ScenarioLists) (phase : List Entry) (part : Part) (journal : List Entry) → IsLawful s → s.network ≡ Packet → IsGoodPhase s phase → HasShortLogs s phase → IsDrainCutOff s phase part journal → PostOffice (layout_of s) journal → IsCutOffOf s part journal
+cut_off_obeys : (s : ScenarioLists) (phase : List Entry) (part : Part) (journal : List Entry) → IsLawful s → s.network ≡ Packet → IsGoodPhase s phase → HasShortLogs s phase → IsDrainCutOff s phase part journal → PostOffice (layout_of s) journal → IsCutOffOf s part journal
 cut_off_obeys s phase part journal lawful packet good logs c laws =
     let short : IsShortHistory s journal = cut_offs_are_short s phase journal part (record { lawful = lawful; packet = packet; history = good.history }) logs c in
     let run : IsOfRun s journal = record { lawful = lawful; packet = packet; history = short.history } in
@@ -76,7 +77,23 @@ alone_is_cut_off s part journal lawful packet c laws =
     let k : IsCutOffOf s part journal = cut_off_obeys s [] part journal lawful packet (empty_is_good_phase s) (no_logs s) c laws in
     record { cut = c; obeys = k.obeys; stopped = k.stopped }
 
-pub run_is_cut_off : (s : ScenarioLists) (phase : List Entry) (part : Part) (journal : List Entry) → IsLawful s → s.network ≡ Packet → IsPhaseOfRun s phase → IsDrainCutOff s phase part journal → PostOffice (layout_of s) journal → IsRunCutOff s part journal
+run_is_cut_off : (s : ScenarioLists) (phase : List Entry) (part : Part) (journal : List Entry) → IsLawful s → s.network ≡ Packet → IsPhaseOfRun s phase → IsDrainCutOff s phase part journal → PostOffice (layout_of s) journal → IsRunCutOff s part journal
 run_is_cut_off s phase part journal lawful packet made c laws =
     let k : IsCutOffOf s part journal = cut_off_obeys s phase part journal lawful packet made.good made.logs c laws in
     record { phase = phase; made = made; cut = c; obeys = k.obeys; stopped = k.stopped }
+
+-- ---- the same of a copy of the journal that a drain left
+
+pub copied_whole : (s : ScenarioLists) (phase end journal : List Entry) → IsLawful s → s.network ≡ Packet → IsGoodPhase s phase → HasShortLogs s phase → IsDrainedWithRoom s phase end → journal ≡ end → IsWholeRun s journal
+copied_whole s phase end journal lawful packet good logs d is =
+    subst (λ (j : List Entry). IsWholeRun s j) (sym is) (phase_is_whole s phase end lawful packet good logs d)
+
+pub copied_obeys : (s : ScenarioLists) (phase end journal : List Entry) (layout : Layout) → IsLawful s → s.network ≡ Packet → IsGoodPhase s phase → HasShortLogs s phase → IsDrainedWithRoom s phase end → journal ≡ end → layout ≡ layout_of s → PostOffice layout journal → ObeysRunLaws s journal
+copied_obeys s phase end journal layout lawful packet good logs d is same laws =
+    whole_obeys s journal lawful packet (copied_whole s phase end journal lawful packet good logs d is) (subst (λ (l : Layout). PostOffice l journal) same laws)
+
+pub copied_cut_off : (s : ScenarioLists) (phase : List Entry) (part : Part) (end journal : List Entry) (layout : Layout) → IsLawful s → s.network ≡ Packet → IsPhaseOfRun s phase → IsDrainCutOff s phase part end → journal ≡ end → layout ≡ layout_of s → PostOffice layout journal → IsRunCutOff s part journal
+copied_cut_off s phase part end journal layout lawful packet made c is same laws =
+    run_is_cut_off s phase part journal lawful packet made
+    (subst (λ (j : List Entry). IsDrainCutOff s phase part j) (sym is) c)
+    (subst (λ (l : Layout). PostOffice l journal) same laws)

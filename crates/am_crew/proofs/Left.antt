@@ -2,7 +2,8 @@
 use Rattle.std.specs.Prelude.{slice_get}
 use Rattle.std.specs.Global.{Vec}
 use Rattle.std.specs.Option.{option_map}
-use Rattle.std.proofs.Common.{◌≡◌, ℕ, ◌+◌, ◌<◌, ◌≤◌, Option, List, map, length, length-map, Some, refl, sym, ap, ◌∙◌, subst, arith}
+use Rattle.std.proofs.Common.{◌≡◌, ℕ, ◌+◌, ◌<◌, ◌≤◌, Option, List, map, length, Some, refl, sym, ap, ◌∙◌, subst, arith}
+use Rattle.std.proofs.lemmas.List.{length-map}
 use Rattle.std.proofs.lemmas.Option.{slice_get-map, slice_get_within}
 use Rattle.am_names.specs.declared.NodeId.{NodeId}
 use Rattle.am_names.specs.declared.Packet.{Packet}
@@ -39,7 +40,7 @@ pub books_of : List NodeEnded → List (List EndBook)
 books_of ns = map books_in ns
 
 -- the node with these books
-node_with : (ns : List NodeEnded) (k : ℕ) (bs : List EndBook) → slice_get (books_of ns) k ≡ Some bs → (n : NodeEnded) × ((slice_get ns k ≡ Some n) × (n.books.items ≡ bs))
+node_with : (ns : List NodeEnded) (k : ℕ) (bs : List EndBook) → slice_get (books_of ns) k ≡ Some bs → (n : NodeEnded) × (slice_get ns k ≡ Some n) × (n.books.items ≡ bs)
 unfolding books_of
 node_with ns k bs at =
     let low = slice_get_within (map books_in ns) k bs at in
@@ -47,7 +48,7 @@ node_with ns k bs at =
     let n = there ns k (omega (arith, low, long)) in
     let got : Some (books_in n.0) ≡ Some bs = sym (ap (λ (x : Option NodeEnded). option_map books_in x) n.1) ∙ sym (slice_get-map books_in ns k) ∙ at in
     let same : books_in n.0 ≡ bs = cc in
-    (n.0, (n.1, same))
+    (n.0, n.1, same)
 
 part_left : ReceiptsCount → (s : ScenarioLists) (crews : List NodeCrew) (all : AllEnded) (records : List (Vec LinkRecord)) (k : ℕ) (c : NodeCrew) (n : NodeEnded) (rs : Vec LinkRecord) (p : NodePart) → AreCrews s s.turns crews → AreEnded crews all → AreClosed all.outs.items all.ins.items records → slice_get crews k ≡ Some c → slice_get all.nodes.items k ≡ Some n → slice_get records k ≡ Some rs → IsPartOf s.nodes n rs.items p → IsPartOfCrew s (node_at k) c n.books.items p
 part_left count s crews all records k c n rs p crewed ended closed at_c at_n at_r part =
@@ -112,11 +113,11 @@ crews_are_left count s crews all records parts lawful packet crewed ended closed
       all_books = length-map all.nodes.items books_in ∙ ended.all_nodes ∙ crewed.all;
       books' = λ k c bs at_c at_b.
           let n = node_with all.nodes.items k bs at_b in
-          subst (λ (xs : List EndBook). AreBooksOf c xs) n.1.1 (ended.node k c n.0 at_c n.1.0).taken;
+          subst (λ (xs : List EndBook). AreBooksOf c xs) n.2 (ended.node k c n.0 at_c n.1).taken;
       all_parts = parted.all_parts ∙ ended.all_nodes ∙ crewed.all;
       parts' = λ k c bs p at_c at_b at_p.
           let n = node_with all.nodes.items k bs at_b in
           let rs = there records k (let low = slice_get_within crews k c at_c in let m = closed.all in let o = ended.all_outs in omega (arith, low, m, o)) in
-          subst (λ (xs : List EndBook). IsPartOfCrew s (node_at k) c xs p) n.1.1
-          (part_left count s crews all records k c n.0 rs.0 p crewed ended closed at_c n.1.0 rs.1 (parted.each k n.0 rs.0 p n.1.0 rs.1 at_p));
+          subst (λ (xs : List EndBook). IsPartOfCrew s (node_at k) c xs p) n.2
+          (part_left count s crews all records k c n.0 rs.0 p crewed ended closed at_c n.1 rs.1 (parted.each k n.0 rs.0 p n.1 rs.1 at_p));
     }

@@ -1,3 +1,8 @@
-mod Links
+mod Adding
 mod Left
-mod Ended
+mod Links
+mod Parts
+mod Ran
+mod Rows
+mod Taking
+mod Gathered

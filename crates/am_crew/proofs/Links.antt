@@ -17,9 +17,9 @@ use Rattle.am_crew.specs.declared.ended.AllEnded.{AllEnded}
 
 -- an element that is there
 pub there : {X : Type 0} (xs : List X) (k : ℕ) → k < length xs → (x : X) × (slice_get xs k ≡ Some x)
-there xs k less =
+there {X = X} xs k less =
     ⊎_elim
-    (λ (here : (x : X) × (k < length xs) × (slice_get xs k ≡ Some x) × (get_or xs k x ≡ x)). (here.0, here.1.1.0))
+    (λ (here : (x : X) × (k < length xs) × (slice_get xs k ≡ Some x) × (get_or xs k x ≡ x)). (here.0, here.2))
     (λ (past : (length xs ≤ k) × (slice_get xs k ≡ None)). (let far = past.0 in absurd (omega (arith, far, less))))
     (slice_get_cases xs k).1
 

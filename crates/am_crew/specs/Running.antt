@@ -1,8 +1,10 @@
 -- What no turn changes of a worker, and of a node's crew.
-use Rattle.std.specs.Prelude.{◌≡◌, Bool, true, false, ◌||◌, Option, Some}
+use Rattle.std.specs.Prelude.{◌≡◌, ℕ, Bool, true, false, ◌||◌, Option, Some, List, length, slice_get}
 use Rattle.std.specs.List.{list_any}
-use Rattle.am_works.specs.Seats.{SameSeat}
-use Rattle.am_workers.specs.AtWork.{SameIns, SameOuts}
+use Rattle.atomic_table.specs.Seated.{TableId}
+use Rattle.am_scenario_types.specs.Lists.{ScenarioLists}
+use Rattle.am_works.specs.Seats.{Ids, SameSeat}
+use Rattle.am_workers.specs.AtWork.{IsThreadAtWork, SameIns, SameOuts}
 use Rattle.am_workers.specs.declared.workers.Stop.{Stop}
 use Rattle.am_workers.specs.declared.workers.Stop.TheVariants as Stops
 use Rattle.am_workers.specs.declared.workers.ThreadWorker.{ThreadWorker}
@@ -13,6 +15,12 @@ use Rattle.am_crew_opening.specs.declared.crew.NodeCrew.{NodeCrew}
 pub record SameThread (v w : ThreadWorker) : Type 0 where
   pub seat : SameSeat v.seat.token.me.0 w.seat.token.me.0
   pub thread : w.thread ≡ v.thread
+
+-- the threads of a node have made their turns
+pub record HaveRun (s : ScenarioLists) (table : TableId) (ids : Ids) (vs ws : List ThreadWorker) : Type 0 where
+  pub all : length ws ≡ length vs
+  pub at_work : (k : ℕ) (w : ThreadWorker) → slice_get ws k ≡ Some w → IsThreadAtWork s table ids s.turns w
+  pub same : (k : ℕ) (v w : ThreadWorker) → slice_get vs k ≡ Some v → slice_get ws k ≡ Some w → SameThread v w
 
 pub record SameInterface (v w : InterfaceWorker) : Type 0 where
   pub seat : SameSeat v.seat.token.me.0 w.seat.token.me.0

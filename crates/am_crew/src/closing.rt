@@ -18,8 +18,8 @@ fn close_row(
     ensures closed { IfOk result (λ records. IsRowClosed outs.items ins.old records.items ins.new) }
 {
     let mut records = Vec::with_capacity(alloc, outs.len())?;
-    for (to, out) in outs.into_iter().enumerate() {
-        let inn = ins[to].remove(0);
+    for out in outs {
+        let inn = ins[records.len()].remove(0);
         records.push(close(alloc, out, inn)?)?;
     }
     Ok(records)

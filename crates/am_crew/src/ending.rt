@@ -14,6 +14,7 @@ ghost use Rattle.std.specs.Prelude.{◌≡◌, ◌<◌, ◌≤◌, ℕ, List, []
 
 use crate::ended::{AllEnded, Ended, NodeEnded};
 use am_books::EndBook;
+use am_crew_ends::a_crew_is_gathered;
 use am_crew_opening::NodeCrew;
 use am_office::NoMemory;
 use am_places::{Places, Seat};
@@ -79,6 +80,7 @@ fn end_crew(alloc: Global, scenario: &Scenario, crew: NodeCrew) -> Result<Ended,
     requires crew { IsCrew scenario.now crew.node scenario.now.turns crew }
     ensures { IfOk result (IsEndedOf crew) }
 {
+    a_crew_is_gathered();
     let _scenario = scenario;
     let NodeCrew {
         node,

@@ -2,6 +2,7 @@
 //! that a drain may go on from.
 #![tactic(auto)]
 
+ghost use Rattle.am_crew_opening.specs.Crews.{AreCrews, AreLinked};
 ghost use Rattle.am_drain.specs.Follows.{IsGoodPhase};
 ghost use Rattle.am_follow.specs.Layout.{layout_of};
 ghost use Rattle.am_scenario_types.specs.Lawful.{IsLawful};
@@ -19,12 +20,38 @@ pub use am_workers::{Gate, OpenGate};
 use crate::ending::end_crews;
 use crate::parting::parts_of;
 use crate::running::{found_no_memory, run_crews};
-use am_crew_opening::open_crews;
+use am_crew_ends::crews_unite;
+use am_crew_opening::{NodeCrew, open_crews};
 use am_machine::Cluster;
 use am_office::NoMemory;
 use am_scenario_types::Scenario;
+use am_unite_laws::receipts_are_counted;
 use std::alloc::Global;
 use std::thread::Threads;
+
+/// What the crews of all nodes made, put together to a cluster.
+fn unite_crews(
+    alloc: Global,
+    scenario: &Scenario,
+    crews: Vec<NodeCrew>,
+) -> Result<Cluster, NoMemory>
+    requires lawful { IsLawful scenario.now }
+    requires packet { scenario.now.network ≡ Networks.Packet }
+    requires crews { AreCrews scenario.now scenario.now.turns crews.items }
+    requires linked { AreLinked crews.items }
+    ensures layout { IfOk result (λ cluster. cluster.layout ≡ layout_of scenario.now) }
+    ensures good { IfOk result (λ cluster. IsGoodPhase scenario.now cluster.journal) }
+    ensures none { IfOk result (λ cluster. scenario.now.turns ≡ 0 → cluster.journal ≡ []) }
+{
+    receipts_are_counted();
+    crews_unite();
+    let ended = end_crews(alloc, scenario, crews)?;
+    let parts = parts_of(alloc, ended, scenario.nodes)?;
+    match Cluster::unite(alloc, scenario, parts) {
+        Ok(cluster) => Ok(cluster),
+        Err(_) => Err(NoMemory),
+    }
+}
 
 /// What the threads, interfaces and drivers of a scenario of the packet network make in its number of turns, all at the same time:
 /// a cluster whose journal is a good phase of the scenario, however they interleave, and the empty one where there are no turns. A
@@ -47,10 +74,5 @@ pub fn make_phase<R: Threads + Sync, G: Gate + Sync>(
     if found_no_memory(&crews) {
         return Err(NoMemory);
     }
-    let ended = end_crews(alloc, scenario, crews)?;
-    let parts = parts_of(alloc, ended, scenario.nodes)?;
-    match Cluster::unite(alloc, scenario, parts) {
-        Ok(cluster) => Ok(cluster),
-        Err(_) => Err(NoMemory),
-    }
+    unite_crews(alloc, scenario, crews)
 }

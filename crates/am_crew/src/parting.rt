@@ -126,11 +126,7 @@ fn assemble(
 }
 
 /// The parts of all nodes: the links are closed.
-pub(crate) fn parts_of(
-    alloc: Global,
-    all: AllEnded,
-    count: u8,
-) -> Result<Vec<NodePart>, NoMemory>
+pub(crate) fn parts_of(alloc: Global, all: AllEnded, count: u8) -> Result<Vec<NodePart>, NoMemory>
     requires nodes { length all.nodes.items ≡ length all.outs.items }
     requires linked { AreLinkedEnds all.outs.items all.ins.items }
     ensures { IfOk result (λ parts. (records : List (Vec LinkRecord)) × AreClosed all.outs.items all.ins.items records × ArePartsOf count all.nodes.items records parts.items) }

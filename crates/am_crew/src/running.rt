@@ -1,6 +1,6 @@
 //! How the workers of all nodes make their turns at the same time.
 
-ghost use Rattle.am_crew.specs.Running.{SameCrew, SameDriver, SameInterface, SameThread, is_starved, is_want};
+ghost use Rattle.am_crew.specs.Running.{HaveRun, SameCrew, SameDriver, SameInterface, SameThread, is_starved, is_want};
 ghost use Rattle.am_crew_opening.specs.Crews.{AreCrews, AreLinked, AreNumbered, IsCrew};
 ghost use Rattle.am_follow.specs.Layout.{layout_of};
 ghost use Rattle.am_local.specs.Together.{ends_of};
@@ -39,17 +39,13 @@ fn run_threads<R: Threads + Sync, G: Gate + Sync>(
     requires few { length threads.old ≤ 4 }
     requires first { first ≤ 4096 }
     requires at_work { (k : ℕ) (w : ThreadWorker) → slice_get threads.old k ≡ Some w → IsThreadAtWork scenario.now places.now.board.shared.table_id places.now.ids.items 0 w }
-    ensures at_work { (k : ℕ) (w : ThreadWorker) → slice_get threads.new k ≡ Some w → IsThreadAtWork scenario.now places.now.board.shared.table_id places.now.ids.items scenario.now.turns w }
-    ensures same { (k : ℕ) (v w : ThreadWorker) → slice_get threads.old k ≡ Some v → slice_get threads.new k ≡ Some w → SameThread v w }
-    ensures all { length threads.new ≡ length threads.old }
+    ensures ran { HaveRun scenario.now places.now.board.shared.table_id places.now.ids.items threads.old threads.new }
 {
-    if threads.is_empty() {
-        return;
-    }
-    let count = threads.len();
-    thread::for_each_mut(rt, threads, count, &|k, worker| {
-        work_as_thread(worker, places, scenario, first + k as u32, gate)
-    });
+    let count = threads.len().max(1);
+    thread::for_each_mut(rt, threads, count, &|k, worker|
+        requires { IsLawful scenario.now × (k < 4) × (first ≤ 4096) × IsThreadAtWork scenario.now places.now.board.shared.table_id places.now.ids.items 0 worker.now }
+        ensures { IsThreadAtWork scenario.entry.now places.entry.now.board.shared.table_id places.entry.now.ids.items scenario.entry.now.turns worker.exit.now × SameThread worker.entry.now worker.exit.now }
+    { work_as_thread(worker, places, scenario, first + k as u32, gate) });
 }
 
 /// The interface and the driver of a node make their turns at the same time.
@@ -109,9 +105,7 @@ fn run_workers<R: Threads + Sync, G: Gate + Sync>(
     requires threads { (k : ℕ) (w : ThreadWorker) → slice_get threads.old k ≡ Some w → IsThreadAtWork scenario.now places.now.board.shared.table_id places.now.ids.items 0 w }
     requires interface { IsInterfaceAtWork scenario.now places.now.board.shared.table_id places.now.ids.items node 0 interface.old }
     requires driver { IsDriverAtWork scenario.now places.now.board.shared.table_id places.now.ids.items node 0 driver.old }
-    ensures threads { (k : ℕ) (w : ThreadWorker) → slice_get threads.new k ≡ Some w → IsThreadAtWork scenario.now places.now.board.shared.table_id places.now.ids.items scenario.now.turns w }
-    ensures same_threads { (k : ℕ) (v w : ThreadWorker) → slice_get threads.old k ≡ Some v → slice_get threads.new k ≡ Some w → SameThread v w }
-    ensures all_threads { length threads.new ≡ length threads.old }
+    ensures threads { HaveRun scenario.now places.now.board.shared.table_id places.now.ids.items threads.old threads.new }
     ensures interface { IsInterfaceAtWork scenario.now places.now.board.shared.table_id places.now.ids.items node scenario.now.turns interface.new }
     ensures driver { IsDriverAtWork scenario.now places.now.board.shared.table_id places.now.ids.items node scenario.now.turns driver.new }
     ensures same_interface { SameInterface interface.old interface.new }
@@ -122,11 +116,11 @@ fn run_workers<R: Threads + Sync, G: Gate + Sync>(
         rt,
         &mut ||
             requires { IsSync R.row × IsSync G.row × IsLawful scenario.now × (length threads.now ≤ 4) × (first ≤ 4096) × ((k : ℕ) (w : ThreadWorker) → slice_get threads.now k ≡ Some w → IsThreadAtWork scenario.now places.now.board.shared.table_id places.now.ids.items 0 w) }
-            ensures { ((k : ℕ) (w : ThreadWorker) → slice_get threads.exit.now k ≡ Some w → IsThreadAtWork scenario.exit.now places.exit.now.board.shared.table_id places.exit.now.ids.items scenario.exit.now.turns w) × ((k : ℕ) (v w : ThreadWorker) → slice_get threads.entry.now k ≡ Some v → slice_get threads.exit.now k ≡ Some w → SameThread v w) × (length threads.exit.now ≡ length threads.entry.now) }
+            ensures { HaveRun scenario.exit.now places.exit.now.board.shared.table_id places.exit.now.ids.items threads.entry.now threads.exit.now }
         { run_threads(rt, scenario, gate, places, first, threads) },
         &mut ||
             requires { IsSync R.row × IsSync G.row × IsLawful scenario.now × (scenario.now.network ≡ Networks.Packet) × (node.0 < scenario.now.nodes) × (next ≤ 8192) × (places.now.ids.items ≡ ends_of (layout_of scenario.now) node) × (places.now.frames ≡ scenario.now.frames) × (driver.now.node ≡ node) × IsInterfaceAtWork scenario.now places.now.board.shared.table_id places.now.ids.items node 0 interface.now × IsDriverAtWork scenario.now places.now.board.shared.table_id places.now.ids.items node 0 driver.now }
-            ensures { IsInterfaceAtWork scenario.exit.now places.exit.now.board.shared.table_id places.exit.now.ids.items node.exit scenario.exit.now.turns interface.exit.now × IsDriverAtWork scenario.exit.now places.exit.now.board.shared.table_id places.exit.now.ids.items node.exit scenario.exit.now.turns driver.exit.now × SameInterface interface.entry.now interface.exit.now × SameDriver driver.entry.now driver.exit.now }
+            ensures { IsInterfaceAtWork scenario.exit.now places.exit.now.board.shared.table_id places.exit.now.ids.items node scenario.exit.now.turns interface.exit.now × IsDriverAtWork scenario.exit.now places.exit.now.board.shared.table_id places.exit.now.ids.items node scenario.exit.now.turns driver.exit.now × SameInterface interface.entry.now interface.exit.now × SameDriver driver.entry.now driver.exit.now }
         { run_both(rt, alloc, scenario, gate, places, node, next, interface, driver) },
     );
 }
@@ -177,10 +171,7 @@ pub(crate) fn run_crews<R: Threads + Sync, G: Gate + Sync>(
     ensures crews { AreCrews scenario.now scenario.now.turns crews.new }
     ensures linked { AreLinked crews.new }
 {
-    if crews.is_empty() {
-        return;
-    }
-    let count = crews.len();
+    let count = crews.len().max(1);
     thread::for_each_mut(rt, crews, count, &|_number, crew|
         requires { IsSync R.row × IsSync G.row × IsLawful scenario.now × (scenario.now.network ≡ Networks.Packet) × (crew.now.node.0 < scenario.now.nodes) × (crew.now.first ≤ 4096) × IsCrew scenario.now crew.now.node 0 crew.now }
         ensures { IsCrew scenario.entry.now crew.entry.now.node scenario.entry.now.turns crew.exit.now × SameCrew crew.entry.now crew.exit.now }
@@ -197,13 +188,20 @@ fn is_want(stop: Option<Stop>) -> bool
     }
 }
 
+/// Whether one of these threads found no memory.
+fn some_is_starved(threads: &[ThreadWorker]) -> bool
+    ensures { result ≡ list_any (λ (w : ThreadWorker). is_want w.stop) threads.now }
+{
+    threads.iter().any(|worker| is_want(worker.stop))
+}
+
 /// Whether a worker of the node found no memory.
 fn is_starved(crew: &NodeCrew) -> bool
     ensures { result ≡ is_starved crew.now }
 {
     is_want(crew.interface.stop)
         || is_want(crew.driver.stop)
-        || crew.threads.iter().any(|worker| is_want(worker.stop))
+        || some_is_starved(&crew.threads)
 }
 
 /// Whether a worker of any node found no memory.

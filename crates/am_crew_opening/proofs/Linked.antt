@@ -2,7 +2,7 @@
 use Rattle.std.specs.Prelude.{slice_get}
 use Rattle.std.specs.Global.{Vec}
 use Rattle.std.proofs.Common.{◌≡◌, ◌⊎◌, ⊎_elim, ℕ, ◌+◌, ◌*◌, ◌<◌, ◌≤◌, Some, List, [], ◌∷◌, ◌++◌, length, map, reverse, refl, sym, ap, ◌∙◌, subst, arith}
-use Rattle.std.proofs.lemmas.List.{length_push}
+use Rattle.std.proofs.lemmas.List.{length-reverse, length_push}
 use Rattle.am_names.specs.declared.NodeId.{NodeId}
 use Rattle.am_model.specs.Layout.{AllAre}
 use Rattle.am_scenario_types.specs.Lawful as lawful
@@ -57,6 +57,8 @@ pub record AreMade (s : ScenarioLists) (os : List Opening) (outs : List (Vec Lin
   pub os_taking : AreTaking os os_left (length crews)
   pub outs_taking : AreTaking outs outs_left (length crews)
   pub ins_taking : AreTaking ins ins_left (length crews)
+  pub outs_all : length outs_left ≡ length os_left
+  pub ins_all : length ins_left ≡ length os_left
   pub each : (k : ℕ) (c : NodeCrew) → slice_get crews k ≡ Some c → IsCrew s (node_at k) 0 c
   pub ends : (k : ℕ) (c : NodeCrew) → slice_get crews k ≡ Some c → HasEnds outs ins k c
   pub unused : AllAre IsUnused crews
@@ -64,12 +66,17 @@ pub record AreMade (s : ScenarioLists) (os : List Opening) (outs : List (Vec Lin
   pub counted : first ≡ workers_of crews
   pub low : first ≤ 6 * length crews
 
-pub made_begins : (s : ScenarioLists) (os : List Opening) (outs : List (Vec LinkOut)) (ins : List (Vec LinkIn)) → AreMade s os outs ins 0 [] (reverse os) (reverse outs) (reverse ins)
-made_begins s os outs ins =
+pub ends_all : (s : ScenarioLists) (os : List Opening) (l : Links) → AreOpenings s os → AreLinks s.plan s.nodes l → (length l.outs.items ≡ length os) × (length l.ins.items ≡ length os)
+ends_all s os l are links = (links.rows ∙ sym are.all, links.columns ∙ sym are.all)
+
+pub made_begins : (s : ScenarioLists) (os : List Opening) (outs : List (Vec LinkOut)) (ins : List (Vec LinkIn)) → length outs ≡ length os → length ins ≡ length os → AreMade s os outs ins 0 [] (reverse os) (reverse outs) (reverse ins)
+made_begins s os outs ins a b =
     record {
       os_taking = taking_begins os;
       outs_taking = taking_begins outs;
       ins_taking = taking_begins ins;
+      outs_all = length-reverse outs ∙ a ∙ sym (length-reverse os);
+      ins_all = length-reverse ins ∙ b ∙ sym (length-reverse os);
       each = λ k c h. absurd (cc);
       ends = λ k c h. absurd (cc);
       unused = tt;
@@ -123,12 +130,14 @@ module _ (s : ScenarioLists) (os : List Opening) (l : Links) (first : ℕ) (crew
           os_taking = subst (AreTaking os os_left) (sym (length_push crews c)) (taking_more os os_left o (length crews) made.os_taking);
           outs_taking = subst (AreTaking l.outs.items outs_left) (sym (length_push crews c)) (taking_more l.outs.items outs_left out (length crews) made.outs_taking);
           ins_taking = subst (AreTaking l.ins.items ins_left) (sym (length_push crews c)) (taking_more l.ins.items ins_left inn (length crews) made.ins_taking);
+          outs_all = (let a = length_push outs_left out in let b = length_push os_left o in let all = made.outs_all in omega (arith, a, b, all));
+          ins_all = (let a = length_push ins_left inn in let b = length_push os_left o in let all = made.ins_all in omega (arith, a, b, all));
           each = each_more (λ (k : ℕ) (d : NodeCrew). IsCrew s (node_at k) 0 d) crews c (length crews) refl made.each (subst (λ (n : NodeId). IsCrew s n 0 c) next_at crew);
           ends =
               each_more (HasEnds l.outs.items l.ins.items) crews c (length crews) refl made.ends
               (record { outs_at = outs_next ∙ ap (λ (v : Vec LinkOut). Some v) (sym is_outs); ins_at = ins_next ∙ ap (λ (v : Vec LinkIn). Some v) (sym is_ins) });
           unused = all_push IsUnused crews c made.unused fresh;
-          numbered = numbered_push 0 crews c made.numbered (is_first ∙ made.counted);
+          numbered = numbered_push 0 crews c made.numbered (let same = is_first ∙ made.counted in omega (arith, same));
           counted = ap (λ (n : ℕ). n + seats_of c) made.counted ∙ sym (workers_push crews c);
           low =
               (let e = length_push crews c in

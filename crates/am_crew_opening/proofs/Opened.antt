@@ -1,15 +1,17 @@
 -- A crew that is made of what its workers begin with and of its links is at work, with no turn made.
 use Rattle.std.specs.Prelude.{slice_get}
-use Rattle.std.proofs.Common.{◌≡◌, ◌≢◌, ℕ, zero, suc, ◌+◌, ◌<◌, ◌≤◌, None, Some, List, [], ◌∷◌, ◌++◌, length, map, refl, sym, ap, ◌∙◌, subst, arith, append-nil}
+use Rattle.std.proofs.Common.{◌≡◌, ◌≢◌, ℕ, zero, suc, ◌+◌, ◌<◌, ◌≤◌, Option, None, Some, List, [], ◌∷◌, ◌++◌, length, map, refl, sym, ap, ◌∙◌, subst, arith, append-nil}
+use Rattle.std.specs.Global.{Vec}
 use Rattle.std.proofs.lemmas.List.{length_push}
 use Rattle.atomic_table.specs.Seated.{TableId}
+use Rattle.atomic_table.specs.Table.{Me}
 use Rattle.am_names.specs.declared.EndpointId.{EndpointId}
 use Rattle.am_names.specs.declared.NodeId.{NodeId}
+use Rattle.am_office.specs.declared.Entry.{Entry}
 use Rattle.am_body.specs.declared.settings.EndSettings.{EndSettings}
 use Rattle.am_books.specs.declared.EndBook.{EndBook}
 use Rattle.am_model.specs.Layout.{AllAre}
 use Rattle.am_places.specs.declared.places.Places.{Places}
-use Rattle.am_places.specs.declared.places.Seat.{Seat}
 use Rattle.am_scenario_types.specs.declared.parts.ScriptCall.{ScriptCall}
 use Rattle.am_scenario_types.specs.Lawful as lawful
 use Rattle.am_scenario_types.specs.Lists.{ScenarioLists}
@@ -21,6 +23,7 @@ use Rattle.am_iface.specs.View.{InterfaceView, own}
 use Rattle.am_local.specs.Together.{IsSet}
 use Rattle.am_scripts.specs.Follows.{is_thread}
 use Rattle.am_turns.specs.Callers.{IsScript}
+use Rattle.am_turns.specs.declared.choices.Waits.{Waits}
 use Rattle.am_opening.proofs.Lists.{all_mapped}
 use Rattle.am_links.specs.Links.{IsOutOpened, node_at}
 use Rattle.am_links.proofs.Lists.{got_last, got_low, got_one, got_some}
@@ -32,15 +35,18 @@ use Rattle.am_works.specs.Stands.{fresh_pass}
 use Rattle.am_workers.specs.AtWork.{AreOuts, IsDriverAtWork, IsInterfaceAtWork, IsThreadAtWork}
 use Rattle.am_workers.specs.Begins.{IsNewDisk, IsNewSeat, NewDriversAreAtWork, NewInterfacesAreAtWork, NewThreadsAreAtWork}
 use Rattle.am_workers.specs.declared.workers.ThreadWorker.{ThreadWorker}
-use Rattle.am_opening.specs.Openings.{IsFreshSeat, IsOpenIn, IsOpening, births_of, threads_of}
+use Rattle.am_opening.specs.Openings.{EndSeat, IsFreshSeat, IsOpenIn, IsOpening, births_of, threads_of}
 use Rattle.am_opening.specs.declared.opening.Opening.{Opening}
 use Rattle.am_crew_opening.specs.Crews.{IsCrew, IsSeatOf, IsThreadOf, IsUnused}
 use Rattle.am_crew_opening.specs.Making.{AreNodeLinks, AreThreadsMade, IsThreadMade}
 use Rattle.am_crew_opening.specs.declared.crew.NodeCrew.{NodeCrew}
 use Rattle.am_crew_opening.proofs.Scripted.{is_declared, is_script, is_short}
 
+abbrev EndPlaces : Type 0
+EndPlaces = Places EndBook Entry EndSettings
+
 -- the crew has these
-pub record IsCrewMade (s : ScenarioLists) (o : Opening) (guests : List (Seat EndBook)) (inner last : Seat EndBook) (outs : List LinkOut) (ins : List LinkIn) (c : NodeCrew) : Type 0 where
+pub record IsCrewMade (s : ScenarioLists) (o : Opening) (guests : List EndSeat) (inner last : EndSeat) (outs : List LinkOut) (ins : List LinkIn) (c : NodeCrew) : Type 0 where
   pub node' : c.node ≡ o.node
   pub places' : c.places ≡ o.places
   pub seats : o.seats.items ≡ (guests ++ inner ∷ []) ++ last ∷ []
@@ -58,18 +64,46 @@ pub record IsCrewMade (s : ScenarioLists) (o : Opening) (guests : List (Seat End
   pub view' : c.driver.view ≡ o.view
   pub clock' : c.driver.clock ≡ 0
 
+-- the crew that is made of these
+abbrev pub made_of : ℕ → Opening → Vec ThreadWorker → EndSeat → EndSeat → Vec LinkOut → Vec LinkIn → Waits → NodeCrew
+made_of first o threads inner last outs ins waits =
+    record {
+      node = o.node;
+      first = first;
+      places = o.places;
+      threads = threads;
+      interface = record { seat = inner; interface = o.interface; set = o.set; waits = waits; hand = None; ins = ins; outs = outs; last = 0; from = 0; end = 0; stop = None };
+      driver = record { seat = last; node = o.node; swap = o.swap; view = o.view; clock = 0; stop = None };
+    }
+
+pub is_made : (s : ScenarioLists) (first : ℕ) (o : Opening) (guests : List EndSeat) (threads : Vec ThreadWorker) (inner last : EndSeat) (outs : Vec LinkOut) (ins : Vec LinkIn) (waits : Waits) → o.seats.items ≡ (guests ++ inner ∷ []) ++ last ∷ [] → AreThreadsMade s o.threads.items guests (length o.threads.items) threads.items
+    → IsCrewMade s o guests inner last outs.items ins.items (made_of first o threads inner last outs ins waits)
+is_made s first o guests threads inner last outs ins waits seats made =
+    record {
+      node' = refl;
+      places' = refl;
+      seats = seats;
+      threads' = made;
+      inner_seat = refl;
+      interface' = refl;
+      set' = refl;
+      hand' = refl;
+      outs' = refl;
+      ins' = refl;
+      starts = (refl, refl);
+      last_seat = refl;
+      driver_node = refl;
+      swap' = refl;
+      view' = refl;
+      clock' = refl;
+    }
+
 got_left : {X : Type 0} (xs ys : List X) (k : ℕ) (x : X) → slice_get xs k ≡ Some x → slice_get (xs ++ ys) k ≡ Some x
 got_left [] ys k x h = absurd (cc)
 got_left (z ∷ xs) ys zero x h = h
 got_left (z ∷ xs) ys (suc k) x h = got_left xs ys k x h
 
-module _ (s : ScenarioLists) (o : Opening) (guests : List (Seat EndBook)) (inner last : Seat EndBook) (outs : List LinkOut) (ins : List LinkIn) (c : NodeCrew) (ok : lawful.IsLawful s) (packet : s.network ≡ Networks.Packet) (op : IsOpening s o.node o) (declared : o.node.0 < s.nodes) (links : AreNodeLinks s o.node outs ins) (made : IsCrewMade s o guests inner last outs ins c) where
-  table : TableId
-  table = o.places.board.shared.table_id
-
-  count : ℕ
-  count = length o.threads.items + 2
-
+module _ (s : ScenarioLists) (o : Opening) (guests : List EndSeat) (inner last : EndSeat) (outs : List LinkOut) (ins : List LinkIn) (c : NodeCrew) (ok : lawful.IsLawful s) (packet : s.network ≡ Networks.Packet) (op : IsOpening s o.node o) (declared : o.node.0 < s.nodes) (links : AreNodeLinks s o.node outs ins) (made : IsCrewMade s o guests inner last outs ins c) where
   guests_all : length guests ≡ length o.threads.items
   guests_all =
       let seats : length o.seats.items ≡ length ((guests ++ inner ∷ []) ++ last ∷ []) = ap length made.seats in
@@ -78,10 +112,10 @@ module _ (s : ScenarioLists) (o : Opening) (guests : List (Seat EndBook)) (inner
       let all = op.all in
       omega (arith, seats, a, b, all)
 
-  seat_at : (k : ℕ) (seat : Seat EndBook) → slice_get ((guests ++ inner ∷ []) ++ last ∷ []) k ≡ Some seat → IsFreshSeat o.places.board.shared.table_id op.books o.places.ids.items k (length o.threads.items + 2) s.frames seat
-  seat_at k seat at = op.seats' k seat (subst (λ (l : List (Seat EndBook)). slice_get l k ≡ Some seat) (sym made.seats) at)
+  seat_at : (k : ℕ) (seat : EndSeat) → slice_get ((guests ++ inner ∷ []) ++ last ∷ []) k ≡ Some seat → IsFreshSeat o.places.board.shared.table_id op.books o.places.ids.items k (length o.threads.items + 2) s.frames seat
+  seat_at k seat at = op.seats' k seat (subst (λ (l : List EndSeat). slice_get l k ≡ Some seat) (sym made.seats) at)
 
-  guest_at : (k : ℕ) (seat : Seat EndBook) → slice_get guests k ≡ Some seat → IsFreshSeat o.places.board.shared.table_id op.books o.places.ids.items k (length o.threads.items + 2) s.frames seat
+  guest_at : (k : ℕ) (seat : EndSeat) → slice_get guests k ≡ Some seat → IsFreshSeat o.places.board.shared.table_id op.books o.places.ids.items k (length o.threads.items + 2) s.frames seat
   guest_at k seat at = seat_at k seat (got_left (guests ++ inner ∷ []) (last ∷ []) k seat (got_left guests (inner ∷ []) k seat at))
 
   inner_at : IsFreshSeat o.places.board.shared.table_id op.books o.places.ids.items (length o.threads.items) (length o.threads.items + 2) s.frames inner
@@ -90,17 +124,17 @@ module _ (s : ScenarioLists) (o : Opening) (guests : List (Seat EndBook)) (inner
   last_at : IsFreshSeat o.places.board.shared.table_id op.books o.places.ids.items (length o.threads.items + 1) (length o.threads.items + 2) s.frames last
   last_at =
       subst (λ (n : ℕ). IsFreshSeat o.places.board.shared.table_id op.books o.places.ids.items n (length o.threads.items + 2) s.frames last) (length_push guests inner ∙ ap (λ (n : ℕ). n + 1) guests_all)
-      (seat_at (length (guests ++ inner ∷ [])) last (subst (λ (l : List (Seat EndBook)). slice_get l (length (guests ++ inner ∷ [])) ≡ Some last) (append-nil ((guests ++ inner ∷ []) ++ last ∷ [])) (got_last (guests ++ inner ∷ []) [] last)))
+      (seat_at (length (guests ++ inner ∷ [])) last (subst (λ (l : List EndSeat). slice_get l (length (guests ++ inner ∷ [])) ≡ Some last) (append-nil ((guests ++ inner ∷ []) ++ last ∷ [])) (got_last (guests ++ inner ∷ []) [] last)))
 
-  new_seat : (k : ℕ) (seat : Seat EndBook) → IsFreshSeat o.places.board.shared.table_id op.books o.places.ids.items k (length o.threads.items + 2) s.frames seat → IsNewSeat o.places.board.shared.table_id op.books o.places.ids.items k (length o.threads.items + 2) s.frames seat.token
+  new_seat : (k : ℕ) (seat : EndSeat) → IsFreshSeat o.places.board.shared.table_id op.books o.places.ids.items k (length o.threads.items + 2) s.frames seat → IsNewSeat o.places.board.shared.table_id op.books o.places.ids.items k (length o.threads.items + 2) s.frames seat.token
   new_seat k seat f = record { table_is = f.table_is; pass = f.pass }
 
-  sits_at : (k mark : ℕ) (seat : Seat EndBook) → k + 1 ≡ mark → IsFreshSeat o.places.board.shared.table_id op.books o.places.ids.items k (length o.threads.items + 2) s.frames seat → IsSeatOf (births_of op.books) (length o.threads.items + 2) mark seat.token.me.0
+  sits_at : (k mark : ℕ) (seat : EndSeat) → k + 1 ≡ mark → IsFreshSeat o.places.board.shared.table_id op.books o.places.ids.items k (length o.threads.items + 2) s.frames seat → IsSeatOf (births_of op.books) (length o.threads.items + 2) mark seat.token.me.0
   sits_at k mark seat is f =
       record {
-        is_mark = ap (λ m. m.0.mark) f.pass ∙ is;
-        of_seats = ap (λ m. m.0.seats) f.pass;
-        told = ap (λ m. m.0.births) f.pass;
+        is_mark = ap (λ (m : Me (Option EndBook) EndPass). m.0.mark) f.pass ∙ is;
+        of_seats = ap (λ (m : Me (Option EndBook) EndPass). m.0.seats) f.pass;
+        told = ap (λ (m : Me (Option EndBook) EndPass). m.0.births) f.pass;
       }
 
   -- ---- threads
@@ -110,7 +144,7 @@ module _ (s : ScenarioLists) (o : Opening) (guests : List (Seat EndBook)) (inner
 
   record HasThread (k : ℕ) (w : ThreadWorker) : Type 0 where
     id : ℕ
-    seat : Seat EndBook
+    seat : EndSeat
     id_at : slice_get o.threads.items k ≡ Some id
     seat_is : slice_get guests k ≡ Some seat
     thread_is : IsThreadMade s id seat w
@@ -132,7 +166,7 @@ module _ (s : ScenarioLists) (o : Opening) (guests : List (Seat EndBook)) (inner
       subst (λ (ids : Ids). IsThreadAtWork s o.places.board.shared.table_id ids 0 w) op.named
       (law s o.places.board.shared.table_id op.books o.places.ids.items k (length o.threads.items + 2) s.frames w op.fresh_books
       (record {
-        seat = subst (λ (t : Seat EndBook). IsNewSeat o.places.board.shared.table_id op.books o.places.ids.items k (length o.threads.items + 2) s.frames t.token) (sym h.thread_is.sits) (new_seat k h.seat (guest_at k h.seat h.seat_is));
+        seat = subst (λ (t : EndSeat). IsNewSeat o.places.board.shared.table_id op.books o.places.ids.items k (length o.threads.items + 2) s.frames t.token) (sym h.thread_is.sits) (new_seat k h.seat (guest_at k h.seat h.seat_is));
         guest = λ same. absurd (omega (arith, low, all, same));
         declared = ap (is_thread s) h.thread_is.is_thread ∙ is_declared s o.node k h.id (subst (λ (l : List ℕ). slice_get l k ≡ Some h.id) op.threads' h.id_at);
         script = subst (λ (t : ℕ). IsScript s t w.script.items) (sym h.thread_is.is_thread) (subst (IsScript s h.id) (sym h.thread_is.script_is) (is_script s h.id ok));
@@ -145,7 +179,7 @@ module _ (s : ScenarioLists) (o : Opening) (guests : List (Seat EndBook)) (inner
   thread_sits k w at =
       let h = thread_at k w at in
       subst (λ (n : ℕ). IsSeatOf (births_of op.books) (n + 2) (k + 1) w.seat.token.me.0) (sym threads_all)
-      (subst (λ (t : Seat EndBook). IsSeatOf (births_of op.books) (length o.threads.items + 2) (k + 1) t.token.me.0) (sym h.thread_is.sits) (sits_at k (k + 1) h.seat refl (guest_at k h.seat h.seat_is)))
+      (subst (λ (t : EndSeat). IsSeatOf (births_of op.books) (length o.threads.items + 2) (k + 1) t.token.me.0) (sym h.thread_is.sits) (sits_at k (k + 1) h.seat refl (guest_at k h.seat h.seat_is)))
 
   -- the number of each is that of its place
   named_from : (ids : List ℕ) (ws : List ThreadWorker) → length ws ≡ length ids → ((k id : ℕ) (w : ThreadWorker) → slice_get ids k ≡ Some id → slice_get ws k ≡ Some w → w.thread ≡ id) → map (λ (w : ThreadWorker). w.thread) ws ≡ ids
@@ -171,7 +205,7 @@ module _ (s : ScenarioLists) (o : Opening) (guests : List (Seat EndBook)) (inner
       subst (λ (ids : Ids). IsInterfaceAtWork s o.places.board.shared.table_id ids o.node 0 c.interface) op.named
       (law s o.places.board.shared.table_id op.books o.places.ids.items (length o.threads.items) (length o.threads.items + 2) s.frames o.node c.interface op.fresh_books
       (record {
-        seat = subst (λ (t : Seat EndBook). IsNewSeat o.places.board.shared.table_id op.books o.places.ids.items (length o.threads.items) (length o.threads.items + 2) s.frames t.token) (sym made.inner_seat) (new_seat (length o.threads.items) inner inner_at);
+        seat = subst (λ (t : EndSeat). IsNewSeat o.places.board.shared.table_id op.books o.places.ids.items (length o.threads.items) (length o.threads.items + 2) s.frames t.token) (sym made.inner_seat) (new_seat (length o.threads.items) inner inner_at);
         guest = λ same. absurd (omega (arith, same));
         lawful = subst AreLawful (sym made.set') op.lawful;
         set = made.set' ∙ op.set' ∙ ap (λ (v : InterfaceView). v.settings) (sym is);
@@ -198,7 +232,7 @@ module _ (s : ScenarioLists) (o : Opening) (guests : List (Seat EndBook)) (inner
   interface_sits : IsSeatOf (births_of op.books) (length c.threads.items + 2) (length c.threads.items + 1) c.interface.seat.token.me.0
   interface_sits =
       subst (λ (n : ℕ). IsSeatOf (births_of op.books) (n + 2) (n + 1) c.interface.seat.token.me.0) (sym threads_all)
-      (subst (λ (t : Seat EndBook). IsSeatOf (births_of op.books) (length o.threads.items + 2) (length o.threads.items + 1) t.token.me.0) (sym made.inner_seat) (sits_at (length o.threads.items) (length o.threads.items + 1) inner refl inner_at))
+      (subst (λ (t : EndSeat). IsSeatOf (births_of op.books) (length o.threads.items + 2) (length o.threads.items + 1) t.token.me.0) (sym made.inner_seat) (sits_at (length o.threads.items) (length o.threads.items + 1) inner refl inner_at))
 
   -- ---- the driver
 
@@ -210,7 +244,7 @@ module _ (s : ScenarioLists) (o : Opening) (guests : List (Seat EndBook)) (inner
       (law s o.places.board.shared.table_id op.books o.places.ids.items (length o.threads.items + 1) (length o.threads.items + 2) s.keep o.node c.driver
       (record { packet = ap is_direct packet; homes = op.homes; fresh_books = op.fresh_books })
       (record {
-        seat = subst (λ (t : Seat EndBook). IsNewSeat o.places.board.shared.table_id op.books o.places.ids.items (length o.threads.items + 1) (length o.threads.items + 2) s.frames t.token) (sym made.last_seat) (new_seat (length o.threads.items + 1) last last_at);
+        seat = subst (λ (t : EndSeat). IsNewSeat o.places.board.shared.table_id op.books o.places.ids.items (length o.threads.items + 1) (length o.threads.items + 2) s.frames t.token) (sym made.last_seat) (new_seat (length o.threads.items + 1) last last_at);
         last = omega arith;
         is_node = made.driver_node;
         disk =
@@ -223,7 +257,7 @@ module _ (s : ScenarioLists) (o : Opening) (guests : List (Seat EndBook)) (inner
   driver_sits : IsSeatOf (births_of op.books) (length c.threads.items + 2) (length c.threads.items + 2) c.driver.seat.token.me.0
   driver_sits =
       subst (λ (n : ℕ). IsSeatOf (births_of op.books) (n + 2) (n + 2) c.driver.seat.token.me.0) (sym threads_all)
-      (subst (λ (t : Seat EndBook). IsSeatOf (births_of op.books) (length o.threads.items + 2) (length o.threads.items + 2) t.token.me.0) (sym made.last_seat) (sits_at (length o.threads.items + 1) (length o.threads.items + 2) last (omega arith) last_at))
+      (subst (λ (t : EndSeat). IsSeatOf (births_of op.books) (length o.threads.items + 2) (length o.threads.items + 2) t.token.me.0) (sym made.last_seat) (sits_at (length o.threads.items + 1) (length o.threads.items + 2) last (omega arith) last_at))
 
   -- ---- the crew
 
@@ -231,22 +265,23 @@ module _ (s : ScenarioLists) (o : Opening) (guests : List (Seat EndBook)) (inner
   crew_is threads interfaces drivers =
       record {
         is_node = made.node';
-        ids = ap (λ (p : Places EndBook). p.ids.items) made.places' ∙ op.ids;
-        frames = ap (λ (p : Places EndBook). p.frames) made.places' ∙ op.frames;
+        ids = ap (λ (p : EndPlaces). p.ids.items) made.places' ∙ op.ids;
+        frames = ap (λ (p : EndPlaces). p.frames) made.places' ∙ op.frames;
         births = births_of op.books;
         declared = op.declared;
         named = threads_named;
-        threads = λ k w at. record { at_work = subst (λ (p : Places EndBook). IsThreadAtWork s p.board.shared.table_id p.ids.items 0 w) (sym made.places') (thread_works threads k w at); seat = thread_sits k w at };
-        interface = subst (λ (p : Places EndBook). IsInterfaceAtWork s p.board.shared.table_id p.ids.items o.node 0 c.interface) (sym made.places') (interface_works interfaces);
+        threads = λ k w at. record { at_work = subst (λ (p : EndPlaces). IsThreadAtWork s p.board.shared.table_id p.ids.items 0 w) (sym made.places') (thread_works threads k w at); seat = thread_sits k w at };
+        interface = subst (λ (p : EndPlaces). IsInterfaceAtWork s p.board.shared.table_id p.ids.items o.node 0 c.interface) (sym made.places') (interface_works interfaces);
         interface_seat = interface_sits;
-        driver = subst (λ (p : Places EndBook). IsDriverAtWork s p.board.shared.table_id p.ids.items o.node 0 c.driver) (sym made.places') (driver_works drivers);
+        driver = subst (λ (p : EndPlaces). IsDriverAtWork s p.board.shared.table_id p.ids.items o.node 0 c.driver) (sym made.places') (driver_works drivers);
         driver_seat = driver_sits;
       }
 
-  pub crew_unused : IsUnused c
-  crew_unused =
-      record {
-        hand = made.hand';
-        sent = λ k out at. (links.opened k out (subst (λ (l : List LinkOut). slice_get l k ≡ Some out) made.outs' at)).sent;
-        taken = λ k inn at. links.taken k inn (subst (λ (l : List LinkIn). slice_get l k ≡ Some inn) made.ins' at);
-      }
+-- nothing went over the links
+pub crew_unused : (s : ScenarioLists) (node : NodeId) (outs : List LinkOut) (ins : List LinkIn) (c : NodeCrew) → AreNodeLinks s node outs ins → c.interface.hand ≡ None → c.interface.outs.items ≡ outs → c.interface.ins.items ≡ ins → IsUnused c
+crew_unused s node outs ins c links hand is_outs is_ins =
+    record {
+      hand = hand;
+      sent = λ k out at. (links.opened k out (subst (λ (l : List LinkOut). slice_get l k ≡ Some out) is_outs at)).sent;
+      taken = λ k inn at. links.taken k inn (subst (λ (l : List LinkIn). slice_get l k ≡ Some inn) is_ins at);
+    }

@@ -26,7 +26,7 @@ use Rattle.am_opening.proofs.Lists.{got_kept}
 
 got_unmap : {X Y : Type 0} (f : X → Y) (xs : List X) (k : ℕ) (y : Y) → slice_get (map f xs) k ≡ Some y → (x : X) × (slice_get xs k ≡ Some x) × (f x ≡ y)
 got_unmap f [] k y h = absurd (cc)
-got_unmap f (x ∷ xs) zero y h = (x, (refl, cc))
+got_unmap f (x ∷ xs) zero y h = (x, refl, cc)
 got_unmap f (x ∷ xs) (suc k) y h = got_unmap f xs k y h
 
 any_at : {X : Type 0} (q : X → Bool) (xs : List X) (k : ℕ) (x : X) → slice_get xs k ≡ Some x → q x ≡ true → list_any q xs ≡ true
@@ -41,8 +41,8 @@ any_at q (y ∷ xs) (suc k) x h is = by_test (q y) (any_at q xs k x h is)
 pub is_declared : (s : ScenarioLists) (node : NodeId) (k id : ℕ) → slice_get (threads_of s node) k ≡ Some id → is_thread s id ≡ true
 is_declared s node k id h =
     let line = got_unmap (λ (t : ThreadLine). t.id) (filter (λ (t : ThreadLine). same_node node t.node) s.threads) k id h in
-    let among = got_kept (λ (t : ThreadLine). same_node node t.node) s.threads k line.0 line.1.0 in
-    any_at (λ (t : ThreadLine). t.id == id) s.threads among.0 line.0 among.1 (eq-eqb line.0.id id line.1.1)
+    let among = got_kept (λ (t : ThreadLine). same_node node t.node) s.threads k line.0 line.1 in
+    any_at (λ (t : ThreadLine). t.id == id) s.threads among.0 line.0 among.1 (eq-eqb line.0.id id line.2)
 
 -- ---- its calls are in range
 

@@ -1,9 +1,9 @@
 -- Workers as they are made of their seats, and a node's ends of its links as they are made.
 use Rattle.std.specs.Prelude.{◌≡◌, ℕ, Some, List, [], length, slice_get}
+use Rattle.am_opening.specs.Openings.{EndSeat}
 use Rattle.am_names.specs.declared.NodeId.{NodeId}
 use Rattle.am_books.specs.declared.EndBook.{EndBook}
 use Rattle.am_links.specs.Links.{IsOutOpened, node_at}
-use Rattle.am_places.specs.declared.places.Seat.{Seat}
 use Rattle.am_scenario_types.specs.Lists.{ScenarioLists}
 use Rattle.am_scripts.specs.Scripts.{script_of}
 use Rattle.am_wire.specs.Links.{received}
@@ -12,16 +12,16 @@ use Rattle.am_wire.specs.declared.sending.LinkOut.{LinkOut}
 use Rattle.am_workers.specs.declared.workers.ThreadWorker.{ThreadWorker}
 
 -- a thread at the seat, with its script, that made no call
-pub record IsThreadMade (s : ScenarioLists) (id : ℕ) (seat : Seat EndBook) (w : ThreadWorker) : Type 0 where
+pub record IsThreadMade (s : ScenarioLists) (id : ℕ) (seat : EndSeat) (w : ThreadWorker) : Type 0 where
   pub sits : w.seat ≡ seat
   pub is_thread : w.thread ≡ id
   pub script_is : w.script.items ≡ script_of s id
   pub none : (w.next ≡ 0) × (w.clock ≡ 0)
 
 -- so many threads, each of the number and at the seat with its place
-pub record AreThreadsMade (s : ScenarioLists) (ids : List ℕ) (seats : List (Seat EndBook)) (count : ℕ) (ws : List ThreadWorker) : Type 0 where
+pub record AreThreadsMade (s : ScenarioLists) (ids : List ℕ) (seats : List EndSeat) (count : ℕ) (ws : List ThreadWorker) : Type 0 where
   pub all : length ws ≡ count
-  pub each : (k id : ℕ) (seat : Seat EndBook) (w : ThreadWorker) → slice_get ids k ≡ Some id → slice_get seats k ≡ Some seat → slice_get ws k ≡ Some w → IsThreadMade s id seat w
+  pub each : (k id : ℕ) (seat : EndSeat) (w : ThreadWorker) → slice_get ids k ≡ Some id → slice_get seats k ≡ Some seat → slice_get ws k ≡ Some w → IsThreadMade s id seat w
 
 -- a node's ends of its links: nothing was sent, and nothing taken
 pub record AreNodeLinks (s : ScenarioLists) (node : NodeId) (outs : List LinkOut) (ins : List LinkIn) : Type 0 where

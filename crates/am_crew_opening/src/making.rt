@@ -1,6 +1,6 @@
 // A worker is made of its seat and what it has beside.
 ghost use Rattle.am_crew_opening.specs.Making.{AreThreadsMade, IsThreadMade};
-ghost use Rattle.std.specs.Prelude.{◌≡◌, IfOk, None, length};
+ghost use Rattle.std.specs.Prelude.{◌≡◌, ◌<◌, IfOk, Some, length, slice_get};
 
 use am_books::EndBook;
 use am_names::NoMemory;
@@ -30,6 +30,14 @@ fn open_thread(
     })
 }
 
+/// The number with this place.
+fn id_at(ids: &[u8], at: usize) -> u8
+    requires { at < length ids.now }
+    ensures { slice_get ids.now at ≡ Some result }
+{
+    ids[at]
+}
+
 /// The threads of these numbers, each with the seat of the same place.
 pub(crate) fn open_threads(
     alloc: Global,
@@ -43,7 +51,8 @@ pub(crate) fn open_threads(
     let mut threads = Vec::new(alloc);
     seats.reverse();
     while let Some(seat) = seats.pop() {
-        let thread = open_thread(alloc, scenario, ids[threads.len()], seat)?;
+        let id = id_at(ids, threads.len());
+        let thread = open_thread(alloc, scenario, id, seat)?;
         threads.push(thread)?;
     }
     Ok(threads)

@@ -1,10 +1,9 @@
 -- What a status of `session` says of the bytes.
 use Rattle.std.specs.Prelude.{Result, Ok, Err}
 use Rattle.std.specs.Io.KnownBytes.{Appends}
-use Rattle.std.proofs.Common.{◌≡◌, ◌≢◌, ◌⊎◌, inl, inr, ℕ, List, Option, refl, sym, ◌∙◌, ap, subst, arith}
-use Rattle.am_main.specs.Answer.{Answer}
+use Rattle.std.proofs.Common.{◌≡◌, ◌≢◌, ◌⊎◌, inl, inr, ℕ, List, Option, refl, ◌∙◌, ap, subst, arith}
 use Rattle.am_io.specs.Causes.{Rose}
-use Rattle.am_main.specs.Offers.{IsOffered, IsOr, LacksMemory, no_memory}
+use Rattle.am_main.specs.Offers.{IsOffered, IsOr, LacksMemory}
 use Rattle.am_main.specs.Sessions.{IsOfSession, IsSessionGiven, RefusesSession, ReportsSession, answer_as}
 use Rattle.am_main.proofs.Refusals.{own_status, own_text, status_of}
 use Rattle.am_session.specs.Answer as Sessions

@@ -1,5 +1,5 @@
 -- What the command `session` leaves in the sink.
-use Rattle.std.specs.Prelude.{◌≡◌, ◌⊎◌, ℕ, List, Option, Result, Ok, Err}
+use Rattle.std.specs.Prelude.{◌≡◌, ◌⊎◌, ℕ, List, Option, Ok, Err}
 use Rattle.std.specs.Io.KnownBytes.{Appends}
 use Rattle.am_io.specs.Causes.{Rose}
 use Rattle.am_io.specs.Whole.{IsLonger}

@@ -1,14 +1,20 @@
 -- Books are made of endpoints one after the other.
-use Rattle.std.proofs.Common.{◌≡◌, List, [], ◌∷◌, ◌++◌, map, reverse, refl, sym, ap, ◌∙◌, append-nil, append_assoc}
+use Rattle.std.proofs.Common.{◌≡◌, List, [], ◌∷◌, ◌++◌, map, reverse, sym, ap, ◌∙◌, append-nil, append_assoc}
 use Rattle.std.proofs.lemmas.List.{reverse-append, reverse-reverse}
 use Rattle.am_books.specs.Books.{IsBook}
 use Rattle.am_books.specs.declared.EndBook.{EndBook}
-use Rattle.am_endpoint.specs.View.{EndpointView}
+use Rattle.am_driver.specs.Views.{line_of}
+use Rattle.am_driver.specs.declared.EndView.{EndView}
+use Rattle.am_endpoint.specs.View.{EndpointView, state_after}
 use Rattle.am_model.specs.Layout.{AllAre}
 use Rattle.am_opening.proofs.Lists.{all_front, all_last, all_reversed, map_push}
 
 abbrev end_of : EndBook → EndpointView
 end_of b = b.end
+
+-- the line of an endpoint as it is now
+abbrev pub line_now : EndpointView → EndView
+line_now e = line_of e.settings.id (state_after e)
 
 -- these books were made, and of these endpoints books are still to be made, the last first
 pub record AreBooked (whole rest : List EndpointView) (books : List EndBook) : Type 0 where

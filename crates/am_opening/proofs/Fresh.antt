@@ -1,19 +1,14 @@
 -- The endpoints, the disk and the books of a node as they begin, by the cluster's part of the node.
 use Rattle.std.specs.Prelude.{slice_get, filter, find, count_by}
-use Rattle.std.proofs.Common.{◌≡◌, ℕ, zero, suc, ◌+◌, ◌<◌, ◌≤◌, ◌^◌, ◌==◌, Bool, true, false, cond, Option, Some, None, List, [], ◌∷◌, length, map, refl, sym, ap, ◌∙◌, subst, arith, eqb-true}
+use Rattle.std.proofs.Common.{◌≡◌, ℕ, ◌+◌, ◌<◌, ◌≤◌, ◌==◌, Bool, true, false, cond, Option, Some, None, List, [], ◌∷◌, length, map, refl, sym, ap, ◌∙◌, subst, arith, eqb-true}
 use Rattle.std.proofs.lemmas.List.Sums.{length-filter, sum_by-cons}
-use Rattle.am_names.specs.declared.EndpointId.{EndpointId}
 use Rattle.am_names.specs.declared.NodeId.{NodeId}
-use Rattle.am_names.specs.Names.{same_end, same_node}
+use Rattle.am_names.specs.Names.{same_node}
 use Rattle.am_office.specs.declared.Entry.{Entry}
-use Rattle.am_office.specs.declared.Place.{Place}
-use Rattle.am_office.specs.declared.Place.TheVariants.{Disk, Host}
-use Rattle.am_body.specs.declared.settings.EndSettings.{EndSettings}
 use Rattle.am_books.specs.Books.{IsBook, stands_at}
 use Rattle.am_books.specs.declared.EndBook.{EndBook}
-use Rattle.am_device.specs.Memory.{Store}
 use Rattle.am_endpoint.specs.View.{EndpointView, state_after, state_by}
-use Rattle.am_model.specs.Endpoint.{Body, State, fresh, is_on_disk}
+use Rattle.am_model.specs.Endpoint.{State, fresh, is_on_disk}
 use Rattle.am_model.specs.History.{state_of}
 use Rattle.am_model.specs.Layout.{AllAre, EndSetting, IsLawful, Layout, has_id, opening, opening_by, opening_place}
 use Rattle.am_merge.specs.Logs.{IsRising}
@@ -22,7 +17,6 @@ use Rattle.am_machine.specs.Ends.{kept, setting_in}
 use Rattle.am_machine.specs.Kept.{IsOwn}
 use Rattle.am_machine.specs.Parts.{IsNodePart, is_declared_at}
 use Rattle.am_machine.specs.Swaps as swaps
-use Rattle.am_moves.specs.Pages.{HoldsBody}
 use Rattle.am_node.specs.declared.NodePart.{NodePart}
 use Rattle.am_phase.specs.Lying.{rests}
 use Rattle.am_places.specs.Codes.{place_code}
@@ -31,8 +25,7 @@ use Rattle.am_scenario_types.specs.Lawful as lawful
 use Rattle.am_scenario_types.specs.Lists.{ScenarioLists}
 use Rattle.am_follow.proofs.Lawful.{eqb_turned}
 use Rattle.am_works.specs.Seats.{IsBorn}
-use Rattle.am_crew_laws.proofs.Homes.{ends_apart}
-use Rattle.am_opening.specs.Openings.{IsFreshDisk, IsOpenIn, births_of, setting_by, thread_ids}
+use Rattle.am_opening.specs.Openings.{IsFreshDisk, IsOpenIn, births_of, thread_ids}
 use Rattle.am_image.specs.Image.{image}
 use Rattle.am_image.specs.Valid.{IsValid}
 use Rattle.am_opening.proofs.Lists.{all_got, got_all, got_kept, got_map, length_map, map_all, map_twice}
@@ -155,3 +148,9 @@ few_threads s node ok =
     let same = count_threads node s.threads in
     let most = ok.threads_of_a_node node.0 in
     omega (arith, mapped, counted, same, most)
+
+pub count_low : (s : ScenarioLists) (node : NodeId) (n : ℕ) (ids : List ℕ) (lines : List ThreadLine) → lawful.IsLawful s → n ≡ length ids → ids ≡ thread_ids lines node → lines ≡ s.threads → n ≤ 4
+count_low s node n ids lines ok all are same =
+    let e : length ids ≡ length (thread_ids s.threads node) = ap length are ∙ ap (λ (ls : List ThreadLine). length (thread_ids ls node)) same in
+    let few = few_threads s node ok in
+    omega (arith, all, e, few)

@@ -1,6 +1,6 @@
 -- One element more in a list that is filtered.
 use Rattle.std.specs.Prelude.{filter}
-use Rattle.std.proofs.Common.{◌≡◌, ℕ, Bool, true, false, cond, List, [], ◌∷◌, ◌++◌, map, refl, sym, ap, ◌∙◌, append-nil}
+use Rattle.std.proofs.Common.{◌≡◌, ℕ, Bool, true, false, cond, List, [], ◌∷◌, ◌++◌, map, refl, ap, ◌∙◌, append-nil}
 use Rattle.std.proofs.lemmas.List.Elements.{filter-append}
 use Rattle.am_names.specs.declared.NodeId.{NodeId}
 use Rattle.am_names.specs.Names.{same_node}
@@ -11,11 +11,11 @@ use Rattle.am_opening.specs.Openings.{thread_ids}
 
 ids_push : (node : NodeId) (xs : List ThreadLine) (x : ThreadLine) → thread_ids (xs ++ x ∷ []) node ≡ thread_ids xs node ++ thread_ids (x ∷ []) node
 ids_push node [] x = refl
-ids_push node (y ∷ ys) x = by_test (same_node node y.node)
+ids_push node (y ∷ ys) x = by_test (same_node node y.node) (ids_push node ys x)
   where
-    by_test : (b : Bool) → map (λ (t : ThreadLine). t.id) (cond b (y ∷ filter (λ (t : ThreadLine). same_node node t.node) (ys ++ x ∷ [])) (filter (λ (t : ThreadLine). same_node node t.node) (ys ++ x ∷ []))) ≡ map (λ (t : ThreadLine). t.id) (cond b (y ∷ filter (λ (t : ThreadLine). same_node node t.node) ys) (filter (λ (t : ThreadLine). same_node node t.node) ys)) ++ thread_ids (x ∷ []) node
-    by_test true = ap (λ (l : List ℕ). y.id ∷ l) (ids_push node ys x)
-    by_test false = ids_push node ys x
+    by_test : (b : Bool) → thread_ids (ys ++ x ∷ []) node ≡ thread_ids ys node ++ thread_ids (x ∷ []) node → map (λ (t : ThreadLine). t.id) (cond b (y ∷ filter (λ (t : ThreadLine). same_node node t.node) (ys ++ x ∷ [])) (filter (λ (t : ThreadLine). same_node node t.node) (ys ++ x ∷ []))) ≡ map (λ (t : ThreadLine). t.id) (cond b (y ∷ filter (λ (t : ThreadLine). same_node node t.node) ys) (filter (λ (t : ThreadLine). same_node node t.node) ys)) ++ thread_ids (x ∷ []) node
+    by_test true more = ap (λ (l : List ℕ). y.id ∷ l) more
+    by_test false more = more
 
 pub ids_in : (node : NodeId) (xs : List ThreadLine) (x : ThreadLine) → same_node node x.node ≡ true → thread_ids (xs ++ x ∷ []) node ≡ thread_ids xs node ++ x.id ∷ []
 ids_in node xs x is = ids_push node xs x ∙ ap (λ (b : Bool). thread_ids xs node ++ map (λ (t : ThreadLine). t.id) (cond b (x ∷ []) [])) is

@@ -1,29 +1,26 @@
 -- What a node is opened to, by the cluster's part of the node.
-use Rattle.std.specs.Prelude.{slice_get, filter}
-use Rattle.std.proofs.Common.{◌≡◌, ℕ, ◌+◌, ◌<◌, ◌≤◌, ◌^◌, None, Some, List, [], ◌∷◌, ◌++◌, length, map, reverse, refl, sym, ap, ◌∙◌, subst, arith}
+use Rattle.std.specs.Prelude.{slice_get}
+use Rattle.std.proofs.Common.{◌≡◌, ℕ, ◌+◌, ◌<◌, ◌^◌, false, None, Some, List, [], ◌∷◌, ◌++◌, length, map, reverse, refl, sym, ap, ◌∙◌, subst, arith}
 use Rattle.std.proofs.lemmas.List.{length_push}
 use lib.ListN.{get_elem?}
 use mathlib.Core.Option.{some}
 use Rattle.atomic_table.specs.Seated.{TableId}
 use Rattle.am_names.specs.declared.EndpointId.{EndpointId}
 use Rattle.am_names.specs.declared.NodeId.{NodeId}
-use Rattle.am_names.specs.Names.{same_end, same_node}
-use Rattle.am_office.specs.declared.Entry.{Entry}
-use Rattle.am_body.specs.declared.settings.EndSettings.{EndSettings}
+use Rattle.am_names.specs.Names.{same_end}
 use Rattle.am_books.specs.Books.{IsBook, stands_at}
 use Rattle.am_books.specs.declared.EndBook.{EndBook}
 use Rattle.am_driver.specs.Views.{line_of}
 use Rattle.am_driver.specs.declared.EndView.{EndView}
 use Rattle.am_endpoint.specs.View.{EndpointView, state_after}
-use Rattle.am_model.specs.Layout.{AllAre, AreApart, EndSetting, IsLawful}
+use Rattle.am_model.specs.Layout.{AllAre, AreApart}
 use Rattle.am_local.specs.Together.{ends_of}
 use Rattle.am_iface.specs.Settings.{AreLawful}
 use Rattle.am_iface.specs.View.{InterfaceView}
 use Rattle.am_machine.specs.Ends.{kept, setting_in}
 use Rattle.am_machine.specs.Interfaces.{IsInterface, node_at}
-use Rattle.am_machine.specs.Parts.{AreNodeParts, IsNodePart, is_declared_at}
+use Rattle.am_machine.specs.Parts.{AreNodeParts, IsNodePart}
 use Rattle.am_node.specs.declared.NodePart.{NodePart}
-use Rattle.am_places.specs.declared.places.Seat.{Seat}
 use Rattle.am_scenario_types.specs.Lawful as lawful
 use Rattle.am_scenario_types.specs.Lists.{ScenarioLists}
 use Rattle.am_scenario_types.specs.declared.parts.Network.TheVariants as Networks
@@ -33,7 +30,7 @@ use Rattle.am_works.specs.Begins.{AreFresh, ids_of}
 use Rattle.am_works.specs.Seats.{IsBorn}
 use Rattle.am_works.specs.Stands.{fresh_pass}
 use Rattle.am_crew_laws.proofs.Homes.{ends_apart}
-use Rattle.am_opening.specs.Openings.{AreDeclared, AreOpenings, IsFreshDisk, IsFreshSeat, IsOpening, births_of, lines_of, setting_by, thread_ids, threads_of}
+use Rattle.am_opening.specs.Openings.{AreDeclared, AreOpenings, EndSeat, IsFreshDisk, IsOpening, births_of, lines_of, setting_by, thread_ids}
 use Rattle.am_opening.specs.declared.opening.Opening.{Opening}
 use Rattle.am_opening.proofs.Fresh.{is_born, is_homely, no_log, part_at, part_books, part_disk, part_few, part_home, part_ids}
 use Rattle.am_opening.proofs.Lists.{AreTaking, all_got, each_more, elem_got, got_elem, got_map, length_map, map_all, map_twice, taking_begins, taking_ends, taking_more, taking_next}
@@ -42,9 +39,9 @@ abbrev end_of : EndBook → EndpointView
 end_of b = b.end
 
 -- what Places::new says of the seats
-abbrev pub AreSeats : TableId → List EndBook → List EndpointId → ℕ → ℕ → List (Seat EndBook) → Type 0
+abbrev pub AreSeats : TableId → List EndBook → List EndpointId → ℕ → ℕ → List (EndSeat) → Type 0
 AreSeats table books named seats frames list =
-    (length list ≡ seats) × ((k : ℕ) (seat : Seat EndBook) → get_elem? list k ≡ some seat → (seat.token.table_id ≡ table) × (seat.mark ≡ k + 1) × (seat.token.me ≡ (fresh_pass books named k seats frames, [])))
+    (length list ≡ seats) × ((k : ℕ) (seat : EndSeat) → get_elem? list k ≡ some seat → (seat.token.table_id ≡ table) × (seat.mark ≡ k + 1) × (seat.token.me ≡ (fresh_pass books named k seats frames, [])))
 
 packet_layout : (s : ScenarioLists) → s.network ≡ Networks.Packet → (layout_of s).direct ≡ false
 packet_layout s packet = ap is_direct packet
@@ -119,7 +116,7 @@ module _ (s : ScenarioLists) (p : NodePart) (ok : lawful.IsLawful s) (packet : s
           fresh_books = books_fresh;
           threads' = threads;
           all = seats.0 ∙ all;
-          seats' = λ k seat at. (let told = seats.1 k seat (got_elem o.seats.items k seat at) in record { table_is = told.0; pass = told.1.1 ∙ ap (λ (n : ℕ). (fresh_pass books o.places.ids.items k n s.frames, [])) all });
+          seats' = λ k seat at. (let told = seats.1 k seat (got_elem o.seats.items k seat at) in record { table_is = told.0; pass = told.2 ∙ ap (λ (n : ℕ). (fresh_pass books o.places.ids.items k n s.frames, [])) all });
           interface' = subst (IsInterface (layout_of s) [] p.node) (sym interface) part.interface;
           set' = set ∙ ap (λ (i : InterfaceView). i.settings) (sym interface);
           lawful = subst AreLawful (sym set) good;

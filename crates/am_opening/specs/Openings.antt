@@ -5,9 +5,10 @@ use Rattle.am_names.specs.declared.EndpointId.{EndpointId}
 use Rattle.am_names.specs.declared.NodeId.{NodeId}
 use Rattle.am_names.specs.Names.{same_node}
 use Rattle.am_body.specs.declared.settings.EndSettings.{EndSettings}
+use Rattle.am_office.specs.declared.Entry.{Entry}
 use Rattle.am_books.specs.declared.EndBook.{EndBook}
+use Rattle.am_books.specs.contracts.EndBookBook.TheImpl.{ghosts}
 use Rattle.am_device.specs.Memory.{Store}
-use Rattle.am_driver.specs.Lists.{ViewLists}
 use Rattle.am_driver.specs.Views.{line_of}
 use Rattle.am_driver.specs.declared.EndView.{EndView}
 use Rattle.am_endpoint.specs.View.{EndpointView, state_after}
@@ -17,7 +18,6 @@ use Rattle.am_local.specs.Together.{ends_of, faults_of}
 use Rattle.am_moves.specs.Pages.{HoldsBody}
 use Rattle.am_places.specs.declared.places.Seat.{Seat}
 use Rattle.am_scenario_types.specs.declared.parts.ThreadLine.{ThreadLine}
-use Rattle.am_scenario_types.specs.declared.parts.ScriptCall.{ScriptCall}
 use Rattle.am_scenario_types.specs.Lists.{ScenarioLists}
 use Rattle.am_scripts.specs.Links.{node_at}
 use Rattle.am_follow.specs.Layout.{layout_of}
@@ -61,8 +61,12 @@ threads_of s node = thread_ids s.threads node
 
 -- ---- a node
 
+-- a seat of the places of a node's endpoints
+abbrev pub EndSeat : Type 0
+EndSeat = Seat EndBook Entry EndSettings ghosts
+
 -- the seat with this number, from 0, of so many of the places for these books, which were just made
-pub record IsFreshSeat (table : TableId) (books : List EndBook) (named : List EndpointId) (k seats frames : ℕ) (seat : Seat EndBook) : Type 0 where
+pub record IsFreshSeat (table : TableId) (books : List EndBook) (named : List EndpointId) (k seats frames : ℕ) (seat : EndSeat) : Type 0 where
   pub table_is : seat.token.table_id ≡ table
   pub pass : seat.token.me ≡ (fresh_pass books named k seats frames, [])
 
@@ -85,7 +89,7 @@ pub record IsOpening (s : ScenarioLists) (node : NodeId) (o : Opening) : Type 0 
   pub fresh_books : AreFresh s books
   pub threads' : o.threads.items ≡ threads_of s node
   pub all : length o.seats.items ≡ length o.threads.items + 2
-  pub seats' : (k : ℕ) (seat : Seat EndBook) → slice_get o.seats.items k ≡ Some seat → IsFreshSeat o.places.board.shared.table_id books o.places.ids.items k (length o.threads.items + 2) s.frames seat
+  pub seats' : (k : ℕ) (seat : EndSeat) → slice_get o.seats.items k ≡ Some seat → IsFreshSeat o.places.board.shared.table_id books o.places.ids.items k (length o.threads.items + 2) s.frames seat
   pub interface' : IsInterface (layout_of s) [] node o.interface
   pub set' : o.set ≡ o.interface.settings
   pub lawful : AreLawful o.set

@@ -1,21 +1,15 @@
 -- A book that an entry was added to is a book again.
-use Rattle.std.specs.Prelude.{not}
-use Rattle.std.proofs.Common.{◌≡◌, ◌↔◌, ℕ, Bool, true, false, ◌||◌, suc, ◌+◌, ◌-◌, ◌<◌, ◌≤◌, max, List, [], ◌∷◌, ◌++◌, length, Option, Some, None, Result, Ok, Err, IfOk, OnErr, inl, sym, refl, ap, ◌∙◌, subst, arith, length-append}
-use Rattle.std.specs.List.{slice_get}
+use Rattle.std.proofs.Common.{◌≡◌, ◌↔◌, ℕ, true, false, ◌+◌, ◌<◌, max, [], ◌∷◌, ◌++◌, length, Option, Some, None, Result, Ok, Err, IfOk, OnErr, inl, refl, ap, arith}
 use Rattle.am_names.specs.declared.EndpointId.{EndpointId}
 use Rattle.am_office.specs.declared.Actor.{Actor}
 use Rattle.am_office.specs.declared.Event.{Event}
 use Rattle.am_office.specs.declared.Event.TheVariants as Events
 use Rattle.am_office.specs.declared.Entry.{Entry}
-use Rattle.am_body.specs.declared.settings.EndSettings.{EndSettings}
-use Rattle.am_endpoint.specs.View.{EndpointView, last_stamp, stamp_by, state_after}
+use Rattle.am_endpoint.specs.View.{EndpointView, last_stamp, state_after}
 use Rattle.am_endpoint.specs.declared.settings.EndFault.{EndFault}
 use Rattle.am_endpoint.specs.declared.settings.EndFault.TheVariants as Faults
-use Rattle.am_model.specs.Endpoint.{State, fresh, is_on_disk}
-use Rattle.am_model.specs.Layout.{AllAre}
-use Rattle.am_phase.specs.Lying.{keeps_body, keeps_on_disk, rests}
-use Rattle.am_phase.proofs.Lying.{rests_push}
-use Rattle.am_merge.specs.Logs.{IsRising}
+use Rattle.am_model.specs.Endpoint.{State, is_on_disk}
+use Rattle.am_phase.specs.Lying.{keeps_body, keeps_on_disk}
 use Rattle.am_books.specs.Books.{IsBook}
 use Rattle.am_works.proofs.Books.{grown_book, here_keeps, kept_keeps, same_book}
 use Rattle.am_office.specs.declared.Condition.{Condition}

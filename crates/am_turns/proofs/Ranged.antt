@@ -1,6 +1,6 @@
 -- The event of a work that a turn lets through is one that the interface's scenario may have.
 use Rattle.std.specs.Prelude.{IsSome}
-use Rattle.std.proofs.Common.{◌≡◌, ℕ, ◌<◌, ◌≤◌, ◌^◌, Bool, true, false, ◌&&◌, ◌||◌, cond, List, [], ◌∷◌, Some, None, refl, sym, subst, lt-ltb, true≢false}
+use Rattle.std.proofs.Common.{◌≡◌, ℕ, ◌<◌, ◌≤◌, ◌^◌, Bool, true, false, ◌&&◌, ◌||◌, cond, List, [], ◌∷◌, Some, refl, sym, subst, lt-ltb, true≢false}
 use Rattle.std.specs.Prelude.{find, nat_le, nat_lt}
 use Rattle.std.specs.List.{list_any}
 use Rattle.std.proofs.lemmas.Bool.{le-leb}
@@ -9,8 +9,8 @@ use Rattle.am_names.specs.declared.NodeId.{NodeId}
 use Rattle.am_names.specs.declared.Packet.TheVariants as Packets
 use Rattle.am_office.specs.declared.Event.TheVariants as Events
 use Rattle.am_model.specs.History.{is_four_bytes, is_in_range}
-use Rattle.am_model.specs.Layout.{EndSetting, declared, has_id, home, home_by}
-use Rattle.am_local.specs.Interface.{event_of, home_in}
+use Rattle.am_model.specs.Layout.{EndSetting, declared, has_id, home_by}
+use Rattle.am_local.specs.Interface.{event_of}
 use Rattle.am_local.specs.Together.{IsSet}
 use Rattle.am_local.specs.declared.work.Work.{Work}
 use Rattle.am_local.specs.declared.work.Work.TheVariants as Works

@@ -1,6 +1,6 @@
 -- Each worker at a seat that was just made is at work, with no turn made.
 use Rattle.std.specs.Prelude.{replicate, slice_get, slice_index, slice_index_or}
-use Rattle.std.proofs.Common.{◌≡◌, ◌≢◌, ◌⊎◌, inl, inr, ⊎_elim, ℕ, zero, suc, ◌+◌, ◌==◌, ◌<◌, ◌≤◌, Bool, true, false, cond, List, [], ◌∷◌, ◌++◌, map, length, Option, Some, None, refl, sym, ap, ◌∙◌, subst, arith, eq-eqb, eqb-true}
+use Rattle.std.proofs.Common.{◌≡◌, ◌⊎◌, inl, inr, ⊎_elim, ℕ, zero, suc, ◌+◌, ◌==◌, ◌<◌, Bool, true, false, cond, List, [], ◌∷◌, map, length, Option, Some, None, refl, sym, ap, ◌∙◌, subst, arith, eq-eqb, eqb-true}
 use Rattle.std.proofs.lemmas.List.{length-replicate}
 use lib.ListN.{get_elem?}
 use mathlib.Core.Option.{some}
@@ -8,7 +8,6 @@ use Rattle.atomic_table.specs.Seated.{TableId}
 use Rattle.atomic_table.specs.declared.shared.Seat.{Seat}
 use Rattle.am_names.specs.declared.EndpointId.{EndpointId}
 use Rattle.am_names.specs.declared.NodeId.{NodeId}
-use Rattle.am_names.specs.declared.Packet.{Packet}
 use Rattle.am_office.specs.declared.Entry.{Entry}
 use Rattle.am_office.specs.declared.Place.{Place}
 use Rattle.am_office.specs.declared.Place.TheVariants.{Host, Disk}
@@ -21,19 +20,18 @@ use Rattle.am_driver.specs.declared.EndView.{EndView}
 use Rattle.am_endpoint.specs.View.{state_after, state_by}
 use Rattle.am_follow.specs.Layout.{layout_of}
 use Rattle.am_model.specs.Changes.{replay}
-use Rattle.am_model.specs.Endpoint.{State, fresh, is_direct, is_on_disk}
+use Rattle.am_model.specs.Endpoint.{State, fresh, is_direct}
 use Rattle.am_model.specs.History.{is_in_frame}
 use Rattle.am_model.specs.Layout.{AllAre, EndSetting, Layout, has_id, opening, opening_by, opening_place}
 use Rattle.std.specs.List.{find}
-use Rattle.am_moves.specs.Pages.{HoldsBody}
 use Rattle.am_phase.specs.Frames.{LiesAsMoved}
 use Rattle.am_places.specs.Codes.{place_code}
-use Rattle.am_places.specs.Rule.{FrameFits, IsOutside, joined, known_at, nothing, of, tenure}
+use Rattle.am_places.specs.Rule.{FrameFits, IsOutside, joined, known_at, nothing, tenure}
 use Rattle.am_places.specs.declared.board.Known.{Known}
 use Rattle.am_scenario_types.specs.Lists.{ScenarioLists}
 use Rattle.am_wire.specs.declared.receiving.LinkIn.{LinkIn}
 use Rattle.am_wire.specs.declared.sending.LinkOut.{LinkOut}
-use Rattle.am_works.specs.Begins.{AreFresh, ids_of}
+use Rattle.am_works.specs.Begins.{ids_of}
 use Rattle.am_works.specs.Drives.{CanDrive, KnowsPlace, LiesSo, line_by}
 use Rattle.am_works.specs.Seats.{EndPass, IsBorn, IsIdle, KnowsNode}
 use Rattle.am_works.specs.Stands.{fresh_pass}
@@ -91,7 +89,7 @@ fits_nowhere frames k place h =
 
 -- ---- a fresh seat, book by book
 
-abbrev line_now : EndBook → EndView
+abbrev pub line_now : EndBook → EndView
 line_now b = line_of b.end.settings.id (state_after b.end)
 
 abbrev known_of : EndBook → Known Entry

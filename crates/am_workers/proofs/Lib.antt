@@ -1,4 +1,4 @@
-pub mod Begins
-pub mod Working
-pub mod Linking
-pub mod Turned
+mod Begins
+mod Linking
+mod Turned
+mod Working

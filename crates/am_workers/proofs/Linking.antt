@@ -1,6 +1,6 @@
 -- The links of a node, when one of them changed.
-use Rattle.std.specs.Prelude.{slice_get, slice_index_or, slice_set, OnOk, Result, Ok, Err}
-use Rattle.std.proofs.Common.{◌≡◌, ◌≢◌, ◌⊎◌, inl, inr, ⊎_elim, ℕ, zero, suc, ◌<◌, ◌≤◌, ◌==◌, Bool, true, false, cond, List, [], ◌∷◌, ◌++◌, length, get_or, Option, Some, None, refl, sym, ap, ◌∙◌, subst, arith, append-nil, eqb-true}
+use Rattle.std.specs.Prelude.{is_some, slice_get, slice_index_or, slice_set, OnOk, Result, Ok, Err}
+use Rattle.std.proofs.Common.{◌≡◌, ◌≢◌, ◌⊎◌, inl, inr, ⊎_elim, ℕ, zero, suc, ◌<◌, ◌≤◌, ◌==◌, Bool, true, false, cond, List, [], ◌∷◌, ◌++◌, length, get_or, Option, Some, None, refl, sym, ap, ◌∙◌, subst, arith, append-nil, eqb-true, eq-eqb, true≢false}
 use Rattle.std.proofs.lemmas.Option.{slice_get-get_or, slice_get_within}
 use Rattle.am_names.specs.declared.NodeId.{NodeId}
 use Rattle.am_names.specs.declared.Packet.{Packet}
@@ -9,7 +9,7 @@ use Rattle.am_wire.specs.Links.{SameEnd, SameLink, emitted, received, spare}
 use Rattle.am_wire.specs.declared.receiving.LinkIn.{LinkIn}
 use Rattle.am_wire.specs.declared.sending.LinkOut.{LinkOut}
 use Rattle.am_turns.specs.Servers.{sent_to}
-use Rattle.am_works.specs.Works.{held_from}
+use Rattle.am_works.specs.Works.{Hand, held_from}
 use Rattle.am_workers.specs.AtWork.{SameIns, SameOuts, sent_by, sent_on, taken_by, taken_on}
 use Rattle.am_workers.specs.Ways.{AreKept, HaveRoom, HaveRoomBut}
 
@@ -108,19 +108,31 @@ ins_set a k o p here same = record { all = set_length a k p; each = set_end a k 
 
 -- ---- what was emitted and taken
 
+here_set : {X : Type 0} (xs : List X) (k : ℕ) (o p : X) → slice_get xs k ≡ Some o → slice_get (slice_set xs k p) k ≡ Some p
+here_set [] k o p here = absurd (cc)
+here_set (x ∷ xs) zero o p here = refl
+here_set (x ∷ xs) (suc k) o p here = here_set xs k o p here
+
+other_set : {X : Type 0} (xs : List X) (k n : ℕ) (p : X) → (n ≡ k → ⊥) → slice_get (slice_set xs k p) n ≡ slice_get xs n
+other_set [] k n p apart = refl
+other_set (x ∷ xs) zero zero p apart = absurd (apart refl)
+other_set (x ∷ xs) zero (suc n) p apart = refl
+other_set (x ∷ xs) (suc k) zero p apart = refl
+other_set (x ∷ xs) (suc k) (suc n) p apart = other_set xs k n p (λ e. apart (ap suc e))
+
 sent_set : (a : List LinkOut) (k n : ℕ) (o p : LinkOut) → slice_get a k ≡ Some o → sent_on (slice_get (slice_set a k p) n) ≡ cond (n == k) (emitted p) (sent_on (slice_get a n))
-sent_set [] k n o p here = absurd (cc)
-sent_set (x ∷ a) zero zero o p here = refl
-sent_set (x ∷ a) zero (suc n) o p here = refl
-sent_set (x ∷ a) (suc k) zero o p here = refl
-sent_set (x ∷ a) (suc k) (suc n) o p here = sent_set a k n o p here
+sent_set a k n o p here = by_test (n == k) refl
+  where
+    by_test : (b : Bool) → (n == k) ≡ b → sent_on (slice_get (slice_set a k p) n) ≡ cond b (emitted p) (sent_on (slice_get a n))
+    by_test true is = ap sent_on (ap (slice_get (slice_set a k p)) (eqb-true n k is) ∙ here_set a k o p here)
+    by_test false is = ap sent_on (other_set a k n p (λ same. true≢false (sym (eq-eqb n k same) ∙ is)))
 
 taken_set : (a : List LinkIn) (k n : ℕ) (o p : LinkIn) → slice_get a k ≡ Some o → taken_on (slice_get (slice_set a k p) n) ≡ cond (n == k) (received p) (taken_on (slice_get a n))
-taken_set [] k n o p here = absurd (cc)
-taken_set (x ∷ a) zero zero o p here = refl
-taken_set (x ∷ a) zero (suc n) o p here = refl
-taken_set (x ∷ a) (suc k) zero o p here = refl
-taken_set (x ∷ a) (suc k) (suc n) o p here = taken_set a k n o p here
+taken_set a k n o p here = by_test (n == k) refl
+  where
+    by_test : (b : Bool) → (n == k) ≡ b → taken_on (slice_get (slice_set a k p) n) ≡ cond b (received p) (taken_on (slice_get a n))
+    by_test true is = ap taken_on (ap (slice_get (slice_set a k p)) (eqb-true n k is) ∙ here_set a k o p here)
+    by_test false is = ap taken_on (other_set a k n p (λ same. true≢false (sym (eq-eqb n k same) ∙ is)))
 
 -- nothing more was emitted on the link that changed
 pub kept_set : (a : List LinkOut) (k : ℕ) (o p : LinkOut) → slice_get a k ≡ Some o → SameLink o p → emitted p ≡ emitted o → AreKept a (slice_set a k p)
@@ -159,6 +171,11 @@ taken_none a k i j here same from = taken_set a k from.0 i j here ∙ by_test (f
     by_test : (b : Bool) → (from.0 == k) ≡ b → cond b (received j) (taken_on (slice_get a from.0)) ≡ taken_on (slice_get a from.0) ++ []
     by_test true is = same ∙ sym (ap taken_on (ap (slice_get a) (eqb-true from.0 k is) ∙ here)) ∙ sym (append-nil (taken_on (slice_get a from.0)))
     by_test false is = sym (append-nil (taken_on (slice_get a from.0)))
+
+-- where no packet was taken, what was taken is as it was
+pub taken_nothing : (a b : List LinkIn) (hand : Hand) → is_some hand ≡ false → ((from : NodeId) → taken_by b from ≡ taken_by a from ++ held_from from hand) → (from : NodeId) → taken_by b from ≡ taken_by a from
+taken_nothing a b None none taken from = taken from ∙ append-nil (taken_by a from)
+taken_nothing a b (Some h) none taken from = absurd (true≢false none)
 
 -- ---- room
 

@@ -1,6 +1,6 @@
 -- What the worker of an interface keeps over a turn.
-use Rattle.std.specs.Prelude.{IfSome, slice_get}
-use Rattle.std.proofs.Common.{◌≡◌, ℕ, ◌+◌, ◌<◌, ◌≤◌, List, ◌++◌, length, Option, Some, None, refl, sym, ap, ◌∙◌, subst, arith}
+use Rattle.std.specs.Prelude.{slice_get}
+use Rattle.std.proofs.Common.{◌≡◌, ℕ, ◌+◌, ◌<◌, ◌≤◌, List, ◌++◌, length, Option, Some, sym, ap, ◌∙◌, subst, arith}
 use Rattle.atomic_table.specs.Seated.{TableId}
 use Rattle.atomic_table.specs.declared.shared.Seat as tokens
 use Rattle.am_names.specs.declared.NodeId.{NodeId}
@@ -8,7 +8,6 @@ use Rattle.am_names.specs.declared.Packet.{Packet}
 use Rattle.am_office.specs.declared.Entry.{Entry}
 use Rattle.am_model.specs.Channels.{emitted}
 use Rattle.am_model.specs.Endpoint.{entry_at}
-use Rattle.am_local.specs.Interface.{receiver_of}
 use Rattle.am_local.specs.Together.{IsSet}
 use Rattle.am_iface.specs.Settings.{AreLawful, SettingsView}
 use Rattle.am_iface.specs.View.{InterfaceView, own}
@@ -19,21 +18,16 @@ use Rattle.am_follow.specs.Layout.{layout_of}
 use Rattle.am_wire.specs.Links.{SameLink}
 use Rattle.am_wire.specs.declared.sending.LinkOut.{LinkOut}
 use Rattle.am_books.specs.declared.EndBook.{EndBook}
-use Rattle.am_works.specs.Seats.{EndPass, Ids, IsIdle}
+use Rattle.am_works.specs.Seats.{EndPass, Ids, IsIdle, SameSeat}
 use Rattle.am_works.specs.Works.{Hand, InterfaceWorks, held_from}
-use Rattle.am_turns.specs.Servers.{GoesOut, sent_to}
-use Rattle.am_turns.specs.declared.choices.Waits.{Waits}
+use Rattle.am_turns.specs.Servers.{sent_to}
 use Rattle.am_workers.specs.AtWork.{AreOuts, IsInterfaceAtWork, IsWay, SameOuts, sent_by, taken_by}
-use Rattle.am_workers.specs.Ways.{HaveRoom, HaveRoomBut, Prepares, Serves}
+use Rattle.am_workers.specs.Ways.{HaveRoomBut, Prepares, Serves}
 use Rattle.am_workers.specs.declared.workers.InterfaceWorker.{InterfaceWorker}
 use Rattle.am_workers.specs.declared.workers.Stop.{Stop}
-use Rattle.am_workers.proofs.Linking.{as_there, outs_itself, room_but_any}
+use Rattle.am_workers.proofs.Linking.{as_there}
 
 -- ---- works
-
-more_turns : (s : ScenarioLists) (ids : Ids) (node : NodeId) (turns : ℕ) (log : List Entry) (sent taken : NodeId → List Packet) (hand : Hand) (v : EndPass) → InterfaceWorks s ids node turns log sent taken hand v → InterfaceWorks s ids node (turns + 1) log sent taken hand v
-more_turns s ids node turns log sent taken hand v t =
-    record { born = t.born; knows = t.knows; guest = t.guest; rising = t.rising; low = t.low; few = let f : length log ≤ turns = t.few in omega arith; ranged = t.ranged; emits = t.emits; got = t.got; receipts = t.receipts; in_hand = t.in_hand; right = t.right }
 
 -- the same was sent, and what was taken is in hand
 works_with : (s : ScenarioLists) (ids : Ids) (node : NodeId) (turns : ℕ) (log : List Entry) (sent sent' taken taken' : NodeId → List Packet) (hand hand' : Hand) (v : EndPass) (t : InterfaceWorks s ids node turns log sent taken hand v) → ((to : NodeId) → sent' to ≡ sent to) → ((from : NodeId) → taken' from ≡ t.got from ++ held_from from hand') → InterfaceWorks s ids node turns log sent' taken' hand' v
@@ -116,30 +110,12 @@ module _ (s : ScenarioLists) (table : TableId) (ids : Ids) (node : NodeId) where
             (subst (λ (n : NodeId). InterfaceWorks s ids n h.so_far w.interface.log (sent_by w.outs.items) (taken_by w.ins.items) w.hand w.seat.token.me.0) (sym h.is_node) h.works));
       }
 
--- ---- a turn without a look at the links
+-- ---- the same seat
 
--- it did no work
-pub rested : (table : TableId) (ids : Ids) (w : InterfaceWorker) (waits : Waits) → IsIdle table w.seat.token → HaveRoom w.outs.items → Serves table ids w (record w { waits = waits })
-rested table ids w waits idle room =
-    record {
-      idle = idle;
-      seat = record { mark = refl; seats = refl; births = refl };
-      settings = refl;
-      set = refl;
-      outs = outs_itself w.outs.items;
-      spared = room_but_any w.outs.items w.last room;
-      ins = refl;
-      from_node = refl;
-      works = λ s turns of t. more_turns s ids w.interface.settings.node turns w.interface.log (sent_by w.outs.items) (taken_by w.ins.items) w.hand w.seat.token.me.0 t;
-    }
+pub seat_then : (u v w : EndPass) → SameSeat u v → SameSeat v w → SameSeat u w
+seat_then u v w h g = record { mark = g.mark ∙ h.mark; seats = g.seats ∙ h.seats; births = g.births ∙ h.births }
 
--- it doesn't matter what the worker knew of its channels' waits
-pub waited : (table : TableId) (ids : Ids) (w u : InterfaceWorker) (waits : Waits) → Serves table ids (record w { waits = waits }) u → Serves table ids w u
-waited table ids w u waits v = record { idle = v.idle; seat = v.seat; settings = v.settings; set = v.set; outs = v.outs; spared = v.spared; ins = v.ins; from_node = v.from_node; works = v.works }
-
-pub goes_there : (i : InterfaceView) (n : ℕ) (o : Option Packet) → n ≡ i.settings.nodes → IfSome o (GoesOut i) → IfSome o (λ (p : Packet). (receiver_of p).0 < n)
-goes_there i n None all h = tt
-goes_there i n (Some p) all h = subst (λ (m : ℕ). (receiver_of p).0 < m) (sym all) h.to_node
+-- ---- what is emitted
 
 -- what the log then emits was sent
 pub sends_all : (node : NodeId) (log log' : List Entry) (a b : List LinkOut) (out : Option Packet) → ((to : NodeId) → sent_by a to ≡ emitted node to log) → ((to : NodeId) → sent_by b to ≡ sent_by a to ++ sent_to to out) → ((to : NodeId) → emitted node to log' ≡ emitted node to log ++ sent_to to out) → (to : NodeId) → sent_by b to ≡ emitted node to log'

@@ -1,15 +1,8 @@
--- A worker that made its turn, or that stopped, is at work with one turn more.
-use Rattle.std.proofs.Common.{◌≡◌, ℕ, ◌+◌, ◌<◌, ◌≤◌, ◌^◌, Bool, true, false, ◌&&◌, List, length, Some, refl, sym, ap, ◌∙◌, subst, arith}
-use Rattle.std.specs.Prelude.{slice_get}
-use lib.ListN.{get_elem?}
-use mathlib.Core.Option.{some}
+-- What a thread and a driver keep from turn to turn.
+use Rattle.std.proofs.Common.{◌≡◌, ℕ, ◌+◌, ◌<◌, ◌^◌, true, ◌&&◌, List, Some, sym, ap, subst}
 use Rattle.atomic_table.specs.Seated.{TableId}
-use Rattle.am_names.specs.declared.EndpointId.{EndpointId}
 use Rattle.am_names.specs.declared.NodeId.{NodeId}
 use Rattle.am_office.specs.declared.Actor.TheVariants.{Thread}
-use Rattle.am_body.specs.declared.settings.EndSettings.{EndSettings}
-use Rattle.am_device.specs.Memory.{Store}
-use Rattle.am_driver.specs.Lists.{ViewLists}
 use Rattle.am_driver.proofs.Found.{and_right}
 use Rattle.am_follow.specs.Layout.{is_direct, layout_of}
 use Rattle.am_follow.proofs.Lawful.{lawful_layout}
@@ -20,26 +13,15 @@ use Rattle.am_model.specs.Layout.{declared}
 use Rattle.am_model.proofs.Carries.{numbers_in_range}
 use Rattle.am_scenario_types.specs.Lawful.{IsLawful}
 use Rattle.am_scenario_types.specs.Lists.{ScenarioLists}
-use Rattle.am_scenario_types.specs.declared.parts.Network.{Network}
 use Rattle.am_scenario_types.specs.declared.parts.Network.TheVariants.{Packet}
 use Rattle.am_scenario_types.specs.declared.parts.ScriptCall.{ScriptCall}
-use Rattle.am_scripts.specs.Follows.{is_thread}
 use Rattle.am_turns.specs.Callers.{HaveRange, IsScript}
 use Rattle.am_works.specs.Drivers.{IsDriverOf}
-use Rattle.am_works.specs.Drives.{CanDrive}
-use Rattle.am_works.specs.Seats.{AreBorn, EndPass, Ids, IsIdle, SameSeat}
-use Rattle.am_works.specs.Works.{DriverWorks, ThreadWorks}
+use Rattle.am_works.specs.Seats.{AreBorn, EndPass, Ids, SameSeat}
 use Rattle.am_workers.specs.AtWork.{IsDriverAtWork, IsThreadAtWork}
 use Rattle.am_workers.specs.declared.workers.DriverWorker.{DriverWorker}
+use Rattle.am_workers.specs.declared.workers.Stop.{Stop}
 use Rattle.am_workers.specs.declared.workers.ThreadWorker.{ThreadWorker}
-
--- ---- the seat
-
-pub same_seat : (v : EndPass) → SameSeat v v
-same_seat v = record { mark = refl; seats = refl; births = refl }
-
-pub seat_then : (u v w : EndPass) → SameSeat u v → SameSeat v w → SameSeat u w
-seat_then u v w g h = record { mark = h.mark ∙ g.mark; seats = h.seats ∙ g.seats; births = h.births ∙ g.births }
 
 -- ---- a thread
 
@@ -49,61 +31,22 @@ have_range s thread calls v born script j k set c at call =
     subst (λ pool. are_numbers_in_range pool c.call ≡ true) (sym (born j set at).pool)
     (numbers_in_range (layout_of s) c.call (and_right (is_actor_in_range (Thread thread) && declared (layout_of s) c.endpoint) (is_call_in_range (layout_of s) c.call) (script.called k c call)))
 
--- a thread that makes no call in a turn
-pub thread_rests : (s : ScenarioLists) (table : TableId) (ids : Ids) (turns : ℕ) (w : ThreadWorker) → IsThreadAtWork s table ids turns w → IsThreadAtWork s table ids (turns + 1) w
-thread_rests s table ids turns w a =
-    record { idle = a.idle; declared = a.declared; script = a.script; few = a.few; so_far = a.so_far; within = let n = a.within in omega (arith, n); works = a.works }
-
--- what a turn of a thread keeps
-abbrev pub ThreadKeeps : Ids → ThreadWorker → ThreadWorker → Type 0
-ThreadKeeps ids w w' =
-    (s : ScenarioLists) (turns : ℕ) → IsScript s w.thread w.script.items → ThreadWorks s ids w.thread turns w.next w.clock w.seat.token.me.0 → ThreadWorks s ids w.thread (turns + 1) w'.next w'.clock w'.seat.token.me.0
-
-pub thread_called : (s : ScenarioLists) (table : TableId) (ids : Ids) (turns : ℕ) (w w' : ThreadWorker) → IsThreadAtWork s table ids turns w → IsIdle table w'.seat.token → w'.thread ≡ w.thread → w'.script ≡ w.script → ThreadKeeps ids w w' → IsThreadAtWork s table ids (turns + 1) w'
-thread_called s table ids turns w w' a idle thread script keeps =
-    record {
-      idle = idle;
-      declared = subst (λ (t : ℕ). is_thread s t ≡ true) (sym thread) a.declared;
-      script = coe 0 1 (i. IsScript s (sym thread i) (sym script i).items) a.script;
-      few = subst (λ calls. length calls.items ≤ 65536) (sym script) a.few;
-      so_far = a.so_far + 1;
-      within = let n = a.within in omega (arith, n);
-      works = subst (λ (t : ℕ). ThreadWorks s ids t (a.so_far + 1) w'.next w'.clock w'.seat.token.me.0) (sym thread) (keeps s a.so_far a.script a.works);
-    }
-
 -- the same worker's, from turn to turn
 pub record IsSameThread (s : ScenarioLists) (table : TableId) (ids : Ids) (turns : ℕ) (w w' : ThreadWorker) : Type 0 where
   pub at_work : IsThreadAtWork s table ids turns w'
   pub seat : SameSeat w.seat.token.me.0 w'.seat.token.me.0
   pub thread : w'.thread ≡ w.thread
+  pub stopped : (why : Stop) → w.stop ≡ Some why → w' ≡ w
 
 -- ---- a driver
-
-pub driver_rests : (s : ScenarioLists) (table : TableId) (ids : Ids) (node : NodeId) (turns : ℕ) (w : DriverWorker) → IsDriverAtWork s table ids node turns w → IsDriverAtWork s table ids node (turns + 1) w
-driver_rests s table ids node turns w a =
-    record { idle = a.idle; is_node = a.is_node; so_far = a.so_far; within = let n = a.within in omega (arith, n); works = a.works }
 
 -- a driver of a node of the packet network, which made so many turns
 pub is_driver_of : (s : ScenarioLists) (ids : Ids) (node : NodeId) (turns : ℕ) → IsLawful s → s.network ≡ Packet → ids ≡ ends_of (layout_of s) node → node.0 < s.nodes → turns + 1 < 2 ^ 64 → IsDriverOf s ids node turns
 is_driver_of s ids node turns lawful packet ends low few =
     record { packet = ap is_direct packet; once = (lawful_layout s lawful).ids; ends = ends; declared = low; few = few }
 
--- what a turn of a driver keeps
-abbrev pub DriverKeeps : DriverWorker → DriverWorker → Type 0
-DriverKeeps w w' =
-    (s : ScenarioLists) (ids : Ids) (turns : ℕ) → IsDriverOf s ids w.node turns → DriverWorks s ids w.node turns w.clock w.view w.swap w.seat.token.me.0 → DriverWorks s ids w.node (turns + 1) w'.clock w'.view w'.swap w'.seat.token.me.0
-
-pub driver_moved : (s : ScenarioLists) (table : TableId) (ids : Ids) (turns : ℕ) (w w' : DriverWorker) → (a : IsDriverAtWork s table ids w.node turns w) → IsIdle table w'.seat.token → w'.node ≡ w.node → IsDriverOf s ids w.node a.so_far → DriverKeeps w w' → IsDriverAtWork s table ids w.node (turns + 1) w'
-driver_moved s table ids turns w w' a idle node of keeps =
-    record {
-      idle = idle;
-      is_node = node;
-      so_far = a.so_far + 1;
-      within = let n = a.within in omega (arith, n);
-      works = keeps s ids a.so_far of a.works;
-    }
-
 pub record IsSameDriver (s : ScenarioLists) (table : TableId) (ids : Ids) (node : NodeId) (turns : ℕ) (w w' : DriverWorker) : Type 0 where
   pub at_work : IsDriverAtWork s table ids node turns w'
   pub seat : SameSeat w.seat.token.me.0 w'.seat.token.me.0
   pub is_node : w'.node ≡ w.node
+  pub stopped : (why : Stop) → w.stop ≡ Some why → w' ≡ w

@@ -14,7 +14,6 @@ use Rattle.am_plan.specs.Shape.{shape}
 use Rattle.am_wire.specs.Links.{SameEnd, SameLink, emitted, received, spare}
 use Rattle.am_wire.specs.declared.receiving.LinkIn.{LinkIn}
 use Rattle.am_wire.specs.declared.sending.LinkOut.{LinkOut}
-use Rattle.am_works.specs.Drivers.{IsDriverOf}
 use Rattle.am_works.specs.Seats.{Ids, IsIdle}
 use Rattle.am_works.specs.Works.{DriverWorks, InterfaceWorks, ThreadWorks}
 use Rattle.am_turns.specs.Callers.{IsScript}

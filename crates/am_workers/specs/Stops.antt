@@ -3,6 +3,8 @@ use Rattle.std.specs.Prelude.{Option, Some, None, Result, Ok, Err}
 use Rattle.am_driver_turn.specs.declared.turns.DriverFault.{DriverFault}
 use Rattle.am_driver_turn.specs.declared.turns.DriverFault.TheVariants as Faults
 use Rattle.am_driver_turn.specs.declared.turns.DriverTurn.{DriverTurn}
+use Rattle.am_turns.specs.declared.turns.InterfaceTurn.{InterfaceTurn}
+use Rattle.am_turns.specs.declared.turns.InterfaceTurn.TheVariants as Worked
 use Rattle.am_turns.specs.declared.turns.ThreadTurn.{ThreadTurn}
 use Rattle.am_turns.specs.declared.turns.ThreadTurn.TheVariants as Turns
 use Rattle.am_workers.specs.declared.workers.Stop.{Stop}
@@ -13,6 +15,12 @@ abbrev pub stop_after_call : Option ThreadTurn → Option Stop
 stop_after_call (Some Turns.Full) = Some Stops.LogFull
 stop_after_call (Some Turns.NoMemory) = Some Stops.NoMemory
 stop_after_call turn = None
+
+-- an interface too
+abbrev pub stop_after_work : InterfaceTurn → Option Stop
+stop_after_work Worked.Full = Some Stops.LogFull
+stop_after_work Worked.NoMemory = Some Stops.NoMemory
+stop_after_work turn = None
 
 -- and so does a driver
 abbrev pub stop_after_move : Result DriverTurn DriverFault → Option Stop

@@ -1,5 +1,5 @@
 -- What an interface's turn does with its links and with itself.
-use Rattle.std.specs.Prelude.{◌≡◌, ◌≢◌, ℕ, ◌+◌, ◌<◌, ◌≤◌, Option, Some, None, List, ◌++◌, length, slice_get}
+use Rattle.std.specs.Prelude.{◌≡◌, ◌≢◌, ℕ, ◌+◌, ◌<◌, ◌≤◌, Some, List, ◌++◌, length, slice_get}
 use Rattle.atomic_table.specs.Seated.{TableId}
 use Rattle.am_names.specs.declared.NodeId.{NodeId}
 use Rattle.am_names.specs.declared.Packet.{Packet}
@@ -9,12 +9,8 @@ use Rattle.am_wire.specs.declared.sending.LinkOut.{LinkOut}
 use Rattle.am_works.specs.Seats.{Ids, IsIdle, SameSeat}
 use Rattle.am_works.specs.Works.{InterfaceWorks, held_from}
 use Rattle.am_turns.specs.Servers.{IsInterfaceOf}
-use Rattle.am_turns.specs.declared.turns.InterfaceTurn.{InterfaceTurn}
-use Rattle.am_turns.specs.declared.turns.InterfaceTurn.TheVariants as Worked
 use Rattle.am_workers.specs.AtWork.{SameIns, SameOuts, sent_by, taken_by}
 use Rattle.am_workers.specs.declared.workers.InterfaceWorker.{InterfaceWorker}
-use Rattle.am_workers.specs.declared.workers.Stop.{Stop}
-use Rattle.am_workers.specs.declared.workers.Stop.TheVariants as Stops
 
 -- on each link but one there is room for a packet more
 abbrev pub HaveRoomBut : ℕ → List LinkOut → Type 0
@@ -28,12 +24,6 @@ HaveRoom outs = (k : ℕ) (o : LinkOut) → slice_get outs k ≡ Some o → 1 �
 pub record AreKept (outs outs' : List LinkOut) : Type 0 where
   pub same : SameOuts outs outs'
   pub sent : (to : NodeId) → sent_by outs' to ≡ sent_by outs to
-
--- why a worker makes no further turn after this one
-abbrev pub stop_after : InterfaceTurn → Option Stop
-stop_after Worked.Full = Some Stops.LogFull
-stop_after Worked.NoMemory = Some Stops.NoMemory
-stop_after turn = None
 
 -- the worker looked at its links: it emitted nothing, and a packet that it took is in its hand
 pub record Prepares (w u : InterfaceWorker) : Type 0 where

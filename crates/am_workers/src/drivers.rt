@@ -5,8 +5,9 @@ ghost use Rattle.am_scenario_types.specs.Lawful.{IsLawful};
 ghost use Rattle.am_scenario_types.specs.declared.parts.Network.TheVariants.{Packet};
 ghost use Rattle.am_workers.specs.AtWork.{IsDriverAtWork};
 ghost use Rattle.am_workers.specs.Stops.{stop_after_move};
+ghost use Rattle.am_workers.specs.declared.workers.Stop.{Stop};
 ghost use Rattle.am_works.specs.Seats.{SameSeat};
-ghost use Rattle.std.specs.Prelude.{◌≡◌, ◌+◌, ◌<◌};
+ghost use Rattle.std.specs.Prelude.{Some, ◌≡◌, ◌+◌, ◌<◌};
 
 use crate::gate::Gate;
 use crate::workers::{DriverWorker, Stop};
@@ -46,6 +47,7 @@ fn move_turn<G: Gate>(
     ensures at_work { IsDriverAtWork scenario.now places.now.board.shared.table_id places.now.ids.items worker.old.node (turn + 1) worker.new }
     ensures seat { SameSeat worker.old.seat.token.me.0 worker.new.seat.token.me.0 }
     ensures node { worker.new.node ≡ worker.old.node }
+    ensures stopped { (why : Stop) → worker.old.stop ≡ Some why → worker.new ≡ worker.old }
 {
     gate.pass(number, turn);
     if worker.stop.is_some() {
@@ -83,6 +85,7 @@ pub fn work_as_driver<G: Gate>(
     ensures at_work { IsDriverAtWork scenario.now places.now.board.shared.table_id places.now.ids.items worker.old.node scenario.now.turns worker.new }
     ensures seat { SameSeat worker.old.seat.token.me.0 worker.new.seat.token.me.0 }
     ensures node { worker.new.node ≡ worker.old.node }
+    ensures stopped { (why : Stop) → worker.old.stop ≡ Some why → worker.new ≡ worker.old }
 {
     for turn in 0..scenario.turns {
         move_turn(alloc, worker, places, scenario, number, turn, gate);

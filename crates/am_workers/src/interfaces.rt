@@ -5,7 +5,9 @@ ghost use Rattle.am_scenario_types.specs.Lawful.{IsLawful};
 ghost use Rattle.am_scenario_types.specs.declared.parts.Network.TheVariants.{Packet as IsPacket};
 ghost use Rattle.am_turns.specs.Servers.{HandHolds, out_of};
 ghost use Rattle.am_workers.specs.AtWork.{IsInterfaceAtWork, SameIns, SameOuts};
-ghost use Rattle.am_workers.specs.Ways.{HaveRoom, HaveRoomBut, Prepares, Serves, stop_after};
+ghost use Rattle.am_workers.specs.Ways.{HaveRoom, HaveRoomBut, Prepares, Serves};
+ghost use Rattle.am_workers.specs.Stops.{stop_after_work};
+ghost use Rattle.am_workers.specs.declared.workers.Stop.{Stop};
 ghost use Rattle.am_works.specs.Seats.{IsIdle, SameSeat};
 ghost use Rattle.std.specs.Prelude.{◌≡◌, ◌≢◌, ◌+◌, ◌<◌, ◌≤◌, ℕ, OnOk, Some, length, slice_get};
 ghost use lib.ListN.{get_elem?};
@@ -49,8 +51,8 @@ fn out_of(turn: &InterfaceTurn) -> Option<Packet>
 }
 
 /// Why a worker makes no further turn after this one.
-fn stop_after(turn: &InterfaceTurn) -> Option<Stop>
-    ensures { result ≡ stop_after turn.now }
+fn stop_after_work(turn: &InterfaceTurn) -> Option<Stop>
+    ensures { result ≡ stop_after_work turn.now }
 {
     match turn {
         InterfaceTurn::Full => Some(Stop::LogFull),
@@ -96,7 +98,7 @@ fn do_work(worker: &mut InterfaceWorker, places: &Places<EndBook>, ids: &[Endpoi
     worker.last = send(&mut worker.outs, worker.last, out);
     worker.waits.emitted(out);
     worker.end = next_place(worker.end, work, ids.len());
-    worker.stop = stop_after(&turn);
+    worker.stop = stop_after_work(&turn);
 }
 
 /// Chooses a work and does it, if there is one to do.
@@ -140,6 +142,7 @@ fn take_turn(
     ensures seat { SameSeat worker.old.seat.token.me.0 worker.new.seat.token.me.0 }
     ensures outs { SameOuts worker.old.outs.items worker.new.outs.items }
     ensures ins { SameIns worker.old.ins.items worker.new.ins.items }
+    ensures stopped { (why : Stop) → worker.old.stop ≡ Some why → worker.new ≡ worker.old }
 {
     if worker.stop.is_some() {
         return;
@@ -168,6 +171,7 @@ pub fn work_as_interface<G: Gate>(
     ensures seat { SameSeat worker.old.seat.token.me.0 worker.new.seat.token.me.0 }
     ensures outs { SameOuts worker.old.outs.items worker.new.outs.items }
     ensures ins { SameIns worker.old.ins.items worker.new.ins.items }
+    ensures stopped { (why : Stop) → worker.old.stop ≡ Some why → worker.new ≡ worker.old }
 {
     for turn in 0..scenario.turns {
         gate.pass(number, turn);

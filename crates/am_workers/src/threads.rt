@@ -2,8 +2,9 @@
 ghost use Rattle.am_scenario_types.specs.Lawful.{IsLawful};
 ghost use Rattle.am_workers.specs.AtWork.{IsThreadAtWork};
 ghost use Rattle.am_workers.specs.Stops.{stop_after_call};
+ghost use Rattle.am_workers.specs.declared.workers.Stop.{Stop};
 ghost use Rattle.am_works.specs.Seats.{SameSeat};
-ghost use Rattle.std.specs.Prelude.{◌≡◌, ◌+◌};
+ghost use Rattle.std.specs.Prelude.{Some, ◌≡◌, ◌+◌};
 
 use crate::gate::Gate;
 use crate::workers::{Stop, ThreadWorker};
@@ -36,6 +37,7 @@ fn thread_turn<G: Gate>(
     ensures at_work { IsThreadAtWork scenario.now places.now.board.shared.table_id places.now.ids.items (turn + 1) worker.new }
     ensures seat { SameSeat worker.old.seat.token.me.0 worker.new.seat.token.me.0 }
     ensures thread { worker.new.thread ≡ worker.old.thread }
+    ensures stopped { (why : Stop) → worker.old.stop ≡ Some why → worker.new ≡ worker.old }
 {
     gate.pass(number, turn);
     if worker.stop.is_some() {
@@ -67,6 +69,7 @@ pub fn work_as_thread<G: Gate>(
     ensures at_work { IsThreadAtWork scenario.now places.now.board.shared.table_id places.now.ids.items scenario.now.turns worker.new }
     ensures seat { SameSeat worker.old.seat.token.me.0 worker.new.seat.token.me.0 }
     ensures thread { worker.new.thread ≡ worker.old.thread }
+    ensures stopped { (why : Stop) → worker.old.stop ≡ Some why → worker.new ≡ worker.old }
 {
     for turn in 0..scenario.turns {
         thread_turn(worker, places, scenario, number, turn, gate);

@@ -97,6 +97,14 @@ fn take_at(ins: &mut Vec<LinkIn>, at: usize) -> Option<(NodeId, Packet)>
     }
 }
 
+/// The place after this one, of so many, counted round.
+fn place_after(at: usize, count: usize) -> usize
+    requires { at < count }
+    ensures { result < count }
+{
+    if at + 1 < count { at + 1 } else { 0 }
+}
+
 /// Looks at each link once, from this place on and round, and takes the first packet. The place is then that of the next link.
 fn take_next(ins: &mut Vec<LinkIn>, from: &mut usize) -> Option<(NodeId, Packet)>
     requires from { from.old < length ins.old.items }
@@ -108,7 +116,7 @@ fn take_next(ins: &mut Vec<LinkIn>, from: &mut usize) -> Option<(NodeId, Packet)
     let count = ins.len();
     for step in 0..count {
         let at = *from;
-        *from = if at + 1 < count { at + 1 } else { 0 };
+        *from = place_after(at, count);
         let taken = take_at(ins, at);
         if taken.is_some() {
             return taken;

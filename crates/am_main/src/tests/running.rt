@@ -88,6 +88,29 @@ fn is_unknown_where_each_packet_is_late(rt: HostRuntime) -> Result<(), Fail> {
     Ok(())
 }
 
+// The scenario of two clients and a server with so many turns.
+fn turns_text(alloc: Global, turns: u32) -> Result<Vec<u8>, AllocError> {
+    let mut text = Vec::from_slice(alloc, b"am2 1\nturns ")?;
+    text.extend_from_slice(turns.to_string(alloc)?.as_bytes())?;
+    text.extend_from_slice(scripts::BEHIND_TURNS.as_bytes())?;
+    text.extend_from_slice(scripts::SCRIPTS.as_bytes())?;
+    Ok(text)
+}
+
+#[test]
+fn comes_to_its_end_with_turns(rt: HostRuntime) -> Result<(), Fail> {
+    let alloc = rt.alloc();
+    let words = words_of(alloc, "run")?;
+    for count in 0..34u32 {
+        let turns = if count == 33 { 1000 } else { count };
+        let mut source = MemorySource::new(turns_text(alloc, turns)?, 512, Vec::new(alloc));
+        let mut sink = MemorySink::new(alloc, 512, Vec::new(alloc));
+        assert_eq!(rt; am2(&rt, alloc, &words, &mut source, &mut sink).number, 0);
+        assert!(rt; sink.bytes().ends_with(b" pending 0\n"));
+    }
+    Ok(())
+}
+
 #[test]
 fn makes_a_run_of_a_number(rt: HostRuntime) -> Result<(), Fail> {
     let alloc = rt.alloc();

@@ -171,3 +171,7 @@ pub const SCRIPTS: &str =
     "t0 handler 0 4 note\nt0 map 0 0 2 20 2\nt0 request 0 0 3 100 0 0 0\nt0 poll 0\n\
     t1 handler 1 4 note\nt1 map 1 0 2 20 2\nt1 request 1 0 3 23 0 0 0\nt1 poll 1\n\
     t2 handler 2 3 add 4\nt2 poll 2\nt2 poll 2\nt2 poll 2\n";
+
+/// What stands behind the number of turns in a scenario of two clients and a server, whose links lose one packet.
+pub const BEHIND_TURNS: &str = "\nnetwork packet\nnodes 2\nframes 2\nchannels 2\nendpoint 0 0 11\n\
+    endpoint 1 0 12\nendpoint 2 1 20\nthread 0 0\nthread 1 0\nthread 2 1\nplan 0 1 2 lose\n";

@@ -9,6 +9,7 @@ abbrev pub invariant-loop-worker : goal.invariant-loop-worker
 invariant-loop-worker l =
     record {
       table : l.keeper.token.table_id ≡ l.fn.keeper.token.table_id;
-      gathered : (gathered_all l.keeper.token.me.0 (map pass_of l.worker-iterator.rest.items), l.keeper.token.me.1) ≡ (gathered_all l.fn.keeper.token.me.0 (map pass_of l.fn.threads.items), l.fn.keeper.token.me.1);
+      gathered : gathered_all l.keeper.token.me.0 (map pass_of l.worker-iterator.rest.items) ≡ gathered_all l.fn.keeper.token.me.0 (map pass_of l.fn.threads.items);
+      hand : l.keeper.token.me.1 ≡ l.fn.keeper.token.me.1;
       idle : AllByRecursion (λ (w : ThreadWorker). IsIdle l.fn.places.board.shared.table_id w.seat.token) l.worker-iterator.rest.items;
     }

@@ -1,14 +1,9 @@
 use Rattle.std.proofs.Common.{length}
-use Rattle.am_opening.proofs.Lists.{AreTaking}
-use Rattle.am_crew_opening.specs.Making.{AreThreadsMade}
+use Rattle.am_crew_opening.proofs.Seated.{AreSeating}
 use Rattle.am_crew_opening.proofs.making.open_threads.Given as goal
 
 abbrev pub invariant-loop-seat : goal.invariant-loop-seat
-invariant-loop-seat l =
-    record {
-      taking : AreTaking l.fn.seats.items l.seats.items (length l.threads.items);
-      made : AreThreadsMade l.scenario l.ids l.fn.seats.items (length l.threads.items) l.threads.items;
-    }
+invariant-loop-seat l = AreSeating l.scenario l.ids l.fn.seats.items l.seats.items l.threads.items
 
 abbrev pub decreases-loop-seat : goal.decreases-loop-seat
 decreases-loop-seat l = length l.seats.items

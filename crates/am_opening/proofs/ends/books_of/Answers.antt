@@ -1,11 +1,11 @@
-use Rattle.std.proofs.Common.{List, [], sym, subst, arith}
+use Rattle.std.proofs.Common.{List, sym, subst, arith}
 use Rattle.am_endpoint.specs.View.{EndpointView}
 use Rattle.am_opening.proofs.Booked.{AreBooked, booked_begins, booked_ends, booked_more, booked_next}
 use Rattle.am_opening.proofs.Lists.{none_left}
 use Rattle.am_opening.proofs.ends.books_of.Goals as goal
 
 pub loop-end-init : goal.loop-end-init
-loop-end-init c = subst (λ (rest : List EndpointView). AreBooked c.args.ends.items rest []) (sym c.reverse.ensures.items) (booked_begins c.args.ends.items c.requires)
+loop-end-init c = coe 0 1 (i. AreBooked c.args.ends.items (sym c.reverse.ensures.items i) (sym c.new-books.ensures.items i)) (booked_begins c.args.ends.items c.requires)
 
 pub book_of-requires : goal.book_of-requires
 book_of-requires c =

@@ -1,11 +1,11 @@
-use Rattle.std.proofs.Common.{List, [], sym, subst, arith}
+use Rattle.std.proofs.Common.{List, sym, subst, arith}
 use Rattle.am_node.specs.declared.NodePart.{NodePart}
 use Rattle.am_opening.proofs.Lists.{none_left}
 use Rattle.am_opening.proofs.Opened.{AreOpened, next_part, opened_begins, opened_ends, opened_more}
 use Rattle.am_opening.proofs.nodes.open_each.Goals as goal
 
 pub loop-part-init : goal.loop-part-init
-loop-part-init c = subst (λ (rest : List NodePart). AreOpened c.args.scenario.now c.args.parts.items rest []) (sym c.reverse.ensures.items) (opened_begins c.args.scenario.now c.args.parts.items)
+loop-part-init c = coe 0 1 (i. AreOpened c.args.scenario.now c.args.parts.items (sym c.reverse.ensures.items i) (sym c.new-openings.ensures.items i)) (opened_begins c.args.scenario.now c.args.parts.items)
 
 pub open_node-requires-clause-part : goal.open_node-requires-clause-part
 open_node-requires-clause-part c =
