@@ -1,4 +1,4 @@
-"""Random scenarios for `run` and for `step`. A step script is made event by event beside the second reading, mostly of events that may happen."""
+"""Random scenarios for `run`, with and without turns, and for `step`. A step script is made event by event beside the second reading, mostly of events that may happen."""
 import copy
 import random
 
@@ -85,6 +85,65 @@ def run_script(seed):
             text.append(f"t{thread} {draw.choice(['pollb', 'eventb'])} 0")
         else:
             text.append(f"t{thread} {call(draw, draw.choice(own), ends, version)}")
+    return "\n".join(text) + "\n"
+
+
+def wide_settings(draw, version):
+    """Up to 16 nodes, and turns; one scenario in eight has a log that may get full."""
+    lines = [f"nodes {draw.choice([1, 2, 2, 3, 4, 4, 8, 16])}", f"turns {draw.choice([1, 3, 10, 30, 100, 300, 1000, 3000, 10000])}"]
+    for chance, name, values in (
+        (0.8, "frames", (2, 2, 3, 4, 8, 16)),
+        (0.7, "channels", (1, 2, 3, 4)),
+        (0.7, "tries", (2, 3, 4, 8, 16)),
+        (0.5, "bounces", (0, 1, 3, 8, 16)),
+        (0.7, "keep", (0, 1, 2, 4, 16, 64)),
+        (0.12, "log", (3, 20, 60, 200)),
+    ):
+        if draw.random() < chance:
+            lines.append(f"{name} {draw.choice(values)}")
+    if version == 2 and draw.random() < 0.7:
+        lines.append(f"pool {draw.randint(0, 20)}")
+    return lines
+
+
+def crowd(draw, nodes, most):
+    """Endpoints on all nodes, at most 64 on each, mostly with the tag that others map them with."""
+    ends = {id: (id % nodes, draw.choice(["all", "3", "3", "3", "5", "none"])) for id in range(min(most, 64 * nodes))}
+    return [f"endpoint {id} {node} {tag}" + (" disk" if draw.random() < 0.2 else "") for id, (node, tag) in ends.items()], ends
+
+
+def many_faults(draw, nodes):
+    plan = {}
+    for _ in range(draw.choice([0, 0, 10, 100, 1000])):
+        place = (draw.randrange(nodes), draw.randrange(nodes), draw.randint(1, 200))
+        plan.setdefault(place, draw.choice(["lose", "repeat", f"late {draw.randint(1, 16)}"]))
+    pages = {(draw.randrange(nodes), draw.randint(1, 30)) for _ in range(draw.choice([0, 0, 5, 40]))}
+    return ["plan {} {} {} ".format(*place) + fault for place, fault in plan.items()], ["swapfault {} {}".format(*it) for it in sorted(pages)]
+
+
+def opened(end, ends, draw):
+    """The calls that make an endpoint ready to send and to be sent to."""
+    near = [to for to in range(end + 1, end + 4) if to in ends] or [end]
+    calls = [f"handler {end} {handler} {draw.choice(['note', 'echo 1', 'add 1'])}" for handler in (1, 2)]
+    return calls + [f"map {end} {index} {to} {ends[to][1]} {draw.randint(1, 8)}" for index, to in ((0, draw.choice(near)), (1, draw.choice(list(ends))))]
+
+
+def threaded_script(seed):
+    """A scenario whose threads, interfaces and drivers have turns: 1 to 16 nodes, up to 256 endpoints and 64 threads."""
+    draw = random.Random(f"threaded {seed}")
+    version = draw.choice([1, 1, 1, 2])
+    head = wide_settings(draw, version)
+    nodes = int(head[0].split()[1])
+    lines, ends = crowd(draw, nodes, draw.choice([1, 2, 4, 4, 8, 8, 16, 16, 32, 64, 256]))
+    of = {thread: thread % nodes for thread in range(draw.randint(1, 4 * nodes)) if thread % nodes < len(ends)}
+    plan, pages = many_faults(draw, nodes)
+    text = [f"am2 {version}", "network packet", *head, *lines, *(f"thread {it} {node}" for it, node in of.items()), *plan, *pages]
+    own = {thread: [id for id, (home, _) in ends.items() if home == node] for thread, node in of.items()}
+    ready = {thread: ends_of[:4] for thread, ends_of in own.items()}
+    text += [f"t{thread} {call_}" for thread, some in ready.items() for end in some for call_ in opened(end, ends, draw)]
+    for _ in range(draw.choice([0, 10, 40, 40, 100, 100, 400, 1500])):
+        thread = draw.choice(list(of))
+        text.append(f"t{thread} {call(draw, draw.choice(ready[thread] if draw.random() < 0.8 else own[thread]), ends, version)}")
     return "\n".join(text) + "\n"
 
 

@@ -1,5 +1,9 @@
-//! Tests of the calls of a whole cluster, each made once with ample memory.
+//! Tests of the calls of a whole cluster: each made once with ample memory, and its threads at work at the same time.
 #![tactic(auto)]
 
+#[cfg(test)]
+mod gates;
+#[cfg(test)]
+mod phases;
 #[cfg(test)]
 mod tests;

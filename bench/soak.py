@@ -1,0 +1,79 @@
+#!/usr/bin/env python3
+"""soak.py PROGRAM [FIRST] [COUNT] [JOBS]: random scenarios FIRST, FIRST + 1 .. (1,000 from 1) with turns, each run by the program, JOBS at a time, and
+each report judged.
+
+The scenarios have 1 to 16 nodes, up to 256 endpoints and 64 threads, 1 to 10,000 turns, packets that are lost, repeated and late, swap faults, and now and then a small log.
+A report is judged by check/judge.py, and made again entry by entry by the second reading in check/replay.py. Prints each bad one, and then what all came to. A bad
+scenario is kept beside its report in the folder that the line names; `soak.py PROGRAM SEED 1` runs it again, though maybe another way.
+"""
+import os
+import subprocess
+import sys
+import tempfile
+from collections import Counter
+from concurrent.futures import ProcessPoolExecutor
+
+sys.path.insert(0, os.path.join(os.path.dirname(os.path.abspath(__file__)), "..", "check"))
+
+import judge
+import replay
+from randoms import threaded_script
+from scenario import read
+
+SECONDS = 120
+
+
+def judged(status, text, printed):
+    """What is wrong with an answer, and its numbers of entries: all, and at least how many the drain made."""
+    scenario, full = read(text), None
+    if status == 6:
+        first, printed = printed.split("\n", 1)
+        full = first.removeprefix("log full ")
+    elif status:
+        return [f"status {status}"], (0, 0)
+    wrong = judge.faults(scenario, printed) if status == 0 else []
+    again, phase = replay.made_again(scenario, printed, full)
+    entries = int(printed.split("\n")[1].split()[1])
+    return wrong + again, (entries, entries - phase)
+
+
+def tried(program, seed):
+    text = threaded_script(seed)
+    try:
+        found = subprocess.run([program, "run"], input=text.encode(), capture_output=True, check=False, timeout=SECONDS)
+    except subprocess.TimeoutExpired:
+        return seed, "slow", [f"no answer in {SECONDS} seconds"], (0, 0)
+    wrong, entries = judged(found.returncode, text, found.stdout.decode())
+    if found.stderr:
+        wrong.append(f"it wrote an error: {found.stderr[:200]!r}")
+    if wrong:
+        keep(seed, text, found.stdout)
+    return seed, found.returncode, wrong, entries
+
+
+def keep(seed, text, printed):
+    folder = os.path.join(tempfile.gettempdir(), "am2-soak")
+    os.makedirs(folder, exist_ok=True)
+    for name, content in ((f"{seed}.am2", text.encode()), (f"{seed}.out", printed)):
+        with open(os.path.join(folder, name), "wb") as out:
+            out.write(content)
+    print(f"scenario {seed} and its report are kept in {folder}")
+
+
+def main(program, first=1, count=1000, jobs=None):
+    statuses, bad, all_entries, drained = Counter(), 0, 0, 0
+    with ProcessPoolExecutor(jobs) as pool:
+        for seed, status, wrong, (entries, by_drain) in pool.map(tried, [program] * count, range(first, first + count)):
+            statuses[status] += 1
+            all_entries += entries
+            drained += by_drain
+            if wrong:
+                bad += 1
+                print(f"scenario {seed}, status {status}: " + "; ".join(wrong), flush=True)
+    told = ", ".join(f"{times} with status {status}" for status, times in sorted(statuses.items(), key=str))
+    print(f"{count} runs: {told}; {all_entries} entries, {drained} of them by the drain; {bad} bad")
+    return 1 if bad else 0
+
+
+if __name__ == "__main__":
+    sys.exit(main(sys.argv[1], *(int(it) for it in sys.argv[2:5])))

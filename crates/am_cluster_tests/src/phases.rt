@@ -1,0 +1,180 @@
+// Runs whose threads, interfaces and drivers work at the same time. That two of them do, and that they make entries at all,
+// no clause says.
+ghost use Rattle.am_scenario_types.specs.Lawful.{IsLawful};
+ghost use Rattle.am_scenario_types.specs.declared.parts.Network.TheVariants.{Packet};
+ghost use Rattle.std.specs.Prelude.{◌≡◌, ◌≤◌, IfOk};
+
+use crate::gates::{Hold, HoldingGate, Moment, StepGate};
+use am_cluster::{Finished, OpenGate, run};
+use am_crew::make_phase;
+use am_entry_lines::entry_line;
+use am_office::{Actor, Entry, Event, Journal, NoMemory, accepted_of};
+use am_report::report;
+use am_scenario::{Form, Scenario, ScriptCall, generate, read};
+use std::alloc::{AllocError, Global};
+use std::test::Fail;
+
+/// Two clients on node 0 and a server on node 1, each with a thread that makes its calls.
+const CLIENTS: &str = "am2 1\nnetwork packet\nnodes 2\nframes 2\nchannels 2\nturns 1000\n\
+    endpoint 0 0 11\nendpoint 1 0 12\nendpoint 2 1 20\nthread 0 0\nthread 1 0\nthread 2 1\nplan 0 1 2 lose\n\
+    t0 handler 0 4 note\nt0 map 0 0 2 20 2\nt0 request 0 0 3 100 0 0 0\nt0 poll 0\n\
+    t1 handler 1 4 note\nt1 map 1 0 2 20 2\nt1 request 1 0 3 23 0 0 0\nt1 poll 1\n\
+    t2 handler 2 3 add 4\nt2 poll 2\nt2 poll 2\n";
+
+/// An interface and a driver on each node, with one turn.
+const ONE_NODE: &str = "am2 1\nnetwork packet\nnodes 1\nturns 1\nendpoint 0 0 5\n";
+
+const TWO_NODES: &str = "am2 1\nnetwork packet\nnodes 2\nturns 1\nendpoint 0 0 5\nendpoint 1 1 7\n";
+
+/// A thread that makes three calls, worker 0. Worker 1 is the interface, and worker 2 the driver.
+const ONE_THREAD: &str =
+    "am2 1\nnetwork packet\nnodes 1\nturns 4\nendpoint 0 0 5\nendpoint 1 0 7\nthread 0 0\n\
+    t0 handler 1 1 note\nt0 map 0 0 1 7 1\nt0 request 0 0 1 9 0 0 0\n";
+
+/// What these three make of it, each in its turn.
+const FIRST_FIVE: &str =
+    "t0 handler 1 1 note -> ok\nt0 map 0 0 1 7 1 -> ok\nt0 request 0 0 1 9 0 0 0 -> ok 0.1\n\
+    d0 load 0 0\ni0 bind 0 -> sent 0.1 0 0 1 0 1\n";
+
+const fn hold(worker: u32, turn: u32, other: u32, its_turn: u32) -> Hold {
+    Hold {
+        held: Moment { worker, turn },
+        until: Moment {
+            worker: other,
+            turn: its_turn,
+        },
+    }
+}
+
+/// The calls of a thread's script, in order.
+fn scripted(
+    alloc: Global,
+    thread: u8,
+    script: &[ScriptCall],
+) -> Result<Vec<ScriptCall>, AllocError> {
+    let mut calls = Vec::new(alloc);
+    for call in script {
+        if call.thread == thread {
+            calls.push(*call)?;
+        }
+    }
+    Ok(calls)
+}
+
+/// The calls of a thread that a journal has, in order.
+fn made(alloc: Global, thread: u8, entries: &[Entry]) -> Result<Vec<ScriptCall>, AllocError> {
+    let mut calls = Vec::new(alloc);
+    for entry in entries {
+        if let Event::Call { actor, end, call } = entry.event
+            && actor == Actor::Thread(thread)
+        {
+            calls.push(ScriptCall {
+                thread,
+                endpoint: end,
+                call,
+            })?;
+        }
+    }
+    Ok(calls)
+}
+
+/// The number of accepted messages.
+fn accepted(entries: &[Entry]) -> usize {
+    let mut count = 0usize;
+    for entry in entries {
+        if accepted_of(entry).is_some() {
+            count = count.saturating_add(1);
+        }
+    }
+    count
+}
+
+/// The numbers of fates that a journal's report tells, and of those that say pending.
+fn fates_told(alloc: Global, journal: &Journal) -> Result<(usize, usize), Fail> {
+    let text = String::from_utf8(report(alloc, &[], journal)?)?;
+    let mut told = 0usize;
+    let mut pending = 0usize;
+    for line in text.lines() {
+        if line.starts_with("fate ") {
+            told = told.saturating_add(1);
+        }
+        if line.starts_with("fate ") && line.ends_with(" pending") {
+            pending = pending.saturating_add(1);
+        }
+    }
+    Ok((told, pending))
+}
+
+/// Whether each thread made the calls of its script in order, and each accepted message has a fate that is told.
+fn is_whole(alloc: Global, scenario: &Scenario, finished: &Finished) -> Result<bool, Fail> {
+    let entries = finished.journal.entries.as_slice();
+    for thread in &scenario.threads {
+        let wanted = scripted(alloc, thread.id, &scenario.script)?;
+        let calls = made(alloc, thread.id, entries)?;
+        if calls.as_slice() != wanted.as_slice() {
+            return Ok(false);
+        }
+    }
+    Ok(fates_told(alloc, &finished.journal)? == (accepted(entries), 0))
+}
+
+#[test]
+fn clients_and_a_server_work_at_the_same_time(rt: HostRuntime) -> Result<(), Fail> {
+    let scenario = read(rt.alloc(), Form::Run, CLIENTS.as_bytes())?;
+    let finished = run(&rt, rt.alloc(), &scenario, &OpenGate)?;
+    assert!(rt; is_whole(rt.alloc(), &scenario, &finished)?);
+    Ok(())
+}
+
+#[test]
+fn two_workers_hold_each_other(rt: HostRuntime) -> Result<(), Fail> {
+    for (text, other) in [(ONE_NODE, 1), (TWO_NODES, 2)] {
+        let holds = [hold(0, 0, other, 0), hold(other, 0, 0, 0)];
+        let gate = HoldingGate::new(&holds);
+        let scenario = read(rt.alloc(), Form::Run, text.as_bytes())?;
+        assert!(rt; run(&rt, rt.alloc(), &scenario, &gate).is_ok());
+        assert!(rt; gate.held_in_vain() == 0, "worker {other}");
+    }
+    Ok(())
+}
+
+#[test]
+fn thread_driver_and_interface_make_the_first_entries(rt: HostRuntime) -> Result<(), Fail> {
+    let holds = [hold(2, 0, 0, 3), hold(1, 0, 2, 3), hold(2, 3, 1, 3)];
+    let gate = HoldingGate::new(&holds);
+    let scenario = read(rt.alloc(), Form::Run, ONE_THREAD.as_bytes())?;
+    let finished = run(&rt, rt.alloc(), &scenario, &gate)?;
+    assert!(rt; gate.held_in_vain() == 0);
+    let mut lines = Vec::new(rt.alloc());
+    for entry in finished.journal.entries.iter().take(5) {
+        entry_line(entry, &mut lines)?;
+    }
+    assert!(rt; lines.as_slice() == FIRST_FIVE.as_bytes());
+    Ok(())
+}
+
+/// The made workload with a number of turns, 0 to 10,000.
+fn workload(alloc: Global, turns: u32) -> Result<Scenario, NoMemory>
+    requires turns { turns ≤ 10_000 }
+    ensures lawful { IfOk result IsLawful }
+    ensures packet { IfOk result (λ scenario. scenario.network ≡ Packet) }
+{
+    let scenario = generate(alloc, 0)?;
+    Ok(Scenario { turns, ..scenario })
+}
+
+/// The made workload has 16 workers: eight threads, and an interface and a driver on each of four nodes. Kept in step they make more entries
+/// than the drain has to make after them.
+#[test]
+fn most_entries_are_made_in_the_phase(rt: HostRuntime) -> Result<(), Fail> {
+    let scenario = workload(rt.alloc(), 1000)?;
+    let gate = StepGate::new(&rt, 16);
+    let phase = make_phase(&rt, rt.alloc(), &scenario, &gate)?;
+    let by_workers = phase.journal(rt.alloc())?.entries.len();
+    let gate = StepGate::new(&rt, 16);
+    let finished = run(&rt, rt.alloc(), &scenario, &gate)?;
+    let all = finished.journal.entries.len();
+    assert!(rt; by_workers > all / 2, "{by_workers} of {all}");
+    assert!(rt; is_whole(rt.alloc(), &scenario, &finished)?);
+    Ok(())
+}
