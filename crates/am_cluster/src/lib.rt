@@ -27,8 +27,8 @@ mod reads;
 mod scripted;
 mod threads;
 
-pub use am_crew::{Gate, OpenGate};
 use am_crew::make_phase;
+pub use am_crew::{Gate, OpenGate};
 use am_machine::{Cluster, NoMemory};
 use am_office::{Journal, Part};
 use am_run_laws::{
@@ -199,11 +199,7 @@ pub fn alone(alloc: Global, scenario: &Scenario) -> Result<Finished, RunFault>
 }
 
 /// How many calls each thread made in the journal of a cluster, in the order of the threads.
-fn calls_made(
-    alloc: Global,
-    scenario: &Scenario,
-    cluster: &Cluster,
-) -> Result<Vec<u32>, NoMemory>
+fn calls_made(alloc: Global, scenario: &Scenario, cluster: &Cluster) -> Result<Vec<u32>, NoMemory>
     requires lawful { IsLawful scenario.now }
     requires packet { scenario.now.network ≡ Packet }
     requires layout { cluster.now.layout ≡ layout_of scenario.now }
