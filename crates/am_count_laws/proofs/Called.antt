@@ -1,0 +1,179 @@
+-- The calls that the threads make are those of the scripts.
+use Rattle.std.proofs.Common.{◌≡◌, ℕ, zero, suc, ◌+◌, ◌%◌, ◌<◌, ◌≤◌, Bool, true, false, ◌&&◌, ◌||◌, Option, Some, None, List, [], ◌∷◌, ◌++◌, refl, sym, ap, ◌∙◌, subst, length, count_by, filter_map, nat_lt, if◌then◌else◌, arith}
+use Rattle.std.specs.Prelude.{◌==◌, filter}
+use Rattle.std.specs.List.{All, AllByRecursion, Contains, cons_option, list_all, list_any}
+use Rattle.std.proofs.lemmas.Bool.Decides.{nat_tests}
+use Rattle.std.proofs.lemmas.List.Elements.{All-contains, All-from_recursion, Contains-append_left, Contains-push}
+use Rattle.std.proofs.lemmas.List.Folds.{list_any-append}
+use Rattle.std.proofs.lemmas.List.Sums.{sum_by-append, sum_by-cons, sum_by-le-sum_by}
+use Rattle.am_office.specs.declared.Actor.{Actor}
+use Rattle.am_office.specs.declared.Actor.TheVariants.{Thread, Outside}
+use Rattle.am_office.specs.declared.Call.{Call}
+use Rattle.am_office.specs.declared.Call.TheVariants as Calls
+use Rattle.am_office.specs.declared.Event.{Event}
+use Rattle.am_office.specs.declared.Event.TheVariants as Events
+use Rattle.am_office.specs.declared.Entry.{Entry}
+use Rattle.am_scenario_types.specs.declared.parts.ScriptCall.{ScriptCall}
+use Rattle.am_scenario_types.specs.declared.parts.ThreadLine.{ThreadLine}
+use Rattle.am_scripts.specs.Scripts.{KeepsScripts, call_made, calls_of, is_of_thread, script_of}
+use Rattle.am_scripts.specs.Follows.{KeepsToEvents, is_of_run, is_thread}
+use Rattle.am_words.specs.declared.codes.CodedWord.{CodedWord}
+use Rattle.am_job.specs.Rounds.{scenario, thread_line, threads_below}
+use Rattle.am_job.specs.Scripts.{script}
+use Rattle.am_count_laws.proofs.Injected.{count_cons, weight}
+
+abbrev pub made : Entry → Option ScriptCall
+made x = call_made x.event
+
+-- ---- the threads
+
+any_below : (n t : ℕ) → list_any (λ (l : ThreadLine). l.id == t) (threads_below n) ≡ true → t < n
+unfolding threads_below
+any_below zero t h = absurd (cc)
+any_below (suc n) t h = by_test (any_below n t) (list_any (λ (l : ThreadLine). l.id == t) (threads_below n)) refl (sym (list_any-append (λ (l : ThreadLine). l.id == t) (threads_below n) (thread_line n ∷ [])) ∙ h)
+  where
+    last : (b : Bool) → (n == t) ≡ b → (b || false) ≡ true → t < suc n
+    last true is h = let same : n ≡ t = grind (arith, nat_tests) in omega arith
+    last false is h = absurd (cc)
+
+    by_test : (list_any (λ (l : ThreadLine). l.id == t) (threads_below n) ≡ true → t < n) → (b : Bool) → list_any (λ (l : ThreadLine). l.id == t) (threads_below n) ≡ b → (b || ((n == t) || false)) ≡ true → t < suc n
+    by_test lower true is h = let less : t < n = lower is in omega arith
+    by_test lower false is h = last (n == t) refl h
+
+has_thread : (w n : ℕ) → n < w → Contains (threads_below w) (thread_line n)
+unfolding threads_below
+has_thread zero n less = absurd (omega arith)
+has_thread (suc w) n less = by_place (λ (below : n < w). has_thread w n below) (nat_lt n w) refl
+  where
+    by_place : (n < w → Contains (threads_below w) (thread_line n)) → (b : Bool) → nat_lt n w ≡ b → Contains (threads_below w ++ thread_line w ∷ []) (thread_line n)
+    by_place lower true is = let below : n < w = grind (arith, nat_tests) in Contains-append_left (threads_below w) (thread_line w ∷ []) (thread_line n) (lower below)
+    by_place lower false is =
+        let same : w ≡ n = grind (arith, nat_tests) in
+        subst (λ (k : ℕ). Contains (threads_below w ++ thread_line w ∷ []) (thread_line k)) same (Contains-push (threads_below w) (thread_line w))
+
+-- ---- the calls of the threads below a number
+
+abbrev part : (ScriptCall → Bool) → ℕ → List ScriptCall → ℕ
+part q n calls = count_by (λ (c : ScriptCall). q c && nat_lt c.thread n) calls
+
+not_below : (t : ℕ) → nat_lt t 0 ≡ false
+not_below t = grind (arith, nat_tests)
+
+and_no : (a b : Bool) → b ≡ false → weight (a && b) ≡ 0
+and_no true b is = ap weight is
+and_no false b is = refl
+
+part_none : (q : ScriptCall → Bool) (calls : List ScriptCall) → part q 0 calls ≡ 0
+part_none q [] = refl
+part_none q (c ∷ calls) = omega (arith, count_cons (λ (d : ScriptCall). q d && nat_lt d.thread 0) c calls, and_no (q c) (nat_lt c.thread 0) (not_below c.thread), part_none q calls)
+
+one_point : (t n : ℕ) → weight (nat_lt t (n + 1)) ≡ weight (nat_lt t n) + (if n == t then 1 else 0)
+one_point t n = grind (arith, nat_tests)
+
+no_point : (b : Bool) → ◌≡◌ {A = ℕ} 0 (0 + (if b then 0 else 0))
+no_point true = refl
+no_point false = refl
+
+point : (a : Bool) (t n : ℕ) → weight (a && nat_lt t (n + 1)) ≡ weight (a && nat_lt t n) + (if n == t then weight a else 0)
+point true t n = one_point t n
+point false t n = no_point (n == t)
+
+count_filter : (q p : ScriptCall → Bool) (c : ScriptCall) (calls : List ScriptCall) (b : Bool) → p c ≡ b → count_by q (filter p (c ∷ calls)) ≡ (if b then weight (q c) else 0) + count_by q (filter p calls)
+count_filter q p c calls true is = rw is (count_cons q c (filter p calls))
+count_filter q p c calls false is = rw is (omega arith)
+
+part_more : (q : ScriptCall → Bool) (n : ℕ) (calls : List ScriptCall) → part q (n + 1) calls ≡ part q n calls + count_by q (filter (is_of_thread n) calls)
+part_more q n [] = refl
+part_more q n (c ∷ calls) =
+    omega (
+      arith,
+      count_cons (λ (d : ScriptCall). q d && nat_lt d.thread (n + 1)) c calls,
+      count_cons (λ (d : ScriptCall). q d && nat_lt d.thread n) c calls,
+      count_filter q (is_of_thread n) c calls (n == c.thread) refl,
+      point (q c) c.thread n,
+      part_more q n calls,
+    )
+
+parts_same : (q : ScriptCall → Bool) (w n : ℕ) (calls others : List ScriptCall) → ((t : ℕ) → t < w → filter (is_of_thread t) calls ≡ filter (is_of_thread t) others) → n ≤ w → part q n calls ≡ part q n others
+parts_same q w zero calls others same few = part_none q calls ∙ sym (part_none q others)
+parts_same q w (suc n) calls others same few =
+    let one : n + 1 ≡ suc n = omega arith in
+    let here : count_by q (filter (is_of_thread n) calls) ≡ count_by q (filter (is_of_thread n) others) = ap (λ (l : List ScriptCall). count_by q l) (same n (omega arith)) in
+    let next : part q (n + 1) calls ≡ part q (n + 1) others = omega (arith, part_more q n calls, part_more q n others, here, parts_same q w n calls others same (omega arith)) in
+    subst (λ (k : ℕ). part q k calls ≡ part q k others) one next
+
+and_less : (a b : Bool) → weight (a && b) ≤ weight a
+and_less true true = omega arith
+and_less true false = omega arith
+and_less false b = omega arith
+
+part_less : (q : ScriptCall → Bool) (n : ℕ) (calls : List ScriptCall) → part q n calls ≤ count_by q calls
+part_less q n calls = sum_by-le-sum_by (λ (c : ScriptCall). if q c && nat_lt c.thread n then 1 else 0) (λ (c : ScriptCall). if q c then 1 else 0) calls (λ (c : ScriptCall). and_less (q c) (nat_lt c.thread n))
+
+-- ---- every call is of a thread of the round
+
+both_true : (a b : Bool) → (a && b) ≡ true → (a ≡ true) × (b ≡ true)
+both_true true true h = (refl, refl)
+both_true true false h = absurd (cc)
+both_true false b h = absurd (cc)
+
+lt_yes : (t w : ℕ) → t < w → nat_lt t w ≡ true
+lt_yes t w less = grind (arith, nat_tests)
+
+abbrev thread_in : ℕ → Option ScriptCall → ℕ
+thread_in other None = other
+thread_in other (Some c) = c.thread
+
+thread_low : (w turns : ℕ) (words : List CodedWord) (event : Event) (c : ScriptCall) → is_of_run (scenario w turns words) event ≡ true → call_made event ≡ Some c → nat_lt c.thread w ≡ true
+unfolding scenario
+thread_low w turns words (Events.Call (Thread t) end call) c run is =
+    let same : t ≡ c.thread = ap (λ (o : Option ScriptCall). thread_in t o) is in
+    subst (λ (k : ℕ). nat_lt k w ≡ true) same (lt_yes t w (any_below w t run))
+thread_low w turns words (Events.Call Outside end call) c run is = absurd (cc)
+thread_low w turns words (Events.Want actor end) c run is = absurd (cc)
+thread_low w turns words (Events.Carry end) c run is = absurd (cc)
+thread_low w turns words (Events.Bind node end) c run is = absurd (cc)
+thread_low w turns words (Events.Expire node peer channel) c run is = absurd (cc)
+thread_low w turns words (Events.Receive node peer number) c run is = absurd (cc)
+thread_low w turns words (Events.Drain node end) c run is = absurd (cc)
+thread_low w turns words (Events.Unload node end) c run is = absurd (cc)
+thread_low w turns words (Events.Load node end frame) c run is = absurd (cc)
+thread_low w turns words (Events.PageOut node end) c run is = absurd (cc)
+thread_low w turns words (Events.PageIn node end) c run is = absurd (cc)
+
+and_yes : (a b : Bool) → b ≡ true → weight (a && b) ≡ weight a
+and_yes true b is = ap weight is
+and_yes false b is = refl
+
+part_whole : (w turns : ℕ) (words : List CodedWord) (q : ScriptCall → Bool) (journal : List Entry) → list_all (λ (x : Entry). is_of_run (scenario w turns words) x.event) journal ≡ true → part q w (filter_map made journal) ≡ count_by q (filter_map made journal)
+part_whole w turns words q [] run = refl
+part_whole w turns words q (x ∷ journal) run =
+    let parts = both_true (is_of_run (scenario w turns words) x.event) (list_all (λ (x : Entry). is_of_run (scenario w turns words) x.event) journal) run in
+    by_call (made x) refl parts.0 (part_whole w turns words q journal parts.1)
+  where
+    by_call : (o : Option ScriptCall) → made x ≡ o → is_of_run (scenario w turns words) x.event ≡ true → part q w (filter_map made journal) ≡ count_by q (filter_map made journal) → part q w (cons_option (made x) (filter_map made journal)) ≡ count_by q (cons_option (made x) (filter_map made journal))
+    by_call None is own so_far = subst (λ (o : Option ScriptCall). part q w (cons_option o (filter_map made journal)) ≡ count_by q (cons_option o (filter_map made journal))) (sym is) so_far
+    by_call (Some c) is own so_far =
+        subst (λ (o : Option ScriptCall). part q w (cons_option o (filter_map made journal)) ≡ count_by q (cons_option o (filter_map made journal))) (sym is)
+        (omega (
+          arith,
+          count_cons (λ (d : ScriptCall). q d && nat_lt d.thread w) c (filter_map made journal),
+          count_cons q c (filter_map made journal),
+          and_yes (q c) (nat_lt c.thread w) (thread_low w turns words x.event c own is),
+          so_far,
+        ))
+
+-- no calls pass more often in the journal than in the script
+pub calls_few : (w turns : ℕ) (words : List CodedWord) (journal : List Entry) → KeepsScripts (scenario w turns words) journal → KeepsToEvents (scenario w turns words) journal → (q : ScriptCall → Bool) → count_by q (filter_map made journal) ≤ count_by q (scenario w turns words).script
+unfolding scenario
+calls_few w turns words journal scripts events q =
+    let all : All (λ (t : ThreadLine). calls_of t.id journal ≡ script_of (scenario w turns words) t.id) (threads_below w) =
+    All-from_recursion (λ (t : ThreadLine). calls_of t.id journal ≡ script_of (scenario w turns words) t.id) (threads_below w) scripts in
+    let same : (t : ℕ) → t < w → filter (is_of_thread t) (filter_map made journal) ≡ filter (is_of_thread t) (script w words) =
+    λ (t : ℕ) (less : t < w). All-contains (λ (l : ThreadLine). calls_of l.id journal ≡ script_of (scenario w turns words) l.id) (threads_below w) (thread_line t) all (has_thread w t less) in
+    omega (
+      arith,
+      part_whole w turns words q journal events,
+      parts_same q w w (filter_map made journal) (script w words) same (omega arith),
+      part_less q w (script w words),
+    )

@@ -1,0 +1,4 @@
+pub mod Injected
+pub mod Noted
+pub mod Called
+pub mod Rounds

@@ -1,0 +1,355 @@
+-- A round's scenario is lawful.
+use Rattle.std.proofs.Common.{◌≡◌, ◌≢◌, ℕ, zero, suc, ◌+◌, ◌-◌, ◌*◌, ◌/◌, ◌%◌, ◌^◌, ◌<◌, ◌≤◌, Bool, true, false, List, [], ◌∷◌, ◌++◌, length, take, drop, Option, Some, None, refl, sym, ap, ◌∙◌, subst, ⊎_elim, arith, length-append}
+use Rattle.std.specs.Prelude.{◌==◌, find, count_by, if◌then◌else◌, IsSome, min}
+use Rattle.std.specs.List.{All, AllPairs}
+use Rattle.std.specs.Option.{option_map, option_or}
+use Rattle.std.proofs.Math.Nat.{mul-le-mul_left}
+use Rattle.std.proofs.lemmas.Bool.{cases_lt}
+use Rattle.std.proofs.lemmas.Bool.Decides.{nat_tests}
+use Rattle.std.proofs.lemmas.List.{length_push, length-take}
+use Rattle.std.proofs.lemmas.List.Elements.{All-nil, All-cons, All-head, All-tail, All-push, All-append, All-weaker, All-take, All-drop}
+use Rattle.std.proofs.lemmas.List.Quantifiers.{all_pairs_push}
+use Rattle.std.proofs.lemmas.List.Folds.{find-append}
+use Rattle.std.proofs.lemmas.List.Sums.{sum_by_push, count_by-le-length}
+use Rattle.am_names.specs.declared.EndpointId.{EndpointId}
+use Rattle.am_names.specs.declared.NodeId.{NodeId}
+use Rattle.am_office.specs.declared.Call.{Call}
+use Rattle.am_office.specs.declared.Call.TheVariants.{Request, Poll, SetHandler}
+use Rattle.am_office.specs.declared.HandlerKind.TheVariants.{Note}
+use Rattle.am_plan.specs.declared.plan.PlanLine.{PlanLine}
+use Rattle.am_scenario_types.specs.declared.parts.Form.TheVariants.{Run}
+use Rattle.am_scenario_types.specs.declared.parts.Network.TheVariants.{Packet}
+use Rattle.am_scenario_types.specs.declared.parts.EndLine.{EndLine}
+use Rattle.am_scenario_types.specs.declared.parts.FaultLine.{FaultLine}
+use Rattle.am_scenario_types.specs.declared.parts.ThreadLine.{ThreadLine}
+use Rattle.am_scenario_types.specs.declared.parts.ScriptCall.{ScriptCall}
+use Rattle.am_scenario_types.specs.Lawful.{node_of, thread_node, IsDeclared, IsOn, IsLawfulEnd, IsLawfulBundle, IsLawfulThread, IsLawfulPlanLine, IsSamePlace, IsLawfulFaultLine, IsSamePageCall, IsLawfulCall, IsLawfulScriptCall, IsLawfulEvent, IsLawful, IsOfForm}
+use Rattle.am_words.specs.declared.codes.CodedWord.{CodedWord}
+use Rattle.am_words.specs.Codes.{Fits}
+use Rattle.am_job.specs.Scripts.{call_on, map_to, maps_below, on_owner, on_sender, opening, openings_below, owner, polls, script, sending, sendings}
+use Rattle.am_job.specs.Rounds.{end_line, ends_below, round_at, round_size, round_words, scenario, thread_line, threads_below}
+
+-- ---- tests and lists
+
+eq_yes : (a b : ℕ) → a ≡ b → (a == b) ≡ true
+eq_yes a b e = grind (arith, nat_tests)
+
+eq_no : (a b : ℕ) → a < b → (a == b) ≡ false
+eq_no a b e = grind (arith, nat_tests)
+
+is_same : (a b : ℕ) → (a == b) ≡ true → a ≡ b
+is_same a b e = grind (arith, nat_tests)
+
+pairs_more : {A : Type 0} (R : A → A → Type 0) (xs : List A) (x : A) → AllPairs R xs → All (λ y. R y x) xs → AllPairs R (xs ++ x ∷ [])
+pairs_more R xs x pairs all = all_pairs_push R xs x pairs (λ k d below. all k d below)
+
+no_pairs : {A : Type 0} (R : A → A → Type 0) → AllPairs R []
+no_pairs R i j d below within = absurd (omega arith)
+
+-- ---- endpoints and threads
+
+ends_all : (w n : ℕ) → w ≤ 8 → n ≤ 2 * w → All (IsLawfulEnd Packet w) (ends_below n)
+unfolding ends_below
+ends_all w zero few small = All-nil (IsLawfulEnd Packet w)
+ends_all w (suc n) few small =
+    All-push (IsLawfulEnd Packet w) (ends_below n) (end_line n) (ends_all w n few (omega arith))
+    (record { id = omega arith; node = omega arith; tag = omega arith; disk = λ h. absurd (cc) })
+
+ends_keys : (n : ℕ) → All (λ end. end.id.0 < n) (ends_below n)
+unfolding ends_below
+ends_keys zero = All-nil (λ end. end.id.0 < 0)
+ends_keys (suc n) =
+    All-push (λ end. end.id.0 < suc n) (ends_below n) (end_line n) (All-weaker (λ end. end.id.0 < n) (λ end. end.id.0 < suc n) (λ end l. omega arith) (ends_below n) (ends_keys n)) (omega arith)
+
+ends_rising : (n : ℕ) → AllPairs (λ a b. a.id.0 < b.id.0) (ends_below n)
+unfolding ends_below
+ends_rising zero = no_pairs (λ a b. a.id.0 < b.id.0)
+ends_rising (suc n) = pairs_more (λ a b. a.id.0 < b.id.0) (ends_below n) (end_line n) (ends_rising n) (ends_keys n)
+
+ends_length : (n : ℕ) → length (ends_below n) ≡ n
+unfolding ends_below
+ends_length zero = refl
+ends_length (suc n) = omega (arith, length_push (ends_below n) (end_line n), ends_length n)
+
+threads_all : (w n : ℕ) → w ≤ 8 → n ≤ w → All (IsLawfulThread w) (threads_below n)
+unfolding threads_below
+threads_all w zero few small = All-nil (IsLawfulThread w)
+threads_all w (suc n) few small = All-push (IsLawfulThread w) (threads_below n) (thread_line n) (threads_all w n few (omega arith)) (record { id = omega arith; node = omega arith })
+
+threads_keys : (n : ℕ) → All (λ thread. thread.id < n) (threads_below n)
+unfolding threads_below
+threads_keys zero = All-nil (λ thread. thread.id < 0)
+threads_keys (suc n) =
+    All-push (λ thread. thread.id < suc n) (threads_below n) (thread_line n) (All-weaker (λ thread. thread.id < n) (λ thread. thread.id < suc n) (λ thread l. omega arith) (threads_below n) (threads_keys n)) (omega arith)
+
+threads_rising : (n : ℕ) → AllPairs (λ a b. a.id < b.id) (threads_below n)
+unfolding threads_below
+threads_rising zero = no_pairs (λ a b. a.id < b.id)
+threads_rising (suc n) = pairs_more (λ a b. a.id < b.id) (threads_below n) (thread_line n) (threads_rising n) (threads_keys n)
+
+-- each node has one thread
+counted : (node n : ℕ) → count_by (λ thread. thread.node.0 == node) (threads_below n ++ thread_line n ∷ []) ≡ count_by (λ thread. thread.node.0 == node) (threads_below n) + (if n == node then 1 else 0)
+counted node n = sum_by_push (λ thread. if thread.node.0 == node then 1 else 0) (threads_below n) (thread_line n)
+
+none_yet : (node n : ℕ) → n ≤ node → count_by (λ thread. thread.node.0 == node) (threads_below n) ≡ 0
+unfolding threads_below
+none_yet node zero before = refl
+none_yet node (suc n) before =
+    let other : (n == node) ≡ false = eq_no n node (omega arith) in
+    counted node n ∙ rw other (omega (arith, none_yet node n (omega arith)))
+
+one_more : (node n : ℕ) (b : Bool) → (n == node) ≡ b → count_by (λ thread. thread.node.0 == node) (threads_below n) ≤ 1 → count_by (λ thread. thread.node.0 == node) (threads_below n) + (if b then 1 else 0) ≤ 1
+one_more node n true e most = let at : n ≡ node = is_same n node e in omega (arith, none_yet node n (omega arith))
+one_more node n false e most = omega arith
+
+one_thread : (node n : ℕ) → count_by (λ thread. thread.node.0 == node) (threads_below n) ≤ 1
+unfolding threads_below
+one_thread node zero = omega arith
+one_thread node (suc n) = omega (arith, counted node n, one_more node n (n == node) refl (one_thread node n))
+
+-- ---- declared
+
+option_or_some : (o other : Option EndLine) (node : NodeId) → option_map (λ end. end.node) o ≡ Some node → option_map (λ end. end.node) (option_or o other) ≡ Some node
+option_or_some (Some end) other node h = h
+option_or_some None other node h = absurd (cc)
+
+no_end : (id : EndpointId) (n : ℕ) → n ≤ id.0 → find (λ end. end.id.0 == id.0) (ends_below n) ≡ None
+unfolding ends_below
+no_end id zero le = refl
+no_end id (suc n) le =
+    let other : (n == id.0) ≡ false = eq_no n id.0 (omega arith) in
+    find-append (λ end. end.id.0 == id.0) (ends_below n) (end_line n ∷ [])
+    ∙ (ap (λ (o : Option EndLine). option_or o (find (λ end. end.id.0 == id.0) (end_line n ∷ []))) (no_end id n (omega arith))
+    ∙ ap (λ (b : Bool). if b then Some (end_line n) else None) other)
+
+the_end : (id : EndpointId) (n : ℕ) → id.0 ≡ n → node_of (ends_below n ++ end_line n ∷ []) id ≡ Some (record { 0 = n / 2 })
+the_end id n e =
+    let same : (n == id.0) ≡ true = eq_yes n id.0 (sym e) in
+    ap (λ (o : Option EndLine). option_map (λ end. end.node) o)
+    (find-append (λ end. end.id.0 == id.0) (ends_below n) (end_line n ∷ [])
+    ∙ (ap (λ (o : Option EndLine). option_or o (find (λ end. end.id.0 == id.0) (end_line n ∷ []))) (no_end id n (omega arith))
+    ∙ ap (λ (b : Bool). if b then Some (end_line n) else None) same))
+
+end_before : (id : EndpointId) (n : ℕ) (node : NodeId) → node_of (ends_below n) id ≡ Some node → node_of (ends_below n ++ end_line n ∷ []) id ≡ Some node
+end_before id n node h =
+    ap (λ (o : Option EndLine). option_map (λ end. end.node) o) (find-append (λ end. end.id.0 == id.0) (ends_below n) (end_line n ∷ []))
+    ∙ option_or_some (find (λ end. end.id.0 == id.0) (ends_below n)) (find (λ end. end.id.0 == id.0) (end_line n ∷ [])) node h
+
+-- a number below the count is declared, on its node
+end_there : (id : EndpointId) (n : ℕ) → id.0 < n → node_of (ends_below n) id ≡ Some (record { 0 = id.0 / 2 })
+unfolding ends_below
+end_there id zero less = absurd (omega arith)
+end_there id (suc n) less =
+    ⊎_elim (λ (l : id.0 < n). end_before id n (record { 0 = id.0 / 2 }) (end_there id n l))
+    (λ (l : n ≤ id.0). let e : id.0 ≡ n = omega arith in subst (λ (k : ℕ). node_of (ends_below n ++ end_line n ∷ []) id ≡ Some (record { 0 = k / 2 })) (sym e) (the_end id n e))
+    (cases_lt id.0 n)
+
+thread_or_some : (o other : Option ThreadLine) (node : NodeId) → option_map (λ thread. thread.node) o ≡ Some node → option_map (λ thread. thread.node) (option_or o other) ≡ Some node
+thread_or_some (Some thread) other node h = h
+thread_or_some None other node h = absurd (cc)
+
+no_thread : (id n : ℕ) → n ≤ id → find (λ thread. thread.id == id) (threads_below n) ≡ None
+unfolding threads_below
+no_thread id zero le = refl
+no_thread id (suc n) le =
+    let other : (n == id) ≡ false = eq_no n id (omega arith) in
+    find-append (λ thread. thread.id == id) (threads_below n) (thread_line n ∷ [])
+    ∙ (ap (λ (o : Option ThreadLine). option_or o (find (λ thread. thread.id == id) (thread_line n ∷ []))) (no_thread id n (omega arith))
+    ∙ ap (λ (b : Bool). if b then Some (thread_line n) else None) other)
+
+the_thread : (id n : ℕ) → id ≡ n → thread_node (threads_below n ++ thread_line n ∷ []) id ≡ Some (record { 0 = n })
+the_thread id n e =
+    let same : (n == id) ≡ true = eq_yes n id (sym e) in
+    ap (λ (o : Option ThreadLine). option_map (λ thread. thread.node) o)
+    (find-append (λ thread. thread.id == id) (threads_below n) (thread_line n ∷ [])
+    ∙ (ap (λ (o : Option ThreadLine). option_or o (find (λ thread. thread.id == id) (thread_line n ∷ []))) (no_thread id n (omega arith))
+    ∙ ap (λ (b : Bool). if b then Some (thread_line n) else None) same))
+
+thread_before : (id n : ℕ) (node : NodeId) → thread_node (threads_below n) id ≡ Some node → thread_node (threads_below n ++ thread_line n ∷ []) id ≡ Some node
+thread_before id n node h =
+    ap (λ (o : Option ThreadLine). option_map (λ thread. thread.node) o) (find-append (λ thread. thread.id == id) (threads_below n) (thread_line n ∷ []))
+    ∙ thread_or_some (find (λ thread. thread.id == id) (threads_below n)) (find (λ thread. thread.id == id) (thread_line n ∷ [])) node h
+
+thread_there : (id n : ℕ) → id < n → thread_node (threads_below n) id ≡ Some (record { 0 = id })
+unfolding threads_below
+thread_there id zero less = absurd (omega arith)
+thread_there id (suc n) less =
+    ⊎_elim (λ (l : id < n). thread_before id n (record { 0 = id }) (thread_there id n l))
+    (λ (l : n ≤ id). let e : id ≡ n = omega arith in subst (λ (k : ℕ). thread_node (threads_below n ++ thread_line n ∷ []) id ≡ Some (record { 0 = k })) (sym e) (the_thread id n e))
+    (cases_lt id n)
+
+-- ---- calls
+
+abbrev pub IsMade : ℕ → ScriptCall → Type 0
+IsMade w made = IsLawfulScriptCall (ends_below (2 * w)) (threads_below w) 1 made
+
+-- a thread's lawful call on an endpoint of its node
+a_call : (w n end : ℕ) (call : Call) → n < w → end / 2 ≡ n → end < 2 * w → IsLawfulCall (ends_below (2 * w)) 1 call → IsMade w (call_on n end call)
+a_call w n end call t same e lawful =
+    let on : IsOn (ends_below (2 * w)) (record { 0 = end / 2 }) (record { 0 = end }) = end_there (record { 0 = end }) (2 * w) e in
+    record {
+      placed = (record { 0 = n }, (thread_there n w t, subst (λ (k : ℕ). IsOn (ends_below (2 * w)) (record { 0 = k }) (record { 0 = end })) same on));
+      call = lawful;
+    }
+
+owners_call : (w n : ℕ) (call : Call) → n < w → IsLawfulCall (ends_below (2 * w)) 1 call → IsMade w (on_owner n call)
+owners_call w n call t lawful = a_call w n (2 * n + 1) call t (omega arith) (omega arith) lawful
+
+senders_call : (w n : ℕ) (call : Call) → n < w → IsLawfulCall (ends_below (2 * w)) 1 call → IsMade w (on_sender n call)
+senders_call w n call t lawful = a_call w n (2 * n) call t (omega arith) (omega arith) lawful
+
+is_declared : (w name : ℕ) → name < 2 * w → IsDeclared (ends_below (2 * w)) (record { 0 = name })
+is_declared w name small = subst (λ (o : Option NodeId). IsSome o) (sym (end_there (record { 0 = name }) (2 * w) small)) refl
+
+a_map : (w k : ℕ) → w ≤ 8 → k < w → IsLawfulCall (ends_below (2 * w)) 1 (map_to k)
+a_map w k few below = (omega arith, is_declared w (2 * k + 1) (omega arith), omega arith, (omega arith, omega arith))
+
+some_maps : (w n k : ℕ) → w ≤ 8 → n < w → k ≤ w → All (IsMade w) (maps_below n k)
+unfolding maps_below
+some_maps w n zero few t within = All-nil (IsMade w)
+some_maps w n (suc k) few t within =
+    All-push (IsMade w) (maps_below n k) (on_sender n (map_to k)) (some_maps w n k few t (omega arith)) (senders_call w n (map_to k) t (a_map w k few (omega arith)))
+
+an_opening : (w n : ℕ) → w ≤ 8 → n < w → All (IsMade w) (opening w n)
+unfolding opening
+an_opening w n few t =
+    All-cons (IsMade w) (on_owner n (SetHandler 1 Note)) (maps_below n w) (owners_call w n (SetHandler 1 Note) t (omega arith, tt)) (some_maps w n w few t (omega arith))
+
+all_openings : (w n : ℕ) → w ≤ 8 → n ≤ w → All (IsMade w) (openings_below w n)
+unfolding openings_below
+all_openings w zero few within = All-nil (IsMade w)
+all_openings w (suc n) few within = All-append (IsMade w) (openings_below w n) (opening w n) (all_openings w n few (omega arith)) (an_opening w n few (omega arith))
+
+some_polls : (w n times : ℕ) → n < w → All (IsMade w) (polls n times)
+unfolding polls
+some_polls w n zero t = All-nil (IsMade w)
+some_polls w n (suc times) t = All-push (IsMade w) (polls n times) (on_owner n Poll) (some_polls w n times t) (owners_call w n Poll t tt)
+
+owner_small : (w : ℕ) (word : CodedWord) → 0 < w → owner w word < w
+owner_small w word some = omega arith
+
+a_request : (w : ℕ) (word : CodedWord) → 0 < w → w ≤ 8 → Fits word → IsLawfulCall (ends_below (2 * w)) 1 (Request (owner w word) 1 word.words)
+a_request w word some few fits = (omega (arith, owner_small w word some), omega arith, fits)
+
+a_sending : (w n : ℕ) (word : CodedWord) → 0 < w → w ≤ 8 → n < w → Fits word → All (IsMade w) (sending w n word)
+unfolding sending
+a_sending w n word some few t fits =
+    let first : ScriptCall = on_sender n (Request (owner w word) 1 word.words) in
+    let last : ScriptCall = on_sender n Poll in
+    All-append (IsMade w) (first ∷ [] ++ polls n w) (last ∷ [])
+    (All-append (IsMade w) (first ∷ []) (polls n w)
+    (All-cons (IsMade w) first [] (senders_call w n (Request (owner w word) 1 word.words) t (a_request w word some few fits)) (All-nil (IsMade w)))
+    (some_polls w n w t))
+    (All-cons (IsMade w) last [] (senders_call w n Poll t tt) (All-nil (IsMade w)))
+
+rest_small : (w j : ℕ) → 0 < w → j % w < w
+rest_small w j some = omega arith
+
+all_sendings : (w j : ℕ) (words : List CodedWord) → 0 < w → w ≤ 8 → All Fits words → All (IsMade w) (sendings w j words)
+unfolding sendings
+all_sendings w j [] some few fits = All-nil (IsMade w)
+all_sendings w j (word ∷ words) some few fits =
+    All-append (IsMade w) (sending w (j % w) word) (sendings w (j + 1) words)
+    (a_sending w (j % w) word some few (rest_small w j some) (All-head Fits word words fits))
+    (all_sendings w (j + 1) words some few (All-tail Fits word words fits))
+
+all_calls : (w : ℕ) (words : List CodedWord) → 0 < w → w ≤ 8 → All Fits words → All (IsMade w) (script w words)
+unfolding script
+all_calls w words some few fits = All-append (IsMade w) (openings_below w w) (sendings w 0 words) (all_openings w w few (omega arith)) (all_sendings w 0 words some few fits)
+
+-- ---- numbers of calls
+
+maps_length : (n k : ℕ) → length (maps_below n k) ≡ k
+unfolding maps_below
+maps_length n zero = refl
+maps_length n (suc k) = omega (arith, length_push (maps_below n k) (on_sender n (map_to k)), maps_length n k)
+
+opening_length : (w n : ℕ) → length (opening w n) ≡ w + 1
+unfolding opening
+opening_length w n = omega (arith, length-append (on_owner n (SetHandler 1 Note) ∷ []) (maps_below n w), maps_length n w)
+
+openings_length : (w n : ℕ) → length (openings_below w n) ≡ (w + 1) * n
+unfolding openings_below
+openings_length w zero = omega arith
+openings_length w (suc n) = omega (arith, length-append (openings_below w n) (opening w n), openings_length w n, opening_length w n)
+
+polls_length : (n times : ℕ) → length (polls n times) ≡ times
+unfolding polls
+polls_length n zero = refl
+polls_length n (suc times) = omega (arith, length_push (polls n times) (on_owner n Poll), polls_length n times)
+
+sending_length : (w n : ℕ) (word : CodedWord) → length (sending w n word) ≡ w + 2
+unfolding sending
+sending_length w n word =
+    omega (
+      arith,
+      length_push (on_sender n (Request (owner w word) 1 word.words) ∷ [] ++ polls n w) (on_sender n Poll),
+      length-append (on_sender n (Request (owner w word) 1 word.words) ∷ []) (polls n w),
+      polls_length n w,
+    )
+
+sendings_length : (w j : ℕ) (words : List CodedWord) → length (sendings w j words) ≡ (w + 2) * length words
+unfolding sendings
+sendings_length w j [] = omega arith
+sendings_length w j (word ∷ words) = omega (arith, length-append (sending w (j % w) word) (sendings w (j + 1) words), sending_length w (j % w) word, sendings_length w (j + 1) words)
+
+pub script_length : (w : ℕ) (words : List CodedWord) → length (script w words) ≡ (w + 1) * w + (w + 2) * length words
+unfolding script
+script_length w words = omega (arith, length-append (openings_below w w) (sendings w 0 words), openings_length w w, sendings_length w 0 words)
+
+within_size : (w n : ℕ) → n ≤ round_size w → (w + 2) * n ≤ 16_000
+within_size w n few = omega (arith, mul-le-mul_left (w + 2) few)
+
+few_openings : (w : ℕ) → w ≤ 8 → (w + 1) * w ≤ 72
+few_openings w few = omega (arith, mul-le-mul_left w few)
+
+few_calls : (w : ℕ) (words : List CodedWord) → w ≤ 8 → length words ≤ round_size w → length (script w words) ≤ 16_384
+few_calls w words few size = omega (arith, script_length w words, within_size w (length words) size, few_openings w few)
+
+-- ---- the whole
+
+scenario_lawful : (w turns : ℕ) (words : List CodedWord) → 0 < w → w ≤ 8 → turns ≤ 10_000 → length words ≤ round_size w → All Fits words → IsLawful (scenario w turns words)
+unfolding scenario
+scenario_lawful w turns words some few most size fits = record {
+  settings = record {
+    nodes = (omega arith, omega arith);
+    frames = (omega arith, omega arith);
+    channels = (omega arith, omega arith);
+    tries = (omega arith, omega arith);
+    bounces = omega arith;
+    pool = tt;
+    keep = omega arith;
+    log = (omega arith, omega arith);
+    turns = most;
+  };
+  ends = ends_all w (2 * w) few (omega arith);
+  ends_rise = ends_rising (2 * w);
+  ends_of_a_node = λ node. omega (arith, count_by-le-length (λ end. end.node.0 == node) (ends_below (2 * w)), ends_length (2 * w));
+  bundles = All-nil (IsLawfulBundle (ends_below (2 * w)));
+  bundles_once = no_pairs (λ a b. a.id ≢ b.id);
+  threads = threads_all w w few (omega arith);
+  threads_rise = threads_rising w;
+  threads_of_a_node = λ node. omega (arith, one_thread node w);
+  plan = All-nil (IsLawfulPlanLine w);
+  plan_once = no_pairs (λ (a b : PlanLine). ¬ IsSamePlace a b);
+  plan_lines = omega arith;
+  faults = All-nil (IsLawfulFaultLine w);
+  faults_once = no_pairs (λ (a b : FaultLine). ¬ IsSamePageCall a b);
+  fault_lines = omega arith;
+  script = all_calls w words some few fits;
+  script_calls = few_calls w words few size;
+  steps = All-nil (λ step. IsLawfulEvent (ends_below (2 * w)) w 2 1 1 step.event);
+  step_lines = omega arith;
+}
+
+scenario_runs : (w turns : ℕ) (words : List CodedWord) → IsOfForm Run (scenario w turns words)
+unfolding scenario
+scenario_runs w turns words = (refl, refl)
+
+pub rounds_are_lawful : (w turns : ℕ) (words : List CodedWord) (number : ℕ) → 0 < w → w ≤ 8 → turns ≤ 10_000 → All Fits words → IsLawful (round_at w turns words number)
+rounds_are_lawful w turns words number some few most fits =
+    scenario_lawful w turns (round_words w words number) some few most (omega (arith, length-take (round_size w) (drop (round_size w * number) words)))
+    (All-take Fits (round_size w) (drop (round_size w * number) words) (All-drop Fits (round_size w * number) words fits))
+
+pub rounds_run : (w turns : ℕ) (words : List CodedWord) (number : ℕ) → IsOfForm Run (round_at w turns words number)
+rounds_run w turns words number = scenario_runs w turns (round_words w words number)

@@ -1,0 +1,3 @@
+pub mod Lawfully
+pub mod More
+pub mod Sent

@@ -1,0 +1,6 @@
+use Rattle.std.proofs.Common.{◌≡◌, ◌++◌}
+use Rattle.am_job.specs.Scripts.{openings_below}
+use Rattle.am_job.proofs.script.begin_all.Given as goal
+
+abbrev pub invariant-loop-n : goal.invariant-loop-n
+invariant-loop-n l = l.script.items ≡ l.fn.script.items ++ openings_below l.w l.n

@@ -1,0 +1,6 @@
+use Rattle.std.proofs.Common.{◌≡◌, ◌++◌}
+use Rattle.am_job.specs.Scripts.{polls}
+use Rattle.am_job.proofs.script.poll_often.Given as goal
+
+abbrev pub invariant-loop-poll : goal.invariant-loop-poll
+invariant-loop-poll l = l.script.items ≡ l.fn.script.items ++ polls l.n l._poll

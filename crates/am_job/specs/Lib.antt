@@ -1,0 +1,5 @@
+pub mod Lists
+pub mod Scripts
+pub mod Rounds
+pub mod Asked
+pub mod Laws

@@ -1,0 +1,13 @@
+-- A job, with its rounds as a list.
+use Rattle.std.specs.Prelude.{ℕ, List}
+use Rattle.am_scenario_types.specs.Lists.{ScenarioLists}
+
+pub record JobLists : Type 0 where
+  pub rounds : List ScenarioLists
+  pub long : ℕ
+
+-- a word's counts, with the word as a list
+pub record WordCountLists : Type 0 where
+  pub word : List ℕ
+  pub ran : ℕ
+  pub left : ℕ

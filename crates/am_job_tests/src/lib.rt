@@ -1,0 +1,5 @@
+//! Tests of counting words: the words of texts, the rounds that send them, and what is counted.
+#![tactic(auto)]
+
+#[cfg(test)]
+mod tests;

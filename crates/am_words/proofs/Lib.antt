@@ -1,0 +1,4 @@
+pub mod Parted
+pub mod Carried
+pub mod Tallied
+pub mod Told
