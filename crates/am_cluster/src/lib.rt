@@ -206,7 +206,10 @@ fn calls_made(alloc: Global, scenario: &Scenario, cluster: &Cluster) -> Result<V
     ensures { IfOk result (λ made. made.items ≡ map (λ (t : ThreadLine). length (calls_of t.id cluster.now.journal)) scenario.now.threads) }
 {
     tell_logs(cluster, scenario);
-    let journal = cluster.journal(alloc)?;
+    cluster.laws();
+    let Ok(journal) = cluster.journal(alloc) else {
+        return Err(NoMemory);
+    };
     let threads = scripts_after(alloc, scenario, &journal.entries)?;
     let mut made = vec![in alloc; 0; threads.len()]?;
     tell_of(scenario, cluster, &threads, &mut made);
