@@ -1,12 +1,14 @@
 -- A line is cut at its spaces into the words that it was put together from.
-use Rattle.std.proofs.Common.{◌≡◌, ℕ, Bool, true, false, cond, eqb, not, ◌&&◌, List, [], ◌∷◌, ◌++◌, length, take, drop, suc, ◌<◌, ltb, Option, Some, None, refl, sym, ap, ◌∙◌, inl, inr, arith}
-use Rattle.std.specs.Prelude.{codes, ◌⊎◌}
+use Rattle.std.proofs.Common.{◌≡◌, ℕ, zero, Bool, true, false, cond, eqb, not, ◌&&◌, List, [], ◌∷◌, ◌++◌, length, get_or, take, drop, suc, ◌<◌, ltb, Option, Some, None, refl, sym, ap, ◌∙◌, inl, inr, arith}
+use Rattle.std.specs.Prelude.{codes, ◌⊎◌, MatchOption}
 use Rattle.std.specs.List.{list_all, slice_split, onto_first, position, position_or_len, flat_map, join_with_byte}
 use Rattle.std.proofs.lemmas.Bool.{and_parts, not-true, lt-ltb, eq-eqb}
 use Rattle.std.proofs.lemmas.List.{length-append}
 use Rattle.std.proofs.lemmas.List.Splits.{join_with_byte-slice_split}
 use Rattle.std.proofs.Common.{append_assoc}
 use Rattle.std.proofs.lemmas.List.{append-nil}
+use Rattle.std.proofs.lemmas.List.Quantifiers.{position-Some}
+use Rattle.am_lexer.proofs.FirstLine.{position_none}
 use Rattle.am_text.specs.Words.{spaced}
 use Rattle.am_journal_lines.specs.Reading.{words_in, words_behind}
 
@@ -77,3 +79,27 @@ first_place byte word text h =
     let e = place_is byte word text h in
     let yes : ltb (length word) (length (word ++ byte ∷ text)) ≡ true = lt-ltb _ _ (omega (arith, length-append word (byte ∷ text))) in
     rw (e, yes) refl
+
+cut_at : (i : ℕ) (text : List ℕ) → i < length text → eqb (get_or text i 0) 32 ≡ true → ((k : ℕ) → k < i → eqb (get_or text k 0) 32 ≡ false) → words_in text ≡ take i text ∷ words_behind (drop i text)
+unfolding words_in words_behind
+cut_at i [] lt here before = absurd (omega arith)
+cut_at zero (b ∷ text) lt here before = rw here refl
+cut_at (suc i) (b ∷ text) lt here before =
+    let first : eqb b 32 ≡ false = before 0 (omega arith) in
+    let others = cut_at i text (omega arith) here (λ k h. before (suc k) (omega arith)) in
+    rw (first, others) refl
+
+whole_free : (text : List ℕ) → ((k : ℕ) → k < length text → eqb (get_or text k 0) 32 ≡ false) → is_free 32 text ≡ true
+whole_free [] h = refl
+whole_free (b ∷ text) h =
+    let first : eqb b 32 ≡ false = h 0 (omega arith) in
+    let others = whole_free text (λ k lt. h (suc k) (omega arith)) in
+    rw (first, others) refl
+
+-- what a search for the first space says of the first word
+pub word_is : (text : List ℕ) (o : Option ℕ) → o ≡ position (λ b. eqb b 32) text → MatchOption o (words_in text ≡ text ∷ words_behind []) (λ i. words_in text ≡ take i text ∷ words_behind (drop i text))
+unfolding words_behind
+word_is text None e = cut_end text (whole_free text (position_none (λ b. eqb b 32) text (sym e)))
+word_is text (Some i) e =
+    let p = position-Some (λ b. eqb b 32) text i 0 (sym e) in
+    cut_at i text p.0 p.1 p.2

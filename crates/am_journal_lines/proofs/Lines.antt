@@ -14,9 +14,9 @@ use Rattle.am_office.specs.declared.Outcome.TheVariants as Out
 use Rattle.am_office.specs.declared.Entry.{Entry}
 use Rattle.am_text.specs.Words.{Word, spaced}
 use Rattle.am_entry_lines.specs.Lines.{who, what, outcome, received, after_arrow, line_of}
-use Rattle.am_journal_lines.specs.Grammar.{AreNumbersOf, left_side, IsRightSide, IsLineOf}
+use Rattle.am_journal_lines.specs.Grammar.{AreNumbersOf, left_side, IsRightSide, IsLineOf, printed}
 use Rattle.am_journal_lines.specs.Reading.{words_in, words_behind, event_at, has_more, is_right_side, event_of}
-use Rattle.am_journal_lines.specs.Laws.{LinesAreRead, PrintedLinesAreLines}
+use Rattle.am_journal_lines.specs.Laws.{LinesAreRead, IsPrintedSo, PrintedLinesAreLines}
 use Rattle.am_journal_lines.proofs.Cuts.{IsBehind, cut_all, put_together, spaced-append}
 use Rattle.am_journal_lines.proofs.Back.{event_back}
 use Rattle.am_journal_lines.proofs.Free.{who_free, what_free}
@@ -78,6 +78,9 @@ line_read line e h =
       | inr f ↦ let none : None ≡ Some e = sym (rw f refl) ∙ a.2 in absurd (cc none)
     ]
 
+pub none_is_read : (line : List ℕ) → event_of line ≡ None → (e : Event) → ¬ (IsLineOf line e)
+none_is_read line none e l = let some = read_line line e l in absurd (cc (none, some))
+
 pub lines_are_read : LinesAreRead
 lines_are_read line e = (line_read line e, read_line line e)
 
@@ -125,16 +128,16 @@ after_is [] h = inl refl
 after_is ([] ∷ words) h = absurd h
 after_is ((b ∷ w) ∷ words) h = inr (b, w ++ spaced words, refl)
 
+printed_is : (x : Entry) → AreNumbersOf x.event → IsLineOf (printed x) x.event
+printed_is x n =
+    let after = after_arrow (outcome x.outcome) in
+    record {
+      numbers = n;
+      right_side = spaced after;
+      ended = after_is (outcome x.outcome) (outcome_letter x.outcome);
+      is = ap (λ (l : List ℕ). who x.event ++ l) (spaced-append (what x.event) after) ∙ sym (append_assoc (who x.event) (spaced (what x.event)) (spaced after));
+    }
+
 pub printed_lines : PrintedLinesAreLines
 unfolding line_of
-printed_lines x n =
-    let after = after_arrow (outcome x.outcome) in (
-      who x.event ++ spaced (what x.event ++ after),
-      refl,
-      record {
-        numbers = n;
-        right_side = spaced after;
-        ended = after_is (outcome x.outcome) (outcome_letter x.outcome);
-        is = ap (λ (l : List ℕ). who x.event ++ l) (spaced-append (what x.event) after) ∙ sym (append_assoc (who x.event) (spaced (what x.event)) (spaced after));
-      },
-    )
+printed_lines x = record { whole = refl; line = printed_is x }

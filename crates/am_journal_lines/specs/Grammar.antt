@@ -11,8 +11,9 @@ use Rattle.am_office.specs.declared.Call.{Call}
 use Rattle.am_office.specs.declared.Call.TheVariants as Calls
 use Rattle.am_office.specs.declared.Event.{Event}
 use Rattle.am_office.specs.declared.Event.TheVariants as Events
+use Rattle.am_office.specs.declared.Entry.{Entry}
 use Rattle.am_text.specs.Words.{spaced}
-use Rattle.am_entry_lines.specs.Lines.{who, what}
+use Rattle.am_entry_lines.specs.Lines.{who, what, outcome, after_arrow}
 
 -- a number of one byte, of four, of eight
 abbrev pub IsByte : ℕ → Type 0
@@ -79,3 +80,7 @@ pub record IsLineOf (line : List ℕ) (e : Event) : Type 0 where
   pub right_side : List ℕ
   pub ended : IsRightSide right_side
   pub is : line ≡ left_side e ++ right_side
+
+-- what an entry is printed as, without the newline
+abbrev pub printed : Entry → List ℕ
+printed x = who x.event ++ spaced (what x.event ++ after_arrow (outcome x.outcome))

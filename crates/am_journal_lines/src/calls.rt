@@ -88,7 +88,7 @@ fn take_add(rest: &[u8]) -> Option<(HandlerKind, &[u8])>
     Some((HandlerKind::Add(reply), rest))
 }
 
-#[tactic(auto, unfolding(crate::specs::Reading::kind_at))]
+#[tactic(auto, unfolding(crate::specs::Reading::kind_at, crate::specs::Reading::word_at))]
 fn take_kind(rest: &[u8]) -> Option<(HandlerKind, &[u8])>
     ensures { Gives (λ found. (found.0, words_behind found.1.now)) result (kind_at (words_behind rest.now)) }
 {
@@ -131,7 +131,7 @@ fn take_close(rest: &[u8]) -> Option<Called<'_>>
     Some(((end, Call::Close), rest))
 }
 
-#[tactic(auto, unfolding(crate::specs::Reading::mask_at))]
+#[tactic(auto, unfolding(crate::specs::Reading::mask_at, crate::specs::Reading::word_at))]
 fn take_mask(rest: &[u8]) -> Option<(Mask, &[u8])>
     ensures { Gives (λ found. (found.0, words_behind found.1.now)) result (mask_at (words_behind rest.now)) }
 {

@@ -159,6 +159,7 @@ fn take_of_driver<'a>(node: NodeId, verb: &[u8], rest: &'a [u8]) -> Option<(Even
     }
 }
 
+#[tactic(auto, unfolding(crate::specs::Reading::happening_at))]
 fn take_happening<'a>(head: Head, verb: &[u8], rest: &'a [u8]) -> Option<(Event, &'a [u8])>
     ensures { Gives (λ found. (found.0, words_behind found.1.now)) result (happening_at head verb.now (words_behind rest.now)) }
 {
@@ -171,7 +172,7 @@ fn take_happening<'a>(head: Head, verb: &[u8], rest: &'a [u8]) -> Option<(Event,
 }
 
 /// The event that a line begins with, and what stands behind it.
-#[tactic(auto, unfolding(crate::specs::Reading::event_at))]
+#[tactic(auto, unfolding(crate::specs::Reading::event_at, crate::specs::Reading::word_at))]
 pub fn take_event(line: &[u8]) -> Option<(Event, &[u8])>
     ensures { Gives (λ found. (found.0, words_behind found.1.now)) result (event_at (words_in line.now)) }
 {

@@ -1,9 +1,11 @@
 //! The lines of a printed journal, read back: the event that a line tells. Nothing here takes memory.
 #![tactic(auto)]
 
+ghost use Rattle.am_journal_lines.specs.Grammar.{IsLineOf};
 ghost use Rattle.am_journal_lines.specs.Reading.{Gives, event_of, has_more, is_right_side, words_behind, words_in};
 ghost use Rattle.am_journal_lines.specs.Laws.{LinesAreRead, PrintedLinesAreLines};
-ghost use Rattle.std.specs.Prelude.{◌≡◌};
+ghost use Rattle.am_office.specs.declared.Event.{Event as Happening};
+ghost use Rattle.std.specs.Prelude.{◌≡◌, IfSome, None};
 
 mod calls;
 mod events;
@@ -13,6 +15,7 @@ mod words;
 use crate::events::take_event;
 use crate::words::{split_word, take_word};
 use am_office::Event;
+pub use numbers::printed_number;
 
 /// What a line of a printed journal tells.
 #[derive(Clone, Copy, PartialEq, Eq, Debug)]
@@ -39,18 +42,31 @@ fn is_right_side(rest: &[u8]) -> bool
     }
 }
 
-/// The event of a line of a printed journal, which is given without its newline. Some exactly where the line is what the
-/// event is printed as, alone or before a space, an arrow, a space and one or more further bytes, which are not looked at.
-/// Numbers have no leading zeros, one space stands between two words, and each number is one of its type in `Event`.
+// The event that a line tells, by the definition of reading.
 #[tactic(auto, unfolding(crate::specs::Reading::event_of))]
-pub fn parse_line(line: &[u8]) -> Option<PrintedEntry>
-    ensures { Gives (λ printed. printed.event) result (event_of line.now) }
+fn event_of(line: &[u8]) -> Option<Event>
+    ensures { result ≡ event_of line.now }
 {
     let (event, rest) = take_event(line)?;
     if is_right_side(rest) {
-        Some(PrintedEntry { event })
+        Some(event)
     } else {
         None
+    }
+}
+
+/// The event of a line of a printed journal, which is given without its newline. Some exactly where the line is what the
+/// event is printed as, alone or before a space, an arrow, a space and one or more further bytes, which are not looked at.
+/// Numbers have no leading zeros, one space stands between two words, and each number is one of its type in `Event`.
+#[tactic(auto, using(crate::proofs::Lines::line_read))]
+pub fn parse_line(line: &[u8]) -> Option<PrintedEntry>
+    ensures exact { Gives (λ printed. printed.event) result (event_of line.now) }
+    ensures line { IfSome result (λ printed. IsLineOf line.now printed.event) }
+    ensures none { result ≡ None → (event : Happening) → ¬ (IsLineOf line.now event) }
+{
+    match event_of(line) {
+        Some(event) => Some(PrintedEntry { event }),
+        None => None,
     }
 }
 

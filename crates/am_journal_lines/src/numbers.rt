@@ -14,8 +14,9 @@ fn has_no_leading_zero(word: &[u8]) -> bool
     !matches!(word, [b'0', _, ..])
 }
 
+/// The number that is printed as this word: one of decimal digits without leading zeros, below 2^64.
 #[tactic(auto, unfolding(crate::specs::Reading::printed_number))]
-fn printed_number(word: &[u8]) -> Option<u64>
+pub fn printed_number(word: &[u8]) -> Option<u64>
     ensures { result ≡ printed_number word.now }
 {
     if has_no_leading_zero(word) {
@@ -56,7 +57,7 @@ fn long_of(word: &[u8]) -> Option<u64>
     printed_number(word)
 }
 
-#[tactic(auto, unfolding(crate::specs::Reading::byte_at, crate::specs::Reading::number_at))]
+#[tactic(auto, unfolding(crate::specs::Reading::byte_at, crate::specs::Reading::number_at, crate::specs::Reading::word_at))]
 pub fn take_byte(rest: &[u8]) -> Option<(u8, &[u8])>
     ensures { Gives (λ found. (found.0, words_behind found.1.now)) result (byte_at (words_behind rest.now)) }
 {
@@ -64,7 +65,7 @@ pub fn take_byte(rest: &[u8]) -> Option<(u8, &[u8])>
     Some((byte_of(word)?, rest))
 }
 
-#[tactic(auto, unfolding(crate::specs::Reading::count_at, crate::specs::Reading::number_at))]
+#[tactic(auto, unfolding(crate::specs::Reading::count_at, crate::specs::Reading::number_at, crate::specs::Reading::word_at))]
 pub fn take_count(rest: &[u8]) -> Option<(u32, &[u8])>
     ensures { Gives (λ found. (found.0, words_behind found.1.now)) result (count_at (words_behind rest.now)) }
 {
@@ -72,7 +73,7 @@ pub fn take_count(rest: &[u8]) -> Option<(u32, &[u8])>
     Some((count_of(word)?, rest))
 }
 
-#[tactic(auto, unfolding(crate::specs::Reading::long_at, crate::specs::Reading::number_at))]
+#[tactic(auto, unfolding(crate::specs::Reading::long_at, crate::specs::Reading::number_at, crate::specs::Reading::word_at))]
 pub fn take_long(rest: &[u8]) -> Option<(u64, &[u8])>
     ensures { Gives (λ found. (found.0, words_behind found.1.now)) result (long_at (words_behind rest.now)) }
 {
@@ -114,7 +115,7 @@ fn tag_of(word: &[u8]) -> Option<Tag>
     }
 }
 
-#[tactic(auto, unfolding(crate::specs::Reading::tag_at))]
+#[tactic(auto, unfolding(crate::specs::Reading::tag_at, crate::specs::Reading::word_at))]
 pub fn take_tag(rest: &[u8]) -> Option<(Tag, &[u8])>
     ensures { Gives (λ found. (found.0, words_behind found.1.now)) result (tag_at (words_behind rest.now)) }
 {
@@ -141,7 +142,7 @@ fn serial_of(word: &[u8]) -> Option<Serial>
     })
 }
 
-#[tactic(auto, unfolding(crate::specs::Reading::serial_at))]
+#[tactic(auto, unfolding(crate::specs::Reading::serial_at, crate::specs::Reading::word_at))]
 pub fn take_serial(rest: &[u8]) -> Option<(Serial, &[u8])>
     ensures { Gives (λ found. (found.0, words_behind found.1.now)) result (serial_at (words_behind rest.now)) }
 {

@@ -32,6 +32,7 @@ pub fn split_word(text: &[u8]) -> (&[u8], &[u8])
 }
 
 /// The next word behind a word, and what stands behind it.
+#[tactic(auto, unfolding(crate::specs::Reading::words_behind))]
 pub fn take_word(rest: &[u8]) -> Option<(&[u8], &[u8])>
     ensures { MatchOption result (words_behind rest.now ≡ []) (λ found. words_behind rest.now ≡ found.0.now ∷ words_behind found.1.now) }
 {
