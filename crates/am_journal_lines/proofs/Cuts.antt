@@ -1,7 +1,7 @@
 -- A line is cut at its spaces into the words that it was put together from.
-use Rattle.std.proofs.Common.{◌≡◌, ℕ, zero, Bool, true, false, cond, eqb, not, ◌&&◌, List, [], ◌∷◌, ◌++◌, length, get_or, take, drop, suc, ◌<◌, ltb, Option, Some, None, refl, sym, ap, ◌∙◌, inl, inr, arith}
-use Rattle.std.specs.Prelude.{codes, ◌⊎◌, MatchOption}
-use Rattle.std.specs.List.{list_all, slice_split, onto_first, position, position_or_len, flat_map, join_with_byte}
+use Rattle.std.proofs.Common.{◌≡◌, ℕ, zero, Bool, true, false, eqb, not, List, [], ◌∷◌, ◌++◌, length, get_or, take, drop, suc, ◌<◌, ltb, Option, Some, None, refl, sym, ap, ◌∙◌, inl, inr, arith}
+use Rattle.std.specs.Prelude.{◌⊎◌, MatchOption}
+use Rattle.std.specs.List.{list_all, position, position_or_len, join_with_byte}
 use Rattle.std.proofs.lemmas.Bool.{and_parts, not-true, lt-ltb, eq-eqb}
 use Rattle.std.proofs.lemmas.List.{length-append}
 use Rattle.std.proofs.lemmas.List.Splits.{join_with_byte-slice_split}

@@ -1,9 +1,7 @@
 -- No word that an event is printed as has a space.
-use Rattle.std.proofs.Common.{◌≡◌, ℕ, true, List, [], ◌∷◌, ◌++◌, refl}
+use Rattle.std.proofs.Common.{◌≡◌, true, refl}
 use Rattle.std.specs.List.{list_all}
-use Rattle.std.specs.Fmt.{decimal}
 use Rattle.am_names.specs.declared.EndpointId.{EndpointId}
-use Rattle.am_office.specs.declared.Actor.{Actor}
 use Rattle.am_office.specs.declared.Actor.TheVariants as Actors
 use Rattle.am_office.specs.declared.HandlerKind.{HandlerKind}
 use Rattle.am_office.specs.declared.HandlerKind.TheVariants as Kinds
@@ -14,7 +12,7 @@ use Rattle.am_office.specs.declared.Call.TheVariants as Calls
 use Rattle.am_office.specs.declared.Event.{Event}
 use Rattle.am_office.specs.declared.Event.TheVariants as Events
 use Rattle.am_entry_lines.specs.Lines.{who, what, actor, interface, driver, call, handler_kind, mask}
-use Rattle.am_journal_lines.specs.Grammar.{IsByte, AreNumbersOf, AreNumbersOfCall, AreNumbersOfKind, IsNumberOfActor}
+use Rattle.am_journal_lines.specs.Grammar.{IsByte, AreNumbersOf, AreNumbersOfCall, AreNumbersOfKind}
 use Rattle.am_journal_lines.proofs.Printed.{byte_free, four_free, eight_free, tag_free, serial_free}
 use Rattle.am_journal_lines.proofs.Cuts.{is_free}
 

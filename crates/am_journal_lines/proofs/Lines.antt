@@ -1,6 +1,6 @@
 -- What a line tells is the event of which it is a line.
-use Rattle.std.proofs.Common.{◌≡◌, ℕ, ◌<◌, Bool, true, false, cond, eqb, ◌&&◌, List, [], ◌∷◌, ◌++◌, length, Option, Some, None, refl, sym, ap, subst, ◌∙◌, inl, inr, append_assoc, arith}
-use Rattle.std.specs.Prelude.{codes, ◌↔◌}
+use Rattle.std.proofs.Common.{◌≡◌, ℕ, ◌<◌, true, false, eqb, List, [], ◌∷◌, ◌++◌, length, Some, None, refl, sym, ap, subst, ◌∙◌, inl, inr, append_assoc, arith}
+use Rattle.std.specs.Prelude.{codes}
 use Rattle.std.specs.List.{slice_split, onto_first}
 use Rattle.std.specs.Str.{bytes_eq}
 use Rattle.std.proofs.lemmas.Bool.{cases_Bool, and_parts}
@@ -16,7 +16,7 @@ use Rattle.am_text.specs.Words.{Word, spaced}
 use Rattle.am_entry_lines.specs.Lines.{who, what, outcome, received, after_arrow, line_of}
 use Rattle.am_journal_lines.specs.Grammar.{AreNumbersOf, left_side, IsRightSide, IsLineOf, printed}
 use Rattle.am_journal_lines.specs.Reading.{words_in, words_behind, event_at, has_more, is_right_side, event_of}
-use Rattle.am_journal_lines.specs.Laws.{LinesAreRead, IsPrintedSo, PrintedLinesAreLines}
+use Rattle.am_journal_lines.specs.Laws.{LinesAreRead, PrintedLinesAreLines}
 use Rattle.am_journal_lines.proofs.Cuts.{IsBehind, cut_all, put_together, spaced-append}
 use Rattle.am_journal_lines.proofs.Back.{event_back}
 use Rattle.am_journal_lines.proofs.Free.{who_free, what_free}

@@ -1,18 +1,18 @@
 -- Each printed word is read back, and has no space.
-use Rattle.std.proofs.Common.{◌≡◌, ℕ, suc, ◌+◌, ◌^◌, ◌<◌, ◌≤◌, Bool, true, false, cond, eqb, not, ◌&&◌, ◌||◌, List, [], ◌∷◌, ◌++◌, length, take, drop, get_or, Option, Some, None, refl, sym, ap, ◌∙◌, inl, inr, add-one, arith}
+use Rattle.std.proofs.Common.{◌≡◌, ℕ, ◌+◌, ◌^◌, ◌<◌, true, false, eqb, not, List, [], ◌∷◌, ◌++◌, length, take, drop, Some, refl, inl, inr, arith}
 use Rattle.std.specs.Prelude.{codes}
 use Rattle.std.specs.Fmt.{decimal}
-use Rattle.std.specs.List.{list_all, position}
+use Rattle.std.specs.List.{position}
 use Rattle.std.specs.Str.{bytes_eq}
-use Rattle.std.proofs.Math.Seq.{take-append_seam, drop-append_seam, drop-append-add}
-use Rattle.std.proofs.lemmas.Bool.{and_parts, and_from, not-true, eqb-true, eqb-false, eq-eqb, ne_eqb, cases_eq}
+use Rattle.std.proofs.Math.Seq.{take-append_seam, drop-append-add}
+use Rattle.std.proofs.lemmas.Bool.{and_parts, not-true, eq-eqb, ne_eqb, cases_eq}
 use Rattle.std.proofs.lemmas.List.Folds.{list_all-append}
 use Rattle.std.proofs.Common.{append_assoc}
 use Rattle.am_names.specs.declared.Tag.{Tag}
 use Rattle.am_names.specs.declared.Serial.{Serial}
 use Rattle.am_text.specs.Words.{tag, serial}
 use Rattle.am_journal_lines.specs.Grammar.{IsByte, IsFourBytes, IsEightBytes, IsSerial}
-use Rattle.am_journal_lines.specs.Reading.{number_up_to, printed_number, tag_of, serial_of}
+use Rattle.am_journal_lines.specs.Reading.{number_up_to, tag_of, serial_of}
 use Rattle.am_journal_lines.proofs.Decimals.{decimal_read, decimal_up_to, decimal_free, letters_free}
 use Rattle.am_journal_lines.proofs.Cuts.{is_free, first_place}
 

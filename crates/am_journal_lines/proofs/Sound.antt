@@ -1,10 +1,10 @@
 -- What is read is what an event is printed as.
-use Rattle.std.proofs.Common.{◌≡◌, ℕ, ◌+◌, ◌^◌, ◌<◌, ◌≤◌, Bool, true, false, cond, eqb, leb, not, ◌&&◌, ◌||◌, List, [], ◌∷◌, ◌++◌, length, get_or, take, drop, Option, Some, None, refl, sym, ap, subst, ◌∙◌, inl, inr, add-one, drop-cons, arith}
+use Rattle.std.proofs.Common.{◌≡◌, ℕ, ◌+◌, ◌^◌, ◌<◌, ◌≤◌, cond, eqb, leb, List, [], ◌∷◌, ◌++◌, get_or, take, drop, Option, Some, None, refl, sym, ap, subst, ◌∙◌, inl, inr, add-one, drop-cons, arith}
 use Rattle.std.specs.Prelude.{codes}
 use Rattle.std.specs.Fmt.{decimal}
 use Rattle.std.specs.List.{position}
 use Rattle.std.specs.Str.{bytes_eq}
-use Rattle.std.proofs.lemmas.Bool.{cases_Bool, leb-true, eqb-true, eqb-false, ne_eqb}
+use Rattle.std.proofs.lemmas.Bool.{cases_Bool, leb-true, eqb-true}
 use Rattle.std.proofs.lemmas.Slice.Eq.{bytes_eq-Decides}
 use Rattle.std.proofs.lemmas.List.{take-append-drop}
 use Rattle.std.proofs.lemmas.List.Quantifiers.{position-Some}
@@ -20,7 +20,6 @@ use Rattle.am_office.specs.declared.HandlerKind.TheVariants as Kinds
 use Rattle.am_office.specs.declared.Mask.{Mask}
 use Rattle.am_office.specs.declared.Mask.TheVariants as Masks
 use Rattle.am_office.specs.declared.Call.{Call}
-use Rattle.am_office.specs.declared.Call.TheVariants as Calls
 use Rattle.am_office.specs.declared.Event.{Event}
 use Rattle.am_office.specs.declared.Event.TheVariants as Events
 use Rattle.am_text.specs.Words.{Word, tag, serial}
@@ -28,7 +27,7 @@ use Rattle.am_entry_lines.specs.Lines.{who, what, actor, interface, driver, call
 use Rattle.am_journal_lines.specs.declared.words.Head.{Head}
 use Rattle.am_journal_lines.specs.declared.words.Head.TheVariants as Heads
 use Rattle.am_journal_lines.specs.Grammar.{IsByte, IsFourBytes, IsEightBytes, IsSerial, AreNumbersOf, AreNumbersOfCall, AreNumbersOfKind, IsNumberOfActor}
-use Rattle.am_journal_lines.specs.Reading.{◌>>=◌, Read, word_at, printed_number, number_up_to, number_at, byte_at, count_at, long_at, end_at, node_at, tag_of, tag_at, serial_of, serial_at, numbered, head_of, request_at, poll_at, set_tag_at, map_at, unmap_at, echo_at, add_at, kind_at, set_handler_at, give_up_at, close_at, mask_at, test_at, call_at, call_event_at, want_at, thread_at, carry_at, outside_at, bind_at, expire_at, receive_at, interface_at, load_at, move_at, driver_at, happening_at, event_at}
+use Rattle.am_journal_lines.specs.Reading.{◌>>=◌, word_at, printed_number, number_up_to, number_at, byte_at, count_at, long_at, end_at, node_at, tag_of, tag_at, serial_of, serial_at, numbered, head_of, request_at, poll_at, set_tag_at, map_at, unmap_at, echo_at, add_at, kind_at, set_handler_at, give_up_at, close_at, mask_at, test_at, call_at, call_event_at, want_at, thread_at, carry_at, outside_at, bind_at, expire_at, receive_at, interface_at, load_at, move_at, driver_at, happening_at, event_at}
 use Rattle.am_journal_lines.proofs.Decimals.{read_decimal}
 
 -- what stands before what is read next

@@ -1,14 +1,13 @@
 -- Reading a line of a printed journal, word by word from the left. Words are the parts between single spaces, so one may be
 -- empty. What is read is what would be printed: numbers have no leading zeros.
-use Rattle.std.specs.Prelude.{◌≡◌, ℕ, ◌+◌, ◌-◌, ◌^◌, Bool, true, false, not, ◌==◌, ◌&&◌, ◌||◌, nat_le, Option, Some, None, List, [], ◌∷◌, take, drop, codes, if◌then◌else◌}
+use Rattle.std.specs.Prelude.{◌≡◌, ℕ, ◌+◌, Bool, true, false, not, ◌==◌, ◌&&◌, ◌||◌, nat_le, Option, Some, None, List, [], ◌∷◌, take, drop, codes, if◌then◌else◌}
 use Rattle.std.specs.List.{slice_split, position}
 use Rattle.std.specs.Str.{bytes_eq}
-use Rattle.am_lexer.specs.Text.{number_of, has_bytes}
+use Rattle.am_lexer.specs.Text.{number_of}
 use Rattle.am_names.specs.declared.EndpointId.{EndpointId}
 use Rattle.am_names.specs.declared.NodeId.{NodeId}
 use Rattle.am_names.specs.declared.Tag.{Tag}
 use Rattle.am_names.specs.declared.Serial.{Serial}
-use Rattle.am_names.specs.declared.Words.{Words}
 use Rattle.am_office.specs.declared.Actor.{Actor}
 use Rattle.am_office.specs.declared.Actor.TheVariants as Actors
 use Rattle.am_office.specs.declared.HandlerKind.{HandlerKind}
