@@ -7,7 +7,7 @@ ghost use Rattle.am_names.specs.Names.{same_end};
 ghost use Rattle.am_scenario_types.specs.Lists.{ScenarioLists};
 ghost use Rattle.am_works.specs.Drivers.{IsDriverOf};
 ghost use Rattle.am_works.specs.Drives.{CanDrive};
-ghost use Rattle.am_works.specs.Seats.{IsIdle, Ids};
+ghost use Rattle.am_works.specs.Seats.{IsIdle, Ids, SameSeat};
 ghost use Rattle.am_works.specs.Works.{DriverWorks};
 ghost use Rattle.am_driver_turn.specs.Turns as turns;
 ghost use Rattle.am_driver_turn.specs.Turns.{DriverTurns, MoveTurns};
@@ -134,6 +134,7 @@ pub fn driver_turn(
     requires count { places.now.count ≡ length view.old.ends }
     requires can { CanDrive places.now.frames node view.old swap.old seat.old.token.me.0 }
     ensures idle { IsIdle places.now.board.shared.table_id seat.new.token }
+    ensures seat { SameSeat seat.old.token.me.0 seat.new.token.me.0 }
     ensures can { CanDrive places.now.frames node view.new swap.new seat.new.token.me.0 }
     ensures turn { DriverTurns (length view.old.ends) node clock.old clock.new view.old view.new swap.old swap.new seat.old.token.me.0 seat.new.token.me.0 result }
     ensures works { (s : ScenarioLists) (ids : Ids) (made_in : ℕ) → IsDriverOf s ids node made_in → DriverWorks s ids node made_in clock.old view.old swap.old seat.old.token.me.0 → DriverWorks s ids node (made_in + 1) clock.new view.new swap.new seat.new.token.me.0 }

@@ -125,6 +125,22 @@ impl Interface {
         self.limits.node
     }
 
+    /// A copy of what it began with, whose numbers are in range. `NoMemory` comes only where there is none for the copy.
+    pub fn settings(&self, alloc: Global) -> Result<IfaceSettings, NoMemory>
+        ensures settings { IfOk result (λ set. set ≡ self.now.settings) }
+        ensures lawful { AreLawful self.now.settings }
+    {
+        Ok(IfaceSettings {
+            node: self.limits.node,
+            nodes: self.limits.nodes,
+            channels: self.limits.channels,
+            tries: self.limits.tries,
+            bounces: self.limits.bounces,
+            log: self.limits.log,
+            homes: Vec::from_slice(alloc, &self.homes)?,
+        })
+    }
+
     /// The entries in order: at most as many as the settings' limit, which is 1 to 65536.
     pub fn log(&self) -> &[Entry]
         ensures log { result.now ≡ self.now.log }

@@ -9,3 +9,4 @@ pub mod Lies
 pub mod Driving
 pub mod Drivers
 pub mod Books
+pub mod Same

@@ -86,3 +86,14 @@ found set log = state_by set (joined log)
 -- where another seat was inside, the pass has the read
 abbrev pub IsBusy : ℕ → ℕ → EndPass → EndPass → Type 0
 IsBusy k holder v w = Met k (holder + 1) v × (w ≡ read (holder_word k) (holder + 1) v)
+
+-- it is the same seat, and was told the same of its node's endpoints
+pub record SameSeat (v w : EndPass) : Type 0 where
+  pub mark : w.mark ≡ v.mark
+  pub seats : w.seats ≡ v.seats
+  pub births : w.births ≡ v.births
+
+-- so it is after a stay at an endpoint, and where another seat was inside
+pub record SeatsStay : Type 0 where
+  pub stays : (k : ℕ) (set : EndSettings) (place : ℕ) (log : List (Tenure Entry)) (new : List Entry) (v w : EndPass) → Stays k set place log new v w → SameSeat v w
+  pub busy : (k holder : ℕ) (v w : EndPass) → IsBusy k holder v w → SameSeat v w
