@@ -1,4 +1,0 @@
-pub mod Cut
-pub mod Follows
-pub mod Lines
-pub mod Verdict
