@@ -1,5 +1,5 @@
 -- A line that passes makes the journal one entry longer.
-use Rattle.std.proofs.Common.{◌≡◌, ◌+◌, List, [], ◌∷◌, ◌++◌, length, map, ℕ, refl, sym, ap, subst, ◌∙◌, append_assoc, arith}
+use Rattle.std.proofs.Common.{◌≡◌, ◌+◌, List, [], ◌∷◌, ◌++◌, length, map, ℕ, sym, ap, subst, ◌∙◌, append_assoc}
 use Rattle.std.proofs.lemmas.List.{map_push, length-append}
 use Rattle.am_office.specs.declared.Entry.{Entry}
 use Rattle.am_journal_lines.specs.Grammar.{printed}

@@ -1,5 +1,5 @@
 -- The events of the steps, by their places.
-use Rattle.std.proofs.Common.{◌≡◌, ℕ, zero, suc, true, List, [], ◌∷◌, Option, Some, None, sym, subst}
+use Rattle.std.proofs.Common.{◌≡◌, ℕ, zero, suc, true, List, [], ◌∷◌, Some, sym, subst}
 use Rattle.std.specs.Prelude.{option_map, slice_get}
 use Rattle.std.proofs.lemmas.Option.{slice_get-map}
 use Rattle.am_office.specs.declared.Event.{Event}
@@ -8,7 +8,6 @@ use Rattle.am_scenario_types.specs.Lists.{ScenarioLists}
 use Rattle.am_scenario_types.specs.Lawful.{IsLawful}
 use Rattle.am_follow.specs.Layout.{events_of, layout_of}
 use Rattle.am_follow.proofs.Lawful.{steps_in_range}
-use Rattle.am_laws_steps.specs.Laws.{AreInRange}
 use Rattle.am_model.specs.History.{is_in_range}
 use Rattle.am_model.specs.Layout.{Layout, AllAre}
 

@@ -1,6 +1,6 @@
 -- Which journals follow their scenario as far as a printed journal can tell: those of a step script follow its lines, and those
 -- of a run its scripts, whoever made their entries and in whichever phase.
-use Rattle.std.specs.Prelude.{◌≡◌, ◌<◌, ◌⊎◌, ℕ, true, false, Option, Some, None, List, [], length, map, slice_get}
+use Rattle.std.specs.Prelude.{◌≡◌, true, false, Option, Some, None, List, [], length, map, slice_get}
 use Rattle.am_names.specs.declared.EndpointId.{EndpointId}
 use Rattle.am_office.specs.declared.Event.{Event}
 use Rattle.am_office.specs.declared.Entry.{Entry}

@@ -1,17 +1,15 @@
 -- What the checker answers for a text of a scenario and its report.
-use Rattle.std.specs.Prelude.{◌≡◌, ◌⊎◌, ◌<◌, ℕ, ◌+◌, ◌-◌, ◌^◌, min, Bool, Option, Some, None, List, [], ◌∷◌, ◌++◌, ◌&&◌, ◌==◌, nat_eq, take, drop, length, map, codes, if◌then◌else◌, Result, Ok, Err}
+use Rattle.std.specs.Prelude.{◌≡◌, ◌⊎◌, ◌<◌, ℕ, ◌+◌, ◌-◌, ◌^◌, min, Option, Some, None, List, [], ◌∷◌, ◌++◌, nat_eq, take, drop, length, map, codes, if◌then◌else◌, Result, Ok, Err}
 use Rattle.std.specs.List.{starts_with}
 use Rattle.std.specs.Str.{bytes_eq}
 use Rattle.am_lexer.specs.Text.{lines_of}
 use Rattle.am_office.specs.declared.Entry.{Entry}
-use Rattle.am_office.specs.declared.Part.{Part}
 use Rattle.am_report.specs.Report.{report}
 use Rattle.am_journal_lines.specs.Reading.{printed_number}
 use Rattle.am_journal_lines.specs.Grammar.{printed}
 use Rattle.am_scenario_types.specs.declared.parts.Form.{Form}
 use Rattle.am_scenario_types.specs.Lists.{ScenarioLists}
 use Rattle.am_scenario.specs.Laws.{Spells, FirstFault}
-use Rattle.am_check.specs.declared.faults.CheckWhat.{CheckWhat}
 use Rattle.am_check.specs.declared.faults.CheckWhat.TheVariants as Whats
 use Rattle.am_check.specs.declared.faults.CheckStop.{CheckStop}
 use Rattle.am_check.specs.declared.faults.CheckStop.TheVariants as Answers

@@ -1,4 +1,4 @@
-use Rattle.std.proofs.Common.{◌≡◌, ◌<◌, ◌+◌, ◌∷◌, ◌++◌, ℕ, List, length, map, sym, ap, subst, ◌∙◌, arith}
+use Rattle.std.proofs.Common.{◌≡◌, ◌<◌, ◌+◌, ◌∷◌, ◌++◌, ℕ, List, length, map, sym, ap, subst, ◌∙◌}
 use Rattle.am_journal_lines.specs.Grammar.{printed}
 use Rattle.am_lexer.specs.Text.{lines_of}
 use Rattle.am_scenario_types.specs.declared.parts.Form.TheVariants as Forms
