@@ -1,0 +1,4 @@
+pub mod Cut
+pub mod Follows
+pub mod Lines
+pub mod Verdict

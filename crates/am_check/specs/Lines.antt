@@ -1,0 +1,58 @@
+-- The lines of a report, and what keeps one of its journal from passing.
+use Rattle.std.specs.Prelude.{◌≡◌, ◌⊎◌, ℕ, Some, None, List, [], ◌∷◌, ◌++◌}
+use Rattle.am_office.specs.declared.Event.{Event}
+use Rattle.am_office.specs.declared.Entry.{Entry}
+use Rattle.am_journal_lines.specs.Grammar.{printed}
+use Rattle.am_journal_lines.specs.Reading.{event_of}
+use Rattle.am_model.specs.History.{failing}
+use Rattle.am_model.specs.Steps.{NotEnabled, LogFull, stop}
+use Rattle.am_scenario_types.specs.declared.parts.Form.{Form}
+use Rattle.am_scenario_types.specs.Lists.{ScenarioLists}
+use Rattle.am_follow.specs.Layout.{layout_of}
+use Rattle.am_drain.specs.Made.{next_entry}
+use Rattle.am_machine.specs.declared.settings.ApplyFault.{ApplyFault}
+use Rattle.am_machine.specs.declared.settings.ApplyFault.TheVariants as Applied
+use Rattle.am_check.specs.declared.faults.CheckWhat.TheVariants as Whats
+use Rattle.am_check.specs.declared.faults.LineStop.{LineStop}
+use Rattle.am_check.specs.declared.faults.LineStop.TheVariants as Stops
+use Rattle.am_check.specs.Follows.{MayCome, IsEarly, Comes}
+
+-- a line tells an event that may come
+pub record TellsOne (form : Form) (s : ScenarioLists) (past : List Entry) (line : List ℕ) (event : Event) : Type 0 where
+  pub told : event_of line ≡ Some event
+  pub may : MayCome form s past event
+
+-- why a line does not pass after these entries: it is no journal line; its event may not come; its event isn't enabled; its entry
+-- would come too early; a log is full; or it isn't the line of the entry that the machine makes
+abbrev pub StopsLine : Form → ScenarioLists → List Entry → List ℕ → LineStop → Type 0
+StopsLine form s past line (Stops.What Whats.Form) = event_of line ≡ None
+StopsLine form s past line (Stops.What Whats.Follows) =
+    (event : Event) × (event_of line ≡ Some event)
+    × ((¬ (MayCome form s past event)) ⊎ (MayCome form s past event × (failing (layout_of s) past event ≡ None) × IsEarly form s past (next_entry (layout_of s) past event)))
+StopsLine form s past line (Stops.What (Whats.NotEnabled condition)) =
+    (event : Event) × TellsOne form s past line event × (stop (layout_of s) past event ≡ Some (NotEnabled condition))
+StopsLine form s past line (Stops.LogFull part) =
+    (event : Event) × TellsOne form s past line event × (¬ (IsEarly form s past (next_entry (layout_of s) past event))) × (stop (layout_of s) past event ≡ Some (LogFull part))
+StopsLine form s past line (Stops.What Whats.Outcome) =
+    (event : Event) × TellsOne form s past line event × (¬ (IsEarly form s past (next_entry (layout_of s) past event))) × (stop (layout_of s) past event ≡ None) × (¬ (line ≡ printed (next_entry (layout_of s) past event)))
+StopsLine form s past line (Stops.What Whats.Tail) = ⊥
+StopsLine form s past line Stops.NoMemory = Unit {0}
+
+-- a line passes: it is that of the entry that comes after these, which is then made
+pub record PassesLine (form : Form) (s : ScenarioLists) (past : List Entry) (line : List ℕ) (journal : List Entry) : Type 0 where
+  pub entry : Entry
+  pub comes : Comes form s past entry
+  pub line' : line ≡ printed entry
+  pub journal' : journal ≡ past ++ entry ∷ []
+
+-- why a line does not pass that isn't that of an entry
+abbrev pub IsOther : Entry → List ℕ → LineStop → Type 0
+IsOther x line (Stops.What Whats.Outcome) = ¬ (line ≡ printed x)
+IsOther x line Stops.NoMemory = Unit {0}
+IsOther x line stop = ⊥
+
+-- why a line does not pass whose event the machine does not make
+abbrev pub stop_of : ApplyFault → LineStop
+stop_of (Applied.NotEnabled condition) = Stops.What (Whats.NotEnabled condition)
+stop_of (Applied.LogFull part) = Stops.LogFull part
+stop_of Applied.NoMemory = Stops.NoMemory

@@ -1,0 +1,7 @@
+//! Tests of the checker of printed journals: reports with what it answers for each.
+#![tactic(auto)]
+
+#[cfg(test)]
+mod tables;
+#[cfg(test)]
+mod tests;

@@ -1,0 +1,57 @@
+use crate::tables::{CALLS, HEAD, IDLE, REPORTS, RUNS, SCENARIO, TAIL};
+use am_check::{CheckStop, CheckWhat, check_steps};
+use am_office::Condition;
+use am_scenario::{ScenarioFault, What};
+use std::alloc::Global;
+use std::test::Fail;
+
+// What the check of a text is stopped for.
+fn stop(alloc: Global, text: &str) -> Option<CheckStop> {
+    match check_steps(alloc, text.as_bytes()) {
+        Ok(()) => None,
+        Err(stop) => Some(stop),
+    }
+}
+
+#[test]
+fn reports(rt: HostRuntime) -> Result<(), Fail> {
+    for (head, calls, runs, tail, answer) in REPORTS.iter() {
+        let text = format!(in rt.alloc(); "{SCENARIO}{head}{calls}{runs}{tail}")?;
+        assert!(rt;
+            stop(rt.alloc(), text.as_str()) == *answer,
+            "{head}{calls}{runs}{tail}"
+        );
+    }
+    Ok(())
+}
+
+#[test]
+fn ends_and_scenarios(rt: HostRuntime) -> Result<(), Fail> {
+    let whole = format!(in rt.alloc(); "{SCENARIO}{HEAD}{CALLS}{RUNS}{TAIL}")?;
+    let whole = whole.as_str();
+    let short = &whole[..whole.len() - 1];
+    let tail = CheckWhat::Tail;
+    assert!(rt;
+        stop(rt.alloc(), short)
+            == Some(CheckStop::Fault {
+                line: 14,
+                what: tail
+            })
+    );
+    let more = format!(in rt.alloc(); "{whole}\n")?;
+    assert!(rt;
+        stop(rt.alloc(), more.as_str())
+            == Some(CheckStop::Fault {
+                line: 15,
+                what: tail
+            })
+    );
+    let fault = ScenarioFault {
+        line: 1,
+        what: What::Missing,
+    };
+    assert!(rt; stop(rt.alloc(), HEAD) == Some(CheckStop::Scenario(fault)));
+    let what = CheckWhat::NotEnabled(Condition::NoMessage);
+    assert!(rt; stop(rt.alloc(), IDLE) == Some(CheckStop::Fault { line: 4, what }));
+    Ok(())
+}
