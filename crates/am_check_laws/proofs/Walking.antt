@@ -46,10 +46,10 @@ one_on s lawful past x on c =
     record {
       walked = subst (λ (z : Entry). Walked layout (past ++ z ∷ [])) (sym same) (walked_more layout past x.event on.walked range enabled);
       events =
-        map_push (λ (y : Entry). y.event) past x
-        ∙ ap (λ (l : List Event). l ++ x.event ∷ []) on.events
-        ∙ sym (take_more events (length past) x.event c.may)
-        ∙ ap (λ (n : ℕ). take n events) (sym long);
+          map_push (λ (y : Entry). y.event) past x
+          ∙ ap (λ (l : List Event). l ++ x.event ∷ []) on.events
+          ∙ sym (take_more events (length past) x.event c.may)
+          ∙ ap (λ (n : ℕ). take n events) (sym long);
     }
 
 none_on : (s : ScenarioLists) → IsOn s []
