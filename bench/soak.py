@@ -15,26 +15,10 @@ from concurrent.futures import ProcessPoolExecutor
 
 sys.path.insert(0, os.path.join(os.path.dirname(os.path.abspath(__file__)), "..", "check"))
 
-import judge
-import replay
 from randoms import threaded_script
-from scenario import read
+from reports import judged
 
 SECONDS = 120
-
-
-def judged(status, text, printed):
-    """What is wrong with an answer, and its numbers of entries: all, and at least how many the drain made."""
-    scenario, full = read(text), None
-    if status == 6:
-        first, printed = printed.split("\n", 1)
-        full = first.removeprefix("log full ")
-    elif status:
-        return [f"status {status}"], (0, 0)
-    wrong = judge.faults(scenario, printed) if status == 0 else []
-    again, phase = replay.made_again(scenario, printed, full)
-    entries = int(printed.split("\n")[1].split()[1])
-    return wrong + again, (entries, entries - phase)
 
 
 def tried(program, seed):

@@ -1,8 +1,12 @@
 //! Tests of the calls of a whole cluster: each made once with ample memory, and its threads at work at the same time.
 #![tactic(auto)]
 
-#[cfg(test)]
 mod gates;
+mod workloads;
+
+pub use gates::{Hold, HoldingGate, Moment, StepGate};
+pub use workloads::{no_calls, workload};
+
 #[cfg(test)]
 mod phases;
 #[cfg(test)]

@@ -2,7 +2,7 @@ use Rattle.std.proofs.Common.{◌≡◌, ℕ, zero, suc, ◌+◌, ◌<◌, List,
 use Rattle.am_scenario_types.specs.Lists.{ScenarioLists}
 use Rattle.am_scenario_types.specs.declared.parts.ThreadLine.{ThreadLine}
 use Rattle.am_scripts.specs.Scripts.{calls_of}
-use Rattle.am_cluster_tests.proofs.tests.no_calls.Goals as goal
+use Rattle.am_cluster_tests.proofs.workloads.no_calls.Goals as goal
 
 -- one thread more has made no call
 none_more : (ts : List ThreadLine) (n : ℕ) → n < length ts → map (λ (t : ThreadLine). length (calls_of t.id [])) (take (suc n) ts) ≡ map (λ (t : ThreadLine). length (calls_of t.id [])) (take n ts) ++ 0 ∷ []
