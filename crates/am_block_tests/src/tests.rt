@@ -30,6 +30,22 @@ fn listed(alloc: Global, block: &Block, list: List) -> Result<Vec<u8>, AllocErro
     Ok(slots)
 }
 
+// How many slots of a list have their own number written down.
+fn marked(block: &Block, list: List) -> u8 {
+    let mut count = 0;
+    let mut next = block.front(list);
+    for _ in 0..block.len(list) {
+        let Some(slot) = next else {
+            return count;
+        };
+        if block.get(slot).used == slot.0 {
+            count += 1;
+        }
+        next = block.after(slot);
+    }
+    count
+}
+
 // Moves the second slot of a list, or else its only one.
 fn move_second(block: &mut Block, from: List, to: List) -> Option<Slot> {
     let first = block.front(from)?;
@@ -81,7 +97,7 @@ fn goes_round(rt: HostRuntime) -> Result<(), Fail> {
     for step in 0..6 {
         plain = go_on(alloc, &mut block, plain, ROUND[step], ROUND[(step + 1) % 6])?;
     }
-    assert_eq!(rt; block.len(List::Free), 128);
+    assert_eq!(rt; marked(&block, List::Free), 128);
     Ok(())
 }
 
