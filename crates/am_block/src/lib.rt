@@ -2,16 +2,20 @@
 //! Contracts see the six lists, front first, and the descriptor of each slot. After `new` nothing here takes memory.
 #![tactic(auto)]
 
-ghost use Rattle.std.specs.Prelude.{◌≡◌, ◌<◌, ◌≤◌, ◌∷◌, [], ◌↔◌, length, drop, IfOk, IfSome, MatchOption, None, Some, slice_get};
+ghost use Rattle.std.specs.Prelude.{◌≡◌, ◌+◌, ◌<◌, ◌≤◌, ◌∷◌, [], ◌↔◌, length, drop, IfOk, IfSome, MatchOption, None, Some, slice_get};
 ghost use Rattle.std.specs.Option.{option_map};
 ghost use Rattle.std.specs.Borrow.{sem};
-ghost use Rattle.am_block.specs.Pools.{slots, size, home, moved, behind, place, IsBlock, IsFresh, IsLast};
+ghost use Rattle.am_block.specs.declared.List.{List as Which};
+ghost use Rattle.am_block.specs.Pools.{slots, size, home, moved, behind, IsBlock, IsFresh, IsLast};
+ghost use Rattle.am_block.specs.Lengths.{head, length_of, shifted, one_less, one_more};
 
-mod lanes;
+mod lengths;
+mod nodes;
 
 use am_names::{EndpointId, Message, MsgKind, Serial, Tag, Why, Words};
 use am_office::NoMemory;
-use lanes::{Lanes, behind_in};
+use lengths::Lengths;
+use nodes::Nodes;
 use std::alloc::{AllocError, Global};
 use std::marker::Model;
 
@@ -49,11 +53,12 @@ pub enum List {
 pub struct Slot(pub u8);
 
 /// Six lists in which each slot below the size stands once (`IsBlock` of `specs/Pools.antt`), and a descriptor for
-/// each slot.
+/// each slot. Each list is a ring of nodes through a head of its own, in one piece of memory.
 #[derive(Drop)]
 pub struct Block {
-    lanes: Lanes,
-    descriptors: Vec<Descriptor>,
+    nodes: Nodes,
+    lengths: Lengths,
+    size: u8,
 }
 
 impl Model for Block {
@@ -61,11 +66,11 @@ impl Model for Block {
 
     ghost Value = { Pools };
 
-    ghost use Rattle.am_block.specs.Lanes.{pools, IsSound};
+    ghost use Rattle.am_block.specs.Lengths.{pools, IsSound};
 
-    ghost view = { λ b. pools b.lanes b.descriptors.items };
+    ghost view = { λ b. pools b.nodes b.size b.lengths };
 
-    ghost invariant = { λ b. IsSound b.lanes b.descriptors.items };
+    ghost invariant = { λ b. IsSound b.nodes b.size b.lengths };
 }
 
 /// A descriptor that no one has written to.
@@ -95,6 +100,39 @@ fn blank() -> Descriptor {
     }
 }
 
+/// Moves a slot from its list to the tail of another, or of the same.
+fn shift(nodes: &mut Nodes, lengths: &mut Lengths, size: u8, slot: u8, from: List, to: List)
+    requires small { size ≤ 128 }
+    requires nodes { length nodes.old.next ≡ size + 6 }
+    requires slot { slot < size }
+    requires some { 1 ≤ length_of lengths.old from }
+    requires few { (w : Which) → length_of lengths.old w ≤ 128 }
+    ensures nodes { nodes.new ≡ shifted nodes.old size slot to }
+    ensures lengths { lengths.new ≡ one_more (one_less lengths.old from) to }
+{
+    nodes.take_out(slot);
+    nodes.append(slot, head(size, to), to);
+    let fewer = lengths.of(from) - 1;
+    lengths.set(from, fewer);
+    let more = lengths.of(to) + 1;
+    lengths.set(to, more);
+}
+
+/// The number of a list's head, behind the slots.
+fn head(size: u8, list: List) -> u8
+    requires { size ≤ 128 }
+    ensures { result ≡ head size list }
+{
+    match list {
+        List::Free => size,
+        List::Requests => size + 1,
+        List::Replies => size + 2,
+        List::InFlight => size + 3,
+        List::Notices => size + 4,
+        List::Received => size + 5,
+    }
+}
+
 impl Block {
     ghost use Rattle.am_block.specs.Lends.{LendsDescriptor};
 
@@ -103,9 +141,25 @@ impl Block {
         ensures fresh { IfOk result (λ b. IsFresh b size) }
         ensures block { IfOk result IsBlock }
     {
+        let mut nodes = Nodes::new(alloc, size + 6, List::Free, blank())?;
+        for head in size..size + 6 {
+            nodes.close(head, List::Free);
+        }
+        for slot in 0..size {
+            nodes.append(slot, size, List::Free);
+        }
+        let lengths = Lengths {
+            free: size,
+            requests: 0,
+            replies: 0,
+            in_flight: 0,
+            notices: 0,
+            received: 0,
+        };
         Ok(Block {
-            lanes: Lanes::new(alloc, size)?,
-            descriptors: Vec::from_elem(alloc, blank(), size as usize)?,
+            nodes,
+            lengths,
+            size,
         })
     }
 
@@ -126,7 +180,7 @@ impl Block {
         ensures value { result ≡ length (slots self.now list) }
         ensures block { IsBlock self.now }
     {
-        self.lanes.of(list).len() as u8
+        self.lengths.of(list)
     }
 
     /// The first slot of a list.
@@ -136,8 +190,10 @@ impl Block {
         ensures below { IfSome result (λ s. s.0 < size self.now) }
         ensures block { IsBlock self.now }
     {
-        let slot = self.lanes.of(list).first()?;
-        Some(Slot(*slot))
+        if self.lengths.of(list) == 0 {
+            return None;
+        }
+        Some(Slot(self.nodes.next(head(self.size, list))))
     }
 
     /// The slot right behind this one, in its list.
@@ -147,9 +203,11 @@ impl Block {
         ensures slot { option_map (λ s. s.0) result ≡ behind slot.0 (slots self.now (home self.now slot.0)) }
         ensures below { IfSome result (λ s. s.0 < size self.now) }
     {
-        match behind_in(self.lanes.of(self.home(slot)), slot.0) {
-            Some(next) => Some(Slot(next)),
-            None => None,
+        let next = self.nodes.next(slot.0);
+        if next < self.size {
+            Some(Slot(next))
+        } else {
+            None
         }
     }
 
@@ -161,9 +219,16 @@ impl Block {
         ensures moved { MatchOption result (self.new ≡ self.old) (λ s. self.new ≡ moved self.old from s.0 to) }
         ensures block { IsBlock self.new }
     {
-        let first = self.front(from)?;
-        self.relist(from, first, to);
-        Some(first)
+        let slot = self.front(from)?;
+        shift(
+            &mut self.nodes,
+            &mut self.lengths,
+            self.size,
+            slot.0,
+            from,
+            to,
+        );
+        Some(slot)
     }
 
     /// Takes a slot out of its list and appends it to another, or to the same.
@@ -172,39 +237,15 @@ impl Block {
         ensures moved { self.new ≡ moved self.old (home self.old slot.0) slot.0 to }
         ensures block { IsBlock self.new }
     {
-        let from = self.home(slot);
-        self.relist(from, slot, to);
-    }
-
-    /// Takes a slot out of this list of its and appends it to another.
-    fn relist(&mut self, from: List, slot: Slot, to: List)
-        requires { place slot.0 (slots self.old from) < length (slots self.old from) }
-        ensures moved { self.new ≡ moved self.old from slot.0 to }
-        ensures block { IsBlock self.new }
-    {
-        self.lanes.take(from, slot.0);
-        self.lanes.put(to, slot.0);
-    }
-
-    /// The list where a slot stands.
-    #[tactic(auto, unfolding(crate::specs::Pools::home))]
-    fn home(&self, slot: Slot) -> List
-        ensures list { result ≡ home self.now slot.0 }
-        ensures block { IsBlock self.now }
-    {
-        if self.lanes.free.contains(&slot.0) {
-            List::Free
-        } else if self.lanes.requests.contains(&slot.0) {
-            List::Requests
-        } else if self.lanes.replies.contains(&slot.0) {
-            List::Replies
-        } else if self.lanes.in_flight.contains(&slot.0) {
-            List::InFlight
-        } else if self.lanes.notices.contains(&slot.0) {
-            List::Notices
-        } else {
-            List::Received
-        }
+        let from = self.nodes.list(slot.0);
+        shift(
+            &mut self.nodes,
+            &mut self.lengths,
+            self.size,
+            slot.0,
+            from,
+            to,
+        );
     }
 
     /// The descriptor of a slot.
@@ -212,7 +253,7 @@ impl Block {
         requires { slot.0 < size self.now }
         ensures { slice_get self.now.descriptors slot.0 ≡ Some result.now }
     {
-        &self.descriptors[slot.0 as usize]
+        self.nodes.descriptor(slot.0)
     }
 
     /// The descriptor of a slot, to be written to. The lists and the other descriptors stay as they are.
@@ -221,9 +262,6 @@ impl Block {
         ensures* writes_back { sem 𝓛 (LendsDescriptor self.entry slot.0 result) }
         ensures value { slice_get self.old.descriptors slot.0 ≡ Some result.now }
     {
-        &mut self.descriptors[slot.0 as usize]
+        self.nodes.descriptor_mut(slot.0)
     }
 }
-
-#[cfg(test)]
-mod tests;

@@ -1,7 +1,6 @@
 //! A whole cluster run by the scripts of its scenario: what its threads make at the same time, and then the drain.
 #![tactic(auto)]
 
-ghost use Rattle.am_cluster.specs.Threads.{scripted_in, scripted_of};
 ghost use Rattle.am_cluster.specs.Runs.{IsAloneStopped, IsDrainHalted, IsRunDone, IsRunStopped, ObeysRunLaws};
 ghost use Rattle.am_drain.specs.Cut.{IsDrainedWithRoom};
 ghost use Rattle.am_drain.specs.Follows.{IsGoodPhase};
@@ -10,7 +9,6 @@ ghost use Rattle.am_drain_steps.specs.Runs.{IsWholeRun};
 ghost use Rattle.am_follow.specs.Layout.{layout_of};
 ghost use Rattle.am_model.specs.History.{IsHistory};
 ghost use Rattle.am_model.specs.PostOffice.{PostOffice};
-ghost use Rattle.am_run_laws.specs.Drained.{HasShortLogs};
 ghost use Rattle.am_run_laws.specs.Left.{LeavesNothing};
 ghost use Rattle.am_scenario_types.specs.Lawful.{IsLawful};
 ghost use Rattle.am_scenario_types.specs.declared.parts.Network.TheVariants.{Packet};
@@ -19,29 +17,19 @@ ghost use Rattle.am_scripts.specs.Links.{KeepsLinks, ReceivesInOrder};
 ghost use Rattle.am_scripts.specs.Scripts.{BeginsScripts, calls_of};
 ghost use Rattle.std.specs.Prelude.{◌≡◌, [], IfErr, IfOk, OnOk, length, map};
 
-mod emissions;
-mod links;
-mod looks;
-mod plan_index;
-mod reads;
-mod scripted;
-mod threads;
-
 use am_crew::make_phase;
 pub use am_crew::{Gate, OpenGate};
-use am_machine::{Cluster, NoMemory};
+use am_machine::Cluster;
 use am_office::{Journal, Part};
 use am_run_laws::{
-    drains_leave_nothing, drains_receive_all, none_is_refused, runs_have_short_logs,
-    runs_with_room_are_whole,
+    drains_leave_nothing, drains_receive_all, none_is_refused, runs_with_room_are_whole,
 };
 use am_scenario_types::Scenario;
-use emissions::links_after;
-use scripted::{Beside, ScriptedCluster, drain_in_place, plan_of};
+pub use am_scripted::calls_made;
+use am_scripted::{ScriptedCluster, drain_cluster, tell_logs};
 use std::alloc::Global;
 use std::thread::Threads;
 use thiserror::Error;
-use threads::{ThreadScript, scripts_after, tell_made};
 
 /// A run that came to its end.
 #[derive(Debug, Drop)]
@@ -71,29 +59,6 @@ pub enum DrainFault {
     NoMemory,
 }
 
-/// Tells how many calls each thread made in the journal of a cluster, which is a history.
-fn tell_of(scenario: &Scenario, cluster: &Cluster, threads: &[ThreadScript], made: &mut [u32])
-    requires threads { map scripted_in threads.now ≡ map (scripted_of scenario.now cluster.now.journal) scenario.now.threads }
-    requires len { length made.old ≡ length threads.now }
-    ensures made { made.new ≡ map (λ (t : ThreadLine). length (calls_of t.id cluster.now.journal)) scenario.now.threads }
-    ensures history { IsHistory cluster.now.layout cluster.now.journal }
-{
-    cluster.laws();
-    tell_made(threads, made);
-}
-
-/// No log of the scenario's cluster has more entries than it may.
-fn tell_logs(cluster: &Cluster, scenario: &Scenario)
-    requires lawful { IsLawful scenario.now }
-    requires packet { scenario.now.network ≡ Packet }
-    requires layout { cluster.now.layout ≡ layout_of scenario.now }
-    ensures { HasShortLogs scenario.now cluster.now.journal }
-{
-    runs_have_short_logs();
-    cluster.laws();
-    cluster.logs_are_short();
-}
-
 /// Does what is left to do when no thread runs any more, until all is at rest. The cluster is that of the scenario, and its
 /// journal begins the scripts. `made` has the number of calls that each thread made, in the order of the threads, before and
 /// after. Ok: the journal is what the drain makes of the one before, and no entry met a full log; all is at rest, every call of
@@ -119,28 +84,9 @@ pub fn drain(cluster: &mut Cluster, scenario: &Scenario, made: &mut [u32]) -> Re
     drains_receive_all();
     tell_logs(cluster, scenario);
     cluster.laws();
-    let alloc = *scenario.script.allocator();
-    let Ok(journal) = cluster.journal(alloc) else {
-        return Err(DrainFault::NoMemory);
-    };
-    let Ok(plan) = plan_of(alloc, scenario) else {
-        return Err(DrainFault::NoMemory);
-    };
-    let Ok(links) = links_after(alloc, scenario, &plan, &journal.entries) else {
-        return Err(DrainFault::NoMemory);
-    };
-    let Ok(threads) = scripts_after(alloc, scenario, &journal.entries) else {
-        return Err(DrainFault::NoMemory);
-    };
-    let beside = Beside {
-        scenario,
-        plan,
-        links,
-        threads,
-    };
-    let drained = drain_in_place(cluster, beside);
-    tell_of(scenario, cluster, &drained.threads, made);
-    match drained.result {
+    let drained = am_scripted::drain(cluster, scenario, made);
+    cluster.laws();
+    match drained {
         Ok(()) => Ok(()),
         Err(am_drain_loop::DrainFault::LogFull(part)) => Err(DrainFault::LogFull(part)),
         Err(am_drain_loop::DrainFault::NoMemory) => Err(DrainFault::NoMemory),
@@ -198,52 +144,37 @@ pub fn alone(alloc: Global, scenario: &Scenario) -> Result<Finished, RunFault>
     }
 }
 
-/// How many calls each thread made in the journal of a cluster, in the order of the threads.
-fn calls_made(alloc: Global, scenario: &Scenario, cluster: &Cluster) -> Result<Vec<u32>, NoMemory>
-    requires lawful { IsLawful scenario.now }
-    requires packet { scenario.now.network ≡ Packet }
-    requires layout { cluster.now.layout ≡ layout_of scenario.now }
-    ensures { IfOk result (λ made. made.items ≡ map (λ (t : ThreadLine). length (calls_of t.id cluster.now.journal)) scenario.now.threads) }
-{
-    tell_logs(cluster, scenario);
-    cluster.laws();
-    let Ok(journal) = cluster.journal(alloc) else {
-        return Err(NoMemory);
-    };
-    let threads = scripts_after(alloc, scenario, &journal.entries)?;
-    let mut made = vec![in alloc; 0; threads.len()]?;
-    tell_of(scenario, cluster, &threads, &mut made);
-    Ok(made)
-}
-
 /// The drain of what the threads of a run made.
 fn drain_phase(
     alloc: Global,
     scenario: &Scenario,
     mut cluster: Cluster,
-    made: &mut [u32],
 ) -> Result<Finished, RunFault>
     requires lawful { IsLawful scenario.now }
     requires packet { scenario.now.network ≡ Packet }
     requires layout { cluster.layout ≡ layout_of scenario.now }
     requires good { IsGoodPhase scenario.now cluster.journal }
     requires none { scenario.now.turns ≡ 0 → cluster.journal ≡ [] }
-    requires made { made.old ≡ map (λ (t : ThreadLine). length (calls_of t.id cluster.journal)) scenario.now.threads }
     ensures done { IfOk result (λ finished. IsRunDone scenario.now finished.journal) }
     ensures whole { IfOk result (λ finished. IsWholeRun scenario.now finished.journal) }
     ensures obeys { IfOk result (λ finished. ObeysRunLaws scenario.now finished.journal) }
     ensures stopped { IfErr result (IsRunStopped scenario.now) }
 {
+    none_is_refused();
     tell_logs(&cluster, scenario);
-    let drained = drain(&mut cluster, scenario, made);
+    let drained = drain_cluster(&mut cluster, scenario);
     let journal = match cluster.journal(alloc) {
         Ok(journal) => journal,
         Err(_) => return Err(RunFault::NoMemory),
     };
     match drained {
         Ok(()) => Ok(Finished { journal }),
-        Err(DrainFault::LogFull(part)) => Err(RunFault::LogFull { part, journal }),
-        Err(DrainFault::NoMemory) => Err(RunFault::NoMemory),
+        Err(am_drain_loop::DrainFault::LogFull(full)) => Err(RunFault::LogFull {
+            part: full,
+            journal,
+        }),
+        Err(am_drain_loop::DrainFault::NoMemory) => Err(RunFault::NoMemory),
+        Err(am_drain_loop::DrainFault::NotEnabled(_)) => unreachable!(),
     }
 }
 
@@ -269,8 +200,5 @@ pub fn run<R: Threads + Sync, G: Gate + Sync>(
     let Ok(cluster) = make_phase(rt, alloc, scenario, gate) else {
         return Err(RunFault::NoMemory);
     };
-    let Ok(mut made) = calls_made(alloc, scenario, &cluster) else {
-        return Err(RunFault::NoMemory);
-    };
-    drain_phase(alloc, scenario, cluster, &mut made)
+    drain_phase(alloc, scenario, cluster)
 }

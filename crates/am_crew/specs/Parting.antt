@@ -10,7 +10,7 @@ use Rattle.am_wire.specs.declared.closing.LinkRecord.{LinkRecord}
 use Rattle.am_crew.specs.declared.ended.NodeEnded.{NodeEnded}
 
 abbrev pub end_in : EndBook → EndpointView
-end_in b = b.end
+end_in b = b.end.value
 
 abbrev pub emitted_in : LinkRecord → Vec Packet
 emitted_in r = r.emitted

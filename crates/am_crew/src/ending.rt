@@ -42,7 +42,7 @@ fn take_out(places: &Places<EndBook>, keeper: &mut Seat<EndBook>, at: usize) -> 
     requires gathered { HasGathered keeper.old.token.me.0 }
     requires outside { (known_at at keeper.old.token.me.0).inside ≡ false }
     ensures keeper { keeper.new.token.table_id ≡ keeper.old.token.table_id }
-    ensures book { (log : List (Tenure Entry)) × ComesTo at keeper.old.token.me log result × (keeper.new.token.me ≡ (with_known at (inside_with (stands_at result.end) log (known_at at keeper.old.token.me.0)) keeper.old.token.me.0, (at, None) ∷ keeper.old.token.me.1)) }
+    ensures book { (log : List (Tenure Entry)) × ComesTo at keeper.old.token.me log result × (keeper.new.token.me ≡ (with_known at (inside_with (stands_at result.end.value) log (known_at at keeper.old.token.me.0)) keeper.old.token.me.0, (at, None) ∷ keeper.old.token.me.1)) }
 {
     match places.take_out_at(keeper, at) {
         Some(book) => book,

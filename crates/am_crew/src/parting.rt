@@ -19,14 +19,21 @@ use am_office::{Entry, Event, NoMemory};
 use am_wire::LinkRecord;
 use std::alloc::Global;
 
+/// The endpoint of this book.
+fn end_of(book: EndBook) -> Endpoint
+    ensures { result ≡ end_in book }
+{
+    let EndBook { end } = book;
+    Box::into_inner(end)
+}
+
 /// The endpoints of these books.
 fn ends_of(alloc: Global, books: Vec<EndBook>) -> Result<Vec<Endpoint>, NoMemory>
     ensures { IfOk result (λ ends. ends.items ≡ map end_in books.items) }
 {
     let mut ends = Vec::with_capacity(alloc, books.len())?;
     for book in books {
-        let EndBook { end } = book;
-        ends.push(end)?;
+        ends.push(end_of(book))?;
     }
     Ok(ends)
 }

@@ -21,13 +21,13 @@ use Rattle.am_places.specs.Rule.{Begins, HasGathered, gathered}
 use Rattle.am_wire.specs.Links.{emitted, received, released}
 use Rattle.am_wire.specs.declared.receiving.LinkIn.{LinkIn}
 use Rattle.am_wire.specs.declared.sending.LinkOut.{LinkOut}
-use Rattle.am_works.specs.Seats.{EndPass, Ids}
+use Rattle.am_works.specs.Seats.{EndPass, Ids, setting_by}
 use Rattle.am_workers.specs.AtWork.{IsThreadAtWork, sent_by, sent_on, taken_by, taken_on}
 use Rattle.am_workers.specs.declared.workers.ThreadWorker.{ThreadWorker}
 use Rattle.am_crew_laws.specs.Ended.{DriverEnd, InterfaceEnd, IsTakenOut, ThreadEnd, Worker, gathering, whole_pass}
 use Rattle.am_crew_opening.specs.Crews.{IsCrew, ids_of, table_of}
 use Rattle.am_crew_opening.specs.declared.crew.NodeCrew.{NodeCrew}
-use Rattle.am_unite_laws.specs.Ended.{IsSetTo, setting_by}
+use Rattle.am_unite_laws.specs.Ended.{IsSetTo}
 use Rattle.am_unite_laws.specs.Teams.{ArePartsOfTeams, AreSeated, AreTakenOut, AreTeams, AreUnited, HasThreads, IsPartOfTeam, IsTeam, Team, TeamThread, keeper_in, node_end, thread_of, worker_of_thread}
 use Rattle.am_unite_laws.proofs.Counted.{receipts_count}
 use Rattle.am_unite_laws.proofs.Seated.{teams_gather}

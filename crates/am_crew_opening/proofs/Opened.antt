@@ -249,7 +249,7 @@ module _ (s : ScenarioLists) (o : Opening) (guests : List EndSeat) (inner last :
         is_node = made.driver_node;
         disk =
             subst (IsNewDisk s o.node op.books) (sym is)
-            (record { fails = d.fails; calls = d.calls; holds = all_mapped (λ (b : EndBook). b.end.settings) (IsOpenIn o.swap) op.books d.holds });
+            (record { fails = d.fails; calls = d.calls; holds = all_mapped (λ (b : EndBook). b.end.value.settings) (IsOpenIn o.swap) op.books d.holds });
         view = made.view' ∙ op.view';
         clock = made.clock';
       }))

@@ -27,6 +27,7 @@ use am_model::{Head, Queued};
 use am_names::{EndpointId, NodeId};
 use am_office::{Condition, Event, Part};
 use am_scenario_types::ScriptCall;
+pub use rules::{next_turn, receipt};
 
 /// Why a drain ended before all was at rest. The entries that were made before it stand.
 #[derive(Clone, Copy, PartialEq, Eq, Debug)]

@@ -48,8 +48,8 @@ fn receipt_at<M: Machine>(machine: &M, node: NodeId) -> Option<Turn>
     None
 }
 
-/// The receipt that is due, at the least node.
-fn receipt<M: Machine>(machine: &M) -> Option<Turn>
+/// The receipt that is due, at the least node. None exactly where all that was released on any link was received.
+pub fn receipt<M: Machine>(machine: &M) -> Option<Turn>
     ensures turn { result ≡ option_map Turn.Once (next_receipt (M.scenario machine.now) (M.journal machine.now)) }
     ensures in_range { IfSome result (λ turn. is_turn_in_range (layout_of (M.scenario machine.now)) turn ≡ true) }
 {
@@ -288,8 +288,8 @@ fn quiet_turn<M: Machine>(machine: &M) -> Option<Turn>
     poll(machine)
 }
 
-/// The turn of the first rule that applies: receive, time out, page in, send, script, poll.
-pub(crate) fn next_turn<M: Machine>(machine: &M) -> Option<Turn>
+/// The turn of the first rule that applies: receive, time out, page in, send, script, poll. None where nothing is left to be done.
+pub fn next_turn<M: Machine>(machine: &M) -> Option<Turn>
     ensures turn { result ≡ rules.next_turn (M.scenario machine.now) (M.journal machine.now) }
     ensures in_range { IfSome result (λ turn. is_turn_in_range (layout_of (M.scenario machine.now)) turn ≡ true) }
 {

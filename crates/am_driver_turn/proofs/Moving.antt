@@ -281,7 +281,7 @@ module _ (frames : ℕ) (node : NodeId) (view : ViewLists) (swap : Store) (v : E
 
 -- ---- as the code has it
 
-pub found_there : (k at : ℕ) (me now : M) (b : EndBook) → Stands k me → (w : FoundThere k at me now b) → IsFoundAt k b.end.settings w.0 me.0
+pub found_there : (k at : ℕ) (me now : M) (b : EndBook) → Stands k me → (w : FoundThere k at me now b) → IsFoundAt k b.end.value.settings w.0 me.0
 found_there k at me now b s w =
     record {
       born = w.2.born;
@@ -289,7 +289,7 @@ found_there k at me now b s w =
       own = w.2.own_tenures me.0.mark s.mine;
       calm_log = w.2.calm_log;
       once = w.2.opening;
-      rests' = subst (λ (xs : List Entry). rests b.end.settings.id (fresh b.end.settings.tag b.end.settings.place) xs ≡ true) (sym w.2.stands_for) b.kept.rests;
+      rests' = subst (λ (xs : List Entry). rests b.end.value.settings.id (fresh b.end.value.settings.tag b.end.value.settings.place) xs ≡ true) (sym w.2.stands_for) b.kept.rests;
     }
 
 pub decided_there : (k clock : ℕ) (event : Event) (view view' : ViewLists) (swap swap' : Store) (r : Answer) (set : EndSettings) (log : List (Tenure Entry)) (past : List Entry) → joined log ≡ past → DecideFound k clock event view view' swap swap' r set past → DecideFound k clock event view view' swap swap' r set (joined log)

@@ -25,6 +25,13 @@ pub fn line_of(end: &Endpoint) -> EndView
     }
 }
 
+/// The line of the endpoint of this book.
+pub(crate) fn line_in(book: &EndBook) -> EndView
+    ensures { result ≡ views.line_of book.now.end.value.settings.id (state_after book.now.end.value) }
+{
+    line_of(&book.end)
+}
+
 /// Puts this line at its position.
 pub(crate) fn show(view: &mut View, at: usize, line: EndView)
     requires { at < length view.old.ends }
@@ -52,7 +59,7 @@ fn look(
 {
     match places.try_enter_at(seat, at) {
         Ok(entered) => {
-            show(view, at, line_of(&entered.book.end));
+            show(view, at, line_in(&entered.book));
             places.leave(seat, entered);
             Ok(())
         }

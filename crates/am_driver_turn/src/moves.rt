@@ -8,7 +8,7 @@ ghost use Rattle.am_works.specs.Drives.{line_by, with_line};
 ghost use Rattle.am_driver_turn.specs.Turns.{DecideFound, Follows, MakeFound, added_by};
 ghost use Rattle.std.specs.Prelude.{◌≡◌, ◌↔◌, ◌<◌, ◌≤◌, ◌^◌, ◌++◌, IsTrue, length, max};
 
-use crate::looks::{line_of, show};
+use crate::looks::{line_in, show};
 use crate::turns::{DriverFault, DriverTurn};
 use am_books::EndBook;
 use am_driver::{EndView, Move, View, next_move};
@@ -29,6 +29,13 @@ fn is_spent(clock: u64, end: &Endpoint) -> bool
     clock.max(end.last_stamp()) >= LAST
 }
 
+/// The number of the endpoint of this book.
+fn id_in(book: &EndBook) -> EndpointId
+    ensures { result ≡ book.now.end.value.settings.id }
+{
+    book.end.id()
+}
+
 /// Makes the move of this event, unless the log is full or a stamp is spent.
 fn make(
     alloc: Global,
@@ -37,21 +44,22 @@ fn make(
     event: Event,
     clock: u64,
 ) -> Result<DriverTurn, DriverFault>
-    requires can { CanMove swap.old (kept book.old.end) event }
-    ensures settings { book.new.end.settings ≡ book.old.end.settings }
-    ensures added { book.new.end.log ≡ book.old.end.log ++ added_by result }
-    ensures found { MakeFound clock event swap.old swap.new result book.old.end.settings book.old.end.log }
+    requires can { CanMove swap.old (kept book.old.end.value) event }
+    ensures settings { book.new.end.value.settings ≡ book.old.end.value.settings }
+    ensures added { book.new.end.value.log ≡ book.old.end.value.log ++ added_by result }
+    ensures found { MakeFound clock event swap.old swap.new result book.old.end.value.settings book.old.end.value.log }
 {
-    match book.end.room() {
+    let end = &mut *book.end;
+    match end.room() {
         Ok(()) => {}
-        Err(EndFault::LogFull) => return Err(DriverFault::LogFull(book.end.id())),
+        Err(EndFault::LogFull) => return Err(DriverFault::LogFull(end.id())),
         Err(EndFault::NoMemory) => return Err(DriverFault::NoMemory),
     }
-    if is_spent(clock, &book.end) {
-        return Ok(DriverTurn::Spent(book.end.id()));
+    if is_spent(clock, end) {
+        return Ok(DriverTurn::Spent(end.id()));
     }
-    let stamp = 1 + clock.max(book.end.last_stamp());
-    match make_move(alloc, swap, &mut book.end, event, stamp) {
+    let stamp = 1 + clock.max(end.last_stamp());
+    match make_move(alloc, swap, end, event, stamp) {
         Ok(entry) => Ok(DriverTurn::Did(entry)),
         Err(_) => Err(DriverFault::NoMemory),
     }
@@ -115,16 +123,16 @@ pub(crate) fn decide(
 ) -> Result<DriverTurn, DriverFault>
     requires line { at < length view.old.ends }
     requires chosen { chosen ≡ rules.next_move view.old }
-    requires can { rules.next_move (with_line at (line_by book.old.end.settings book.old.end.log) view.old) ≡ rules.next_move view.old → CanMove swap.old (kept book.old.end) event }
-    ensures settings { book.new.end.settings ≡ book.old.end.settings }
-    ensures added { book.new.end.log ≡ book.old.end.log ++ added_by result }
-    ensures found { DecideFound at clock event view.old view.new swap.old swap.new result book.old.end.settings book.old.end.log }
+    requires can { rules.next_move (with_line at (line_by book.old.end.value.settings book.old.end.value.log) view.old) ≡ rules.next_move view.old → CanMove swap.old (kept book.old.end.value) event }
+    ensures settings { book.new.end.value.settings ≡ book.old.end.value.settings }
+    ensures added { book.new.end.value.log ≡ book.old.end.value.log ++ added_by result }
+    ensures found { DecideFound at clock event view.old view.new swap.old swap.new result book.old.end.value.settings book.old.end.value.log }
 {
-    show(view, at, line_of(&book.end));
+    show(view, at, line_in(book));
     if !is_still(view, chosen) {
-        return Ok(DriverTurn::Stale(book.end.id()));
+        return Ok(DriverTurn::Stale(id_in(book)));
     }
     let turn = make(alloc, swap, book, event, clock);
-    follow(view, at, line_of(&book.end), chosen, &turn);
+    follow(view, at, line_in(book), chosen, &turn);
     turn
 }

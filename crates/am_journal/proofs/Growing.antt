@@ -1,7 +1,7 @@
 -- What is read off a journal, one entry more.
-use Rattle.std.specs.Prelude.{max, slice_get, slice_set, slice_index_or, replicate, IfSome}
+use Rattle.std.specs.Prelude.{max, nat_lt, slice_get, slice_set, slice_index_or, replicate, IfSome}
 use Rattle.std.specs.List.{filter, cons_option, All}
-use Rattle.std.proofs.Common.{◌≡◌, ⊎_elim, ℕ, zero, suc, ◌+◌, ◌*◌, ◌<◌, ◌≤◌, ◌^◌, ◌==◌, Bool, true, false, cond, ◌&&◌, List, [], ◌∷◌, ◌++◌, map, length, Option, Some, None, true≢false, refl, sym, ap, ◌∙◌, arith, eq-eqb, eqb-true, if◌then◌else◌}
+use Rattle.std.proofs.Common.{◌≡◌, ⊎_elim, ℕ, zero, suc, ◌+◌, ◌*◌, ◌<◌, ◌^◌, ◌==◌, Bool, true, false, cond, ◌&&◌, List, [], ◌∷◌, ◌++◌, map, length, Option, Some, None, true≢false, refl, sym, ap, ◌∙◌, arith, eq-eqb, eqb-true, ltb-true, ltb-false, if◌then◌else◌}
 use Rattle.std.proofs.lemmas.List.{append-nil}
 use Rattle.std.proofs.lemmas.List.Sums.{fold-append, sum_by_push, count_by-le-length}
 use Rattle.std.proofs.lemmas.Option.{slice_get_within}
@@ -21,9 +21,9 @@ use Rattle.am_local.specs.Readings.{page_calls}
 use Rattle.am_local.specs.Together.{from_of}
 use Rattle.am_local.proofs.Growing.{emitted_append, readings_push}
 use Rattle.am_drain.specs.Made.{later_stamp}
-use Rattle.am_journal.specs.Kept.{AreRead, items_of, node_of}
+use Rattle.am_journal.specs.Kept.{items_of}
 use Rattle.am_journal.specs.Places.{link, link_of, page_place, receipt_place, counted, delivered}
-use Rattle.am_journal.specs.View.{AreNodes, HasRoomFor, JournalView, greatest_stamp, is_receipt, receipts}
+use Rattle.am_journal.specs.View.{AreNodes, AreRead, CanCount, HasRoomFor, IndexView, IsIndexOf, Readings, greatest_stamp, is_receipt, node_of, received_in, receipts}
 use Rattle.am_journal.proofs.Lists.{got_set, index_got, got_mapped, got_all, set_length}
 
 -- the greatest stamp, one entry more
@@ -141,11 +141,11 @@ put_same from to (Some (Packets.Answer p)) lt nodes =
 
 -- ---- one entry more
 
-counted_length : (place : Option ℕ) (ns : List ℕ) → length (counted place ns) ≡ length ns
+pub counted_length : (place : Option ℕ) (ns : List ℕ) → length (counted place ns) ≡ length ns
 counted_length None ns = refl
 counted_length (Some k) ns = set_length ns k (slice_index_or ns k 0 + 1)
 
-delivered_length : (p : Option Packet) (ls : List (List Packet)) → length (delivered p ls) ≡ length ls
+pub delivered_length : (p : Option Packet) (ls : List (List Packet)) → length (delivered p ls) ≡ length ls
 delivered_length None ls = refl
 delivered_length (Some p) ls = set_length ls (link_of p) (slice_index_or ls (link_of p) [] ++ p ∷ [])
 
@@ -212,30 +212,48 @@ emitted_here entries pages received links from to ps are lt below at =
     are.emitted from.0 to.0 ps below
     (index_got links (link from to) ps (let all = are.all_links in omega (arith, lt, below, all)) ∙ ap (λ (qs : List Packet). Some qs) (sym at))
 
--- no count is more than there are entries
-pub page_bound : (entries : List Entry) (pages received : List ℕ) (links : List (List Packet)) (k : ℕ) → AreRead entries pages received links → k < 16 → slice_index_or pages k 0 ≤ length entries
-page_bound entries pages received links k are lt =
-    let is = are.pages k (slice_index_or pages k 0) (index_got pages k 0 (let all = are.all_pages in omega (arith, lt, all))) in
-    let most = count_by-le-length (λ (x : Entry). is_page_call (node_of k) x.event) entries in
-    omega (arith, is, most)
+-- ---- counts
 
-pub receipt_bound : (entries : List Entry) (pages received : List ℕ) (links : List (List Packet)) (from to : NodeId) → AreRead entries pages received links → from.0 < 16 → to.0 < 16 → slice_index_or received (link from to) 0 ≤ length entries
-receipt_bound entries pages received links from to are lt below =
-    let is = are.received from.0 to.0 (slice_index_or received (link from to) 0) below (index_got received (link from to) 0 (let all = are.all_received in omega (arith, lt, below, all))) in
-    let most = count_by-le-length (λ (x : Entry). is_receipt from to x.event) entries in
-    omega (arith, is, most)
+pub received_is : (entries : List Entry) (r : Readings) (from to : NodeId) → IsIndexOf entries r → from.0 < 16 → to.0 < 16 → received_in r from to ≡ receipts from to entries
+received_is entries r from to is lt below =
+    is.read.received from.0 to.0 (received_in r from to) below (index_got r.received (link from to) 0 (let all = is.read.all_received in omega (arith, lt, below, all)))
 
--- so a count one more is small
-pub page_small : (entries : List Entry) (pages received : List ℕ) (links : List (List Packet)) (e : Event) → AreRead entries pages received links → AreNodes e → length entries + 1 < 2 ^ 64 → IfSome (page_place e) (λ k. slice_index_or pages k 0 + 1 < 2 ^ 64)
-page_small entries pages received links (Events.PageOut node end) are at small = let most = page_bound entries pages received links node.0 are at in omega (arith, most, small)
-page_small entries pages received links (Events.PageIn node end) are at small = let most = page_bound entries pages received links node.0 are at in omega (arith, most, small)
-page_small entries pages received links e are at small = tt
+-- the nodes of the link at a place
+nodes_at : (k : ℕ) → (from : ℕ) × (to : ℕ) × (to < 16) × (k ≡ 16 * from + to)
+nodes_at zero = (0, 0, omega arith, omega arith)
+nodes_at (suc k) = let n = nodes_at k in by_test n.0 n.1 n.2 n.3 (nat_lt (n.1 + 1) 16) refl
+  where
+    by_test : (from to : ℕ) → to < 16 → k ≡ 16 * from + to → (t : Bool) → nat_lt (to + 1) 16 ≡ t → (f : ℕ) × (b : ℕ) × (b < 16) × (suc k ≡ 16 * f + b)
+    by_test from to less is true lt = let next = ltb-true (to + 1) 16 lt in (from, to + 1, next, omega (arith, is))
+    by_test from to less is false ge = let last = ltb-false (to + 1) 16 ge in (from + 1, 0, omega arith, omega (arith, is, less, last))
 
-pub receipt_small : (entries : List Entry) (pages received : List ℕ) (links : List (List Packet)) (e : Event) → AreRead entries pages received links → AreNodes e → length entries + 1 < 2 ^ 64 → IfSome (receipt_place e) (λ k. slice_index_or received k 0 + 1 < 2 ^ 64)
-receipt_small entries pages received links (Events.Receive node peer number) are at small = let most = receipt_bound entries pages received links peer node are at.1 at.0 in omega (arith, most, small)
-receipt_small entries pages received links e are at small = tt
+-- where there are not too many entries, each count can be one more
+pub can_count : (entries : List Entry) (r : Readings) → IsIndexOf entries r → length entries + 1 < 2 ^ 64 → CanCount r
+can_count entries r is few =
+    record {
+      pages = λ k d lt.
+          (let same = is.read.pages k (slice_index_or r.pages k d) (index_got r.pages k d lt) in
+          let most = count_by-le-length (λ (x : Entry). is_page_call (node_of k) x.event) entries in
+          omega (arith, same, most, few));
+      received = λ k d lt.
+          (let n = nodes_at k in
+          let at : slice_get r.received (16 * n.0 + n.1) ≡ Some (slice_index_or r.received k d) = ap (slice_get r.received) (sym n.3) ∙ index_got r.received k d lt in
+          let same = is.read.received n.0 n.1 (slice_index_or r.received k d) n.2 at in
+          let most = count_by-le-length (λ (x : Entry). is_receipt (node_of n.0) (node_of n.1) x.event) entries in
+          omega (arith, same, most, few));
+    }
 
-pub nodes_within : (v : JournalView) (p : Option Packet) → HasRoomFor v p → IsWithin p
+-- the count at the place of an event, if it has one
+pub page_small : (pages : List ℕ) (e : Event) → All (λ n. n + 1 < 2 ^ 64) pages → length pages ≡ 16 → AreNodes e → IfSome (page_place e) (λ k. slice_index_or pages k 0 + 1 < 2 ^ 64)
+page_small pages (Events.PageOut node end) small all at = small node.0 0 (omega (arith, all, at))
+page_small pages (Events.PageIn node end) small all at = small node.0 0 (omega (arith, all, at))
+page_small pages e small all at = tt
+
+pub receipt_small : (received : List ℕ) (e : Event) → All (λ n. n + 1 < 2 ^ 64) received → length received ≡ 256 → AreNodes e → IfSome (receipt_place e) (λ k. slice_index_or received k 0 + 1 < 2 ^ 64)
+receipt_small received (Events.Receive node peer number) small all at = let a = at.0 in let b = at.1 in small (link peer node) 0 (omega (arith, all, a, b))
+receipt_small received e small all at = tt
+
+pub nodes_within : (v : IndexView) (p : Option Packet) → HasRoomFor v p → IsWithin p
 nodes_within v None h = tt
 nodes_within v (Some p) h = (h.0, h.1)
 

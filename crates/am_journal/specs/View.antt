@@ -1,20 +1,30 @@
--- A journal with what is read off it, as its callers see it.
-use Rattle.std.specs.Prelude.{◌≡◌, ℕ, ◌+◌, ◌^◌, ◌<◌, ◌≤◌, Bool, true, false, ◌&&◌, Option, Some, None, List, count_by, fold, length, slice_index_or}
+-- The index of a journal, as its callers see it, and when it is that of some entries.
+use Rattle.std.specs.Prelude.{◌≡◌, ℕ, ◌+◌, ◌*◌, ◌^◌, ◌<◌, ◌≤◌, Bool, true, false, ◌&&◌, Option, Some, None, List, count_by, fold, length, slice_get, slice_index_or}
+use Rattle.std.specs.List.{All}
 use Rattle.am_names.specs.declared.NodeId.{NodeId}
 use Rattle.am_names.specs.declared.Packet.{Packet}
 use Rattle.am_names.specs.Names.{same_node}
 use Rattle.am_office.specs.declared.Event.{Event}
 use Rattle.am_office.specs.declared.Event.TheVariants as Events
 use Rattle.am_office.specs.declared.Entry.{Entry}
+use Rattle.am_model.specs.Channels.{emitted}
 use Rattle.am_local.specs.Interface.{receiver_of}
+use Rattle.am_local.specs.Readings.{page_calls}
 use Rattle.am_local.specs.Together.{from_of}
 use Rattle.am_drain.specs.Made.{later_stamp}
 use Rattle.am_journal.specs.Places.{link}
 
--- the entries in order, whether there is room for one more, and for each link whether there is room for one more packet
-pub record JournalView : Type 0 where
-  pub entries : List Entry
-  pub ready : Bool
+-- what an index reads: the greatest stamp, the page calls of each of 16 nodes, and of each link, sixteen to a node, the receipts
+-- and the packets
+pub record Readings : Type 0 where
+  pub greatest : ℕ
+  pub pages : List ℕ
+  pub received : List ℕ
+  pub packets : List (List Packet)
+
+-- what it reads, and for each link whether there is room for one more packet
+pub record IndexView : Type 0 where
+  pub read : Readings
   pub links : List Bool
 
 -- the greatest stamp of the entries, and 0 where there are none
@@ -26,8 +36,12 @@ abbrev pub IsEarly : List Entry → Type 0
 IsEarly past = greatest_stamp past ≤ 2 ^ 63 + length past
 
 -- whether there is room for one more packet on a link
-abbrev pub is_ready_on : JournalView → NodeId → NodeId → Bool
+abbrev pub is_ready_on : IndexView → NodeId → NodeId → Bool
 is_ready_on v from to = slice_index_or v.links (link from to) false
+
+-- the number of receipts that is read for a link
+abbrev pub received_in : Readings → NodeId → NodeId → ℕ
+received_in r from to = slice_index_or r.received (link from to) 0
 
 -- whether a packet of the link is received here
 abbrev pub is_receipt : NodeId → NodeId → Event → Bool
@@ -46,6 +60,28 @@ AreNodes (Events.PageIn node end) = node.0 < 16
 AreNodes event = Unit {0}
 
 -- the packet, if there is one, goes over a link of a cluster on which there is room for it
-abbrev pub HasRoomFor : JournalView → Option Packet → Type 0
+abbrev pub HasRoomFor : IndexView → Option Packet → Type 0
 HasRoomFor v None = Unit {0}
 HasRoomFor v (Some p) = ((from_of p).0 < 16) × ((receiver_of p).0 < 16) × (is_ready_on v (from_of p) (receiver_of p) ≡ true)
+
+abbrev pub node_of : ℕ → NodeId
+node_of n = record { 0 = n }
+
+-- the numbers of each node and link, and the packets of each link, are those of the entries
+pub record AreRead (entries : List Entry) (of_nodes of_links : List ℕ) (packets : List (List Packet)) : Type 0 where
+  pub pages : (node n : ℕ) → slice_get of_nodes node ≡ Some n → n ≡ page_calls (node_of node) entries
+  pub received : (from to n : ℕ) → to < 16 → slice_get of_links (16 * from + to) ≡ Some n → n ≡ receipts (node_of from) (node_of to) entries
+  pub emitted : (from to : ℕ) (ps : List Packet) → to < 16 → slice_get packets (16 * from + to) ≡ Some ps → ps ≡ emitted (node_of from) (node_of to) entries
+  pub all_pages : length of_nodes ≡ 16
+  pub all_received : length of_links ≡ 256
+  pub all_links : length packets ≡ 256
+
+-- it reads what the definitions read off these entries
+pub record IsIndexOf (entries : List Entry) (r : Readings) : Type 0 where
+  pub greatest : r.greatest ≡ greatest_stamp entries
+  pub read : AreRead entries r.pages r.received r.packets
+
+-- each count can be one more
+pub record CanCount (r : Readings) : Type 0 where
+  pub pages : All (λ n. n + 1 < 2 ^ 64) r.pages
+  pub received : All (λ n. n + 1 < 2 ^ 64) r.received

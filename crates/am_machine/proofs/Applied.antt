@@ -1,8 +1,9 @@
 -- What a cluster is after an event was applied or refused.
 use Rattle.std.specs.Prelude.{fold, slice_get, slice_index_or, slice_set, max, nat_le, not}
 use Rattle.std.specs.List.{list_any, filter, position}
-use Rattle.std.proofs.Common.{◌≡◌, ℕ, zero, suc, ◌+◌, ◌-◌, ◌<◌, ◌≤◌, Bool, true, false, cond, ◌||◌, List, [], ◌∷◌, ◌++◌, map, length, Option, Some, None, refl, sym, ap, ◌∙◌, subst, arith, if◌then◌else◌}
+use Rattle.std.proofs.Common.{◌≡◌, ℕ, zero, suc, ◌+◌, ◌-◌, ◌<◌, ◌≤◌, Bool, true, false, cond, ◌||◌, List, [], ◌∷◌, ◌++◌, map, length, Option, Some, None, refl, sym, ap, ◌∙◌, subst, arith, leb-false, true≢false, if◌then◌else◌}
 use Rattle.std.proofs.lemmas.Bool.{and_parts}
+use Rattle.std.proofs.lemmas.List.{length_push}
 use Rattle.am_names.specs.declared.EndpointId.{EndpointId}
 use Rattle.am_names.specs.Names.{same_end}
 use Rattle.am_office.specs.declared.Actor.{Actor}
@@ -17,7 +18,8 @@ use Rattle.am_office.specs.Entries.{ends_touched, node_touched, touches}
 use Rattle.am_model.specs.Allowed.{are_numbers_in_range}
 use Rattle.am_model.specs.Endpoint.{State, is_on_disk}
 use Rattle.am_model.specs.Calls.{outcome_of_call}
-use Rattle.am_model.specs.Layout.{Layout}
+use Rattle.am_local.specs.Readings.{with_entry}
+use Rattle.am_model.specs.Layout.{AllAre, Layout}
 use Rattle.am_model.specs.History.{MayFollow, is_in_range, is_call_in_range, is_byte, is_kind_in_range, are_credits_in_range, failing, outcome_of, state_of}
 use Rattle.am_model.specs.Layout.{declared}
 use Rattle.am_model.specs.Steps.{LogFull, NotEnabled, stop, stop_by, full_by, full_log, least_such, lesser, is_end_full}
@@ -38,7 +40,7 @@ use Rattle.am_machine.specs.Interfaces.{AreInterfaces}
 use Rattle.am_machine.specs.Pages.{is_page}
 use Rattle.am_machine.specs.Swaps.{AreSwaps}
 use Rattle.am_machine.proofs.InterfaceLogs.{interfaces_moved, interfaces_same}
-use Rattle.am_machine.specs.Kept.{IsKept, IsOwn, IsTied, layout_in}
+use Rattle.am_machine.specs.Kept.{IsKept, IsOwn, IsShort, IsTied, layout_in}
 use Rattle.am_machine.specs.View.{ClusterView}
 use Rattle.am_machine.proofs.Direct.{off_disk}
 use Rattle.am_machine.proofs.Events.{call_enabled}
@@ -70,11 +72,48 @@ pub record IsNext (s : Settings) (faults : List FaultLine) (es : List EndLog) (j
   pub ends : new ≡ map (grown x) es
   pub journal' : grown_journal ≡ journal ++ x ∷ []
 
+-- where nothing stops an event, no log that its entry goes into is full
+none_full : (p : EndpointId → Bool) (es : List EndpointId) (e : EndpointId) → least_such p es ≡ None → list_any (same_end e) es ≡ true → p e ≡ false
+none_full p [] e none among = absurd (true≢false (sym among))
+none_full p (d ∷ es) e none among = by_tests (p d) (same_end e d) refl refl none among (none_full p es e)
+  where
+    by_tests : (t s : Bool) → p d ≡ t → same_end e d ≡ s → (if t then Some (lesser d (least_such p es)) else least_such p es) ≡ None → (s || list_any (same_end e) es) ≡ true → (least_such p es ≡ None → list_any (same_end e) es ≡ true → p e ≡ false) → p e ≡ false
+    by_tests true s is same n a more = absurd (cc)
+    by_tests false true is same n a more = ap p (same_end-is e d same) ∙ is
+    by_tests false false is same n a more = more n a
+
+no_end_full : (layout : Layout) (past : List Entry) (event : Event) → stop layout past event ≡ None → least_such (is_end_full layout past) (ends_touched event (outcome_of layout past event)) ≡ None
+no_end_full layout past event h = by_parts (failing layout past event) (least_such (is_end_full layout past) (ends_touched event (outcome_of layout past event))) h
+  where
+    by_parts : (f : Option Condition) (o : Option EndpointId) → stop_by f (full_by layout past o (node_touched event)) ≡ None → o ≡ None
+    by_parts (Some c) o k = absurd (cc)
+    by_parts None None k = refl
+    by_parts None (Some e) k = absurd (cc)
+
+-- so each is as short as it may be with the entry
+grown_short : (layout : Layout) (journal : List Entry) (x : Entry) (es : List EndLog) → AllAre (IsOwn layout journal) es → AllAre IsShort es → ((e : EndpointId) → touches e x ≡ true → is_end_full layout journal e ≡ false) → AllAre IsShort (map (grown x) es)
+grown_short layout journal x [] own short room = tt
+grown_short layout journal x (e ∷ es) own short room = (by_test (touches e.settings.id x) refl, grown_short layout journal x es own.1 short.1 room)
+  where
+    by_test : (t : Bool) → touches e.settings.id x ≡ t → length (with_entry t x e.log) ≤ e.settings.log
+    by_test true is =
+        let less = leb-false layout.log (length (filter (touches e.settings.id) journal)) (room e.settings.id is) in
+        let same = ap (λ (l : List Entry). length l) own.0.log in
+        let longer = length_push e.log x in
+        let limit = own.0.limit in
+        omega (arith, less, same, longer, limit)
+    by_test false is = short.0
+
+short_next : (layout : Layout) (es : List EndLog) (journal : List Entry) (event : Event) → IsTied layout es journal → stop layout journal event ≡ None → AllAre IsShort (map (grown (next_entry layout journal event)) es)
+short_next layout es journal event tied runs =
+    grown_short layout journal (next_entry layout journal event) es tied.own tied.short
+    (λ e is. none_full (is_end_full layout journal) (ends_touched event (outcome_of layout journal event)) e (no_end_full layout journal event runs) is)
+
 pub tied_next : (s : Settings) (faults : List FaultLine) (es : List EndLog) (journal : List Entry) (event : Event) (x : Entry) (new : List EndLog) (longer : List Entry) → IsNext s faults es journal event x new longer → IsTied (layout_in s faults new) new longer
 tied_next s faults es journal event x new longer n =
     let layout = layout_in s faults es in
     let y = next_entry layout journal event in
-    let at_y : IsTied layout (map (grown y) es) (journal ++ y ∷ []) = tied_push layout es journal event n.tied n.in_range (enabled_of layout journal event n.runs) in
+    let at_y : IsTied layout (map (grown y) es) (journal ++ y ∷ []) = tied_push layout es journal event n.tied n.in_range (enabled_of layout journal event n.runs) (short_next layout es journal event n.tied n.runs) in
     let at_x : IsTied layout (map (grown x) es) (journal ++ x ∷ []) = subst (λ (z : Entry). IsTied layout (map (grown z) es) (journal ++ z ∷ [])) (sym n.entry) at_y in
     let same : layout ≡ layout_in s faults (map (grown x) es) = sym (layout_kept s faults es x) in
     let whole : IsTied (layout_in s faults (map (grown x) es)) (map (grown x) es) (journal ++ x ∷ []) = subst (λ (l : Layout). IsTied l (map (grown x) es) (journal ++ x ∷ [])) same at_x in

@@ -15,7 +15,7 @@ use Rattle.am_scenario_types.specs.Lawful.{IsLawfulEnd}
 use Rattle.am_follow.specs.Layout.{is_direct, setting_of}
 use Rattle.am_machine.specs.declared.settings.Settings.{Settings}
 use Rattle.am_machine.specs.Ends.{EndLog, setting_in}
-use Rattle.am_machine.specs.Kept.{IsOwn, IsTied, layout_in}
+use Rattle.am_machine.specs.Kept.{IsOwn, IsShort, IsTied, layout_in}
 use Rattle.am_iface.specs.View.{InterfaceView}
 use Rattle.am_machine.specs.Beginnings.{opened}
 use Rattle.am_machine.specs.Homes.{AreFresh}
@@ -118,6 +118,7 @@ begins s faults nodes lines es is lawful rise whole =
       early = omega arith;
       ordered = refl;
       own = all_by_place (IsOwn layout []) (map (opened s) lines) own_at;
+      short = short_at lines;
       apart = λ j k d e dj ek same.
           (let a = got_opened s lines j d dj in
           let b = got_opened s lines k e ek in
@@ -126,6 +127,10 @@ begins s faults nodes lines es is lawful rise whole =
   where
     layout : Layout
     layout = layout_in s faults (map (opened s) lines)
+
+    short_at : (ls : List EndLine) → AllAre IsShort (map (opened s) ls)
+    short_at [] = tt
+    short_at (l ∷ ls) = (omega arith, short_at ls)
 
     own_at : (k : ℕ) (e : EndLog) → slice_get (map (opened s) lines) k ≡ Some e → IsOwn layout [] e
     own_at k e at =

@@ -2,7 +2,7 @@
 use Rattle.std.specs.Prelude.{Result, Ok, Err, IfSome, IsSome, option_to_list, is_none, is_some, not, nat_le, slice_get, slice_index_or, slice_set}
 use Rattle.std.specs.List.{find, list_any, position}
 use Rattle.std.specs.Option.{option_map}
-use Rattle.std.proofs.Common.{◌≡◌, inl, inr, ℕ, ◌<◌, ◌≤◌, Bool, true, false, cond, ◌&&◌, ◌||◌, List, [], ◌∷◌, map, length, Option, Some, None, refl, sym, ap, ◌∙◌, subst, arith, if◌then◌else◌}
+use Rattle.std.proofs.Common.{◌≡◌, inl, inr, ℕ, ◌<◌, ◌≤◌, Bool, true, false, cond, ◌&&◌, ◌||◌, List, [], ◌∷◌, ◌++◌, map, length, Option, Some, None, refl, sym, ap, ◌∙◌, subst, arith, if◌then◌else◌}
 use Rattle.std.proofs.lemmas.Bool.{le-leb, leb-true}
 use Rattle.am_names.specs.declared.EndpointId.{EndpointId}
 use Rattle.am_names.specs.declared.NodeId.{NodeId}
@@ -34,17 +34,18 @@ use Rattle.am_laws_homes.proofs.Homes.{front_addressed}
 use Rattle.am_laws_homes.proofs.Places.{fits_network}
 use Rattle.am_laws_packets.proofs.Packets.{bound_aloft}
 use Rattle.am_endpoint.specs.View.{EndpointView, state_after}
+use Rattle.am_journal.specs.View.{IsIndexOf, Readings}
 use Rattle.am_iface.specs.View.{FitsInterface, InterfaceView, own}
 use Rattle.am_iface.specs.With.{IsFullOf, IsHomeKnown, KnowsHome}
 use Rattle.am_machine.specs.declared.settings.ApplyFault.{ApplyFault}
 use Rattle.am_machine.specs.declared.settings.ApplyFault.TheVariants as Faults
 use Rattle.am_machine.specs.Ends.{is_of, kept, setting_in}
 use Rattle.am_machine.specs.Kept.{IsKept, IsOwn, layout_in}
-use Rattle.am_machine.specs.Turned.{CanTurnWith, IsGrown, IsTurned, TurnsWith}
+use Rattle.am_machine.specs.Turned.{CanTurnWith, IsGrown, IsTurned, TurnsWith, entries_after}
 use Rattle.am_machine.specs.View.{Applies, ClusterView}
 use Rattle.am_machine.specs.Ways.{GoesTo, dest_node, node_of, way}
 use Rattle.am_machine.proofs.Applied.{IsHere, IsNext, found_here, full_here, last_here, own_here, seen, seen_next, seen_same, single_grows, state_here}
-use Rattle.am_machine.proofs.Fitting.{joint_can, state_for}
+use Rattle.am_machine.proofs.Fitting.{joint_can, joint_fits, joint_nodes, state_for}
 use Rattle.am_machine.proofs.Joint as joint
 use Rattle.am_machine.proofs.Joint.{Joint, alone_disabled, event_in, interface_in, joint_entry, joint_event, joint_failing, joint_kept, joint_outcome, joint_part, joint_still, node_full, not_full, work_touches}
 use Rattle.am_machine.proofs.Moving.{setting_found}
@@ -152,9 +153,9 @@ flies_by j b (Works.Bind end) fits needed = tt
 flies_by j b (Works.Expire peer channel) fits needed =
     in_flight j b peer channel (bound_message (channel_in (own j.one) peer channel) j.one.log) (not (has_try_left (own j.one) (channel_in (own j.one) peer channel))) refl needed
 
-pub beside_can : (j : Joint) (b : Beside j) → CanTurnWith j.one (kept b.endpoint) j.journal j.work
-beside_can j b =
-    let can = joint_can j in
+pub beside_can : (j : Joint) (b : Beside j) (r : Readings) → IsIndexOf j.journal r → CanTurnWith j.one (kept b.endpoint) r j.work
+beside_can j b r index =
+    let can = joint_can j r index in
     let layout = joint.layout_of j in
     record {
       turn = can;
@@ -167,7 +168,7 @@ beside_can j b =
       bounces = (own_of j b).bounces ∙ sym (interface_in j).bounces;
       known = known_by j b j.work;
       flies = flies_by j b j.work can.fits b.needed;
-      last = last_here layout j.ends j.journal b.end b.place b.endpoint j.kept'.tied (here_of j b);
+      last = (let late = last_here layout j.ends j.journal b.end b.place b.endpoint j.kept'.tied (here_of j b) in omega (arith, late, index.greatest));
     }
 
 -- ---- where its packet goes
@@ -206,10 +207,10 @@ way_goes j b = by_work j.work
     by_work (Works.Expire peer channel) = refl
 
 pub way_within : (j : Joint) (b : Beside j) → IfSome (way j.one j.ends b.endpoint j.work) (λ (n : NodeId). n.0 < 16)
-way_within j b = by_work j.work (joint_can j).fits
+way_within j b = by_work j.work (joint_fits j)
   where
     few : j.one.settings.nodes ≤ 16
-    few = (joint_can j).nodes.1
+    few = (joint_nodes j).1
 
     by_dest : (o : Option NodeId) → IfSome o (λ (n : NodeId). n.0 < j.settings.nodes) → IfSome o (λ (n : NodeId). n.0 < 16)
     by_dest None h = tt
@@ -273,8 +274,8 @@ beside_full j b p enabled (inr at) bounded =
 
 -- ---- what it makes of a cluster
 
-beside_next : (j : Joint) (b : Beside j) (x : Entry) (new : InterfaceView) (f : EndpointView) (longer : List Entry) → IsTurned j.one new j.journal longer j.state j.work x → IsGrown (kept b.endpoint) f x → IsNext j.settings j.faults (map kept j.ends) j.journal (event_in j) x (map kept (slice_set j.ends b.place f)) longer
-beside_next j b x new f longer t g =
+beside_next : (j : Joint) (b : Beside j) (x : Entry) (new : InterfaceView) (f : EndpointView) → IsTurned j.one new j.journal j.state j.work x → IsGrown (kept b.endpoint) f x → IsNext j.settings j.faults (map kept j.ends) j.journal (event_in j) x (map kept (slice_set j.ends b.place f)) (j.journal ++ x ∷ [])
+beside_next j b x new f t g =
     record {
       tied = j.kept'.tied;
       in_range = j.in_range;
@@ -284,37 +285,37 @@ beside_next j b x new f longer t g =
           kept_set j.ends b.place b.endpoint f x (here_of j b).at g.settings g.log
           ∙ single_grows (joint.layout_of j) j.ends j.journal b.end b.place b.endpoint x j.kept'.tied (here_of j b)
           (ap (λ (y : Entry). ends_touched y.event y.outcome) (joint_entry j x t.entry) ∙ touches_end j b);
-      journal' = t.journal;
+      journal' = refl;
     }
 
 ends_still : (j : Joint) (b : Beside j) (f : EndpointView) → kept f ≡ kept b.endpoint → map kept (slice_set j.ends b.place f) ≡ map kept j.ends
 ends_still j b f same = kept_same j.ends b.place b.endpoint f (here_of j b).at same
 
 -- the state that the interface reads is the endpoint's
-turned_at : (j : Joint) (b : Beside j) (new : InterfaceView) (longer : List Entry) (x : Entry) → IsTurned j.one new j.journal longer (state_after b.endpoint) j.work x → IsTurned j.one new j.journal longer j.state j.work x
-turned_at j b new longer x t = subst (λ (s : State). IsTurned j.one new j.journal longer s j.work x) (sym b.reads) t
+turned_at : (j : Joint) (b : Beside j) (new : InterfaceView) (x : Entry) → IsTurned j.one new j.journal (state_after b.endpoint) j.work x → IsTurned j.one new j.journal j.state j.work x
+turned_at j b new x t = subst (λ (s : State). IsTurned j.one new j.journal s j.work x) (sym b.reads) t
 
 enabled_at : (j : Joint) (b : Beside j) (o : Option Condition) → failing_at (own j.one) (state_after b.endpoint) j.work ≡ o → failing_at (own j.one) j.state j.work ≡ o
 enabled_at j b o is = ap (λ (s : State). failing_at (own j.one) s j.work) b.reads ∙ is
 
-pub beside_keeps : (j : Joint) (b : Beside j) (new : InterfaceView) (f : EndpointView) (longer : List Entry) (result : Result Entry ApplyFault) → TurnsWith j.one new b.endpoint f j.journal longer j.work result → IsKept (layout_in j.settings j.faults (map kept (slice_set j.ends b.place f))) (map kept (slice_set j.ends b.place f)) longer (slice_set j.interfaces j.node.0 new) j.swaps
-beside_keeps j b new f longer (Ok x) turns =
-    let t = turned_at j b new longer x turns.0 in joint_kept j x new longer (map kept (slice_set j.ends b.place f)) (beside_next j b x new f longer t turns.1) t
-beside_keeps j b new f longer (Err (Faults.NotEnabled c)) turns = joint_still j new longer (map kept (slice_set j.ends b.place f)) turns.1 (ends_still j b f turns.2)
-beside_keeps j b new f longer (Err (Faults.LogFull p)) turns = joint_still j new longer (map kept (slice_set j.ends b.place f)) turns.3 (ends_still j b f turns.4)
-beside_keeps j b new f longer (Err Faults.NoMemory) turns = joint_still j new longer (map kept (slice_set j.ends b.place f)) turns.0 (ends_still j b f turns.1)
+pub beside_keeps : (j : Joint) (b : Beside j) (new : InterfaceView) (f : EndpointView) (result : Result Entry ApplyFault) → TurnsWith j.one new b.endpoint f j.journal j.work result → IsKept (layout_in j.settings j.faults (map kept (slice_set j.ends b.place f))) (map kept (slice_set j.ends b.place f)) (entries_after j.journal result) (slice_set j.interfaces j.node.0 new) j.swaps
+beside_keeps j b new f (Ok x) turns =
+    let t = turned_at j b new x turns.0 in joint_kept j x new (map kept (slice_set j.ends b.place f)) (beside_next j b x new f t turns.1) t
+beside_keeps j b new f (Err (Faults.NotEnabled c)) turns = joint_still j new (map kept (slice_set j.ends b.place f)) turns.1 (ends_still j b f turns.2)
+beside_keeps j b new f (Err (Faults.LogFull p)) turns = joint_still j new (map kept (slice_set j.ends b.place f)) turns.3 (ends_still j b f turns.4)
+beside_keeps j b new f (Err Faults.NoMemory) turns = joint_still j new (map kept (slice_set j.ends b.place f)) turns.0 (ends_still j b f turns.1)
 
-pub beside_applies : (j : Joint) (b : Beside j) (v : ClusterView) (new : InterfaceView) (f : EndpointView) (longer : List Entry) (result : Result Entry ApplyFault) → seen j.settings j.faults (map kept j.ends) j.journal ≡ v → TurnsWith j.one new b.endpoint f j.journal longer j.work result → Applies v (seen j.settings j.faults (map kept (slice_set j.ends b.place f)) longer) (event_in j) result
-beside_applies j b v new f longer (Ok x) is turns =
-    seen_next j.settings j.faults (map kept j.ends) j.journal (event_in j) x (map kept (slice_set j.ends b.place f)) longer v is
-    (beside_next j b x new f longer (turned_at j b new longer x turns.0) turns.1)
-beside_applies j b v new f longer (Err (Faults.NotEnabled c)) is turns = (
+pub beside_applies : (j : Joint) (b : Beside j) (v : ClusterView) (new : InterfaceView) (f : EndpointView) (result : Result Entry ApplyFault) → seen j.settings j.faults (map kept j.ends) j.journal ≡ v → TurnsWith j.one new b.endpoint f j.journal j.work result → Applies v (seen j.settings j.faults (map kept (slice_set j.ends b.place f)) (entries_after j.journal result)) (event_in j) result
+beside_applies j b v new f (Ok x) is turns =
+    seen_next j.settings j.faults (map kept j.ends) j.journal (event_in j) x (map kept (slice_set j.ends b.place f)) (j.journal ++ x ∷ []) v is
+    (beside_next j b x new f (turned_at j b new x turns.0) turns.1)
+beside_applies j b v new f (Err (Faults.NotEnabled c)) is turns = (
   ap (λ (w : ClusterView). stop w.layout w.journal (event_in j)) (sym is) ∙ alone_disabled j c (enabled_at j b (Some c) turns.0),
-  seen_same j.settings j.faults (map kept j.ends) (map kept (slice_set j.ends b.place f)) j.journal longer v (ends_still j b f turns.2) turns.1.journal is,
+  seen_same j.settings j.faults (map kept j.ends) (map kept (slice_set j.ends b.place f)) j.journal j.journal v (ends_still j b f turns.2) refl is,
 )
-beside_applies j b v new f longer (Err (Faults.LogFull p)) is turns = (
+beside_applies j b v new f (Err (Faults.LogFull p)) is turns = (
   ap (λ (w : ClusterView). stop w.layout w.journal (event_in j)) (sym is) ∙ beside_full j b p (enabled_at j b None turns.0) turns.1 turns.2,
-  seen_same j.settings j.faults (map kept j.ends) (map kept (slice_set j.ends b.place f)) j.journal longer v (ends_still j b f turns.4) turns.3.journal is,
+  seen_same j.settings j.faults (map kept j.ends) (map kept (slice_set j.ends b.place f)) j.journal j.journal v (ends_still j b f turns.4) refl is,
 )
-beside_applies j b v new f longer (Err Faults.NoMemory) is turns =
-    seen_same j.settings j.faults (map kept j.ends) (map kept (slice_set j.ends b.place f)) j.journal longer v (ends_still j b f turns.1) turns.0.journal is
+beside_applies j b v new f (Err Faults.NoMemory) is turns =
+    seen_same j.settings j.faults (map kept j.ends) (map kept (slice_set j.ends b.place f)) j.journal j.journal v (ends_still j b f turns.1) refl is

@@ -1,7 +1,7 @@
 -- Packets go between nodes of the layout.
 use Rattle.std.specs.Prelude.{if◌then◌else◌, nat_lt}
 use Rattle.std.specs.List.{find}
-use Rattle.std.proofs.Common.{◌≡◌, ℕ, ◌+◌, ◌<◌, Bool, true, false, ◌&&◌, List, length, Option, Some, None, refl, sym, ap, ◌∙◌, subst, arith, ltb-true}
+use Rattle.std.proofs.Common.{◌≡◌, ℕ, ◌+◌, ◌<◌, Bool, true, false, ◌&&◌, List, length, Option, Some, None, refl, subst, ltb-true}
 use Rattle.std.proofs.lemmas.Bool.{and_parts}
 use Rattle.am_names.specs.declared.EndpointId.{EndpointId}
 use Rattle.am_names.specs.declared.NodeId.{NodeId}
@@ -14,11 +14,11 @@ use Rattle.am_office.specs.declared.Event.TheVariants as Events
 use Rattle.am_office.specs.declared.Outcome.{Outcome}
 use Rattle.am_office.specs.declared.Outcome.TheVariants as Out
 use Rattle.am_office.specs.declared.Entry.{Entry}
-use Rattle.am_office.specs.Entries.{answer_by, answer_packet, emitted_in, emitted_of, parcel}
+use Rattle.am_office.specs.Entries.{answer_by, answer_packet, emitted_in, parcel}
 use Rattle.am_model.specs.declared.Queued.{Queued}
 use Rattle.am_model.specs.Channels.{attempt, bound_message, emitted, sequence}
 use Rattle.am_model.specs.Endpoint.{front}
-use Rattle.am_model.specs.History.{bind, bind_to, channel_for, channel_to, expire, is_answered, is_in_range, outcome_of, sent, state_of, MayFollow}
+use Rattle.am_model.specs.History.{bind, bind_to, channel_for, channel_to, expire, is_answered, is_in_range, outcome_of, sent, state_of}
 use Rattle.am_model.specs.Changes.{flying_of}
 use Rattle.am_model.specs.Layout.{EndSetting, IsLawful, IsSettingLawful, Layout, declared, has_id, home, home_by}
 use Rattle.am_laws_messages.proofs.Alls.{all_found}

@@ -48,7 +48,7 @@ reached_stays : (e : EndpointId) (s : State) (o : Outcome) → on_disk s ≡ fal
 reached_stays e s (Out.Accepted m) h = if_stays (same_end e m.dest) s (put m s) h h
 reached_stays e s o h = h
 
-not_packet : (c : Condition) (rest : Option Condition) (b : Bool) → b ≡ true → cond b (Some c) rest ≡ None → ⊥
+pub not_packet : (c : Condition) (rest : Option Condition) (b : Bool) → b ≡ true → cond b (Some c) rest ≡ None → ⊥
 not_packet c rest true is k = cc
 not_packet c rest false is k = cc
 

@@ -27,7 +27,7 @@ use Rattle.am_local.proofs.Outcomes.{same_ends}
 use Rattle.am_local.proofs.Numbering.{history_numbered, numbered_place}
 use Rattle.am_laws_packets.proofs.Packets.{bound_aloft, packets_fit}
 use Rattle.am_drain.proofs.Entries.{entry_may_follow}
-use Rattle.am_journal.specs.View.{greatest_stamp}
+use Rattle.am_journal.specs.View.{IsIndexOf, Readings, greatest_stamp}
 use Rattle.am_scenario_types.specs.declared.parts.FaultLine.{FaultLine}
 use Rattle.am_endpoint.specs.View.{EndpointView}
 use Rattle.am_journal.proofs.Lists.{index_got}
@@ -38,8 +38,9 @@ use Rattle.am_machine.specs.declared.settings.Settings.{Settings}
 use Rattle.am_machine.specs.Ends.{kept}
 use Rattle.am_machine.specs.Kept.{IsKept, layout_in}
 use Rattle.am_machine.specs.View.{ClusterView}
-use Rattle.am_machine.specs.Turned.{CanTurn, IsTaken}
+use Rattle.am_machine.specs.Turned.{CanTurn, IsOfCluster, IsTaken}
 use Rattle.am_machine.proofs.Applied.{all_below, below_filter, last_below, seen}
+use Rattle.am_machine.proofs.Few.{counts_fit, stamp_fits}
 use Rattle.am_machine.proofs.Joint as joint
 use Rattle.am_machine.proofs.Joint.{Joint, event_in, interface_in, joint_failing}
 
@@ -157,19 +158,27 @@ joint_last j =
     subst (λ (xs : List Entry). last_stamp xs ≤ greatest_stamp j.journal) (sym (interface_in j).part)
     (last_below (greatest_stamp j.journal) (filter (touches_node j.node) j.journal) (below_filter (greatest_stamp j.journal + 1) (touches_node j.node) j.journal (all_below j.journal)))
 
-pub joint_can : (j : Joint) → CanTurn j.one j.journal j.work
-joint_can j =
+pub joint_nodes : (j : Joint) → IsOfCluster j.one
+joint_nodes j =
     let is = interface_in j in
     let nodes = is.nodes in
     let node = ap (λ (n : NodeId). n.0) is.is_node in
     let there = node_there (joint.layout_of j) j.node j.work j.in_range in
     let few = j.kept'.tied.lawful.nodes.1 in
+    (omega (arith, node, there, few), omega (arith, nodes, few))
+
+-- where the index is that of the journal
+pub joint_can : (j : Joint) (r : Readings) → IsIndexOf j.journal r → CanTurn j.one r j.work
+joint_can j r index =
+    let late = joint_last j in
+    let packet = joint_packet j in
     record {
       fits = joint_fits j;
-      early = j.kept'.tied.early;
-      last = joint_last j;
-      packet = joint_packet j;
-      nodes = (omega (arith, node, there, few), omega (arith, nodes, few));
+      stamp = stamp_fits (joint.layout_of j) (map kept j.ends) j.journal j.interfaces j.swaps r refl j.kept' index;
+      counts = counts_fit (joint.layout_of j) (map kept j.ends) j.journal j.interfaces j.swaps r refl j.kept' index;
+      last = omega (arith, late, index.greatest);
+      packet = omega (arith, packet, index.greatest);
+      nodes = joint_nodes j;
     }
 
 -- ---- the packet of a receipt

@@ -1,7 +1,7 @@
 -- A work of an interface, in the whole cluster.
 use Rattle.std.specs.Prelude.{slice_index_or, Result, Ok, Err, option_to_list, slice_get, slice_set, nat_le}
 use Rattle.std.specs.List.{filter, list_any}
-use Rattle.std.proofs.Common.{◌≡◌, ◌≢◌, ℕ, zero, suc, ◌<◌, Bool, true, false, cond, List, [], ◌∷◌, map, length, Option, Some, None, refl, sym, ap, ◌∙◌, subst, arith, if◌then◌else◌}
+use Rattle.std.proofs.Common.{◌≡◌, ◌≢◌, ℕ, zero, suc, ◌<◌, Bool, true, false, cond, List, [], ◌∷◌, ◌++◌, map, length, Option, Some, None, refl, sym, ap, ◌∙◌, subst, arith, if◌then◌else◌}
 use Rattle.std.proofs.lemmas.Bool.{le-leb, leb-true, leb-false}
 use Rattle.am_names.specs.declared.EndpointId.{EndpointId}
 use Rattle.am_names.specs.declared.NodeId.{NodeId}
@@ -34,9 +34,9 @@ use Rattle.am_machine.specs.declared.settings.Settings.{Settings}
 use Rattle.am_machine.specs.Ends.{EndLog, kept}
 use Rattle.am_machine.specs.Interfaces.{AreInterfaces, IsInterface}
 use Rattle.am_machine.specs.Kept.{IsKept, layout_in}
-use Rattle.am_machine.specs.Turned.{IsSame, IsTaken, IsTurned, TurnsAlone, entry_of_work}
+use Rattle.am_machine.specs.Turned.{IsTaken, IsTurned, TurnsAlone, entries_after, entry_of_work}
 use Rattle.am_machine.specs.View.{Applies, ClusterView}
-use Rattle.am_machine.proofs.Applied.{IsNext, kept_still, seen, seen_next, seen_same, tied_next, swaps_kept}
+use Rattle.am_machine.proofs.Applied.{IsNext, kept_still, seen, seen_next, tied_next, swaps_kept}
 use Rattle.am_machine.proofs.InterfaceLogs.{interfaces_more, interfaces_moved}
 use Rattle.am_journal.proofs.Lists.{index_got}
 use Rattle.am_device.specs.Memory.{Store}
@@ -189,26 +189,25 @@ alone_full j p alone enabled full =
     ∙ ap (λ (q : Part). Some (LogFull q)) (sym (full.0 ∙ ap (λ (n : NodeId). Parts.Interface n) (interface_in j).is_node))
 
 -- what it makes of a cluster
-pub alone_next : (j : Joint) (x : Entry) (new : InterfaceView) (longer : List Entry) → IsAlone j → IsTurned j.one new j.journal longer j.state j.work x → IsNext j.settings j.faults (map kept j.ends) j.journal (event_in j) x (map kept j.ends) longer
-alone_next j x new longer alone t =
+pub alone_next : (j : Joint) (x : Entry) (new : InterfaceView) → IsAlone j → IsTurned j.one new j.journal j.state j.work x → IsNext j.settings j.faults (map kept j.ends) j.journal (event_in j) x (map kept j.ends) (j.journal ++ x ∷ [])
+alone_next j x new alone t =
     record {
       tied = j.kept'.tied;
       in_range = j.in_range;
       runs = alone_stop j false alone t.enabled (not_full j t.room);
       entry = joint_entry j x t.entry;
       ends = sym (none_grown x (map kept j.ends) (λ k d got. ap (λ (es : List EndpointId). list_any (same_end d.settings.id) es) (ap (λ (y : Entry). ends_touched y.event y.outcome) t.entry ∙ alone.none)));
-      journal' = t.journal;
+      journal' = refl;
     }
 
 -- the interface's log grows
-pub joint_interfaces : (j : Joint) (x : Entry) (new : InterfaceView) (longer : List Entry) → IsTurned j.one new j.journal longer j.state j.work x → AreInterfaces (layout_of j) longer (slice_set j.interfaces j.node.0 new)
-joint_interfaces j x new longer t =
+pub joint_interfaces : (j : Joint) (x : Entry) (new : InterfaceView) → IsTurned j.one new j.journal j.state j.work x → AreInterfaces (layout_of j) (j.journal ++ x ∷ []) (slice_set j.interfaces j.node.0 new)
+joint_interfaces j x new t =
     let is = interface_in j in
     let touched : node_touched x.event ≡ Some j.node = ap (λ (y : Entry). node_touched y.event) t.entry ∙ work_touches j.one.settings.node j.work ∙ ap (λ (n : NodeId). Some n) is.is_node in
     let less = not_full j t.room in
     let room : length j.one.log < j.settings.log = leb-false j.settings.log (length j.one.log) less in
-    subst (λ (l : List Entry). AreInterfaces (layout_of j) l (slice_set j.interfaces j.node.0 new)) (sym t.journal)
-    (interfaces_more (layout_of j) j.journal x j.interfaces j.node j.one new touched j.at room t.interface j.kept'.interfaces')
+    interfaces_more (layout_of j) j.journal x j.interfaces j.node j.one new touched j.at room t.interface j.kept'.interfaces'
 
 -- ---- what is seen of the cluster, and what it keeps
 
@@ -219,10 +218,10 @@ set_got (x ∷ xs) zero v w at is = let same : w ≡ x = cc in ap (λ y. y ∷ x
 set_got (x ∷ xs) (suc k) v w at is = ap (λ ys. x ∷ ys) (set_got xs k v w at is)
 
 -- where the interface and the endpoints' settings and logs are as they were
-pub joint_still : (j : Joint) (new : InterfaceView) (longer : List Entry) (es : List EndLog) → IsSame j.one new j.journal longer → es ≡ map kept j.ends → IsKept (layout_in j.settings j.faults es) es longer (slice_set j.interfaces j.node.0 new) j.swaps
-joint_still j new longer es same ends =
-    subst (λ (is : List InterfaceView). IsKept (layout_in j.settings j.faults es) es longer is j.swaps) (sym (set_got j.interfaces j.node.0 j.one new j.at same.interface))
-    (kept_still j.settings j.faults (map kept j.ends) es j.journal longer j.interfaces j.swaps ends same.journal j.kept')
+pub joint_still : (j : Joint) (new : InterfaceView) (es : List EndLog) → new ≡ j.one → es ≡ map kept j.ends → IsKept (layout_in j.settings j.faults es) es j.journal (slice_set j.interfaces j.node.0 new) j.swaps
+joint_still j new es same ends =
+    subst (λ (is : List InterfaceView). IsKept (layout_in j.settings j.faults es) es j.journal is j.swaps) (sym (set_got j.interfaces j.node.0 j.one new j.at same))
+    (kept_still j.settings j.faults (map kept j.ends) es j.journal j.journal j.interfaces j.swaps ends refl j.kept')
 
 work_unpaged : (node : NodeId) (w : Work) → is_page (event_of node w) ≡ false
 work_unpaged node (Works.Receive (Packets.Parcel p)) = refl
@@ -230,14 +229,15 @@ work_unpaged node (Works.Receive (Packets.Answer p)) = refl
 work_unpaged node (Works.Bind end) = refl
 work_unpaged node (Works.Expire peer channel) = refl
 
-pub joint_kept : (j : Joint) (x : Entry) (new : InterfaceView) (longer : List Entry) (es : List EndLog) → IsNext j.settings j.faults (map kept j.ends) j.journal (event_in j) x es longer → IsTurned j.one new j.journal longer j.state j.work x → IsKept (layout_in j.settings j.faults es) es longer (slice_set j.interfaces j.node.0 new) j.swaps
-joint_kept j x new longer es next turned =
+pub joint_kept : (j : Joint) (x : Entry) (new : InterfaceView) (es : List EndLog) → IsNext j.settings j.faults (map kept j.ends) j.journal (event_in j) x es (j.journal ++ x ∷ []) → IsTurned j.one new j.journal j.state j.work x → IsKept (layout_in j.settings j.faults es) es (j.journal ++ x ∷ []) (slice_set j.interfaces j.node.0 new) j.swaps
+joint_kept j x new es next turned =
+    let longer = j.journal ++ x ∷ [] in
     record {
       tied = tied_next j.settings j.faults (map kept j.ends) j.journal (event_in j) x es longer next;
       interfaces' =
           interfaces_moved (layout_of j) (layout_in j.settings j.faults es) longer longer (slice_set j.interfaces j.node.0 new)
           (sym (layout_kept j.settings j.faults (map kept j.ends) x) ∙ ap (λ (ns : List EndLog). layout_in j.settings j.faults ns) (sym next.ends)) refl
-          (joint_interfaces j x new longer turned);
+          (joint_interfaces j x new turned);
       swaps' = swaps_kept j.settings j.faults (map kept j.ends) j.journal (event_in j) x es longer j.swaps next (work_unpaged j.node j.work) j.kept'.swaps';
     }
 
@@ -246,21 +246,15 @@ joint_kept j x new longer es next turned =
 alone_of : (j : Joint) → needs (own j.one) j.work ≡ None → IsAlone j
 alone_of j none = record { none = needs_touched (own j.one) j.state j.work ∙ ap option_to_list none }
 
-pub alone_keeps : (j : Joint) (new : InterfaceView) (longer : List Entry) (result : Result Entry ApplyFault) → needs (own j.one) j.work ≡ None → TurnsAlone j.one new j.journal longer j.state j.work result → IsKept (layout_of j) (map kept j.ends) longer (slice_set j.interfaces j.node.0 new) j.swaps
-alone_keeps j new longer (Ok x) none turns = joint_kept j x new longer (map kept j.ends) (alone_next j x new longer (alone_of j none) turns) turns
-alone_keeps j new longer (Err (Faults.NotEnabled c)) none turns = joint_still j new longer (map kept j.ends) turns.1 refl
-alone_keeps j new longer (Err (Faults.LogFull p)) none turns = joint_still j new longer (map kept j.ends) turns.2 refl
-alone_keeps j new longer (Err Faults.NoMemory) none turns = joint_still j new longer (map kept j.ends) turns refl
+pub alone_keeps : (j : Joint) (new : InterfaceView) (result : Result Entry ApplyFault) → needs (own j.one) j.work ≡ None → TurnsAlone j.one new j.journal j.state j.work result → IsKept (layout_of j) (map kept j.ends) (entries_after j.journal result) (slice_set j.interfaces j.node.0 new) j.swaps
+alone_keeps j new (Ok x) none turns = joint_kept j x new (map kept j.ends) (alone_next j x new (alone_of j none) turns) turns
+alone_keeps j new (Err (Faults.NotEnabled c)) none turns = joint_still j new (map kept j.ends) turns.1 refl
+alone_keeps j new (Err (Faults.LogFull p)) none turns = joint_still j new (map kept j.ends) turns.2 refl
+alone_keeps j new (Err Faults.NoMemory) none turns = joint_still j new (map kept j.ends) turns refl
 
-pub alone_applies : (j : Joint) (v : ClusterView) (new : InterfaceView) (longer : List Entry) (result : Result Entry ApplyFault) → seen j.settings j.faults (map kept j.ends) j.journal ≡ v → needs (own j.one) j.work ≡ None → TurnsAlone j.one new j.journal longer j.state j.work result → Applies v (seen j.settings j.faults (map kept j.ends) longer) (event_in j) result
-alone_applies j v new longer (Ok x) is none turns =
-    seen_next j.settings j.faults (map kept j.ends) j.journal (event_in j) x (map kept j.ends) longer v is (alone_next j x new longer (alone_of j none) turns)
-alone_applies j v new longer (Err (Faults.NotEnabled c)) is none turns = (
-  ap (λ (w : ClusterView). stop w.layout w.journal (event_in j)) (sym is) ∙ alone_disabled j c turns.0,
-  seen_same j.settings j.faults (map kept j.ends) (map kept j.ends) j.journal longer v refl turns.1.journal is,
-)
-alone_applies j v new longer (Err (Faults.LogFull p)) is none turns = (
-  ap (λ (w : ClusterView). stop w.layout w.journal (event_in j)) (sym is) ∙ alone_full j p (alone_of j none) turns.0 turns.1,
-  seen_same j.settings j.faults (map kept j.ends) (map kept j.ends) j.journal longer v refl turns.2.journal is,
-)
-alone_applies j v new longer (Err Faults.NoMemory) is none turns = seen_same j.settings j.faults (map kept j.ends) (map kept j.ends) j.journal longer v refl turns.journal is
+pub alone_applies : (j : Joint) (v : ClusterView) (new : InterfaceView) (result : Result Entry ApplyFault) → seen j.settings j.faults (map kept j.ends) j.journal ≡ v → needs (own j.one) j.work ≡ None → TurnsAlone j.one new j.journal j.state j.work result → Applies v (seen j.settings j.faults (map kept j.ends) (entries_after j.journal result)) (event_in j) result
+alone_applies j v new (Ok x) is none turns =
+    seen_next j.settings j.faults (map kept j.ends) j.journal (event_in j) x (map kept j.ends) (j.journal ++ x ∷ []) v is (alone_next j x new (alone_of j none) turns)
+alone_applies j v new (Err (Faults.NotEnabled c)) is none turns = (ap (λ (w : ClusterView). stop w.layout w.journal (event_in j)) (sym is) ∙ alone_disabled j c turns.0, is)
+alone_applies j v new (Err (Faults.LogFull p)) is none turns = (ap (λ (w : ClusterView). stop w.layout w.journal (event_in j)) (sym is) ∙ alone_full j p (alone_of j none) turns.0 turns.1, is)
+alone_applies j v new (Err Faults.NoMemory) is none turns = is

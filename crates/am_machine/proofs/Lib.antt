@@ -23,3 +23,6 @@ pub mod Between
 pub mod PartLogs
 pub mod PartsMade
 pub mod PartsUnited
+pub mod Merging
+pub mod Few
+pub mod Indexed

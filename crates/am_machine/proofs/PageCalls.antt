@@ -189,7 +189,7 @@ pub swap_read : (ss : List Store) (k : ℕ) (s : Store) → k < length ss → s 
 swap_read ss k s lt value = index_got ss k s lt ∙ ap (λ (t : Store). Some t) (sym value)
 
 -- page calls are entries of the journal
-pub calls_few : (node : NodeId) (journal : List Entry) {longer : List Entry} → length longer + 1 < 2 ^ 64 → longer ≡ journal → page_calls node journal + 1 < 2 ^ 64
-calls_few node journal few same =
+pub calls_few : (node : NodeId) (journal : List Entry) → length journal + 1 < 2 ^ 64 → page_calls node journal + 1 < 2 ^ 64
+calls_few node journal few =
     let fewer = count_by-le-length (λ (x : Entry). is_page_call node x.event) journal in
-    omega (arith, few, ap length same, fewer)
+    omega (arith, few, fewer)

@@ -1,9 +1,8 @@
 -- The logs of the nodes' parts, and the journal that they are parts of.
-use Rattle.std.specs.Prelude.{Contains, nat_lt, not, slice_get}
+use Rattle.std.specs.Prelude.{nat_lt, not, slice_get}
 use Rattle.std.specs.List.{filter, list_all, list_any}
-use Rattle.std.proofs.Common.{◌≡◌, ◌⊎◌, inl, inr, ⊎_elim, ℕ, zero, suc, ◌<◌, ◌==◌, Bool, true, false, cond, ◌||◌, ◌&&◌, Option, Some, None, List, [], ◌∷◌, ◌++◌, length, map, refl, sym, ap, ◌∙◌, subst, arith, eqb-true, eq-eqb, ltb-true, true≢false}
+use Rattle.std.proofs.Common.{◌≡◌, ◌⊎◌, inl, inr, ⊎_elim, ℕ, zero, suc, ◌<◌, Bool, true, false, cond, ◌||◌, ◌&&◌, Option, Some, None, List, [], ◌∷◌, ◌++◌, length, map, refl, sym, ap, ◌∙◌, subst, arith, eqb-true, eq-eqb, ltb-true, true≢false}
 use Rattle.std.proofs.lemmas.Bool.{and_parts}
-use Rattle.std.proofs.lemmas.Option.{slice_get_within}
 use Rattle.am_names.specs.declared.EndpointId.{EndpointId}
 use Rattle.am_names.specs.declared.NodeId.{NodeId}
 use Rattle.am_names.specs.Names.{same_end}
@@ -14,11 +13,10 @@ use Rattle.am_office.specs.declared.Entry.{Entry}
 use Rattle.am_office.specs.Entries.{ends_touched, is_node, node_touched, share_part, shares_node, touches, touches_node}
 use Rattle.am_model.specs.History.{EachAfter, IsHistory, MayFollow, is_in_range, is_later, is_taken_before}
 use Rattle.am_model.specs.Layout.{AllAre, EndSetting, IsLawful, IsSettingLawful, Layout, declared, has_id}
-use Rattle.am_model.specs.Merge.{is_ordered}
 use Rattle.am_model.proofs.Names.{same_end-refl}
 use Rattle.am_endpoint.specs.View.{EndpointView}
 use Rattle.am_merge.specs.Logs.{IsRising}
-use Rattle.am_merge.specs.Merged.{entries_of, merged}
+use Rattle.am_merge.specs.Merged.{entries_of}
 use Rattle.am_merge.proofs.Sorted.{Has, all_has, contains_has, filter_has, has_contains, has_filter}
 use Rattle.am_join.specs.Joined.{AreAmong, HaveJust}
 use Rattle.am_join.proofs.Standing.{has_either, has_left, has_right}
@@ -36,7 +34,7 @@ pub data IsPartOf (journal : List Entry) (log : List Entry) : Type 0 where
   OfEnd : (e : EndpointId) → log ≡ filter (touches e) journal → IsPartOf journal log
   OfNode : (node : NodeId) → log ≡ filter (touches_node node) journal → IsPartOf journal log
 
-all_append : {X : Type 0} (P : X → Type 0) (xs ys : List X) → AllAre P xs → AllAre P ys → AllAre P (xs ++ ys)
+pub all_append : {X : Type 0} (P : X → Type 0) (xs ys : List X) → AllAre P xs → AllAre P ys → AllAre P (xs ++ ys)
 all_append P [] ys h k = k
 all_append P (x ∷ xs) ys h k = (h.0, all_append P xs ys h.1 k)
 
@@ -68,7 +66,7 @@ are_among journal logs all x c = has_contains journal x (among journal logs all 
 
 -- ---- stamps rise in each part of a history
 
-same_id : (a b : EndpointId) → same_end a b ≡ true → a ≡ b
+pub same_id : (a b : EndpointId) → same_end a b ≡ true → a ≡ b
 same_id a b h = let number = eqb-true a.0 b.0 h in λ i. record { 0 = number i }
 
 any_touches : (e : EndpointId) (z : Entry) (es : List EndpointId) → touches e z ≡ true → list_any (same_end e) es ≡ true → list_any (λ (d : EndpointId). touches d z) es ≡ true
@@ -137,13 +135,13 @@ all_rise layout journal (log ∷ logs) history all = (part_rises layout journal 
 -- ---- each entry stands in a log
 
 -- a part that an event touches whatever comes of it: an endpoint that is declared, or one of the interfaces
-abbrev Touched : Layout → Event → Type 0
+abbrev pub Touched : Layout → Event → Type 0
 Touched layout event = ((e : EndpointId) × ((declared layout e ≡ true) × ((o : Outcome) → list_any (same_end e) (ends_touched event o) ≡ true))) ⊎ ((n : NodeId) × ((n.0 < layout.nodes) × (is_node n (node_touched event) ≡ true)))
 
 first_end : (e : EndpointId) (es : List EndpointId) → list_any (same_end e) (e ∷ es) ≡ true
 first_end e es = ap (λ (b : Bool). b || list_any (same_end e) es) (same_end-refl e)
 
-touched : (layout : Layout) (event : Event) → is_in_range layout event ≡ true → Touched layout event
+pub touched : (layout : Layout) (event : Event) → is_in_range layout event ≡ true → Touched layout event
 touched layout (Events.Call actor end call) h = inl (end, ((and_parts _ (declared layout end) (and_parts _ _ h).0).1, λ o. first_end end []))
 touched layout (Events.Want actor end) h = inl (end, ((and_parts _ (declared layout end) h).1, λ o. first_end end []))
 touched layout (Events.Carry end) h = inl (end, (h, λ o. first_end end _))
@@ -164,7 +162,7 @@ ranged layout past (y ∷ xs) x each h =
     ⊎_elim (λ (here : y ≡ x). subst (λ (w : Entry). is_in_range layout w.event ≡ true) here each.0.in_range) (λ (there : Has xs x). ranged layout (past ++ y ∷ []) xs x each.1 there) h
 
 -- the setting of an endpoint that is declared
-setting_there : (e : EndpointId) (ss : List EndSetting) → list_any (has_id e) ss ≡ true → (k : ℕ) × ((s : EndSetting) × ((slice_get ss k ≡ Some s) × (same_end e s.id ≡ true)))
+pub setting_there : (e : EndpointId) (ss : List EndSetting) → list_any (has_id e) ss ≡ true → (k : ℕ) × ((s : EndSetting) × ((slice_get ss k ≡ Some s) × (same_end e s.id ≡ true)))
 setting_there e [] h = absurd (true≢false (sym h))
 setting_there e (s ∷ ss) h = by_test (same_end e s.id) refl h (setting_there e ss)
   where
@@ -202,12 +200,12 @@ log_there [] k v x at h = absurd (cc)
 log_there (w ∷ vs) zero v x at h = let same : w ≡ v = cc in has_left w.log (entries_of (map log_of vs)) x (subst (λ (u : EndpointView). Has u.log x) (sym same) h)
 log_there (w ∷ vs) (suc k) v x at h = has_right w.log (entries_of (map log_of vs)) x (log_there vs k v x at h)
 
-entries_left : (ls bs : List (List Entry)) (x : Entry) → Has (entries_of ls) x → Has (entries_of (ls ++ bs)) x
+pub entries_left : (ls bs : List (List Entry)) (x : Entry) → Has (entries_of ls) x → Has (entries_of (ls ++ bs)) x
 entries_left [] bs x h = absurd h
 entries_left (a ∷ ls) bs x h =
     ⊎_elim (λ (here : Has a x). has_left a (entries_of (ls ++ bs)) x here) (λ (there : Has (entries_of ls) x). has_right a (entries_of (ls ++ bs)) x (entries_left ls bs x there)) (has_either a (entries_of ls) x h)
 
-entries_right : (ls bs : List (List Entry)) (x : Entry) → Has (entries_of bs) x → Has (entries_of (ls ++ bs)) x
+pub entries_right : (ls bs : List (List Entry)) (x : Entry) → Has (entries_of bs) x → Has (entries_of (ls ++ bs)) x
 entries_right [] bs x h = h
 entries_right (a ∷ ls) bs x h = has_right a (entries_of (ls ++ bs)) x (entries_right ls bs x h)
 

@@ -1,8 +1,8 @@
 -- The parts of a cluster that is taken apart.
-use Rattle.std.specs.Prelude.{count_by, slice_get, vec_capacity, vec_len}
+use Rattle.std.specs.Prelude.{slice_get}
 use Rattle.std.specs.List.{filter}
 use Rattle.std.specs.Global.{Vec}
-use Rattle.std.proofs.Common.{◌≡◌, ℕ, zero, suc, ◌+◌, ◌<◌, ◌≤◌, ◌^◌, Bool, true, false, cond, Some, List, [], ◌∷◌, ◌++◌, length, map, refl, sym, ap, ◌∙◌, subst, arith}
+use Rattle.std.proofs.Common.{◌≡◌, ℕ, zero, suc, ◌<◌, Bool, true, false, cond, Some, List, [], ◌∷◌, ◌++◌, length, map, refl, sym, ap, ◌∙◌, subst, arith}
 use Rattle.std.proofs.lemmas.Option.{slice_get_within}
 use Rattle.am_names.specs.declared.Packet.{Packet}
 use Rattle.am_office.specs.declared.Entry.{Entry}
@@ -12,14 +12,14 @@ use Rattle.am_iface.specs.View.{InterfaceView}
 use Rattle.am_device.specs.Memory.{Store}
 use Rattle.am_node.specs.declared.NodePart.{NodePart}
 use Rattle.am_node.specs.declared.shells.Shell.{Shell}
-use Rattle.am_node.specs.Dealt.{AreDealt, HasRoom, IsFilled}
+use Rattle.am_node.specs.Dealt.{AreDealt, HasRoom}
 use Rattle.am_node.specs.Parts.{part_of, parts_of}
-use Rattle.am_node.specs.Shells.{AreShells, IsShell, is_at}
-use Rattle.am_machine.specs.Ends.{EndLog, kept, setting_in}
-use Rattle.am_machine.specs.Interfaces.{AreInterfaces, IsInterface, node_at}
+use Rattle.am_node.specs.Shells.{AreShells, is_at}
+use Rattle.am_machine.specs.Ends.{kept, setting_in}
+use Rattle.am_machine.specs.Interfaces.{AreInterfaces, node_at}
 use Rattle.am_machine.specs.Kept.{IsOwn}
 use Rattle.am_machine.specs.Parts.{AreNodeParts, IsNodePart, is_declared_at}
-use Rattle.am_machine.specs.Swaps.{AreSwaps, IsSwap}
+use Rattle.am_machine.specs.Swaps.{AreSwaps}
 use Rattle.am_machine.proofs.PartLogs.{some_within}
 
 -- ---- there is room for all endpoints

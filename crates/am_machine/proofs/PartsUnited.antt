@@ -1,20 +1,19 @@
 -- The parts of a cluster put together.
 use Rattle.std.specs.Prelude.{fold, max, nat_lt, slice_get, Contains}
-use Rattle.std.specs.List.{AllPairs, filter}
+use Rattle.std.specs.List.{All, AllPairs}
 use Rattle.std.specs.Global.{Vec}
-use Rattle.std.proofs.Common.{◌≡◌, ◌⊎◌, ⊎_elim, ℕ, zero, suc, ◌+◌, ◌<◌, ◌≤◌, ◌^◌, Bool, true, false, cond, Option, Some, None, List, [], ◌∷◌, ◌++◌, length, map, reverse, refl, sym, ap, ◌∙◌, subst, arith, ltb-true}
+use Rattle.std.proofs.Common.{◌≡◌, ℕ, zero, suc, ◌<◌, ◌≤◌, ◌^◌, Bool, true, false, cond, Option, Some, None, List, [], ◌∷◌, ◌++◌, length, map, reverse, refl, sym, ap, ◌∙◌, subst, arith, ltb-true}
 use Rattle.std.proofs.lemmas.List.{length-map, reverse-reverse}
 use Rattle.std.proofs.lemmas.Bool.{and_parts}
 use Rattle.std.proofs.lemmas.Option.{slice_get-get_or}
 use Rattle.std.proofs.lemmas.List.Sorted.{Contains-permutation, IsPermutation-reverse, IsPermutation-sym}
 use Rattle.am_names.specs.declared.Packet.{Packet}
-use Rattle.am_names.specs.declared.EndpointId.{EndpointId}
 use Rattle.am_office.specs.declared.Outcome.{Outcome}
 use Rattle.am_office.specs.declared.Event.TheVariants as Events
 use Rattle.am_office.specs.declared.Event.{Event}
 use Rattle.am_office.specs.declared.Entry.{Entry}
 use Rattle.am_office.specs.Entries.{emitted_in, emitted_of}
-use Rattle.am_model.specs.History.{EachAfter, IsHistory, MayFollow, is_in_range}
+use Rattle.am_model.specs.History.{EachAfter, MayFollow, is_in_range}
 use Rattle.am_model.specs.Layout.{AllAre, EndSetting, IsLawful, IsSettingLawful, Layout, declared}
 use Rattle.am_model.specs.Merge.{is_ordered}
 use Rattle.am_drain.specs.Made.{later_stamp}
@@ -22,34 +21,32 @@ use Rattle.am_endpoint.specs.View.{EndpointView}
 use Rattle.am_iface.specs.View.{InterfaceView}
 use Rattle.am_device.specs.Memory.{Store}
 use Rattle.am_follow.specs.Layout.{fault_of, layout_of, setting_of}
-use Rattle.am_journal.specs.View.{AreNodes, IsEarly, greatest_stamp}
-use Rattle.am_join.proofs.Standing.{behind, first_or_behind}
+use Rattle.am_journal.specs.View.{AreNodes, IsEarly}
+use Rattle.am_journal.proofs.Lists.{got_all as all_got}
+use Rattle.am_join.proofs.Standing.{behind}
 use Rattle.am_merge.specs.Logs.{IsRising}
-use Rattle.am_merge.specs.Merged.{entries_of, merged}
+use Rattle.am_merge.specs.Merged.{entries_of}
 use Rattle.am_merge.proofs.Inserting.{sorted_ordered}
 use Rattle.am_join.specs.Joined.{AreOne}
 use Rattle.am_join.proofs.OneJournal.{are_one}
 use Rattle.am_node.specs.declared.NodePart.{NodePart}
-use Rattle.am_node.specs.declared.taking.Taken.{Taken}
 use Rattle.am_node.specs.Gathered.{AreDeclared, AreOfGroups}
 use Rattle.am_node.specs.Gathered as gathered
 use Rattle.am_node.specs.Packets.{GoesWithin, IsWithin}
 use Rattle.am_node.specs.Parts.{all_logs, journal_of}
-use Rattle.am_node.specs.Shells as shells
-use Rattle.am_node.specs.Taken.{IsTakenFrom, ends_of, iface_of, swap_of, turned}
+use Rattle.am_node.specs.Taken.{ends_of, iface_of, swap_of, turned}
 use Rattle.am_scenario_types.specs.declared.parts.EndLine.{EndLine}
 use Rattle.am_scenario_types.specs.declared.parts.FaultLine.{FaultLine}
 use Rattle.am_scenario_types.specs.Lists.{ScenarioLists}
-use Rattle.am_machine.specs.declared.settings.Settings.{Settings}
 use Rattle.am_machine.specs.Ends.{EndLog, kept, setting_in}
 use Rattle.am_machine.specs.Interfaces.{AreInterfaces, IsInterface, node_at}
-use Rattle.am_machine.specs.Kept.{IsKept, IsOwn, IsTied, layout_in}
+use Rattle.am_machine.specs.Kept.{IsKept, IsOwn, IsShort, IsTied, layout_in}
 use Rattle.am_machine.specs.Parting.{settings_from}
-use Rattle.am_machine.specs.Parts.{AreNodeParts, CanUnite, IsNodePart, is_declared_at}
+use Rattle.am_machine.specs.Parts.{AreNodeParts, CanUnite}
 use Rattle.am_machine.specs.Swaps.{AreSwaps, IsSwap}
 use Rattle.am_machine.proofs.Beginnings.{all_by_place, rise_apart}
 use Rattle.am_machine.proofs.Between.{emits_between}
-use Rattle.am_machine.proofs.PartLogs.{all_parts, all_rise, are_among, got_all, got_mapped, some_within}
+use Rattle.am_machine.proofs.PartLogs.{all_parts, all_rise, are_among, got_all, got_mapped}
 
 -- ---- what the merge asks for
 
@@ -161,6 +158,7 @@ module _ (s : ScenarioLists) (faults : List FaultLine) (parts : List NodePart) (
     pub swaps' : ws ≡ map swap_of parts
     pub settings : map gathered.setting_in vs ≡ map setting_of s.ends
     pub own : AreOfGroups groups vs
+    pub short : All (λ (v : EndpointView). length v.log ≤ v.settings.log) vs
 
   module _ (u : IsUnited) where
     same_settings : map setting_in (map kept vs) ≡ map setting_of s.ends
@@ -204,6 +202,7 @@ module _ (s : ScenarioLists) (faults : List FaultLine) (parts : List NodePart) (
           early = early (journal_of parts) u.can.low;
           ordered = ordered parts;
           own = all_own;
+          short = kept_all IsShort vs (all_by_place (λ (v : EndpointView). IsShort (kept v)) vs (λ k v at. all_got (λ (w : EndpointView). IsShort (kept w)) vs k v u.short at));
           apart = λ j k d e at_d at_e same.
               (let a = line_of j d at_d in
               let b = line_of k e at_e in
@@ -231,7 +230,5 @@ module _ (s : ScenarioLists) (faults : List FaultLine) (parts : List NodePart) (
           all = ap (λ (l : List Store). length l) u.swaps' ∙ length-map parts swap_of ∙ u.can.apart.all ∙ sym count;
         }
 
-    pub is_kept : (journal : List Entry) → journal ≡ journal_of parts → IsKept (layout_in (settings_from s) faults (map kept vs)) (map kept vs) journal is ws
-    is_kept journal same =
-        subst (λ (j : List Entry). IsKept (layout_in (settings_from s) faults (map kept vs)) (map kept vs) j is ws) (sym same)
-        (subst (λ (l : Layout). IsKept l (map kept vs) (journal_of parts) is ws) (sym same_layout) (record { tied = tied; interfaces' = interfaces; swaps' = swaps }))
+    pub is_kept : IsKept (layout_in (settings_from s) faults (map kept vs)) (map kept vs) (journal_of parts) is ws
+    is_kept = subst (λ (l : Layout). IsKept l (map kept vs) (journal_of parts) is ws) (sym same_layout) (record { tied = tied; interfaces' = interfaces; swaps' = swaps })

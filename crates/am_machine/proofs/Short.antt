@@ -1,7 +1,7 @@
 -- No log is longer than it may be.
-use Rattle.std.specs.Prelude.{slice_get, slice_index_or}
+use Rattle.std.specs.Prelude.{slice_get}
 use Rattle.std.specs.List.{filter, position}
-use Rattle.std.proofs.Common.{◌≡◌, ℕ, ◌<◌, ◌≤◌, true, false, List, map, length, Option, Some, None, refl, sym, ap, ◌∙◌, subst, arith}
+use Rattle.std.proofs.Common.{◌≡◌, ℕ, ◌<◌, ◌≤◌, true, false, List, map, length, Option, Some, None, refl, ap, ◌∙◌, arith}
 use Rattle.am_names.specs.declared.EndpointId.{EndpointId}
 use Rattle.am_names.specs.declared.NodeId.{NodeId}
 use Rattle.am_office.specs.declared.Entry.{Entry}
@@ -11,20 +11,18 @@ use Rattle.am_endpoint.specs.View.{EndpointView}
 use Rattle.am_iface.specs.View.{InterfaceView}
 use Rattle.am_machine.specs.Ends.{is_of, kept, setting_in}
 use Rattle.am_machine.specs.Interfaces.{AreInterfaces}
-use Rattle.am_machine.specs.Kept.{IsTied}
-use Rattle.am_journal.proofs.Lists.{index_got}
+use Rattle.am_machine.specs.Kept.{IsShort, IsTied}
 use Rattle.am_machine.proofs.Applied.{IsHere, own_here}
 use Rattle.am_machine.proofs.Fitting.{got_none}
 use Rattle.am_machine.proofs.Joint.{interface_there}
 use Rattle.am_machine.proofs.Looks.{end_unknown}
+use Rattle.am_machine.proofs.PartLogs.{got_all}
 use Rattle.am_machine.proofs.Places.{found}
+use Rattle.am_machine.proofs.Tied.{kept_at}
 
--- the log of each of these endpoints is as short as its settings have it
-abbrev pub AreShort : List EndpointView → Type 0
-AreShort vs = (k : ℕ) (d : EndpointView) → k < length vs → length (slice_index_or vs k d).log ≤ (slice_index_or vs k d).settings.log
-
-pub end_short : (layout : Layout) (vs : List EndpointView) (journal : List Entry) (e : EndpointId) → layout.ends ≡ map setting_in (map kept vs) → IsTied layout (map kept vs) journal → AreShort vs → declared layout e ≡ true → length (filter (touches e) journal) ≤ layout.log
-end_short layout vs journal e ends tied short known = by_place (position (is_of e) vs) refl
+-- no log of an endpoint is longer than its settings have it
+pub end_short : (layout : Layout) (vs : List EndpointView) (journal : List Entry) (e : EndpointId) → layout.ends ≡ map setting_in (map kept vs) → IsTied layout (map kept vs) journal → declared layout e ≡ true → length (filter (touches e) journal) ≤ layout.log
+end_short layout vs journal e ends tied known = by_place (position (is_of e) vs) refl
   where
     by_place : (o : Option ℕ) → position (is_of e) vs ≡ o → length (filter (touches e) journal) ≤ layout.log
     by_place None at = absurd (let both : false ≡ true = end_unknown layout vs e ends at ∙ known in cc)
@@ -33,8 +31,7 @@ end_short layout vs journal e ends tied short known = by_place (position (is_of 
         let one = f.view in
         let here : IsHere vs e k one = record { at = f.at; id = f.id; within = f.within } in
         let own = own_here layout vs journal e k one tied here in
-        let read : slice_index_or vs k one ≡ one = (let both : Some (slice_index_or vs k one) ≡ Some one = sym (index_got vs k one f.within) ∙ f.at in cc) in
-        let few : length one.log ≤ one.settings.log = subst (λ (w : EndpointView). length w.log ≤ w.settings.log) read (short k one f.within) in
+        let few : length one.log ≤ one.settings.log = got_all IsShort (map kept vs) k (kept one) tied.short (kept_at vs k one f.at) in
         omega (arith, few, own.limit, ap (λ (xs : List Entry). length xs) (own.log ∙ ap (λ (d : EndpointId). filter (touches d) journal) f.id))
 
 -- so is that of the interface of each node

@@ -24,7 +24,7 @@ use Rattle.am_machine.specs.declared.settings.Settings.{Settings}
 use Rattle.am_local.specs.Readings.{with_entry}
 use Rattle.am_machine.specs.Ends.{EndLog, kept, state_in, setting_in, grown, logged_at}
 use Rattle.am_machine.specs.Carries.{is_place}
-use Rattle.am_machine.specs.Kept.{IsOwn, IsTied, layout_in}
+use Rattle.am_machine.specs.Kept.{IsOwn, IsShort, IsTied, layout_in}
 
 -- the state of an endpoint by its own log is the one by the journal
 pub own_state : (layout : Layout) (journal : List Entry) (e : EndLog) → IsOwn layout journal e → state_in e ≡ state_of layout journal e.settings.id
@@ -84,8 +84,8 @@ none_above a (x ∷ xs) z h =
 ordered_next : (journal : List Entry) (x : Entry) → x.stamp ≡ next_stamp journal → is_ordered journal ≡ true → is_ordered (journal ++ x ∷ []) ≡ true
 ordered_next journal x is ordered = ordered_push journal x ordered (λ z h. before_from z x (inl (let most = none_above 0 journal z h in omega (arith, most, is))))
 
-pub tied_push : (layout : Layout) (es : List EndLog) (journal : List Entry) (event : Event) → IsTied layout es journal → is_in_range layout event ≡ true → failing layout journal event ≡ None → IsTied layout (map (grown (next_entry layout journal event)) es) (journal ++ next_entry layout journal event ∷ [])
-tied_push layout es journal event tied range enabled =
+pub tied_push : (layout : Layout) (es : List EndLog) (journal : List Entry) (event : Event) → IsTied layout es journal → is_in_range layout event ≡ true → failing layout journal event ≡ None → AllAre IsShort (map (grown (next_entry layout journal event)) es) → IsTied layout (map (grown (next_entry layout journal event)) es) (journal ++ next_entry layout journal event ∷ [])
+tied_push layout es journal event tied range enabled short =
     let x = next_entry layout journal event in
     record {
       lawful = tied.lawful;
@@ -93,6 +93,7 @@ tied_push layout es journal event tied range enabled =
       early = early_next journal x refl tied.early;
       ordered = ordered_next journal x refl tied.ordered;
       own = all_own layout journal x es tied.own;
+      short = short;
       apart =
           λ j k d e dj ek same.
           (let a = got_grown x es j d dj in

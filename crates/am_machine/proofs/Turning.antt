@@ -28,7 +28,7 @@ use Rattle.am_iface.specs.declared.IfaceFault.TheVariants as Ifaces
 use Rattle.am_iface.specs.View.{InterfaceView, FitsInterface, own}
 use Rattle.am_iface.specs.Turns.{IsFull, stamp_in}
 use Rattle.am_iface.specs.With.{IsFullOf}
-use Rattle.am_journal.specs.View.{AreNodes, HasRoomFor, JournalView, greatest_stamp, is_ready_on}
+use Rattle.am_journal.specs.View.{AreNodes, HasRoomFor, IndexView, IsIndexOf, Readings, greatest_stamp, is_ready_on}
 use Rattle.am_machine.specs.declared.settings.ApplyFault.{ApplyFault}
 use Rattle.am_machine.specs.Ends.{EndLog, kept}
 use Rattle.am_machine.specs.Turned.{IsGrown, IsTurned, TurnsAlone, TurnsWith, entry_of_work, refused}
@@ -46,7 +46,7 @@ pub ok_then : {T E : Type 0} (r : Result T E) (P : Type 0) → is_err r ≡ fals
 ok_then (Ok x) P is h = h
 ok_then (Err e) P is h = absurd (cc)
 
-pub ready_from : (v : JournalView) (from node : NodeId) (to : Option NodeId) → from ≡ node → IfSome to (λ (n : NodeId). is_ready_on v from n ≡ true) → IfSome to (λ (n : NodeId). is_ready_on v node n ≡ true)
+pub ready_from : (v : IndexView) (from node : NodeId) (to : Option NodeId) → from ≡ node → IfSome to (λ (n : NodeId). is_ready_on v from n ≡ true) → IfSome to (λ (n : NodeId). is_ready_on v node n ≡ true)
 ready_from v from node to is h = subst (λ (m : NodeId). IfSome to (λ (n : NodeId). is_ready_on v m n ≡ true)) is h
 
 -- nothing fails where no condition does
@@ -98,7 +98,7 @@ work_nodes i w event is fits own_node few = subst AreNodes (sym is) (by_work w f
     by_work (Works.Expire peer channel) fit = tt
 
 -- the packet, if there is one, goes over the link for which room was made
-room_made : (v : JournalView) (node : NodeId) (out : Option Packet) (to : Option NodeId) → node.0 < 16 → IfSome to (λ (n : NodeId). n.0 < 16) → IfSome to (λ (n : NodeId). is_ready_on v node n ≡ true) → receiver out ≡ to → ((p : Packet) → out ≡ Some p → from_of p ≡ node) → HasRoomFor v out
+room_made : (v : IndexView) (node : NodeId) (out : Option Packet) (to : Option NodeId) → node.0 < 16 → IfSome to (λ (n : NodeId). n.0 < 16) → IfSome to (λ (n : NodeId). is_ready_on v node n ≡ true) → receiver out ≡ to → ((p : Packet) → out ≡ Some p → from_of p ≡ node) → HasRoomFor v out
 room_made v node None to here within ready goes comes = tt
 room_made v node (Some p) None here within ready goes comes = absurd (cc)
 room_made v node (Some p) (Some n) here within ready goes comes =
@@ -109,7 +109,7 @@ room_made v node (Some p) (Some n) here within ready goes comes =
       (λ k. is_ready_on v (from k) (same k)) ∙ ready,
     )
 
-pub out_has_room : (v : JournalView) (i : InterfaceView) (s : State) (w : Work) (x : Entry) (out : Option Packet) (to : Option NodeId) → GoesTo (own i) s w to → failing_at (own i) s w ≡ None → i.settings.node.0 < 16 → IfSome to (λ (n : NodeId). n.0 < 16) → IfSome to (λ (n : NodeId). is_ready_on v i.settings.node n ≡ true) → out ≡ emitted_of x → x.event ≡ event_of i.settings.node w → x.outcome ≡ outcome_at (own i) s w → HasRoomFor v out
+pub out_has_room : (v : IndexView) (i : InterfaceView) (s : State) (w : Work) (x : Entry) (out : Option Packet) (to : Option NodeId) → GoesTo (own i) s w to → failing_at (own i) s w ≡ None → i.settings.node.0 < 16 → IfSome to (λ (n : NodeId). n.0 < 16) → IfSome to (λ (n : NodeId). is_ready_on v i.settings.node n ≡ true) → out ≡ emitted_of x → x.event ≡ event_of i.settings.node w → x.outcome ≡ outcome_at (own i) s w → HasRoomFor v out
 out_has_room v i s w x out to goes on here within ready out_is event outcome =
     let told_out : out ≡ emitted_in x.stamp (event_of i.settings.node w) (outcome_at (own i) s w) = out_is ∙ λ k. emitted_in x.stamp (event k) (outcome k) in
     room_made v i.settings.node out to here within ready
@@ -124,27 +124,26 @@ logged_entry i past s w x floor last event outcome stamp at le packet =
     let stamped : x.stamp ≡ next_stamp past = stamp ∙ ap (λ (n : ℕ). 1 + max (max n last) (stamp_in w)) at ∙ stamp_next (greatest_stamp past) last (stamp_in w) le packet in
     λ k. record { stamp = stamped k; event = event k; outcome = outcome k }
 
-pub turned_ok : (i j : InterfaceView) (past now : List Entry) (s : State) (w : Work) (result : Result Turned IfaceFault) (t : Turned) → result ≡ Ok t
+pub turned_ok : (i j : InterfaceView) (past : List Entry) (s : State) (w : Work) (result : Result Turned IfaceFault) (t : Turned) → result ≡ Ok t
     → ((c : Condition) → failing_at (own i) s w ≡ Some c → result ≡ Err (Ifaces.NotEnabled c))
     → ((p : Part) → (failing_at (own i) s w ≡ None) × IsFull i p → result ≡ Err (Ifaces.LogFull p))
-    → t.entry ≡ entry_of_work i past s w → j ≡ record i { log = i.log ++ t.entry ∷ [] } → now ≡ past ++ t.entry ∷ [] → IsTurned i j past now s w t.entry
-turned_ok i j past now s w result t ok disabled full entry interface journal =
+    → t.entry ≡ entry_of_work i past s w → j ≡ record i { log = i.log ++ t.entry ∷ [] } → IsTurned i j past s w t.entry
+turned_ok i j past s w result t ok disabled full entry interface =
     let enabled = enabled_by i s w t result ok disabled in
     record {
       enabled = enabled;
       room = λ is_full. (let err : result ≡ Err (Ifaces.LogFull (Parts.Interface i.settings.node)) = full (Parts.Interface i.settings.node) (enabled, (refl, is_full)) in let both : ◌≡◌ {A = Result Turned IfaceFault} (Ok t) (Err (Ifaces.LogFull (Parts.Interface i.settings.node))) = sym ok ∙ err in cc);
       entry = entry;
       interface = interface;
-      journal = journal;
     }
 
-pub turned_err : (i j : InterfaceView) (past now : List Entry) (s : State) (w : Work) (result : Result Turned IfaceFault) (fault : IfaceFault) → result ≡ Err fault
+pub turned_err : (i j : InterfaceView) (past : List Entry) (s : State) (w : Work) (result : Result Turned IfaceFault) (fault : IfaceFault) → result ≡ Err fault
     → ((c : Condition) → result ≡ Err (Ifaces.NotEnabled c) → failing_at (own i) s w ≡ Some c)
     → ((p : Part) → result ≡ Err (Ifaces.LogFull p) → (failing_at (own i) s w ≡ None) × IsFull i p)
-    → j ≡ i → now ≡ past → TurnsAlone i j past now s w (Err (refused fault))
-turned_err i j past now s w result (Ifaces.NotEnabled c) err disabled full interface journal = (disabled c err, record { interface = interface; journal = journal })
-turned_err i j past now s w result (Ifaces.LogFull p) err disabled full interface journal = let f = full p err in (f.0, f.1, record { interface = interface; journal = journal })
-turned_err i j past now s w result Ifaces.NoMemory err disabled full interface journal = record { interface = interface; journal = journal }
+    → j ≡ i → TurnsAlone i j past s w (Err (refused fault))
+turned_err i j past s w result (Ifaces.NotEnabled c) err disabled full interface = (disabled c err, interface)
+turned_err i j past s w result (Ifaces.LogFull p) err disabled full interface = let f = full p err in (f.0, f.1, interface)
+turned_err i j past s w result Ifaces.NoMemory err disabled full interface = interface
 
 -- ---- what it answers beside an endpoint
 
@@ -164,29 +163,34 @@ with_room i e s w result t ok enabled full = (there, here)
 pub less_than : (a b : ℕ) → a ≤ b → a ≢ b → a < b
 less_than a b le apart = omega arith
 
-pub turned_with_ok : (i j : InterfaceView) (e f : EndpointView) (past now : List Entry) (w : Work) (result : Result Turned IfaceFault) (t : Turned) → result ≡ Ok t
+pub turned_with_ok : (i j : InterfaceView) (e f : EndpointView) (past : List Entry) (w : Work) (result : Result Turned IfaceFault) (t : Turned) → result ≡ Ok t
     → length e.log ≤ e.settings.log
     → ((c : Condition) → failing_at (own i) (state_after e) w ≡ Some c → result ≡ Err (Ifaces.NotEnabled c))
     → ((p : Part) → (failing_at (own i) (state_after e) w ≡ None) × IsFullOf i e p → result ≡ Err (Ifaces.LogFull p))
-    → t.entry ≡ entry_of_work i past (state_after e) w → j ≡ record i { log = i.log ++ t.entry ∷ [] } → now ≡ past ++ t.entry ∷ []
+    → t.entry ≡ entry_of_work i past (state_after e) w → j ≡ record i { log = i.log ++ t.entry ∷ [] }
     → f.settings ≡ e.settings → f.log ≡ e.log ++ t.entry ∷ []
-    → IsTurned i j past now (state_after e) w t.entry × IsGrown (kept e) f t.entry
-turned_with_ok i j e f past now w result t ok bounded disabled full entry interface journal settings log =
+    → IsTurned i j past (state_after e) w t.entry × IsGrown (kept e) f t.entry
+turned_with_ok i j e f past w result t ok bounded disabled full entry interface settings log =
     let enabled = enabled_by i (state_after e) w t result ok disabled in
     let room = with_room i e (state_after e) w result t ok enabled full in (
-      record { enabled = enabled; room = room.1; entry = entry; interface = interface; journal = journal },
+      record { enabled = enabled; room = room.1; entry = entry; interface = interface },
       record { room = less_than (length e.log) e.settings.log bounded room.0; settings = settings; log = log },
     )
 
-pub turned_with_err : (i j : InterfaceView) (e f : EndpointView) (past now : List Entry) (w : Work) (result : Result Turned IfaceFault) (fault : IfaceFault) → result ≡ Err fault
+pub turned_with_err : (i j : InterfaceView) (e f : EndpointView) (past : List Entry) (w : Work) (result : Result Turned IfaceFault) (fault : IfaceFault) → result ≡ Err fault
     → length e.log ≤ e.settings.log
     → ((c : Condition) → result ≡ Err (Ifaces.NotEnabled c) → failing_at (own i) (state_after e) w ≡ Some c)
     → ((p : Part) → result ≡ Err (Ifaces.LogFull p) → (failing_at (own i) (state_after e) w ≡ None) × IsFullOf i e p)
-    → j ≡ i → now ≡ past → kept f ≡ kept e → TurnsWith i j e f past now w (Err (refused fault))
-turned_with_err i j e f past now w result (Ifaces.NotEnabled c) err bounded disabled full interface journal same = (disabled c err, record { interface = interface; journal = journal }, same)
-turned_with_err i j e f past now w result (Ifaces.LogFull p) err bounded disabled full interface journal same = let g = full p err in (g.0, g.1, bounded, record { interface = interface; journal = journal }, same)
-turned_with_err i j e f past now w result Ifaces.NoMemory err bounded disabled full interface journal same = (record { interface = interface; journal = journal }, same)
+    → j ≡ i → kept f ≡ kept e → TurnsWith i j e f past w (Err (refused fault))
+turned_with_err i j e f past w result (Ifaces.NotEnabled c) err bounded disabled full interface same = (disabled c err, interface, same)
+turned_with_err i j e f past w result (Ifaces.LogFull p) err bounded disabled full interface same = let g = full p err in (g.0, g.1, bounded, interface, same)
+turned_with_err i j e f past w result Ifaces.NoMemory err bounded disabled full interface same = (interface, same)
 
 -- the same of the endpoint as it was before room was made
-pub turns_still : (i j : InterfaceView) (e one f : EndpointView) (past now : List Entry) (w : Work) (result : Result Entry ApplyFault) → kept one ≡ kept e → TurnsWith i j one f past now w result → TurnsWith i j e f past now w result
-turns_still i j e one f past now w result same turns = subst (λ (d : EndLog). TurnsWith i j (record { settings = d.settings; log = d.log; ready = e.ready; flights = e.flights }) f past now w result) same turns
+pub turns_still : (i j : InterfaceView) (e one f : EndpointView) (past : List Entry) (w : Work) (result : Result Entry ApplyFault) → kept one ≡ kept e → TurnsWith i j one f past w result → TurnsWith i j e f past w result
+turns_still i j e one f past w result same turns = subst (λ (d : EndLog). TurnsWith i j (record { settings = d.settings; log = d.log; ready = e.ready; flights = e.flights }) f past w result) same turns
+
+-- ---- what the index reads after it
+
+pub index_same : (past : List Entry) (r q : Readings) → q ≡ r → IsIndexOf past r → IsIndexOf past q
+index_same past r q same is = subst (IsIndexOf past) (sym same) is

@@ -1,5 +1,5 @@
--- What a cluster keeps: its journal is a history, and each log is its part of it.
-use Rattle.std.specs.Prelude.{◌≡◌, ℕ, true, List, Some, map, slice_get}
+-- What a cluster keeps: the journal that its logs merge into is a history, each log is its part of it, and the index is its index.
+use Rattle.std.specs.Prelude.{◌≡◌, ℕ, ◌≤◌, true, List, ◌++◌, Some, length, map, slice_get}
 use Rattle.std.specs.List.{filter}
 use Rattle.am_office.specs.declared.Entry.{Entry}
 use Rattle.am_office.specs.Entries.{touches}
@@ -9,7 +9,8 @@ use Rattle.am_model.specs.Layout.{Layout, AllAre, IsLawful, opening}
 use Rattle.am_model.specs.Merge.{is_ordered}
 use Rattle.am_scenario_types.specs.declared.parts.FaultLine.{FaultLine}
 use Rattle.am_follow.specs.Layout.{is_direct, fault_of}
-use Rattle.am_journal.specs.View.{IsEarly}
+use Rattle.am_journal.specs.View.{IsEarly, IsIndexOf, Readings}
+use Rattle.am_merge.specs.Merged.{merged}
 use Rattle.am_iface.specs.View.{InterfaceView}
 use Rattle.am_device.specs.Memory.{Store}
 use Rattle.am_machine.specs.Interfaces.{AreInterfaces}
@@ -43,12 +44,17 @@ pub record IsOwn (layout : Layout) (journal : List Entry) (e : EndLog) : Type 0 
   pub bounces : e.settings.bounces ≡ layout.bounces
   pub pool : e.settings.pool ≡ layout.pool
 
+-- its log has no more entries than it may
+abbrev pub IsShort : EndLog → Type 0
+IsShort e = length e.log ≤ e.settings.log
+
 pub record IsTied (layout : Layout) (es : List EndLog) (journal : List Entry) : Type 0 where
   pub lawful : IsLawful layout
   pub history : IsHistory layout journal
   pub early : IsEarly journal
   pub ordered : is_ordered journal ≡ true
   pub own : AllAre (IsOwn layout journal) es
+  pub short : AllAre IsShort es
   pub apart : (j k : ℕ) (d e : EndLog) → slice_get es j ≡ Some d → slice_get es k ≡ Some e → d.settings.id ≡ e.settings.id → j ≡ k
 
 -- what a cluster keeps, by its parts
@@ -57,11 +63,30 @@ pub record IsKept (layout : Layout) (es : List EndLog) (journal : List Entry) (i
   pub interfaces' : AreInterfaces layout journal interfaces
   pub swaps' : AreSwaps layout journal swaps
 
+abbrev pub end_logs : List EndLog → List (List Entry)
+end_logs es = map (λ (e : EndLog). e.log) es
+
+abbrev pub interface_logs : List InterfaceView → List (List Entry)
+interface_logs is = map (λ (i : InterfaceView). i.log) is
+
+-- the logs of the endpoints, and then those of the interfaces
+abbrev pub logs_in : List EndLog → List InterfaceView → List (List Entry)
+logs_in es is = end_logs es ++ interface_logs is
+
+-- the journal that they merge into
+abbrev pub journal_by : List EndLog → List InterfaceView → List Entry
+journal_by es is = merged (logs_in es is)
+
+-- the parts keep this with the journal that their logs merge into, which is what the index reads
+pub record IsIndexed (layout : Layout) (es : List EndLog) (is : List InterfaceView) (swaps : List Store) (index : Readings) : Type 0 where
+  pub kept' : IsKept layout es (journal_by es is) is swaps
+  pub index' : IsIndexOf (journal_by es is) index
+
 abbrev pub ends_in : Inside → List EndLog
 ends_in c = map kept c.ends.items
 
 abbrev pub cluster_in : Inside → ClusterView
-cluster_in c = record { layout = layout_in c.settings c.faults.items (ends_in c); journal = c.journal.entries }
+cluster_in c = record { layout = layout_in c.settings c.faults.items (ends_in c); journal = journal_by (ends_in c) c.interfaces.items }
 
 abbrev pub IsCluster : Inside → Type 0
-IsCluster c = IsKept (layout_in c.settings c.faults.items (ends_in c)) (ends_in c) c.journal.entries c.interfaces.items c.swaps.items
+IsCluster c = IsIndexed (layout_in c.settings c.faults.items (ends_in c)) (ends_in c) c.interfaces.items c.swaps.items c.index.read

@@ -1,5 +1,5 @@
--- What a work of an interface makes of its parts: the interface, the endpoint that it touches, and the journal.
-use Rattle.std.specs.Prelude.{◌≡◌, ◌≢◌, ◌-◌, ◌<◌, ◌≤◌, false, Some, None, Result, Ok, Err, List, [], ◌∷◌, ◌++◌, length, slice_get}
+-- What a work of an interface makes of its parts: the interface, and the endpoint that it touches.
+use Rattle.std.specs.Prelude.{◌≡◌, ◌≢◌, ◌+◌, ◌-◌, ◌^◌, ◌<◌, ◌≤◌, false, Some, None, Result, Ok, Err, List, [], ◌∷◌, ◌++◌, length, slice_get}
 use Rattle.am_names.specs.declared.NodeId.{NodeId}
 use Rattle.am_office.specs.declared.Entry.{Entry}
 use Rattle.am_model.specs.Channels.{emitted}
@@ -10,7 +10,7 @@ use Rattle.am_local.specs.Granted.{FitsEndpoint}
 use Rattle.am_local.specs.Interface.{event_of, failing_at, home_in, needs, outcome_at}
 use Rattle.am_local.specs.Together.{from_of, number_of}
 use Rattle.am_drain.specs.Made.{next_stamp}
-use Rattle.am_journal.specs.View.{IsEarly, greatest_stamp}
+use Rattle.am_journal.specs.View.{CanCount, Readings}
 use Rattle.am_endpoint.specs.View.{EndpointView, state_after}
 use Rattle.am_endpoint.specs.View as endpoints
 use Rattle.am_iface.specs.View.{FitsInterface, InterfaceView, last_stamp, own}
@@ -26,24 +26,23 @@ use Rattle.am_machine.specs.Ends.{EndLog, kept, state_in}
 abbrev pub entry_of_work : InterfaceView → List Entry → State → Work → Entry
 entry_of_work i past s w = record { stamp = next_stamp past; event = event_of i.settings.node w; outcome = outcome_at (own i) s w }
 
--- the interface and the journal are as they were
-pub record IsSame (i j : InterfaceView) (past now : List Entry) : Type 0 where
-  pub interface : j ≡ i
-  pub journal : now ≡ past
+-- the entries and the one that was made, if one was
+abbrev pub entries_after : List Entry → Result Entry ApplyFault → List Entry
+entries_after past (Ok x) = past ++ x ∷ []
+entries_after past (Err fault) = past
 
-pub record IsTurned (i j : InterfaceView) (past now : List Entry) (s : State) (w : Work) (x : Entry) : Type 0 where
+pub record IsTurned (i j : InterfaceView) (past : List Entry) (s : State) (w : Work) (x : Entry) : Type 0 where
   pub enabled : failing_at (own i) s w ≡ None
   pub room : length i.log ≢ i.settings.log
   pub entry : x ≡ entry_of_work i past s w
   pub interface : j ≡ record i { log = i.log ++ x ∷ [] }
-  pub journal : now ≡ past ++ x ∷ []
 
 -- a work that touches no endpoint, whatever the state of one
-abbrev pub TurnsAlone : InterfaceView → InterfaceView → List Entry → List Entry → State → Work → Result Entry ApplyFault → Type 0
-TurnsAlone i j past now s w (Ok x) = IsTurned i j past now s w x
-TurnsAlone i j past now s w (Err (Faults.NotEnabled condition)) = (failing_at (own i) s w ≡ Some condition) × IsSame i j past now
-TurnsAlone i j past now s w (Err (Faults.LogFull part)) = (failing_at (own i) s w ≡ None) × IsFull i part × IsSame i j past now
-TurnsAlone i j past now s w (Err Faults.NoMemory) = IsSame i j past now
+abbrev pub TurnsAlone : InterfaceView → InterfaceView → List Entry → State → Work → Result Entry ApplyFault → Type 0
+TurnsAlone i j past s w (Ok x) = IsTurned i j past s w x
+TurnsAlone i j past s w (Err (Faults.NotEnabled condition)) = (failing_at (own i) s w ≡ Some condition) × (j ≡ i)
+TurnsAlone i j past s w (Err (Faults.LogFull part)) = (failing_at (own i) s w ≡ None) × IsFull i part × (j ≡ i)
+TurnsAlone i j past s w (Err Faults.NoMemory) = j ≡ i
 
 -- an endpoint had room in its log, and has the entry at the end of it
 pub record IsGrown (d : EndLog) (f : EndpointView) (x : Entry) : Type 0 where
@@ -52,12 +51,12 @@ pub record IsGrown (d : EndLog) (f : EndpointView) (x : Entry) : Type 0 where
   pub log : f.log ≡ d.log ++ x ∷ []
 
 -- a work that touches this endpoint
-abbrev pub TurnsWith : InterfaceView → InterfaceView → EndpointView → EndpointView → List Entry → List Entry → Work → Result Entry ApplyFault → Type 0
-TurnsWith i j e f past now w (Ok x) = IsTurned i j past now (state_after e) w x × IsGrown (kept e) f x
-TurnsWith i j e f past now w (Err (Faults.NotEnabled condition)) = (failing_at (own i) (state_after e) w ≡ Some condition) × IsSame i j past now × (kept f ≡ kept e)
-TurnsWith i j e f past now w (Err (Faults.LogFull part)) =
-    (failing_at (own i) (state_after e) w ≡ None) × IsFullOf i e part × (length e.log ≤ e.settings.log) × IsSame i j past now × (kept f ≡ kept e)
-TurnsWith i j e f past now w (Err Faults.NoMemory) = IsSame i j past now × (kept f ≡ kept e)
+abbrev pub TurnsWith : InterfaceView → InterfaceView → EndpointView → EndpointView → List Entry → Work → Result Entry ApplyFault → Type 0
+TurnsWith i j e f past w (Ok x) = IsTurned i j past (state_after e) w x × IsGrown (kept e) f x
+TurnsWith i j e f past w (Err (Faults.NotEnabled condition)) = (failing_at (own i) (state_after e) w ≡ Some condition) × (j ≡ i) × (kept f ≡ kept e)
+TurnsWith i j e f past w (Err (Faults.LogFull part)) =
+    (failing_at (own i) (state_after e) w ≡ None) × IsFullOf i e part × (length e.log ≤ e.settings.log) × (j ≡ i) × (kept f ≡ kept e)
+TurnsWith i j e f past w (Err Faults.NoMemory) = (j ≡ i) × (kept f ≡ kept e)
 
 -- why a work was not done
 abbrev pub refused : IfaceFault → ApplyFault
@@ -75,21 +74,22 @@ IsTaken past node (Works.Receive p) = slice_get (emitted (from_of p) node past) 
 IsTaken past node (Works.Bind end) = Unit {0}
 IsTaken past node (Works.Expire peer channel) = Unit {0}
 
--- the interface can be given the work after these entries
-pub record CanTurn (i : InterfaceView) (past : List Entry) (w : Work) : Type 0 where
+-- the interface can be given the work after the entries of which the index reads this
+pub record CanTurn (i : InterfaceView) (r : Readings) (w : Work) : Type 0 where
   pub fits : FitsInterface i w
-  pub early : IsEarly past
-  pub last : last_stamp i.log ≤ greatest_stamp past
-  pub packet : stamp_in w ≤ greatest_stamp past
+  pub stamp : r.greatest + 1 < 2 ^ 64
+  pub counts : CanCount r
+  pub last : last_stamp i.log ≤ r.greatest
+  pub packet : stamp_in w ≤ r.greatest
   pub nodes : IsOfCluster i
 
 -- and the work touches this endpoint, which can be given its entry
-pub record CanTurnWith (i : InterfaceView) (d : EndLog) (past : List Entry) (w : Work) : Type 0 where
-  pub turn : CanTurn i past w
+pub record CanTurnWith (i : InterfaceView) (d : EndLog) (r : Readings) (w : Work) : Type 0 where
+  pub turn : CanTurn i r w
   pub needed : needs (own i) w ≡ Some d.settings.id
   pub home : home_in (own i) d.settings.id ≡ Some d.settings.node
   pub network : is_direct (state_in d).head.place ≡ false
   pub bounces : d.settings.bounces ≡ i.settings.bounces
   pub known : KnowsHome (own i) (state_in d) w
   pub flies : FitsEndpoint (own i) (state_in d) w
-  pub last : endpoints.last_stamp d.log ≤ greatest_stamp past
+  pub last : endpoints.last_stamp d.log ≤ r.greatest

@@ -30,12 +30,9 @@ impl Cluster {
         if is_full(&self.ends[place], self.settings.log) {
             return Err(ApplyFault::LogFull(Part::Endpoint(end)));
         }
-        if self.journal.room().is_err() {
-            return Err(ApplyFault::NoMemory);
-        }
-        match self.ends[place].call(self.journal.greatest_stamp(), actor, call) {
+        match self.ends[place].call(self.index.greatest_stamp(), actor, call) {
             Ok(entry) => {
-                self.journal.log(entry, None);
+                self.index.log(entry, None);
                 Ok(entry)
             }
             Err(_) => Err(ApplyFault::NoMemory),
@@ -56,12 +53,9 @@ impl Cluster {
         if is_full(&self.ends[place], self.settings.log) {
             return Err(ApplyFault::LogFull(Part::Endpoint(end)));
         }
-        if self.journal.room().is_err() {
-            return Err(ApplyFault::NoMemory);
-        }
-        match self.ends[place].want(self.journal.greatest_stamp(), actor) {
+        match self.ends[place].want(self.index.greatest_stamp(), actor) {
             Ok(entry) => {
-                self.journal.log(entry, None);
+                self.index.log(entry, None);
                 Ok(entry)
             }
             Err(_) => Err(ApplyFault::NoMemory),

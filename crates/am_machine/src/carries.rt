@@ -46,19 +46,16 @@ impl Cluster {
         if let Some(full) = least_full(end, is_source_full, message.dest, is_dest_full) {
             return Err(ApplyFault::LogFull(Part::Endpoint(full)));
         }
-        if self.journal.room().is_err() {
-            return Err(ApplyFault::NoMemory);
-        }
         let Ok(()) = room_for_both(&mut self.ends, source, dest) else {
             return Err(ApplyFault::NoMemory);
         };
         let entry = Entry {
-            stamp: self.journal.greatest_stamp() + 1,
+            stamp: self.index.greatest_stamp() + 1,
             event: Event::Carry { end },
             outcome: judged(self.settings.bounces, message, front.bounces, verdict),
         };
         carry_between(&mut self.ends, source, dest, entry);
-        self.journal.log(entry, None);
+        self.index.log(entry, None);
         Ok(entry)
     }
 }

@@ -15,6 +15,7 @@ mod carries;
 mod ends;
 mod frames;
 mod interfaces;
+mod logs;
 mod moves;
 mod opening;
 mod pages;
@@ -28,13 +29,15 @@ mod turns;
 mod ways;
 
 use crate::interfaces::open_interfaces;
+use crate::logs::logs_of;
 use crate::opening::open_ends;
 pub use crate::settings::ApplyFault;
 use crate::settings::Settings;
 use crate::swaps::open_swaps;
 use am_endpoint::Endpoint;
 use am_iface::Interface;
-use am_journal::IndexedJournal;
+use am_join::join;
+use am_journal::JournalIndex;
 use am_laws::post_office;
 use am_laws_cluster::cluster_holds;
 pub use am_node::NodePart;
@@ -52,7 +55,8 @@ pub struct Cluster {
     settings: Settings,
     faults: Vec<FaultLine>,
     ends: Vec<Endpoint>,
-    journal: IndexedJournal,
+    /// What is read off the journal that the logs of endpoints and interfaces merge into.
+    index: JournalIndex,
     /// One for each node of the packet network, by its number; none in the direct network.
     interfaces: Vec<Interface>,
     /// The disk of each node of the packet network, by its number; none in the direct network.
@@ -92,7 +96,7 @@ impl Cluster {
         let Ok(faults) = Vec::from_slice(alloc, &scenario.faults) else {
             return Err(NoMemory);
         };
-        let journal = IndexedJournal::new(alloc)?;
+        let index = JournalIndex::new(alloc)?;
         let interfaces = open_interfaces(alloc, &settings, &scenario.ends)?;
         let swaps = open_swaps(alloc, &settings, &scenario.faults, &scenario.ends)?;
         Ok(Cluster {
@@ -100,7 +104,7 @@ impl Cluster {
             settings,
             faults,
             ends,
-            journal,
+            index,
             interfaces,
             swaps,
         })
@@ -133,7 +137,7 @@ impl Cluster {
     }
 
     /// The entries in order, which are a history of a lawful layout, obey the laws of the post office and keep the invariant
-    /// of the cluster. `NoMemory` comes where there is none for a copy of them.
+    /// of the cluster. They are merged from the logs of endpoints and interfaces: `NoMemory` comes where there is none for that.
     pub fn journal(&self, alloc: Global) -> Result<Journal, NoMemory>
         ensures journal { IfOk result (λ journal. journal ≡ self.now.journal) }
         ensures lawful { layouts.IsLawful self.now.layout }
@@ -143,9 +147,7 @@ impl Cluster {
     {
         post_office();
         cluster_holds();
-        match Vec::from_slice(alloc, self.journal.entries()) {
-            Ok(entries) => Ok(Journal { entries }),
-            Err(_) => Err(NoMemory),
-        }
+        let logs = logs_of(alloc, &self.ends, &self.interfaces)?;
+        join(alloc, &logs)
     }
 }

@@ -36,20 +36,17 @@ impl Cluster {
         if is_full(&self.ends[place], self.settings.log) {
             return Err(ApplyFault::LogFull(Part::Endpoint(end)));
         }
-        if self.journal.room().is_err() {
-            return Err(ApplyFault::NoMemory);
-        }
         let one = &mut self.ends[place];
         if one.room().is_err() {
             return Err(ApplyFault::NoMemory);
         }
         let entry = Entry {
-            stamp: self.journal.greatest_stamp() + 1,
+            stamp: self.index.greatest_stamp() + 1,
             event,
             outcome: Outcome::Silent,
         };
         move_end(one, entry);
-        self.journal.log(entry, None);
+        self.index.log(entry, None);
         Ok(entry)
     }
 

@@ -35,14 +35,11 @@ impl Cluster {
         if is_full(&self.ends[place], self.settings.log) {
             return Err(ApplyFault::LogFull(Part::Endpoint(end)));
         }
-        if self.journal.room().is_err() {
-            return Err(ApplyFault::NoMemory);
-        }
-        let stamp = self.journal.greatest_stamp() + 1;
+        let stamp = self.index.greatest_stamp() + 1;
         let swap = &mut self.swaps[node.0 as usize];
         match page(self.alloc, swap, &mut self.ends[place], event, stamp) {
             Ok(entry) => {
-                self.journal.log(entry, None);
+                self.index.log(entry, None);
                 Ok(entry)
             }
             Err(_) => Err(ApplyFault::NoMemory),

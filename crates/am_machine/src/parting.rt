@@ -1,6 +1,7 @@
 // A cluster of the packet network taken apart into its nodes, and put together again.
 ghost use Rattle.am_follow.specs.Layout.{layout_of};
 ghost use Rattle.am_join.specs.Joined.{AreOne};
+ghost use Rattle.am_journal.specs.View.{IsIndexOf};
 ghost use Rattle.am_machine.specs.Parting.{settings_from};
 ghost use Rattle.am_machine.specs.Parts.{AreNodeParts, CanUnite};
 ghost use Rattle.am_merge.specs.Logs.{IsRising};
@@ -14,9 +15,10 @@ ghost use Rattle.am_scenario_types.specs.declared.parts.Network.TheVariants as N
 ghost use Rattle.std.specs.Prelude.{◌≡◌, ◌≤◌, [], false, length, vec_capacity, IfErr, IfOk};
 
 use crate::Cluster;
+use crate::parts::short_logs;
 use crate::settings::Settings;
 use am_endpoint::Endpoint;
-use am_journal::IndexedJournal;
+use am_journal::JournalIndex;
 use am_node::{
     NodePart, Taken, assemble, deal, gather, index_of, journal_of, open_shells, room_for,
     take_apart,
@@ -45,18 +47,18 @@ fn settings_from(scenario: &Scenario) -> Settings
 #[derive(Drop)]
 struct Frame {
     faults: Vec<FaultLine>,
-    journal: IndexedJournal,
+    index: JournalIndex,
     taken: Taken,
     ends: Vec<Endpoint>,
 }
 
-/// Makes room for putting the nodes' parts together, and the journal that their logs merge into.
+/// Makes room for putting the nodes' parts together, and the index of the journal that their logs merge into.
 fn open_frame(alloc: Global, scenario: &Scenario, parts: &[NodePart]) -> Result<Frame, NoMemory>
     requires rising { AllAre IsRising (all_logs parts.now) }
     requires one { AreOne (entries_of (all_logs parts.now)) }
     requires within { AllAre GoesWithin (journal_of parts.now) }
     ensures faults { IfOk result (λ frame. frame.faults.items ≡ scenario.now.faults) }
-    ensures journal { IfOk result (λ frame. frame.journal.entries ≡ journal_of parts.now) }
+    ensures index { IfOk result (λ frame. IsIndexOf (journal_of parts.now) frame.index.read) }
     ensures none { IfOk result (λ frame. IsEmpty frame.taken) }
     ensures room { IfOk result (λ frame. HasRoomFor (length parts.now) frame.taken) }
     ensures no_ends { IfOk result (λ frame. frame.ends.items ≡ []) }
@@ -65,7 +67,7 @@ fn open_frame(alloc: Global, scenario: &Scenario, parts: &[NodePart]) -> Result<
     let merged = journal_of(alloc, parts)?;
     Ok(Frame {
         faults: Vec::from_slice(alloc, &scenario.faults)?,
-        journal: index_of(alloc, &merged.entries)?,
+        index: index_of(alloc, &merged.entries)?,
         taken: room_for(alloc, parts.len())?,
         ends: Vec::with_capacity(alloc, scenario.ends.len())?,
     })
@@ -80,7 +82,7 @@ impl Cluster {
         ensures journal { IfOk result (λ parts. journal_of parts.items ≡ self.journal) }
         ensures err { IfErr result (λ same. same ≡ self) }
     {
-        let Ok(shells) = open_shells(alloc, &self.ends, &self.journal, self.settings.nodes) else {
+        let Ok(shells) = open_shells(alloc, &self.ends, &self.index, self.settings.nodes) else {
             return Err(self);
         };
         let Ok(parts) = Vec::with_capacity(alloc, self.settings.nodes as usize) else {
@@ -114,7 +116,7 @@ impl Cluster {
         };
         let Frame {
             faults,
-            journal,
+            index,
             taken,
             ends,
         } = frame;
@@ -123,12 +125,14 @@ impl Cluster {
             interfaces,
             swaps,
         } = take_apart(parts, taken);
+        let ends = gather(&scenario.ends, groups, ends);
+        short_logs(&ends);
         Ok(Cluster {
             alloc,
             settings: settings_from(scenario),
             faults,
-            ends: gather(&scenario.ends, groups, ends),
-            journal,
+            ends,
+            index,
             interfaces,
             swaps,
         })

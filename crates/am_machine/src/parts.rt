@@ -51,16 +51,16 @@ impl Cluster {
         ensures laws { PostOffice self.now.layout self.now.journal }
     {
         post_office();
-        let _journal = &self.journal;
+        let _index = &self.index;
     }
 
-    /// No log of an endpoint or of an interface has more entries than a log may have. It looks once at each endpoint.
+    /// No log of an endpoint or of an interface has more entries than a log may have.
     pub fn logs_are_short(&self)
         requires packet { self.now.layout.direct ≡ false }
         ensures ends { (e : EndpointId) → declared self.now.layout e ≡ true → length (filter (touches e) self.now.journal) ≤ self.now.layout.log }
         ensures nodes { (node : NodeId) → node.0 < self.now.layout.nodes → length (filter (touches_node node) self.now.journal) ≤ self.now.layout.log }
     {
-        short_logs(&self.ends);
+        let _index = &self.index;
     }
 
     /// The interface of a node of the packet network: its log is its part of the journal.
@@ -79,7 +79,7 @@ impl Cluster {
         requires to { to.0 < self.now.layout.nodes }
         ensures { result.now ≡ emitted from to self.now.journal }
     {
-        self.journal.emitted(from, to)
+        self.index.emitted(from, to)
     }
 
     /// How many receipts of packets there are on the link from one node of the packet network to another.
@@ -89,12 +89,12 @@ impl Cluster {
         requires to { to.0 < self.now.layout.nodes }
         ensures { result ≡ receipts from to self.now.journal }
     {
-        self.journal.received(from, to) as u32
+        self.index.received(from, to) as u32
     }
 }
 
-/// No log of these endpoints has more entries than it may.
-fn short_logs(ends: &[Endpoint])
+/// No log of these endpoints has more entries than it may. It looks once at each.
+pub(crate) fn short_logs(ends: &[Endpoint])
     ensures { All (λ end. length end.log ≤ end.settings.log) ends.now }
 {
     for end in ends {

@@ -1,17 +1,19 @@
-// A work of an interface, on its parts: the interface, the endpoint that it touches, and the journal.
+// A work of an interface, on its parts: the interface, the endpoint that it touches, and the index.
 ghost use Rattle.am_endpoint.specs.View.{state_after};
 ghost use Rattle.am_iface.specs.View.{own};
+ghost use Rattle.am_journal.specs.View.{IsIndexOf};
 ghost use Rattle.am_local.specs.Interface.{needs};
 ghost use Rattle.am_machine.specs.Ends.{kept};
-ghost use Rattle.am_machine.specs.Turned.{CanTurn, CanTurnWith, TurnsAlone, TurnsWith, refused};
+ghost use Rattle.am_machine.specs.Turned.{CanTurn, CanTurnWith, TurnsAlone, TurnsWith, entries_after, refused};
 ghost use Rattle.am_machine.specs.Ways.{GoesTo};
 ghost use Rattle.am_model.specs.Endpoint.{State};
-ghost use Rattle.std.specs.Prelude.{◌≡◌, ◌<◌, ◌≤◌, None, IfSome, OnOk, length};
+ghost use Rattle.am_office.specs.declared.Entry.{Entry};
+ghost use Rattle.std.specs.Prelude.{◌≡◌, ◌<◌, ◌≤◌, None, IfSome, List, OnOk, length};
 
 use crate::settings::ApplyFault;
 use am_endpoint::{EndFault, Endpoint};
 use am_iface::{IfaceFault, Interface, Work};
-use am_journal::IndexedJournal;
+use am_journal::JournalIndex;
 use am_names::NodeId;
 use am_office::{Entry, NoMemory};
 
@@ -29,20 +31,21 @@ fn refused(fault: IfaceFault) -> ApplyFault
 /// Does a work that touches no endpoint.
 pub(crate) fn turn_alone(
     interface: &mut Interface,
-    journal: &mut IndexedJournal,
+    index: &mut JournalIndex,
     work: &Work,
 ) -> Result<Entry, ApplyFault>
-    requires can { CanTurn interface.old journal.old.entries work.now }
+    requires can { CanTurn interface.old index.old.read work.now }
     requires alone { needs (own interface.old) work.now ≡ None }
-    ensures { (s : State) → TurnsAlone interface.old interface.new journal.old.entries journal.new.entries s work.now result }
+    ensures turns { (past : List Entry) (s : State) → IsIndexOf past index.old.read → TurnsAlone interface.old interface.new past s work.now result }
+    ensures index { (past : List Entry) → IsIndexOf past index.old.read → IsIndexOf (entries_after past result) index.new.read }
 {
     let to = interface.emits_to(work);
-    if journal.room_to(interface.node(), to).is_err() {
+    if index.room_to(interface.node(), to).is_err() {
         return Err(ApplyFault::NoMemory);
     }
-    match interface.turn_alone(journal.greatest_stamp(), work) {
+    match interface.turn_alone(index.greatest_stamp(), work) {
         Ok(turned) => {
-            journal.log(turned.entry, turned.out);
+            index.log(turned.entry, turned.out);
             Ok(turned.entry)
         }
         Err(fault) => Err(refused(fault)),
@@ -64,24 +67,25 @@ fn make_room(endpoint: &mut Endpoint) -> Result<(), NoMemory>
 pub(crate) fn turn_with(
     interface: &mut Interface,
     endpoint: &mut Endpoint,
-    journal: &mut IndexedJournal,
+    index: &mut JournalIndex,
     work: &Work,
     to: Option<NodeId>,
 ) -> Result<Entry, ApplyFault>
-    requires can { CanTurnWith interface.old (kept endpoint.old) journal.old.entries work.now }
+    requires can { CanTurnWith interface.old (kept endpoint.old) index.old.read work.now }
     requires within { IfSome to (λ node. node.0 < 16) }
     requires goes { GoesTo (own interface.old) (state_after endpoint.old) work.now to }
-    ensures { TurnsWith interface.old interface.new endpoint.old endpoint.new journal.old.entries journal.new.entries work.now result }
+    ensures turns { (past : List Entry) → IsIndexOf past index.old.read → TurnsWith interface.old interface.new endpoint.old endpoint.new past work.now result }
+    ensures index { (past : List Entry) → IsIndexOf past index.old.read → IsIndexOf (entries_after past result) index.new.read }
 {
     if make_room(endpoint).is_err() {
         return Err(ApplyFault::NoMemory);
     }
-    if journal.room_to(interface.node(), to).is_err() {
+    if index.room_to(interface.node(), to).is_err() {
         return Err(ApplyFault::NoMemory);
     }
-    match interface.turn_with(journal.greatest_stamp(), work, endpoint) {
+    match interface.turn_with(index.greatest_stamp(), work, endpoint) {
         Ok(turned) => {
-            journal.log(turned.entry, turned.out);
+            index.log(turned.entry, turned.out);
             Ok(turned.entry)
         }
         Err(fault) => Err(refused(fault)),

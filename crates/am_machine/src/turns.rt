@@ -72,7 +72,7 @@ impl Cluster {
         requires number { 1 ≤ number }
         ensures { result ≡ slice_get (emitted from to self.now.journal) (number - 1) }
     {
-        self.journal
+        self.index
             .emitted(from, to)
             .get(number as usize - 1)
             .copied()
@@ -87,18 +87,12 @@ impl Cluster {
     {
         let interface = &mut self.interfaces[node.0 as usize];
         let Some(end) = interface.needs(&work) else {
-            return turn_alone(interface, &mut self.journal, &work);
+            return turn_alone(interface, &mut self.index, &work);
         };
         let Some(place) = place_of(&self.ends, end) else {
             unreachable!()
         };
         let to = way(interface, &self.ends, &self.ends[place], &work);
-        turn_with(
-            interface,
-            &mut self.ends[place],
-            &mut self.journal,
-            &work,
-            to,
-        )
+        turn_with(interface, &mut self.ends[place], &mut self.index, &work, to)
     }
 }

@@ -7,7 +7,7 @@ use Rattle.am_names.specs.Names.{same_node}
 use Rattle.am_office.specs.declared.Entry.{Entry}
 use Rattle.am_model.specs.Channels.{emitted}
 use Rattle.am_endpoint.specs.View.{EndpointView}
-use Rattle.am_journal.specs.View.{receipts}
+use Rattle.am_journal.specs.View.{Readings, received_in, receipts}
 use Rattle.am_node.specs.declared.shells.Shell.{Shell}
 
 abbrev pub node_at : ℕ → NodeId
@@ -27,9 +27,9 @@ pub record AreCounts (journal : List Entry) (to : NodeId) (count : ℕ) (counts 
   pub all : length counts ≡ count
   pub each : (k n : ℕ) → slice_get counts k ≡ Some n → n ≡ receipts (node_at k) to journal
 
--- these are numbers of 32 bits
-abbrev pub AreSmall : List Entry → NodeId → ℕ → Type 0
-AreSmall journal to count = (k : ℕ) → k < count → receipts (node_at k) to journal < 2 ^ 32
+-- these are numbers of 32 bits, as an index reads them
+abbrev pub AreSmall : Readings → NodeId → ℕ → Type 0
+AreSmall r to count = (k : ℕ) → k < count → received_in r (node_at k) to < 2 ^ 32
 
 -- the shell of a node, with room for its endpoints
 pub record IsShell (ends : List EndpointView) (journal : List Entry) (nodes : ℕ) (node : NodeId) (s : Shell) : Type 0 where

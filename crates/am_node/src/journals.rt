@@ -2,18 +2,19 @@
 ghost use Rattle.am_local.specs.Interface.{receiver_of};
 ghost use Rattle.am_local.specs.Together.{from_of};
 ghost use Rattle.am_join.specs.Joined.{AreOne, lists_of};
-ghost use Rattle.am_journal.specs.View.{HasRoomFor};
+ghost use Rattle.am_journal.specs.View.{CanCount, HasRoomFor, IsIndexOf};
 ghost use Rattle.am_merge.specs.Logs.{IsRising};
 ghost use Rattle.am_merge.specs.Merged.{entries_of};
 ghost use Rattle.am_model.specs.Layout.{AllAre};
 ghost use Rattle.am_node.specs.Parts.{all_logs, journal_of, logs_of_part};
 ghost use Rattle.am_node.specs.Packets.{GoesWithin, IsWithin};
-ghost use Rattle.std.specs.Prelude.{◌≡◌, ◌∷◌, ◌++◌, [], true, IfOk, OnOk};
+ghost use Rattle.am_office.specs.declared.Entry.{Entry};
+ghost use Rattle.std.specs.Prelude.{◌≡◌, ◌+◌, ◌<◌, ◌^◌, ◌∷◌, ◌++◌, [], length, IfOk, List, OnOk};
 
 use crate::NodePart;
 use am_iface::emitted_of;
 use am_join::join;
-use am_journal::IndexedJournal;
+use am_journal::JournalIndex;
 use am_names::{NodeId, Packet};
 use am_office::{Entry, Journal, NoMemory};
 use std::alloc::Global;
@@ -53,41 +54,42 @@ fn nodes_of(packet: &Packet) -> (NodeId, NodeId)
     }
 }
 
-/// Makes room for one more entry, and for this packet.
-fn make_room(journal: &mut IndexedJournal, packet: Option<Packet>) -> Result<(), NoMemory>
+/// Makes room for this packet, if there is one.
+fn make_room(index: &mut JournalIndex, packet: Option<Packet>) -> Result<(), NoMemory>
     requires { IsWithin packet }
-    ensures entries { journal.new.entries ≡ journal.old.entries }
-    ensures ready { OnOk result (journal.new.ready ≡ true) }
-    ensures room { OnOk result (HasRoomFor journal.new packet) }
+    ensures read { index.new.read ≡ index.old.read }
+    ensures room { OnOk result (HasRoomFor index.new packet) }
 {
     match packet {
         Some(packet) => {
             let (from, to) = nodes_of(&packet);
-            journal.room_to(from, Some(to))
+            index.room_to(from, Some(to))
         }
-        None => journal.room(),
+        None => Ok(()),
     }
 }
 
-/// Adds an entry, with the packet that it emits.
-fn add_entry(journal: &mut IndexedJournal, entry: Entry) -> Result<(), NoMemory>
-    requires { GoesWithin entry }
-    ensures { OnOk result (journal.new.entries ≡ journal.old.entries ++ entry ∷ []) }
+/// Reads an entry, with the packet that it emits.
+fn add_entry(index: &mut JournalIndex, entry: Entry) -> Result<(), NoMemory>
+    requires within { GoesWithin entry }
+    requires counts { CanCount index.old.read }
+    ensures { OnOk result ((past : List Entry) → IsIndexOf past index.old.read → IsIndexOf (past ++ entry ∷ []) index.new.read) }
 {
     let packet = emitted_of(&entry);
-    make_room(journal, packet)?;
-    journal.log(entry, packet);
+    make_room(index, packet)?;
+    index.log(entry, packet);
     Ok(())
 }
 
-/// A journal of these entries, with what is read off them.
-pub fn index_of(alloc: Global, entries: &[Entry]) -> Result<IndexedJournal, NoMemory>
-    requires { AllAre GoesWithin entries.now }
-    ensures { IfOk result (λ journal. journal.entries ≡ entries.now) }
+/// The index of a journal of these entries.
+pub fn index_of(alloc: Global, entries: &[Entry]) -> Result<JournalIndex, NoMemory>
+    requires within { AllAre GoesWithin entries.now }
+    requires few { length entries.now + 1 < 2 ^ 64 }
+    ensures { IfOk result (λ index. IsIndexOf entries.now index.read) }
 {
-    let mut journal = IndexedJournal::new(alloc)?;
+    let mut index = JournalIndex::new(alloc)?;
     for entry in entries {
-        add_entry(&mut journal, *entry)?;
+        add_entry(&mut index, *entry)?;
     }
-    Ok(journal)
+    Ok(index)
 }

@@ -1,11 +1,12 @@
 // What a node has beside its endpoints, its interface and its disk.
 ghost use Rattle.am_endpoint.specs.View.{EndpointView};
-ghost use Rattle.am_journal.specs.View.{receipts};
+ghost use Rattle.am_journal.specs.View.{IsIndexOf};
 ghost use Rattle.am_node.specs.Shells.{AreCopies, AreCounts, AreShells, AreSmall, IsShell, is_at};
-ghost use Rattle.std.specs.Prelude.{◌≡◌, ◌<◌, ◌≤◌, ◌^◌, ℕ, IfOk, count_by};
+ghost use Rattle.am_office.specs.declared.Entry.{Entry};
+ghost use Rattle.std.specs.Prelude.{◌≡◌, ◌<◌, ◌≤◌, ℕ, IfOk, List, count_by};
 
 use am_endpoint::Endpoint;
-use am_journal::IndexedJournal;
+use am_journal::JournalIndex;
 use am_names::{NodeId, Packet};
 use am_office::NoMemory;
 use std::alloc::Global;
@@ -29,17 +30,17 @@ fn count_at(ends: &[Endpoint], node: NodeId) -> usize
 /// A copy of the packets that a node emitted to each of so many nodes.
 fn copies_of(
     alloc: Global,
-    journal: &IndexedJournal,
+    index: &JournalIndex,
     from: NodeId,
     nodes: u8,
 ) -> Result<Vec<Vec<Packet>>, NoMemory>
     requires from { from.0 < 16 }
     requires few { nodes ≤ 16 }
-    ensures { IfOk result (λ copies. AreCopies journal.now.entries from nodes copies.items) }
+    ensures { IfOk result (λ copies. (past : List Entry) → IsIndexOf past index.now.read → AreCopies past from nodes copies.items) }
 {
     let mut copies = Vec::with_capacity(alloc, nodes as usize)?;
     for to in 0..nodes {
-        let copy = Vec::from_slice(alloc, journal.emitted(from, NodeId(to)))?;
+        let copy = Vec::from_slice(alloc, index.emitted(from, NodeId(to)))?;
         copies.push(copy)?;
     }
     Ok(copies)
@@ -48,18 +49,18 @@ fn copies_of(
 /// How many packets of each of so many nodes a node received.
 fn counts_of(
     alloc: Global,
-    journal: &IndexedJournal,
+    index: &JournalIndex,
     to: NodeId,
     nodes: u8,
 ) -> Result<Vec<u32>, NoMemory>
     requires to { to.0 < 16 }
     requires few { nodes ≤ 16 }
-    requires small { AreSmall journal.now.entries to nodes }
-    ensures { IfOk result (λ counts. AreCounts journal.now.entries to nodes counts.items) }
+    requires small { AreSmall index.now.read to nodes }
+    ensures { IfOk result (λ counts. (past : List Entry) → IsIndexOf past index.now.read → AreCounts past to nodes counts.items) }
 {
     let mut counts = Vec::with_capacity(alloc, nodes as usize)?;
     for from in 0..nodes {
-        counts.push(journal.received(NodeId(from), to) as u32)?;
+        counts.push(index.received(NodeId(from), to) as u32)?;
     }
     Ok(counts)
 }
@@ -68,20 +69,20 @@ fn counts_of(
 fn open_shell(
     alloc: Global,
     ends: &[Endpoint],
-    journal: &IndexedJournal,
+    index: &JournalIndex,
     node: NodeId,
     nodes: u8,
 ) -> Result<Shell, NoMemory>
     requires node { node.0 < 16 }
     requires few { nodes ≤ 16 }
-    requires small { AreSmall journal.now.entries node nodes }
-    ensures { IfOk result (λ shell. IsShell ends.now journal.now.entries nodes node shell) }
+    requires small { AreSmall index.now.read node nodes }
+    ensures { IfOk result (λ shell. (past : List Entry) → IsIndexOf past index.now.read → IsShell ends.now past nodes node shell) }
 {
     Ok(Shell {
         node,
         ends: Vec::with_capacity(alloc, count_at(ends, node))?,
-        emitted: copies_of(alloc, journal, node, nodes)?,
-        received: counts_of(alloc, journal, node, nodes)?,
+        emitted: copies_of(alloc, index, node, nodes)?,
+        received: counts_of(alloc, index, node, nodes)?,
     })
 }
 
@@ -89,16 +90,16 @@ fn open_shell(
 pub fn open_shells(
     alloc: Global,
     ends: &[Endpoint],
-    journal: &IndexedJournal,
+    index: &JournalIndex,
     nodes: u8,
 ) -> Result<Vec<Shell>, NoMemory>
     requires few { nodes ≤ 16 }
-    requires small { (k : ℕ) → k < nodes → AreSmall journal.now.entries (record { 0 = k }) nodes }
-    ensures { IfOk result (λ shells. AreShells ends.now journal.now.entries nodes nodes shells.items) }
+    requires small { (k : ℕ) → k < nodes → AreSmall index.now.read (record { 0 = k }) nodes }
+    ensures { IfOk result (λ shells. (past : List Entry) → IsIndexOf past index.now.read → AreShells ends.now past nodes nodes shells.items) }
 {
     let mut shells = Vec::with_capacity(alloc, nodes as usize)?;
     for node in 0..nodes {
-        let shell = open_shell(alloc, ends, journal, NodeId(node), nodes)?;
+        let shell = open_shell(alloc, ends, index, NodeId(node), nodes)?;
         shells.push(shell)?;
     }
     Ok(shells)

@@ -10,7 +10,7 @@ use Rattle.am_model.specs.Layout.{AllAre}
 use Rattle.am_opening.proofs.Lists.{all_front, all_last, all_reversed, map_push}
 
 abbrev end_of : EndBook → EndpointView
-end_of b = b.end
+end_of b = b.end.value
 
 -- the line of an endpoint as it is now
 abbrev pub line_now : EndpointView → EndView
@@ -27,7 +27,7 @@ booked_begins whole fine = record { fine = all_reversed IsBook whole fine; made 
 pub booked_next : (whole rest : List EndpointView) (x : EndpointView) (books : List EndBook) → AreBooked whole (rest ++ x ∷ []) books → IsBook x
 booked_next whole rest x books b = all_last IsBook rest x b.fine
 
-pub booked_more : (whole rest : List EndpointView) (x : EndpointView) (books : List EndBook) (b : EndBook) → AreBooked whole (rest ++ x ∷ []) books → b.end ≡ x → AreBooked whole rest (books ++ b ∷ [])
+pub booked_more : (whole rest : List EndpointView) (x : EndpointView) (books : List EndBook) (b : EndBook) → AreBooked whole (rest ++ x ∷ []) books → b.end.value ≡ x → AreBooked whole rest (books ++ b ∷ [])
 booked_more whole rest x books b so is =
     record {
       fine = all_front IsBook rest x so.fine;

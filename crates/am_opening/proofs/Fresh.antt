@@ -119,7 +119,7 @@ module _ (layout : Layout) (node : NodeId) (p : NodePart) (ok : IsLawful layout)
         valid = subst (λ (o : Option ℕ). IsValid e.settings.id o (fresh e.settings.tag e.settings.place).body) (sym own.pool) (subst (λ (t : State). IsValid e.settings.id layout.pool t.body) opens held.valid);
       }
 
-  pub part_disk : (books : List EndBook) → map (λ (b : EndBook). b.end) books ≡ p.ends.items → IsFreshDisk layout node (births_of books) p.swap
+  pub part_disk : (books : List EndBook) → map (λ (b : EndBook). b.end.value) books ≡ p.ends.items → IsFreshDisk layout node (births_of books) p.swap
   part_disk books are =
       record {
         fails = part.disk.fails;
@@ -129,8 +129,8 @@ module _ (layout : Layout) (node : NodeId) (p : NodePart) (ok : IsLawful layout)
             (map_all (λ (e : EndpointView). e.settings) (IsOpenIn p.swap) p.ends.items (all_got (λ (e : EndpointView). IsOpenIn p.swap e.settings) p.ends.items part_disk_at));
       }
     where
-      births_by : map (λ (b : EndBook). b.end) books ≡ p.ends.items → map (λ (e : EndpointView). e.settings) p.ends.items ≡ births_of books
-      births_by are = ap (map (λ (e : EndpointView). e.settings)) (sym are) ∙ map_twice (λ (b : EndBook). b.end) (λ (e : EndpointView). e.settings) books
+      births_by : map (λ (b : EndBook). b.end.value) books ≡ p.ends.items → map (λ (e : EndpointView). e.settings) p.ends.items ≡ births_of books
+      births_by are = ap (map (λ (e : EndpointView). e.settings)) (sym are) ∙ map_twice (λ (b : EndBook). b.end.value) (λ (e : EndpointView). e.settings) books
 
 -- ---- the threads of a node
 

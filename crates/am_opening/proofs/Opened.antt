@@ -27,16 +27,16 @@ use Rattle.am_scenario_types.specs.declared.parts.Network.TheVariants as Network
 use Rattle.am_follow.specs.Layout.{is_direct, layout_of}
 use Rattle.am_follow.proofs.Lawful.{lawful_layout}
 use Rattle.am_works.specs.Begins.{AreFresh, ids_of}
-use Rattle.am_works.specs.Seats.{IsBorn}
+use Rattle.am_works.specs.Seats.{IsBorn, setting_by}
 use Rattle.am_works.specs.Stands.{fresh_pass}
 use Rattle.am_crew_laws.proofs.Homes.{ends_apart}
-use Rattle.am_opening.specs.Openings.{AreDeclared, AreOpenings, EndSeat, IsFreshDisk, IsOpening, births_of, lines_of, setting_by, thread_ids}
+use Rattle.am_opening.specs.Openings.{AreDeclared, AreOpenings, EndSeat, IsFreshDisk, IsOpening, births_of, lines_of, thread_ids}
 use Rattle.am_opening.specs.declared.opening.Opening.{Opening}
 use Rattle.am_opening.proofs.Fresh.{is_born, is_homely, no_log, part_at, part_books, part_disk, part_few, part_home, part_ids}
 use Rattle.am_opening.proofs.Lists.{AreTaking, all_got, each_more, elem_got, got_elem, got_map, length_map, map_all, map_twice, taking_begins, taking_ends, taking_more, taking_next}
 
 abbrev end_of : EndBook → EndpointView
-end_of b = b.end
+end_of b = b.end.value
 
 -- what Places::new says of the seats
 abbrev pub AreSeats : TableId → List EndBook → List EndpointId → ℕ → ℕ → List (EndSeat) → Type 0
@@ -57,36 +57,36 @@ module _ (s : ScenarioLists) (p : NodePart) (ok : lawful.IsLawful s) (packet : s
     books_named : ids_of books ≡ ends_of (layout_of s) p.node
     books_named = books_ids ∙ part_ids (layout_of s) p.node p (lawful_layout s ok) part
 
-    end_at : (k : ℕ) (b : EndBook) → slice_get books k ≡ Some b → slice_get p.ends.items k ≡ Some b.end
-    end_at k b at = subst (λ (l : List EndpointView). slice_get l k ≡ Some b.end) are (got_map end_of books k b at)
+    end_at : (k : ℕ) (b : EndBook) → slice_get books k ≡ Some b → slice_get p.ends.items k ≡ Some b.end.value
+    end_at k b at = subst (λ (l : List EndpointView). slice_get l k ≡ Some b.end.value) are (got_map end_of books k b at)
 
-    books_born : AllAre (λ (b : EndBook). IsBorn (layout_of s) b.end.settings) books
-    books_born = all_got (λ (b : EndBook). IsBorn (layout_of s) b.end.settings) books (λ k b at. is_born (layout_of s) (lawful_layout s ok) b.end (part_at (layout_of s) p.node p (lawful_layout s ok) part k b.end (end_at k b at)))
+    books_born : AllAre (λ (b : EndBook). IsBorn (layout_of s) b.end.value.settings) books
+    books_born = all_got (λ (b : EndBook). IsBorn (layout_of s) b.end.value.settings) books (λ k b at. is_born (layout_of s) (lawful_layout s ok) b.end.value (part_at (layout_of s) p.node p (lawful_layout s ok) part k b.end.value (end_at k b at)))
 
     books_fresh : AreFresh s books
     books_fresh =
         record {
           apart = subst (AreApart same_end) (sym books_named) (ends_apart (layout_of s) (lawful_layout s ok).ids p.node);
           born = books_born;
-          none = all_got (λ (b : EndBook). b.end.log ≡ []) books (λ k b at. no_log (layout_of s) (lawful_layout s ok) b.end (part_at (layout_of s) p.node p (lawful_layout s ok) part k b.end (end_at k b at)));
+          none = all_got (λ (b : EndBook). b.end.value.log ≡ []) books (λ k b at. no_log (layout_of s) (lawful_layout s ok) b.end.value (part_at (layout_of s) p.node p (lawful_layout s ok) part k b.end.value (end_at k b at)));
         }
 
-    books_home : AllAre (λ (b : EndBook). b.end.settings.node ≡ p.node) books
-    books_home = all_got (λ (b : EndBook). b.end.settings.node ≡ p.node) books (λ k b at. part_home (layout_of s) p.node p (lawful_layout s ok) part k b.end (end_at k b at))
+    books_home : AllAre (λ (b : EndBook). b.end.value.settings.node ≡ p.node) books
+    books_home = all_got (λ (b : EndBook). b.end.value.settings.node ≡ p.node) books (λ k b at. part_home (layout_of s) p.node p (lawful_layout s ok) part k b.end.value (end_at k b at))
 
     books_declared : AreDeclared (layout_of s) p.node (births_of books)
     books_declared =
         record {
           declared =
-              map_twice (λ (b : EndBook). b.end.settings) setting_by books
+              map_twice (λ (b : EndBook). b.end.value.settings) setting_by books
               ∙ sym (map_twice end_of (λ (e : EndpointView). setting_in (kept e)) books)
               ∙ ap (map (λ (e : EndpointView). setting_in (kept e))) are
               ∙ part.ends';
-          each = map_all (λ (b : EndBook). b.end.settings) (IsBorn (layout_of s)) books books_born;
+          each = map_all (λ (b : EndBook). b.end.value.settings) (IsBorn (layout_of s)) books books_born;
         }
 
-    pub books_homely : (k : ℕ) (b : EndBook) → get_elem? books k ≡ some b → stands_at b.end < 2
-    books_homely k b at = is_homely (layout_of s) (lawful_layout s ok) b.end (packet_layout s packet) (part_at (layout_of s) p.node p (lawful_layout s ok) part k b.end (end_at k b (elem_got books k b at)))
+    pub books_homely : (k : ℕ) (b : EndBook) → get_elem? books k ≡ some b → stands_at b.end.value < 2
+    books_homely k b at = is_homely (layout_of s) (lawful_layout s ok) b.end.value (packet_layout s packet) (part_at (layout_of s) p.node p (lawful_layout s ok) part k b.end.value (end_at k b (elem_got books k b at)))
 
     pub books_few : length books < 2 ^ 32
     books_few =
@@ -96,9 +96,9 @@ module _ (s : ScenarioLists) (p : NodePart) (ok : lawful.IsLawful s) (packet : s
         omega (arith, mapped, same, few)
 
     pub books_all : (ids : List EndpointId) → ids ≡ map (λ (e : EndpointView). e.settings.id) p.ends.items → length ids ≡ length books
-    books_all ids named = ap length (named ∙ sym books_ids) ∙ length_map (λ (b : EndBook). b.end.settings.id) books
+    books_all ids named = ap length (named ∙ sym books_ids) ∙ length_map (λ (b : EndBook). b.end.value.settings.id) books
 
-    books_lines : lines_of p.ends.items ≡ map (λ (b : EndBook). line_of b.end.settings.id (state_after b.end)) books
+    books_lines : lines_of p.ends.items ≡ map (λ (b : EndBook). line_of b.end.value.settings.id (state_after b.end.value)) books
     books_lines = ap lines_of (sym are) ∙ map_twice end_of (λ (e : EndpointView). line_of e.settings.id (state_after e)) books
 
     pub opening_is : (o : Opening) (count : ℕ) → o.node ≡ p.node → o.places.ids.items ≡ map (λ (e : EndpointView). e.settings.id) p.ends.items → o.places.frames ≡ s.frames → o.threads.items ≡ thread_ids s.threads p.node → count ≡ length o.threads.items + 2

@@ -25,14 +25,10 @@ use Rattle.am_iface.specs.Settings.{AreLawful}
 use Rattle.am_machine.specs.Interfaces.{IsInterface}
 use Rattle.am_works.specs.Begins.{AreFresh}
 use Rattle.am_works.specs.Stands.{fresh_pass}
-use Rattle.am_works.specs.Seats.{IsBorn}
+use Rattle.am_works.specs.Seats.{IsBorn, setting_by}
 use Rattle.am_opening.specs.declared.opening.Opening.{Opening}
 
 -- ---- endpoints
-
--- how an endpoint is declared that has these settings
-abbrev pub setting_by : EndSettings → EndSetting
-setting_by set = record { id = set.id; node = set.node; tag = set.tag; disk = is_on_disk set.place }
 
 -- these are the settings of the node's endpoints, in order
 pub record AreDeclared (layout : Layout) (node : NodeId) (births : List EndSettings) : Type 0 where
@@ -40,7 +36,7 @@ pub record AreDeclared (layout : Layout) (node : NodeId) (births : List EndSetti
   pub each : AllAre (IsBorn layout) births
 
 abbrev pub births_of : List EndBook → List EndSettings
-births_of books = map (λ (b : EndBook). b.end.settings) books
+births_of books = map (λ (b : EndBook). b.end.value.settings) books
 
 -- where an endpoint begins on disk, the swap holds the image of the body that it begins with
 abbrev pub IsOpenIn : Store → EndSettings → Type 0
@@ -83,9 +79,9 @@ pub record IsOpening (s : ScenarioLists) (node : NodeId) (o : Opening) : Type 0 
   pub ids : o.places.ids.items ≡ ends_of (layout_of s) node
   pub frames : o.places.frames ≡ s.frames
   pub books : List EndBook
-  pub named : map (λ (b : EndBook). b.end.settings.id) books ≡ o.places.ids.items
+  pub named : map (λ (b : EndBook). b.end.value.settings.id) books ≡ o.places.ids.items
   pub declared : AreDeclared (layout_of s) node (births_of books)
-  pub homes : AllAre (λ (b : EndBook). b.end.settings.node ≡ node) books
+  pub homes : AllAre (λ (b : EndBook). b.end.value.settings.node ≡ node) books
   pub fresh_books : AreFresh s books
   pub threads' : o.threads.items ≡ threads_of s node
   pub all : length o.seats.items ≡ length o.threads.items + 2
@@ -94,7 +90,7 @@ pub record IsOpening (s : ScenarioLists) (node : NodeId) (o : Opening) : Type 0 
   pub set' : o.set ≡ o.interface.settings
   pub lawful : AreLawful o.set
   pub disk : IsFreshDisk (layout_of s) node (births_of books) o.swap
-  pub view' : o.view ≡ record { ends = map (λ (b : EndBook). line_of b.end.settings.id (state_after b.end)) books; frames = s.frames; keep = s.keep; last = None }
+  pub view' : o.view ≡ record { ends = map (λ (b : EndBook). line_of b.end.value.settings.id (state_after b.end.value)) books; frames = s.frames; keep = s.keep; last = None }
 
 -- those of all nodes, in order
 pub record AreOpenings (s : ScenarioLists) (os : List Opening) : Type 0 where

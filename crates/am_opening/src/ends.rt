@@ -1,14 +1,14 @@
 // The endpoints of a node as they begin: their numbers, the driver's view of them, and the books that stand for them.
 ghost use Rattle.am_books.specs.Books.{IsBook};
 ghost use Rattle.am_books.specs.declared.EndBook.{EndBook as Book};
-ghost use Rattle.am_driver.specs.Views.{line_of};
-ghost use Rattle.am_endpoint.specs.View.{EndpointView, state_after};
+ghost use Rattle.am_endpoint.specs.View.{EndpointView};
 ghost use Rattle.am_model.specs.Layout.{AllAre};
 ghost use Rattle.am_opening.specs.Openings.{lines_of};
 ghost use Rattle.std.specs.Prelude.{◌≡◌, ◌+◌, [], ◌∷◌, ◌++◌, None, IfOk, length, map, vec_capacity};
 
 use am_books::EndBook;
-use am_driver::{EndView, View};
+use am_driver::View;
+use am_driver_turn::line_of;
 use am_endpoint::Endpoint;
 use am_names::{EndpointId, NoMemory};
 use std::alloc::Global;
@@ -22,20 +22,6 @@ pub(crate) fn ids_of(alloc: Global, ends: &[Endpoint]) -> Result<Vec<EndpointId>
         ids.push(end.id())?;
     }
     Ok(ids)
-}
-
-/// What a driver sees of an endpoint.
-fn line_of(end: &Endpoint) -> EndView
-    ensures { result ≡ line_of end.now.settings.id (state_after end.now) }
-{
-    EndView {
-        id: end.id(),
-        place: end.place(),
-        wanted: end.wanted(),
-        draining: end.draining(),
-        closed: end.closed(),
-        in_flight: end.in_flight_len(),
-    }
 }
 
 /// What a driver sees of a node with these endpoints and so many frames, of whose endpoints so many stay on the host.
@@ -60,22 +46,24 @@ pub(crate) fn view_of(
 }
 
 /// The book of an endpoint.
-fn book_of(end: Endpoint) -> EndBook
+fn book_of(alloc: Global, end: Endpoint) -> Result<EndBook, NoMemory>
     requires { IsBook end }
-    ensures { result.end ≡ end }
+    ensures { IfOk result (λ book. book.end.value ≡ end) }
 {
-    EndBook { end }
+    let end = Box::new(alloc, end)?;
+    Ok(EndBook { end })
 }
 
 /// The books of the endpoints, in their order.
 pub(crate) fn books_of(alloc: Global, mut ends: Vec<Endpoint>) -> Result<Vec<EndBook>, NoMemory>
     requires { AllAre IsBook ends.items }
-    ensures { IfOk result (λ books. map (λ (b : Book). b.end) books.items ≡ ends.items) }
+    ensures { IfOk result (λ books. map (λ (b : Book). b.end.value) books.items ≡ ends.items) }
 {
     let mut books = Vec::new(alloc);
     ends.reverse();
     while let Some(end) = ends.pop() {
-        books.push(book_of(end))?;
+        let book = book_of(alloc, end)?;
+        books.push(book)?;
     }
     Ok(books)
 }

@@ -31,12 +31,12 @@ pub(crate) fn is_on_disk(place: Place) -> bool
 
 /// Makes the call.
 fn make_call(book: &mut EndBook, thread: u8, call: Call, clock: u64) -> ThreadTurn
-    requires here { is_on_disk (state_after book.old.end).head.place ≡ false }
-    requires low { max clock (last_stamp book.old.end.log) < 2 ^ 63 }
-    requires numbers { are_numbers_in_range book.old.end.settings.pool call ≡ true }
-    ensures settings { book.new.end.settings ≡ book.old.end.settings }
-    ensures added { book.new.end.log ≡ book.old.end.log ++ made_in result }
-    ensures found { ThreadFound thread call clock result book.old.end.settings book.old.end.log }
+    requires here { is_on_disk (state_after book.old.end.value).head.place ≡ false }
+    requires low { max clock (last_stamp book.old.end.value.log) < 2 ^ 63 }
+    requires numbers { are_numbers_in_range book.old.end.value.settings.pool call ≡ true }
+    ensures settings { book.new.end.value.settings ≡ book.old.end.value.settings }
+    ensures added { book.new.end.value.log ≡ book.old.end.value.log ++ made_in result }
+    ensures found { ThreadFound thread call clock result book.old.end.value.settings book.old.end.value.log }
 {
     match book.end.call(clock, Actor::Thread(thread), call) {
         Ok(entry) => ThreadTurn::Made(entry),
@@ -47,12 +47,12 @@ fn make_call(book: &mut EndBook, thread: u8, call: Call, clock: u64) -> ThreadTu
 
 /// Wants the endpoint in memory for the call.
 fn make_want(book: &mut EndBook, thread: u8, call: Call, clock: u64) -> ThreadTurn
-    requires away { is_on_disk (state_after book.old.end).head.place ≡ true }
-    requires unwanted { (state_after book.old.end).head.wanted ≡ false }
-    requires low { max clock (last_stamp book.old.end.log) < 2 ^ 63 }
-    ensures settings { book.new.end.settings ≡ book.old.end.settings }
-    ensures added { book.new.end.log ≡ book.old.end.log ++ made_in result }
-    ensures found { ThreadFound thread call clock result book.old.end.settings book.old.end.log }
+    requires away { is_on_disk (state_after book.old.end.value).head.place ≡ true }
+    requires unwanted { (state_after book.old.end.value).head.wanted ≡ false }
+    requires low { max clock (last_stamp book.old.end.value.log) < 2 ^ 63 }
+    ensures settings { book.new.end.value.settings ≡ book.old.end.value.settings }
+    ensures added { book.new.end.value.log ≡ book.old.end.value.log ++ made_in result }
+    ensures found { ThreadFound thread call clock result book.old.end.value.settings book.old.end.value.log }
 {
     let _call = call;
     match book.end.want(clock, Actor::Thread(thread)) {
@@ -64,10 +64,10 @@ fn make_want(book: &mut EndBook, thread: u8, call: Call, clock: u64) -> ThreadTu
 
 /// The call, or a want where the endpoint is on disk and not wanted.
 pub(crate) fn act(book: &mut EndBook, thread: u8, call: Call, clock: u64) -> ThreadTurn
-    requires numbers { are_numbers_in_range book.old.end.settings.pool call ≡ true }
-    ensures settings { book.new.end.settings ≡ book.old.end.settings }
-    ensures added { book.new.end.log ≡ book.old.end.log ++ made_in result }
-    ensures found { ThreadFound thread call clock result book.old.end.settings book.old.end.log }
+    requires numbers { are_numbers_in_range book.old.end.value.settings.pool call ≡ true }
+    ensures settings { book.new.end.value.settings ≡ book.old.end.value.settings }
+    ensures added { book.new.end.value.log ≡ book.old.end.value.log ++ made_in result }
+    ensures found { ThreadFound thread call clock result book.old.end.value.settings book.old.end.value.log }
 {
     if is_spent(clock, &book.end) {
         return ThreadTurn::Spent;

@@ -134,20 +134,20 @@ fn is_on_network(place: Place) -> bool
 /// Does the work, which every test lets through.
 fn work_on(interface: &mut Interface, work: &Work, book: &mut EndBook) -> InterfaceTurn
     requires fits { FitsInterface interface.old work.now }
-    requires needs { needs (own interface.old) work.now ≡ Some book.old.end.settings.id }
-    requires home { home_in (own interface.old) book.old.end.settings.id ≡ Some book.old.end.settings.node }
-    requires network { is_direct (state_after book.old.end).head.place ≡ false }
-    requires limit { book.old.end.settings.bounces ≡ interface.old.settings.bounces }
-    requires known { KnowsHome (own interface.old) (state_after book.old.end) work.now }
-    requires flies { FitsEndpoint (own interface.old) (state_after book.old.end) work.now }
-    requires bounces { MayBounce interface.old.settings.bounces (state_after book.old.end) work.now }
-    requires here { SettlesHere (state_after book.old.end) work.now }
+    requires needs { needs (own interface.old) work.now ≡ Some book.old.end.value.settings.id }
+    requires home { home_in (own interface.old) book.old.end.value.settings.id ≡ Some book.old.end.value.settings.node }
+    requires network { is_direct (state_after book.old.end.value).head.place ≡ false }
+    requires limit { book.old.end.value.settings.bounces ≡ interface.old.settings.bounces }
+    requires known { KnowsHome (own interface.old) (state_after book.old.end.value) work.now }
+    requires flies { FitsEndpoint (own interface.old) (state_after book.old.end.value) work.now }
+    requires bounces { MayBounce interface.old.settings.bounces (state_after book.old.end.value) work.now }
+    requires here { SettlesHere (state_after book.old.end.value) work.now }
     requires last { last_stamp interface.old.log < 2 ^ 63 }
-    requires last_there { endpoints.last_stamp book.old.end.log < 2 ^ 63 }
+    requires last_there { endpoints.last_stamp book.old.end.value.log < 2 ^ 63 }
     requires packet { stamp_in work.now < 2 ^ 63 }
-    ensures settings { book.new.end.settings ≡ book.old.end.settings }
-    ensures added { book.new.end.log ≡ book.old.end.log ++ worked_in result }
-    ensures found { InterfaceFound work.now interface.old interface.new result book.old.end.settings book.old.end.log }
+    ensures settings { book.new.end.value.settings ≡ book.old.end.value.settings }
+    ensures added { book.new.end.value.log ≡ book.old.end.value.log ++ worked_in result }
+    ensures found { InterfaceFound work.now interface.old interface.new result book.old.end.value.settings book.old.end.value.log }
 {
     match interface.turn_with(0, work, &mut book.end) {
         Ok(turned) => InterfaceTurn::Made(turned),
@@ -167,10 +167,10 @@ pub(crate) fn work_at(
     requires lawful { AreLawful set.now }
     requires set { set.now ≡ interface.old.settings }
     requires fits { FitsInterface interface.old work.now }
-    requires needs { needs (own interface.old) work.now ≡ Some book.old.end.settings.id }
-    ensures settings { book.new.end.settings ≡ book.old.end.settings }
-    ensures added { book.new.end.log ≡ book.old.end.log ++ worked_in result }
-    ensures found { InterfaceFound work.now interface.old interface.new result book.old.end.settings book.old.end.log }
+    requires needs { needs (own interface.old) work.now ≡ Some book.old.end.value.settings.id }
+    ensures settings { book.new.end.value.settings ≡ book.old.end.value.settings }
+    ensures added { book.new.end.value.log ≡ book.old.end.value.log ++ worked_in result }
+    ensures found { InterfaceFound work.now interface.old interface.new result book.old.end.value.settings book.old.end.value.log }
 {
     if !is_of(set, &book.end) || !is_ready_for(set, interface, work, &book.end) {
         return InterfaceTurn::NotYet;

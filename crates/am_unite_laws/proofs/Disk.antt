@@ -230,15 +230,15 @@ held_at_end s r end node f e journal packet declared history own_log on =
     p : IsPlaced (ends_of (layout_of s) node) (r.nodes node).books e
     p = placed (ends_of (layout_of s) node) (r.nodes node).books e (end.nodes node f.declared).all declared
 
-    whole : IsWholeBook r (r.nodes node) e p.place p.book.end.log
+    whole : IsWholeBook r (r.nodes node) e p.place p.book.end.value.log
     whole = book_of s r end node f.declared e p
 
-    begins : Begins p.book.end.log (seen_log p.place f.worker.pass)
+    begins : Begins p.book.end.value.log (seen_log p.place f.worker.pass)
     begins = whole.seen f.worker f.there'
 
     since : (is_on_disk (replay e (opening (layout_of s) e) (seen_log p.place f.worker.pass)).head.place ≡ true) × ((state_of (layout_of s) journal e).body ≡ (replay e (opening (layout_of s) e) (seen_log p.place f.worker.pass)).body)
     since =
         on_disk_since (layout_of s) e journal (seen_log p.place f.worker.pass) begins.0 (ap is_direct packet) (lawful_layout s end.lawful) history
         (own_log ∙ log_is s r end node p.place e p.book p.id p.there ∙ begins.1)
-        (λ x has pages. not_paged s r end node f p.place e p.book.end.log begins.0 p.id whole begins.1 x has pages)
+        (λ x has pages. not_paged s r end node f p.place e p.book.end.value.log begins.0 p.id whole begins.1 x has pages)
         on

@@ -34,7 +34,7 @@ use Rattle.am_scenario_types.specs.declared.parts.Network.TheVariants as Network
 use Rattle.am_follow.specs.Layout.{layout_of}
 use Rattle.am_books.specs.declared.EndBook.{EndBook}
 use Rattle.am_phase.specs.Makers.{Driver, Interface, Maker, Thread}
-use Rattle.am_works.specs.Seats.{AreBorn, EndPass, KnowsNode}
+use Rattle.am_works.specs.Seats.{AreBorn, EndPass, KnowsNode, setting_by}
 use Rattle.am_crew_laws.specs.Ended.{IsEnded, KeepsAs, RunEnd, all_lists, lists_of, node_lists}
 use Rattle.am_crew_laws.specs.Laws.{IsPhaseAtEnd}
 use Rattle.am_crew_laws.proofs.Passes.{IsIn, births_same, each_in}
@@ -42,7 +42,7 @@ use Rattle.am_crew_laws.proofs.Homes.{any_end}
 use Rattle.am_crew_laws.proofs.Books.{knows}
 use Rattle.am_crew_laws.proofs.Done.{IsDriverAt, iface, log_is}
 use Rattle.am_crew_laws.proofs.Ends.{ends_are_a_phase, in_got}
-use Rattle.am_unite_laws.specs.Ended.{IsPartEnd, end_of, setting_by}
+use Rattle.am_unite_laws.specs.Ended.{IsPartEnd, end_of}
 use Rattle.am_unite_laws.proofs.Disk.{held_at_end}
 
 -- ---- words on lists
@@ -57,19 +57,19 @@ all_mapped f P (x ∷ xs) h = (h.0, all_mapped f P xs h.1)
 
 -- ---- the settings
 
-same_settings : (books : List EndBook) (births : List EndSettings) → length books ≡ length births → ((k : ℕ) (b : EndBook) → slice_get books k ≡ Some b → get_elem? births k ≡ some b.end.settings) → map (λ (b : EndBook). b.end.settings) books ≡ births
+same_settings : (books : List EndBook) (births : List EndSettings) → length books ≡ length births → ((k : ℕ) (b : EndBook) → slice_get books k ≡ Some b → get_elem? births k ≡ some b.end.value.settings) → map (λ (b : EndBook). b.end.value.settings) books ≡ births
 same_settings [] [] all h = refl
 same_settings [] (x ∷ xs) all h = absurd (omega (arith, all))
 same_settings (b ∷ bs) [] all h = absurd (omega (arith, all))
 same_settings (b ∷ bs) (x ∷ xs) all h =
-    let head : x ≡ b.end.settings = (let first = h 0 b refl in cc) in
+    let head : x ≡ b.end.value.settings = (let first = h 0 b refl in cc) in
     let tail = same_settings bs xs (omega (arith, all)) (λ k c at. h (suc k) c at) in
     λ i. sym head i ∷ tail i
 
-births_are : (s : ScenarioLists) (r : RunEnd) (end : IsEnded s r) (node : NodeId) (d : node.0 < s.nodes) (k : ℕ) (b : EndBook) → slice_get (r.nodes node).books k ≡ Some b → get_elem? (r.nodes node).keeper.pass.births k ≡ some b.end.settings
+births_are : (s : ScenarioLists) (r : RunEnd) (end : IsEnded s r) (node : NodeId) (d : node.0 < s.nodes) (k : ℕ) (b : EndBook) → slice_get (r.nodes node).books k ≡ Some b → get_elem? (r.nodes node).keeper.pass.births k ≡ some b.end.value.settings
 births_are s r end node d k b at =
     let out = (end.nodes node d).taken k b at in
-    subst (λ (births : List EndSettings). get_elem? births k ≡ some b.end.settings) (out.knows.births ∙ births_same (r.nodes node).keeper.pass (r.nodes node).others) out.comes.born
+    subst (λ (births : List EndSettings). get_elem? births k ≡ some b.end.value.settings) (out.knows.births ∙ births_same (r.nodes node).keeper.pass (r.nodes node).others) out.comes.born
 
 -- ---- the lists of all parts
 
@@ -128,25 +128,25 @@ module _ (s : ScenarioLists) (r : RunEnd) (end : IsEnded s r) (node : NodeId) (d
   keeper_knows : KnowsNode (ends_of (layout_of s) node) (r.made (r.nodes node).keeper.maker) (r.nodes node).keeper.pass
   keeper_knows = knows s r node (end.nodes node d) (r.nodes node).keeper (inl refl)
 
-  settings : map (λ (b : EndBook). b.end.settings) (r.nodes node).books ≡ (r.nodes node).keeper.pass.births
+  settings : map (λ (b : EndBook). b.end.value.settings) (r.nodes node).books ≡ (r.nodes node).keeper.pass.births
   settings = same_settings (r.nodes node).books (r.nodes node).keeper.pass.births ((end.nodes node d).all ∙ sym keeper_knows.all) (λ k b at. births_are s r end node d k b at)
 
-  own_end : (b : EndBook) → IsIn (r.nodes node).books b → IsOwn (layout_of s) (merged (all_lists s r)) (kept b.end)
+  own_end : (b : EndBook) → IsIn (r.nodes node).books b → IsOwn (layout_of s) (merged (all_lists s r)) (kept b.end.value)
   own_end b h =
       let q = in_got (r.nodes node).books b h in
       let birth = births_are s r end node d q.place b q.at in
-      let born = born_as s r node (r.nodes node).keeper.maker (r.nodes node).keeper.pass (end.nodes node d).keeps.0 q.place b.end.settings birth in
-      let id = keeper_knows.births q.place b.end.settings birth in
+      let born = born_as s r node (r.nodes node).keeper.maker (r.nodes node).keeper.pass (end.nodes node d).keeps.0 q.place b.end.value.settings birth in
+      let id = keeper_knows.births q.place b.end.value.settings birth in
       record {
         opening = sym born.opens;
-        log = sym (phase.merges.merged.of_ends b.end.settings.id ∙ log_is s r end node q.place b.end.settings.id b id q.at);
+        log = sym (phase.merges.merged.of_ends b.end.value.settings.id ∙ log_is s r end node q.place b.end.value.settings.id b id q.at);
         limit = born.limit;
         bounces = born.bounces;
         pool = born.pool;
       }
 
-  all_own : AllAre (λ (b : EndBook). IsOwn (layout_of s) (merged (all_lists s r)) (kept b.end)) (r.nodes node).books
-  all_own = each_in (λ (b : EndBook). IsOwn (layout_of s) (merged (all_lists s r)) (kept b.end)) (r.nodes node).books own_end
+  all_own : AllAre (λ (b : EndBook). IsOwn (layout_of s) (merged (all_lists s r)) (kept b.end.value)) (r.nodes node).books
+  all_own = each_in (λ (b : EndBook). IsOwn (layout_of s) (merged (all_lists s r)) (kept b.end.value)) (r.nodes node).books own_end
 
   its_disk : s.network ≡ Networks.Packet → (f : IsDriverAt s r node) → IsSwap (layout_of s) (merged (all_lists s r)) node (r.nodes node).disk
   its_disk packet f =
@@ -166,7 +166,7 @@ module _ (s : ScenarioLists) (r : RunEnd) (end : IsEnded s r) (node : NodeId) (d
         ends' =
             ap (map (λ (v : EndpointView). setting_in (kept v))) e.ends'
             ∙ map_both end_of (λ (v : EndpointView). setting_in (kept v)) (r.nodes node).books
-            ∙ sym (map_both (λ (b : EndBook). b.end.settings) setting_by (r.nodes node).books)
+            ∙ sym (map_both (λ (b : EndBook). b.end.value.settings) setting_by (r.nodes node).books)
             ∙ ap (map setting_by) settings
             ∙ e.declared;
         own =

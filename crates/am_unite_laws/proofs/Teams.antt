@@ -25,7 +25,8 @@ use Rattle.am_crew_laws.specs.Ended.{DriverEnd, HaveSeats, InterfaceEnd, IsAtWor
 use Rattle.am_crew_laws.proofs.Passes.{IsIn}
 use Rattle.am_crew_laws.proofs.Homes.{got_in}
 use Rattle.am_crew_laws.proofs.Ends.{in_got, in_map}
-use Rattle.am_unite_laws.specs.Ended.{ArePartEnds, IsPartEnd, end_of, setting_by}
+use Rattle.am_works.specs.Seats.{setting_by}
+use Rattle.am_unite_laws.specs.Ended.{ArePartEnds, IsPartEnd, end_of}
 use Rattle.am_unite_laws.specs.Teams.{ArePartsOfTeams, AreTeams, IsPartOfTeam, IsTeam, Team, TeamThread, TeamsEnd, TeamsUnite, all_threads, driven_in, gathered_in, keeper_in, log_in, node_end, node_in, run_of, sent_in, taken_in, worker_of_thread}
 use Rattle.am_unite_laws.proofs.Seated.{IsSeatedTeam, seated_team, teams_gather}
 use Rattle.am_unite_laws.proofs.Threads.{IsFirst, IsNone, first_of, in_first, in_last, in_team, made_is}

@@ -5,7 +5,6 @@ use Rattle.std.specs.Global.{Vec}
 use Rattle.am_names.specs.declared.EndpointId.{EndpointId}
 use Rattle.am_names.specs.declared.NodeId.{NodeId}
 use Rattle.am_names.specs.declared.Packet.{Packet}
-use Rattle.am_body.specs.declared.settings.EndSettings.{EndSettings}
 use Rattle.am_endpoint.specs.View.{EndpointView}
 use Rattle.am_iface.specs.View.{InterfaceView, own}
 use Rattle.am_journal.specs.View.{receipts}
@@ -13,8 +12,7 @@ use Rattle.am_local.specs.Interface.{home_in}
 use Rattle.am_machine.specs.Interfaces.{node_at}
 use Rattle.am_machine.specs.Parts.{CanUnite, is_declared_at}
 use Rattle.am_merge.specs.Merged.{merged}
-use Rattle.am_model.specs.Endpoint.{is_on_disk}
-use Rattle.am_model.specs.Layout.{EndSetting, Layout, home}
+use Rattle.am_model.specs.Layout.{Layout, home}
 use Rattle.am_node.specs.declared.NodePart.{NodePart}
 use Rattle.am_node.specs.Parts.{journal_of}
 use Rattle.am_scenario_types.specs.declared.parts.Network.TheVariants as Networks
@@ -24,16 +22,13 @@ use Rattle.am_drain.specs.Follows.{IsGoodPhase}
 use Rattle.am_follow.specs.Layout.{layout_of}
 use Rattle.am_books.specs.declared.EndBook.{EndBook}
 use Rattle.am_phase.specs.Makers.{Driver, Interface, Thread}
+use Rattle.am_works.specs.Seats.{setting_by}
 use Rattle.am_crew_laws.specs.Ended.{IsAtWork, IsEnded, RunEnd, all_lists}
 
 -- ---- a part
 
 abbrev pub end_of : EndBook → EndpointView
-end_of b = b.end
-
--- how an endpoint is declared that has these settings
-abbrev pub setting_by : EndSettings → EndSetting
-setting_by set = record { id = set.id; node = set.node; tag = set.tag; disk = is_on_disk set.place }
+end_of b = b.end.value
 
 -- the interface has the settings of the layout's at this node, and its log is within its limit
 pub record IsSetTo (layout : Layout) (node : NodeId) (i : InterfaceView) : Type 0 where

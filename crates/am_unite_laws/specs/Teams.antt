@@ -25,10 +25,10 @@ use Rattle.am_follow.specs.Layout.{layout_of}
 use Rattle.am_places.specs.Rule.{Begins, HasGathered, spent}
 use Rattle.am_books.specs.declared.EndBook.{EndBook}
 use Rattle.am_phase.specs.Makers.{Driver, Interface, Maker, Thread}
-use Rattle.am_works.specs.Seats.{EndPass, Ids}
+use Rattle.am_works.specs.Seats.{EndPass, Ids, setting_by}
 use Rattle.am_works.specs.Works.{Hand, InterfaceWorks, held_from}
 use Rattle.am_crew_laws.specs.Ended.{DriverEnd, InterfaceEnd, IsEnded, IsTakenOut, NodeEnd, RunEnd, ThreadEnd, Worker, whole_pass}
-use Rattle.am_unite_laws.specs.Ended.{IsSetTo, end_of, setting_by}
+use Rattle.am_unite_laws.specs.Ended.{IsSetTo, end_of}
 
 -- ---- what there is
 

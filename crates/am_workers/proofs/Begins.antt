@@ -90,21 +90,21 @@ fits_nowhere frames k place h =
 -- ---- a fresh seat, book by book
 
 abbrev pub line_now : EndBook → EndView
-line_now b = line_of b.end.settings.id (state_after b.end)
+line_now b = line_of b.end.value.settings.id (state_after b.end.value)
 
 abbrev known_of : EndBook → Known Entry
-known_of b = record { seen = tenure 0 b.end.log ∷ []; made = []; others = []; inside = false; place = 0 }
+known_of b = record { seen = tenure 0 b.end.value.log ∷ []; made = []; others = []; inside = false; place = 0 }
 
 record IsBookAt (Holds : EndBook → Type 0) (books : List EndBook) (k : ℕ) (set : EndSettings) : Type 0 where
   pub b : EndBook
-  pub is : b.end.settings ≡ set
+  pub is : b.end.value.settings ≡ set
   pub known : slice_index_or (map known_of books) k nothing ≡ known_of b
   pub line : slice_get (map line_now books) k ≡ Some (line_now b)
   pub holds : Holds b
 
-book_at : (Holds : EndBook → Type 0) (books : List EndBook) (k : ℕ) (set : EndSettings) → AllAre Holds books → get_elem? (map (λ (b : EndBook). b.end.settings) books) k ≡ some set → IsBookAt Holds books k set
+book_at : (Holds : EndBook → Type 0) (books : List EndBook) (k : ℕ) (set : EndSettings) → AllAre Holds books → get_elem? (map (λ (b : EndBook). b.end.value.settings) books) k ≡ some set → IsBookAt Holds books k set
 book_at Holds [] k set all at = absurd (cc)
-book_at Holds (b ∷ bs) zero set all at = let same : b.end.settings ≡ set = cc in record { b = b; is = same; known = refl; line = refl; holds = all.0 }
+book_at Holds (b ∷ bs) zero set all at = let same : b.end.value.settings ≡ set = cc in record { b = b; is = same; known = refl; line = refl; holds = all.0 }
 book_at Holds (b ∷ bs) (suc k) set all at = let r = book_at Holds bs k set all.1 at in record { b = r.b; is = r.is; known = r.known; line = r.line; holds = r.holds }
 
 all_of_both : {X : Type 0} (P Q : X → Type 0) (xs : List X) → AllAre P xs → AllAre Q xs → AllAre (λ (x : X). P x × Q x) xs
@@ -115,7 +115,7 @@ map_length : {X Y Z : Type 0} (f : X → Y) (g : X → Z) (xs : List X) → leng
 map_length f g [] = refl
 map_length f g (x ∷ xs) = ap suc (map_length f g xs)
 
-nothing_seen : (books : List EndBook) (k : ℕ) → AllAre (λ (b : EndBook). b.end.log ≡ []) books → joined (slice_index_or (map known_of books) k nothing).seen ≡ []
+nothing_seen : (books : List EndBook) (k : ℕ) → AllAre (λ (b : EndBook). b.end.value.log ≡ []) books → joined (slice_index_or (map known_of books) k nothing).seen ≡ []
 nothing_seen [] k none = refl
 nothing_seen (b ∷ bs) zero none = ap (λ (xs : List Entry). joined (tenure 0 xs ∷ [])) none.0
 nothing_seen (b ∷ bs) (suc k) none = nothing_seen bs k none.1
@@ -141,32 +141,32 @@ never k = by_test (0 == k + 1) refl
 
 module _ (s : ScenarioLists) (node : NodeId) (books : List EndBook) (swap : Store) (k frames : ℕ) where
   abbrev Opens : EndBook → Type 0
-  Opens b = (b.end.log ≡ []) × (IsBorn (layout_of s) b.end.settings × IsOpenIn swap b.end.settings)
+  Opens b = (b.end.value.log ≡ []) × (IsBorn (layout_of s) b.end.value.settings × IsOpenIn swap b.end.value.settings)
 
   all_open : AreOfNode s node books → IsNewDisk s node books swap → AllAre Opens books
   all_open a d =
-      all_of_both (λ (b : EndBook). b.end.log ≡ []) (λ (b : EndBook). IsBorn (layout_of s) b.end.settings × IsOpenIn swap b.end.settings) books a.fresh_books.none
-      (all_of_both (λ (b : EndBook). IsBorn (layout_of s) b.end.settings) (λ (b : EndBook). IsOpenIn swap b.end.settings) books a.fresh_books.born d.holds)
+      all_of_both (λ (b : EndBook). b.end.value.log ≡ []) (λ (b : EndBook). IsBorn (layout_of s) b.end.value.settings × IsOpenIn swap b.end.value.settings) books a.fresh_books.none
+      (all_of_both (λ (b : EndBook). IsBorn (layout_of s) b.end.value.settings) (λ (b : EndBook). IsOpenIn swap b.end.value.settings) books a.fresh_books.born d.holds)
 
   lies_fresh : (set : EndSettings) (j : ℕ) → (layout_of s).direct ≡ false → IsBorn (layout_of s) set → IsOpenIn swap set → LiesSo (replicate frames 0) swap j set (fresh set.tag set.place)
   lies_fresh set j packet born held =
       let homely = born_homely (layout_of s) set packet born in
       record { fits = fits_nowhere frames j set.place homely; network = not_direct set.place homely; disk = held }
 
-  knows_fresh : (j : ℕ) (set : EndSettings) (line : EndView) (b : EndBook) (x : Known Entry) → (layout_of s).direct ≡ false → Opens b → b.end.settings ≡ set → x ≡ known_of b → line ≡ line_now b → KnowsPlace (replicate frames 0) swap (k + 1) j set line x
+  knows_fresh : (j : ℕ) (set : EndSettings) (line : EndView) (b : EndBook) (x : Known Entry) → (layout_of s).direct ≡ false → Opens b → b.end.value.settings ≡ set → x ≡ known_of b → line ≡ line_now b → KnowsPlace (replicate frames 0) swap (k + 1) j set line x
   knows_fresh j set line b x packet opens is known shown =
       coe 0 1 (i. KnowsPlace (replicate frames 0) swap (k + 1) j (is i) (sym shown i) (sym known i))
       (record {
-        shows = ap (line_by b.end.settings) (sym (whole));
-        lies = subst (λ (xs : List Entry). LiesSo (replicate frames 0) swap j b.end.settings (state_by b.end.settings xs)) (sym none) (lies_fresh b.end.settings j packet opens.1.0 opens.1.1);
-        own = ap (λ (t : Bool). cond t (b.end.log ∷ []) []) (never k);
+        shows = ap (line_by b.end.value.settings) (sym (whole));
+        lies = subst (λ (xs : List Entry). LiesSo (replicate frames 0) swap j b.end.value.settings (state_by b.end.value.settings xs)) (sym none) (lies_fresh b.end.value.settings j packet opens.1.0 opens.1.1);
+        own = ap (λ (t : Bool). cond t (b.end.value.log ∷ []) []) (never k);
         once = refl;
       })
     where
-      whole : joined (tenure 0 b.end.log ∷ []) ≡ b.end.log
+      whole : joined (tenure 0 b.end.value.log ∷ []) ≡ b.end.value.log
       whole = ap (λ (xs : List Entry). joined (tenure 0 xs ∷ [])) opens.0 ∙ sym opens.0
 
-      none : joined (tenure 0 b.end.log ∷ []) ≡ []
+      none : joined (tenure 0 b.end.value.log ∷ []) ≡ []
       none = ap (λ (xs : List Entry). joined (tenure 0 xs ∷ [])) opens.0
 
 same_line : (a b : EndView) → Some a ≡ Some b → a ≡ b
@@ -179,12 +179,12 @@ can_begin s books named node k seats keep swap a last disk =
       last = last;
       marked = omega (arith);
       drives = eq-eqb (k + 1) seats last;
-      all = map_length line_now (λ (b : EndBook). b.end.settings) books;
-      wide = map_length known_of (λ (b : EndBook). b.end.settings) books;
+      all = map_length line_now (λ (b : EndBook). b.end.value.settings) books;
+      wide = map_length known_of (λ (b : EndBook). b.end.value.settings) books;
       framed = refl;
       sized = length-replicate s.frames 0;
       owned = λ frame near. (let none = no_claim s.frames frame in omega (arith, none));
-      homes = λ j set at. (let r = book_at (λ (b : EndBook). b.end.settings.node ≡ node) books j set a.homes at in ap (λ (z : EndSettings). z.node) (sym r.is) ∙ r.holds);
+      homes = λ j set at. (let r = book_at (λ (b : EndBook). b.end.value.settings.node ≡ node) books j set a.homes at in ap (λ (z : EndSettings). z.node) (sym r.is) ∙ r.holds);
       apart = λ i j b c at_i at_j same. knows.apart i j c.id (knows.births i b at_i ∙ ap (λ (e : EndpointId). Some e) same) (knows.births j c at_j);
       each = λ j set line at shown. (
           let r = book_at (Opens s node books swap k s.frames) books j set (all_open s node books swap k s.frames a disk) at in
@@ -196,7 +196,7 @@ pub drivers_begin : DriversBegin
 drivers_begin s books named node k seats keep swap a last disk =
     record {
       made = [];
-      born = λ j set at. (let r = book_at (λ (b : EndBook). IsBorn (layout_of s) b.end.settings) books j set a.fresh_books.born at in subst (IsBorn (layout_of s)) r.is r.holds);
+      born = λ j set at. (let r = book_at (λ (b : EndBook). IsBorn (layout_of s) b.end.value.settings) books j set a.fresh_books.born at in subst (IsBorn (layout_of s)) r.is r.holds);
       knows = fresh_know books named k seats s.frames a.fresh_books.apart a.fresh_books.none;
       clocked = record { rising = tt; below = tt; low = tt };
       few = omega (arith);
@@ -215,10 +215,10 @@ drivers_begin s books named node k seats keep swap a last disk =
 pub books_are_homely : BooksAreHomely
 books_are_homely s node books a = by_book books a.fresh_books.born a.fresh_books.none
   where
-    by_book : (bs : List EndBook) → AllAre (λ (b : EndBook). IsBorn (layout_of s) b.end.settings) bs → AllAre (λ (b : EndBook). b.end.log ≡ []) bs → AllAre (λ (b : EndBook). stands_at b.end < 2) bs
+    by_book : (bs : List EndBook) → AllAre (λ (b : EndBook). IsBorn (layout_of s) b.end.value.settings) bs → AllAre (λ (b : EndBook). b.end.value.log ≡ []) bs → AllAre (λ (b : EndBook). stands_at b.end.value < 2) bs
     by_book [] born none = tt
     by_book (b ∷ bs) born none = (
-      subst (λ (xs : List Entry). place_code (state_by b.end.settings xs).head.place < 2) (sym none.0) (low_code b.end.settings.place (born_homely (layout_of s) b.end.settings a.packet born.0)),
+      subst (λ (xs : List Entry). place_code (state_by b.end.value.settings xs).head.place < 2) (sym none.0) (low_code b.end.value.settings.place (born_homely (layout_of s) b.end.value.settings a.packet born.0)),
       by_book bs born.1 none.1,
     )
 

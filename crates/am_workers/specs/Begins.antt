@@ -45,7 +45,7 @@ pub record IsNewSeat (table : TableId) (books : List EndBook) (named : List Endp
 -- the view that shows these books as they are
 abbrev pub view_of : List EndBook → ℕ → ℕ → ViewLists
 view_of books frames keep =
-    record { ends = map (λ (b : EndBook). line_of b.end.settings.id (state_after b.end)) books; frames = frames; keep = keep; last = None }
+    record { ends = map (λ (b : EndBook). line_of b.end.value.settings.id (state_after b.end.value)) books; frames = frames; keep = keep; last = None }
 
 -- where an endpoint begins on disk, the swap holds the image of the body that it begins with
 abbrev pub IsOpenIn : Store → EndSettings → Type 0
@@ -55,12 +55,12 @@ IsOpenIn swap set = is_on_disk set.place ≡ true → HoldsBody swap set.pool se
 pub record IsNewDisk (s : ScenarioLists) (node : NodeId) (books : List EndBook) (swap : Store) : Type 0 where
   pub fails : swap.fails ≡ faults_of (layout_of s) node
   pub calls : swap.calls ≡ 0
-  pub holds : AllAre (λ (b : EndBook). IsOpenIn swap b.end.settings) books
+  pub holds : AllAre (λ (b : EndBook). IsOpenIn swap b.end.value.settings) books
 
 -- the books are those of a node of the packet network
 pub record AreOfNode (s : ScenarioLists) (node : NodeId) (books : List EndBook) : Type 0 where
   pub packet : (layout_of s).direct ≡ false
-  pub homes : AllAre (λ (b : EndBook). b.end.settings.node ≡ node) books
+  pub homes : AllAre (λ (b : EndBook). b.end.value.settings.node ≡ node) books
   pub fresh_books : AreFresh s books
 
 -- a driver keeps its works at the last seat, with a view that shows the books
@@ -71,7 +71,7 @@ DriversBegin =
 
 -- each of the books is on the host or on disk
 abbrev pub BooksAreHomely : Type 0
-BooksAreHomely = (s : ScenarioLists) (node : NodeId) (books : List EndBook) → AreOfNode s node books → AllAre (λ (b : EndBook). stands_at b.end < 2) books
+BooksAreHomely = (s : ScenarioLists) (node : NodeId) (books : List EndBook) → AreOfNode s node books → AllAre (λ (b : EndBook). stands_at b.end.value < 2) books
 
 pub record IsNewDriver (s : ScenarioLists) (table : TableId) (books : List EndBook) (named : List EndpointId) (k seats keep : ℕ) (node : NodeId) (w : DriverWorker) : Type 0 where
   pub seat : IsNewSeat table books named k seats s.frames w.seat.token

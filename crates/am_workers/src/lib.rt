@@ -13,6 +13,6 @@ mod workers;
 pub use crate::drivers::work_as_driver;
 pub use crate::gate::{Gate, OpenGate};
 pub use crate::interfaces::work_as_interface;
-pub use crate::starts::{drivers_begin, new_workers_are_at_work, opening_view};
+pub use crate::starts::{drivers_begin, new_workers_are_at_work};
 pub use crate::threads::work_as_thread;
 pub use crate::workers::{DriverWorker, InterfaceWorker, Stop, ThreadWorker};

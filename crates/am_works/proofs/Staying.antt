@@ -27,7 +27,7 @@ use Rattle.am_works.proofs.Stands.{set_here, set_length, set_there}
 
 -- what a book stands for
 pub items_of : EndBook → List Entry
-items_of b = b.end.log
+items_of b = b.end.value.log
 
 abbrev pub M : Type 0
 M = Me (Option EndBook) EndPass
@@ -60,54 +60,54 @@ pub record Entered (k : ℕ) (me now : M) (b : EndBook) (log : List (Tenure Entr
   pub near : k < length me.0.known
   pub hand : me.1 ≡ []
   pub outside : IsOutside me.0
-  pub comes : Comes (λ (b : EndBook). b.end.log) (λ (b : EndBook). b.end.settings) (λ (b : EndBook). stands_at b.end) moves k me log b
-  pub is : now ≡ (with_known k (inside_with (stands_at b.end) log (known_at k me.0)) me.0, (k, None) ∷ me.1)
+  pub comes : Comes (λ (b : EndBook). b.end.value.log) (λ (b : EndBook). b.end.value.settings) (λ (b : EndBook). stands_at b.end.value) moves k me log b
+  pub is : now ≡ (with_known k (inside_with (stands_at b.end.value) log (known_at k me.0)) me.0, (k, None) ∷ me.1)
 
-pub known_now : (k : ℕ) (me now : M) (b : EndBook) (log : List (Tenure Entry)) → Entered k me now b log → known_at k now.0 ≡ inside_with (stands_at b.end) log (known_at k me.0)
+pub known_now : (k : ℕ) (me now : M) (b : EndBook) (log : List (Tenure Entry)) → Entered k me now b log → known_at k now.0 ≡ inside_with (stands_at b.end.value) log (known_at k me.0)
 known_now k me now b log e =
     ap (λ (m : M). known_at k m.0) e.is
-    ∙ get_or-set_same me.0.known k (inside_with (stands_at b.end) log (known_at k me.0)) nothing e.near
+    ∙ get_or-set_same me.0.known k (inside_with (stands_at b.end.value) log (known_at k me.0)) nothing e.near
 
-pub seen_now : (k : ℕ) (me now : M) (b : EndBook) (log : List (Tenure Entry)) → Entered k me now b log → joined (known_at k now.0).seen ≡ b.end.log
+pub seen_now : (k : ℕ) (me now : M) (b : EndBook) (log : List (Tenure Entry)) → Entered k me now b log → joined (known_at k now.0).seen ≡ b.end.value.log
 seen_now k me now b log e = ap (λ (x : Known Entry). joined x.seen) (known_now k me now b log e) ∙ e.comes.stands_for
 
-pub begins_now : (k : ℕ) (me now : M) (b : EndBook) (log : List (Tenure Entry)) (f : EndpointView) (new : List Entry) → Entered k me now b log → f.log ≡ b.end.log ++ new → Begins f.log (joined (known_at k now.0).seen)
+pub begins_now : (k : ℕ) (me now : M) (b : EndBook) (log : List (Tenure Entry)) (f : EndpointView) (new : List Entry) → Entered k me now b log → f.log ≡ b.end.value.log ++ new → Begins f.log (joined (known_at k now.0).seen)
 begins_now k me now b log f new e grown = (new, grown ∙ ap (λ (xs : List Entry). xs ++ new) (sym (seen_now k me now b log e)))
 
-pub stays_now : PlacesAreKept → (k : ℕ) (me now : M) (b : EndBook) (log : List (Tenure Entry)) (f : EndpointView) (new : List Entry) → Entered k me now b log → f.settings ≡ b.end.settings → f.log ≡ b.end.log ++ new → AreStill new
+pub stays_now : PlacesAreKept → (k : ℕ) (me now : M) (b : EndBook) (log : List (Tenure Entry)) (f : EndpointView) (new : List Entry) → Entered k me now b log → f.settings ≡ b.end.value.settings → f.log ≡ b.end.value.log ++ new → AreStill new
     → stands_at f ≡ (known_at k now.0).place
-stays_now kept k me now b log f new e set grown h = stands_still kept b.end f new set grown h ∙ sym (ap (λ (x : Known Entry). x.place) (known_now k me now b log e))
+stays_now kept k me now b log f new e set grown h = stands_still kept b.end.value f new set grown h ∙ sym (ap (λ (x : Known Entry). x.place) (known_now k me now b log e))
 
-pub still_now : (k : ℕ) (me now : M) (b : EndBook) (log : List (Tenure Entry)) (f : EndpointView) (new : List Entry) → Entered k me now b log → f.log ≡ b.end.log ++ new → AreStill new
+pub still_now : (k : ℕ) (me now : M) (b : EndBook) (log : List (Tenure Entry)) (f : EndpointView) (new : List Entry) → Entered k me now b log → f.log ≡ b.end.value.log ++ new → AreStill new
     → stirs moves (drop (length (joined (known_at k now.0).seen)) f.log) ≡ false
 still_now k me now b log f new e grown h =
     (λ i. stirs moves (drop (length (seen_now k me now b log e i)) (grown i)))
-    ∙ ap (stirs moves) (drop-append_seam b.end.log new)
+    ∙ ap (stirs moves) (drop-append_seam b.end.value.log new)
     ∙ stirs_none new h
 
-pub small_now : PlacesAreKept → (k : ℕ) (me now : M) (b : EndBook) (log : List (Tenure Entry)) (f : EndpointView) (new : List Entry) → Entered k me now b log → f.settings ≡ b.end.settings → f.log ≡ b.end.log ++ new → AreStill new → stands_at f < 256
-small_now kept k me now b log f new e set grown h = subst (λ (n : ℕ). n < 256) (sym (stands_still kept b.end f new set grown h)) e.comes.small
+pub small_now : PlacesAreKept → (k : ℕ) (me now : M) (b : EndBook) (log : List (Tenure Entry)) (f : EndpointView) (new : List Entry) → Entered k me now b log → f.settings ≡ b.end.value.settings → f.log ≡ b.end.value.log ++ new → AreStill new → stands_at f < 256
+small_now kept k me now b log f new e set grown h = subst (λ (n : ℕ). n < 256) (sym (stands_still kept b.end.value f new set grown h)) e.comes.small
 
 -- what the seat is when it has left the book
 pub record Left (k m : ℕ) (now last : M) (c : EndBook) : Type 0 where
   pub mark : m ≡ now.0.mark
-  pub is : last ≡ (with_known k (outside (published_with (λ (b : EndBook). b.end.log) (λ (b : EndBook). stands_at b.end) m c (known_at k now.0))) now.0, rest now.1)
+  pub is : last ≡ (with_known k (outside (published_with (λ (b : EndBook). b.end.value.log) (λ (b : EndBook). stands_at b.end.value) m c (known_at k now.0))) now.0, rest now.1)
 
-left_pass : (k : ℕ) (me now last : M) (b c : EndBook) (log : List (Tenure Entry)) (new : List Entry) (m : ℕ) → Entered k me now b log → Left k m now last c → c.end.log ≡ b.end.log ++ new
-    → last.0 ≡ with_known k (left_with me.0.mark (joined log ++ new) (stands_at c.end) (inside_with (stands_at b.end) log (known_at k me.0))) me.0
+left_pass : (k : ℕ) (me now last : M) (b c : EndBook) (log : List (Tenure Entry)) (new : List Entry) (m : ℕ) → Entered k me now b log → Left k m now last c → c.end.value.log ≡ b.end.value.log ++ new
+    → last.0 ≡ with_known k (left_with me.0.mark (joined log ++ new) (stands_at c.end.value) (inside_with (stands_at b.end.value) log (known_at k me.0))) me.0
 left_pass k me now last b c log new m e l grown =
     ap (λ (z : M). z.0) l.is
-    ∙ (λ i. with_known k (left_with (marked i) (whole i) (stands_at c.end) (known_now k me now b log e i)) (e.is i).0)
-    ∙ (λ i. record me.0 { known = set-set me.0.known k (inside_with (stands_at b.end) log (known_at k me.0)) (left_with me.0.mark (joined log ++ new) (stands_at c.end) (inside_with (stands_at b.end) log (known_at k me.0))) i })
+    ∙ (λ i. with_known k (left_with (marked i) (whole i) (stands_at c.end.value) (known_now k me now b log e i)) (e.is i).0)
+    ∙ (λ i. record me.0 { known = set-set me.0.known k (inside_with (stands_at b.end.value) log (known_at k me.0)) (left_with me.0.mark (joined log ++ new) (stands_at c.end.value) (inside_with (stands_at b.end.value) log (known_at k me.0))) i })
   where
     marked : m ≡ me.0.mark
     marked = l.mark ∙ ap (λ (z : M). z.0.mark) e.is
 
-    whole : c.end.log ≡ joined log ++ new
+    whole : c.end.value.log ≡ joined log ++ new
     whole = grown ∙ ap (λ (xs : List Entry). xs ++ new) (sym e.comes.stands_for)
 
-pub stayed : (k : ℕ) (me now last : M) (b c : EndBook) (log : List (Tenure Entry)) (new : List Entry) (m : ℕ) → has me.0.mark me.0.keeps ≡ true → Entered k me now b log → Left k m now last c → c.end.settings ≡ b.end.settings → c.end.log ≡ b.end.log ++ new
-    → Stays k b.end.settings (stands_at c.end) log new me.0 last.0
+pub stayed : (k : ℕ) (me now last : M) (b c : EndBook) (log : List (Tenure Entry)) (new : List Entry) (m : ℕ) → has me.0.mark me.0.keeps ≡ true → Entered k me now b log → Left k m now last c → c.end.value.settings ≡ b.end.value.settings → c.end.value.log ≡ b.end.value.log ++ new
+    → Stays k b.end.value.settings (stands_at c.end.value) log new me.0 last.0
 stayed k me now last b c log new m mine e l set grown =
     record {
       born = e.comes.born;
@@ -117,10 +117,10 @@ stayed k me now last b c log new m mine e l set grown =
       once = e.comes.opening;
       rising = subst IsRising whole c.kept.rising;
       rests = coe 0 1 (i. rests (set i).id (fresh (set i).tag (set i).place) (whole i) ≡ true) c.kept.rests;
-      left = (stands_at b.end, left_pass k me now last b c log new m e l grown);
+      left = (stands_at b.end.value, left_pass k me now last b c log new m e l grown);
     }
   where
-    whole : c.end.log ≡ joined log ++ new
+    whole : c.end.value.log ≡ joined log ++ new
     whole = grown ∙ ap (λ (xs : List Entry). xs ++ new) (sym e.comes.stands_for)
 
 -- ---- as the code has it: the place is the one that the book in hand names
@@ -138,37 +138,37 @@ stands_of k n n' m me same long near hand outside marked mine =
 
 abbrev pub FoundThere : ℕ → ℕ → M → M → EndBook → Type 0
 FoundThere k at me now b =
-    (log : List (Tenure Entry)) × (at ≡ k) × Comes (λ (b : EndBook). b.end.log) (λ (b : EndBook). b.end.settings) (λ (b : EndBook). stands_at b.end) moves k me log b
-    × (now ≡ (with_known k (inside_with (stands_at b.end) log (known_at k me.0)) me.0, (k, None) ∷ me.1))
+    (log : List (Tenure Entry)) × (at ≡ k) × Comes (λ (b : EndBook). b.end.value.log) (λ (b : EndBook). b.end.value.settings) (λ (b : EndBook). stands_at b.end.value) moves k me log b
+    × (now ≡ (with_known k (inside_with (stands_at b.end.value) log (known_at k me.0)) me.0, (k, None) ∷ me.1))
 
 pub entered_there : (k at : ℕ) (me now : M) (b : EndBook) → Stands k me → (w : FoundThere k at me now b) → Entered k me now b w.0
 entered_there k at me now b s w = record { near = s.near; hand = s.hand; outside = s.outside; comes = w.2; is = w.3 }
 
-pub may_grow : (k at : ℕ) (me now : M) (b : EndBook) (f : EndpointView) (new : List Entry) → Stands k me → FoundThere k at me now b → f.log ≡ b.end.log ++ new → Begins f.log (joined (known_at at now.0).seen)
+pub may_grow : (k at : ℕ) (me now : M) (b : EndBook) (f : EndpointView) (new : List Entry) → Stands k me → FoundThere k at me now b → f.log ≡ b.end.value.log ++ new → Begins f.log (joined (known_at at now.0).seen)
 may_grow k at me now b f new s w grown = subst (λ (j : ℕ). Begins f.log (joined (known_at j now.0).seen)) (sym w.1) (begins_now k me now b w.0 f new (entered_there k at me now b s w) grown)
 
-pub may_stay : PlacesAreKept → (k at : ℕ) (me now : M) (b : EndBook) (f : EndpointView) (new : List Entry) → Stands k me → FoundThere k at me now b → f.settings ≡ b.end.settings → f.log ≡ b.end.log ++ new → AreStill new
+pub may_stay : PlacesAreKept → (k at : ℕ) (me now : M) (b : EndBook) (f : EndpointView) (new : List Entry) → Stands k me → FoundThere k at me now b → f.settings ≡ b.end.value.settings → f.log ≡ b.end.value.log ++ new → AreStill new
     → stands_at f ≡ (known_at at now.0).place
 may_stay kept k at me now b f new s w set grown h = subst (λ (j : ℕ). stands_at f ≡ (known_at j now.0).place) (sym w.1) (stays_now kept k me now b w.0 f new (entered_there k at me now b s w) set grown h)
 
-pub is_small : PlacesAreKept → (k at : ℕ) (me now : M) (b : EndBook) (f : EndpointView) (new : List Entry) → Stands k me → FoundThere k at me now b → f.settings ≡ b.end.settings → f.log ≡ b.end.log ++ new → AreStill new → stands_at f < 256
+pub is_small : PlacesAreKept → (k at : ℕ) (me now : M) (b : EndBook) (f : EndpointView) (new : List Entry) → Stands k me → FoundThere k at me now b → f.settings ≡ b.end.value.settings → f.log ≡ b.end.value.log ++ new → AreStill new → stands_at f < 256
 is_small kept k at me now b f new s w set grown h = small_now kept k me now b w.0 f new (entered_there k at me now b s w) set grown h
 
-pub may_still : (k at : ℕ) (me now : M) (b : EndBook) (f : EndpointView) (new : List Entry) → Stands k me → FoundThere k at me now b → f.log ≡ b.end.log ++ new → AreStill new
+pub may_still : (k at : ℕ) (me now : M) (b : EndBook) (f : EndpointView) (new : List Entry) → Stands k me → FoundThere k at me now b → f.log ≡ b.end.value.log ++ new → AreStill new
     → stirs moves (drop (length (joined (known_at at now.0).seen)) f.log) ≡ false
 may_still k at me now b f new s w grown h = subst (λ (j : ℕ). stirs moves (drop (length (joined (known_at j now.0).seen)) f.log) ≡ false) (sym w.1) (still_now k me now b w.0 f new (entered_there k at me now b s w) grown h)
 
 pub stayed_there : (k at : ℕ) (me now last : M) (b c : EndBook) (new : List Entry) (m : ℕ) → Stands k me → (w : FoundThere k at me now b) → m ≡ now.0.mark
-    → last ≡ (with_known at (outside (published_with (λ (b : EndBook). b.end.log) (λ (b : EndBook). stands_at b.end) m c (known_at at now.0))) now.0, rest now.1) → c.end.settings ≡ b.end.settings → c.end.log ≡ b.end.log ++ new
-    → Stays k b.end.settings (stands_at c.end) w.0 new me.0 last.0
+    → last ≡ (with_known at (outside (published_with (λ (b : EndBook). b.end.value.log) (λ (b : EndBook). stands_at b.end.value) m c (known_at at now.0))) now.0, rest now.1) → c.end.value.settings ≡ b.end.value.settings → c.end.value.log ≡ b.end.value.log ++ new
+    → Stays k b.end.value.settings (stands_at c.end.value) w.0 new me.0 last.0
 stayed_there k at me now last b c new m s w marked is set grown =
     stayed k me now last b c w.0 new m s.mine (entered_there k at me now b s w)
-    (record { mark = marked; is = subst (λ (j : ℕ). last ≡ (with_known j (outside (published_with (λ (b : EndBook). b.end.log) (λ (b : EndBook). stands_at b.end) m c (known_at j now.0))) now.0, rest now.1)) w.1 is }) set grown
+    (record { mark = marked; is = subst (λ (j : ℕ). last ≡ (with_known j (outside (published_with (λ (b : EndBook). b.end.value.log) (λ (b : EndBook). stands_at b.end.value) m c (known_at j now.0))) now.0, rest now.1)) w.1 is }) set grown
 
 -- ---- a driver, which may claim or free a frame before it leaves
 
-pub stayed_with : (fs : List ℕ) (k : ℕ) (me now between last : M) (b c : EndBook) (log : List (Tenure Entry)) (new : List Entry) (m : ℕ) → has me.0.mark me.0.keeps ≡ true → Entered k me now b log → between ≡ (with_frames fs now.0, now.1) → Left k m between last c → c.end.settings ≡ b.end.settings → c.end.log ≡ b.end.log ++ new
-    → Stays k b.end.settings (stands_at c.end) log new (with_frames fs me.0) last.0
+pub stayed_with : (fs : List ℕ) (k : ℕ) (me now between last : M) (b c : EndBook) (log : List (Tenure Entry)) (new : List Entry) (m : ℕ) → has me.0.mark me.0.keeps ≡ true → Entered k me now b log → between ≡ (with_frames fs now.0, now.1) → Left k m between last c → c.end.value.settings ≡ b.end.value.settings → c.end.value.log ≡ b.end.value.log ++ new
+    → Stays k b.end.value.settings (stands_at c.end.value) log new (with_frames fs me.0) last.0
 stayed_with fs k me now between last b c log new m mine e framed l set grown =
     record {
       born = e.comes.born;
@@ -178,33 +178,33 @@ stayed_with fs k me now between last b c log new m mine e framed l set grown =
       once = e.comes.opening;
       rising = subst IsRising whole c.kept.rising;
       rests = coe 0 1 (i. rests (set i).id (fresh (set i).tag (set i).place) (whole i) ≡ true) c.kept.rests;
-      left = (stands_at b.end, left);
+      left = (stands_at b.end.value, left);
     }
   where
-    whole : c.end.log ≡ joined log ++ new
+    whole : c.end.value.log ≡ joined log ++ new
     whole = grown ∙ ap (λ (xs : List Entry). xs ++ new) (sym e.comes.stands_for)
 
     marked : m ≡ me.0.mark
     marked = l.mark ∙ ap (λ (z : M). z.0.mark) framed ∙ ap (λ (z : M). z.0.mark) e.is
 
-    known : known_at k between.0 ≡ inside_with (stands_at b.end) log (known_at k me.0)
+    known : known_at k between.0 ≡ inside_with (stands_at b.end.value) log (known_at k me.0)
     known = ap (λ (z : M). known_at k z.0) framed ∙ known_now k me now b log e
 
-    inner : between.0 ≡ with_known k (inside_with (stands_at b.end) log (known_at k me.0)) (with_frames fs me.0)
+    inner : between.0 ≡ with_known k (inside_with (stands_at b.end.value) log (known_at k me.0)) (with_frames fs me.0)
     inner = ap (λ (z : M). z.0) framed ∙ ap (λ (z : M). with_frames fs z.0) e.is
 
-    left : last.0 ≡ with_known k (left_with me.0.mark (joined log ++ new) (stands_at c.end) (inside_with (stands_at b.end) log (known_at k me.0))) (with_frames fs me.0)
+    left : last.0 ≡ with_known k (left_with me.0.mark (joined log ++ new) (stands_at c.end.value) (inside_with (stands_at b.end.value) log (known_at k me.0))) (with_frames fs me.0)
     left =
         ap (λ (z : M). z.0) l.is
-        ∙ (λ i. with_known k (left_with (marked i) (whole i) (stands_at c.end) (known i)) (inner i))
-        ∙ (λ i. record (with_frames fs me.0) { known = set-set me.0.known k (inside_with (stands_at b.end) log (known_at k me.0)) (left_with me.0.mark (joined log ++ new) (stands_at c.end) (inside_with (stands_at b.end) log (known_at k me.0))) i })
+        ∙ (λ i. with_known k (left_with (marked i) (whole i) (stands_at c.end.value) (known i)) (inner i))
+        ∙ (λ i. record (with_frames fs me.0) { known = set-set me.0.known k (inside_with (stands_at b.end.value) log (known_at k me.0)) (left_with me.0.mark (joined log ++ new) (stands_at c.end.value) (inside_with (stands_at b.end.value) log (known_at k me.0))) i })
 
 pub driver_stayed : (fs : List ℕ) (k at : ℕ) (me now between last : M) (b c : EndBook) (new : List Entry) (m : ℕ) → Stands k me → (w : FoundThere k at me now b) → between ≡ (with_frames fs now.0, now.1) → m ≡ between.0.mark
-    → last ≡ (with_known at (outside (published_with (λ (b : EndBook). b.end.log) (λ (b : EndBook). stands_at b.end) m c (known_at at between.0))) between.0, rest between.1) → c.end.settings ≡ b.end.settings → c.end.log ≡ b.end.log ++ new
-    → Stays k b.end.settings (stands_at c.end) w.0 new (with_frames fs me.0) last.0
+    → last ≡ (with_known at (outside (published_with (λ (b : EndBook). b.end.value.log) (λ (b : EndBook). stands_at b.end.value) m c (known_at at between.0))) between.0, rest between.1) → c.end.value.settings ≡ b.end.value.settings → c.end.value.log ≡ b.end.value.log ++ new
+    → Stays k b.end.value.settings (stands_at c.end.value) w.0 new (with_frames fs me.0) last.0
 driver_stayed fs k at me now between last b c new m s w framed marked is set grown =
     stayed_with fs k me now between last b c w.0 new m s.mine (entered_there k at me now b s w) framed
-    (record { mark = marked; is = subst (λ (j : ℕ). last ≡ (with_known j (outside (published_with (λ (b : EndBook). b.end.log) (λ (b : EndBook). stands_at b.end) m c (known_at j between.0))) between.0, rest between.1)) w.1 is }) set grown
+    (record { mark = marked; is = subst (λ (j : ℕ). last ≡ (with_known j (outside (published_with (λ (b : EndBook). b.end.value.log) (λ (b : EndBook). stands_at b.end.value) m c (known_at j between.0))) between.0, rest between.1)) w.1 is }) set grown
 
 -- an enter leaves the claims of frames
 pub same_frames : (k at : ℕ) (me now : M) (b : EndBook) → FoundThere k at me now b → now ≡ (with_frames me.0.frames now.0, now.1)
@@ -221,7 +221,7 @@ left_idle id fs k at me now between b y last s w framed out is table =
     }
   where
     x : Known Entry
-    x = inside_with (stands_at b.end) w.0 (known_at k me.0)
+    x = inside_with (stands_at b.end.value) w.0 (known_at k me.0)
 
     inner : between.0 ≡ with_frames fs (with_known k x me.0)
     inner = ap (λ (z : M). z.0) framed ∙ ap (λ (z : M). with_frames fs z.0) w.3

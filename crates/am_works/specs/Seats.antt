@@ -9,8 +9,8 @@ use Rattle.am_office.specs.declared.Entry.{Entry}
 use Rattle.am_office.specs.Entries.{touches}
 use Rattle.am_body.specs.declared.settings.EndSettings.{EndSettings}
 use Rattle.am_endpoint.specs.View.{state_by}
-use Rattle.am_model.specs.Endpoint.{State, fresh}
-use Rattle.am_model.specs.Layout.{Layout, opening}
+use Rattle.am_model.specs.Endpoint.{State, fresh, is_on_disk}
+use Rattle.am_model.specs.Layout.{EndSetting, Layout, opening}
 use Rattle.am_merge.specs.Logs.{IsRising}
 use Rattle.am_places.specs.Rule.{Begins, IsOutside, Met, calm, holder_word, inside_with, joined, known_at, of, read, with_known}
 use Rattle.am_places.specs.declared.board.Pass.{Pass}
@@ -40,7 +40,11 @@ pub record IsBorn (layout : Layout) (set : EndSettings) : Type 0 where
   pub bounces : set.bounces ≡ layout.bounces
   pub pool : set.pool ≡ layout.pool
 
--- each endpoint that the seat was told of was
+-- how an endpoint is declared that has these settings
+abbrev pub setting_by : EndSettings → EndSetting
+setting_by set = record { id = set.id; node = set.node; tag = set.tag; disk = is_on_disk set.place }
+
+-- each endpoint that the seat was told of was born so
 abbrev pub AreBorn : Layout → EndPass → Type 0
 AreBorn layout v = (k : ℕ) (set : EndSettings) → get_elem? v.births k ≡ some set → IsBorn layout set
 

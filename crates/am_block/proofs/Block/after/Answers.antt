@@ -1,23 +1,31 @@
-use Rattle.std.proofs.Common.{None, ◌+◌, ap, sym, ◌∙◌}
-use Rattle.am_block.specs.Lanes.{pools}
-use Rattle.am_block.specs.Pools.{behind, place, slots}
-use Rattle.am_block.proofs.Fresh.{below-get}
+use Rattle.std.proofs.Common.{ap, ◌∙◌, arith, Some}
+use Rattle.am_block.specs.Pools.{behind, slots, home, size}
+use Rattle.am_block.proofs.Chains.{size-pools}
+use Rattle.am_block.proofs.Afters.{after_some, after_none}
+use Rattle.am_block.specs.Lengths.{pools}
 use Rattle.am_block.proofs.Moves.{behind_none}
-use Rattle.am_block.proofs.Sound.{lane-slots}
 use Rattle.am_block.proofs.Block.after.Goals as goal
 
-pub returns-in-Some-clause-slot : goal.returns-in-Some-clause-slot
-returns-in-Some-clause-slot c = rw (← c.self.view_is, ← lane-slots, c.self.view_is, ← c.home.ensures.list, ← c.of.ensures) c.in-Some.ensures
+pub returns-then-next-self-clause-slot : goal.returns-then-next-self-clause-slot
+returns-then-next-self-clause-slot c =
+    let n = ap size c.self.view_is in
+    let m = size-pools c.self.inside.nodes c.self.inside.size c.self.inside.lengths c.self.invariant in
+    let e = c.next-next.ensures in
+    ap (λ x. Some x) e ∙ after_some c.self.inside.nodes c.self.inside.size c.self.inside.lengths c.self.invariant c.args.slot.0 (omega arith) (omega arith)
+    ∙ ap (λ p. behind c.args.slot.0 (slots p (home p c.args.slot.0))) c.self.view_is
 
-pub returns-in-Some-clause-below : goal.returns-in-Some-clause-below
-returns-in-Some-clause-below c =
-    rw (← c.self.view_is)
-    (below-get _ c.home.result (place c.args.slot.0 (slots (pools c.self.inside.lanes c.self.inside.descriptors.items) c.home.result) + 1) c.in-Some.next c.self.invariant.block
-    (ap (λ xs. behind c.args.slot.0 xs) (sym (ap (λ v. v.items) c.of.ensures ∙ lane-slots c.self.inside.lanes c.self.inside.descriptors.items c.home.result)) ∙ sym c.in-Some.ensures))
+pub returns-else-next-self-clause-slot : goal.returns-else-next-self-clause-slot
+returns-else-next-self-clause-slot c =
+    let n = ap size c.self.view_is in
+    let m = size-pools c.self.inside.nodes c.self.inside.size c.self.inside.lengths c.self.invariant in
+    let e = c.next-next.ensures in
+    after_none c.self.inside.nodes c.self.inside.size c.self.inside.lengths c.self.invariant c.args.slot.0 (omega arith) (omega arith)
+    ∙ ap (λ p. behind c.args.slot.0 (slots p (home p c.args.slot.0))) c.self.view_is
 
-pub returns-in-None-clause-slot : goal.returns-in-None-clause-slot
-returns-in-None-clause-slot c = rw (← c.self.view_is, ← lane-slots, c.self.view_is, ← c.home.ensures.list, ← c.of.ensures) c.in-None.ensures
+pub returns-then-next-self-clause-none : goal.returns-then-next-self-clause-none
+returns-then-next-self-clause-none c =
+    behind_none (pools c.self.inside.nodes c.self.inside.size c.self.inside.lengths) c.args.self.now c.args.slot.0 _ c.self.invariant.block c.self.view_is c.requires (returns-then-next-self-clause-slot c)
 
-pub returns-in-None-clause-none : goal.returns-in-None-clause-none
-returns-in-None-clause-none c =
-    behind_none (pools c.self.inside.lanes c.self.inside.descriptors.items) c.args.self.now c.args.slot.0 None c.self.invariant.block c.self.view_is c.requires (returns-in-None-clause-slot c)
+pub returns-else-next-self-clause-none : goal.returns-else-next-self-clause-none
+returns-else-next-self-clause-none c =
+    behind_none (pools c.self.inside.nodes c.self.inside.size c.self.inside.lengths) c.args.self.now c.args.slot.0 _ c.self.invariant.block c.self.view_is c.requires (returns-else-next-self-clause-slot c)

@@ -14,7 +14,7 @@ loop-at-preserved c =
     let pushed = rw c.unwrap.ensures at c.push.ensures.items in
     let h =
     taken_more c.loop-at.at c.args.keeper.now.token.me.0 c.loop-at.keeper.token.me c.loop-at.books.items c.push.new.self.items c.take_out-book.result book.0
-    (inside_with (stands_at c.take_out-book.result.end) book.0 (known_at c.loop-at.at c.loop-at.keeper.token.me.0)) c.take_out-book.new.keeper.token.me.0
+    (inside_with (stands_at c.take_out-book.result.end.value) book.0 (known_at c.loop-at.at c.loop-at.keeper.token.me.0)) c.take_out-book.new.keeper.token.me.0
     (record { knows = inv.knows; wide = inv.wide; keeps = inv.keeps; seats = inv.seats; births = inv.births; long = inv.long; each = inv.each }) book.1
     (ap (λ (me : Me (Option EndBook) EndPass). me.0) book.2) pushed in
     record {

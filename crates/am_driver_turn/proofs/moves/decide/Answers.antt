@@ -6,7 +6,7 @@ use Rattle.am_driver_turn.proofs.moves.decide.Goals as goal
 
 pub returns-clause-found : goal.returns-clause-found
 returns-clause-found c =
-    let b = c.args.book.now.end in let made = c.make-turn in
-    decided c.args.at c.args.clock c.args.event c.args.chosen c.args.view.now c.show.new.view c.follow.new.view c.args.swap.now made.new.swap made.result b.settings b.log c.line_of-2.result
-    (c.show.ensures ∙ ap (λ (l : EndView). with_line c.args.at l c.args.view.now) c.line_of.ensures) (c.if-not-is_still.ensures.0 refl) c.requires.chosen made.ensures.found
-    (c.line_of-2.ensures ∙ λ i. line_by (made.ensures.settings i) (made.ensures.added i)) c.follow.ensures
+    let b = c.args.book.now.end.value in let made = c.make-turn in
+    decided c.args.at c.args.clock c.args.event c.args.chosen c.args.view.now c.show.new.view c.follow.new.view c.args.swap.now made.new.swap made.result b.settings b.log c.line_in-2.result
+    (c.show.ensures ∙ ap (λ (l : EndView). with_line c.args.at l c.args.view.now) c.line_in.ensures) (c.if-not-is_still.ensures.0 refl) c.requires.chosen made.ensures.found
+    (c.line_in-2.ensures ∙ λ i. line_by (made.ensures.settings i) (made.ensures.added i)) c.follow.ensures

@@ -3,7 +3,7 @@ use Rattle.am_names.specs.declared.NodeId.{NodeId}
 use Rattle.am_endpoint.specs.View.{EndpointView, state_after}
 use Rattle.am_model.specs.History.{failing, is_in_range}
 use Rattle.am_machine.specs.Ends.{is_of, kept}
-use Rattle.am_machine.specs.Kept.{layout_in}
+use Rattle.am_machine.specs.Kept.{journal_by, layout_in}
 use Rattle.am_machine.specs.Moves.{failing_on, is_taken}
 use Rattle.am_machine.specs.View.{ClusterView}
 use Rattle.am_machine.proofs.Applied as applied
@@ -21,26 +21,26 @@ unreachable-requires c =
 pub returns-then-node : goal.returns-then-node
 returns-then-node c =
     let vs = c.self.inside.ends.items in
-    let journal = c.self.inside.journal.entries in
+    let journal = journal_by (map kept vs) c.self.inside.interfaces.items in
     let layout = layout_in c.self.inside.settings c.self.inside.faults.items (map kept vs) in
     let packet : layout.direct ≡ false = ap (λ (v : ClusterView). v.layout.direct) c.self.view_is ∙ c.requires.packet in
     let one = c.index-one.result.now in
-    let home = moving.home_of layout vs journal c.args.end c.in-Some.place c.args.node one refl c.self.invariant.tied (sym (c.place_of.ensures ∙ ap (position (is_of c.args.end)) c.deref.ensures.value) ∙ c.in-Some.is) c.index-one.ensures in
+    let home = moving.home_of layout vs journal c.args.end c.in-Some.place c.args.node one refl c.self.invariant.kept'.tied (sym (c.place_of.ensures ∙ ap (position (is_of c.args.end)) c.deref.ensures.value) ∙ c.in-Some.is) c.index-one.ensures in
     sym (moving.failing_other layout journal c.args.event c.args.node c.args.end packet c.requires.driver c.requires.end (home ∙ moving.nodes_apart c.args.node one.settings.node (λ same. c.if-node.true (same ∙ sym (ap (λ (n : NodeId). n.0) c.node.ensures)))))
     ∙ ap (λ (v : ClusterView). failing v.layout v.journal c.args.event) c.self.view_is
 
 pub returns : goal.returns
 returns c =
     let vs = c.self.inside.ends.items in
-    let journal = c.self.inside.journal.entries in
+    let journal = journal_by (map kept vs) c.self.inside.interfaces.items in
     let layout = layout_in c.self.inside.settings c.self.inside.faults.items (map kept vs) in
     let packet : layout.direct ≡ false = ap (λ (v : ClusterView). v.layout.direct) c.self.view_is ∙ c.requires.packet in
     let one = c.index-one.result.now in
     let found = sym (c.place_of.ensures ∙ ap (position (is_of c.args.end)) c.deref.ensures.value) ∙ c.in-Some.is in
     let here = applied.found_here vs c.args.end c.in-Some.place one found c.index-one.ensures in
-    let home = moving.home_of layout vs journal c.args.end c.in-Some.place c.args.node one refl c.self.invariant.tied found c.index-one.ensures in
-    let state = sym (applied.state_here layout vs journal c.args.end c.in-Some.place one c.self.invariant.tied here) in
+    let home = moving.home_of layout vs journal c.args.end c.in-Some.place c.args.node one refl c.self.invariant.kept'.tied found c.index-one.ensures in
+    let state = sym (applied.state_here layout vs journal c.args.end c.in-Some.place one c.self.invariant.kept'.tied here) in
     c.failing_on.ensures
     ∙ ap (failing_on (state_after one) c.args.event) (c.is_taken.ensures ∙ ap (λ (us : List EndpointView). is_taken us c.args.event) c.deref-2.ensures.value)
-    ∙ sym (moving.failing_here layout journal c.args.event c.args.node c.args.end (state_after one) (is_taken vs c.args.event) packet c.requires.driver c.requires.end (home ∙ eq-eqb c.args.node.0 one.settings.node.0 (c.if-node.false ∙ ap (λ (n : NodeId). n.0) c.node.ensures)) state (moving.taken_here layout journal c.args.event vs refl c.self.invariant.tied.own))
+    ∙ sym (moving.failing_here layout journal c.args.event c.args.node c.args.end (state_after one) (is_taken vs c.args.event) packet c.requires.driver c.requires.end (home ∙ eq-eqb c.args.node.0 one.settings.node.0 (c.if-node.false ∙ ap (λ (n : NodeId). n.0) c.node.ensures)) state (moving.taken_here layout journal c.args.event vs refl c.self.invariant.kept'.tied.own))
     ∙ ap (λ (v : ClusterView). failing v.layout v.journal c.args.event) c.self.view_is

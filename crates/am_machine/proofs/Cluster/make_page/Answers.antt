@@ -1,6 +1,6 @@
 use Rattle.std.specs.Prelude.{nat_le, slice_set}
 use Rattle.std.proofs.Common.{◌≡◌, ℕ, None, arith, leb-false, ◌+◌, ◌++◌, ◌∷◌, [], List, map, length, position, refl, sym, ap, ◌∙◌, subst}
-use Rattle.std.specs.Prelude.{Result}
+use Rattle.std.specs.Prelude.{Result, Ok}
 use Rattle.am_names.specs.declared.NoMemory.{NoMemory}
 use Rattle.am_office.specs.declared.Entry.{Entry}
 use Rattle.am_model.specs.History.{failing, is_in_range}
@@ -9,12 +9,13 @@ use Rattle.am_device.specs.Memory.{Store}
 use Rattle.am_endpoint.specs.View.{EndpointView}
 use Rattle.am_drain.specs.Made.{next_stamp}
 use Rattle.am_machine.specs.Ends.{is_of, kept}
-use Rattle.am_machine.specs.Kept.{IsKept, layout_in}
+use Rattle.am_machine.specs.Kept.{IsIndexed, journal_by, layout_in}
 use Rattle.am_office.specs.Entries.{emitted_of}
-use Rattle.am_journal.specs.View.{AreNodes, IsEarly, greatest_stamp}
+use Rattle.am_journal.specs.View.{AreNodes}
 use Rattle.am_machine.specs.Pages.{IsPagedBy, Pages, page_outcome}
 use Rattle.am_machine.specs.View.{ClusterView}
 use Rattle.am_machine.proofs.Applied as applied
+use Rattle.am_machine.proofs.Indexed.{applied_by, indexed, indexed_counts, indexed_few, indexed_stamp, indexed_still, seen_still}
 use Rattle.am_machine.proofs.Joint.{set_got}
 use Rattle.am_machine.proofs.Moving as moving
 use Rattle.am_machine.proofs.Moving.{Move}
@@ -27,7 +28,7 @@ use Rattle.am_machine.proofs.Cluster.make_page.Goals as goal
 pub unreachable-requires : goal.unreachable-requires
 unreachable-requires c =
     let vs = c.self.inside.ends.items in
-    let journal = c.self.inside.journal.entries in
+    let journal = journal_by (map kept vs) c.self.inside.interfaces.items in
     let layout = layout_in c.self.inside.settings c.self.inside.faults.items (map kept vs) in
     let range = ap (λ (v : ClusterView). is_in_range v.layout c.args.event) c.self.view_is ∙ c.requires.in_range in
     not_found vs c.args.end (sym (c.place_of.ensures ∙ ap (position (is_of c.args.end)) c.deref.ensures.value) ∙ c.in_default-place_of.is) (moving.end_known layout c.args.event c.args.end range c.requires.end)
@@ -35,7 +36,7 @@ unreachable-requires c =
 pub returns-then-is_full : goal.returns-then-is_full
 returns-then-is_full c =
     let vs = c.self.inside.ends.items in
-    let journal = c.self.inside.journal.entries in
+    let journal = journal_by (map kept vs) c.self.inside.interfaces.items in
     let layout = layout_in c.self.inside.settings c.self.inside.faults.items (map kept vs) in
     let move : Move = record {
       settings = c.self.inside.settings;
@@ -47,7 +48,7 @@ returns-then-is_full c =
       end = c.args.end;
       place = c.in-Some-place_of.place;
       one = c.index.result.now;
-      tied = c.self.invariant.tied;
+      tied = c.self.invariant.kept'.tied;
       in_range = ap (λ (v : ClusterView). is_in_range v.layout c.args.event) c.self.view_is ∙ c.requires.in_range;
       driver = c.requires.driver;
       moved = c.requires.end;
@@ -60,13 +61,16 @@ returns-then-is_full c =
       refl,
     )
 
-pub greatest_stamp-stamp-requires-clause-early : goal.greatest_stamp-stamp-requires-clause-early
-greatest_stamp-stamp-requires-clause-early c = subst IsEarly (sym c.room.ensures.entries) c.self.invariant.tied.early
+pub overflow_add-stamp : goal.overflow_add-stamp
+overflow_add-stamp c = let fits = indexed_stamp c.self.inside.settings c.self.inside.faults.items (map kept c.self.inside.ends.items) c.self.inside.interfaces.items c.self.inside.swaps.items c.self.inside.index.read c.self.invariant in omega (arith, fits, c.greatest_stamp-stamp.ensures)
+
+pub log-requires-clause-counts : goal.log-requires-clause-counts
+log-requires-clause-counts c = indexed_counts c.self.inside.settings c.self.inside.faults.items (map kept c.self.inside.ends.items) c.self.inside.interfaces.items c.self.inside.swaps.items c.self.inside.index.read c.self.invariant
 
 pub page-requires-clause-can : goal.page-requires-clause-can
 page-requires-clause-can c =
     let vs = c.self.inside.ends.items in
-    let journal = c.self.inside.journal.entries in
+    let journal = journal_by (map kept vs) c.self.inside.interfaces.items in
     let layout = layout_in c.self.inside.settings c.self.inside.faults.items (map kept vs) in
     let move : Move = record {
       settings = c.self.inside.settings;
@@ -78,7 +82,7 @@ page-requires-clause-can c =
       end = c.args.end;
       place = c.in-Some-place_of.place;
       one = c.index_mut.result.now;
-      tied = c.self.invariant.tied;
+      tied = c.self.invariant.kept'.tied;
       in_range = ap (λ (v : ClusterView). is_in_range v.layout c.args.event) c.self.view_is ∙ c.requires.in_range;
       driver = c.requires.driver;
       moved = c.requires.end;
@@ -91,16 +95,16 @@ page-requires-clause-can c =
       swaps = c.self.inside.swaps.items;
       s = c.index_mut-swap.result.now;
       paged = c.requires.paged;
-      at = swap_read c.self.inside.swaps.items c.args.node.0 c.index_mut-swap.result.now (swap_there layout journal c.self.inside.swaps.items c.args.node c.self.invariant.swaps' (moving.move_packet move) (moving.node_below layout c.args.event c.args.node move.in_range c.requires.driver)) c.index_mut-swap.ensures.value;
-      are = c.self.invariant.swaps';
-      few = calls_few c.args.node journal c.room.ensures.few c.room.ensures.entries;
+      at = swap_read c.self.inside.swaps.items c.args.node.0 c.index_mut-swap.result.now (swap_there layout journal c.self.inside.swaps.items c.args.node c.self.invariant.kept'.swaps' (moving.move_packet move) (moving.node_below layout c.args.event c.args.node move.in_range c.requires.driver)) c.index_mut-swap.ensures.value;
+      are = c.self.invariant.kept'.swaps';
+      few = calls_few c.args.node journal (indexed_few c.self.inside.settings c.self.inside.faults.items (map kept vs) c.self.inside.interfaces.items c.self.inside.swaps.items c.self.inside.index.read c.self.invariant);
     } in
     paging.can_page call
 
 pub page-requires-clause-room : goal.page-requires-clause-room
 page-requires-clause-room c =
     let vs = c.self.inside.ends.items in
-    let journal = c.self.inside.journal.entries in
+    let journal = journal_by (map kept vs) c.self.inside.interfaces.items in
     let layout = layout_in c.self.inside.settings c.self.inside.faults.items (map kept vs) in
     let move : Move = record {
       settings = c.self.inside.settings;
@@ -112,7 +116,7 @@ page-requires-clause-room c =
       end = c.args.end;
       place = c.in-Some-place_of.place;
       one = c.index_mut.result.now;
-      tied = c.self.invariant.tied;
+      tied = c.self.invariant.kept'.tied;
       in_range = ap (λ (v : ClusterView). is_in_range v.layout c.args.event) c.self.view_is ∙ c.requires.in_range;
       driver = c.requires.driver;
       moved = c.requires.end;
@@ -123,13 +127,13 @@ page-requires-clause-room c =
     let before = moving.move_before move c.index.result.now c.index.ensures in
     let room = ap (λ (w : EndpointView). nat_le c.self.inside.settings.log (length w.log)) (sym before) ∙ sym c.is_full.ensures ∙ c.if-is_full.false in
     let less = leb-false c.self.inside.settings.log (length move.one.log) room in
-    let limit = (applied.own_here layout vs journal c.args.end c.in-Some-place_of.place move.one c.self.invariant.tied (moving.move_here move)).limit in
+    let limit = (applied.own_here layout vs journal c.args.end c.in-Some-place_of.place move.one c.self.invariant.kept'.tied (moving.move_here move)).limit in
     omega (arith, less, limit)
 
 pub log-requires-clause-packet : goal.log-requires-clause-packet
 log-requires-clause-packet c =
     let vs = c.self.inside.ends.items in
-    let journal = c.self.inside.journal.entries in
+    let journal = journal_by (map kept vs) c.self.inside.interfaces.items in
     let layout = layout_in c.self.inside.settings c.self.inside.faults.items (map kept vs) in
     let move : Move = record {
       settings = c.self.inside.settings;
@@ -141,7 +145,7 @@ log-requires-clause-packet c =
       end = c.args.end;
       place = c.in-Some-place_of.place;
       one = c.index_mut.result.now;
-      tied = c.self.invariant.tied;
+      tied = c.self.invariant.kept'.tied;
       in_range = ap (λ (v : ClusterView). is_in_range v.layout c.args.event) c.self.view_is ∙ c.requires.in_range;
       driver = c.requires.driver;
       moved = c.requires.end;
@@ -155,7 +159,7 @@ log-requires-clause-packet c =
 pub log-requires-clause-nodes : goal.log-requires-clause-nodes
 log-requires-clause-nodes c =
     let vs = c.self.inside.ends.items in
-    let journal = c.self.inside.journal.entries in
+    let journal = journal_by (map kept vs) c.self.inside.interfaces.items in
     let layout = layout_in c.self.inside.settings c.self.inside.faults.items (map kept vs) in
     let move : Move = record {
       settings = c.self.inside.settings;
@@ -167,7 +171,7 @@ log-requires-clause-nodes c =
       end = c.args.end;
       place = c.in-Some-place_of.place;
       one = c.index_mut.result.now;
-      tied = c.self.invariant.tied;
+      tied = c.self.invariant.kept'.tied;
       in_range = ap (λ (v : ClusterView). is_in_range v.layout c.args.event) c.self.view_is ∙ c.requires.in_range;
       driver = c.requires.driver;
       moved = c.requires.end;
@@ -176,12 +180,12 @@ log-requires-clause-nodes c =
       value = c.index_mut.ensures.value;
     } in
     let by : IsPagedBy c.index_mut-swap.result.now c.page.new.swap (kept move.one) (kept c.page.new.endpoint) c.args.event (c.greatest_stamp-stamp.result + 1) c.in-Ok.entry = subst (λ (r : Result Entry NoMemory). Pages c.index_mut-swap.result.now c.page.new.swap (kept move.one) (kept c.page.new.endpoint) c.args.event (c.greatest_stamp-stamp.result + 1) r) c.in-Ok.is c.page.ensures in
-    subst (λ (y : Entry). AreNodes y.event) (sym by.entry) (moving.moved_nodes layout c.args.event c.args.end c.self.invariant.tied.lawful.nodes.1 move.in_range c.requires.end)
+    subst (λ (y : Entry). AreNodes y.event) (sym by.entry) (moving.moved_nodes layout c.args.event c.args.end c.self.invariant.kept'.tied.lawful.nodes.1 move.in_range c.requires.end)
 
-pub invariant_of-self-in-Ok : goal.invariant_of-self-in-Ok
-invariant_of-self-in-Ok c =
+pub invariant_of-self : goal.invariant_of-self
+invariant_of-self c =
     let vs = c.self.inside.ends.items in
-    let journal = c.self.inside.journal.entries in
+    let journal = journal_by (map kept vs) c.self.inside.interfaces.items in
     let layout = layout_in c.self.inside.settings c.self.inside.faults.items (map kept vs) in
     let move : Move = record {
       settings = c.self.inside.settings;
@@ -193,7 +197,7 @@ invariant_of-self-in-Ok c =
       end = c.args.end;
       place = c.in-Some-place_of.place;
       one = c.index_mut.result.now;
-      tied = c.self.invariant.tied;
+      tied = c.self.invariant.kept'.tied;
       in_range = ap (λ (v : ClusterView). is_in_range v.layout c.args.event) c.self.view_is ∙ c.requires.in_range;
       driver = c.requires.driver;
       moved = c.requires.end;
@@ -206,22 +210,24 @@ invariant_of-self-in-Ok c =
       swaps = c.self.inside.swaps.items;
       s = c.index_mut-swap.result.now;
       paged = c.requires.paged;
-      at = swap_read c.self.inside.swaps.items c.args.node.0 c.index_mut-swap.result.now (swap_there layout journal c.self.inside.swaps.items c.args.node c.self.invariant.swaps' (moving.move_packet move) (moving.node_below layout c.args.event c.args.node move.in_range c.requires.driver)) c.index_mut-swap.ensures.value;
-      are = c.self.invariant.swaps';
-      few = calls_few c.args.node journal c.room.ensures.few c.room.ensures.entries;
+      at = swap_read c.self.inside.swaps.items c.args.node.0 c.index_mut-swap.result.now (swap_there layout journal c.self.inside.swaps.items c.args.node c.self.invariant.kept'.swaps' (moving.move_packet move) (moving.node_below layout c.args.event c.args.node move.in_range c.requires.driver)) c.index_mut-swap.ensures.value;
+      are = c.self.invariant.kept'.swaps';
+      few = calls_few c.args.node journal (indexed_few c.self.inside.settings c.self.inside.faults.items (map kept vs) c.self.inside.interfaces.items c.self.inside.swaps.items c.self.inside.index.read c.self.invariant);
     } in
-    let stamp : c.greatest_stamp-stamp.result + 1 ≡ next_stamp journal = ap (λ (n : ℕ). n + 1) (c.greatest_stamp-stamp.ensures.value ∙ ap greatest_stamp c.room.ensures.entries) in
+    let stamp : c.greatest_stamp-stamp.result + 1 ≡ next_stamp journal = ap (λ (n : ℕ). n + 1) (c.greatest_stamp-stamp.ensures ∙ c.self.invariant.index'.greatest) in
     let before = moving.move_before move c.index.result.now c.index.ensures in
     let room = ap (λ (w : EndpointView). nat_le c.self.inside.settings.log (length w.log)) (sym before) ∙ sym c.is_full.ensures ∙ c.if-is_full.false in
     let by : IsPagedBy c.index_mut-swap.result.now c.page.new.swap (kept move.one) (kept c.page.new.endpoint) c.args.event (c.greatest_stamp-stamp.result + 1) c.in-Ok.entry = subst (λ (r : Result Entry NoMemory). Pages c.index_mut-swap.result.now c.page.new.swap (kept move.one) (kept c.page.new.endpoint) c.args.event (c.greatest_stamp-stamp.result + 1) r) c.in-Ok.is c.page.ensures in
-    let next = paging.page_next call c.page.new.swap c.page.new.endpoint (c.greatest_stamp-stamp.result + 1) c.in-Ok.entry c.log.new.self.entries stamp room by (c.log.ensures ∙ ap (λ (xs : List Entry). xs ++ c.in-Ok.entry ∷ []) c.room.ensures.entries) in
-    applied.kept_next c.self.inside.settings c.self.inside.faults.items (map kept vs) journal c.args.event c.in-Ok.entry _ c.log.new.self.entries c.self.inside.interfaces.items (slice_set c.self.inside.swaps.items c.args.node.0 c.page.new.swap) next (moving.moved_alone c.args.event c.args.end c.requires.end) c.self.invariant.interfaces'
-    (paging.page_swaps call c.page.new.swap (kept c.page.new.endpoint) (c.greatest_stamp-stamp.result + 1) c.in-Ok.entry stamp by)
+    let next = paging.page_next call c.page.new.swap c.page.new.endpoint (c.greatest_stamp-stamp.result + 1) c.in-Ok.entry (journal ++ c.in-Ok.entry ∷ []) stamp room by refl in
+    indexed c.self.inside.settings c.self.inside.faults.items (map kept (slice_set vs c.in-Some-place_of.place c.page.new.endpoint)) (journal ++ c.in-Ok.entry ∷ []) c.self.inside.interfaces.items (slice_set c.self.inside.swaps.items c.args.node.0 c.page.new.swap) c.log.new.self.read
+    (applied.kept_next c.self.inside.settings c.self.inside.faults.items (map kept vs) journal c.args.event c.in-Ok.entry _ (journal ++ c.in-Ok.entry ∷ []) c.self.inside.interfaces.items (slice_set c.self.inside.swaps.items c.args.node.0 c.page.new.swap) next (moving.moved_alone c.args.event c.args.end c.requires.end) c.self.invariant.kept'.interfaces'
+    (paging.page_swaps call c.page.new.swap (kept c.page.new.endpoint) (c.greatest_stamp-stamp.result + 1) c.in-Ok.entry stamp by))
+    (c.log.ensures journal c.self.invariant.index')
 
 pub returns-in-Ok : goal.returns-in-Ok
 returns-in-Ok c =
     let vs = c.self.inside.ends.items in
-    let journal = c.self.inside.journal.entries in
+    let journal = journal_by (map kept vs) c.self.inside.interfaces.items in
     let layout = layout_in c.self.inside.settings c.self.inside.faults.items (map kept vs) in
     let move : Move = record {
       settings = c.self.inside.settings;
@@ -233,7 +239,7 @@ returns-in-Ok c =
       end = c.args.end;
       place = c.in-Some-place_of.place;
       one = c.index_mut.result.now;
-      tied = c.self.invariant.tied;
+      tied = c.self.invariant.kept'.tied;
       in_range = ap (λ (v : ClusterView). is_in_range v.layout c.args.event) c.self.view_is ∙ c.requires.in_range;
       driver = c.requires.driver;
       moved = c.requires.end;
@@ -246,21 +252,24 @@ returns-in-Ok c =
       swaps = c.self.inside.swaps.items;
       s = c.index_mut-swap.result.now;
       paged = c.requires.paged;
-      at = swap_read c.self.inside.swaps.items c.args.node.0 c.index_mut-swap.result.now (swap_there layout journal c.self.inside.swaps.items c.args.node c.self.invariant.swaps' (moving.move_packet move) (moving.node_below layout c.args.event c.args.node move.in_range c.requires.driver)) c.index_mut-swap.ensures.value;
-      are = c.self.invariant.swaps';
-      few = calls_few c.args.node journal c.room.ensures.few c.room.ensures.entries;
+      at = swap_read c.self.inside.swaps.items c.args.node.0 c.index_mut-swap.result.now (swap_there layout journal c.self.inside.swaps.items c.args.node c.self.invariant.kept'.swaps' (moving.move_packet move) (moving.node_below layout c.args.event c.args.node move.in_range c.requires.driver)) c.index_mut-swap.ensures.value;
+      are = c.self.invariant.kept'.swaps';
+      few = calls_few c.args.node journal (indexed_few c.self.inside.settings c.self.inside.faults.items (map kept vs) c.self.inside.interfaces.items c.self.inside.swaps.items c.self.inside.index.read c.self.invariant);
     } in
-    let stamp : c.greatest_stamp-stamp.result + 1 ≡ next_stamp journal = ap (λ (n : ℕ). n + 1) (c.greatest_stamp-stamp.ensures.value ∙ ap greatest_stamp c.room.ensures.entries) in
+    let stamp : c.greatest_stamp-stamp.result + 1 ≡ next_stamp journal = ap (λ (n : ℕ). n + 1) (c.greatest_stamp-stamp.ensures ∙ c.self.invariant.index'.greatest) in
     let before = moving.move_before move c.index.result.now c.index.ensures in
     let room = ap (λ (w : EndpointView). nat_le c.self.inside.settings.log (length w.log)) (sym before) ∙ sym c.is_full.ensures ∙ c.if-is_full.false in
     let by : IsPagedBy c.index_mut-swap.result.now c.page.new.swap (kept move.one) (kept c.page.new.endpoint) c.args.event (c.greatest_stamp-stamp.result + 1) c.in-Ok.entry = subst (λ (r : Result Entry NoMemory). Pages c.index_mut-swap.result.now c.page.new.swap (kept move.one) (kept c.page.new.endpoint) c.args.event (c.greatest_stamp-stamp.result + 1) r) c.in-Ok.is c.page.ensures in
-    let next = paging.page_next call c.page.new.swap c.page.new.endpoint (c.greatest_stamp-stamp.result + 1) c.in-Ok.entry c.log.new.self.entries stamp room by (c.log.ensures ∙ ap (λ (xs : List Entry). xs ++ c.in-Ok.entry ∷ []) c.room.ensures.entries) in
-    applied.seen_next c.self.inside.settings c.self.inside.faults.items (map kept vs) journal c.args.event c.in-Ok.entry _ c.log.new.self.entries c.args.self.now c.self.view_is next
+    let next = paging.page_next call c.page.new.swap c.page.new.endpoint (c.greatest_stamp-stamp.result + 1) c.in-Ok.entry (journal ++ c.in-Ok.entry ∷ []) stamp room by refl in
+    applied_by c.self.inside.settings c.self.inside.faults.items (map kept (slice_set vs c.in-Some-place_of.place c.page.new.endpoint)) (journal ++ c.in-Ok.entry ∷ []) c.self.inside.interfaces.items (slice_set c.self.inside.swaps.items c.args.node.0 c.page.new.swap) c.args.self.now c.args.event (Ok c.in-Ok.entry)
+    (applied.kept_next c.self.inside.settings c.self.inside.faults.items (map kept vs) journal c.args.event c.in-Ok.entry _ (journal ++ c.in-Ok.entry ∷ []) c.self.inside.interfaces.items (slice_set c.self.inside.swaps.items c.args.node.0 c.page.new.swap) next (moving.moved_alone c.args.event c.args.end c.requires.end) c.self.invariant.kept'.interfaces'
+    (paging.page_swaps call c.page.new.swap (kept c.page.new.endpoint) (c.greatest_stamp-stamp.result + 1) c.in-Ok.entry stamp by))
+    (applied.seen_next c.self.inside.settings c.self.inside.faults.items (map kept vs) journal c.args.event c.in-Ok.entry _ (journal ++ c.in-Ok.entry ∷ []) c.args.self.now c.self.view_is next)
 
 pub invariant_of-self-in-Err : goal.invariant_of-self-in-Err
 invariant_of-self-in-Err c =
     let vs = c.self.inside.ends.items in
-    let journal = c.self.inside.journal.entries in
+    let journal = journal_by (map kept vs) c.self.inside.interfaces.items in
     let layout = layout_in c.self.inside.settings c.self.inside.faults.items (map kept vs) in
     let move : Move = record {
       settings = c.self.inside.settings;
@@ -272,7 +281,7 @@ invariant_of-self-in-Err c =
       end = c.args.end;
       place = c.in-Some-place_of.place;
       one = c.index_mut.result.now;
-      tied = c.self.invariant.tied;
+      tied = c.self.invariant.kept'.tied;
       in_range = ap (λ (v : ClusterView). is_in_range v.layout c.args.event) c.self.view_is ∙ c.requires.in_range;
       driver = c.requires.driver;
       moved = c.requires.end;
@@ -285,19 +294,19 @@ invariant_of-self-in-Err c =
       swaps = c.self.inside.swaps.items;
       s = c.index_mut-swap.result.now;
       paged = c.requires.paged;
-      at = swap_read c.self.inside.swaps.items c.args.node.0 c.index_mut-swap.result.now (swap_there layout journal c.self.inside.swaps.items c.args.node c.self.invariant.swaps' (moving.move_packet move) (moving.node_below layout c.args.event c.args.node move.in_range c.requires.driver)) c.index_mut-swap.ensures.value;
-      are = c.self.invariant.swaps';
-      few = calls_few c.args.node journal c.room.ensures.few c.room.ensures.entries;
+      at = swap_read c.self.inside.swaps.items c.args.node.0 c.index_mut-swap.result.now (swap_there layout journal c.self.inside.swaps.items c.args.node c.self.invariant.kept'.swaps' (moving.move_packet move) (moving.node_below layout c.args.event c.args.node move.in_range c.requires.driver)) c.index_mut-swap.ensures.value;
+      are = c.self.invariant.kept'.swaps';
+      few = calls_few c.args.node journal (indexed_few c.self.inside.settings c.self.inside.faults.items (map kept vs) c.self.inside.interfaces.items c.self.inside.swaps.items c.self.inside.index.read c.self.invariant);
     } in
     let none : (c.page.new.swap ≡ c.index_mut-swap.result.now) × (kept c.page.new.endpoint ≡ kept move.one) = subst (λ (r : Result Entry NoMemory). Pages c.index_mut-swap.result.now c.page.new.swap (kept move.one) (kept c.page.new.endpoint) c.args.event (c.greatest_stamp-stamp.result + 1) r) c.in-Err.is c.page.ensures in
     let ends = kept_same vs c.in-Some-place_of.place move.one c.page.new.endpoint (moving.move_here move).at none.1 in
-    subst (λ (ss : List Store). IsKept (layout_in c.self.inside.settings c.self.inside.faults.items (map kept (slice_set vs c.in-Some-place_of.place c.page.new.endpoint))) (map kept (slice_set vs c.in-Some-place_of.place c.page.new.endpoint)) c.room.new.self.entries c.self.inside.interfaces.items ss) (sym (set_got c.self.inside.swaps.items c.args.node.0 c.index_mut-swap.result.now c.page.new.swap call.at none.0))
-    (applied.kept_still c.self.inside.settings c.self.inside.faults.items (map kept vs) _ journal c.room.new.self.entries c.self.inside.interfaces.items c.self.inside.swaps.items ends c.room.ensures.entries c.self.invariant)
+    subst (λ (ss : List Store). IsIndexed (layout_in c.self.inside.settings c.self.inside.faults.items (map kept (slice_set vs c.in-Some-place_of.place c.page.new.endpoint))) (map kept (slice_set vs c.in-Some-place_of.place c.page.new.endpoint)) c.self.inside.interfaces.items ss c.self.inside.index.read) (sym (set_got c.self.inside.swaps.items c.args.node.0 c.index_mut-swap.result.now c.page.new.swap call.at none.0))
+    (indexed_still c.self.inside.settings c.self.inside.faults.items (map kept vs) _ c.self.inside.interfaces.items c.self.inside.swaps.items c.self.inside.index.read ends c.self.invariant)
 
 pub returns-in-Err : goal.returns-in-Err
 returns-in-Err c =
     let vs = c.self.inside.ends.items in
-    let journal = c.self.inside.journal.entries in
+    let journal = journal_by (map kept vs) c.self.inside.interfaces.items in
     let layout = layout_in c.self.inside.settings c.self.inside.faults.items (map kept vs) in
     let move : Move = record {
       settings = c.self.inside.settings;
@@ -309,7 +318,7 @@ returns-in-Err c =
       end = c.args.end;
       place = c.in-Some-place_of.place;
       one = c.index_mut.result.now;
-      tied = c.self.invariant.tied;
+      tied = c.self.invariant.kept'.tied;
       in_range = ap (λ (v : ClusterView). is_in_range v.layout c.args.event) c.self.view_is ∙ c.requires.in_range;
       driver = c.requires.driver;
       moved = c.requires.end;
@@ -322,10 +331,10 @@ returns-in-Err c =
       swaps = c.self.inside.swaps.items;
       s = c.index_mut-swap.result.now;
       paged = c.requires.paged;
-      at = swap_read c.self.inside.swaps.items c.args.node.0 c.index_mut-swap.result.now (swap_there layout journal c.self.inside.swaps.items c.args.node c.self.invariant.swaps' (moving.move_packet move) (moving.node_below layout c.args.event c.args.node move.in_range c.requires.driver)) c.index_mut-swap.ensures.value;
-      are = c.self.invariant.swaps';
-      few = calls_few c.args.node journal c.room.ensures.few c.room.ensures.entries;
+      at = swap_read c.self.inside.swaps.items c.args.node.0 c.index_mut-swap.result.now (swap_there layout journal c.self.inside.swaps.items c.args.node c.self.invariant.kept'.swaps' (moving.move_packet move) (moving.node_below layout c.args.event c.args.node move.in_range c.requires.driver)) c.index_mut-swap.ensures.value;
+      are = c.self.invariant.kept'.swaps';
+      few = calls_few c.args.node journal (indexed_few c.self.inside.settings c.self.inside.faults.items (map kept vs) c.self.inside.interfaces.items c.self.inside.swaps.items c.self.inside.index.read c.self.invariant);
     } in
     let none : (c.page.new.swap ≡ c.index_mut-swap.result.now) × (kept c.page.new.endpoint ≡ kept move.one) = subst (λ (r : Result Entry NoMemory). Pages c.index_mut-swap.result.now c.page.new.swap (kept move.one) (kept c.page.new.endpoint) c.args.event (c.greatest_stamp-stamp.result + 1) r) c.in-Err.is c.page.ensures in
     let ends = kept_same vs c.in-Some-place_of.place move.one c.page.new.endpoint (moving.move_here move).at none.1 in
-    applied.seen_same c.self.inside.settings c.self.inside.faults.items (map kept vs) _ journal c.room.new.self.entries c.args.self.now ends c.room.ensures.entries c.self.view_is
+    seen_still c.self.inside.settings c.self.inside.faults.items (map kept vs) _ c.self.inside.interfaces.items c.args.self.now ends c.self.view_is

@@ -1,5 +1,4 @@
-use Rattle.std.proofs.Common.{◌≡◌, List, map, sym, ap, ◌∙◌, subst}
-use Rattle.am_office.specs.declared.Entry.{Entry}
+use Rattle.std.proofs.Common.{◌≡◌, [], List, map, refl, sym, ap, ◌∙◌, subst}
 use Rattle.am_model.specs.Layout.{EndSetting, Fault}
 use Rattle.am_model.specs.Layout as model
 use Rattle.am_follow.proofs.Lawful.{lawful_layout}
@@ -11,7 +10,9 @@ use Rattle.am_follow.specs.Layout.{fault_of, layout_of, setting_of}
 use Rattle.am_machine.specs.declared.settings.Settings.{Settings}
 use Rattle.am_machine.specs.Beginnings.{opened}
 use Rattle.am_machine.specs.Ends.{EndLog, kept, setting_in}
-use Rattle.am_machine.specs.Kept.{IsKept, layout_in}
+use Rattle.am_machine.specs.Kept.{layout_in}
+use Rattle.am_machine.proofs.Indexed.{indexed}
+use Rattle.am_machine.proofs.Merging.{kept_merges}
 use Rattle.am_machine.specs.Homes.{AreFresh, CanConnect}
 use Rattle.am_machine.proofs.Beginnings.{fresh_interfaces}
 use Rattle.am_machine.specs.Presets.{AreOpened}
@@ -32,7 +33,28 @@ invariant_of-result c =
     let whole = subst model.IsLawful (sym layout) (lawful_layout c.args.scenario.now c.requires) in
     let given = c.in-Ok.ensures.items ∙ c.deref-2.ensures.value in
     let opened_swaps : AreOpened settings c.in-Ok.faults.items s.ends.items c.in_ok-swaps.swaps.items = coe 0 1 (k. AreOpened settings ((c.deref-4.ensures.value ∙ sym given) k) (c.deref-5.ensures.value k) c.in_ok-swaps.swaps.items) c.in_ok-swaps.ensures in
-    subst (λ (j : List Entry). IsKept (layout_in settings c.in-Ok.faults.items es) es j c.in_ok-interfaces.interfaces.items c.in_ok-swaps.swaps.items) (sym c.in_ok-journal.ensures)
+    indexed settings c.in-Ok.faults.items es [] c.in_ok-interfaces.interfaces.items c.in_ok-swaps.swaps.items c.in_ok-index.index.read
+    (record {
+      tied = begins settings c.in-Ok.faults.items s.nodes s.ends.items es is lawful.ends lawful.ends_rise whole;
+      interfaces' = fresh_interfaces settings c.in-Ok.faults.items s.ends.items es c.in_ok-interfaces.interfaces.items lawful.ends ends (subst (λ (lines : List EndLine). AreFresh settings lines c.in_ok-interfaces.interfaces.items) c.deref-3.ensures.value c.in_ok-interfaces.ensures);
+      swaps' = fresh_swaps settings c.in-Ok.faults.items s.ends.items es c.in_ok-swaps.swaps.items whole ends lawful.ends_rise opened_swaps;
+    })
+    c.in_ok-index.ensures
+
+pub returns-clause-journal : goal.returns-clause-journal
+returns-clause-journal c =
+    let s = c.scenario.inside in
+    let settings : Settings = record { network = s.network; nodes = s.nodes; frames = s.frames; channels = s.channels; tries = s.tries; bounces = s.bounces; pool = s.pool; log = s.log } in
+    let lawful = subst IsLawful (sym c.scenario.view_is) c.requires in
+    let es = map kept c.in_ok-ends.ends.items in
+    let is : es ≡ map (opened settings) s.ends.items = c.in_ok-ends.ensures ∙ ap (λ (lines : List EndLine). map (opened settings) lines) c.deref.ensures.value in
+    let ends : map setting_in es ≡ map setting_of s.ends.items = ap (λ (l : List EndLog). map setting_in l) is ∙ same_settings settings s.nodes s.ends.items lawful.ends in
+    let faults : map fault_of c.in-Ok.faults.items ≡ map fault_of s.faults.items = ap (λ (l : List FaultLine). map fault_of l) (c.in-Ok.ensures.items ∙ c.deref-2.ensures.value) in
+    let layout : layout_in settings c.in-Ok.faults.items es ≡ layout_of c.args.scenario.now = (λ i. record (layout_in settings c.in-Ok.faults.items es) { ends = ends i; faults = faults i }) ∙ ap layout_of c.scenario.view_is in
+    let whole = subst model.IsLawful (sym layout) (lawful_layout c.args.scenario.now c.requires) in
+    let given = c.in-Ok.ensures.items ∙ c.deref-2.ensures.value in
+    let opened_swaps : AreOpened settings c.in-Ok.faults.items s.ends.items c.in_ok-swaps.swaps.items = coe 0 1 (k. AreOpened settings ((c.deref-4.ensures.value ∙ sym given) k) (c.deref-5.ensures.value k) c.in_ok-swaps.swaps.items) c.in_ok-swaps.ensures in
+    kept_merges (layout_in settings c.in-Ok.faults.items es) es [] c.in_ok-interfaces.interfaces.items c.in_ok-swaps.swaps.items refl
     (record {
       tied = begins settings c.in-Ok.faults.items s.nodes s.ends.items es is lawful.ends lawful.ends_rise whole;
       interfaces' = fresh_interfaces settings c.in-Ok.faults.items s.ends.items es c.in_ok-interfaces.interfaces.items lawful.ends ends (subst (λ (lines : List EndLine). AreFresh settings lines c.in_ok-interfaces.interfaces.items) c.deref-3.ensures.value c.in_ok-interfaces.ensures);

@@ -1,17 +1,17 @@
-use Rattle.std.specs.Prelude.{nat_le}
-use Rattle.std.proofs.Common.{◌≡◌, ◌++◌, ◌∷◌, [], List, false, true, map, length, position, refl, sym, ap, ◌∙◌, arith, subst}
-use Rattle.am_office.specs.declared.Entry.{Entry}
+use Rattle.std.specs.Prelude.{nat_le, slice_set, Ok}
+use Rattle.std.proofs.Common.{◌≡◌, ◌++◌, ◌∷◌, [], false, true, map, length, position, refl, sym, ap, ◌∙◌, arith, subst}
 use Rattle.am_office.specs.declared.Event.{Event}
 use Rattle.am_office.specs.declared.Event.TheVariants as Events
 use Rattle.am_office.specs.Entries.{emitted_in}
 use Rattle.am_model.specs.History.{is_in_range}
 use Rattle.am_model.specs.Steps.{stop}
-use Rattle.am_journal.specs.View.{AreNodes, IsEarly, greatest_stamp}
+use Rattle.am_journal.specs.View.{AreNodes, greatest_stamp}
 use Rattle.am_machine.specs.Ends.{is_of, kept}
-use Rattle.am_machine.specs.Kept.{layout_in}
+use Rattle.am_machine.specs.Kept.{journal_by, layout_in}
 use Rattle.am_machine.specs.View.{ClusterView}
 use Rattle.am_machine.proofs.Applied as applied
 use Rattle.am_machine.proofs.Events.{want_stopped, want_refused}
+use Rattle.am_machine.proofs.Indexed.{applied_by, indexed, indexed_counts, indexed_stamp, indexed_still, seen_still}
 use Rattle.am_machine.proofs.Places.{not_found}
 use Rattle.am_machine.proofs.Tied.{kept_same}
 use Rattle.am_machine.proofs.Cluster.want.Goals as goal
@@ -19,7 +19,7 @@ use Rattle.am_machine.proofs.Cluster.want.Goals as goal
 pub unreachable-requires : goal.unreachable-requires
 unreachable-requires c =
     let vs = c.self.inside.ends.items in
-    let journal = c.self.inside.journal.entries in
+    let journal = journal_by (map kept vs) c.self.inside.interfaces.items in
     let layout = layout_in c.self.inside.settings c.self.inside.faults.items (map kept vs) in
     let range : is_in_range layout (Events.Want c.args.actor c.args.end) ≡ true = ap (λ (v : ClusterView). is_in_range v.layout (Events.Want c.args.actor c.args.end)) c.self.view_is ∙ c.requires in
     not_found vs c.args.end (sym (c.place_of.ensures ∙ ap (position (is_of c.args.end)) c.deref.ensures.value) ∙ c.in_default.is) (applied.want_declared layout c.args.actor c.args.end range)
@@ -27,45 +27,49 @@ unreachable-requires c =
 pub returns-then-not-is_on_disk : goal.returns-then-not-is_on_disk
 returns-then-not-is_on_disk c =
     let vs = c.self.inside.ends.items in
-    let journal = c.self.inside.journal.entries in
+    let journal = journal_by (map kept vs) c.self.inside.interfaces.items in
     let layout = layout_in c.self.inside.settings c.self.inside.faults.items (map kept vs) in
     let here = applied.found_here vs c.args.end c.in-Some.place c.index.result.now (sym (c.place_of.ensures ∙ ap (position (is_of c.args.end)) c.deref.ensures.value) ∙ c.in-Some.is) c.index.ensures in
-    let disk = applied.disk_here layout vs journal c.args.end c.in-Some.place c.index.result.now false c.self.invariant.tied here (sym c.is_on_disk.ensures ∙ c.if-not-is_on_disk.true) in
+    let disk = applied.disk_here layout vs journal c.args.end c.in-Some.place c.index.result.now false c.self.invariant.kept'.tied here (sym c.is_on_disk.ensures ∙ c.if-not-is_on_disk.true) in
     (ap (λ (v : ClusterView). stop v.layout v.journal (Events.Want c.args.actor c.args.end)) (sym c.self.view_is) ∙ want_refused layout journal c.args.actor c.args.end disk, refl)
 
 pub returns-then-is_full : goal.returns-then-is_full
 returns-then-is_full c =
     let vs = c.self.inside.ends.items in
-    let journal = c.self.inside.journal.entries in
+    let journal = journal_by (map kept vs) c.self.inside.interfaces.items in
     let layout = layout_in c.self.inside.settings c.self.inside.faults.items (map kept vs) in
     let here = applied.found_here vs c.args.end c.in-Some.place c.index.result.now (sym (c.place_of.ensures ∙ ap (position (is_of c.args.end)) c.deref.ensures.value) ∙ c.in-Some.is) c.index.ensures in
     let again = applied.found_here vs c.args.end c.in-Some.place c.index-2.result.now (sym (c.place_of.ensures ∙ ap (position (is_of c.args.end)) c.deref.ensures.value) ∙ c.in-Some.is) c.index-2.ensures in
-    let disk = applied.disk_here layout vs journal c.args.end c.in-Some.place c.index.result.now true c.self.invariant.tied here (sym c.is_on_disk.ensures ∙ c.if-not-is_on_disk.false) in
-    let full = applied.full_here layout vs journal c.args.end c.in-Some.place c.index-2.result.now true c.self.invariant.tied again (sym c.is_full.ensures ∙ c.if-is_full.true) in
+    let disk = applied.disk_here layout vs journal c.args.end c.in-Some.place c.index.result.now true c.self.invariant.kept'.tied here (sym c.is_on_disk.ensures ∙ c.if-not-is_on_disk.false) in
+    let full = applied.full_here layout vs journal c.args.end c.in-Some.place c.index-2.result.now true c.self.invariant.kept'.tied again (sym c.is_full.ensures ∙ c.if-is_full.true) in
     (ap (λ (v : ClusterView). stop v.layout v.journal (Events.Want c.args.actor c.args.end)) (sym c.self.view_is) ∙ want_stopped layout journal c.args.actor c.args.end disk full, refl)
 
-pub greatest_stamp-requires-clause-early : goal.greatest_stamp-requires-clause-early
-greatest_stamp-requires-clause-early c = subst IsEarly (sym c.room.ensures.entries) c.self.invariant.tied.early
+pub want-requires-clause-floor : goal.want-requires-clause-floor
+want-requires-clause-floor c = let fits = indexed_stamp c.self.inside.settings c.self.inside.faults.items (map kept c.self.inside.ends.items) c.self.inside.interfaces.items c.self.inside.swaps.items c.self.inside.index.read c.self.invariant in omega (arith, fits, c.greatest_stamp.ensures)
+
+pub log-requires-clause-counts : goal.log-requires-clause-counts
+log-requires-clause-counts c = indexed_counts c.self.inside.settings c.self.inside.faults.items (map kept c.self.inside.ends.items) c.self.inside.interfaces.items c.self.inside.swaps.items c.self.inside.index.read c.self.invariant
 
 pub want-requires-clause-place : goal.want-requires-clause-place
 want-requires-clause-place c =
     let vs = c.self.inside.ends.items in
-    let journal = c.self.inside.journal.entries in
+    let journal = journal_by (map kept vs) c.self.inside.interfaces.items in
     let layout = layout_in c.self.inside.settings c.self.inside.faults.items (map kept vs) in
     let here = applied.found_here vs c.args.end c.in-Some.place c.index.result.now (sym (c.place_of.ensures ∙ ap (position (is_of c.args.end)) c.deref.ensures.value) ∙ c.in-Some.is) c.index.ensures in
     let now = applied.found_here vs c.args.end c.in-Some.place c.index_mut.result.now (sym (c.place_of.ensures ∙ ap (position (is_of c.args.end)) c.deref.ensures.value) ∙ c.in-Some.is) c.index_mut.ensures.value in
-    let disk = applied.disk_here layout vs journal c.args.end c.in-Some.place c.index.result.now true c.self.invariant.tied here (sym c.is_on_disk.ensures ∙ c.if-not-is_on_disk.false) in
-    applied.disk_there layout vs journal c.args.end c.in-Some.place c.index_mut.result.now true c.self.invariant.tied now disk
+    let disk = applied.disk_here layout vs journal c.args.end c.in-Some.place c.index.result.now true c.self.invariant.kept'.tied here (sym c.is_on_disk.ensures ∙ c.if-not-is_on_disk.false) in
+    applied.disk_there layout vs journal c.args.end c.in-Some.place c.index_mut.result.now true c.self.invariant.kept'.tied now disk
 
 pub want-requires-clause-last : goal.want-requires-clause-last
 want-requires-clause-last c =
     let vs = c.self.inside.ends.items in
-    let journal = c.self.inside.journal.entries in
+    let journal = journal_by (map kept vs) c.self.inside.interfaces.items in
     let layout = layout_in c.self.inside.settings c.self.inside.faults.items (map kept vs) in
     let now = applied.found_here vs c.args.end c.in-Some.place c.index_mut.result.now (sym (c.place_of.ensures ∙ ap (position (is_of c.args.end)) c.deref.ensures.value) ∙ c.in-Some.is) c.index_mut.ensures.value in
-    let late = applied.last_here layout vs journal c.args.end c.in-Some.place c.index_mut.result.now c.self.invariant.tied now in
-    let same : c.greatest_stamp.result ≡ greatest_stamp journal = c.greatest_stamp.ensures.value ∙ ap greatest_stamp c.room.ensures.entries in
-    omega (arith, late, same, c.greatest_stamp.ensures.more)
+    let late = applied.last_here layout vs journal c.args.end c.in-Some.place c.index_mut.result.now c.self.invariant.kept'.tied now in
+    let same : c.greatest_stamp.result ≡ greatest_stamp journal = c.greatest_stamp.ensures ∙ c.self.invariant.index'.greatest in
+    let fits = indexed_stamp c.self.inside.settings c.self.inside.faults.items (map kept vs) c.self.inside.interfaces.items c.self.inside.swaps.items c.self.inside.index.read c.self.invariant in
+    omega (arith, late, c.greatest_stamp.ensures, c.self.invariant.index'.greatest, fits)
 
 pub log-requires-clause-packet : goal.log-requires-clause-packet
 log-requires-clause-packet c = ap (λ (e : Event). emitted_in c.in-Ok.entry.stamp e c.in-Ok.entry.outcome) (sym c.in-Ok.ensures.event)
@@ -73,54 +77,56 @@ log-requires-clause-packet c = ap (λ (e : Event). emitted_in c.in-Ok.entry.stam
 pub log-requires-clause-nodes : goal.log-requires-clause-nodes
 log-requires-clause-nodes c = subst AreNodes (sym c.in-Ok.ensures.event) tt
 
-pub invariant_of-self-in-Ok : goal.invariant_of-self-in-Ok
-invariant_of-self-in-Ok c =
+pub invariant_of-self : goal.invariant_of-self
+invariant_of-self c =
     let vs = c.self.inside.ends.items in
-    let journal = c.self.inside.journal.entries in
+    let journal = journal_by (map kept vs) c.self.inside.interfaces.items in
     let layout = layout_in c.self.inside.settings c.self.inside.faults.items (map kept vs) in
     let range : is_in_range layout (Events.Want c.args.actor c.args.end) ≡ true = ap (λ (v : ClusterView). is_in_range v.layout (Events.Want c.args.actor c.args.end)) c.self.view_is ∙ c.requires in
     let here = applied.found_here vs c.args.end c.in-Some.place c.index.result.now (sym (c.place_of.ensures ∙ ap (position (is_of c.args.end)) c.deref.ensures.value) ∙ c.in-Some.is) c.index.ensures in
     let again = applied.found_here vs c.args.end c.in-Some.place c.index-2.result.now (sym (c.place_of.ensures ∙ ap (position (is_of c.args.end)) c.deref.ensures.value) ∙ c.in-Some.is) c.index-2.ensures in
     let now = applied.found_here vs c.args.end c.in-Some.place c.index_mut.result.now (sym (c.place_of.ensures ∙ ap (position (is_of c.args.end)) c.deref.ensures.value) ∙ c.in-Some.is) c.index_mut.ensures.value in
-    let disk = applied.disk_here layout vs journal c.args.end c.in-Some.place c.index.result.now true c.self.invariant.tied here (sym c.is_on_disk.ensures ∙ c.if-not-is_on_disk.false) in
+    let disk = applied.disk_here layout vs journal c.args.end c.in-Some.place c.index.result.now true c.self.invariant.kept'.tied here (sym c.is_on_disk.ensures ∙ c.if-not-is_on_disk.false) in
     let room = ap (λ w. nat_le c.self.inside.settings.log (length w.log)) (applied.same_here vs c.args.end c.in-Some.place c.index-2.result.now c.index_mut.result.now again now) ∙ sym c.is_full.ensures ∙ c.if-is_full.false in
     let next =
-    applied.want_next c.self.inside.settings c.self.inside.faults.items vs journal c.args.actor c.args.end c.in-Some.place c.index_mut.result.now c.want.new.self c.in-Ok.entry c.log.new.self.entries c.greatest_stamp.result
-    c.self.invariant.tied range now disk room c.in-Ok.ensures.event c.in-Ok.ensures.outcome c.in-Ok.ensures.stamp (c.greatest_stamp.ensures.value ∙ ap greatest_stamp c.room.ensures.entries) c.in-Ok.ensures.settings c.in-Ok.ensures.logged
-    (c.log.ensures ∙ ap (λ (xs : List Entry). xs ++ c.in-Ok.entry ∷ []) c.room.ensures.entries) in
-    applied.kept_unpaged c.self.inside.settings c.self.inside.faults.items (map kept vs) journal _ c.in-Ok.entry _ c.log.new.self.entries c.self.inside.interfaces.items c.self.inside.swaps.items next refl refl c.self.invariant
+    applied.want_next c.self.inside.settings c.self.inside.faults.items vs journal c.args.actor c.args.end c.in-Some.place c.index_mut.result.now c.want.new.self c.in-Ok.entry (journal ++ c.in-Ok.entry ∷ []) c.greatest_stamp.result
+    c.self.invariant.kept'.tied range now disk room c.in-Ok.ensures.event c.in-Ok.ensures.outcome c.in-Ok.ensures.stamp (c.greatest_stamp.ensures ∙ c.self.invariant.index'.greatest) c.in-Ok.ensures.settings c.in-Ok.ensures.logged refl in
+    indexed c.self.inside.settings c.self.inside.faults.items (map kept (slice_set vs c.in-Some.place c.want.new.self)) (journal ++ c.in-Ok.entry ∷ []) c.self.inside.interfaces.items c.self.inside.swaps.items c.log.new.self.read
+    (applied.kept_unpaged c.self.inside.settings c.self.inside.faults.items (map kept vs) journal _ c.in-Ok.entry _ (journal ++ c.in-Ok.entry ∷ []) c.self.inside.interfaces.items c.self.inside.swaps.items next refl refl c.self.invariant.kept')
+    (c.log.ensures journal c.self.invariant.index')
 
 pub returns-in-Ok : goal.returns-in-Ok
 returns-in-Ok c =
     let vs = c.self.inside.ends.items in
-    let journal = c.self.inside.journal.entries in
+    let journal = journal_by (map kept vs) c.self.inside.interfaces.items in
     let layout = layout_in c.self.inside.settings c.self.inside.faults.items (map kept vs) in
     let range : is_in_range layout (Events.Want c.args.actor c.args.end) ≡ true = ap (λ (v : ClusterView). is_in_range v.layout (Events.Want c.args.actor c.args.end)) c.self.view_is ∙ c.requires in
     let here = applied.found_here vs c.args.end c.in-Some.place c.index.result.now (sym (c.place_of.ensures ∙ ap (position (is_of c.args.end)) c.deref.ensures.value) ∙ c.in-Some.is) c.index.ensures in
     let again = applied.found_here vs c.args.end c.in-Some.place c.index-2.result.now (sym (c.place_of.ensures ∙ ap (position (is_of c.args.end)) c.deref.ensures.value) ∙ c.in-Some.is) c.index-2.ensures in
     let now = applied.found_here vs c.args.end c.in-Some.place c.index_mut.result.now (sym (c.place_of.ensures ∙ ap (position (is_of c.args.end)) c.deref.ensures.value) ∙ c.in-Some.is) c.index_mut.ensures.value in
-    let disk = applied.disk_here layout vs journal c.args.end c.in-Some.place c.index.result.now true c.self.invariant.tied here (sym c.is_on_disk.ensures ∙ c.if-not-is_on_disk.false) in
+    let disk = applied.disk_here layout vs journal c.args.end c.in-Some.place c.index.result.now true c.self.invariant.kept'.tied here (sym c.is_on_disk.ensures ∙ c.if-not-is_on_disk.false) in
     let room = ap (λ w. nat_le c.self.inside.settings.log (length w.log)) (applied.same_here vs c.args.end c.in-Some.place c.index-2.result.now c.index_mut.result.now again now) ∙ sym c.is_full.ensures ∙ c.if-is_full.false in
     let next =
-    applied.want_next c.self.inside.settings c.self.inside.faults.items vs journal c.args.actor c.args.end c.in-Some.place c.index_mut.result.now c.want.new.self c.in-Ok.entry c.log.new.self.entries c.greatest_stamp.result
-    c.self.invariant.tied range now disk room c.in-Ok.ensures.event c.in-Ok.ensures.outcome c.in-Ok.ensures.stamp (c.greatest_stamp.ensures.value ∙ ap greatest_stamp c.room.ensures.entries) c.in-Ok.ensures.settings c.in-Ok.ensures.logged
-    (c.log.ensures ∙ ap (λ (xs : List Entry). xs ++ c.in-Ok.entry ∷ []) c.room.ensures.entries) in
-    applied.seen_next c.self.inside.settings c.self.inside.faults.items (map kept vs) journal _ c.in-Ok.entry _ c.log.new.self.entries c.args.self.now c.self.view_is next
+    applied.want_next c.self.inside.settings c.self.inside.faults.items vs journal c.args.actor c.args.end c.in-Some.place c.index_mut.result.now c.want.new.self c.in-Ok.entry (journal ++ c.in-Ok.entry ∷ []) c.greatest_stamp.result
+    c.self.invariant.kept'.tied range now disk room c.in-Ok.ensures.event c.in-Ok.ensures.outcome c.in-Ok.ensures.stamp (c.greatest_stamp.ensures ∙ c.self.invariant.index'.greatest) c.in-Ok.ensures.settings c.in-Ok.ensures.logged refl in
+    applied_by c.self.inside.settings c.self.inside.faults.items (map kept (slice_set vs c.in-Some.place c.want.new.self)) (journal ++ c.in-Ok.entry ∷ []) c.self.inside.interfaces.items c.self.inside.swaps.items c.args.self.now _ (Ok c.in-Ok.entry)
+    (applied.kept_unpaged c.self.inside.settings c.self.inside.faults.items (map kept vs) journal _ c.in-Ok.entry _ (journal ++ c.in-Ok.entry ∷ []) c.self.inside.interfaces.items c.self.inside.swaps.items next refl refl c.self.invariant.kept')
+    (applied.seen_next c.self.inside.settings c.self.inside.faults.items (map kept vs) journal _ c.in-Ok.entry _ (journal ++ c.in-Ok.entry ∷ []) c.args.self.now c.self.view_is next)
 
 pub invariant_of-self-in-Err : goal.invariant_of-self-in-Err
 invariant_of-self-in-Err c =
     let vs = c.self.inside.ends.items in
-    let journal = c.self.inside.journal.entries in
+    let journal = journal_by (map kept vs) c.self.inside.interfaces.items in
     let layout = layout_in c.self.inside.settings c.self.inside.faults.items (map kept vs) in
     let now = applied.found_here vs c.args.end c.in-Some.place c.index_mut.result.now (sym (c.place_of.ensures ∙ ap (position (is_of c.args.end)) c.deref.ensures.value) ∙ c.in-Some.is) c.index_mut.ensures.value in
     let same = kept_same vs c.in-Some.place c.index_mut.result.now c.want.new.self now.at (λ i. record { settings = c.in-Err.ensures.settings i; log = c.in-Err.ensures.err i }) in
-    applied.kept_still c.self.inside.settings c.self.inside.faults.items (map kept vs) _ journal c.room.new.self.entries c.self.inside.interfaces.items c.self.inside.swaps.items same c.room.ensures.entries c.self.invariant
+    indexed_still c.self.inside.settings c.self.inside.faults.items (map kept vs) _ c.self.inside.interfaces.items c.self.inside.swaps.items c.self.inside.index.read same c.self.invariant
 
 pub returns-in-Err : goal.returns-in-Err
 returns-in-Err c =
     let vs = c.self.inside.ends.items in
-    let journal = c.self.inside.journal.entries in
+    let journal = journal_by (map kept vs) c.self.inside.interfaces.items in
     let layout = layout_in c.self.inside.settings c.self.inside.faults.items (map kept vs) in
     let now = applied.found_here vs c.args.end c.in-Some.place c.index_mut.result.now (sym (c.place_of.ensures ∙ ap (position (is_of c.args.end)) c.deref.ensures.value) ∙ c.in-Some.is) c.index_mut.ensures.value in
     let same = kept_same vs c.in-Some.place c.index_mut.result.now c.want.new.self now.at (λ i. record { settings = c.in-Err.ensures.settings i; log = c.in-Err.ensures.err i }) in
-    applied.seen_same c.self.inside.settings c.self.inside.faults.items (map kept vs) _ journal c.room.new.self.entries c.args.self.now same c.room.ensures.entries c.self.view_is
+    seen_still c.self.inside.settings c.self.inside.faults.items (map kept vs) _ c.self.inside.interfaces.items c.args.self.now same c.self.view_is

@@ -1,19 +1,18 @@
 use Rattle.std.specs.Prelude.{IfSome, Err}
-use Rattle.std.proofs.Common.{◌<◌, ◌++◌, ◌∷◌, [], List, Option, sym, ap, ◌∙◌, subst}
+use Rattle.std.proofs.Common.{◌<◌, Option, sym, ap, ◌∙◌, subst, arith}
 use Rattle.am_names.specs.declared.NodeId.{NodeId}
-use Rattle.am_office.specs.declared.Entry.{Entry}
 use Rattle.am_office.specs.declared.Place.TheVariants.{Host}
 use Rattle.am_model.specs.Endpoint.{State, fresh}
 use Rattle.am_iface.specs.View.{last_stamp, own}
-use Rattle.am_journal.specs.View.{IsEarly, greatest_stamp}
+use Rattle.am_journal.specs.View.{CanCount, Readings}
 use Rattle.am_machine.specs.declared.settings.ApplyFault.{ApplyFault}
 use Rattle.am_machine.specs.Turned.{TurnsAlone}
 use Rattle.am_machine.specs.Ways.{GoesTo}
 use Rattle.am_machine.proofs.Turning as turning
 use Rattle.am_machine.proofs.turned.turn_alone.Goals as goal
 
-pub greatest_stamp-requires-clause-early : goal.greatest_stamp-requires-clause-early
-greatest_stamp-requires-clause-early c = subst IsEarly (sym c.room_to.ensures.entries) c.requires.can.early
+pub log-requires-clause-counts : goal.log-requires-clause-counts
+log-requires-clause-counts c = subst CanCount (sym c.room_to.ensures.read) c.requires.can.counts
 
 pub log-requires-clause-room : goal.log-requires-clause-room
 log-requires-clause-room c =
@@ -29,24 +28,30 @@ log-requires-clause-room c =
     (turning.ok_then c.room_to.result _ (sym c.is_err.ensures.value ∙ c.if-is_err.false) c.room_to.ensures.link))
     c.in-Ok.ensures.out c.in-Ok.ensures.event (c.in-Ok.ensures.outcome s)
 
-pub returns-in-Ok : goal.returns-in-Ok
-returns-in-Ok c s =
+pub returns-in-Ok-clause-turns : goal.returns-in-Ok-clause-turns
+returns-in-Ok-clause-turns c past s is =
     let i = c.args.interface.now in
     let w = c.args.work.now in
-    let past = c.args.journal.now.entries in
     let x = c.in-Ok.turned.entry in
-    turning.turned_ok i c.turn_alone.new.self past c.log.new.self.entries s w c.turn_alone.result c.in-Ok.turned c.in-Ok.is
+    let last = c.requires.can.last in
+    let packet = c.requires.can.packet in
+    turning.turned_ok i c.turn_alone.new.self past s w c.turn_alone.result c.in-Ok.turned c.in-Ok.is
     (λ k. (c.turn_alone.ensures.disabled s k).1) (λ p. (c.turn_alone.ensures.full s p).1)
     (turning.logged_entry i past s w x c.greatest_stamp.result (last_stamp i.log) c.in-Ok.ensures.event (c.in-Ok.ensures.outcome s) c.in-Ok.ensures.stamp
-    (c.greatest_stamp.ensures.value ∙ ap greatest_stamp c.room_to.ensures.entries) c.requires.can.last c.requires.can.packet)
+    (c.greatest_stamp.ensures ∙ ap (λ (r : Readings). r.greatest) c.room_to.ensures.read ∙ is.greatest)
+    (omega (arith, last, is.greatest)) (omega (arith, packet, is.greatest)))
     c.in-Ok.ensures.logged
-    (c.log.ensures ∙ ap (λ (xs : List Entry). xs ++ x ∷ []) c.room_to.ensures.entries)
 
-pub returns-in-Err : goal.returns-in-Err
-returns-in-Err c s =
+pub returns-in-Ok-clause-index : goal.returns-in-Ok-clause-index
+returns-in-Ok-clause-index c past is = c.log.ensures past (turning.index_same past c.args.index.now.read c.room_to.new.self.read c.room_to.ensures.read is)
+
+pub returns-in-Err-clause-turns : goal.returns-in-Err-clause-turns
+returns-in-Err-clause-turns c past s is =
     let i = c.args.interface.now in
     let w = c.args.work.now in
-    let past = c.args.journal.now.entries in
-    subst (λ (f : ApplyFault). TurnsAlone i c.turn_alone.new.self past c.room_to.new.self.entries s w (Err f)) (sym c.refused.ensures)
-    (turning.turned_err i c.turn_alone.new.self past c.room_to.new.self.entries s w c.turn_alone.result c.in-Err.fault c.in-Err.is
-    (λ k. (c.turn_alone.ensures.disabled s k).0) (λ p. (c.turn_alone.ensures.full s p).0) c.in-Err.ensures.err c.room_to.ensures.entries)
+    subst (λ (f : ApplyFault). TurnsAlone i c.turn_alone.new.self past s w (Err f)) (sym c.refused.ensures)
+    (turning.turned_err i c.turn_alone.new.self past s w c.turn_alone.result c.in-Err.fault c.in-Err.is
+    (λ k. (c.turn_alone.ensures.disabled s k).0) (λ p. (c.turn_alone.ensures.full s p).0) c.in-Err.ensures.err)
+
+pub returns-in-Err-clause-index : goal.returns-in-Err-clause-index
+returns-in-Err-clause-index c past is = turning.index_same past c.args.index.now.read c.room_to.new.self.read c.room_to.ensures.read is

@@ -1,11 +1,10 @@
 use Rattle.std.specs.Prelude.{Err, Ok, max}
-use Rattle.std.proofs.Common.{◌≡◌, ◌+◌, ◌++◌, ◌∷◌, [], ℕ, List, sym, ap, ◌∙◌, subst, arith}
-use Rattle.am_office.specs.declared.Entry.{Entry}
+use Rattle.std.proofs.Common.{◌≡◌, ◌+◌, ℕ, sym, ap, ◌∙◌, subst, arith}
 use Rattle.am_endpoint.specs.View.{EndpointView, state_after, state_by}
 use Rattle.am_endpoint.specs.View as endpoints
 use Rattle.am_iface.specs.View.{last_stamp, own}
 use Rattle.am_iface.specs.Turns.{stamp_in}
-use Rattle.am_journal.specs.View.{IsEarly, greatest_stamp}
+use Rattle.am_journal.specs.View.{CanCount, Readings}
 use Rattle.am_machine.specs.declared.settings.ApplyFault.{ApplyFault}
 use Rattle.am_machine.specs.Ends.{EndLog, state_in}
 use Rattle.am_machine.specs.Turned.{CanTurnWith, TurnsWith}
@@ -13,32 +12,32 @@ use Rattle.am_machine.specs.Ways.{GoesTo}
 use Rattle.am_machine.proofs.Turning as turning
 use Rattle.am_machine.proofs.turned.turn_with.Goals as goal
 
-pub greatest_stamp-requires-clause-early : goal.greatest_stamp-requires-clause-early
-greatest_stamp-requires-clause-early c = subst IsEarly (sym c.room_to.ensures.entries) c.requires.can.turn.early
+pub log-requires-clause-counts : goal.log-requires-clause-counts
+log-requires-clause-counts c = subst CanCount (sym c.room_to.ensures.read) c.requires.can.turn.counts
 
 pub turn_with-requires-clause-needs : goal.turn_with-requires-clause-needs
-turn_with-requires-clause-needs c = (subst (λ (d : EndLog). CanTurnWith c.args.interface.now d c.args.journal.now.entries c.args.work.now) (sym c.make_room.ensures.same) c.requires.can).needed
+turn_with-requires-clause-needs c = (subst (λ (d : EndLog). CanTurnWith c.args.interface.now d c.args.index.now.read c.args.work.now) (sym c.make_room.ensures.same) c.requires.can).needed
 
 pub turn_with-requires-clause-home : goal.turn_with-requires-clause-home
-turn_with-requires-clause-home c = (subst (λ (d : EndLog). CanTurnWith c.args.interface.now d c.args.journal.now.entries c.args.work.now) (sym c.make_room.ensures.same) c.requires.can).home
+turn_with-requires-clause-home c = (subst (λ (d : EndLog). CanTurnWith c.args.interface.now d c.args.index.now.read c.args.work.now) (sym c.make_room.ensures.same) c.requires.can).home
 
 pub turn_with-requires-clause-network : goal.turn_with-requires-clause-network
-turn_with-requires-clause-network c = (subst (λ (d : EndLog). CanTurnWith c.args.interface.now d c.args.journal.now.entries c.args.work.now) (sym c.make_room.ensures.same) c.requires.can).network
+turn_with-requires-clause-network c = (subst (λ (d : EndLog). CanTurnWith c.args.interface.now d c.args.index.now.read c.args.work.now) (sym c.make_room.ensures.same) c.requires.can).network
 
 pub turn_with-requires-clause-bounces : goal.turn_with-requires-clause-bounces
-turn_with-requires-clause-bounces c = (subst (λ (d : EndLog). CanTurnWith c.args.interface.now d c.args.journal.now.entries c.args.work.now) (sym c.make_room.ensures.same) c.requires.can).bounces
+turn_with-requires-clause-bounces c = (subst (λ (d : EndLog). CanTurnWith c.args.interface.now d c.args.index.now.read c.args.work.now) (sym c.make_room.ensures.same) c.requires.can).bounces
 
 pub turn_with-requires-clause-known : goal.turn_with-requires-clause-known
-turn_with-requires-clause-known c = (subst (λ (d : EndLog). CanTurnWith c.args.interface.now d c.args.journal.now.entries c.args.work.now) (sym c.make_room.ensures.same) c.requires.can).known
+turn_with-requires-clause-known c = (subst (λ (d : EndLog). CanTurnWith c.args.interface.now d c.args.index.now.read c.args.work.now) (sym c.make_room.ensures.same) c.requires.can).known
 
 pub turn_with-requires-clause-flies : goal.turn_with-requires-clause-flies
-turn_with-requires-clause-flies c = (subst (λ (d : EndLog). CanTurnWith c.args.interface.now d c.args.journal.now.entries c.args.work.now) (sym c.make_room.ensures.same) c.requires.can).flies
+turn_with-requires-clause-flies c = (subst (λ (d : EndLog). CanTurnWith c.args.interface.now d c.args.index.now.read c.args.work.now) (sym c.make_room.ensures.same) c.requires.can).flies
 
 pub turn_with-requires-clause-last_there : goal.turn_with-requires-clause-last_there
 turn_with-requires-clause-last_there c =
-    let late = (subst (λ (d : EndLog). CanTurnWith c.args.interface.now d c.args.journal.now.entries c.args.work.now) (sym c.make_room.ensures.same) c.requires.can).last in
-    let at = c.greatest_stamp.ensures.value ∙ ap greatest_stamp c.room_to.ensures.entries in
-    let more = c.greatest_stamp.ensures.more in
+    let late = (subst (λ (d : EndLog). CanTurnWith c.args.interface.now d c.args.index.now.read c.args.work.now) (sym c.make_room.ensures.same) c.requires.can).last in
+    let at = c.greatest_stamp.ensures ∙ ap (λ (r : Readings). r.greatest) c.room_to.ensures.read in
+    let more = c.requires.can.turn.stamp in
     omega (arith, late, at, more)
 
 pub log-requires-clause-room : goal.log-requires-clause-room
@@ -58,41 +57,46 @@ pub log-requires-clause-nodes : goal.log-requires-clause-nodes
 log-requires-clause-nodes c =
     turning.work_nodes c.args.interface.now c.args.work.now c.in-Ok.turned.entry.event c.in-Ok.ensures.event c.requires.can.turn.fits c.requires.can.turn.nodes.0 c.requires.can.turn.nodes.1
 
-pub returns-in-Ok : goal.returns-in-Ok
-returns-in-Ok c =
+pub returns-in-Ok-clause-turns : goal.returns-in-Ok-clause-turns
+returns-in-Ok-clause-turns c past is =
     let i = c.args.interface.now in
     let w = c.args.work.now in
-    let past = c.args.journal.now.entries in
     let x = c.in-Ok.turned.entry in
     let e = c.args.endpoint.now in
     let one = c.make_room.new.endpoint in
     let f = c.turn_with.new.endpoint in
-    let can = subst (λ (d : EndLog). CanTurnWith i d past w) (sym c.make_room.ensures.same) c.requires.can in
-    let at = c.greatest_stamp.ensures.value ∙ ap greatest_stamp c.room_to.ensures.entries in
+    let can = subst (λ (d : EndLog). CanTurnWith i d c.args.index.now.read w) (sym c.make_room.ensures.same) c.requires.can in
+    let at = c.greatest_stamp.ensures ∙ ap (λ (r : Readings). r.greatest) c.room_to.ensures.read ∙ is.greatest in
     let late = can.last in
-    let floor : max c.greatest_stamp.result (endpoints.last_stamp one.log) ≡ c.greatest_stamp.result = turning.max_floor c.greatest_stamp.result (endpoints.last_stamp one.log) (omega (arith, late, at)) in
-    turning.turns_still i c.turn_with.new.self e one f past c.log.new.self.entries w (Ok x) c.make_room.ensures.same
-    (turning.turned_with_ok i c.turn_with.new.self one f past c.log.new.self.entries w c.turn_with.result c.in-Ok.turned c.in-Ok.is
+    let last = can.turn.last in
+    let packet = can.turn.packet in
+    let floor : max c.greatest_stamp.result (endpoints.last_stamp one.log) ≡ c.greatest_stamp.result = turning.max_floor c.greatest_stamp.result (endpoints.last_stamp one.log) (omega (arith, late, at, is.greatest)) in
+    turning.turns_still i c.turn_with.new.self e one f past w (Ok x) c.make_room.ensures.same
+    (turning.turned_with_ok i c.turn_with.new.self one f past w c.turn_with.result c.in-Ok.turned c.in-Ok.is
     (turning.ok_then c.make_room.result _ (sym c.is_err.ensures.value ∙ c.if-is_err.false) c.make_room.ensures.bounded)
     (λ k. (c.turn_with.ensures.disabled k).1) (λ p. (c.turn_with.ensures.full p).1)
     (turning.logged_entry i past (state_after one) w x c.greatest_stamp.result (last_stamp i.log) c.in-Ok.ensures.event c.in-Ok.ensures.outcome
     (c.in-Ok.ensures.stamp ∙ ap (λ (n : ℕ). 1 + max (max n (last_stamp i.log)) (stamp_in w)) floor)
-    at can.turn.last can.turn.packet)
+    at (omega (arith, last, is.greatest)) (omega (arith, packet, is.greatest)))
     c.in-Ok.ensures.logged
-    (c.log.ensures ∙ ap (λ (xs : List Entry). xs ++ x ∷ []) c.room_to.ensures.entries)
     c.in-Ok.ensures.settings_there c.in-Ok.ensures.logged_there)
 
-pub returns-in-Err : goal.returns-in-Err
-returns-in-Err c =
+pub returns-in-Ok-clause-index : goal.returns-in-Ok-clause-index
+returns-in-Ok-clause-index c past is = c.log.ensures past (turning.index_same past c.args.index.now.read c.room_to.new.self.read c.room_to.ensures.read is)
+
+pub returns-in-Err-clause-turns : goal.returns-in-Err-clause-turns
+returns-in-Err-clause-turns c past is =
     let i = c.args.interface.now in
     let w = c.args.work.now in
-    let past = c.args.journal.now.entries in
     let e = c.args.endpoint.now in
     let one = c.make_room.new.endpoint in
     let f = c.turn_with.new.endpoint in
-    turning.turns_still i c.turn_with.new.self e one f past c.room_to.new.self.entries w (Err c.refused.result) c.make_room.ensures.same
-    (subst (λ (g : ApplyFault). TurnsWith i c.turn_with.new.self one f past c.room_to.new.self.entries w (Err g)) (sym c.refused.ensures)
-    (turning.turned_with_err i c.turn_with.new.self one f past c.room_to.new.self.entries w c.turn_with.result c.in-Err.fault c.in-Err.is
+    turning.turns_still i c.turn_with.new.self e one f past w (Err c.refused.result) c.make_room.ensures.same
+    (subst (λ (g : ApplyFault). TurnsWith i c.turn_with.new.self one f past w (Err g)) (sym c.refused.ensures)
+    (turning.turned_with_err i c.turn_with.new.self one f past w c.turn_with.result c.in-Err.fault c.in-Err.is
     (turning.ok_then c.make_room.result _ (sym c.is_err.ensures.value ∙ c.if-is_err.false) c.make_room.ensures.bounded)
-    (λ k. (c.turn_with.ensures.disabled k).0) (λ p. (c.turn_with.ensures.full p).0) c.in-Err.ensures.err c.room_to.ensures.entries
+    (λ k. (c.turn_with.ensures.disabled k).0) (λ p. (c.turn_with.ensures.full p).0) c.in-Err.ensures.err
     (λ k. record { settings = c.in-Err.ensures.settings_there k; log = c.in-Err.ensures.err_there k })))
+
+pub returns-in-Err-clause-index : goal.returns-in-Err-clause-index
+returns-in-Err-clause-index c past is = turning.index_same past c.args.index.now.read c.room_to.new.self.read c.room_to.ensures.read is

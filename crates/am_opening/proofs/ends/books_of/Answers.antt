@@ -16,7 +16,7 @@ pub loop-end-preserved : goal.loop-end-preserved
 loop-end-preserved c =
     let so = subst (λ (rest : List EndpointView). AreBooked c.args.ends.items rest c.loop-end.books.items) c.in-Some.ensures.items c.loop-end.invariant in
     subst (AreBooked c.args.ends.items c.pop.new.self.items) (sym c.in_ok-push.ensures.items)
-    (booked_more c.args.ends.items c.pop.new.self.items c.in-Some.end c.loop-end.books.items c.book_of.result so c.book_of.ensures)
+    (booked_more c.args.ends.items c.pop.new.self.items c.in-Some.end c.loop-end.books.items c.in_ok-book.book so c.in_ok-book.ensures)
 
 pub returns : goal.returns
 returns c =

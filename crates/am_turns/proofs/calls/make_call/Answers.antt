@@ -1,6 +1,27 @@
-use Rattle.am_endpoint.specs.View.{state_after}
+use Rattle.std.proofs.Common.{◌≡◌, ◌+◌, ◌<◌, ◌^◌, false, max, subst, sym}
+use Rattle.am_books.specs.Books.{IsBook}
+use Rattle.am_endpoint.specs.View.{EndpointView, last_stamp, state_after}
+use Rattle.am_model.specs.Endpoint.{is_on_disk}
+use Rattle.am_turns.specs.Turns.{IsCall}
 use Rattle.am_turns.proofs.Books.{call_keeps, called_book}
 use Rattle.am_turns.proofs.calls.make_call.Goals as goal
 
 pub invariant_of-book : goal.invariant_of-book
-invariant_of-book c = record { kept = called_book c.args.book.now.end c.call.new.self c.call.result c.args.clock c.args.book.now.kept c.call.ensures.settings c.call.ensures.logged c.call.ensures.err c.call.ensures.full c.call.ensures.stamp (call_keeps (state_after c.args.book.now.end) c.call.result c.requires.here) }
+invariant_of-book c =
+    let e = c.deref_mut.result.now in let same = sym c.deref_mut.ensures.value in
+    record {
+      kept = called_book e c.call.new.self c.call.result c.args.clock (subst IsBook same c.args.book.now.kept) c.call.ensures.settings c.call.ensures.logged c.call.ensures.err c.call.ensures.full c.call.ensures.stamp
+          (call_keeps (state_after e) c.call.result (subst (λ (d : EndpointView). is_on_disk (state_after d).head.place ≡ false) same c.requires.here));
+    }
+
+pub returns-in-Ok-clause-found : goal.returns-in-Ok-clause-found
+returns-in-Ok-clause-found c =
+    let same = sym c.deref_mut.ensures.value in
+    subst (λ (d : EndpointView). IsCall c.args.thread c.args.call c.args.clock d.settings d.log c.in-Ok.entry) c.deref_mut.ensures.value
+    (record {
+      here = subst (λ (d : EndpointView). is_on_disk (state_after d).head.place ≡ false) same c.requires.here;
+      event = c.in-Ok.ensures.event;
+      outcome = c.in-Ok.ensures.outcome;
+      stamped = c.in-Ok.ensures.stamp;
+      low = subst (λ (d : EndpointView). max c.args.clock (last_stamp d.log) < 2 ^ 63) same c.requires.low;
+    })

@@ -1,0 +1,14 @@
+pub mod Applying
+pub mod Calling
+pub mod Due
+pub mod Emitting
+pub mod Feeding
+pub mod Growing
+pub mod Leaving
+pub mod Looking
+pub mod Rooms
+pub mod Starting
+pub mod Stepping
+pub mod Indexing
+pub mod Nexts
+pub mod Lasting

@@ -1,0 +1,74 @@
+use Rattle.std.specs.Prelude.{Ok, Err}
+use Rattle.std.proofs.Common.{map, subst}
+use Rattle.am_follow.specs.Layout.{layout_of}
+use Rattle.am_follow.proofs.Lawful.{lawful_layout}
+use Rattle.am_machine.specs.View.{Applies}
+use Rattle.am_scripted.specs.Links.{released_in}
+use Rattle.am_scripted.specs.Scripted.{ScriptedView, cluster_of}
+use Rattle.am_scripted.specs.Threads.{scripted_in}
+use Rattle.am_scripted.proofs.Applying.{applies_to, of_layout, short_of, step_called, step_fed, step_of, step_parts}
+use Rattle.am_scripted.proofs.Growing.{goes_from, goes_to, made_small}
+use Rattle.am_scripted.proofs.scripted.ScriptedCluster.step.Goals as goal
+
+pub feed_entry-requires-clause-from : goal.feed_entry-requires-clause-from
+feed_entry-requires-clause-from c =
+    let s = c.self.inside.scenario.now in
+    let old = c.self.inside.cluster in
+    let step = step_of s old c.apply.new.self c.args.event c.in-Ok.entry c.self.invariant.parts c.laws-in-Ok.ensures.history c.in-Ok.ensures in
+    goes_from (layout_of s) old.journal c.in-Ok.entry (lawful_layout s c.self.invariant.parts.lawful) step.history
+
+pub feed_entry-requires-clause-to : goal.feed_entry-requires-clause-to
+feed_entry-requires-clause-to c =
+    let s = c.self.inside.scenario.now in
+    let old = c.self.inside.cluster in
+    let step = step_of s old c.apply.new.self c.args.event c.in-Ok.entry c.self.invariant.parts c.laws-in-Ok.ensures.history c.in-Ok.ensures in
+    goes_to (layout_of s) old.journal c.in-Ok.entry (lawful_layout s c.self.invariant.parts.lawful) step.history
+
+pub count_event-requires : goal.count_event-requires
+count_event-requires c =
+    let s = c.self.inside.scenario.now in
+    let old = c.self.inside.cluster in
+    made_small s old.journal (map scripted_in c.self.inside.threads.items) c.self.invariant.threads (short_of s old c.self.invariant.parts c.laws.ensures.history) c.self.invariant.parts.lawful.settings.log.1
+
+pub invariant_of-self-in-Ok : goal.invariant_of-self-in-Ok
+invariant_of-self-in-Ok c =
+    let s = c.self.inside.scenario.now in
+    let old = c.self.inside.cluster in
+    let new = c.apply.new.self in
+    let x = c.in-Ok.entry in
+    let step = step_of s old new c.args.event x c.self.invariant.parts c.laws-in-Ok.ensures.history c.in-Ok.ensures in
+    record {
+      parts = step_parts s old new c.args.event x c.self.invariant.parts step;
+      plan = c.self.invariant.plan;
+      fed =
+          step_fed s old new c.args.event x c.self.inside.plan (map released_in c.self.inside.links.all.items) (map released_in c.make_all_room.new.table.all.items) (map released_in c.feed_entry.new.links.all.items) c.self.invariant.parts step c.self.invariant.fed
+          c.make_all_room.ensures.same
+          c.self.invariant.plan
+          c.feed_entry.ensures.fed;
+      spared = c.feed_entry.ensures.spared;
+      threads = step_called s old new c.args.event x (map scripted_in c.self.inside.threads.items) (map scripted_in c.count_event.new.threads.items) step c.self.invariant.threads c.count_event.ensures;
+    }
+
+pub returns-in-Ok-clause-applies : goal.returns-in-Ok-clause-applies
+returns-in-Ok-clause-applies c =
+    let s = c.self.inside.scenario.now in
+    let old = c.self.inside.cluster in
+    let new = c.apply.new.self in
+    subst (λ (w : ScriptedView). Applies (cluster_of w) (of_layout s new) c.args.event (Ok c.in-Ok.entry)) c.self.view_is
+    (applies_to s old new c.args.event (Ok c.in-Ok.entry) c.self.invariant.parts.layout c.in-Ok.ensures)
+
+pub returns-in-Ok-clause-short : goal.returns-in-Ok-clause-short
+returns-in-Ok-clause-short c =
+    let s = c.self.inside.scenario.now in
+    let old = c.self.inside.cluster in
+    let new = c.apply.new.self in
+    let step = step_of s old new c.args.event c.in-Ok.entry c.self.invariant.parts c.laws-in-Ok.ensures.history c.in-Ok.ensures in
+    short_of s new (step_parts s old new c.args.event c.in-Ok.entry c.self.invariant.parts step) c.laws-in-Ok.ensures.history
+
+pub returns-in-Err-clause-applies : goal.returns-in-Err-clause-applies
+returns-in-Err-clause-applies c =
+    let s = c.self.inside.scenario.now in
+    let old = c.self.inside.cluster in
+    let new = c.apply.new.self in
+    subst (λ (w : ScriptedView). Applies (cluster_of w) (of_layout s new) c.args.event (Err c.in-Err.fault)) c.self.view_is
+    (applies_to s old new c.args.event (Err c.in-Err.fault) c.self.invariant.parts.layout c.in-Err.ensures)

@@ -1,0 +1,64 @@
+-- A cluster that runs the scripts of a scenario, and what its parts say of its journal.
+use Rattle.std.specs.Prelude.{◌≡◌, ℕ, ◌+◌, ◌*◌, Option, Some, None, List, map}
+use Rattle.am_names.specs.declared.Packet.{Packet}
+use Rattle.am_office.specs.declared.Entry.{Entry}
+use Rattle.am_local.specs.Interface.{receiver_of}
+use Rattle.am_local.specs.Together.{from_of}
+use Rattle.am_plan.specs.declared.plan.PlanLine.{PlanLine}
+use Rattle.am_plan.specs.Shape.{fault_at, number_of}
+use Rattle.am_scenario_types.specs.declared.parts.Network.TheVariants.{Packet as Packets}
+use Rattle.am_scenario_types.specs.Lawful.{IsLawful}
+use Rattle.am_scenario_types.specs.Lists.{ScenarioLists}
+use Rattle.am_follow.specs.Layout.{layout_of}
+use Rattle.am_run_laws.specs.Drained.{HasShortLogs}
+use Rattle.am_drain_loop.specs.declared.DrainFault.{DrainFault}
+use Rattle.am_drain_loop.specs.declared.DrainFault.TheVariants as Drains
+use Rattle.am_machine.specs.View.{ClusterView}
+use Rattle.am_machine.specs.declared.settings.ApplyFault.{ApplyFault}
+use Rattle.am_machine.specs.declared.settings.ApplyFault.TheVariants as Applied
+use Rattle.am_scripted.specs.Links.{AreFed, IsSpared, Released, fed_at, released_in}
+use Rattle.am_scripted.specs.Threads.{scripted_in, scripted_of}
+use Rattle.am_scripted.specs.declared.scripted.ScriptedCluster.TheInside.{Inside}
+
+-- a scenario, and the journal that was made of it
+pub record ScriptedView : Type 0 where
+  pub scenario : ScenarioLists
+  pub journal : List Entry
+
+abbrev pub view_of : Inside → ScriptedView
+view_of m = record { scenario = m.scenario.now; journal = m.cluster.journal }
+
+-- its cluster, as callers of a cluster see it
+abbrev pub cluster_of : ScriptedView → ClusterView
+cluster_of v = record { layout = layout_of v.scenario; journal = v.journal }
+
+-- why a drain could not make an entry, by why the cluster could not
+abbrev pub as_fault : ApplyFault → DrainFault
+as_fault (Applied.NotEnabled condition) = Drains.NotEnabled condition
+as_fault (Applied.LogFull part) = Drains.LogFull part
+as_fault Applied.NoMemory = Drains.NoMemory
+
+-- how many entries the logs of a cluster hold together at most: those of 256 endpoints and 16 interfaces
+abbrev pub capacity_of : ScenarioLists → ℕ
+capacity_of s = 272 * s.log
+
+-- the links after one packet more, if there is one: its number is its place among those that were emitted on its link
+abbrev pub fed_by : List PlanLine → Option Packet → List Released → List Released
+fed_by plan None rs = rs
+fed_by plan (Some p) rs =
+    fed_at (16 * (from_of p).0 + (receiver_of p).0) (number_of p) (fault_at plan (from_of p) (receiver_of p) (number_of p)) (number_of p) rs
+
+-- the scenario is lawful and of the packet network, the cluster is that of the scenario with a history of it, and what is kept
+-- beside the cluster is what its journal says
+pub record AreParts (s : ScenarioLists) (cluster : ClusterView) : Type 0 where
+  pub lawful : IsLawful s
+  pub packet : s.network ≡ Packets
+  pub layout : cluster.layout ≡ layout_of s
+  pub fits : HasShortLogs s cluster.journal
+
+pub record IsScripted (m : Inside) : Type 0 where
+  pub parts : AreParts m.scenario.now m.cluster
+  pub plan : m.plan ≡ m.scenario.now.plan
+  pub fed : AreFed m.scenario.now.plan m.cluster.journal (map released_in m.links.all.items)
+  pub spared : IsSpared m.links
+  pub threads : map scripted_in m.threads.items ≡ map (scripted_of m.scenario.now m.cluster.journal) m.scenario.now.threads

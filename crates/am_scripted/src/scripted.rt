@@ -1,0 +1,312 @@
+// A cluster that runs the scripts of a scenario: the machine of a drain.
+ghost use Rattle.am_scripted.specs.Links.{AreFed, IsSpared, released_in};
+ghost use Rattle.am_machine.specs.View.{Applies};
+ghost use Rattle.am_model.specs.History.{IsHistory, is_in_range};
+ghost use Rattle.am_scripted.specs.Scripted.{AreParts, as_fault, capacity_of, cluster_of};
+ghost use Rattle.am_scripted.specs.Tries.{IsLastIfMade};
+ghost use Rattle.am_scripted.specs.Threads.{scripted_in, scripted_of};
+ghost use Rattle.am_drain.specs.Cut.{IsDrainedWithRoom};
+ghost use Rattle.am_drain_loop.specs.Stops.{IsDrainStopped};
+ghost use Rattle.am_follow.specs.Layout.{layout_of};
+ghost use Rattle.am_model.specs.PostOffice.{PostOffice};
+ghost use Rattle.am_scenario_types.specs.Lawful.{IsLawful};
+ghost use Rattle.am_scenario_types.specs.declared.parts.Network.TheVariants.{Packet};
+ghost use Rattle.am_scripts.specs.Follows.{is_thread};
+ghost use Rattle.am_scripts.specs.Scripts.{call_left};
+ghost use Rattle.std.specs.Prelude.{◌≡◌, ◌≤◌, ◌*◌, [], IfErr, IfOk, OnOk, length, map, true};
+
+use crate::emissions::{due_on, feed_entry};
+use crate::links::{LinkTable, make_all_room, no_links};
+use crate::looks::{has_bound, head_at, head_by, home, is_frame_held, mail_at, received_requests};
+use crate::plan_index::PlanIndex;
+use crate::threads::{ThreadScript, all_scripts, count_event, left_to, next_call};
+use crate::tries::is_last;
+use am_drain_loop::{DrainFault, EndHead, EndMail, LeftCall, Machine};
+use am_machine::{ApplyFault, Cluster};
+use am_model::Head;
+use am_names::{EndpointId, NodeId};
+use am_office::{Entry, Event, Journal, NoMemory};
+use am_scenario_types::{Scenario, ScriptCall};
+use core::mem::replace_with;
+use std::alloc::Global;
+use std::marker::Model;
+
+/// A cluster, the scenario that it runs, and what a drain asks of them beside what the cluster tells. Contracts see it as the
+/// scenario and the journal, which is a history of the scenario.
+#[derive(Drop)]
+pub struct ScriptedCluster<'a> {
+    scenario: &'a Scenario,
+    plan: PlanIndex<'a>,
+    cluster: Cluster,
+    /// What each link released.
+    links: LinkTable,
+    /// What each thread is still to call.
+    threads: Vec<ThreadScript>,
+}
+
+impl<'a> Model for ScriptedCluster<'a> {
+    ghost use Rattle.am_scripted.specs.Scripted.{ScriptedView};
+
+    ghost Value = { ScriptedView };
+
+    ghost use Rattle.am_scripted.specs.Scripted.{IsScripted, view_of};
+
+    ghost view = { view_of };
+
+    ghost invariant = { IsScripted };
+}
+
+impl<'a> ScriptedCluster<'a> {
+    /// The fresh cluster of a scenario of the packet network. `NoMemory` comes where there is none for its parts.
+    pub fn new(alloc: Global, scenario: &'a Scenario) -> Result<ScriptedCluster<'a>, NoMemory>
+        requires lawful { IsLawful scenario.now }
+        requires packet { scenario.now.network ≡ Packet }
+        ensures scenario { IfOk result (λ one. one.scenario ≡ scenario.now) }
+        ensures journal { IfOk result (λ one. one.journal ≡ []) }
+    {
+        let plan = plan_of(alloc, scenario)?;
+        let cluster = Cluster::new(alloc, scenario)?;
+        let links = no_links(alloc)?;
+        let threads = all_scripts(alloc, scenario)?;
+        Ok(ScriptedCluster {
+            scenario,
+            plan,
+            cluster,
+            links,
+            threads,
+        })
+    }
+
+    /// The entries in order, which obey the laws of the post office. `NoMemory` comes where there is none for a copy of them.
+    pub fn journal(&self, alloc: Global) -> Result<Journal, NoMemory>
+        ensures journal { IfOk result (λ journal. journal ≡ self.now.journal) }
+        ensures laws { IfOk result (λ journal. PostOffice (layout_of self.now.scenario) journal) }
+    {
+        self.cluster.journal(alloc)
+    }
+
+    /// Its scenario is lawful and of the packet network, and its journal is a history of the scenario.
+    pub fn laws(&self)
+        ensures lawful { IsLawful self.now.scenario }
+        ensures packet { self.now.scenario.network ≡ Packet }
+        ensures history { IsHistory (layout_of self.now.scenario) self.now.journal }
+    {
+        self.cluster.laws();
+    }
+
+    /// The scenario that it runs.
+    pub fn scenario(&self) -> &Scenario
+        ensures { result.now ≡ self.now.scenario }
+    {
+        self.scenario
+    }
+
+    /// The next call of a declared thread, if one is left.
+    pub fn next_call(&self, thread: u8) -> Option<ScriptCall>
+        requires { is_thread self.now.scenario thread ≡ true }
+        ensures { result ≡ call_left self.now.scenario self.now.journal thread }
+    {
+        next_call(&self.threads, thread)
+    }
+
+    /// Whether the entry of an event, where nothing keeps it from happening, is of a kind that is left to the end.
+    pub fn is_last(&self, event: Event) -> bool
+        requires { is_in_range (layout_of self.now.scenario) event ≡ true }
+        ensures { IsLastIfMade self.now.scenario self.now.journal event result }
+    {
+        is_last(&self.cluster, self.scenario, event)
+    }
+
+    /// Makes the entry of an event. A fault says what keeps it from happening, and changes nothing.
+    pub fn step(&mut self, event: Event) -> Result<Entry, ApplyFault>
+        requires { is_in_range (layout_of self.old.scenario) event ≡ true }
+        ensures scenario { self.new.scenario ≡ self.old.scenario }
+        ensures applies { Applies (cluster_of self.old) (cluster_of self.new) event result }
+        ensures short { OnOk result (length self.new.journal ≤ 272 * self.new.scenario.log) }
+    {
+        self.cluster.laws();
+        if make_all_room(&mut self.links).is_err() {
+            return Err(ApplyFault::NoMemory);
+        }
+        match self.cluster.apply(&event) {
+            Ok(entry) => {
+                self.cluster.laws();
+                feed_entry(&mut self.links, &self.plan, &entry);
+                count_event(&mut self.threads, &event);
+                Ok(entry)
+            }
+            Err(fault) => Err(fault),
+        }
+    }
+}
+
+/// The plan of a scenario.
+pub(crate) fn plan_of<'a>(alloc: Global, scenario: &'a Scenario) -> Result<PlanIndex<'a>, NoMemory>
+    requires { IsLawful scenario.now }
+    ensures { IfOk result (λ plan. plan ≡ scenario.now.plan) }
+{
+    PlanIndex::new(alloc, &scenario.plan)
+}
+
+/// Why a drain could not make an entry, by why the cluster could not.
+fn as_fault(fault: ApplyFault) -> DrainFault
+    ensures { result ≡ as_fault fault }
+{
+    match fault {
+        ApplyFault::NotEnabled(condition) => DrainFault::NotEnabled(condition),
+        ApplyFault::LogFull(part) => DrainFault::LogFull(part),
+        ApplyFault::NoMemory => DrainFault::NoMemory,
+    }
+}
+
+/// What is kept beside a cluster that has made entries.
+#[derive(Drop)]
+pub(crate) struct Beside<'a> {
+    pub(crate) scenario: &'a Scenario,
+    pub(crate) plan: PlanIndex<'a>,
+    pub(crate) links: LinkTable,
+    pub(crate) threads: Vec<ThreadScript>,
+}
+
+/// How a drain ended, and what each thread is still to call.
+#[derive(Drop)]
+pub(crate) struct Drained {
+    pub(crate) result: Result<(), DrainFault>,
+    pub(crate) threads: Vec<ThreadScript>,
+}
+
+/// The drain of a cluster that has made entries.
+pub(crate) fn drain_owned<'a>(cluster: Cluster, beside: Beside<'a>) -> (Cluster, Drained)
+    requires plan { beside.plan ≡ beside.scenario.now.plan }
+    requires spared { IsSpared beside.links }
+    requires parts { AreParts beside.scenario.now cluster }
+    requires fed { AreFed beside.scenario.now.plan cluster.journal (map released_in beside.links.all.items) }
+    requires threads { map scripted_in beside.threads.items ≡ map (scripted_of beside.scenario.now cluster.journal) beside.scenario.now.threads }
+    ensures parts { AreParts beside.entry.scenario.now result.0 }
+    ensures threads { map scripted_in result.1.threads.items ≡ map (scripted_of beside.entry.scenario.now result.0.journal) beside.entry.scenario.now.threads }
+    ensures drained { OnOk result.1.result (IsDrainedWithRoom beside.entry.scenario.now cluster.journal result.0.journal) }
+    ensures stopped { IfErr result.1.result (λ fault. IsDrainStopped beside.entry.scenario.now cluster.journal fault result.0.journal) }
+{
+    let Beside {
+        scenario,
+        plan,
+        links,
+        threads,
+    } = beside;
+    let mut machine = ScriptedCluster {
+        scenario,
+        plan,
+        cluster,
+        links,
+        threads,
+    };
+    let result = am_drain_loop::drain(&mut machine);
+    let ScriptedCluster {
+        scenario: _,
+        plan: _,
+        cluster,
+        links: _,
+        threads,
+    } = machine;
+    (cluster, Drained { result, threads })
+}
+
+/// The same, of a cluster that stays where it is.
+pub(crate) fn drain_in_place<'a>(cluster: &mut Cluster, beside: Beside<'a>) -> Drained
+    requires plan { beside.plan ≡ beside.scenario.now.plan }
+    requires spared { IsSpared beside.links }
+    requires parts { AreParts beside.scenario.now cluster.old }
+    requires fed { AreFed beside.scenario.now.plan cluster.old.journal (map released_in beside.links.all.items) }
+    requires threads { map scripted_in beside.threads.items ≡ map (scripted_of beside.scenario.now cluster.old.journal) beside.scenario.now.threads }
+    ensures parts { AreParts beside.entry.scenario.now cluster.new }
+    ensures threads { map scripted_in result.threads.items ≡ map (scripted_of beside.entry.scenario.now cluster.new.journal) beside.entry.scenario.now.threads }
+    ensures drained { OnOk result.result (IsDrainedWithRoom beside.entry.scenario.now cluster.old.journal cluster.new.journal) }
+    ensures stopped { IfErr result.result (λ fault. IsDrainStopped beside.entry.scenario.now cluster.old.journal fault cluster.new.journal) }
+{
+    replace_with(cluster, beside, drain_owned)
+}
+
+impl<'a> Machine for ScriptedCluster<'a> {
+    ghost scenario = { λ m. m.scenario };
+
+    ghost journal = { λ m. m.journal };
+
+    ghost capacity = { λ m. capacity_of m.scenario };
+
+    fn nodes(&self) -> u8 {
+        let scenario = self.scenario;
+        scenario.nodes
+    }
+
+    fn channels(&self) -> u8 {
+        let scenario = self.scenario;
+        scenario.channels
+    }
+
+    fn frames(&self) -> u8 {
+        let scenario = self.scenario;
+        scenario.frames
+    }
+
+    fn keep(&self) -> u8 {
+        let scenario = self.scenario;
+        scenario.keep
+    }
+
+    fn faults(&self) -> u32 {
+        let scenario = self.scenario;
+        scenario.faults.len() as u32
+    }
+
+    fn due(&self, node: NodeId, peer: NodeId) -> Option<u32> {
+        due_on(&self.cluster, self.scenario, &self.links.all, node, peer)
+    }
+
+    fn is_bound(&self, node: NodeId, peer: NodeId, channel: u8) -> bool {
+        has_bound(&self.cluster, self.scenario, node, peer, channel)
+    }
+
+    fn ends_len(&self) -> usize {
+        let scenario = self.scenario;
+        scenario.ends.len()
+    }
+
+    fn head(&self, index: usize) -> EndHead {
+        head_at(&self.cluster, self.scenario, index)
+    }
+
+    fn mail(&self, index: usize) -> EndMail {
+        mail_at(&self.cluster, self.scenario, index)
+    }
+
+    fn home(&self, end: EndpointId) -> Option<NodeId> {
+        home(&self.cluster, self.scenario, end)
+    }
+
+    fn head_by(&self, end: EndpointId) -> Head {
+        head_by(&self.cluster, self.scenario, end)
+    }
+
+    fn received_requests(&self, end: EndpointId) -> u8 {
+        received_requests(&self.cluster, self.scenario, end)
+    }
+
+    fn is_frame_held(&self, node: NodeId, frame: u8) -> bool {
+        is_frame_held(&self.cluster, self.scenario, node, frame)
+    }
+
+    fn threads_len(&self) -> usize {
+        self.threads.len()
+    }
+
+    fn left(&self, index: usize) -> Option<LeftCall> {
+        left_to(&self.threads[index])
+    }
+
+    fn apply(&mut self, event: Event) -> Result<(), DrainFault> {
+        match self.step(event) {
+            Ok(_) => Ok(()),
+            Err(fault) => Err(as_fault(fault)),
+        }
+    }
+}

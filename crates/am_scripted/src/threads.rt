@@ -1,0 +1,178 @@
+// What each thread is still to call.
+ghost use Rattle.am_scripted.specs.Threads.{AreSmall, IsSmallAt, call_in, found_in, left_in, made_in, next_in, scripted_in, scripted_of, with_call, with_call_at, with_call_if};
+ghost use Rattle.am_drain_loop.specs.Reads.{left_of};
+ghost use Rattle.am_scenario_types.specs.Lawful.{IsLawful};
+ghost use Rattle.am_scripts.specs.Scripts.{call_made, script_of};
+ghost use Rattle.std.specs.Prelude.{◌≡◌, ◌+◌, ◌*◌, ◌≤◌, ◌<◌, ◌^◌, [], All, IfOk, filter, length, map, option_map, vec_len};
+
+use am_drain_loop::LeftCall;
+use am_office::{Actor, Entry, Event, NoMemory};
+use am_scenario_types::{Scenario, ScriptCall, ThreadLine};
+use std::alloc::Global;
+
+/// A thread with its script, and how many calls of it were made.
+#[derive(Drop)]
+pub(crate) struct ThreadScript {
+    id: u8,
+    calls: Vec<ScriptCall>,
+    made: u32,
+}
+
+/// The calls that a thread is to make.
+fn script_of(alloc: Global, scenario: &Scenario, thread: u8) -> Result<Vec<ScriptCall>, NoMemory>
+    ensures { IfOk result (λ calls. calls.items ≡ script_of scenario.now thread) }
+{
+    let mut calls = Vec::new(alloc);
+    for call in &scenario.script {
+        if thread == call.thread && calls.push(*call).is_err() {
+            return Err(NoMemory);
+        }
+    }
+    Ok(calls)
+}
+
+/// The threads of a scenario before they made a call.
+pub(crate) fn all_scripts(alloc: Global, scenario: &Scenario) -> Result<Vec<ThreadScript>, NoMemory>
+    ensures { IfOk result (λ threads. map scripted_in threads.items ≡ map (scripted_of scenario.now []) scenario.now.threads) }
+{
+    let mut threads = Vec::new(alloc);
+    for line in &scenario.threads {
+        let thread = ThreadScript {
+            id: line.id,
+            calls: script_of(alloc, scenario, line.id)?,
+            made: 0,
+        };
+        if threads.push(thread).is_err() {
+            return Err(NoMemory);
+        }
+    }
+    Ok(threads)
+}
+
+/// The call that is left to a thread, and how many it made.
+pub(crate) fn left_to(thread: &ThreadScript) -> Option<LeftCall>
+    ensures { option_map left_of result ≡ left_in (scripted_in thread.now) }
+{
+    match thread.calls.get(thread.made as usize).copied() {
+        Some(call) => Some(LeftCall {
+            after: thread.made,
+            call,
+        }),
+        None => None,
+    }
+}
+
+/// The call that comes next in a script, if one is left.
+fn call_in(script: &ThreadScript) -> Option<ScriptCall>
+    ensures { result ≡ call_in (scripted_in script.now) }
+{
+    script.calls.get(script.made as usize).copied()
+}
+
+/// What comes next in the script of the thread with this number, if there is such a thread.
+fn found_in(threads: &[ThreadScript], thread: u8) -> Option<Option<ScriptCall>>
+    ensures { result ≡ found_in thread threads.now }
+{
+    match threads.iter().find(|script| script.id == thread) {
+        Some(script) => Some(call_in(script)),
+        None => None,
+    }
+}
+
+/// The next call of the thread with this number, if there is such a thread and a call is left to it.
+pub(crate) fn next_call(threads: &[ThreadScript], thread: u8) -> Option<ScriptCall>
+    ensures { result ≡ next_in thread threads.now }
+{
+    match found_in(threads, thread) {
+        Some(call) => call,
+        None => None,
+    }
+}
+
+/// One call more, where it is of this thread.
+fn count_on(thread: &mut ThreadScript, call: ScriptCall)
+    requires { thread.old.made + 1 < 2 ^ 32 }
+    ensures { scripted_in thread.new ≡ with_call call (scripted_in thread.old) }
+{
+    if thread.id == call.thread {
+        thread.made += 1;
+    }
+}
+
+/// The call of a thread that an event is, if it is one.
+fn call_made(event: &Event) -> Option<ScriptCall>
+    ensures { result ≡ call_made event.now }
+{
+    match *event {
+        Event::Call {
+            actor: Actor::Thread(thread),
+            end,
+            call,
+        } => Some(ScriptCall {
+            thread,
+            endpoint: end,
+            call,
+        }),
+        _ => None,
+    }
+}
+
+/// One call more on the thread at a place, where it is of that thread.
+fn count_at(threads: &mut Vec<ThreadScript>, index: usize, call: ScriptCall)
+    requires within { index < length threads.old.items }
+    requires small { IsSmallAt (map scripted_in threads.old.items) index }
+    ensures len { vec_len threads.new ≡ vec_len threads.old }
+    ensures here { map scripted_in threads.new.items ≡ with_call_at index call (map scripted_in threads.old.items) }
+{
+    count_on(&mut threads[index], call);
+}
+
+/// One call more on each thread whose it is.
+fn count_call(threads: &mut Vec<ThreadScript>, call: ScriptCall)
+    requires { AreSmall (map scripted_in threads.old.items) }
+    ensures { map scripted_in threads.new.items ≡ map (with_call call) (map scripted_in threads.old.items) }
+{
+    let count = threads.len();
+    for index in 0..count {
+        count_at(threads, index, call);
+    }
+}
+
+/// One call more on each thread whose it is, where the event is a call of a thread.
+pub(crate) fn count_event(threads: &mut Vec<ThreadScript>, event: &Event)
+    requires { AreSmall (map scripted_in threads.old.items) }
+    ensures { map scripted_in threads.new.items ≡ map (with_call_if (call_made event.now)) (map scripted_in threads.old.items) }
+{
+    match call_made(event) {
+        Some(call) => count_call(threads, call),
+        None => {}
+    }
+}
+
+/// The threads after the entries of a journal that is short.
+pub(crate) fn scripts_after(
+    alloc: Global,
+    scenario: &Scenario,
+    entries: &[Entry],
+) -> Result<Vec<ThreadScript>, NoMemory>
+    requires lawful { IsLawful scenario.now }
+    requires short { length entries.now ≤ 272 * scenario.now.log }
+    ensures { IfOk result (λ threads. map scripted_in threads.items ≡ map (scripted_of scenario.now entries.now) scenario.now.threads) }
+{
+    let mut threads = all_scripts(alloc, scenario)?;
+    for entry in entries {
+        count_event(&mut threads, &entry.event);
+    }
+    Ok(threads)
+}
+
+/// Tells how many calls each thread made.
+pub(crate) fn tell_made(threads: &[ThreadScript], made: &mut [u32])
+    requires { length made.old ≡ length threads.now }
+    ensures { made.new ≡ map made_in threads.now }
+{
+    let count = threads.len();
+    for index in 0..count {
+        made[index] = threads[index].made;
+    }
+}
