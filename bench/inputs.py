@@ -4,7 +4,7 @@
 direct LINES       a step script on the direct network: requests between two endpoints and their empty replies, each carried in one step
 packet LINES       the same between two nodes of the packet network: bound, received, answered and polled, and so is the reply
 calls CALLS PLAN   scripts of two clients on node 0 and a server on node 1, with so many packets of the link between them released twice
-crowd NODES TURNS ENDS   four threads of 256 calls on each node, which share its ENDS endpoints (a multiple of 4) and send in the node and to the next one
+crowd NODES TURNS ENDS   four threads of 256 calls on each node, which share its ENDS endpoints (4, 8, 12 or 16), all with room in frames, and send in the node and to the next one
 comments BYTES     so many bytes of comments of 59 bytes each in front of a scenario
 poll               one poll of one endpoint
 """
@@ -50,7 +50,7 @@ def calls_of(thread, nodes, ends):
 
 
 def crowd(nodes, turns, ends=8):
-    yield from ("am2 1", "network packet", f"nodes {nodes}", "frames 8", "channels 4", f"turns {turns}")
+    yield from ("am2 1", "network packet", f"nodes {nodes}", f"frames {ends}", "channels 4", f"turns {turns}")
     yield from (f"endpoint {end} {end // ends} 7" for end in range(ends * nodes))
     yield from (f"thread {thread} {thread // 4}" for thread in range(4 * nodes))
     for thread in range(4 * nodes):
