@@ -4,13 +4,12 @@
 direct LINES       a step script on the direct network: requests between two endpoints and their empty replies, each carried in one step
 packet LINES       the same between two nodes of the packet network: bound, received, answered and polled, and so is the reply
 calls CALLS PLAN   scripts of two clients on node 0 and a server on node 1, with so many packets of the link between them released twice
-crowd NODES TURNS ENDS   four threads of 256 calls on each node, which share its ENDS endpoints (a multiple of 4) and send in the node and to the next one
+crowd NODES TURNS ENDS CALLS   four threads of so many calls (256) on each node, which share its ENDS endpoints (4, 8, 12 or 16), all with room in frames, and send in the node and to the next one
 comments BYTES     so many bytes of comments of 59 bytes each in front of a scenario
 poll               one poll of one endpoint
 """
 import sys
 
-CALLS = 256
 
 
 def direct(lines):
@@ -35,7 +34,7 @@ def calls(count, plan):
         yield from (f"t0 request 0 0 1 {number} 0 0 0", "t0 poll 0", f"t1 request 2 0 1 {number} 0 0 0", "t1 poll 2", "t2 poll 1", "t2 poll 1")
 
 
-def calls_of(thread, nodes, ends):
+def calls_of(thread, nodes, ends, count):
     node, share = thread // 4, ends // 4
     own = [ends * node + share * (thread % 4) + it for it in range(share)]
     for end in own:
@@ -43,18 +42,18 @@ def calls_of(thread, nodes, ends):
         yield f"handler {end} 2 echo 1"
         yield f"map {end} 0 {ends * node + (end + share) % ends} 7 8"
         yield f"map {end} 1 {(end + ends) % (ends * nodes)} 7 8"
-    for number in range((CALLS - 4 * share) // 2):
+    for number in range((count - 4 * share) // 2):
         end = own[number % share]
         yield f"request {end} {number // share % 2} {1 + number // (2 * share) % 2} {number} 0 0 0"
         yield f"poll {own[(number + 1) % share]}"
 
 
-def crowd(nodes, turns, ends=8):
-    yield from ("am2 1", "network packet", f"nodes {nodes}", "frames 8", "channels 4", f"turns {turns}")
+def crowd(nodes, turns, ends=8, count=256):
+    yield from ("am2 1", "network packet", f"nodes {nodes}", f"frames {ends}", "channels 4", f"turns {turns}")
     yield from (f"endpoint {end} {end // ends} 7" for end in range(ends * nodes))
     yield from (f"thread {thread} {thread // 4}" for thread in range(4 * nodes))
     for thread in range(4 * nodes):
-        yield from (f"t{thread} {call}" for call in calls_of(thread, nodes, ends))
+        yield from (f"t{thread} {call}" for call in calls_of(thread, nodes, ends, count))
 
 
 def comments(count):

@@ -19,7 +19,7 @@ ROWS = (
     ("`step`, packet network, 65,000 lines", "step", "packet 65000", 144, 14),
     ("`run`, 16,384 calls", "run", "calls 16384 0", 105, 8),
     ("the same with 4,096 packets that come twice", "run", "calls 16384 4096", 117, 9),
-    ("`run`, 256 endpoints on 16 nodes", "run", "crowd 16 0 16", 112, 9),
+    ("`run`, 256 endpoints on 16 nodes, 47,552 entries", "run", "crowd 16 0 16 176", 112, 9),
     ("`make 1`", "make 1", "", 13, 3),
     ("16 MB of comments", "step", "comments 16777000", 230, 18),
     ("one poll", "step", "poll", 0.5, 2.4),

@@ -3,7 +3,8 @@
 each report judged.
 
 The scenarios have 1 to 16 nodes, up to 256 endpoints and 64 threads, 1 to 10,000 turns, packets that are lost, repeated and late, swap faults, and now and then a small log.
-A report is judged by check/judge.py, and made again entry by entry by the second reading in check/replay.py. Prints each bad one, and then what all came to. A bad
+A report is judged by check/judge.py, and made again entry by entry by the second reading in check/replay.py; and the program's own checker, `check run`, must say yes to
+each that came to its end. Prints each bad one, and then what all came to. A bad
 scenario is kept beside its report in the folder that the line names; `soak.py PROGRAM SEED 1` runs it again, though maybe another way.
 """
 import os
@@ -21,6 +22,14 @@ from reports import judged
 SECONDS = 120
 
 
+def checked(program, text, printed):
+    """What the program's own checker says against a report of a run that came to its end."""
+    given = text if text.endswith("\n") else text + "\n"
+    found = subprocess.run([program, "check", "run"], input=given.encode() + printed, capture_output=True, check=False, timeout=SECONDS)
+    told = found.stdout.decode().strip()
+    return [] if (found.returncode, told) == (0, "check ok") else [f"check run: status {found.returncode}, {told}"]
+
+
 def tried(program, seed):
     text = threaded_script(seed)
     try:
@@ -28,6 +37,8 @@ def tried(program, seed):
     except subprocess.TimeoutExpired:
         return seed, "slow", [f"no answer in {SECONDS} seconds"], (0, 0)
     wrong, entries = judged(found.returncode, text, found.stdout.decode())
+    if found.returncode == 0:
+        wrong += checked(program, text, found.stdout)
     if found.stderr:
         wrong.append(f"it wrote an error: {found.stderr[:200]!r}")
     if wrong:
