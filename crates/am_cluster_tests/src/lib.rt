@@ -10,6 +10,8 @@ pub use halves::{beginnings_can_go_on, run_in_halves};
 pub use workloads::{no_calls, workload};
 
 #[cfg(test)]
+mod disks;
+#[cfg(test)]
 mod parted;
 #[cfg(test)]
 mod phases;

@@ -1,0 +1,67 @@
+// Runs in which a node's disk fails: in a turn of its driver, and in the drain.
+
+use crate::gates::{Hold, HoldingGate};
+use crate::phases::hold;
+use am_cluster::run;
+use am_entry_lines::entry_line;
+use am_office::{Entry, NoMemory};
+use am_scenario::{Form, read};
+use std::alloc::Global;
+use std::test::Fail;
+use std::thread::Threads;
+
+/// A thread whose endpoint begins on disk, worker 0. Worker 1 is the interface, and worker 2 the driver. The first read of the disk fails.
+const ON_DISK: &str =
+    "am2 1\nnetwork packet\nnodes 1\nturns 4\nendpoint 0 0 5 disk\nthread 0 0\nswapfault 0 1\nt0 tag 0 6\n";
+
+/// The thread wants its endpoint, the driver reads twice, and then the thread makes its call.
+const READ_AGAIN_IN_TURNS: &str =
+    "t0 want 0\nd0 pagein 0 -> failed\nd0 pagein 0 -> ok\nt0 tag 0 6 -> ok\n";
+
+/// The same without turns.
+const ON_DISK_ALONE: &str =
+    "am2 1\nnetwork packet\nnodes 1\nendpoint 0 0 5 disk\nthread 0 0\nswapfault 0 1\nt0 tag 0 6\n";
+
+const READ_AGAIN_IN_THE_DRAIN: &str =
+    "d0 pagein 0 -> failed\nd0 pagein 0 -> ok\nt0 tag 0 6 -> ok\n";
+
+/// Nothing is to stay on the host. Worker 0 is the interface, and worker 1 the driver, whose first write fails.
+const CROWDED: &str =
+    "am2 1\nnetwork packet\nnodes 1\nkeep 0\nturns 3\nendpoint 0 0 5\nswapfault 0 1\n";
+
+const WRITTEN_AGAIN: &str = "d0 pageout 0 -> failed\nd0 pageout 0 -> ok\n";
+
+/// The lines of the first entries, so many at most.
+fn first_lines(alloc: Global, entries: &[Entry], count: usize) -> Result<Vec<u8>, NoMemory> {
+    let mut lines = Vec::new(alloc);
+    for entry in entries.iter().take(count) {
+        entry_line(entry, &mut lines)?;
+    }
+    Ok(lines)
+}
+
+/// Whether a run whose workers are held so begins with these lines.
+fn begins<R: Threads + Sync>(
+    rt: &R,
+    alloc: Global,
+    text: &str,
+    holds: &[Hold],
+    lines: &str,
+) -> Result<bool, Fail> {
+    let gate = HoldingGate::new(holds);
+    let scenario = read(alloc, Form::Run, text.as_bytes())?;
+    let finished = run(rt, alloc, &scenario, &gate)?;
+    let made = first_lines(alloc, &finished.journal.entries, lines.lines().count())?;
+    Ok(gate.held_in_vain() == 0 && made.as_slice() == lines.as_bytes())
+}
+
+#[test]
+fn what_fails_is_tried_again(rt: HostRuntime) -> Result<(), Fail> {
+    let alloc = rt.alloc();
+    let in_step = [hold(2, 0, 0, 1), hold(0, 1, 2, 2), hold(2, 2, 0, 2)];
+    assert!(rt; begins(&rt, alloc, ON_DISK, &in_step, READ_AGAIN_IN_TURNS)?);
+    assert!(rt; begins(&rt, alloc, ON_DISK_ALONE, &[], READ_AGAIN_IN_THE_DRAIN)?);
+    let driver_first = [hold(0, 0, 1, 2)];
+    assert!(rt; begins(&rt, alloc, CROWDED, &driver_first, WRITTEN_AGAIN)?);
+    Ok(())
+}
