@@ -1,5 +1,5 @@
 -- The events of the steps, by their places.
-use Rattle.std.proofs.Common.{◌≡◌, ℕ, zero, suc, true, List, [], ◌∷◌, Some, sym, subst}
+use Rattle.std.proofs.Common.{◌≡◌, ◌<◌, ℕ, zero, suc, true, List, [], ◌∷◌, Some, length, sym, subst, arith}
 use Rattle.std.specs.Prelude.{option_map, slice_get}
 use Rattle.std.proofs.lemmas.Option.{slice_get-map}
 use Rattle.am_office.specs.declared.Event.{Event}
@@ -24,3 +24,9 @@ pub in_range_at : (s : ScenarioLists) (layout : Layout) (k : ℕ) (event : Event
 in_range_at s layout k event lawful same at =
     let there : is_in_range (layout_of s) event ≡ true = all_at (λ (e : Event). is_in_range (layout_of s) e ≡ true) (events_of s.steps) k event (steps_in_range s lawful) at in
     subst (λ (l : Layout). is_in_range l event ≡ true) (sym same) there
+
+-- a step is one of them
+pub step_below : (steps : List StepLine) (k : ℕ) (event : Event) → slice_get (events_of steps) k ≡ Some event → k < length steps
+step_below [] k event h = absurd (cc)
+step_below (x ∷ xs) zero event h = omega arith
+step_below (x ∷ xs) (suc k) event h = let less = step_below xs k event h in omega (arith, less)

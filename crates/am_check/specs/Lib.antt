@@ -2,3 +2,5 @@ pub mod Cut
 pub mod Follows
 pub mod Lines
 pub mod Verdict
+pub mod Steps
+pub mod Declares

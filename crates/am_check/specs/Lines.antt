@@ -1,5 +1,5 @@
 -- The lines of a report, and what keeps one of its journal from passing.
-use Rattle.std.specs.Prelude.{◌≡◌, ◌⊎◌, ℕ, Some, None, List, [], ◌∷◌, ◌++◌}
+use Rattle.std.specs.Prelude.{◌≡◌, ◌⊎◌, ℕ, Bool, true, Some, None, List, [], ◌∷◌, ◌++◌}
 use Rattle.am_office.specs.declared.Event.{Event}
 use Rattle.am_office.specs.declared.Entry.{Entry}
 use Rattle.am_journal_lines.specs.Grammar.{printed}
@@ -38,6 +38,21 @@ StopsLine form s past line (Stops.What Whats.Outcome) =
 StopsLine form s past line (Stops.What Whats.Tail) = ⊥
 StopsLine form s past line Stops.NoMemory = Unit {0}
 
+-- why the entry of an event that may come after these is not made: the event isn't enabled; its entry would come too early; or a
+-- log is full
+abbrev pub StopsEvent : Form → ScenarioLists → List Entry → Event → LineStop → Type 0
+StopsEvent form s past event (Stops.What Whats.Follows) = (failing (layout_of s) past event ≡ None) × IsEarly form s past (next_entry (layout_of s) past event)
+StopsEvent form s past event (Stops.What (Whats.NotEnabled condition)) = stop (layout_of s) past event ≡ Some (NotEnabled condition)
+StopsEvent form s past event (Stops.LogFull part) = (¬ (IsEarly form s past (next_entry (layout_of s) past event))) × (stop (layout_of s) past event ≡ Some (LogFull part))
+StopsEvent form s past event Stops.NoMemory = Unit {0}
+StopsEvent form s past event why = ⊥
+
+-- the entry of an event comes next, and the journal has it then
+pub record MakesOne (form : Form) (s : ScenarioLists) (past : List Entry) (event : Event) (x : Entry) (journal : List Entry) : Type 0 where
+  pub comes : Comes form s past x
+  pub event' : x.event ≡ event
+  pub journal' : journal ≡ past ++ x ∷ []
+
 -- a line passes: it is that of the entry that comes after these, which is then made
 pub record PassesLine (form : Form) (s : ScenarioLists) (past : List Entry) (line : List ℕ) (journal : List Entry) : Type 0 where
   pub entry : Entry
@@ -56,3 +71,8 @@ abbrev pub stop_of : ApplyFault → LineStop
 stop_of (Applied.NotEnabled condition) = Stops.What (Whats.NotEnabled condition)
 stop_of (Applied.LogFull part) = Stops.LogFull part
 stop_of Applied.NoMemory = Stops.NoMemory
+
+-- why an event of a run is not made, where its entry would come too early or not: that comes before a full log
+abbrev pub stop_in_run : Bool → ApplyFault → LineStop
+stop_in_run true (Applied.LogFull part) = Stops.What Whats.Follows
+stop_in_run early fault = stop_of fault

@@ -5,26 +5,33 @@
 ghost use Rattle.am_check.specs.Follows.{IsBegun, ids_of};
 ghost use Rattle.am_check.specs.Verdict.{AnswersParts, AnswersReport, AnswersScenario, Checks, HasJournal, number_of};
 ghost use Rattle.am_report.specs.Report as texts;
-ghost use Rattle.am_scenario_types.specs.Lawful.{IsLawful};
+ghost use Rattle.am_scenario_types.specs.Lawful.{IsLawful, IsOfForm};
 ghost use Rattle.am_scenario_types.specs.declared.parts.Form.TheVariants as Forms;
-ghost use Rattle.std.specs.Prelude.{◌≡◌, IfOk, length};
+ghost use Rattle.am_scenario_types.specs.declared.parts.Network.TheVariants.{Packet};
+ghost use Rattle.std.specs.Prelude.{◌≡◌, [], IfOk, length};
 
 mod cut;
+mod events;
 mod faults;
+mod follower;
 mod head;
 mod lines;
+mod runs;
 mod same;
+mod step_cluster;
 mod tail;
 
 use crate::cut::place_of;
 pub use crate::faults::{CheckStop, CheckWhat};
+use crate::follower::Follower;
 use crate::head::split_head;
 use crate::lines::{check_lines, line_number};
+use crate::step_cluster::StepCluster;
 use crate::tail::{difference, number_of};
-use am_machine::Cluster;
 use am_names::{EndpointId, NoMemory};
 use am_report::report;
 use am_scenario::{Form, ReadFault, Scenario, read};
+use am_scripted::ScriptedCluster;
 use std::alloc::{AllocError, Global};
 
 /// The endpoints of a scenario, in their order.
@@ -38,35 +45,40 @@ fn ids_of(alloc: Global, scenario: &Scenario) -> Result<Vec<EndpointId>, AllocEr
     Ok(ids)
 }
 
-/// The report of a cluster's journal.
-fn text_of(alloc: Global, cluster: &Cluster, scenario: &Scenario) -> Result<Vec<u8>, NoMemory>
-    ensures { IfOk result (λ text. text.items ≡ texts.report (ids_of scenario.now) cluster.now.journal) }
+/// The report of a journal of a scenario.
+fn text_of<F: Follower>(
+    alloc: Global,
+    follower: &F,
+    scenario: &Scenario,
+) -> Result<Vec<u8>, NoMemory>
+    ensures { IfOk result (λ text. text.items ≡ texts.report (ids_of scenario.now) (F.journal follower.now)) }
 {
     let ids = ids_of(alloc, scenario)?;
-    let journal = cluster.journal(alloc)?;
+    let journal = follower.entries(alloc)?;
     report(alloc, &ids, &journal)
 }
 
 /// Whether the journal whose lines passed ends where it may, and the text behind it is the rest of its report.
-fn check_end(
+fn check_end<F: Follower>(
     alloc: Global,
-    cluster: &Cluster,
+    follower: &F,
     scenario: &Scenario,
     count: u64,
     bytes: &[u8],
 ) -> Result<(), CheckStop>
-    requires count { length cluster.now.journal ≡ count }
-    requires has { HasJournal Forms.Step scenario.now bytes.now cluster.now.journal }
-    requires begun { IsBegun Forms.Step scenario.now cluster.now.journal }
-    ensures { AnswersReport Forms.Step scenario.now bytes.now result }
+    requires scenario { F.scenario follower.now ≡ scenario.now }
+    requires count { length (F.journal follower.now) ≡ count }
+    requires has { HasJournal F.form scenario.now bytes.now (F.journal follower.now) }
+    requires begun { IsBegun F.form scenario.now (F.journal follower.now) }
+    ensures { AnswersReport F.form scenario.now bytes.now result }
 {
-    if count != scenario.steps.len() as u64 {
+    if !follower.is_ended() {
         return Err(CheckStop::Fault {
             line: line_number(count),
             what: CheckWhat::Follows,
         });
     }
-    let Ok(text) = text_of(alloc, cluster, scenario) else {
+    let Ok(text) = text_of(alloc, follower, scenario) else {
         return Err(CheckStop::NoMemory);
     };
     if bytes == text.as_slice() {
@@ -78,10 +90,16 @@ fn check_end(
     })
 }
 
-/// The answer for the report of a scenario.
-fn check_report(alloc: Global, scenario: &Scenario, bytes: &[u8]) -> Result<(), CheckStop>
-    requires { IsLawful scenario.now }
-    ensures { AnswersReport Forms.Step scenario.now bytes.now result }
+/// The answer for a report, by what makes the entries of its scenario, from none.
+fn check_journal<F: Follower>(
+    alloc: Global,
+    follower: &mut F,
+    scenario: &Scenario,
+    bytes: &[u8],
+) -> Result<(), CheckStop>
+    requires scenario { F.scenario follower.old ≡ scenario.now }
+    requires fresh { F.journal follower.old ≡ [] }
+    ensures { AnswersReport F.form scenario.now bytes.now result }
 {
     let Some((count, lines)) = split_head(bytes) else {
         return Err(CheckStop::Fault {
@@ -89,31 +107,68 @@ fn check_report(alloc: Global, scenario: &Scenario, bytes: &[u8]) -> Result<(), 
             what: CheckWhat::Form,
         });
     };
-    let Ok(mut cluster) = Cluster::new(alloc, scenario) else {
-        return Err(CheckStop::NoMemory);
-    };
-    match check_lines(alloc, &mut cluster, scenario, count, lines) {
-        Ok(()) => check_end(alloc, &cluster, scenario, count, bytes),
+    match check_lines(alloc, follower, count, lines) {
+        Ok(()) => check_end(alloc, follower, scenario, count, bytes),
         Err(stop) => Err(stop),
     }
 }
 
-/// The answer for the text in front of a report, and the report.
-fn check_parts(alloc: Global, front: &[u8], bytes: &[u8]) -> Result<(), CheckStop>
-    ensures { AnswersParts Forms.Step front.now bytes.now result }
+/// The answer for the report of a step script.
+fn check_step_report(alloc: Global, scenario: &Scenario, bytes: &[u8]) -> Result<(), CheckStop>
+    requires { IsLawful scenario.now }
+    ensures { AnswersReport Forms.Step scenario.now bytes.now result }
 {
-    match read(alloc, Form::Step, front) {
-        Ok(scenario) => check_report(alloc, &scenario, bytes),
+    match StepCluster::new(alloc, scenario) {
+        Ok(mut cluster) => check_journal(alloc, &mut cluster, scenario, bytes),
+        Err(_) => Err(CheckStop::NoMemory),
+    }
+}
+
+/// The answer for the report of a run.
+fn check_run_report(alloc: Global, scenario: &Scenario, bytes: &[u8]) -> Result<(), CheckStop>
+    requires lawful { IsLawful scenario.now }
+    requires packet { scenario.now.network ≡ Packet }
+    ensures { AnswersReport Forms.Run scenario.now bytes.now result }
+{
+    match ScriptedCluster::new(alloc, scenario) {
+        Ok(mut cluster) => check_journal(alloc, &mut cluster, scenario, bytes),
+        Err(_) => Err(CheckStop::NoMemory),
+    }
+}
+
+/// The answer for the report of a scenario.
+fn check_report(
+    alloc: Global,
+    form: Form,
+    scenario: &Scenario,
+    bytes: &[u8],
+) -> Result<(), CheckStop>
+    requires lawful { IsLawful scenario.now }
+    requires of_form { IsOfForm form scenario.now }
+    ensures { AnswersReport form scenario.now bytes.now result }
+{
+    match form {
+        Form::Step => check_step_report(alloc, scenario, bytes),
+        Form::Run => check_run_report(alloc, scenario, bytes),
+    }
+}
+
+/// The answer for the text in front of a report, and the report.
+fn check_parts(alloc: Global, form: Form, front: &[u8], bytes: &[u8]) -> Result<(), CheckStop>
+    ensures { AnswersParts form front.now bytes.now result }
+{
+    match read(alloc, form, front) {
+        Ok(scenario) => check_report(alloc, form, &scenario, bytes),
         Err(ReadFault::Refused(fault)) => Err(CheckStop::Scenario(fault)),
         Err(ReadFault::NoMemory) => Err(CheckStop::NoMemory),
     }
 }
 
 /// The answer for a text that has no report.
-fn check_scenario(alloc: Global, text: &[u8]) -> Result<(), CheckStop>
-    ensures { AnswersScenario Forms.Step text.now result }
+fn check_scenario(alloc: Global, form: Form, text: &[u8]) -> Result<(), CheckStop>
+    ensures { AnswersScenario form text.now result }
 {
-    match read(alloc, Form::Step, text) {
+    match read(alloc, form, text) {
         Ok(_) => Err(CheckStop::Fault {
             line: 1,
             what: CheckWhat::Form,
@@ -123,16 +178,34 @@ fn check_scenario(alloc: Global, text: &[u8]) -> Result<(), CheckStop>
     }
 }
 
-/// Whether a text is a scenario of a step script and the report of the journal that is a history of the scenario and follows
-/// its lines. The report begins at the first line that is `am2 report 1`; without such a line the text is read as a scenario.
+/// Whether a text is a scenario of a form and the report of a journal that is a history of the scenario and follows it: the lines
+/// of a step script, or the scripts of a run. The report begins at the first line that is `am2 report 1`; without such a line the
+/// text is read as a scenario.
 ///
 /// It is stopped with the first fault of the scenario; with the first line of the report that has a fault, the lines of the
 /// journal before those behind it; with the log that is full where the next entry is due; and for want of memory.
+pub fn check(alloc: Global, form: Form, text: &[u8]) -> Result<(), CheckStop>
+    ensures { Checks form text.now result }
+{
+    match place_of(text) {
+        Some(place) => check_parts(alloc, form, &text[..place], &text[place..]),
+        None => check_scenario(alloc, form, text),
+    }
+}
+
+/// Whether a text is a step script and the report of the journal that follows its lines, as `check` tells.
 pub fn check_steps(alloc: Global, text: &[u8]) -> Result<(), CheckStop>
     ensures { Checks Forms.Step text.now result }
 {
-    match place_of(text) {
-        Some(place) => check_parts(alloc, &text[..place], &text[place..]),
-        None => check_scenario(alloc, text),
-    }
+    check(alloc, Form::Step, text)
+}
+
+/// Whether a text is a scenario of a run and the report of a journal that follows its scripts, whoever made its entries and in
+/// whichever order, as `check` tells. Each call is the next one of its thread's script, each receipt takes the next packet that its
+/// link released, the last tries come only where all that was released was received, and at the end all calls were made, all that
+/// was released was received, and all is at rest.
+pub fn check_runs(alloc: Global, text: &[u8]) -> Result<(), CheckStop>
+    ensures { Checks Forms.Run text.now result }
+{
+    check(alloc, Form::Run, text)
 }

@@ -1,24 +1,18 @@
-//! The lines of the journal of a step script, one after the other.
+//! The lines of a journal, one after the other.
 
-ghost use Rattle.am_check.specs.Lines.{IsOther, PassesLine, StopsLine, TellsOne, stop_of};
+ghost use Rattle.am_check.specs.Lines.{IsOther, PassesLine, StopsLine, TellsOne};
 ghost use Rattle.am_journal_lines.specs.Grammar.{printed};
 ghost use Rattle.am_check.specs.Verdict.{Reaches, StopsJournal, at_line, number_of};
-ghost use Rattle.am_follow.specs.Layout.{events_of, layout_of};
 ghost use Rattle.am_lexer.specs.Text.{lines_of};
-ghost use Rattle.am_office.specs.declared.Entry.{Entry as Made};
-ghost use Rattle.am_scenario_types.specs.Lawful.{IsLawful};
-ghost use Rattle.am_scenario_types.specs.declared.parts.Form.TheVariants as Forms;
-ghost use Rattle.std.specs.Prelude.{◌≡◌, ◌↔◌, ◌<◌, ◌+◌, ◌-◌, ℕ, [], List, IfErr, IfOk, IsTrue, OnOk, Some, length, slice_get, take};
+ghost use Rattle.std.specs.Prelude.{◌≡◌, ◌↔◌, ◌<◌, ◌+◌, ◌-◌, ℕ, [], List, IfErr, IfOk, IsTrue, OnOk, length, take};
 
 use crate::faults::{CheckStop, CheckWhat, LineStop};
-use crate::same::is_same;
+use crate::follower::Follower;
 use am_entry_lines::entry_line;
 use am_journal_lines::{parse_line, printed_lines_are_read};
 use am_lexer::next_line;
-use am_machine::{ApplyFault, Cluster};
 use am_names::NoMemory;
 use am_office::{Entry, Event};
-use am_scenario::{Scenario, StepLine};
 use std::alloc::Global;
 
 /// Whether a printed line is this one and a newline.
@@ -39,50 +33,18 @@ fn is_printed(out: &mut Vec<u8>, entry: &Entry, line: &[u8]) -> Result<bool, NoM
     Ok(is_line(out, line))
 }
 
-/// The event of the step line at this place.
-#[tactic(auto, using(crate::proofs::Steps::step_at))]
-fn step_event(steps: &[StepLine], place: usize) -> Option<Event>
-    ensures { result ≡ slice_get (events_of steps.now) place }
-{
-    match steps.get(place) {
-        Some(step) => Some(step.event),
-        None => None,
-    }
-}
-
-/// Whether the step line at this place has this event.
-fn is_step(steps: &[StepLine], place: usize, event: Event) -> bool
-    ensures { IsTrue result ↔ (slice_get (events_of steps.now) place ≡ Some event) }
-{
-    match step_event(steps, place) {
-        Some(next) => is_same(next, event),
-        None => false,
-    }
-}
-
-/// The event that a line tells, if it may come at this place.
-fn told(scenario: &Scenario, place: usize, line: &[u8]) -> Result<Event, LineStop>
-    ensures told { (past : List Made) → length past ≡ place → IfOk result (TellsOne Forms.Step scenario.now past line.now) }
-    ensures stops { (past : List Made) → length past ≡ place → IfErr result (StopsLine Forms.Step scenario.now past line.now) }
+/// The event that a line tells, if it may come here.
+fn told<F: Follower>(follower: &F, line: &[u8]) -> Result<Event, LineStop>
+    ensures told { IfOk result (TellsOne F.form (F.scenario follower.now) (F.journal follower.now) line.now) }
+    ensures stops { IfErr result (StopsLine F.form (F.scenario follower.now) (F.journal follower.now) line.now) }
 {
     let Some(printed) = parse_line(line) else {
         return Err(LineStop::What(CheckWhat::Form));
     };
-    if is_step(&scenario.steps, place, printed.event) {
+    if follower.may_come(printed.event) {
         Ok(printed.event)
     } else {
         Err(LineStop::What(CheckWhat::Follows))
-    }
-}
-
-/// Why a line does not pass whose event the machine does not make.
-fn stop_of(fault: ApplyFault) -> LineStop
-    ensures { result ≡ stop_of fault }
-{
-    match fault {
-        ApplyFault::NotEnabled(condition) => LineStop::What(CheckWhat::NotEnabled(condition)),
-        ApplyFault::LogFull(part) => LineStop::LogFull(part),
-        ApplyFault::NoMemory => LineStop::NoMemory,
     }
 }
 
@@ -98,25 +60,16 @@ fn compare(out: &mut Vec<u8>, entry: &Entry, line: &[u8]) -> Result<(), LineStop
     }
 }
 
-/// Makes the entry of the line at a place, if its event may come and its line is that of the entry.
-fn check_line(
-    cluster: &mut Cluster,
-    scenario: &Scenario,
-    place: usize,
-    line: &[u8],
-    out: &mut Vec<u8>,
-) -> Result<(), LineStop>
-    requires lawful { IsLawful scenario.now }
-    requires layout { cluster.old.layout ≡ layout_of scenario.now }
-    requires place { length cluster.old.journal ≡ place }
-    ensures layout { OnOk result (cluster.new.layout ≡ cluster.old.layout) }
-    ensures passes { OnOk result (PassesLine Forms.Step scenario.now cluster.old.journal line.now cluster.new.journal) }
-    ensures stops { IfErr result (StopsLine Forms.Step scenario.now cluster.old.journal line.now) }
+/// Makes the entry of a line, if its event may come and its line is that of the entry. `out` is room to print in.
+fn check_line<F: Follower>(follower: &mut F, line: &[u8], out: &mut Vec<u8>) -> Result<(), LineStop>
+    ensures scenario { F.scenario follower.new ≡ F.scenario follower.old }
+    ensures passes { OnOk result (PassesLine F.form (F.scenario follower.old) (F.journal follower.old) line.now (F.journal follower.new)) }
+    ensures stops { IfErr result (StopsLine F.form (F.scenario follower.old) (F.journal follower.old) line.now) }
 {
-    let event = told(scenario, place, line)?;
-    match cluster.apply(&event) {
+    let event = told(follower, line)?;
+    match follower.make(event) {
         Ok(entry) => compare(out, &entry, line),
-        Err(fault) => Err(stop_of(fault)),
+        Err(stop) => Err(stop),
     }
 }
 
@@ -143,21 +96,18 @@ fn at_line(line: u32, stop: LineStop) -> CheckStop
     }
 }
 
-/// Makes the entries of so many lines on a fresh cluster of the scenario, up to the first line that does not pass.
-pub(crate) fn check_lines(
+/// Makes the entries of so many lines, from none, up to the first line that does not pass.
+pub(crate) fn check_lines<F: Follower>(
     alloc: Global,
-    cluster: &mut Cluster,
-    scenario: &Scenario,
+    follower: &mut F,
     count: u64,
     lines: &[u8],
 ) -> Result<(), CheckStop>
-    requires lawful { IsLawful scenario.now }
-    requires layout { cluster.old.layout ≡ layout_of scenario.now }
-    requires fresh { cluster.old.journal ≡ [] }
-    ensures layout { OnOk result (cluster.new.layout ≡ cluster.old.layout) }
-    ensures count { OnOk result (length cluster.new.journal ≡ count) }
-    ensures reached { OnOk result ((left : List (List ℕ)) × Reaches Forms.Step scenario.now (lines_of lines.now) cluster.new.journal left) }
-    ensures stops { IfErr result (StopsJournal Forms.Step scenario.now count (lines_of lines.now)) }
+    requires fresh { F.journal follower.old ≡ [] }
+    ensures scenario { F.scenario follower.new ≡ F.scenario follower.old }
+    ensures count { OnOk result (length (F.journal follower.new) ≡ count) }
+    ensures reached { OnOk result ((left : List (List ℕ)) × Reaches F.form (F.scenario follower.old) (lines_of lines.now) (F.journal follower.new) left) }
+    ensures stops { IfErr result (StopsJournal F.form (F.scenario follower.old) count (lines_of lines.now)) }
 {
     let mut out = Vec::new(alloc);
     let mut rest = lines;
@@ -169,7 +119,7 @@ pub(crate) fn check_lines(
                 what: CheckWhat::Form,
             });
         };
-        if let Err(stop) = check_line(cluster, scenario, place as usize, line, &mut out) {
+        if let Err(stop) = check_line(follower, line, &mut out) {
             return Err(at_line(number, stop));
         }
         rest = after;

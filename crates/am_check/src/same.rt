@@ -6,6 +6,7 @@ ghost use Rattle.std.specs.Prelude.{◌≡◌, ◌↔◌, IsTrue};
 
 use am_names::{EndpointId, NodeId, Serial, Tag, Words};
 use am_office::{Actor, Call, Event, HandlerKind, Mask};
+use am_scenario::ScriptCall;
 
 fn is_request(other: Call, index: u8, handler: u8, words: Words) -> bool
     ensures { IsTrue result ↔ (Calls.Request index handler words ≡ other) }
@@ -258,4 +259,13 @@ pub(crate) fn is_same(one: Event, other: Event) -> bool
         Event::PageOut { node, end } => is_page_out(other, node, end),
         Event::PageIn { node, end } => is_page_in(other, node, end),
     }
+}
+
+/// Whether two calls of threads are the same.
+pub(crate) fn is_same_script_call(one: ScriptCall, other: ScriptCall) -> bool
+    ensures { IsTrue result ↔ (one ≡ other) }
+{
+    one.thread == other.thread
+        && one.endpoint == other.endpoint
+        && is_same_call(one.call, other.call)
 }
