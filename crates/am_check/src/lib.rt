@@ -12,6 +12,7 @@ ghost use Rattle.std.specs.Prelude.{◌≡◌, [], IfOk, length};
 
 mod cut;
 mod events;
+mod exact;
 mod faults;
 mod follower;
 mod head;
@@ -22,6 +23,7 @@ mod step_cluster;
 mod tail;
 
 use crate::cut::place_of;
+pub use crate::exact::answers_are_exact;
 pub use crate::faults::{CheckStop, CheckWhat};
 use crate::follower::Follower;
 use crate::head::split_head;
