@@ -183,7 +183,7 @@ at_once laws form text (Some place) one other fits p q =
     parts_once laws form (take place text) (drop place text) one other less (parts_view form (take place text) (drop place text) one p) (parts_view form (take place text) (drop place text) other q)
 
 pub one_answer : SpellsLawful → OneAnswer
-one_answer laws form text one other fits p q = at_once laws form text (place_of text) one other fits p q
+one_answer laws form text one fits p = λ other q. at_once laws form text (place_of text) one other fits p q
 
 -- ---- yes
 
@@ -207,7 +207,7 @@ apart stop one other is passed reason (inr (inr want)) = stop_of_yes Answers.NoM
 
 never_both : SpellsLawful → (form : Form) (text : List ℕ) (stop : CheckStop) → FitsMemory text → ((stop ≡ Answers.NoMemory) → ⊥) → Checks form text (Err stop) → IsChecked form text → ⊥
 never_both laws form text stop fits reason p c =
-    apart stop (Err stop) (Ok tt) refl refl reason (one_answer laws form text (Err stop) (Ok tt) fits p (answered_yes form text c))
+    apart stop (Err stop) (Ok tt) refl refl reason (one_answer laws form text (Err stop) fits p (Ok tt) (answered_yes form text c))
 
 pub exact : SpellsLawful → AnswersAreExact
 exact laws form text (Ok x) fits p = checked_at form text (place_of text) refl p

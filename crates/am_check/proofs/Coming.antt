@@ -18,7 +18,7 @@ use Rattle.am_check.specs.declared.faults.LineStop.{LineStop}
 use Rattle.am_check.specs.declared.faults.LineStop.TheVariants as Stops
 use Rattle.am_check.specs.Follows.{MayCome, IsEarly, Comes}
 use Rattle.am_check.specs.Lines.{StopsLine}
-use Rattle.am_check.proofs.Ranges.{numbers_of}
+use Rattle.am_check.proofs.Numbers.{numbers_of}
 use Rattle.am_check.proofs.Steps.{in_range_at}
 
 -- what stops a line is not want of memory

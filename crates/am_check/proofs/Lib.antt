@@ -3,7 +3,7 @@ pub mod Breaks
 pub mod Coming
 pub mod Newlines
 pub mod Passing
-pub mod Ranges
+pub mod Numbers
 pub mod Reasons
 pub mod Steps
 pub mod Stopping

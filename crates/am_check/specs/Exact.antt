@@ -26,6 +26,10 @@ IsExact form text (Err stop) = ¬ (IsChecked form text)
 abbrev pub AreSame : Result (Unit {0}) CheckStop → Result (Unit {0}) CheckStop → Type 0
 AreSame one other = (one ≡ other) ⊎ ((one ≡ Err Answers.NoMemory) ⊎ (other ≡ Err Answers.NoMemory))
 
+-- no other answer is right for a text
+abbrev pub IsOnly : Form → List ℕ → Result (Unit {0}) CheckStop → Type 0
+IsOnly form text answer = (other : Result (Unit {0}) CheckStop) → Checks form text other → AreSame answer other
+
 -- a text has as many bytes as a memory of 64 bits can hold
 abbrev pub FitsMemory : List ℕ → Type 0
 FitsMemory text = length text < 2 ^ 64
@@ -36,4 +40,4 @@ AnswersAreExact = (form : Form) (text : List ℕ) (answer : Result (Unit {0}) Ch
 
 -- just one answer is right for a text, so each stop is given exactly where it is what the text is stopped for
 abbrev pub OneAnswer : Type 0
-OneAnswer = (form : Form) (text : List ℕ) (one other : Result (Unit {0}) CheckStop) → FitsMemory text → Checks form text one → Checks form text other → AreSame one other
+OneAnswer = (form : Form) (text : List ℕ) (answer : Result (Unit {0}) CheckStop) → FitsMemory text → Checks form text answer → IsOnly form text answer
