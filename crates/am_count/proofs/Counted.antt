@@ -2,7 +2,7 @@
 use Rattle.std.proofs.Common.{◌≡◌, ℕ, zero, suc, ◌+◌, ◌<◌, ◌≤◌, Bool, true, false, List, [], ◌∷◌, ◌++◌, refl, sym, ap, ◌∙◌, subst, length, map, get_or, count_by, nat_lt, nat_le, if◌then◌else◌, arith}
 use Rattle.std.specs.Prelude.{filter, min}
 use Rattle.std.specs.Cmp.Lexicographic.{slice_cmp}
-use Rattle.std.specs.List.{All, AllZip, range_with_len}
+use Rattle.std.specs.List.{All, AllZip, flat_map, range_with_len}
 use Rattle.std.specs.List.Sorted.{IsStrictlySortedBy}
 use Rattle.std.specs.Map.{keys_of}
 use Rattle.std.specs.Ordering.{nat_cmp}
@@ -25,7 +25,8 @@ use Rattle.am_words.proofs.Told.{rows_count}
 use Rattle.am_job.specs.Asked.{ask_script, asked_in_all, run_in_all, words_asked}
 use Rattle.am_job.specs.Rounds.{round_at, round_count, rounds_of}
 use Rattle.am_job.proofs.Sent.{asked_more, rounds_send, short_few, tells_script, words_few}
-use Rattle.am_count.specs.Counting.{CountsAll, CountsText, HasCounted, PrintsCount, plain}
+use Rattle.am_count.specs.Counting.{CountsAll, CountsText, EndIn, HasCounted, IsRound, LeftIn, PrintsCount, plain}
+use Rattle.am_count.specs.Left.{AddsUp, words_refused, words_returned}
 use Rattle.am_count.specs.Printed.{count_text}
 use Rattle.am_count.specs.Stops.{IsCountStop, IsRoundStop}
 use Rattle.am_count.specs.declared.counting.CountStop.{CountStop}
@@ -34,43 +35,55 @@ use Rattle.am_count.specs.declared.counting.CountStop.TheVariants as Stop
 -- ---- round after round
 
 pub counts_none : (is_run : ScenarioLists → List Entry → Type 0) (w turns : ℕ) (sent : List CodedWord) → CountsAll is_run w turns sent 0 []
-counts_none is_run w turns sent = record { journals = []; runs = tt; tells = tells_nothing; few = λ (word : List ℕ). omega arith }
-
-ran_more : (journals : List (List Entry)) (journal : List Entry) → run_in_all (journals ++ journal ∷ []) ≡ run_in_all journals ++ words_run journal
-ran_more journals journal = flat_map-append words_run journals (journal ∷ []) ∙ ap (λ (l : List (List ℕ)). run_in_all journals ++ l) (append-nil (words_run journal))
+counts_none is_run w turns sent = record { journals = []; rounds = tt; tells = tells_nothing; ends = λ (word : List ℕ). omega arith }
 
 both_times : (a b : List (List ℕ)) (word : List ℕ) → times (a ++ b) word ≡ times a word + times b word
 both_times a b word = sum_by-append (λ (w : List ℕ). if same_word word w then 1 else 0) a b
 
+-- a journal more
+listed_more : (f : List Entry → List (List ℕ)) (journals : List (List Entry)) (journal : List Entry) → flat_map f (journals ++ journal ∷ []) ≡ flat_map f journals ++ f journal
+listed_more f journals journal = flat_map-append f journals (journal ∷ []) ∙ ap (λ (l : List (List ℕ)). flat_map f journals ++ l) (append-nil (f journal))
+
+times_more : (f : List Entry → List (List ℕ)) (journals : List (List Entry)) (journal : List Entry) (word : List ℕ) → times (flat_map f (journals ++ journal ∷ [])) word ≡ times (flat_map f journals) word + times (f journal) word
+times_more f journals journal word = ap (λ (l : List (List ℕ)). times l word) (listed_more f journals journal) ∙ both_times (flat_map f journals) (f journal) word
+
+ends_more : (asked here : List (List ℕ)) (journals : List (List Entry)) (journal : List Entry)
+    → ((word : List ℕ) → times here word ≡ times (words_run journal) word + times (words_refused journal) word + times (words_returned journal) word)
+    → EndIn asked journals → EndIn (asked ++ here) (journals ++ journal ∷ [])
+ends_more asked here journals journal adds so_far = λ (word : List ℕ).
+    omega (
+      arith,
+      both_times asked here word,
+      times_more words_run journals journal word,
+      times_more words_refused journals journal word,
+      times_more words_returned journals journal word,
+      adds word,
+      so_far word,
+    )
+
 pub counts_more : (is_run : ScenarioLists → List Entry → Type 0) (w turns : ℕ) (sent : List CodedWord) (n : ℕ) (round : ScenarioLists) (old new : Counted)
-    → ((journal : List Entry) → is_run (round_at w turns sent n) journal → (word : List ℕ) → times (words_run journal) word ≤ times (words_asked (round_at w turns sent n).script) word)
+    → ((journal : List Entry) → is_run (round_at w turns sent n) journal → AddsUp (round_at w turns sent n) journal)
     → round ≡ round_at w turns sent n → HasCounted is_run round old new → CountsAll is_run w turns sent n old → CountsAll is_run w turns sent (n + 1) new
-counts_more is_run w turns sent n round old new few is counted' so_far =
+counts_more is_run w turns sent n round old new adds is counted' so_far =
     let counted : HasCounted is_run (round_at w turns sent n) old new = subst (λ (r : ScenarioLists). HasCounted is_run r old new) is counted' in
     let here : ScenarioLists = round_at w turns sent n in
     let rounds : List ScenarioLists = map (round_at w turns sent) (range_with_len 0 n) in
     let journals : List (List Entry) = so_far.journals ++ counted.journal ∷ [] in
+    let adds_up : AddsUp here counted.journal = adds counted.journal counted.run in
     let next : map (round_at w turns sent) (range_with_len 0 (n + 1)) ≡ rounds ++ here ∷ [] = map-range_with_len_more (round_at w turns sent) 0 n n (omega arith) in
     let asks : asked_in_all rounds ++ words_asked here.script ≡ asked_in_all (map (round_at w turns sent) (range_with_len 0 (n + 1))) =
     sym (asked_more rounds here) ∙ ap (λ (l : List ScenarioLists). asked_in_all l) (sym next) in
-    let runs : run_in_all so_far.journals ++ words_run counted.journal ≡ run_in_all journals = sym (ran_more so_far.journals counted.journal) in
+    let runs : run_in_all so_far.journals ++ words_run counted.journal ≡ run_in_all journals = sym (listed_more words_run so_far.journals counted.journal) in
     let told : Tells (see_journal (ask_script old here.script) counted.journal) (asked_in_all rounds ++ words_asked here.script) (run_in_all so_far.journals ++ words_run counted.journal) =
     tells_journal counted.journal (ask_script old here.script) (asked_in_all rounds ++ words_asked here.script) (run_in_all so_far.journals)
     (tells_script here.script old (asked_in_all rounds) (run_in_all so_far.journals) so_far.tells) in
     record {
       journals = journals;
-      runs = subst (λ (l : List ScenarioLists). AllZip is_run l journals) (sym next) (all_zipped_more is_run rounds so_far.journals here counted.journal so_far.runs counted.run);
+      rounds = subst (λ (l : List ScenarioLists). AllZip (IsRound is_run) l journals) (sym next) (all_zipped_more (IsRound is_run) rounds so_far.journals here counted.journal so_far.rounds (record { run = counted.run; adds_up = adds_up }));
       tells = subst (λ (c : Counted). Tells c (asked_in_all (map (round_at w turns sent) (range_with_len 0 (n + 1)))) (run_in_all journals)) (sym counted.is)
           (subst (λ (l : List (List ℕ)). Tells (see_journal (ask_script old here.script) counted.journal) l (run_in_all journals)) asks
           (subst (λ (l : List (List ℕ)). Tells (see_journal (ask_script old here.script) counted.journal) (asked_in_all rounds ++ words_asked here.script) l) runs told));
-      few = λ (word : List ℕ).
-          let ran : times (run_in_all journals) word ≡ times (run_in_all so_far.journals) word + times (words_run counted.journal) word =
-          ap (λ (l : List (List ℕ)). times l word) (sym runs) ∙ both_times (run_in_all so_far.journals) (words_run counted.journal) word in
-          let asked : times (asked_in_all (map (round_at w turns sent) (range_with_len 0 (n + 1)))) word ≡ times (asked_in_all rounds) word + times (words_asked here.script) word =
-          ap (λ (l : List (List ℕ)). times l word) (sym asks) ∙ both_times (asked_in_all rounds) (words_asked here.script) word in
-          let before : times (run_in_all so_far.journals) word ≤ times (asked_in_all rounds) word = so_far.few word in
-          let now : times (words_run counted.journal) word ≤ times (words_asked here.script) word = few counted.journal counted.run word in
-          omega arith;
+      ends = subst (λ (l : List (List ℕ)). EndIn l journals) asks (ends_more (asked_in_all rounds) (words_asked here.script) so_far.journals counted.journal adds_up so_far.ends);
     }
 
 -- ---- short words
@@ -145,6 +158,10 @@ counts_text text ran rows count = record {
   every = λ (word : List ℕ) (short : is_short word ≡ true) (some : 0 < plain text word). count.every word (subst (λ (n : ℕ). 0 < n) (sym (times_short (words_of text) word short)) some);
 }
 
+-- what ends otherwise is left
+left_told : (asked : List (List ℕ)) (journals : List (List Entry)) (rows : List WordCountLists) → IsCountOf asked (run_in_all journals) rows → EndIn asked journals → All (LeftIn journals) rows
+left_told asked journals rows count ends = λ (k : ℕ) (d : WordCountLists) (below : k < length rows). omega (arith, count.both k d below, count.ran' k d below, ends (get_or rows k d).word)
+
 pub text_counted : (is_run : ScenarioLists → List Entry → Type 0) (w turns : ℕ) (text : List ℕ) (sent : List CodedWord) (counted : Counted) (rows : List WordCountLists) (all long : ℕ) (printed : List ℕ)
     → 0 < w → w ≤ 8 → IsText text → length text ≤ 1_048_576 → sent ≡ sent_words text → IsStrictlySortedBy (slice_cmp nat_cmp) (keys_of counted) → CountsAll is_run w turns sent (round_count w (length sent)) counted → rows ≡ rows_of counted
     → long ≡ long_count text → all ≡ min (length sent + long) 0xffff_ffff_ffff_ffff → printed ≡ count_text w turns all long rows → PrintsCount is_run w turns text printed
@@ -152,23 +169,24 @@ text_counted is_run w turns text sent counted rows all long printed some nodes i
     let counts : CountsAll is_run w turns (sent_words text) (round_count w (length (sent_words text))) counted = subst (λ (l : List CodedWord). CountsAll is_run w turns l (round_count w (length l)) counted) sent_is counts' in
     let sends : asked_in_all (rounds_of w turns (sent_words text)) ≡ short_words text = rounds_send w turns text some nodes is in
     let tells : Tells counted (short_words text) (run_in_all counts.journals) = subst (λ (l : List (List ℕ)). Tells counted l (run_in_all counts.journals)) sends counts.tells in
-    let few : (word : List ℕ) → times (run_in_all counts.journals) word ≤ times (short_words text) word = λ (word : List ℕ). subst (λ (l : List (List ℕ)). times (run_in_all counts.journals) word ≤ times l word) sends (counts.few word) in
+    let ends : EndIn (short_words text) counts.journals = subst (λ (l : List (List ℕ)). EndIn l counts.journals) sends counts.ends in
+    let few : (word : List ℕ) → times (run_in_all counts.journals) word ≤ times (short_words text) word = λ (word : List ℕ). omega (arith, ends word) in
+    let counted_is : IsCountOf (short_words text) (run_in_all counts.journals) (rows_of counted) = rows_count counted (short_words text) (run_in_all counts.journals) sorted tells few (short_few text small) in
     let whole : all ≡ length (words_of text) =
     let lengths : length sent ≡ length (sent_words text) = ap (λ (l : List CodedWord). length l) sent_is in
     omega (arith, all_is, lengths, long_is, all_words text, words_few text [], small) in
     record {
       journals = counts.journals;
-      runs = counts.runs;
+      rounds = counts.rounds;
       rows = rows;
-      counts = subst (λ (l : List WordCountLists). CountsText text (run_in_all counts.journals) l) (sym rows_are)
-          (counts_text text (run_in_all counts.journals) (rows_of counted) (rows_count counted (short_words text) (run_in_all counts.journals) sorted tells few (short_few text small)));
+      counts = subst (λ (l : List WordCountLists). CountsText text (run_in_all counts.journals) l) (sym rows_are) (counts_text text (run_in_all counts.journals) (rows_of counted) counted_is);
+      left = subst (λ (l : List WordCountLists). All (LeftIn counts.journals) l) (sym rows_are) (left_told (short_words text) counts.journals (rows_of counted) counted_is ends);
       text' = print ∙ ap (λ (n : ℕ). count_text w turns n long rows) whole ∙ ap (λ (n : ℕ). count_text w turns (length (words_of text)) n rows) long_is;
     }
 
 -- ---- a round that stopped
 
-pub round_stopped : (is_cut : ScenarioLists → Part → List Entry → Type 0) (w turns : ℕ) (sent : List CodedWord) (n : ℕ) (round : ScenarioLists) (stop : CountStop) → n < round_count w (length sent) → round ≡ round_at w turns sent n → IsRoundStop (is_cut round) n stop → IsCountStop is_cut w turns sent stop
-round_stopped is_cut w turns sent n round (Stop.LogFull number part journal) below is (same, cut) =
-    let here : number < round_count w (length sent) = omega (arith, same, below) in
-    (here, subst (λ (k : ℕ). is_cut (round_at w turns sent k) part journal) (sym same) (subst (λ (r : ScenarioLists). is_cut r part journal) is cut))
+pub round_stopped : (is_cut : ScenarioLists → Part → List Entry → Type 0) (w turns : ℕ) (sent : List CodedWord) (n : ℕ) (round : ScenarioLists) (stop : CountStop) → n < round_count w (length sent) → round ≡ round_at w turns sent n → IsRoundStop is_cut round stop → IsCountStop is_cut w turns sent stop
+round_stopped is_cut w turns sent n round (Stop.LogFull scenario part journal) below is (same, cut) =
+    ((n, below, same ∙ is), subst (λ (r : ScenarioLists). is_cut r part journal) (sym same) cut)
 round_stopped is_cut w turns sent n round Stop.NoMemory below is stopped = tt

@@ -15,12 +15,16 @@ abbrev pub IsRunStop : (Part → List Entry → Type 0) → RunStop → Type 0
 IsRunStop is_cut (Run.LogFull part journal) = is_cut part journal
 IsRunStop is_cut Run.NoMemory = Unit {0}
 
--- so of the round with this number
-abbrev pub IsRoundStop : (Part → List Entry → Type 0) → ℕ → CountStop → Type 0
-IsRoundStop is_cut number (Stop.LogFull round part journal) = (round ≡ number) × is_cut part journal
-IsRoundStop is_cut number Stop.NoMemory = Unit {0}
+-- so of this round
+abbrev pub IsRoundStop : (ScenarioLists → Part → List Entry → Type 0) → ScenarioLists → CountStop → Type 0
+IsRoundStop is_cut round (Stop.LogFull scenario part journal) = (scenario ≡ round) × is_cut round part journal
+IsRoundStop is_cut round Stop.NoMemory = Unit {0}
+
+-- a scenario is that of a round of these words
+abbrev pub IsRoundOf : (w turns : ℕ) → List CodedWord → ScenarioLists → Type 0
+IsRoundOf w turns sent scenario = (number : ℕ) × (number < round_count w (length sent)) × (scenario ≡ round_at w turns sent number)
 
 -- the run of a round of these words met a full log
 abbrev pub IsCountStop : (ScenarioLists → Part → List Entry → Type 0) → (w turns : ℕ) → List CodedWord → CountStop → Type 0
-IsCountStop is_cut w turns sent (Stop.LogFull round part journal) = (round < round_count w (length sent)) × is_cut (round_at w turns sent round) part journal
+IsCountStop is_cut w turns sent (Stop.LogFull scenario part journal) = IsRoundOf w turns sent scenario × is_cut scenario part journal
 IsCountStop is_cut w turns sent Stop.NoMemory = Unit {0}

@@ -21,10 +21,10 @@ use std::alloc::{AllocError, Global};
 /// Why words were not counted.
 #[derive(Debug, Drop)]
 pub enum CountStop {
-    /// In the round with this number, counted from 0, the log of this part is full, and the next entry would have to go into it. The
-    /// journal has the entries of the round before it.
+    /// In the run of this scenario, which is that of a round, the log of this part is full, and the next entry would have to go into
+    /// it. The journal has the entries of the run before it.
     LogFull {
-        round: usize,
+        scenario: Scenario,
         part: Part,
         journal: Journal,
     },
@@ -59,19 +59,18 @@ fn count_round<R: Runner>(
     runner: &R,
     alloc: Global,
     tally: &mut Tally,
-    scenario: &Scenario,
-    number: usize,
+    scenario: Scenario,
 ) -> Result<(), CountStop>
-    requires lawful { IsLawful scenario.now }
-    requires of_form { IsOfForm Run scenario.now }
-    ensures counted { OnOk result (HasCounted (R.is_run runner.now) scenario.now tally.old tally.new) }
-    ensures stop { IfErr result (IsRoundStop (R.is_cut runner.now scenario.now) number) }
+    requires lawful { IsLawful scenario }
+    requires of_form { IsOfForm Run scenario }
+    ensures counted { OnOk result (HasCounted (R.is_run runner.now) scenario tally.old tally.new) }
+    ensures stop { IfErr result (IsRoundStop (R.is_cut runner.now) scenario) }
 {
     ask_script(alloc, tally, &scenario.script)?;
-    match runner.run(alloc, scenario) {
+    match runner.run(alloc, &scenario) {
         Ok(journal) => Ok(tally.see_journal(alloc, &journal)?),
         Err(RunStop::LogFull { part, journal }) => Err(CountStop::LogFull {
-            round: number,
+            scenario,
             part,
             journal,
         }),
@@ -97,7 +96,7 @@ fn count_rounds<R: Runner>(
     let mut tally = Tally::new(alloc);
     for number in 0..round_count(w, sent.len()) {
         let scenario = round(alloc, w, turns, sent, number)?;
-        count_round(runner, alloc, &mut tally, &scenario, number)?;
+        count_round(runner, alloc, &mut tally, scenario)?;
     }
     Ok(tally)
 }

@@ -6,10 +6,9 @@ ghost use Rattle.am_office.specs.declared.Part.{Part};
 ghost use Rattle.am_scenario_types.specs.Lawful.{IsLawful, IsOfForm};
 ghost use Rattle.am_scenario_types.specs.Lists.{ScenarioLists};
 ghost use Rattle.am_scenario_types.specs.declared.parts.Form.TheVariants.{Run};
-ghost use Rattle.am_words.specs.Counts.{times, words_run};
 ghost use Rattle.am_words.specs.declared.codes.CodedWord.{CodedWord};
-ghost use Rattle.am_job.specs.Asked.{words_asked};
 ghost use Rattle.am_job.specs.Rounds.{scenario};
+ghost use Rattle.am_count.specs.Left.{AddsUp};
 ghost use Rattle.am_count.specs.Stops.{IsRunStop};
 
 use am_office::{Journal, Part};
@@ -40,6 +39,6 @@ pub trait Runner {
         ensures run { IfOk result (is_run self.now scenario.now) }
         ensures stop { IfErr result (IsRunStop (is_cut self.now scenario.now)) };
 
-    /// In the run of a round no word runs more often than the round sends it.
-    ghost runs_few: { (r : Self) (w turns : ℕ) (words : List CodedWord) (journal : List Entry) → 0 < w → w ≤ 8 → is_run r (scenario w turns words) journal → (word : List ℕ) → times (words_run journal) word ≤ times (words_asked (scenario w turns words).script) word };
+    /// In the run of a round each word that is sent runs, or its request is refused, or its message is returned.
+    ghost adds_up: { (r : Self) (w turns : ℕ) (words : List CodedWord) (journal : List Entry) → 0 < w → w ≤ 8 → is_run r (scenario w turns words) journal → AddsUp (scenario w turns words) journal };
 }

@@ -1,13 +1,15 @@
 -- The calls that the threads make are those of the scripts.
-use Rattle.std.proofs.Common.{◌≡◌, ℕ, zero, suc, ◌+◌, ◌%◌, ◌<◌, ◌≤◌, Bool, true, false, ◌&&◌, ◌||◌, Option, Some, None, List, [], ◌∷◌, ◌++◌, refl, sym, ap, ◌∙◌, subst, length, count_by, filter_map, nat_lt, if◌then◌else◌, arith}
+use Rattle.std.proofs.Common.{◌≡◌, ℕ, zero, suc, ◌+◌, ◌%◌, ◌<◌, ◌≤◌, Bool, true, false, ◌&&◌, ◌||◌, not, Option, Some, None, List, [], ◌∷◌, ◌++◌, refl, sym, ap, ◌∙◌, subst, length, count_by, filter_map, nat_lt, if◌then◌else◌, arith}
 use Rattle.std.specs.Prelude.{◌==◌, filter}
 use Rattle.std.specs.List.{All, AllByRecursion, Contains, cons_option, list_all, list_any}
 use Rattle.std.proofs.lemmas.Bool.Decides.{nat_tests}
 use Rattle.std.proofs.lemmas.List.Elements.{All-contains, All-from_recursion, Contains-append_left, Contains-push}
 use Rattle.std.proofs.lemmas.List.Folds.{list_any-append}
+use Rattle.std.proofs.lemmas.Nat.{mod_below}
 use Rattle.std.proofs.lemmas.List.Sums.{sum_by-append, sum_by-cons, sum_by-le-sum_by}
 use Rattle.am_office.specs.declared.Actor.{Actor}
 use Rattle.am_office.specs.declared.Actor.TheVariants.{Thread, Outside}
+use Rattle.am_office.specs.declared.HandlerKind.TheVariants.{Note}
 use Rattle.am_office.specs.declared.Call.{Call}
 use Rattle.am_office.specs.declared.Call.TheVariants as Calls
 use Rattle.am_office.specs.declared.Event.{Event}
@@ -19,7 +21,7 @@ use Rattle.am_scripts.specs.Scripts.{KeepsScripts, call_made, calls_of, is_of_th
 use Rattle.am_scripts.specs.Follows.{KeepsToEvents, is_of_run, is_thread}
 use Rattle.am_words.specs.declared.codes.CodedWord.{CodedWord}
 use Rattle.am_job.specs.Rounds.{scenario, thread_line, threads_below}
-use Rattle.am_job.specs.Scripts.{script}
+use Rattle.am_job.specs.Scripts.{map_to, maps_below, on_owner, on_sender, opening, openings_below, owner, polls, script, sending, sendings}
 use Rattle.am_count_laws.proofs.Injected.{count_cons, weight}
 
 abbrev pub made : Entry → Option ScriptCall
@@ -163,17 +165,103 @@ part_whole w turns words q (x ∷ journal) run =
           so_far,
         ))
 
+-- each thread makes the calls of its script
+same_threads : (w turns : ℕ) (words : List CodedWord) (journal : List Entry) → KeepsScripts (scenario w turns words) journal → (t : ℕ) → t < w → filter (is_of_thread t) (filter_map made journal) ≡ filter (is_of_thread t) (script w words)
+unfolding scenario
+same_threads w turns words journal scripts t less =
+    let all : All (λ (t : ThreadLine). calls_of t.id journal ≡ script_of (scenario w turns words) t.id) (threads_below w) =
+    All-from_recursion (λ (t : ThreadLine). calls_of t.id journal ≡ script_of (scenario w turns words) t.id) (threads_below w) scripts in
+    All-contains (λ (l : ThreadLine). calls_of l.id journal ≡ script_of (scenario w turns words) l.id) (threads_below w) (thread_line t) all (has_thread w t less)
+
 -- no calls pass more often in the journal than in the script
 pub calls_few : (w turns : ℕ) (words : List CodedWord) (journal : List Entry) → KeepsScripts (scenario w turns words) journal → KeepsToEvents (scenario w turns words) journal → (q : ScriptCall → Bool) → count_by q (filter_map made journal) ≤ count_by q (scenario w turns words).script
 unfolding scenario
 calls_few w turns words journal scripts events q =
-    let all : All (λ (t : ThreadLine). calls_of t.id journal ≡ script_of (scenario w turns words) t.id) (threads_below w) =
-    All-from_recursion (λ (t : ThreadLine). calls_of t.id journal ≡ script_of (scenario w turns words) t.id) (threads_below w) scripts in
-    let same : (t : ℕ) → t < w → filter (is_of_thread t) (filter_map made journal) ≡ filter (is_of_thread t) (script w words) =
-    λ (t : ℕ) (less : t < w). All-contains (λ (l : ThreadLine). calls_of l.id journal ≡ script_of (scenario w turns words) l.id) (threads_below w) (thread_line t) all (has_thread w t less) in
     omega (
       arith,
       part_whole w turns words q journal events,
-      parts_same q w w (filter_map made journal) (script w words) same (omega arith),
+      parts_same q w w (filter_map made journal) (script w words) (same_threads w turns words journal scripts) (omega arith),
       part_less q w (script w words),
+    )
+
+-- ---- every call of the script is of a thread of the round
+
+abbrev beyond : ℕ → ScriptCall → Bool
+beyond w c = not (nat_lt c.thread w)
+
+beyond_both : (w : ℕ) (a b : List ScriptCall) → count_by (beyond w) (a ++ b) ≡ count_by (beyond w) a + count_by (beyond w) b
+beyond_both w a b = sum_by-append (λ (c : ScriptCall). if beyond w c then 1 else 0) a b
+
+not_beyond : (w n : ℕ) → n < w → weight (not (nat_lt n w)) ≡ 0
+not_beyond w n less = ap (λ (b : Bool). weight (not b)) (lt_yes n w less)
+
+one_within : (w : ℕ) (c : ScriptCall) → c.thread < w → count_by (beyond w) (c ∷ []) ≡ 0
+one_within w c less = omega (arith, count_cons (beyond w) c [], not_beyond w c.thread less)
+
+maps_within : (w n k : ℕ) → n < w → count_by (beyond w) (maps_below n k) ≡ 0
+unfolding maps_below
+maps_within w n zero less = refl
+maps_within w n (suc k) less = omega (arith, beyond_both w (maps_below n k) (on_sender n (map_to k) ∷ []), maps_within w n k less, one_within w (on_sender n (map_to k)) less)
+
+openings_within : (v w n : ℕ) → n ≤ v → count_by (beyond v) (openings_below w n) ≡ 0
+unfolding openings_below opening
+openings_within v w zero few = refl
+openings_within v w (suc n) few =
+    omega (
+      arith,
+      beyond_both v (openings_below w n) (on_owner n (Calls.SetHandler 1 Note) ∷ [] ++ maps_below n w),
+      beyond_both v (on_owner n (Calls.SetHandler 1 Note) ∷ []) (maps_below n w),
+      one_within v (on_owner n (Calls.SetHandler 1 Note)) (omega arith),
+      openings_within v w n (omega arith),
+      maps_within v n w (omega arith),
+    )
+
+polls_within : (w n times : ℕ) → n < w → count_by (beyond w) (polls n times) ≡ 0
+unfolding polls
+polls_within w n zero less = refl
+polls_within w n (suc times) less = omega (arith, beyond_both w (polls n times) (on_owner n Calls.Poll ∷ []), polls_within w n times less, one_within w (on_owner n Calls.Poll) less)
+
+sending_within : (w n : ℕ) (word : CodedWord) → n < w → count_by (beyond w) (sending w n word) ≡ 0
+unfolding sending
+sending_within w n word less =
+    omega (
+      arith,
+      beyond_both w (on_sender n (Calls.Request (owner w word) 1 word.words) ∷ [] ++ polls n w) (on_sender n Calls.Poll ∷ []),
+      beyond_both w (on_sender n (Calls.Request (owner w word) 1 word.words) ∷ []) (polls n w),
+      polls_within w n w less,
+      one_within w (on_sender n (Calls.Request (owner w word) 1 word.words)) less,
+      one_within w (on_sender n Calls.Poll) less,
+    )
+
+sendings_within : (w j : ℕ) (words : List CodedWord) → 0 < w → count_by (beyond w) (sendings w j words) ≡ 0
+unfolding sendings
+sendings_within w j [] some = refl
+sendings_within w j (word ∷ words) some =
+    omega (arith, beyond_both w (sending w (j % w) word) (sendings w (j + 1) words), sending_within w (j % w) word (mod_below j w some), sendings_within w (j + 1) words some)
+
+script_within : (w : ℕ) (words : List CodedWord) → 0 < w → count_by (beyond w) (script w words) ≡ 0
+unfolding script
+script_within w words some = omega (arith, beyond_both w (openings_below w w) (sendings w 0 words), openings_within w w w (omega arith), sendings_within w 0 words some)
+
+and_within : (a b : Bool) → weight (not b) ≡ 0 → weight (a && b) ≡ weight a
+and_within true true is = refl
+and_within true false is = absurd (omega (arith, is))
+and_within false b is = refl
+
+part_all : (q : ScriptCall → Bool) (w : ℕ) (calls : List ScriptCall) → count_by (beyond w) calls ≡ 0 → part q w calls ≡ count_by q calls
+part_all q w [] none = refl
+part_all q w (c ∷ calls) none =
+    let here : weight (not (nat_lt c.thread w)) ≡ 0 = omega (arith, count_cons (beyond w) c calls, none) in
+    let rest : count_by (beyond w) calls ≡ 0 = omega (arith, count_cons (beyond w) c calls, none) in
+    omega (arith, count_cons (λ (d : ScriptCall). q d && nat_lt d.thread w) c calls, count_cons q c calls, and_within (q c) (nat_lt c.thread w) here, part_all q w calls rest)
+
+-- calls pass as often in the journal as in the script
+pub calls_all : (w turns : ℕ) (words : List CodedWord) (journal : List Entry) → 0 < w → KeepsScripts (scenario w turns words) journal → KeepsToEvents (scenario w turns words) journal → (q : ScriptCall → Bool) → count_by q (filter_map made journal) ≡ count_by q (scenario w turns words).script
+unfolding scenario
+calls_all w turns words journal some scripts events q =
+    omega (
+      arith,
+      part_whole w turns words q journal events,
+      parts_same q w w (filter_map made journal) (script w words) (same_threads w turns words journal scripts) (omega arith),
+      part_all q w (script w words) (script_within w words some),
     )

@@ -41,13 +41,13 @@ kept xs i d y within (j, below, is) other =
 abbrev pub Once : List Message → Type 0
 Once xs = (s : Serial) → count_by (has_serial s) xs ≤ 1
 
-own_serial : (m : Message) → has_serial m.serial m ≡ true
+pub own_serial : (m : Message) → has_serial m.serial m ≡ true
 own_serial m = same_serial-refl m.serial
 
-once_tail : (m : Message) (xs : List Message) → Once (m ∷ xs) → Once xs
+pub once_tail : (m : Message) (xs : List Message) → Once (m ∷ xs) → Once xs
 once_tail m xs once = λ (s : Serial). omega (arith, count_cons (has_serial s) m xs, once s)
 
-none_has : (s : Serial) (xs : List Message) (y : Message) → count_by (has_serial s) xs ≡ 0 → Contains xs y → has_serial s y ≡ true → ⊥
+pub none_has : (s : Serial) (xs : List Message) (y : Message) → count_by (has_serial s) xs ≡ 0 → Contains xs y → has_serial s y ≡ true → ⊥
 none_has s xs y none (i, below, is) has =
     let there : has_serial s (get_or xs i y) ≡ true = ap (λ (z : Message). has_serial s z) is ∙ has in
     let more : weight (has_serial s (get_or xs i y)) ≤ count_by (has_serial s) xs = get_or-le-sum_by (λ (z : Message). if has_serial s z then 1 else 0) xs i y below in

@@ -48,17 +48,17 @@ use Rattle.am_count_laws.proofs.Called.{calls_few, made}
 -- ---- the word that is carried
 
 -- whether there is a value, and it passes
-abbrev holds : {Y : Type 0} → (Y → Bool) → Option Y → Bool
+abbrev pub holds : {Y : Type 0} → (Y → Bool) → Option Y → Bool
 holds p None = false
 holds p (Some y) = p y
 
-abbrev carries : List ℕ → Message → Bool
+abbrev pub carries : List ℕ → Message → Bool
 carries word m = holds (same_word word) (word_in m.words)
 
-abbrev asks : List ℕ → ScriptCall → Bool
+abbrev pub asks : List ℕ → ScriptCall → Bool
 asks word c = holds (same_word word) (word_asked c.call)
 
-count_listed : {X Y : Type 0} (h : X → Option Y) (p : Y → Bool) (xs : List X) → count_by p (filter_map h xs) ≡ count_by (λ (x : X). holds p (h x)) xs
+pub count_listed : {X Y : Type 0} (h : X → Option Y) (p : Y → Bool) (xs : List X) → count_by p (filter_map h xs) ≡ count_by (λ (x : X). holds p (h x)) xs
 count_listed h p [] = refl
 count_listed {X} {Y} h p (x ∷ xs) = by_value (count_listed h p xs) (h x) refl
   where
@@ -78,7 +78,7 @@ run_carries : (word : List ℕ) (o : Option Message) → holds (same_word word) 
 run_carries word None = refl
 run_carries word (Some m) = refl
 
-runs_are : (word : List ℕ) (journal : List Entry) → counts.times (words_run journal) word ≡ count_by (carries word) (filter_map run_of journal)
+pub runs_are : (word : List ℕ) (journal : List Entry) → counts.times (words_run journal) word ≡ count_by (carries word) (filter_map run_of journal)
 runs_are word journal =
     count_listed word_run (same_word word) journal
     ∙ count_same (λ (x : Entry). holds (same_word word) (word_run x)) (λ (x : Entry). passes (carries word) (run_of x)) journal (λ (x : Entry). run_carries word (run_of x))
@@ -115,22 +115,22 @@ accepted_step layout past x so_far first = λ (m : Message) (has : Contains (fil
         let run : IsFirstRun layout past x y = subst (λ (o : Option Message). MatchOption o (Unit {0}) (IsFirstRun layout past x)) is first.1 in
         subst (λ (z : Message). Contains (filter_map accepted_of past) z) same (gave_has past y run.accepted)
 
-all_accepted : (layout : Layout) (journal : List Entry) → PostOffice layout journal → AllAccepted journal
+pub all_accepted : (layout : Layout) (journal : List Entry) → PostOffice layout journal → AllAccepted journal
 all_accepted layout journal laws =
     over_each (IsPutAndRunFirst layout) AllAccepted (λ (past : List Entry) (x : Entry) (p : AllAccepted past) (first : IsPutAndRunFirst layout past x). accepted_step layout past x p first) [] journal
     (λ (m : Message) (has : Contains [] m). has) laws.delivery.places
 
-runs_once : (layout : Layout) (journal : List Entry) → PostOffice layout journal → Once (filter_map run_of journal)
+pub runs_once : (layout : Layout) (journal : List Entry) → PostOffice layout journal → Once (filter_map run_of journal)
 runs_once layout journal laws = λ (s : Serial).
     omega (arith, count_role run_of (has_serial s) journal, laws.delivery.counts.run s, laws.delivery.counts.put s, laws.delivery.counts.accepted s)
 
 -- ---- what is accepted was asked for
 
-no_word : (word : List ℕ) (words : Words) → words ≡ no_words → holds (same_word word) (word_in words) ≡ false
+pub no_word : (word : List ℕ) (words : Words) → words ≡ no_words → holds (same_word word) (word_in words) ≡ false
 unfolding word_in
 no_word word words is = ap (λ (w : Words). holds (same_word word) (word_in w)) is
 
-abbrev request_as : Layout → List Entry → EndpointId → ℕ → Words → Mapping → Message
+abbrev pub request_as : Layout → List Entry → EndpointId → ℕ → Words → Mapping → Message
 request_as layout past e handler words mapping = record {
   serial = record { source = e; count = times accepted_of (is_from e) past + 1 };
   kind = Kind.Request;
@@ -142,7 +142,7 @@ request_as layout past e handler words mapping = record {
   about = None;
 }
 
-abbrev SendsBy : Event → Outcome → Type 0
+abbrev pub SendsBy : Event → Outcome → Type 0
 SendsBy (Events.Call actor end Calls.Poll) o = SendsNoWords o
 SendsBy event o = Unit {0}
 
@@ -163,17 +163,17 @@ accepts_few word layout past w turns coded (Events.Call actor end Calls.Poll) (O
     subst (λ (n : ℕ). n ≤ weight (holds (asks word) (call_made (Events.Call actor end Calls.Poll)))) (sym nothing) (least (weight (holds (asks word) (call_made (Events.Call actor end Calls.Poll)))))
 accepts_few word layout past w turns coded event o run asked none = least (weight (holds (asks word) (call_made event)))
 
-sends_by : (layout : Layout) (past : List Entry) (event : Event) (o : Outcome) → IsNoted layout past → o ≡ outcome_of layout past event → SendsBy event o
+pub sends_by : (layout : Layout) (past : List Entry) (event : Event) (o : Outcome) → IsNoted layout past → o ≡ outcome_of layout past event → SendsBy event o
 sends_by layout past (Events.Call actor end Calls.Poll) o noted is = poll_sends_none layout past end noted o is
 sends_by layout past event o noted is = tt
 
 -- ---- entry after entry
 
-record Follows (layout : Layout) (w turns : ℕ) (coded : List CodedWord) (past : List Entry) (x : Entry) : Type 0 where
-  may : MayFollow layout past x
-  asked : IsAcceptedAsAsked layout past x
-  run : is_of_run (scenario w turns coded) x.event ≡ true
-  note : IsNoteEvent x.event
+pub record Follows (layout : Layout) (w turns : ℕ) (coded : List CodedWord) (past : List Entry) (x : Entry) : Type 0 where
+  pub may : MayFollow layout past x
+  pub asked : IsAcceptedAsAsked layout past x
+  pub run : is_of_run (scenario w turns coded) x.event ≡ true
+  pub note : IsNoteEvent x.event
 
 record CountsSo (word : List ℕ) (layout : Layout) (past : List Entry) : Type 0 where
   noted : IsNoted layout past
@@ -183,13 +183,13 @@ single : {Y : Type 0} (p : Y → Bool) (o : Option Y) → count_by p (cons_optio
 single p None = refl
 single p (Some y) = count_cons p y [] ∙ omega arith
 
-count_push : {Y : Type 0} (h : Entry → Option Y) (p : Y → Bool) (past : List Entry) (x : Entry) → count_by p (filter_map h (past ++ x ∷ [])) ≡ count_by p (filter_map h past) + weight (holds p (h x))
+pub count_push : {Y : Type 0} (h : Entry → Option Y) (p : Y → Bool) (past : List Entry) (x : Entry) → count_by p (filter_map h (past ++ x ∷ [])) ≡ count_by p (filter_map h past) + weight (holds p (h x))
 count_push {Y} h p past x =
     ap (λ (l : List Y). count_by p l) (filter_map-append h past (x ∷ []))
     ∙ sum_by-append (λ (y : Y). if p y then 1 else 0) (filter_map h past) (filter_map h (x ∷ []))
     ∙ ap (λ (n : ℕ). count_by p (filter_map h past) + n) (single p (h x))
 
-passes_holds : (p : Message → Bool) (o : Option Message) → holds p o ≡ passes p o
+pub passes_holds : (p : Message → Bool) (o : Option Message) → holds p o ≡ passes p o
 passes_holds p None = refl
 passes_holds p (Some m) = refl
 
@@ -211,7 +211,7 @@ is_bad (Calls.SetHandler index (Echo to)) = true
 is_bad (Calls.SetHandler index (Add to)) = true
 is_bad call = false
 
-abbrev bad : ScriptCall → Bool
+abbrev pub bad : ScriptCall → Bool
 bad c = is_bad c.call
 
 note_call : (call : Call) → is_bad call ≡ false → IsNoteCall call
@@ -250,7 +250,7 @@ made_cons x journal = by_call (made x)
     by_call None = omega arith
     by_call (Some c) = count_cons bad c (filter_map made journal)
 
-all_follow : (layout : Layout) (w turns : ℕ) (coded : List CodedWord) (past journal : List Entry) → EachAfter (MayFollow layout) past journal → EachAfter (IsAcceptedAsAsked layout) past journal
+pub all_follow : (layout : Layout) (w turns : ℕ) (coded : List CodedWord) (past journal : List Entry) → EachAfter (MayFollow layout) past journal → EachAfter (IsAcceptedAsAsked layout) past journal
     → list_all (λ (x : Entry). is_of_run (scenario w turns coded) x.event) journal ≡ true → count_by bad (filter_map made journal) ≡ 0 → EachAfter (Follows layout w turns coded) past journal
 all_follow layout w turns coded past [] may asked run good = tt
 all_follow layout w turns coded past (x ∷ journal) may asked run good =
@@ -303,7 +303,7 @@ unfolding sendings
 sendings_good w j [] = refl
 sendings_good w j (word ∷ words) = omega (arith, bad_both (sending w (j % w) word) (sendings w (j + 1) words), sending_good w (j % w) word, sendings_good w (j + 1) words)
 
-script_good : (w turns : ℕ) (words : List CodedWord) → count_by bad (scenario w turns words).script ≡ 0
+pub script_good : (w turns : ℕ) (words : List CodedWord) → count_by bad (scenario w turns words).script ≡ 0
 unfolding scenario script
 script_good w turns words = omega (arith, bad_both (openings_below w w) (sendings w 0 words), openings_good w w, sendings_good w 0 words)
 

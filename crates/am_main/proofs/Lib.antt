@@ -7,3 +7,4 @@ pub mod SessionAnswers
 pub mod RunMeaning
 pub mod SegmentAnswers
 pub mod SegmentMeaning
+pub mod CountAnswers

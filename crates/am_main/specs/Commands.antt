@@ -1,7 +1,7 @@
 -- What the words after the program's name ask for.
-use Rattle.std.specs.Prelude.{◌≡◌, ℕ, ◌==◌, Bool, true, false, List, [], ◌∷◌, codes, if◌then◌else◌, Option, Some, None}
+use Rattle.std.specs.Prelude.{◌≡◌, ℕ, ◌<◌, ◌≤◌, ◌==◌, ◌&&◌, nat_le, Bool, true, false, List, [], ◌∷◌, codes, if◌then◌else◌, Option, Some, None}
 use Rattle.std.specs.Str.{bytes_eq}
-use Rattle.std.specs.Option.{option_map}
+use Rattle.std.specs.Option.{option_and_then, option_map}
 use Rattle.am_lexer.specs.Text.{number_of}
 use Rattle.am_main.specs.declared.commands.Command.{Command}
 use Rattle.am_main.specs.declared.commands.Command.TheVariants as Commands
@@ -26,12 +26,27 @@ of_one_word word =
 unfoldable pub of_two_words : List ℕ → List ℕ → Option Command
 of_two_words word number = if bytes_eq word (codes "make") then option_map Commands.Make (exact_number number) else None
 
--- what the words ask for, if they have one of the forms: `step`, `run`, `make` and a number, `segments`, or `session`
+-- `count` is asked for with 1 to 8 nodes and 0 to 10,000 turns
+unfoldable pub count_of : ℕ → ℕ → Option Command
+count_of nodes turns = if nat_le 1 nodes && nat_le nodes 8 && nat_le turns 10_000 then Some (Commands.Count nodes turns) else None
+
+unfoldable pub of_three_words : List ℕ → List ℕ → List ℕ → Option Command
+of_three_words word nodes turns =
+    if bytes_eq word (codes "count") then option_and_then (λ (n : ℕ). option_and_then (count_of n) (exact_number turns)) (exact_number nodes) else None
+
+-- what the words ask for, if they have one of the forms: `step`, `run`, `make` and a number, `segments`, `session`, or `count` and two
+-- numbers
 unfoldable pub command_of : List (List ℕ) → Option Command
 command_of [] = None
 command_of (word ∷ []) = of_one_word word
 command_of (word ∷ number ∷ []) = of_two_words word number
-command_of (word ∷ number ∷ other ∷ words) = None
+command_of (word ∷ nodes ∷ turns ∷ []) = of_three_words word nodes turns
+command_of (word ∷ nodes ∷ turns ∷ other ∷ words) = None
+
+-- the numbers of a command are ones that it takes
+abbrev pub IsInRange : Command → Type 0
+IsInRange (Commands.Count nodes turns) = (0 < nodes) × (nodes ≤ 8) × (turns ≤ 10_000)
+IsInRange command = Unit {0}
 
 -- the words ask for this
 abbrev pub Asks : List (List ℕ) → Command → Type 0
@@ -48,9 +63,14 @@ reads_text (Some Commands.Run) = true
 reads_text (Some (Commands.Make n)) = false
 reads_text (Some Commands.Segments) = true
 reads_text (Some Commands.Session) = true
+reads_text (Some (Commands.Count nodes turns)) = true
 
 abbrev pub NeedsText : List (List ℕ) → Type 0
 NeedsText words = reads_text (command_of words) ≡ true
 
 abbrev pub NeedsNoText : List (List ℕ) → Type 0
 NeedsNoText words = reads_text (command_of words) ≡ false
+
+-- the words ask for a count
+abbrev pub AsksForCount : List (List ℕ) → Type 0
+AsksForCount words = (nodes : ℕ) × (turns : ℕ) × Asks words (Commands.Count nodes turns)

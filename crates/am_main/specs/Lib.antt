@@ -6,3 +6,4 @@ pub mod Runs
 pub mod Sessions
 pub mod Words
 pub mod Segments
+pub mod Counts

@@ -1,7 +1,7 @@
 //! The forms of the words after the program's name.
 
-ghost use Rattle.std.specs.Prelude.{◌≡◌, map, string_bytes};
-ghost use Rattle.am_main.specs.Commands.{command_of, exact_number, of_one_word, of_two_words};
+ghost use Rattle.std.specs.Prelude.{◌≡◌, IfSome, map, string_bytes};
+ghost use Rattle.am_main.specs.Commands.{IsInRange, command_of, count_of, exact_number, of_one_word, of_three_words, of_two_words};
 
 use am_lexer::parse_number;
 
@@ -19,6 +19,14 @@ pub enum Command {
     Segments,
     /// `session`: the report of the history that follows the lines of a session, which the source gives.
     Session,
+    /// `count W U`: how often each word of a text stands in it, which the source gives, as messages between this many nodes count them
+    /// in rounds of so many turns.
+    Count {
+        /// 1 to 8.
+        nodes: u8,
+        /// 0 to 10,000.
+        turns: u32,
+    },
 }
 
 // The number that a word spells as numbers are printed.
@@ -34,7 +42,8 @@ fn exact_number(word: &[u8]) -> Option<u64>
 
 #[tactic(auto, unfolding(crate::specs::Commands::of_one_word))]
 fn of_one_word(word: &str) -> Option<Command>
-    ensures { result ≡ of_one_word word.now }
+    ensures exact { result ≡ of_one_word word.now }
+    ensures in_range { IfSome result IsInRange }
 {
     match word {
         "step" => Some(Command::Step),
@@ -47,7 +56,8 @@ fn of_one_word(word: &str) -> Option<Command>
 
 #[tactic(auto, unfolding(crate::specs::Commands::of_two_words))]
 fn of_two_words(word: &str, number: &str) -> Option<Command>
-    ensures { result ≡ of_two_words word.now number.now }
+    ensures exact { result ≡ of_two_words word.now number.now }
+    ensures in_range { IfSome result IsInRange }
 {
     if word == "make" {
         Some(Command::Make(exact_number(number.as_bytes())?))
@@ -56,16 +66,49 @@ fn of_two_words(word: &str, number: &str) -> Option<Command>
     }
 }
 
-/// What the words ask for, if they have one of the forms: the one word `step`, `run`, `segments` or `session`, or the two words
-/// `make N`.
-/// N is 0 to 2^64-1, in decimal digits without a sign or a leading zero.
+// The command `count` with these numbers, if it takes them.
+#[tactic(auto, unfolding(crate::specs::Commands::count_of))]
+fn count_of(nodes: u64, turns: u64) -> Option<Command>
+    ensures exact { result ≡ count_of nodes turns }
+    ensures in_range { IfSome result IsInRange }
+{
+    if 1 <= nodes && nodes <= 8 && turns <= 10_000 {
+        Some(Command::Count {
+            nodes: nodes as u8,
+            turns: turns as u32,
+        })
+    } else {
+        None
+    }
+}
+
+#[tactic(auto, unfolding(crate::specs::Commands::of_three_words))]
+fn of_three_words(word: &str, nodes: &str, turns: &str) -> Option<Command>
+    ensures exact { result ≡ of_three_words word.now nodes.now turns.now }
+    ensures in_range { IfSome result IsInRange }
+{
+    if word == "count" {
+        count_of(
+            exact_number(nodes.as_bytes())?,
+            exact_number(turns.as_bytes())?,
+        )
+    } else {
+        None
+    }
+}
+
+/// What the words ask for, if they have one of the forms: the one word `step`, `run`, `segments` or `session`, the two words
+/// `make N`, or the three words `count W U`.
+/// N is 0 to 2^64-1, W 1 to 8 and U 0 to 10,000, each in decimal digits without a sign or a leading zero.
 #[tactic(auto, unfolding(crate::specs::Commands::command_of))]
 pub fn command_of(words: &[String]) -> Option<Command>
-    ensures { result ≡ command_of (map string_bytes words.now) }
+    ensures exact { result ≡ command_of (map string_bytes words.now) }
+    ensures in_range { IfSome result IsInRange }
 {
     match words {
         [word] => of_one_word(word.as_str()),
         [word, number] => of_two_words(word.as_str(), number.as_str()),
+        [word, nodes, turns] => of_three_words(word.as_str(), nodes.as_str(), turns.as_str()),
         _ => None,
     }
 }

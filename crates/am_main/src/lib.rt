@@ -2,6 +2,7 @@
 #![tactic(auto)]
 
 mod commands;
+mod counts;
 mod faults;
 mod laws;
 mod makes;

@@ -4,7 +4,8 @@ ghost use Rattle.std.specs.Prelude.{codes, ◌≡◌, ◌≢◌, ◌⊎◌, ◌+
 ghost use Rattle.std.specs.Io.KnownBytes.{Appends};
 ghost use Rattle.am_io.specs.Causes.{Rose};
 ghost use Rattle.am_io.specs.Whole.{IsLonger, TakesAtMost};
-ghost use Rattle.am_main.specs.Commands.{Asks, HasNoForm, NeedsNoText, NeedsText};
+ghost use Rattle.am_main.specs.Commands.{Asks, AsksForCount, HasNoForm, NeedsNoText, NeedsText};
+ghost use Rattle.am_main.specs.Counts.{CompletesCount, IsCountAnswered, IsOfCount, ReportsCount, ReportsFullCount, TellsTooLong};
 ghost use Rattle.am_main.specs.Offers.{Completes, CompletesMake, FillsLog, Finds, IsAnswered, IsGiven, IsMakeGiven, IsOfMake, IsOfText, IsOffered, LacksMemory, Refuses, Reports, ReportsFullLog, ReportsRun, ReportsSteps, TellsFault, TellsFullLog, TellsMadeLog, TellsSummary, usage};
 ghost use Rattle.am_main.specs.Runs.{answer_in};
 ghost use Rattle.am_main.specs.Segments.{CompletesSegments, IsSegmentsAnswered, ReportsFullSegments, ReportsSegments, TellsSegmentFault};
@@ -12,6 +13,7 @@ ghost use Rattle.am_main.specs.Sessions.{CompletesSession, IsOfSession, IsSessio
 ghost use Rattle.am_scenario_types.specs.declared.parts.Form.TheVariants as Forms;
 
 use crate::commands::{Command, command_of};
+use crate::counts::count_words;
 use crate::makes::make_output;
 use crate::outputs::Output;
 use crate::runs::run_output;
@@ -24,7 +26,8 @@ use am_scenario::Form;
 use std::alloc::Global;
 use std::thread::Threads;
 
-const USAGE: &[u8] = b"usage: am2 step | am2 run | am2 make N | am2 segments | am2 session\n";
+const USAGE: &[u8] =
+    b"usage: am2 step | am2 run | am2 make N | am2 segments | am2 session | am2 count W U\n";
 
 pub(crate) const READ_FAULT: &[u8] = b"read fault\n";
 
@@ -176,13 +179,14 @@ fn make<K: Sink>(alloc: Global, n: u64, sink: &mut K) -> Status
 /// of the one history that follows its lines; `run`, which reads a scenario with the scripts of threads, runs them with the interfaces
 /// and drivers at the same time for the scenario's number of turns, drains what is left, and prints the report of that run; `make N`,
 /// which reads nothing and prints the summary of the run of a generated scenario without turns; `segments`, which reads a scenario with
-/// segments, runs it so and prints also their bytes and what ran of each transfer; or `session`, which reads the events of two
-/// interfaces that restart and prints the report of the one history of its lines.
+/// segments, runs it so and prints also their bytes and what ran of each transfer; `session`, which reads the events of two
+/// interfaces that restart and prints the report of the one history of its lines; or `count W U`, which reads a text, has W nodes count
+/// its words by messages in runs of U turns, and prints how often each stands in it.
 ///
 /// The status says how it ended. Each has its cause in a clause, and a text of its own, which is offered to the sink:
 /// 0 the report or the summary, 2 wrong words, 3 a text that spells no scenario or a step that can't happen, 4 a read fault, 5 a write
-/// fault, 6 a full log (behind its line stands for `run` and `segments` the report of what was made before), 7 too many bytes, and 8 no
-/// memory, which may come at any time. It ends at the first read that fails and at the first write that is refused, and takes at most
+/// fault, 6 a full log (behind its line stands for `run`, `segments` and `count` the report of what the run made before), 7 too many
+/// bytes, 8 no memory, which may come at any time, and 11 a text that is too long to be counted. It ends at the first read that fails and at the first write that is refused, and takes at most
 /// one byte more than `MOST_BYTES`.
 #[tactic(auto, using(am_io::proofs::Parts::took_none))]
 pub fn am2<R: Threads + Sync, S: Source, K: Sink>(
@@ -206,10 +210,19 @@ pub fn am2<R: Threads + Sync, S: Source, K: Sink>(
     ensures given_session { Asks (map string_bytes words.now) Command.Session → IsSessionAnswered MOST_BYTES (S.left source.old) (S.count source.old) (S.count source.new) result.number (K.held sink.old) (K.held sink.new) }
     ensures complete_session { Asks (map string_bytes words.now) Command.Session → (Rose (S.count source.old) (S.count source.new) → ⊥) → (Rose (K.count sink.old) (K.count sink.new) → ⊥) → CompletesSession MOST_BYTES result.number (S.left source.old) (K.held sink.old) (K.held sink.new) }
     ensures session_ends { Asks (map string_bytes words.now) Command.Session → IsOfSession result.number }
+    // The headline of `count`: the sink took the counts of the words of the text that the source gave, if it is not too long.
+    ensures reports_count { (nodes turns : ℕ) → Asks (map string_bytes words.now) (Command.Count nodes turns) → result.number ≡ 0 → Finds MOST_BYTES (S.left source.old) (ReportsCount nodes turns (K.held sink.old) (K.held sink.new)) }
+    ensures full_count { (nodes turns : ℕ) → Asks (map string_bytes words.now) (Command.Count nodes turns) → result.number ≡ 6 → Finds MOST_BYTES (S.left source.old) (ReportsFullCount nodes turns (K.held sink.old) (K.held sink.new)) }
+    ensures too_long_to_count { result.number ≡ 11 → Finds MOST_BYTES (S.left source.old) (TellsTooLong (K.held sink.old) (K.held sink.new)) }
+    ensures only_count { result.number ≡ 11 → AsksForCount (map string_bytes words.now) }
+    ensures long_ended { result.number ≡ 11 → S.has_ended source.new ≡ true }
+    ensures given_count { (nodes turns : ℕ) → Asks (map string_bytes words.now) (Command.Count nodes turns) → IsCountAnswered nodes turns MOST_BYTES (S.left source.old) (S.count source.old) (S.count source.new) result.number (K.held sink.old) (K.held sink.new) }
+    ensures complete_count { (nodes turns : ℕ) → Asks (map string_bytes words.now) (Command.Count nodes turns) → (Rose (S.count source.old) (S.count source.new) → ⊥) → (Rose (K.count sink.old) (K.count sink.new) → ⊥) → CompletesCount nodes turns MOST_BYTES result.number (S.left source.old) (K.held sink.old) (K.held sink.new) }
+    ensures count_ends { (nodes turns : ℕ) → Asks (map string_bytes words.now) (Command.Count nodes turns) → IsOfCount result.number }
     // Where the words have no form, the usage line is offered.
     ensures no_form { HasNoForm (map string_bytes words.now) → IsOffered usage result.number (K.held sink.old) (K.held sink.new) }
     ensures usage { result.number ≡ 2 → HasNoForm (map string_bytes words.now) }
-    ensures usage_text { result.number ≡ 2 → Appends (K.held sink.old) (K.held sink.new) (codes "usage: am2 step | am2 run | am2 make N | am2 segments | am2 session\n") }
+    ensures usage_text { result.number ≡ 2 → Appends (K.held sink.old) (K.held sink.new) (codes "usage: am2 step | am2 run | am2 make N | am2 segments | am2 session | am2 count W U\n") }
     // Wrong words and `make` are answered with nothing read; what needs a text read it to its end, where it answers the text.
     ensures unread { NeedsNoText (map string_bytes words.now) → S.left source.new ≡ S.left source.old }
     ensures not_ended { NeedsNoText (map string_bytes words.now) → S.has_ended source.new ≡ false }
@@ -250,6 +263,9 @@ pub fn am2<R: Threads + Sync, S: Source, K: Sink>(
         Some(Command::Make(n)) => make(alloc, n, sink),
         Some(Command::Segments) => segments(rt, alloc, source, sink),
         Some(Command::Session) => session(alloc, source, sink),
+        Some(Command::Count { nodes, turns }) => {
+            count_words(rt, alloc, nodes, turns, source, sink)
+        }
         None => offer(sink, 2, USAGE),
     }
 }

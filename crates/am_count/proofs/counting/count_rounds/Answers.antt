@@ -10,5 +10,5 @@ loop-number-init g c = subst (λ (counted : Counted). CountsAll (g.R.Runner.is_r
 pub loop-number-preserved : goal.loop-number-preserved
 loop-number-preserved g c =
     counts_more (g.R.Runner.is_run c.args.runner.now) c.args.w c.args.turns c.args.sent.now c.loop-number.number c.in_ok-scenario.scenario c.loop-number.tally c.count_round.new.tally
-    (λ journal run word. g.met.R.Runner.runs_few c.args.runner.now c.args.w c.args.turns _ journal c.requires.some c.requires.nodes run word)
+    (λ journal run. g.met.R.Runner.adds_up c.args.runner.now c.args.w c.args.turns _ journal c.requires.some c.requires.nodes run)
     c.in_ok-scenario.ensures.exact c.in_ok-count_round.ensures.counted c.loop-number.invariant

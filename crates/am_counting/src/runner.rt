@@ -1,0 +1,34 @@
+//! What runs the scenario of a round over the cluster.
+
+ghost use Rattle.am_cluster.specs.Runs.{IsRunCutOff};
+ghost use Rattle.am_counting.specs.Rounds.{IsRoundRun, rounds_add_up};
+
+use am_cluster::{OpenGate, RunFault, run};
+use am_count::{RunStop, Runner};
+use am_office::Journal;
+use am_scenario_types::Scenario;
+use std::alloc::Global;
+use std::thread::Threads;
+
+/// Runs scenarios over a cluster whose threads, interfaces and drivers make their turns at the same time.
+#[derive(Drop)]
+pub(crate) struct ClusterRunner<'a, R> {
+    /// What starts threads.
+    pub(crate) rt: &'a R,
+}
+
+impl<'a, R: Threads + Sync> Runner for ClusterRunner<'a, R> {
+    ghost is_run = { λ _. IsRoundRun };
+
+    ghost is_cut = { λ _. IsRunCutOff };
+
+    ghost adds_up = { λ _. rounds_add_up };
+
+    fn run(&self, alloc: Global, scenario: &Scenario) -> Result<Journal, RunStop> {
+        match run(self.rt, alloc, scenario, &OpenGate) {
+            Ok(finished) => Ok(finished.journal),
+            Err(RunFault::LogFull { part, journal }) => Err(RunStop::LogFull { part, journal }),
+            Err(RunFault::NoMemory) => Err(RunStop::NoMemory),
+        }
+    }
+}
