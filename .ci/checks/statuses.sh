@@ -31,6 +31,13 @@ expect 'a made run, which reads nothing' 0 "$(printf 'am2 make 0\ncalls 1744')" 
 text=$(bin/am2 step < . 2>"$errors"); expect 'a folder as input' 4 'read fault' $? "$text"
 bin/am2 step < "$first" 2>"$errors" >/dev/full; expect 'a full device' 5 '' $? ''
 text=$(head -c 16777217 /dev/zero | bin/am2 step 2>"$errors"); expect 'too many bytes' 7 'input too long' $? "$text"
+text=$(bin/am2 count 9 0 < "$first" 2>"$errors"); expect 'nine nodes' 2 "$usage" $? "$text"
+text=$(bin/am2 count 1 10001 < "$first" 2>"$errors"); expect 'too many turns' 2 "$usage" $? "$text"
+text=$(printf 'b a b\n' | bin/am2 count 2 0 2>"$errors"); status=$?
+expect 'counted words' 0 "$(printf 'am2 count 2 0\nword 1 0 a\nword 2 0 b\nwords 3\nlong 0\nleft 0')" $status "$text"
+text=$(bin/am2 count 1 0 < . 2>"$errors"); expect 'a folder whose words are counted' 4 'read fault' $? "$text"
+text=$(head -c 1048577 /dev/zero | bin/am2 count 1 0 2>"$errors"); expect 'a text too long to be counted' 11 'text too long' $? "$text"
+text=$(head -c 16777217 /dev/zero | bin/am2 count 1 0 2>"$errors"); expect 'too many bytes to be counted' 7 'input too long' $? "$text"
 rm -f "$errors"
 [ "$failed" = 0 ] && echo "statuses: as they should be"
 exit "$failed"

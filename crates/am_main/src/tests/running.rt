@@ -25,7 +25,7 @@ const RUNS: [(&str, u8, &str); 10] = [
 ];
 
 /// Words that have no form, one after another with a space between them.
-const NO_FORMS: [&str; 13] = [
+const NO_FORMS: [&str; 23] = [
     "",
     "stop",
     "Step",
@@ -39,9 +39,19 @@ const NO_FORMS: [&str; 13] = [
     "make -1",
     "make 18446744073709551616",
     "make 1 2",
+    "count",
+    "count 1",
+    "count 0 0",
+    "count 9 0",
+    "count 1 10001",
+    "count 01 0",
+    "count 1 00",
+    "count 1 +5",
+    "count x 0",
+    "count 1 0 0",
 ];
 
-fn words_of(alloc: Global, line: &str) -> Result<Vec<String>, AllocError> {
+pub fn words_of(alloc: Global, line: &str) -> Result<Vec<String>, AllocError> {
     let mut words = Vec::new(alloc);
     for word in line.split(' ') {
         words.push(String::from_str(alloc, word)?)?;
@@ -161,6 +171,15 @@ fn forms_of_words(rt: HostRuntime) -> Result<(), Fail> {
         matches!(
             command_of(&most),
             Some(Command::Make(18_446_744_073_709_551_615))
+        )
+    );
+    assert!(rt;
+        matches!(
+            command_of(&words_of(alloc, "count 8 10000")?),
+            Some(Command::Count {
+                nodes: 8,
+                turns: 10_000
+            })
         )
     );
     Ok(())
