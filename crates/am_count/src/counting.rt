@@ -17,6 +17,7 @@ use am_office::{Journal, Part};
 use am_scenario_types::Scenario;
 use am_words::{CodedWord, Tally, split};
 use std::alloc::{AllocError, Global};
+use std::thread::Threads;
 
 /// Why words were not counted.
 #[derive(Debug, Drop)]
@@ -55,7 +56,8 @@ impl From<AllocError> for CountStop {
 }
 
 // Runs a round, and counts its words. Its scenario and its journal are given back before the next.
-fn count_round<R: Runner>(
+fn count_round<T: Threads + Sync, R: Runner>(
+    rt: &T,
     runner: &R,
     alloc: Global,
     tally: &mut Tally,
@@ -67,7 +69,7 @@ fn count_round<R: Runner>(
     ensures stop { IfErr result (IsRoundStop (R.is_cut runner.now) scenario) }
 {
     ask_script(alloc, tally, &scenario.script)?;
-    match runner.run(alloc, &scenario) {
+    match runner.run(rt, alloc, &scenario) {
         Ok(journal) => Ok(tally.see_journal(alloc, &journal)?),
         Err(RunStop::LogFull { part, journal }) => Err(CountStop::LogFull {
             scenario,
@@ -79,7 +81,8 @@ fn count_round<R: Runner>(
 }
 
 // Runs all rounds.
-fn count_rounds<R: Runner>(
+fn count_rounds<T: Threads + Sync, R: Runner>(
+    rt: &T,
     runner: &R,
     alloc: Global,
     w: u8,
@@ -96,14 +99,15 @@ fn count_rounds<R: Runner>(
     let mut tally = Tally::new(alloc);
     for number in 0..round_count(w, sent.len()) {
         let scenario = round(alloc, w, turns, sent, number)?;
-        count_round(runner, alloc, &mut tally, scenario)?;
+        count_round(rt, runner, alloc, &mut tally, scenario)?;
     }
     Ok(tally)
 }
 
 /// What is printed of the words of a text, which 1 to 8 nodes count in rounds of 0 to 10,000 turns. The text has at most 1,048,576
 /// bytes. LogFull: a log is full in the run of a round.
-pub fn count<R: Runner>(
+pub fn count<T: Threads + Sync, R: Runner>(
+    rt: &T,
     runner: &R,
     alloc: Global,
     w: u8,
@@ -118,7 +122,7 @@ pub fn count<R: Runner>(
     ensures stop { IfErr result (IsCountStop (R.is_cut runner.now) w turns (sent_words text.now)) }
 {
     let words = split(alloc, text)?;
-    let tally = count_rounds(runner, alloc, w, turns, &words.sent)?;
+    let tally = count_rounds(rt, runner, alloc, w, turns, &words.sent)?;
     let rows = tally.rows(alloc)?;
     let all = (words.sent.as_slice().len() as u64).saturating_add(words.long);
     Ok(count_text(alloc, w, turns, all, words.long, &rows)?)

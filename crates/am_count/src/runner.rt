@@ -14,6 +14,7 @@ ghost use Rattle.am_count.specs.Stops.{IsRunStop};
 use am_office::{Journal, Part};
 use am_scenario_types::Scenario;
 use std::alloc::Global;
+use std::thread::Threads;
 
 /// Why a run did not come to its end.
 #[derive(Debug, Drop)]
@@ -32,8 +33,13 @@ pub trait Runner {
     /// The journal is that of a run of the scenario which met a full log of the part.
     ghost is_cut: { Self → ScenarioLists → Part → List Entry → Type 0 };
 
-    /// Runs a scenario of the packet network.
-    fn run(&self, alloc: Global, scenario: &Scenario) -> Result<Journal, RunStop>
+    /// Runs a scenario of the packet network, with threads where it starts some.
+    fn run<T: Threads + Sync>(
+        &self,
+        rt: &T,
+        alloc: Global,
+        scenario: &Scenario,
+    ) -> Result<Journal, RunStop>
         requires lawful { IsLawful scenario.now }
         requires of_form { IsOfForm Run scenario.now }
         ensures run { IfOk result (is_run self.now scenario.now) }

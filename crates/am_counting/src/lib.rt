@@ -33,6 +33,5 @@ pub fn count_over_cluster<R: Threads + Sync>(
     ensures prints { IfOk result (λ printed. PrintsCount IsRoundRun w turns text.now printed.items) }
     ensures stop { IfErr result (IsCountStop IsRunCutOff w turns (sent_words text.now)) }
 {
-    let runner = ClusterRunner { rt };
-    count(&runner, alloc, w, turns, text)
+    count(rt, &ClusterRunner, alloc, w, turns, text)
 }

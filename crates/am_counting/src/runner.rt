@@ -12,20 +12,22 @@ use std::thread::Threads;
 
 /// Runs scenarios over a cluster whose threads, interfaces and drivers make their turns at the same time.
 #[derive(Drop)]
-pub(crate) struct ClusterRunner<'a, R> {
-    /// What starts threads.
-    pub(crate) rt: &'a R,
-}
+pub(crate) struct ClusterRunner;
 
-impl<'a, R: Threads + Sync> Runner for ClusterRunner<'a, R> {
+impl Runner for ClusterRunner {
     ghost is_run = { λ _. IsRoundRun };
 
     ghost is_cut = { λ _. IsRunCutOff };
 
     ghost adds_up = { λ _. rounds_add_up };
 
-    fn run(&self, alloc: Global, scenario: &Scenario) -> Result<Journal, RunStop> {
-        match run(self.rt, alloc, scenario, &OpenGate) {
+    fn run<T: Threads + Sync>(
+        &self,
+        rt: &T,
+        alloc: Global,
+        scenario: &Scenario,
+    ) -> Result<Journal, RunStop> {
+        match run(rt, alloc, scenario, &OpenGate) {
             Ok(finished) => Ok(finished.journal),
             Err(RunFault::LogFull { part, journal }) => Err(RunStop::LogFull { part, journal }),
             Err(RunFault::NoMemory) => Err(RunStop::NoMemory),
