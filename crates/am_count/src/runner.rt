@@ -1,6 +1,7 @@
 //! What runs the scenario of a round.
 
 ghost use Rattle.std.specs.Prelude.{ℕ, ◌<◌, ◌≤◌, List, IfErr, IfOk};
+ghost use Rattle.std.specs.Thread.{IsSync};
 ghost use Rattle.am_office.specs.declared.Entry.{Entry};
 ghost use Rattle.am_office.specs.declared.Part.{Part};
 ghost use Rattle.am_scenario_types.specs.Lawful.{IsLawful, IsOfForm};
@@ -33,13 +34,14 @@ pub trait Runner {
     /// The journal is that of a run of the scenario which met a full log of the part.
     ghost is_cut: { Self → ScenarioLists → Part → List Entry → Type 0 };
 
-    /// Runs a scenario of the packet network, with threads where it starts some.
+    /// Runs a scenario of the packet network, with threads where it starts some: what starts them may be shared between threads.
     fn run<T: Threads + Sync>(
         &self,
         rt: &T,
         alloc: Global,
         scenario: &Scenario,
     ) -> Result<Journal, RunStop>
+        requires shared { IsSync T.row }
         requires lawful { IsLawful scenario.now }
         requires of_form { IsOfForm Run scenario.now }
         ensures run { IfOk result (is_run self.now scenario.now) }
