@@ -9,7 +9,7 @@ expect() { # what, wanted status, wanted text, status, text
     [ "$3" = "$5" ] || { echo "$1: printed '$5' for '$3'"; failed=1; }
     [ -s "$errors" ] && { echo "$1: wrote to standard error"; failed=1; }
 }
-usage='usage: am2 step | am2 run | am2 make N | am2 segments | am2 session | am2 count W U'
+usage='usage: am2 step | am2 run | am2 make N | am2 segments | am2 session | am2 count W U | am2 check step | am2 check run'
 bin/am2 step < "$first" >/dev/null 2>&1 || { echo "the first example failed"; exit 1; }
 text=$(bin/am2 < "$first" 2>"$errors"); expect 'no words' 2 "$usage" $? "$text"
 text=$(bin/am2 step now < "$first" 2>"$errors"); expect 'two words' 2 "$usage" $? "$text"

@@ -1,4 +1,10 @@
+pub mod Answering
+pub mod Breaks
+pub mod Coming
+pub mod Newlines
 pub mod Passing
+pub mod Numbers
+pub mod Reasons
 pub mod Steps
 pub mod Stopping
 pub mod RunEnds
@@ -6,3 +12,4 @@ pub mod Scripts
 pub mod Stopped
 pub mod Declared
 pub mod Early
+pub mod Walks

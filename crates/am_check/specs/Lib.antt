@@ -1,4 +1,5 @@
 pub mod Cut
+pub mod Exact
 pub mod Follows
 pub mod Lines
 pub mod Verdict

@@ -2,6 +2,7 @@
 //! whoever printed it.
 #![tactic(auto)]
 
+ghost use Rattle.am_check.specs.Exact.{IsExact, IsOnly};
 ghost use Rattle.am_check.specs.Follows.{IsBegun, ids_of};
 ghost use Rattle.am_check.specs.Verdict.{AnswersParts, AnswersReport, AnswersScenario, Checks, HasJournal, number_of};
 ghost use Rattle.am_report.specs.Report as texts;
@@ -12,6 +13,7 @@ ghost use Rattle.std.specs.Prelude.{◌≡◌, [], IfOk, length};
 
 mod cut;
 mod events;
+mod exact;
 mod faults;
 mod follower;
 mod head;
@@ -22,6 +24,7 @@ mod step_cluster;
 mod tail;
 
 use crate::cut::place_of;
+pub use crate::exact::answers_are_exact;
 pub use crate::faults::{CheckStop, CheckWhat};
 use crate::follower::Follower;
 use crate::head::split_head;
@@ -178,19 +181,30 @@ fn check_scenario(alloc: Global, form: Form, text: &[u8]) -> Result<(), CheckSto
     }
 }
 
-/// Whether a text is a scenario of a form and the report of a journal that is a history of the scenario and follows it: the lines
-/// of a step script, or the scripts of a run. The report begins at the first line that is `am2 report 1`; without such a line the
-/// text is read as a scenario.
-///
-/// It is stopped with the first fault of the scenario; with the first line of the report that has a fault, the lines of the
-/// journal before those behind it; with the log that is full where the next entry is due; and for want of memory.
-pub fn check(alloc: Global, form: Form, text: &[u8]) -> Result<(), CheckStop>
+/// The answer for a text.
+fn checked(alloc: Global, form: Form, text: &[u8]) -> Result<(), CheckStop>
     ensures { Checks form text.now result }
 {
     match place_of(text) {
         Some(place) => check_parts(alloc, form, &text[..place], &text[place..]),
         None => check_scenario(alloc, form, text),
     }
+}
+
+/// Whether a text is a scenario of a form and the report of a journal that is a history of the scenario and follows it: the lines
+/// of a step script, or the scripts of a run. The report begins at the first line that is `am2 report 1`; without such a line the
+/// text is read as a scenario.
+///
+/// It is stopped with the first fault of the scenario; with the first line of the report that has a fault, the lines of the
+/// journal before those behind it; with the log that is full where the next entry is due; and for want of memory. Apart from want
+/// of memory the answer is yes exactly where the text is so, and no other answer is right.
+pub fn check(alloc: Global, form: Form, text: &[u8]) -> Result<(), CheckStop>
+    ensures answer { Checks form text.now result }
+    ensures exact { IsExact form text.now result }
+    ensures only { IsOnly form text.now result }
+{
+    answers_are_exact();
+    checked(alloc, form, text)
 }
 
 /// Whether a text is a step script and the report of the journal that follows its lines, as `check` tells.

@@ -1,72 +1,116 @@
 -- The journal of a checked report, one entry after the other.
-use Rattle.std.proofs.Common.{◌≡◌, ℕ, zero, suc, ◌+◌, true, List, [], ◌∷◌, ◌++◌, map, length, take, Option, Some, None, refl, sym, ap, ◌∙◌, subst, arith, length-append, add-one}
-use Rattle.std.specs.Prelude.{slice_get}
+use Rattle.std.proofs.Common.{◌≡◌, ℕ, zero, suc, Bool, true, false, ◌||◌, List, [], ◌∷◌, ◌++◌, map, length, take, Option, Some, None, refl, sym, ap, ◌∙◌, subst, arith, length-append, add-one}
+use Rattle.std.specs.Prelude.{slice_get, not}
 use Rattle.std.proofs.lemmas.List.{take_all, map_push, length-map}
+use Rattle.std.proofs.lemmas.List.Folds.{list_all-append}
 use Rattle.am_office.specs.declared.Condition.{Condition}
 use Rattle.am_office.specs.declared.Event.{Event}
 use Rattle.am_office.specs.declared.Entry.{Entry}
 use Rattle.am_office.specs.declared.Part.{Part}
-use Rattle.am_check.proofs.Steps.{in_range_at}
+use Rattle.am_check.proofs.Coming.{in_range}
 use Rattle.am_check.specs.Follows.{Comes, IsBegun, IsEnded}
+use Rattle.am_check_laws.specs.Laws.{IsStepHistory, IsRunHistory, IsHistoryOf}
 use Rattle.am_drain.proofs.Entries.{entry_is_step}
 use Rattle.am_follow.specs.Layout.{layout_of, events_of}
 use Rattle.am_laws_steps.proofs.Steps.{walked_more}
 use Rattle.am_laws_steps.specs.Laws.{IsUnstopped, Walked}
 use Rattle.am_model.proofs.Each.{each_has, over_each}
-use Rattle.am_model.specs.History.{EachAfter, failing, is_in_range}
-use Rattle.am_model.specs.Layout.{Layout}
-use Rattle.am_model.specs.Steps.{FollowsSteps, full_log, step_entry, stop_by}
-use Rattle.am_scenario_types.specs.declared.parts.Form.TheVariants.{Step}
+use Rattle.am_model.specs.History.{EachAfter, IsHistory, failing, is_in_range}
+use Rattle.am_model.specs.Steps.{full_log, step_entry, stop_by}
+use Rattle.am_scenario_types.specs.declared.parts.Form.{Form}
+use Rattle.am_scenario_types.specs.declared.parts.Form.TheVariants.{Step, Run}
 use Rattle.am_scenario_types.specs.declared.parts.StepLine.{StepLine}
 use Rattle.am_scenario_types.specs.Lawful.{IsLawful}
 use Rattle.am_scenario_types.specs.Lists.{ScenarioLists}
+use Rattle.am_scripts.specs.Links.{IsReceiptInOrder, ReceivesInOrder, is_all_received}
+use Rattle.am_scripts.specs.Follows.{KeepsToEvents, is_last, is_of_run}
+use Rattle.am_scripts.proofs.Links.{all_is_received}
 
--- a history so far, of the first steps
-pub record IsOn (s : ScenarioLists) (past : List Entry) : Type 0 where
-  pub walked : Walked (layout_of s) past
-  pub events : map (λ (x : Entry). x.event) past ≡ take (length past) (events_of s.steps)
+-- ---- a history, with one stamp after the other
+
+no_condition : (f : Option Condition) (g : Option Part) → stop_by f g ≡ None → f ≡ None
+no_condition None g e = refl
+no_condition (Some c) g e = absurd (cc e)
+
+walked_one : (form : Form) (s : ScenarioLists) → IsLawful s → (past : List Entry) (x : Entry) → Walked (layout_of s) past → Comes form s past x → Walked (layout_of s) (past ++ x ∷ [])
+walked_one form s lawful past x walked c =
+    let layout = layout_of s in
+    let range : is_in_range layout x.event ≡ true = in_range form s lawful past x.event c.may in
+    let enabled : failing layout past x.event ≡ None = no_condition (failing layout past x.event) (full_log layout past x.event) c.unstopped in
+    let same : x ≡ step_entry layout past x.event = c.made ∙ entry_is_step layout past x.event walked in
+    subst (λ (z : Entry). Walked layout (past ++ z ∷ [])) (sym same) (walked_more layout past x.event walked range enabled)
+
+all_walked : (form : Form) (s : ScenarioLists) (journal : List Entry) → IsLawful s → IsBegun form s journal → Walked (layout_of s) journal
+all_walked form s journal lawful begun =
+    over_each (Comes form s) (Walked (layout_of s)) (walked_one form s lawful) [] journal (record { history = tt; stamped = refl; below = tt }) begun
+
+-- what each entry that comes has, each entry of the journal has
+each_so : (form : Form) (s : ScenarioLists) (Law : List Entry → Entry → Type 0) → ((past : List Entry) (x : Entry) → Comes form s past x → Law past x) → (journal : List Entry) → IsBegun form s journal → EachAfter Law [] journal
+each_so form s Law law journal begun = each_has (Comes form s) Law (λ _. Unit {0}) (λ _ _ _ _. tt) (λ past x _ c. law past x c) [] journal tt begun
+
+all_unstopped : (form : Form) (s : ScenarioLists) (journal : List Entry) → IsBegun form s journal → EachAfter (IsUnstopped (layout_of s)) [] journal
+all_unstopped form s journal begun = each_so form s (IsUnstopped (layout_of s)) (λ past x c. c.unstopped) journal begun
+
+-- ---- the lines of a step script
 
 take_more : {X : Type 0} (xs : List X) (k : ℕ) (x : X) → slice_get xs k ≡ Some x → take (suc k) xs ≡ take k xs ++ x ∷ []
 take_more [] k x e = absurd (cc e)
 take_more (y ∷ ys) zero x e = let same : y ≡ x = cc e in ap (λ (z : _). z ∷ []) same
 take_more (y ∷ ys) (suc k) x e = ap (λ (l : List _). y ∷ l) (take_more ys k x e)
 
-no_condition : (f : Option Condition) (g : Option Part) → stop_by f g ≡ None → f ≡ None
-no_condition None g e = refl
-no_condition (Some c) g e = absurd (cc e)
+abbrev HasEvents : ScenarioLists → List Entry → Type 0
+HasEvents s past = map (λ (x : Entry). x.event) past ≡ take (length past) (events_of s.steps)
 
-one_on : (s : ScenarioLists) → IsLawful s → (past : List Entry) (x : Entry) → IsOn s past → Comes Step s past x → IsOn s (past ++ x ∷ [])
-one_on s lawful past x on c =
-    let layout = layout_of s in
+events_one : (s : ScenarioLists) (past : List Entry) (x : Entry) → HasEvents s past → Comes Step s past x → HasEvents s (past ++ x ∷ [])
+events_one s past x h c =
     let events = events_of s.steps in
-    let range : is_in_range layout x.event ≡ true = in_range_at s layout (length past) x.event lawful refl c.may in
-    let enabled : failing layout past x.event ≡ None = no_condition (failing layout past x.event) (full_log layout past x.event) c.unstopped in
-    let same : x ≡ step_entry layout past x.event = c.made ∙ entry_is_step layout past x.event on.walked in
     let long : length (past ++ x ∷ []) ≡ suc (length past) = length-append past (x ∷ []) ∙ add-one (length past) in
-    record {
-      walked = subst (λ (z : Entry). Walked layout (past ++ z ∷ [])) (sym same) (walked_more layout past x.event on.walked range enabled);
-      events =
-          map_push (λ (y : Entry). y.event) past x
-          ∙ ap (λ (l : List Event). l ++ x.event ∷ []) on.events
-          ∙ sym (take_more events (length past) x.event c.may)
-          ∙ ap (λ (n : ℕ). take n events) (sym long);
-    }
+    map_push (λ (y : Entry). y.event) past x
+    ∙ ap (λ (l : List Event). l ++ x.event ∷ []) h
+    ∙ sym (take_more events (length past) x.event c.may)
+    ∙ ap (λ (n : ℕ). take n events) (sym long)
 
-none_on : (s : ScenarioLists) → IsOn s []
-none_on s = record { walked = record { history = tt; stamped = refl; below = tt }; events = refl }
-
-pub all_on : (s : ScenarioLists) (journal : List Entry) → IsLawful s → IsBegun Step s journal → IsOn s journal
-all_on s journal lawful begun = over_each (Comes Step s) (IsOn s) (one_on s lawful) [] journal (none_on s) begun
-
-pub all_unstopped : (s : ScenarioLists) (journal : List Entry) → IsBegun Step s journal → EachAfter (IsUnstopped (layout_of s)) [] journal
-all_unstopped s journal begun = each_has (Comes Step s) (IsUnstopped (layout_of s)) (λ _. Unit {0}) (λ _ _ _ _. tt) (λ _ _ _ c. c.unstopped) [] journal tt begun
-
-pub all_follow : (s : ScenarioLists) (journal : List Entry) → IsLawful s → IsBegun Step s journal → IsEnded Step s journal → FollowsSteps (events_of s.steps) journal
-all_follow s journal lawful begun ended =
-    let on = all_on s journal lawful begun in
+step_history : (s : ScenarioLists) (journal : List Entry) → IsLawful s → IsBegun Step s journal → IsEnded Step s journal → IsStepHistory s journal
+step_history s journal lawful begun ended =
+    let walked = all_walked Step s journal lawful begun in
     let events = events_of s.steps in
+    let in_order : HasEvents s journal = over_each (Comes Step s) (HasEvents s) (events_one s) [] journal refl begun in
     let long : length events ≡ length journal = length-map s.steps (λ (step : StepLine). step.event) ∙ sym ended in
     record {
-      in_order = on.events ∙ take_all (length journal) events (omega (arith, long));
-      stamped = on.walked.stamped;
+      history = walked.history;
+      follows = record { in_order = in_order ∙ take_all (length journal) events (omega (arith, long)); stamped = walked.stamped };
+      unstopped = all_unstopped Step s journal begun;
     }
+
+-- ---- the scripts of a run
+
+in_time : (last received : Bool) → ¬ ((last ≡ true) × (received ≡ false)) → (not last || received) ≡ true
+in_time true true h = refl
+in_time true false h = absurd (h (refl, refl))
+in_time false received h = refl
+
+all_of_run : (s : ScenarioLists) (past : List Entry) (x : Entry) → KeepsToEvents s past → Comes Run s past x → KeepsToEvents s (past ++ x ∷ [])
+all_of_run s past x h c = let last = c.may.of_run in rw (list_all-append (λ (y : Entry). is_of_run s y.event) past (x ∷ []), h, last) refl
+
+run_history : (s : ScenarioLists) (journal : List Entry) → IsLawful s → IsBegun Run s journal → IsEnded Run s journal → IsRunHistory s journal
+run_history s journal lawful begun ended =
+    let walked = all_walked Run s journal lawful begun in
+    let receipts : ReceivesInOrder s journal = each_so Run s (λ (past : List Entry) (x : Entry). IsReceiptInOrder s past x.event) (λ past x c. c.may.receipt) journal begun in
+    record {
+      history = walked.history;
+      stamped = walked.stamped;
+      scripts = ended.scripts;
+      links = all_is_received s journal receipts ended.received;
+      last_tries = each_so Run s (λ (past : List Entry) (x : Entry). (not (is_last s past x) || is_all_received s past) ≡ true) (λ past x c. in_time (is_last s past x) (is_all_received s past) c.in_time) journal begun;
+      rest = ended.rest;
+      events = over_each (Comes Run s) (KeepsToEvents s) (all_of_run s) [] journal refl begun;
+      unstopped = all_unstopped Run s journal begun;
+    }
+
+pub history_of : (form : Form) (s : ScenarioLists) (journal : List Entry) → IsLawful s → IsBegun form s journal → IsEnded form s journal → IsHistoryOf form s journal
+history_of Step s journal lawful begun ended = step_history s journal lawful begun ended
+history_of Run s journal lawful begun ended = run_history s journal lawful begun ended
+
+pub is_history : (form : Form) (s : ScenarioLists) (journal : List Entry) → IsHistoryOf form s journal → IsHistory (layout_of s) journal
+is_history Step s journal h = h.history
+is_history Run s journal h = h.history

@@ -1,14 +1,23 @@
-//! What a yes of the checker of printed journals means. Each law is the contract of a function with an empty body.
+//! What a yes of the checker of printed reports means. Each law is the contract of a function with an empty body.
 #![tactic(auto)]
 
-ghost use Rattle.am_check_laws.specs.Laws.{CheckedStepsAreHistories};
+ghost use Rattle.am_check_laws.specs.Laws.{CheckedAreHistories, YesIsTrue};
 
 use am_laws::post_office;
+use am_scenario::one_scenario_or_fault;
 
-/// A journal whose every entry is the one that the machine makes of the next step line, and which has an entry for each, is a
-/// history that follows the lines, with no entry that met a full log, and obeys the laws of the post office.
-pub fn checked_steps_are_histories()
-    ensures { CheckedStepsAreHistories }
+/// The journals that the checker lets pass, whose every entry is the one that the machine makes of an event that may come next, and
+/// which are whole, are just the histories of the scenario that follow its lines or its scripts, with one stamp after the other and
+/// no entry that met a full log.
+pub fn checked_journals_are_histories()
+    ensures { CheckedAreHistories }
+{}
+
+/// The texts for which the answer is yes are just those that spell a scenario and go on with the report of such a history, and each
+/// such history obeys the laws of the post office.
+pub fn yes_is_true()
+    ensures { YesIsTrue }
 {
     post_office();
+    one_scenario_or_fault();
 }

@@ -1,3 +1,4 @@
+pub mod CheckAnswers
 pub mod Complete
 pub mod Made
 pub mod OneAnswer

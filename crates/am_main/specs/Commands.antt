@@ -3,6 +3,8 @@ use Rattle.std.specs.Prelude.{◌≡◌, ℕ, ◌<◌, ◌≤◌, ◌==◌, ◌&
 use Rattle.std.specs.Str.{bytes_eq}
 use Rattle.std.specs.Option.{option_and_then, option_map}
 use Rattle.am_lexer.specs.Text.{number_of}
+use Rattle.am_scenario_types.specs.declared.parts.Form.{Form}
+use Rattle.am_scenario_types.specs.declared.parts.Form.TheVariants as Forms
 use Rattle.am_main.specs.declared.commands.Command.{Command}
 use Rattle.am_main.specs.declared.commands.Command.TheVariants as Commands
 
@@ -23,8 +25,16 @@ of_one_word word =
     if bytes_eq word (codes "segments") then Some Commands.Segments else
     if bytes_eq word (codes "session") then Some Commands.Session else None
 
+-- the form that a word names
+unfoldable pub form_of : List ℕ → Option Form
+form_of word =
+    if bytes_eq word (codes "step") then Some Forms.Step else
+    if bytes_eq word (codes "run") then Some Forms.Run else None
+
 unfoldable pub of_two_words : List ℕ → List ℕ → Option Command
-of_two_words word number = if bytes_eq word (codes "make") then option_map Commands.Make (exact_number number) else None
+of_two_words word other =
+    if bytes_eq word (codes "make") then option_map Commands.Make (exact_number other) else
+    if bytes_eq word (codes "check") then option_map Commands.Check (form_of other) else None
 
 -- `count` is asked for with 1 to 8 nodes and 0 to 10,000 turns
 unfoldable pub count_of : ℕ → ℕ → Option Command
@@ -34,12 +44,12 @@ unfoldable pub of_three_words : List ℕ → List ℕ → List ℕ → Option Co
 of_three_words word nodes turns =
     if bytes_eq word (codes "count") then option_and_then (λ (n : ℕ). option_and_then (count_of n) (exact_number turns)) (exact_number nodes) else None
 
--- what the words ask for, if they have one of the forms: `step`, `run`, `make` and a number, `segments`, `session`, or `count` and two
--- numbers
+-- what the words ask for, if they have one of the forms: `step`, `run`, `make` and a number, `segments`, `session`, `count` and two
+-- numbers, or `check` and the name of a form
 unfoldable pub command_of : List (List ℕ) → Option Command
 command_of [] = None
 command_of (word ∷ []) = of_one_word word
-command_of (word ∷ number ∷ []) = of_two_words word number
+command_of (word ∷ other ∷ []) = of_two_words word other
 command_of (word ∷ nodes ∷ turns ∷ []) = of_three_words word nodes turns
 command_of (word ∷ nodes ∷ turns ∷ other ∷ words) = None
 
@@ -64,6 +74,7 @@ reads_text (Some (Commands.Make n)) = false
 reads_text (Some Commands.Segments) = true
 reads_text (Some Commands.Session) = true
 reads_text (Some (Commands.Count nodes turns)) = true
+reads_text (Some (Commands.Check form)) = true
 
 abbrev pub NeedsText : List (List ℕ) → Type 0
 NeedsText words = reads_text (command_of words) ≡ true

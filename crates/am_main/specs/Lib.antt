@@ -1,4 +1,5 @@
 pub mod Answer
+pub mod Checks
 pub mod Commands
 pub mod Meaning
 pub mod Offers

@@ -53,7 +53,7 @@ LacksMemory old new before now = Appends old new (codes "no memory\n") ⊎ Rose 
 
 -- the answers that don't look at the bytes: wrong words, a read fault, too many bytes, and want of memory
 abbrev pub usage : Answer
-usage = record { status = 2; text = codes "usage: am2 step | am2 run | am2 make N | am2 segments | am2 session | am2 count W U\n" }
+usage = record { status = 2; text = codes "usage: am2 step | am2 run | am2 make N | am2 segments | am2 session | am2 count W U | am2 check step | am2 check run\n" }
 
 abbrev pub read_fault : Answer
 read_fault = record { status = 4; text = codes "read fault\n" }

@@ -1,9 +1,10 @@
 //! The forms of the words after the program's name.
 
 ghost use Rattle.std.specs.Prelude.{◌≡◌, IfSome, map, string_bytes};
-ghost use Rattle.am_main.specs.Commands.{IsInRange, command_of, count_of, exact_number, of_one_word, of_three_words, of_two_words};
+ghost use Rattle.am_main.specs.Commands.{IsInRange, command_of, count_of, exact_number, form_of, of_one_word, of_three_words, of_two_words};
 
 use am_lexer::parse_number;
+use am_scenario::Form;
 
 /// What the words ask for.
 #[derive(Clone, Copy, PartialEq, Eq, Debug)]
@@ -27,6 +28,21 @@ pub enum Command {
         /// 0 to 10,000.
         turns: u32,
     },
+    /// `check step`, `check run`: whether a text, which the source gives, is a scenario of this form and the report of a history that
+    /// follows it.
+    Check(Form),
+}
+
+// The form that a word names.
+#[tactic(auto, unfolding(crate::specs::Commands::form_of))]
+fn form_of(word: &str) -> Option<Form>
+    ensures { result ≡ form_of word.now }
+{
+    match word {
+        "step" => Some(Form::Step),
+        "run" => Some(Form::Run),
+        _ => None,
+    }
 }
 
 // The number that a word spells as numbers are printed.
@@ -55,12 +71,14 @@ fn of_one_word(word: &str) -> Option<Command>
 }
 
 #[tactic(auto, unfolding(crate::specs::Commands::of_two_words))]
-fn of_two_words(word: &str, number: &str) -> Option<Command>
-    ensures exact { result ≡ of_two_words word.now number.now }
+fn of_two_words(word: &str, other: &str) -> Option<Command>
+    ensures exact { result ≡ of_two_words word.now other.now }
     ensures in_range { IfSome result IsInRange }
 {
     if word == "make" {
-        Some(Command::Make(exact_number(number.as_bytes())?))
+        Some(Command::Make(exact_number(other.as_bytes())?))
+    } else if word == "check" {
+        Some(Command::Check(form_of(other)?))
     } else {
         None
     }
@@ -98,7 +116,7 @@ fn of_three_words(word: &str, nodes: &str, turns: &str) -> Option<Command>
 }
 
 /// What the words ask for, if they have one of the forms: the one word `step`, `run`, `segments` or `session`, the two words
-/// `make N`, or the three words `count W U`.
+/// `make N`, `check step` or `check run`, or the three words `count W U`.
 /// N is 0 to 2^64-1, W 1 to 8 and U 0 to 10,000, each in decimal digits without a sign or a leading zero.
 #[tactic(auto, unfolding(crate::specs::Commands::command_of))]
 pub fn command_of(words: &[String]) -> Option<Command>
@@ -107,7 +125,7 @@ pub fn command_of(words: &[String]) -> Option<Command>
 {
     match words {
         [word] => of_one_word(word.as_str()),
-        [word, number] => of_two_words(word.as_str(), number.as_str()),
+        [word, other] => of_two_words(word.as_str(), other.as_str()),
         [word, nodes, turns] => of_three_words(word.as_str(), nodes.as_str(), turns.as_str()),
         _ => None,
     }

@@ -1,6 +1,7 @@
 //! The program over any source and sink: the words of its commands, its statuses and its texts.
 #![tactic(auto)]
 
+mod checks;
 mod commands;
 mod counts;
 mod faults;

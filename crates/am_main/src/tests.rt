@@ -4,6 +4,7 @@ use am_office::Condition;
 use std::alloc::{AllocError, Global};
 use std::test::Fail;
 
+mod checking;
 mod counting;
 mod direct;
 mod packet;

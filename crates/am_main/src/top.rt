@@ -4,14 +4,17 @@ ghost use Rattle.std.specs.Prelude.{codes, ◌≡◌, ◌≢◌, ◌⊎◌, ◌+
 ghost use Rattle.std.specs.Io.KnownBytes.{Appends};
 ghost use Rattle.am_io.specs.Causes.{Rose};
 ghost use Rattle.am_io.specs.Whole.{IsLonger, TakesAtMost};
+ghost use Rattle.am_main.specs.Checks.{CompletesCheck, IsCheckAnswered, IsOfCheck, TellsLine, TellsPart, TellsScenario, TellsYes};
 ghost use Rattle.am_main.specs.Commands.{Asks, AsksForCount, HasNoForm, NeedsNoText, NeedsText};
 ghost use Rattle.am_main.specs.Counts.{CompletesCount, IsCountAnswered, IsOfCount, ReportsCount, ReportsFullCount, TellsTooLong};
 ghost use Rattle.am_main.specs.Offers.{Completes, CompletesMake, FillsLog, Finds, IsAnswered, IsGiven, IsMakeGiven, IsOfMake, IsOfText, IsOffered, LacksMemory, Refuses, Reports, ReportsFullLog, ReportsRun, ReportsSteps, TellsFault, TellsFullLog, TellsMadeLog, TellsSummary, usage};
 ghost use Rattle.am_main.specs.Runs.{answer_in};
 ghost use Rattle.am_main.specs.Segments.{CompletesSegments, IsSegmentsAnswered, ReportsFullSegments, ReportsSegments, TellsSegmentFault};
 ghost use Rattle.am_main.specs.Sessions.{CompletesSession, IsOfSession, IsSessionAnswered, RefusesSession, ReportsSession};
+ghost use Rattle.am_scenario_types.specs.declared.parts.Form.{Form as Kind};
 ghost use Rattle.am_scenario_types.specs.declared.parts.Form.TheVariants as Forms;
 
+use crate::checks::check_report;
 use crate::commands::{Command, command_of};
 use crate::counts::count_words;
 use crate::makes::make_output;
@@ -27,7 +30,7 @@ use std::alloc::Global;
 use std::thread::Threads;
 
 const USAGE: &[u8] =
-    b"usage: am2 step | am2 run | am2 make N | am2 segments | am2 session | am2 count W U\n";
+    b"usage: am2 step | am2 run | am2 make N | am2 segments | am2 session | am2 count W U | am2 check step | am2 check run\n";
 
 pub(crate) const READ_FAULT: &[u8] = b"read fault\n";
 
@@ -180,14 +183,16 @@ fn make<K: Sink>(alloc: Global, n: u64, sink: &mut K) -> Status
 /// and drivers at the same time for the scenario's number of turns, drains what is left, and prints the report of that run; `make N`,
 /// which reads nothing and prints the summary of the run of a generated scenario without turns; `segments`, which reads a scenario with
 /// segments, runs it so and prints also their bytes and what ran of each transfer; `session`, which reads the events of two
-/// interfaces that restart and prints the report of the one history of its lines; or `count W U`, which reads a text, has W nodes count
-/// its words by messages in runs of U turns, and prints how often each stands in it.
+/// interfaces that restart and prints the report of the one history of its lines; `count W U`, which reads a text, has W nodes count
+/// its words by messages in runs of U turns, and prints how often each stands in it; or `check step` and `check run`, which read a
+/// scenario of that form and behind it a report, and say whether this is the report of a history that follows the scenario.
 ///
 /// The status says how it ended. Each has its cause in a clause, and a text of its own, which is offered to the sink:
-/// 0 the report or the summary, 2 wrong words, 3 a text that spells no scenario or a step that can't happen, 4 a read fault, 5 a write
-/// fault, 6 a full log (behind its line stands for `run`, `segments` and `count` the report of what the run made before), 7 too many
-/// bytes, 8 no memory, which may come at any time, and 11 a text that is too long to be counted. It ends at the first read that fails and at the first write that is refused, and takes at most
-/// one byte more than `MOST_BYTES`.
+/// 0 the report or the summary, or that a report is right, 2 wrong words, 3 a text that spells no scenario or a step that can't happen,
+/// 4 a read fault, 5 a write fault, 6 a full log (behind its line stands for `run`, `segments` and `count` the report of what the run
+/// made before), 7 too many bytes, 8 no memory, which may come at any time, 10 the first fault of a report, and 11 a text that is too
+/// long to be counted. It ends at the first read that fails and at the first write that is refused, and takes at most one byte more than
+/// `MOST_BYTES`.
 #[tactic(auto, using(am_io::proofs::Parts::took_none))]
 pub fn am2<R: Threads + Sync, S: Source, K: Sink>(
     rt: &R,
@@ -219,10 +224,21 @@ pub fn am2<R: Threads + Sync, S: Source, K: Sink>(
     ensures given_count { (nodes turns : ℕ) → Asks (map string_bytes words.now) (Command.Count nodes turns) → IsCountAnswered nodes turns MOST_BYTES (S.left source.old) (S.count source.old) (S.count source.new) result.number (K.held sink.old) (K.held sink.new) }
     ensures complete_count { (nodes turns : ℕ) → Asks (map string_bytes words.now) (Command.Count nodes turns) → (Rose (S.count source.old) (S.count source.new) → ⊥) → (Rose (K.count sink.old) (K.count sink.new) → ⊥) → CompletesCount nodes turns MOST_BYTES result.number (S.left source.old) (K.held sink.old) (K.held sink.new) }
     ensures count_ends { (nodes turns : ℕ) → Asks (map string_bytes words.now) (Command.Count nodes turns) → IsOfCount result.number }
+    // The headline of `check`: what the source gave is a scenario and the report of a history that follows it and obeys the laws, and the
+    // sink took the line that says so. Where no read and no write fails, the status is 0 exactly there, unless the bytes are too many or
+    // memory runs out; a fault is the first one, which its line tells.
+    ensures checked { (form : Kind) → Asks (map string_bytes words.now) (Command.Check form) → result.number ≡ 0 → Finds MOST_BYTES (S.left source.old) (TellsYes form (K.held sink.old) (K.held sink.new)) }
+    ensures fault_check { (form : Kind) → Asks (map string_bytes words.now) (Command.Check form) → result.number ≡ 10 → Finds MOST_BYTES (S.left source.old) (TellsLine form (K.held sink.old) (K.held sink.new)) }
+    ensures refuses_check { (form : Kind) → Asks (map string_bytes words.now) (Command.Check form) → result.number ≡ 3 → Finds MOST_BYTES (S.left source.old) (TellsScenario form (K.held sink.old) (K.held sink.new)) }
+    ensures full_check { (form : Kind) → Asks (map string_bytes words.now) (Command.Check form) → result.number ≡ 6 → Finds MOST_BYTES (S.left source.old) (TellsPart form (K.held sink.old) (K.held sink.new)) }
+    ensures given_check { (form : Kind) → Asks (map string_bytes words.now) (Command.Check form) → IsCheckAnswered form MOST_BYTES (S.left source.old) (S.count source.old) (S.count source.new) result.number (K.held sink.old) (K.held sink.new) }
+    ensures complete_check { (form : Kind) → Asks (map string_bytes words.now) (Command.Check form) → (Rose (S.count source.old) (S.count source.new) → ⊥) → (Rose (K.count sink.old) (K.count sink.new) → ⊥) → CompletesCheck form MOST_BYTES result.number (S.left source.old) (K.held sink.old) (K.held sink.new) }
+    ensures check_ends { (form : Kind) → Asks (map string_bytes words.now) (Command.Check form) → IsOfCheck result.number }
+    ensures check_ended { (form : Kind) → Asks (map string_bytes words.now) (Command.Check form) → result.number ≡ 10 → S.has_ended source.new ≡ true }
     // Where the words have no form, the usage line is offered.
     ensures no_form { HasNoForm (map string_bytes words.now) → IsOffered usage result.number (K.held sink.old) (K.held sink.new) }
     ensures usage { result.number ≡ 2 → HasNoForm (map string_bytes words.now) }
-    ensures usage_text { result.number ≡ 2 → Appends (K.held sink.old) (K.held sink.new) (codes "usage: am2 step | am2 run | am2 make N | am2 segments | am2 session | am2 count W U\n") }
+    ensures usage_text { result.number ≡ 2 → Appends (K.held sink.old) (K.held sink.new) (codes "usage: am2 step | am2 run | am2 make N | am2 segments | am2 session | am2 count W U | am2 check step | am2 check run\n") }
     // Wrong words and `make` are answered with nothing read; what needs a text read it to its end, where it answers the text.
     ensures unread { NeedsNoText (map string_bytes words.now) → S.left source.new ≡ S.left source.old }
     ensures not_ended { NeedsNoText (map string_bytes words.now) → S.has_ended source.new ≡ false }
@@ -266,6 +282,7 @@ pub fn am2<R: Threads + Sync, S: Source, K: Sink>(
         Some(Command::Count { nodes, turns }) => {
             count_words(rt, alloc, nodes, turns, source, sink)
         }
+        Some(Command::Check(form)) => check_report(alloc, form, source, sink),
         None => offer(sink, 2, USAGE),
     }
 }

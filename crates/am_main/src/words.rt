@@ -26,7 +26,7 @@ fn what_word(what: What) -> &'static [u8]
 }
 
 #[tactic(auto, unfolding(crate::specs::Words::condition_word))]
-fn condition_word(condition: Condition) -> &'static [u8]
+pub fn condition_word(condition: Condition) -> &'static [u8]
     ensures { result.now ≡ condition_word condition }
 {
     match condition {

@@ -147,7 +147,7 @@ fn other_words_are_usage(rt: HostRuntime) -> Result<(), Fail> {
         let mut sink = MemorySink::new(alloc, 16, Vec::new(alloc));
         assert_eq!(rt; am2(&rt, alloc, &words, &mut source, &mut sink).number, 2);
         let usage =
-            b"usage: am2 step | am2 run | am2 make N | am2 segments | am2 session | am2 count W U\n";
+            b"usage: am2 step | am2 run | am2 make N | am2 segments | am2 session | am2 count W U | am2 check step | am2 check run\n";
         assert_eq!(rt; sink.bytes(), usage.as_slice());
     }
     Ok(())
