@@ -100,20 +100,6 @@ check_ends form bytes status old new (inl g) =
     own_or g.answers.says status (subst (λ (a : Answer). IsOr a.status status) g.answers.answer' (status_of g.answer status old new g.offered))
 check_ends form bytes status old new (inr none) = own_or (Err Stops.NoMemory) status (status_of no_memory status old new none)
 
--- `check` ends with no status of a count
-is_other : (n m : ℕ) → n ≡ m → m ≢ 11 → n ≢ 11
-is_other n m same other = λ (e : n ≡ 11). other (sym same ∙ e)
-
-pub check_other : (status : ℕ) → IsOfCheck status → status ≢ 11
-check_other status (inl (inl is)) = is_other status 0 is (omega arith)
-check_other status (inl (inr (inl is))) = is_other status 3 is (omega arith)
-check_other status (inl (inr (inr (inl is)))) = is_other status 6 is (omega arith)
-check_other status (inl (inr (inr (inr (inl is))))) = is_other status 10 is (omega arith)
-check_other status (inl (inr (inr (inr (inr (inl is)))))) = is_other status 5 is (omega arith)
-check_other status (inl (inr (inr (inr (inr (inr is)))))) = is_other status 8 is (omega arith)
-check_other status (inr (inl is)) = is_other status 4 is (omega arith)
-check_other status (inr (inr is)) = is_other status 7 is (omega arith)
-
 -- ---- where no read and no write fails
 
 yes_is : (form : Form) (bytes : List ℕ) (says : Result (Unit {0}) CheckStop) (status : ℕ) → (status ≡ 8 → ⊥) → IsVerdict form bytes says → status ≡ (answer_for says).status → (status ≡ 0) ↔ IsTrueReport form bytes

@@ -1,7 +1,7 @@
 -- What a status of `count` says of the text.
 use Rattle.std.specs.Prelude.{◌==◌}
 use Rattle.std.specs.Io.KnownBytes.{Appends}
-use Rattle.std.proofs.Common.{◌≡◌, ◌≢◌, ◌⊎◌, inl, inr, ⊎_elim, ℕ, ◌<◌, ◌≤◌, List, ◌++◌, Option, length, refl, sym, ◌∙◌, ap, subst, arith}
+use Rattle.std.proofs.Common.{◌≡◌, ◌≢◌, ◌⊎◌, inl, inr, ⊎_elim, ℕ, ◌<◌, ◌≤◌, List, ◌++◌, Option, Some, length, refl, sym, ◌∙◌, ap, subst, arith}
 use Rattle.am_office.specs.declared.Entry.{Entry}
 use Rattle.am_office.specs.declared.Part.{Part}
 use Rattle.am_report.specs.Report.{report}
@@ -13,7 +13,9 @@ use Rattle.am_count.specs.Counting.{PrintsCount}
 use Rattle.am_count.specs.Stops.{IsCountStop, IsRoundOf}
 use Rattle.am_count.specs.declared.counting.CountStop.TheVariants as Stop
 use Rattle.am_counting.specs.Rounds.{IsRoundRun}
+use Rattle.am_main.specs.declared.commands.Command.TheVariants as Commands
 use Rattle.am_main.specs.Answer.{Answer, full_line, ids_of}
+use Rattle.am_main.specs.Commands.{Asks, command_of}
 use Rattle.am_main.specs.Offers.{Finds, IsOffered, IsOr, no_memory, too_long}
 use Rattle.am_main.specs.Counts.{CompletesCount, CountAnswers, CutsCount, IsCountAnswer, IsCountAnswered, IsCountGiven, IsCountOffered, IsOfCount, ReportsCount, ReportsFullCount, TellsTooLong, text_too_long}
 use Rattle.am_main.proofs.Complete.{memory_alone, memory_given, not_eight, offered_whole}
@@ -29,8 +31,11 @@ pub count_cut : (nodes turns : ℕ) (bytes : List ℕ) (scenario : ScenarioLists
 count_cut nodes turns bytes scenario part journal text (round, cut) printed =
     inr (refl, record { scenario = scenario; round = round; part = part; prints = record { journal = journal; cut = cut; text' = printed } })
 
+abbrev answer_with : ℕ → List ℕ → Answer
+answer_with status text = record { status = status; text = text }
+
 pub text_is_too_long : (nodes turns : ℕ) (bytes text : List ℕ) → 1_048_576 < length bytes → text ≡ text_too_long.text → CountAnswers nodes turns bytes (record { status = 11; text = text })
-text_is_too_long nodes turns bytes text longer printed = inl (longer, ap (λ (t : List ℕ). the Answer (record { status = 11; text = t })) printed)
+text_is_too_long nodes turns bytes text longer printed = inl (longer, ap (answer_with 11) printed)
 
 pub text_counted : (nodes turns : ℕ) (bytes : List ℕ) (answer : Answer) → length bytes ≤ 1_048_576 → IsCountAnswer nodes turns bytes answer → CountAnswers nodes turns bytes answer
 text_counted nodes turns bytes answer few answers = inr (few, answers)
@@ -111,3 +116,12 @@ count_completes nodes turns most left before now status old new read write (inl 
 count_completes nodes turns most left before now status old new read write (inr (inl more)) = long_given nodes turns most status left old new write more.1
 count_completes nodes turns most left before now status old new read write (inr (inr (inl none))) = inr (inl (memory_given status old new write none))
 count_completes nodes turns most left before now status old new read write (inr (inr (inr f))) = bytes_whole nodes turns status most left old new write f
+
+-- the numbers are those of the words
+pub asked_completes : (words : List (List ℕ)) (n t nodes turns most : ℕ) (left : Option (List ℕ)) (before now status : ℕ) (old new : Option (List ℕ))
+    → Some (Commands.Count n t) ≡ command_of words → Asks words (Commands.Count nodes turns) → (Rose before now → ⊥) → (status ≡ 5 → ⊥) → IsCountAnswered n t most left before now status old new → CompletesCount nodes turns most status left old new
+asked_completes words n t nodes turns most left before now status old new is asks read write answered =
+    let same : Some (Commands.Count n t) ≡ Some (Commands.Count nodes turns) = is ∙ asks in
+    let same_nodes : n ≡ nodes = cc in
+    let same_turns : t ≡ turns = cc in
+    subst (λ (a : ℕ). CompletesCount a turns most status left old new) same_nodes (subst (λ (b : ℕ). CompletesCount n b most status left old new) same_turns (count_completes n t most left before now status old new read write answered))

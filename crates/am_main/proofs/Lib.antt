@@ -9,3 +9,4 @@ pub mod RunMeaning
 pub mod SegmentAnswers
 pub mod SegmentMeaning
 pub mod CountAnswers
+pub mod Statuses

@@ -83,5 +83,7 @@ abbrev pub NeedsNoText : List (List ℕ) → Type 0
 NeedsNoText words = reads_text (command_of words) ≡ false
 
 -- the words ask for a count
-abbrev pub AsksForCount : List (List ℕ) → Type 0
-AsksForCount words = (nodes : ℕ) × (turns : ℕ) × Asks words (Commands.Count nodes turns)
+pub record AsksForCount (words : List (List ℕ)) : Type 0 where
+  pub nodes : ℕ
+  pub turns : ℕ
+  pub asks : Asks words (Commands.Count nodes turns)

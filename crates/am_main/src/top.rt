@@ -193,7 +193,7 @@ fn make<K: Sink>(alloc: Global, n: u64, sink: &mut K) -> Status
 /// made before), 7 too many bytes, 8 no memory, which may come at any time, 10 the first fault of a report, and 11 a text that is too
 /// long to be counted. It ends at the first read that fails and at the first write that is refused, and takes at most one byte more than
 /// `MOST_BYTES`.
-#[tactic(auto, using(am_io::proofs::Parts::took_none))]
+#[tactic(auto, using(am_io::proofs::Parts::took_none, crate::proofs::Statuses::script_only, crate::proofs::Statuses::segments_only, crate::proofs::Statuses::usage_only, crate::proofs::Statuses::session_only, crate::proofs::Statuses::make_only, crate::proofs::Statuses::check_only))]
 pub fn am2<R: Threads + Sync, S: Source, K: Sink>(
     rt: &R,
     alloc: Global,
@@ -218,9 +218,9 @@ pub fn am2<R: Threads + Sync, S: Source, K: Sink>(
     // The headline of `count`: the sink took the counts of the words of the text that the source gave, if it is not too long.
     ensures reports_count { (nodes turns : ℕ) → Asks (map string_bytes words.now) (Command.Count nodes turns) → result.number ≡ 0 → Finds MOST_BYTES (S.left source.old) (ReportsCount nodes turns (K.held sink.old) (K.held sink.new)) }
     ensures full_count { (nodes turns : ℕ) → Asks (map string_bytes words.now) (Command.Count nodes turns) → result.number ≡ 6 → Finds MOST_BYTES (S.left source.old) (ReportsFullCount nodes turns (K.held sink.old) (K.held sink.new)) }
-    ensures too_long_to_count { result.number ≡ 11 → Finds MOST_BYTES (S.left source.old) (TellsTooLong (K.held sink.old) (K.held sink.new)) }
+    ensures too_long_to_count { (nodes turns : ℕ) → Asks (map string_bytes words.now) (Command.Count nodes turns) → result.number ≡ 11 → Finds MOST_BYTES (S.left source.old) (TellsTooLong (K.held sink.old) (K.held sink.new)) }
     ensures only_count { result.number ≡ 11 → AsksForCount (map string_bytes words.now) }
-    ensures long_ended { result.number ≡ 11 → S.has_ended source.new ≡ true }
+    ensures long_ended { (nodes turns : ℕ) → Asks (map string_bytes words.now) (Command.Count nodes turns) → result.number ≡ 11 → S.has_ended source.new ≡ true }
     ensures given_count { (nodes turns : ℕ) → Asks (map string_bytes words.now) (Command.Count nodes turns) → IsCountAnswered nodes turns MOST_BYTES (S.left source.old) (S.count source.old) (S.count source.new) result.number (K.held sink.old) (K.held sink.new) }
     ensures complete_count { (nodes turns : ℕ) → Asks (map string_bytes words.now) (Command.Count nodes turns) → (Rose (S.count source.old) (S.count source.new) → ⊥) → (Rose (K.count sink.old) (K.count sink.new) → ⊥) → CompletesCount nodes turns MOST_BYTES result.number (S.left source.old) (K.held sink.old) (K.held sink.new) }
     ensures count_ends { (nodes turns : ℕ) → Asks (map string_bytes words.now) (Command.Count nodes turns) → IsOfCount result.number }
