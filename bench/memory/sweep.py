@@ -43,6 +43,11 @@ def made_text(turns):
     return text_of(scenario)
 
 
+def report(name):
+    with open(os.path.join(TOP, "examples", f"{name}.out"), encoding="ascii") as file:
+        return file.read()
+
+
 def example(name, turns=0):
     with open(os.path.join(TOP, "examples", f"{name}.am2"), encoding="ascii") as file:
         text = file.read()
@@ -58,6 +63,8 @@ INPUTS = {
     "make": ("`make 1`", ["make", "1"], lambda: "", False),
     "segments": ("`segments`, two transfers", ["segments"], lambda: example("segments"), False),
     "session": ("`session`", ["session"], lambda: example("session"), False),
+    "count": ("`count 2 0`, ten words", ["count", "2", "0"], lambda: "a word is a word, and ten are ten words\n", False),
+    "check": ("`check run`, two clients and a server", ["check", "run"], lambda: example("run-clients") + report("run-clients"), False),
     "clients-turns": (f"`run`, two clients and a server, {TURNS:,} turns", ["run"], lambda: example("run-clients", TURNS), True),
     "frames-turns": (f"`run`, frames and paging, {TURNS:,} turns", ["run"], lambda: example("run-frames", TURNS), True),
     "make-turns": (f"`run`, the scenario of `make 1`, {TURNS:,} turns", ["run"], lambda: made_text(TURNS), True),
@@ -108,11 +115,11 @@ class Sweep:
 
     def at(self, number, later):
         found = self.tried(number, later)
-        return number, found[4] > 0, self.kind(number, found)
+        return number, found[4] > 0, self.kind(number, found) if found[4] else "the row"
 
     def way(self, pool, later):
         """The answers where something was refused: each kind's count, and the bad ones. Ends where a whole batch of runs asked for less."""
-        kinds, bad, first, batch = Counter(), [], 1, 64
+        kinds, bad, first, batch = Counter(), [], 1, 32
         while True:
             refused = False
             for number, was_refused, kind in pool.map(self.at, range(first, first + batch), [later] * batch):
