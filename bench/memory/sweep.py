@@ -108,11 +108,11 @@ class Sweep:
 
     def at(self, number, later):
         found = self.tried(number, later)
-        return number, found[4] > 0, self.kind(number, found)
+        return number, found[4] > 0, self.kind(number, found) if found[4] else "the row"
 
     def way(self, pool, later):
         """The answers where something was refused: each kind's count, and the bad ones. Ends where a whole batch of runs asked for less."""
-        kinds, bad, first, batch = Counter(), [], 1, 64
+        kinds, bad, first, batch = Counter(), [], 1, 32
         while True:
             refused = False
             for number, was_refused, kind in pool.map(self.at, range(first, first + batch), [later] * batch):
