@@ -43,6 +43,11 @@ def made_text(turns):
     return text_of(scenario)
 
 
+def report(name):
+    with open(os.path.join(TOP, "examples", f"{name}.out"), encoding="ascii") as file:
+        return file.read()
+
+
 def example(name, turns=0):
     with open(os.path.join(TOP, "examples", f"{name}.am2"), encoding="ascii") as file:
         text = file.read()
@@ -58,6 +63,8 @@ INPUTS = {
     "make": ("`make 1`", ["make", "1"], lambda: "", False),
     "segments": ("`segments`, two transfers", ["segments"], lambda: example("segments"), False),
     "session": ("`session`", ["session"], lambda: example("session"), False),
+    "count": ("`count 2 0`, ten words", ["count", "2", "0"], lambda: "a word is a word, and ten are ten words\n", False),
+    "check": ("`check run`, two clients and a server", ["check", "run"], lambda: example("run-clients") + report("run-clients"), False),
     "clients-turns": (f"`run`, two clients and a server, {TURNS:,} turns", ["run"], lambda: example("run-clients", TURNS), True),
     "frames-turns": (f"`run`, frames and paging, {TURNS:,} turns", ["run"], lambda: example("run-frames", TURNS), True),
     "make-turns": (f"`run`, the scenario of `make 1`, {TURNS:,} turns", ["run"], lambda: made_text(TURNS), True),
