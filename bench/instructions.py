@@ -1,5 +1,5 @@
 #!/usr/bin/env python3
-"""instructions.py PROGRAM [WORD]: how many instructions the program takes for each input, and how much memory at most. Needs valgrind.
+"""instructions.py PROGRAM [WORD]: how many instructions the program takes for each input, and how much memory at most. Needs valgrind and a C compiler.
 
 Prints a table. Instructions don't depend on what else the machine does; they are counted by callgrind over the whole program, reading and printing included. The
 columns of plain Rust are those of an unverified program for the same rules, with one thread and std only, which is no part of this repository: figures to go by. With WORD,
@@ -33,16 +33,22 @@ def instructions(command, path):
     return int(re.search(r"Collected : (\d+)", found.stderr.decode())[1])
 
 
-def memory(command, path):
-    """The most memory that the program has at once, in megabytes."""
-    with open(path, "rb") as given, open(os.devnull, "wb") as nothing:
-        program = subprocess.Popen(command, stdin=given, stdout=nothing)
-        _, status, used = os.wait4(program.pid, 0)
-        program.returncode = os.waitstatus_to_exitcode(status)
-    return used.ru_maxrss / 1024, program.returncode
+def memory(peak, command, path):
+    """The most memory that the program has at once, in megabytes, and its status."""
+    with open(path, "rb") as given:
+        found = subprocess.run([peak, *command], stdin=given, stdout=subprocess.DEVNULL, stderr=subprocess.PIPE, check=False)
+    return int(found.stderr) / 1024, found.returncode
 
 
 def main(program, word=""):
+    program = os.path.abspath(program)
+    with tempfile.TemporaryDirectory() as folder:
+        peak = os.path.join(folder, "peak")
+        subprocess.run(["cc", "-O2", "-o", peak, os.path.join(os.path.dirname(INPUTS), "peak.c")], check=True)
+        table(program, word, peak)
+
+
+def table(program, word, peak):
     print("| Work | Instructions | Plain Rust | Ratio | Memory | Plain Rust | Ratio |")
     print("|---|---|---|---|---|---|---|")
     for what, words, given, plain, plain_memory in ROWS:
@@ -53,7 +59,7 @@ def main(program, word=""):
                 subprocess.run([sys.executable, INPUTS, *given.split()], stdout=text, check=True)
             command = [program, *words.split()]
             count = instructions(command, text.name) / 1_000_000
-            most, status = memory(command, text.name)
+            most, status = memory(peak, command, text.name)
         told = "" if status == 0 else f", status {status}"
         print(f"| {what}{told} | {count:,.1f} M | {plain} M | {count / plain:.1f} | {most:.1f} MB | {plain_memory} MB | {most / plain_memory:.1f} |", flush=True)
 
