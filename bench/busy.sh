@@ -1,7 +1,8 @@
 #!/usr/bin/env bash
 # How often a worker found its endpoint taken: bench/busy.sh PROGRAM [SCENARIO ..]. Without scenarios it takes those of bench/inputs.py with 10,000 turns on 1 to 16 nodes.
 # A worker that wants an endpoint calls `try_enter_at` of am_places, and calls `leave` where it got it; so what entered and didn't leave found it Busy. Both are counted by the
-# kernel's probes on the program's functions, which wants Linux, root and perf, and makes the run slower. Prints a table.
+# kernel's probes on the program's functions, which wants Linux, root and perf, and makes the run slower. It needs a build in which both are functions of their own, as clang -O1 makes it
+# of the module that rt try leaves: the program that rt builds has them in line. Prints a table.
 set -eu
 program=$(realpath "${1:-crates/am2/out/am2}")
 shift || true
@@ -19,6 +20,8 @@ for name in try_enter_at leave; do
         echo "p:am2/${name}_$number $program:0x$address" >> "$tracing/uprobe_events"
     done
 done
+
+[ "$number" -gt 1 ] || { echo "the program has no try_enter_at and leave of its own"; exit 2; }
 
 scenarios=("$@")
 if [ ${#scenarios[@]} = 0 ]; then
