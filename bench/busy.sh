@@ -33,7 +33,7 @@ fi
 echo "| Scenario | Entered or tried to | Found it taken | Of a hundred |"
 echo "|---|---|---|---|"
 for scenario in "${scenarios[@]}"; do
-    perf stat -x , -o "$work/counts" -e 'am2:*' "$program" run < "$scenario" > /dev/null
+    perf stat -x , -o "$work/counts" -e 'am2:*' "$program" run < "$scenario" > /dev/null || true
     awk -F , -v name="$(basename "$scenario")" '
         /try_enter_at/ { tried += $1 }
         /leave/ { left += $1 }
