@@ -1,7 +1,7 @@
 #!/usr/bin/env bash
 # How often a worker found its endpoint taken: bench/busy.sh PROGRAM [SCENARIO ..]. Without scenarios it takes those of bench/inputs.py with 10,000 turns on 1 to 16 nodes.
 # A worker that wants an endpoint calls `try_enter_at` of am_places, and calls `leave` where it got it; so what entered and didn't leave found it Busy. Both are counted by the
-# kernel's probes on the program's functions, which wants Linux, root and perf, and makes the run slower. It needs a build in which both are functions of their own, as clang -O1 makes it
+# kernel's probes on the program's functions, which wants Linux, root and perf, and makes the run slower. It needs a build in which both are functions of their own, as clang makes it, optimizing little,
 # of the module that rt try leaves: the program that rt builds has them in line. Prints a table.
 set -eu
 program=$(realpath "${1:-crates/am2/out/am2}")

@@ -44,7 +44,7 @@ def main(program, word=""):
     program = os.path.abspath(program)
     with tempfile.TemporaryDirectory() as folder:
         peak = os.path.join(folder, "peak")
-        subprocess.run(["cc", "-O2", "-o", peak, os.path.join(os.path.dirname(INPUTS), "peak.c")], check=True)
+        subprocess.run(["cc", "-O", "-o", peak, os.path.join(os.path.dirname(INPUTS), "peak.c")], check=True)
         table(program, word, peak)
 
 

@@ -1,6 +1,6 @@
 /* Preloaded into a program, refuses some of the memory that it asks the C library for (glibc):
  *
- *     cc -shared -fPIC -O2 -o refuse.so refuse.c && LD_PRELOAD=./refuse.so REFUSE_AT=7 program
+ *     cc -shared -fPIC -O -o refuse.so refuse.c && LD_PRELOAD=./refuse.so REFUSE_AT=7 program
  *
  *     REFUSE_AT=K     the K-th allocation is refused, counted from 1; without it none
  *     REFUSE_LATER=1  and so is each later one

@@ -149,7 +149,7 @@ def main(program, jobs="2", *names):
     bad = 0
     with tempfile.TemporaryDirectory() as folder, ThreadPoolExecutor(int(jobs)) as pool:
         preload = os.path.join(folder, "refuse.so")
-        subprocess.run(["cc", "-shared", "-fPIC", "-O2", "-o", preload, source], check=True)
+        subprocess.run(["cc", "-shared", "-fPIC", "-O", "-o", preload, source], check=True)
         print("| Input | Allocations | Alone: tried | the row | 8, `no memory` | 8, nothing | With all later: tried | the row | 8, `no memory` | 8, nothing | Bad |")
         print("|---|---|---|---|---|---|---|---|---|---|---|", flush=True)
         for name in names or INPUTS:
