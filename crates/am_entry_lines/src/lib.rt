@@ -4,6 +4,3 @@
 mod lines;
 
 pub use lines::entry_line;
-
-#[cfg(test)]
-mod tests;

@@ -343,6 +343,3 @@ impl Model for Journal {
 
     ghost view = { λ journal. journal.entries.items };
 }
-
-#[cfg(test)]
-mod tests;

@@ -10,6 +10,3 @@ mod runs;
 
 pub use laws::{messages_are_in_order, summary_is_of_report};
 pub use reports::{report, summary};
-
-#[cfg(test)]
-mod tests;

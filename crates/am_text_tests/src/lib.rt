@@ -1,0 +1,11 @@
+//! Tests of plain data and texts: sources and sinks that fail, the order of names, fates, printed lines, reports.
+#![tactic(auto)]
+
+#[cfg(test)]
+mod entries;
+#[cfg(test)]
+mod journals;
+#[cfg(test)]
+mod streams;
+#[cfg(test)]
+mod tests;
