@@ -95,9 +95,6 @@ pub emptied_else : (b : Bool) (layout : Layout) (keep : ℕ) (node : NodeId) (so
 emptied_else true layout keep node source dest past e = absurd (cc)
 emptied_else false layout keep node source dest past e = refl
 
-pub loaded_at : (layout : Layout) (node : NodeId) (e : EndpointId) (past : List Entry) (o : Option ℕ) → o ≡ free_frame layout node (standings layout past) → loaded_into o layout node e past ≡ loaded layout node e past
-loaded_at layout node e past o same = ap (λ (t : Option ℕ). loaded_into t layout node e past) same
-
 pub off_disk_home : (layout : Layout) (o : Option NodeId) (e : EndpointId) (past : List Entry) → o ≡ home layout e → off_disk_at o layout e past ≡ off_disk_at (home layout e) layout e past
 off_disk_home layout o e past same = ap (λ (t : Option NodeId). off_disk_at t layout e past) same
 

@@ -268,11 +268,11 @@ fn load<M: Machine>(machine: &mut M, node: NodeId, end: EndpointId) -> Result<()
     ensures capacity { M.capacity machine.new ≡ M.capacity machine.old }
     ensures acts { Acts (M.scenario machine.old) result (M.journal machine.old) (plan.loaded (layout_of (M.scenario machine.old)) node end (M.journal machine.old)) (M.journal machine.new) }
 {
+    if !is_on_host(machine.head_by(end).place) {
+        return Ok(());
+    }
     match free_frame(machine, node) {
-        Some(frame) => {
-            let on_host = is_on_host(machine.head_by(end).place);
-            apply_if(machine, on_host, Event::Load { node, end, frame })
-        }
+        Some(frame) => machine.apply(Event::Load { node, end, frame }),
         None => Ok(()),
     }
 }
