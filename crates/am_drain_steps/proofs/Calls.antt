@@ -62,7 +62,7 @@ declared_home layout e known none = declared_in e layout.ends known none
 
 -- ---- a call of the script
 
-all_at : {X : Type 0} (P : X → Type 0) (q : X → Bool) (xs : List X) (k : ℕ) (x : X) → All P xs → slice_get (filter q xs) k ≡ Some x → P x
+pub all_at : {X : Type 0} (P : X → Type 0) (q : X → Bool) (xs : List X) (k : ℕ) (x : X) → All P xs → slice_get (filter q xs) k ≡ Some x → P x
 all_at P q [] k x all e = absurd (cc)
 all_at P q (y ∷ ys) k x all e = by_test (q y) k e (λ j h. all_at P q ys j x (λ i d lt. all (suc i) d (omega (arith, lt))) h)
   where
@@ -84,7 +84,7 @@ found_thread (t ∷ ts) id node s all h = by_test (t.id == id) refl h (found_thr
 is_on_declared : (s : ScenarioLists) (node : NodeId) (e : EndpointId) → lawful.IsOn s.ends node e → lawful.IsDeclared s.ends e
 is_on_declared s node e on = rw on refl
 
-call_is_in_range : (s : ScenarioLists) (c : ScriptCall) → lawful.IsLawful s → lawful.IsLawfulScriptCall s.ends s.threads (lawful.least_credits s.pool) c → (is_in_range (layout_of s) (Events.Call (Thread c.thread) c.endpoint c.call) ≡ true) × (declared (layout_of s) c.endpoint ≡ true)
+pub call_is_in_range : (s : ScenarioLists) (c : ScriptCall) → lawful.IsLawful s → lawful.IsLawfulScriptCall s.ends s.threads (lawful.least_credits s.pool) c → (is_in_range (layout_of s) (Events.Call (Thread c.thread) c.endpoint c.call) ≡ true) × (declared (layout_of s) c.endpoint ≡ true)
 call_is_in_range s c ok k =
     let known : lawful.IsDeclared s.ends c.endpoint = is_on_declared s k.placed.0 c.endpoint k.placed.1.1 in
     let outside : is_in_range (layout_of s) (Events.Call Outside c.endpoint c.call) ≡ true = event_in_range s (Events.Call Outside c.endpoint c.call) (refl, known, k.call) in

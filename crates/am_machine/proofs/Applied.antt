@@ -33,11 +33,12 @@ use Rattle.am_endpoint.specs.View.{EndpointView, last_stamp, stamp_by, state_aft
 use Rattle.am_laws_steps.specs.Laws.{AreBelow}
 use Rattle.am_machine.specs.declared.settings.Settings.{Settings}
 use Rattle.am_machine.specs.Carries.{is_place}
-use Rattle.am_machine.specs.Ends.{EndLog, is_of, kept, grown, logged_at}
+use Rattle.am_moves.specs.Logs.{EndLog, kept}
+use Rattle.am_machine.specs.Ends.{is_of, grown, logged_at}
 use Rattle.am_iface.specs.View.{InterfaceView}
 use Rattle.am_device.specs.Memory.{Store}
 use Rattle.am_machine.specs.Interfaces.{AreInterfaces}
-use Rattle.am_machine.specs.Pages.{is_page}
+use Rattle.am_moves.specs.Pages.{is_page}
 use Rattle.am_machine.specs.Swaps.{AreSwaps}
 use Rattle.am_machine.proofs.InterfaceLogs.{interfaces_moved, interfaces_same}
 use Rattle.am_machine.specs.Kept.{IsKept, IsOwn, IsShort, IsTied, layout_in}

@@ -14,7 +14,8 @@ use Rattle.am_scenario_types.specs.declared.parts.Network.TheVariants as Network
 use Rattle.am_scenario_types.specs.Lawful.{IsLawfulEnd}
 use Rattle.am_follow.specs.Layout.{is_direct, setting_of}
 use Rattle.am_machine.specs.declared.settings.Settings.{Settings}
-use Rattle.am_machine.specs.Ends.{EndLog, setting_in}
+use Rattle.am_moves.specs.Logs.{EndLog}
+use Rattle.am_machine.specs.Ends.{setting_in}
 use Rattle.am_machine.specs.Kept.{IsOwn, IsShort, IsTied, layout_in}
 use Rattle.am_iface.specs.View.{InterfaceView}
 use Rattle.am_machine.specs.Beginnings.{opened}

@@ -39,7 +39,8 @@ use Rattle.am_iface.specs.View.{FitsInterface, InterfaceView, own}
 use Rattle.am_iface.specs.With.{IsFullOf, IsHomeKnown, KnowsHome}
 use Rattle.am_machine.specs.declared.settings.ApplyFault.{ApplyFault}
 use Rattle.am_machine.specs.declared.settings.ApplyFault.TheVariants as Faults
-use Rattle.am_machine.specs.Ends.{is_of, kept, setting_in}
+use Rattle.am_moves.specs.Logs.{kept}
+use Rattle.am_machine.specs.Ends.{is_of, setting_in}
 use Rattle.am_machine.specs.Kept.{IsKept, IsOwn, layout_in}
 use Rattle.am_machine.specs.Turned.{CanTurnWith, IsGrown, IsTurned, TurnsWith, entries_after}
 use Rattle.am_machine.specs.View.{Applies, ClusterView}

@@ -29,7 +29,8 @@ use Rattle.am_body.specs.declared.settings.EndSettings.{EndSettings}
 use Rattle.am_endpoint.specs.View.{EndpointView, state_after, state_by}
 use Rattle.am_machine.specs.declared.settings.Settings.{Settings}
 use Rattle.am_machine.specs.Carries.{At, IsReady, CarriesFrom, ArrivesAt, carried_at, is_place, least_full}
-use Rattle.am_machine.specs.Ends.{EndLog, kept, grown, logged_at}
+use Rattle.am_moves.specs.Logs.{EndLog, kept}
+use Rattle.am_machine.specs.Ends.{grown, logged_at}
 use Rattle.am_machine.specs.Kept.{IsTied, layout_in}
 use Rattle.am_machine.proofs.Applied.{IsHere, IsNext, full_here, only_here, or_false, own_here, state_here}
 use Rattle.am_machine.proofs.Events.{carry_stop, judged_touches}

@@ -14,7 +14,8 @@ use Rattle.am_iface.specs.View.{InterfaceView}
 use Rattle.am_device.specs.Memory.{Store}
 use Rattle.am_journal.specs.View.{CanCount, IsIndexOf, Readings}
 use Rattle.am_journal.proofs.Growing.{can_count}
-use Rattle.am_machine.specs.Ends.{EndLog, setting_in}
+use Rattle.am_moves.specs.Logs.{EndLog}
+use Rattle.am_machine.specs.Ends.{setting_in}
 use Rattle.am_machine.specs.Interfaces.{node_at}
 use Rattle.am_machine.specs.Kept.{IsKept, IsOwn, IsShort, end_logs, interface_logs, logs_in}
 use Rattle.am_machine.proofs.Beginnings.{all_by_place}

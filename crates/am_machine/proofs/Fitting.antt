@@ -35,14 +35,14 @@ use Rattle.am_iface.specs.View.{FitsInterface, InterfaceView, last_stamp, own}
 use Rattle.am_iface.specs.Turns.{stamp_in}
 use Rattle.am_device.specs.Memory.{Store}
 use Rattle.am_machine.specs.declared.settings.Settings.{Settings}
-use Rattle.am_machine.specs.Ends.{kept}
+use Rattle.am_moves.specs.Logs.{kept}
 use Rattle.am_machine.specs.Kept.{IsKept, layout_in}
 use Rattle.am_machine.specs.View.{ClusterView}
 use Rattle.am_machine.specs.Turned.{CanTurn, IsOfCluster, IsTaken}
 use Rattle.am_machine.proofs.Applied.{all_below, below_filter, last_below, seen}
 use Rattle.am_machine.proofs.Few.{counts_fit, stamp_fits}
 use Rattle.am_machine.proofs.Joint as joint
-use Rattle.am_machine.proofs.Joint.{Joint, event_in, interface_in, joint_failing}
+use Rattle.am_machine.proofs.Joint.{Joint, interface_in, joint_failing}
 
 -- ---- ranges
 

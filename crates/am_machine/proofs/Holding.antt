@@ -11,12 +11,10 @@ use Rattle.am_office.specs.declared.Event.{Event}
 use Rattle.am_office.specs.declared.Event.TheVariants as Events
 use Rattle.am_office.specs.declared.Outcome.{Outcome}
 use Rattle.am_office.specs.declared.Outcome.TheVariants as Out
-use Rattle.am_office.specs.declared.Place.{Place}
-use Rattle.am_office.specs.declared.Place.TheVariants.{Host, Disk, Frame, Direct}
 use Rattle.am_office.specs.declared.Entry.{Entry}
 use Rattle.am_office.specs.Entries.{ends_touched, touches}
 use Rattle.am_model.specs.Changes.{changed, paged_out}
-use Rattle.am_model.specs.Endpoint.{Body, State, is_on_disk, is_on_host}
+use Rattle.am_model.specs.Endpoint.{Body, State, is_on_disk}
 use Rattle.am_model.specs.History.{IsHistory, MayFollow, is_home, is_page_call, state_of}
 use Rattle.am_model.specs.Layout.{EndSetting, IsLawful, Layout}
 use Rattle.am_model.proofs.Each.{state_of_push}
@@ -32,10 +30,11 @@ use Rattle.am_device.proofs.Held.{holds_instead}
 use Rattle.am_image.specs.Image.{image}
 use Rattle.am_image.specs.Valid.{IsValid}
 use Rattle.am_journal.proofs.Lists.{got_set, set_length}
-use Rattle.am_machine.specs.Ends.{EndLog, state_in}
+use Rattle.am_moves.specs.Logs.{EndLog, state_in}
+use Rattle.am_moves.proofs.Paged.{host_no_disk}
 use Rattle.am_machine.specs.Interfaces.{node_at}
-use Rattle.am_machine.specs.Pages.{CanPage, CanPageOut, IsBodyValid, after_call, after_page, is_page, page_outcome}
-use Rattle.am_machine.specs.Swaps.{AreSwaps, HoldsBody, IsSwap}
+use Rattle.am_moves.specs.Pages.{CanPage, CanPageOut, HoldsBody, IsBodyValid, after_call, after_page, is_page, page_outcome}
+use Rattle.am_machine.specs.Swaps.{AreSwaps, IsSwap}
 
 -- ---- an entry that is no call of the swap
 
@@ -168,12 +167,6 @@ still_of p = stays p.layout p.journal p.x p.packet p.lawful p.history p.may
 was_swap : (p : Paging) → IsSwap p.layout p.journal p.node p.s
 was_swap p = p.are.each p.node.0 p.s p.at
 
-pub host_not_disk : (p : Place) → is_on_host p ≡ true → is_on_disk p ≡ true → ⊥
-host_not_disk (Frame frame) h k = true≢false (sym h)
-host_not_disk Direct h k = true≢false (sym h)
-host_not_disk Host h k = true≢false (sym k)
-host_not_disk Disk h k = true≢false (sym h)
-
 paged_out_body : (s : State) (o : Outcome) → (paged_out s o).body ≡ s.body
 paged_out_body s Out.Done = refl
 paged_out_body s o = refl
@@ -217,7 +210,7 @@ out_held p f node end ev same on = by_fails (fails_after p.s.fails p.s.calls) re
     by_fails true is =
         let failed : p.x.outcome ≡ Out.Failed = p.outcome ∙ ap (λ (b : Bool). if b then Out.Failed else Out.Done) is in
         let stayed : state_of p.layout (p.journal ++ p.x ∷ []) f ≡ state_in p.e = now ∙ ap (paged_out (state_of p.layout p.journal f)) failed ∙ before in
-        absurd (host_not_disk (state_in p.e).head.place can.on_host (ap (λ (s : State). is_on_disk s.head.place) (sym stayed) ∙ on))
+        absurd (host_no_disk (state_in p.e).head.place can.on_host (ap (λ (s : State). is_on_disk s.head.place) (sym stayed) ∙ on))
     by_fails false is =
         let holds : p.t ≡ counted (with_held p.s p.e.settings.id image') = told ∙ ap (λ (b : Bool). if b then faulted p.s else counted (with_held p.s p.e.settings.id image')) is in
         record {

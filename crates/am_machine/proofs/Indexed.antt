@@ -9,7 +9,7 @@ use Rattle.am_device.specs.Memory.{Store}
 use Rattle.am_journal.specs.View.{CanCount, IsIndexOf, Readings}
 use Rattle.am_machine.specs.declared.settings.Settings.{Settings}
 use Rattle.am_machine.specs.declared.settings.ApplyFault.{ApplyFault}
-use Rattle.am_machine.specs.Ends.{EndLog}
+use Rattle.am_moves.specs.Logs.{EndLog}
 use Rattle.am_machine.specs.Kept.{IsIndexed, IsKept, journal_by, layout_in}
 use Rattle.am_machine.specs.View.{Applies, ClusterView}
 use Rattle.am_machine.proofs.Applied.{seen}

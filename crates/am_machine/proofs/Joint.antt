@@ -31,7 +31,7 @@ use Rattle.am_endpoint.specs.View.{EndpointView}
 use Rattle.am_iface.specs.View.{InterfaceView, own}
 use Rattle.am_iface.specs.Turns.{IsFull}
 use Rattle.am_machine.specs.declared.settings.Settings.{Settings}
-use Rattle.am_machine.specs.Ends.{EndLog, kept}
+use Rattle.am_moves.specs.Logs.{EndLog, kept}
 use Rattle.am_machine.specs.Interfaces.{AreInterfaces, IsInterface}
 use Rattle.am_machine.specs.Kept.{IsKept, layout_in}
 use Rattle.am_machine.specs.Turned.{IsTaken, IsTurned, TurnsAlone, entries_after, entry_of_work}
@@ -40,7 +40,7 @@ use Rattle.am_machine.proofs.Applied.{IsNext, kept_still, seen, seen_next, tied_
 use Rattle.am_machine.proofs.InterfaceLogs.{interfaces_more, interfaces_moved}
 use Rattle.am_journal.proofs.Lists.{index_got}
 use Rattle.am_device.specs.Memory.{Store}
-use Rattle.am_machine.specs.Pages.{is_page}
+use Rattle.am_moves.specs.Pages.{is_page}
 use Rattle.am_machine.proofs.Tied.{layout_kept, none_grown}
 
 -- a work of the node's interface, where what it reads beside its log is the journal's

@@ -17,7 +17,6 @@ pub mod Placed
 pub mod Holding
 pub mod Presets
 pub mod PageCalls
-pub mod Paged
 pub mod Short
 pub mod Between
 pub mod PartLogs

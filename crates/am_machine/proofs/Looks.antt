@@ -18,7 +18,8 @@ use Rattle.am_endpoint.specs.View.{EndpointView, state_after}
 use Rattle.am_iface.specs.View.{InterfaceView}
 use Rattle.am_journal.specs.View.{is_receipt, receipts}
 use Rattle.am_journal.proofs.Lists.{index_got}
-use Rattle.am_machine.specs.Ends.{is_of, kept, setting_in}
+use Rattle.am_moves.specs.Logs.{kept}
+use Rattle.am_machine.specs.Ends.{is_of, setting_in}
 use Rattle.am_machine.specs.Interfaces.{AreInterfaces, IsInterface}
 use Rattle.am_machine.specs.Kept.{IsTied}
 use Rattle.am_machine.proofs.Applied.{found_here, own_here, state_here}

@@ -22,7 +22,8 @@ use Rattle.am_join.proofs.OneJournal.{are_one, merged_is}
 use Rattle.am_join.proofs.Standing.{has_left, has_right}
 use Rattle.am_endpoint.specs.View.{EndpointView}
 use Rattle.am_node.specs.Parts.{log_of}
-use Rattle.am_machine.specs.Ends.{EndLog, kept, setting_in}
+use Rattle.am_moves.specs.Logs.{EndLog, kept}
+use Rattle.am_machine.specs.Ends.{setting_in}
 use Rattle.am_machine.specs.Interfaces.{IsInterface, node_at}
 use Rattle.am_machine.specs.Kept.{IsKept, IsOwn, end_logs, interface_logs, journal_by, logs_in}
 use Rattle.am_machine.proofs.Beginnings.{all_by_place}

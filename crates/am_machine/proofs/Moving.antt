@@ -31,11 +31,12 @@ use Rattle.am_scenario_types.specs.declared.parts.FaultLine.{FaultLine}
 use Rattle.am_endpoint.specs.View.{EndpointView, state_after, state_by}
 use Rattle.am_body.specs.declared.settings.EndSettings.{EndSettings}
 use Rattle.am_journal.specs.View.{AreNodes}
-use Rattle.am_machine.specs.Ends.{EndLog, is_of, kept, setting_in}
+use Rattle.am_moves.specs.Logs.{EndLog, kept}
+use Rattle.am_machine.specs.Ends.{is_of, setting_in}
 use Rattle.am_machine.specs.Kept.{IsOwn, IsTied, layout_in}
 use Rattle.am_machine.specs.declared.settings.Settings.{Settings}
 use Rattle.am_machine.specs.Moves.{failing_on, is_in_frame_of, is_taken}
-use Rattle.am_machine.specs.Pages.{is_page}
+use Rattle.am_moves.specs.Pages.{is_page}
 use Rattle.am_machine.proofs.Applied.{IsHere, IsNext, IsSingle, found_here, full_here, same_here, single_next, single_stop, state_here}
 use Rattle.am_machine.proofs.Places.{position_at}
 use Rattle.am_machine.proofs.Tied.{own_state}

@@ -23,10 +23,11 @@ use Rattle.am_drain.proofs.Entries.{entry_may_follow}
 use Rattle.am_device.specs.Causes.{fails_after, one_more}
 use Rattle.am_device.specs.Memory.{Store}
 use Rattle.am_endpoint.specs.View.{EndpointView, state_after}
-use Rattle.am_machine.specs.Ends.{EndLog, kept, setting_in}
+use Rattle.am_moves.specs.Logs.{EndLog, kept}
+use Rattle.am_machine.specs.Ends.{setting_in}
 use Rattle.am_machine.specs.Kept.{IsOwn}
-use Rattle.am_machine.specs.Pages.{CanPage, IsBodyValid, IsPagedBy, after_page, is_page, page_outcome}
-use Rattle.am_machine.specs.Swaps.{AreSwaps, HoldsBody, IsSwap}
+use Rattle.am_moves.specs.Pages.{CanPage, HoldsBody, IsBodyValid, IsPagedBy, after_page, is_page, page_outcome}
+use Rattle.am_machine.specs.Swaps.{AreSwaps, IsSwap}
 use Rattle.am_machine.proofs.Applied.{IsNext, own_here, state_here}
 use Rattle.am_machine.proofs.Moving as moving
 use Rattle.am_machine.proofs.Moving.{Move}

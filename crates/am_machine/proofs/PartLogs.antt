@@ -22,7 +22,8 @@ use Rattle.am_join.specs.Joined.{AreAmong, HaveJust}
 use Rattle.am_join.proofs.Standing.{has_either, has_left, has_right}
 use Rattle.am_node.specs.declared.NodePart.{NodePart}
 use Rattle.am_node.specs.Parts.{all_logs, log_of, logs_of_part}
-use Rattle.am_machine.specs.Ends.{kept, setting_in}
+use Rattle.am_moves.specs.Logs.{kept}
+use Rattle.am_machine.specs.Ends.{setting_in}
 use Rattle.am_machine.specs.Interfaces.{node_at}
 use Rattle.am_machine.specs.Kept.{IsOwn}
 use Rattle.am_machine.specs.Parts.{AreNodeParts, IsNodePart, is_declared_at}

@@ -15,7 +15,8 @@ use Rattle.am_node.specs.declared.shells.Shell.{Shell}
 use Rattle.am_node.specs.Dealt.{AreDealt, HasRoom}
 use Rattle.am_node.specs.Parts.{part_of, parts_of}
 use Rattle.am_node.specs.Shells.{AreShells, is_at}
-use Rattle.am_machine.specs.Ends.{kept, setting_in}
+use Rattle.am_moves.specs.Logs.{kept}
+use Rattle.am_machine.specs.Ends.{setting_in}
 use Rattle.am_machine.specs.Interfaces.{AreInterfaces, node_at}
 use Rattle.am_machine.specs.Kept.{IsOwn}
 use Rattle.am_machine.specs.Parts.{AreNodeParts, IsNodePart, is_declared_at}

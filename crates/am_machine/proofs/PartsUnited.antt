@@ -38,7 +38,8 @@ use Rattle.am_node.specs.Taken.{ends_of, iface_of, swap_of, turned}
 use Rattle.am_scenario_types.specs.declared.parts.EndLine.{EndLine}
 use Rattle.am_scenario_types.specs.declared.parts.FaultLine.{FaultLine}
 use Rattle.am_scenario_types.specs.Lists.{ScenarioLists}
-use Rattle.am_machine.specs.Ends.{EndLog, kept, setting_in}
+use Rattle.am_moves.specs.Logs.{EndLog, kept}
+use Rattle.am_machine.specs.Ends.{setting_in}
 use Rattle.am_machine.specs.Interfaces.{AreInterfaces, IsInterface, node_at}
 use Rattle.am_machine.specs.Kept.{IsKept, IsOwn, IsShort, IsTied, layout_in}
 use Rattle.am_machine.specs.Parting.{settings_from}

@@ -6,7 +6,8 @@ use Rattle.am_model.specs.History.{state_of}
 use Rattle.am_model.specs.Layout.{EndSetting, Layout}
 use Rattle.am_endpoint.specs.View.{EndpointView, state_after}
 use Rattle.am_journal.proofs.Lists.{index_got, map_length}
-use Rattle.am_machine.specs.Ends.{kept, setting_in}
+use Rattle.am_moves.specs.Logs.{kept}
+use Rattle.am_machine.specs.Ends.{setting_in}
 use Rattle.am_machine.specs.Kept.{IsTied}
 use Rattle.am_machine.proofs.Applied.{IsHere, state_here}
 

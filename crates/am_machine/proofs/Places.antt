@@ -7,7 +7,8 @@ use Rattle.am_names.specs.declared.EndpointId.{EndpointId}
 use Rattle.am_office.specs.declared.Entry.{Entry}
 use Rattle.am_model.specs.Layout.{has_id}
 use Rattle.am_endpoint.specs.View.{EndpointView}
-use Rattle.am_machine.specs.Ends.{kept, setting_in, is_of, logged_at}
+use Rattle.am_moves.specs.Logs.{kept}
+use Rattle.am_machine.specs.Ends.{setting_in, is_of, logged_at}
 use Rattle.am_machine.specs.Carries.{At, is_place, carried_at}
 use Rattle.am_machine.proofs.Tied.{kept_set}
 

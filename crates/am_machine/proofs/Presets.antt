@@ -1,11 +1,12 @@
 -- The swaps of a cluster, as they begin.
-use Rattle.std.specs.Prelude.{slice_get, slice_index_or, take}
+use Rattle.std.specs.Prelude.{OnOk, Result, Ok, Err, slice_get, slice_index_or, take}
 use Rattle.std.specs.List.{filter, find}
 use Rattle.std.proofs.Common.{◌≡◌, ⊎_elim, ℕ, zero, suc, ◌+◌, ◌<◌, ◌^◌, Bool, true, false, cond, List, [], ◌∷◌, ◌++◌, map, length, Option, Some, refl, sym, ap, ◌∙◌, subst, arith, true≢false, eqb-true, eq-eqb, if◌then◌else◌}
 use Rattle.std.proofs.lemmas.Bool.{and_from}
 use Rattle.std.proofs.lemmas.List.{length_push}
 use Rattle.am_names.specs.declared.EndpointId.{EndpointId}
 use Rattle.am_names.specs.declared.NodeId.{NodeId}
+use Rattle.am_names.specs.declared.NoMemory.{NoMemory}
 use Rattle.am_names.specs.Names.{same_end, same_node}
 use Rattle.am_office.specs.declared.Place.TheVariants.{Disk}
 use Rattle.am_model.specs.Endpoint.{Body, State, is_on_disk}
@@ -16,20 +17,27 @@ use Rattle.am_model.proofs.Order.{order_fresh}
 use Rattle.am_scenario_types.specs.declared.parts.EndLine.{EndLine}
 use Rattle.am_scenario_types.specs.declared.parts.FaultLine.{FaultLine}
 use Rattle.am_follow.specs.Layout.{fault_of, setting_of}
-use Rattle.am_device.specs.Memory.{Store, held_for}
+use Rattle.am_device.specs.Memory.{Store, held_for, with_held}
 use Rattle.am_device.proofs.Held.{holds_instead}
 use Rattle.am_image.specs.Image.{image}
 use Rattle.am_image.specs.Valid.{IsValid}
 use Rattle.am_machine.specs.declared.settings.Settings.{Settings}
-use Rattle.am_machine.specs.Ends.{EndLog, setting_in}
+use Rattle.am_moves.specs.Logs.{EndLog}
+use Rattle.am_machine.specs.Ends.{setting_in}
 use Rattle.am_machine.specs.Interfaces.{node_at}
 use Rattle.am_machine.specs.Kept.{layout_in}
 use Rattle.am_machine.specs.Presets.{AreOpened, AreOpenedUpTo, begins_on, fails_of, is_of_node, opened_swap, opening_body, preset_all, preset_if}
-use Rattle.am_machine.specs.Swaps.{AreSwaps, HoldsBody, IsSwap}
+use Rattle.am_moves.specs.Pages.{HoldsBody}
+use Rattle.am_machine.specs.Swaps.{AreSwaps, IsSwap}
 use Rattle.am_machine.proofs.Beginnings.{Rise, all_by_place, first_below, found_line, rise_rest}
 use Rattle.am_machine.proofs.Homes.{got_push}
 
 -- ---- one line more
+
+-- what is held, where there is memory for it
+pub preset_told : (r : Result (Unit {0}) NoMemory) (new old : Store) (id : EndpointId) (bytes : List ℕ) (b : Body) → OnOk r (new ≡ with_held old id bytes) → bytes ≡ image b → OnOk r (new ≡ with_held old id (image b))
+preset_told (Ok done) new old id bytes b told is = told ∙ ap (with_held old id) is
+preset_told (Err fault) new old id bytes b told is = tt
 
 presets_take : (node : NodeId) (lines : List EndLine) (k : ℕ) (d : EndLine) (s : Store) → k < length lines → preset_all node (take (suc k) lines) s ≡ preset_if (begins_on node (slice_index_or lines k d)) (slice_index_or lines k d) (preset_all node (take k lines) s)
 presets_take node [] k d s lt = absurd (omega (arith, lt))

@@ -9,7 +9,8 @@ use Rattle.am_office.specs.Entries.{touches, touches_node}
 use Rattle.am_model.specs.Layout.{Layout, declared}
 use Rattle.am_endpoint.specs.View.{EndpointView}
 use Rattle.am_iface.specs.View.{InterfaceView}
-use Rattle.am_machine.specs.Ends.{is_of, kept, setting_in}
+use Rattle.am_moves.specs.Logs.{kept}
+use Rattle.am_machine.specs.Ends.{is_of, setting_in}
 use Rattle.am_machine.specs.Interfaces.{AreInterfaces}
 use Rattle.am_machine.specs.Kept.{IsShort, IsTied}
 use Rattle.am_machine.proofs.Applied.{IsHere, own_here}

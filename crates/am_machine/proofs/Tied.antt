@@ -22,7 +22,8 @@ use Rattle.am_journal.proofs.Growing.{greatest_push}
 use Rattle.am_model.proofs.Each.{each_push}
 use Rattle.am_machine.specs.declared.settings.Settings.{Settings}
 use Rattle.am_local.specs.Readings.{with_entry}
-use Rattle.am_machine.specs.Ends.{EndLog, kept, state_in, setting_in, grown, logged_at}
+use Rattle.am_moves.specs.Logs.{EndLog, kept, state_in}
+use Rattle.am_machine.specs.Ends.{setting_in, grown, logged_at}
 use Rattle.am_machine.specs.Carries.{is_place}
 use Rattle.am_machine.specs.Kept.{IsOwn, IsShort, IsTied, layout_in}
 

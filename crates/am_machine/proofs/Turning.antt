@@ -30,7 +30,7 @@ use Rattle.am_iface.specs.Turns.{IsFull, stamp_in}
 use Rattle.am_iface.specs.With.{IsFullOf}
 use Rattle.am_journal.specs.View.{AreNodes, HasRoomFor, IndexView, IsIndexOf, Readings, greatest_stamp, is_ready_on}
 use Rattle.am_machine.specs.declared.settings.ApplyFault.{ApplyFault}
-use Rattle.am_machine.specs.Ends.{EndLog, kept}
+use Rattle.am_moves.specs.Logs.{EndLog, kept}
 use Rattle.am_machine.specs.Turned.{IsGrown, IsTurned, TurnsAlone, TurnsWith, entry_of_work, refused}
 use Rattle.am_machine.specs.Ways.{GoesTo}
 

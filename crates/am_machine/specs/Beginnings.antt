@@ -4,7 +4,7 @@ use Rattle.am_model.specs.Layout.{IsPoolLawful, opening_place}
 use Rattle.am_scenario_types.specs.declared.parts.EndLine.{EndLine}
 use Rattle.am_follow.specs.Layout.{is_direct}
 use Rattle.am_machine.specs.declared.settings.Settings.{Settings}
-use Rattle.am_machine.specs.Ends.{EndLog}
+use Rattle.am_moves.specs.Logs.{EndLog}
 
 -- a fresh endpoint, as it is declared
 abbrev pub opened : Settings → EndLine → EndLog

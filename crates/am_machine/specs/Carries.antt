@@ -5,7 +5,8 @@ use Rattle.am_office.specs.declared.Entry.{Entry}
 use Rattle.am_model.specs.Allowed.{MayArrive, MayCarry}
 use Rattle.am_model.specs.Steps.{lesser}
 use Rattle.am_endpoint.specs.View.{EndpointView, state_after}
-use Rattle.am_machine.specs.Ends.{EndLog, logged_at}
+use Rattle.am_moves.specs.Logs.{EndLog}
+use Rattle.am_machine.specs.Ends.{logged_at}
 
 -- whether two places are the same
 abbrev pub is_place : ℕ → ℕ → Bool

@@ -4,26 +4,15 @@ use Rattle.am_names.specs.declared.EndpointId.{EndpointId}
 use Rattle.am_names.specs.Names.{same_end}
 use Rattle.am_office.specs.declared.Entry.{Entry}
 use Rattle.am_office.specs.Entries.{touches}
-use Rattle.am_model.specs.Endpoint.{State, is_on_disk}
+use Rattle.am_model.specs.Endpoint.{is_on_disk}
 use Rattle.am_model.specs.Layout.{EndSetting}
 use Rattle.am_local.specs.Readings.{with_entry}
-use Rattle.am_body.specs.declared.settings.EndSettings.{EndSettings}
-use Rattle.am_endpoint.specs.View.{EndpointView, state_by}
-
--- an endpoint's settings and its log
-pub record EndLog : Type 0 where
-  pub settings : EndSettings
-  pub log : List Entry
-
-abbrev pub kept : EndpointView → EndLog
-kept v = record { settings = v.settings; log = v.log }
+use Rattle.am_endpoint.specs.View.{EndpointView}
+use Rattle.am_moves.specs.Logs.{EndLog}
 
 -- whether it is the endpoint with this number
 abbrev pub is_of : EndpointId → EndpointView → Bool
 is_of id v = same_end id v.settings.id
-
-abbrev pub state_in : EndLog → State
-state_in e = state_by e.settings e.log
 
 -- how an endpoint is declared that has these settings
 abbrev pub setting_in : EndLog → EndSetting

@@ -16,7 +16,8 @@ use Rattle.am_device.specs.Memory.{Store}
 use Rattle.am_machine.specs.Interfaces.{AreInterfaces}
 use Rattle.am_machine.specs.Swaps.{AreSwaps}
 use Rattle.am_machine.specs.View.{ClusterView}
-use Rattle.am_machine.specs.Ends.{EndLog, kept, setting_in}
+use Rattle.am_moves.specs.Logs.{EndLog, kept}
+use Rattle.am_machine.specs.Ends.{setting_in}
 use Rattle.am_machine.specs.declared.settings.Settings.{Settings}
 use Rattle.am_machine.specs.declared.Cluster.TheInside.{Inside}
 

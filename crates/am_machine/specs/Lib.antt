@@ -2,7 +2,6 @@ pub mod Carries
 pub mod Ends
 pub mod Homes
 pub mod Swaps
-pub mod Pages
 pub mod Presets
 pub mod Interfaces
 pub mod Kept

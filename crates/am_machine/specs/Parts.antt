@@ -16,7 +16,8 @@ use Rattle.am_journal.specs.View.{receipts}
 use Rattle.am_scripts.specs.Links.{ReceivesInOrder}
 use Rattle.am_node.specs.declared.NodePart.{NodePart}
 use Rattle.am_node.specs.Parts.{journal_of}
-use Rattle.am_machine.specs.Ends.{kept, setting_in}
+use Rattle.am_moves.specs.Logs.{kept}
+use Rattle.am_machine.specs.Ends.{setting_in}
 use Rattle.am_machine.specs.Interfaces.{IsInterface, node_at}
 use Rattle.am_machine.specs.Kept.{IsOwn}
 use Rattle.am_machine.specs.Swaps.{IsSwap}

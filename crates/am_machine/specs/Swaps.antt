@@ -1,22 +1,15 @@
 -- The swaps of a cluster: each is the disk of a node, and holds the images of the node's endpoints that are on disk.
-use Rattle.std.specs.Prelude.{◌≡◌, ℕ, true, Option, Some, List, length, slice_get, if◌then◌else◌}
-use Rattle.am_names.specs.declared.EndpointId.{EndpointId}
+use Rattle.std.specs.Prelude.{◌≡◌, ℕ, true, Some, List, length, slice_get, if◌then◌else◌}
 use Rattle.am_names.specs.declared.NodeId.{NodeId}
 use Rattle.am_office.specs.declared.Entry.{Entry}
-use Rattle.am_model.specs.Endpoint.{Body, is_on_disk}
+use Rattle.am_model.specs.Endpoint.{is_on_disk}
 use Rattle.am_model.specs.History.{state_of}
 use Rattle.am_model.specs.Layout.{EndSetting, Layout}
 use Rattle.am_local.specs.Readings.{page_calls}
 use Rattle.am_local.specs.Together.{faults_of}
-use Rattle.am_device.specs.Memory.{Store, held_for}
-use Rattle.am_image.specs.Image.{image}
-use Rattle.am_image.specs.Valid.{IsValid}
+use Rattle.am_device.specs.Memory.{Store}
+use Rattle.am_moves.specs.Pages.{HoldsBody}
 use Rattle.am_machine.specs.Interfaces.{node_at}
-
--- for the endpoint e the swap holds the image of this body, which e may have on disk
-pub record HoldsBody (s : Store) (pool : Option ℕ) (e : EndpointId) (b : Body) : Type 0 where
-  pub held : held_for s.held e ≡ Some (image b)
-  pub valid : IsValid e pool b
 
 -- the swap of the node: its calls were the node's page calls, those fail that are to fail, and it holds the body of each
 -- endpoint of the node that is on disk

@@ -20,7 +20,7 @@ use Rattle.am_iface.specs.declared.IfaceFault.{IfaceFault}
 use Rattle.am_iface.specs.declared.IfaceFault.TheVariants as Ifaces
 use Rattle.am_machine.specs.declared.settings.ApplyFault.{ApplyFault}
 use Rattle.am_machine.specs.declared.settings.ApplyFault.TheVariants as Faults
-use Rattle.am_machine.specs.Ends.{EndLog, kept, state_in}
+use Rattle.am_moves.specs.Logs.{EndLog, kept, state_in}
 
 -- the entry of a work, with the next stamp
 abbrev pub entry_of_work : InterfaceView → List Entry → State → Work → Entry

@@ -1,10 +1,11 @@
 // What a cluster does with its endpoints, each found by its place among them.
-ghost use Rattle.am_machine.specs.Ends.{is_of, kept};
+ghost use Rattle.am_moves.specs.Logs.{kept};
+ghost use Rattle.am_machine.specs.Ends.{is_of};
 ghost use Rattle.am_machine.specs.Carries.{At, ArrivesAt, CarriesFrom, IsReady, carried_at, is_place, least_full};
 ghost use Rattle.am_endpoint.specs.View.{state_after};
 ghost use Rattle.am_model.specs.Endpoint.{is_on_disk};
 ghost use Rattle.am_model.specs.History.{judged};
-ghost use Rattle.std.specs.Prelude.{◌≡◌, ◌≢◌, ◌<◌, ℕ, length, map, nat_le, OnOk, position, slice_get, true, false};
+ghost use Rattle.std.specs.Prelude.{◌≡◌, ◌<◌, ℕ, length, map, nat_le, OnOk, position, slice_get, true, false};
 
 use am_endpoint::{EndFault, Endpoint};
 use am_names::{EndpointId, Message, Verdict};

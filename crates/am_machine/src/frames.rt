@@ -1,16 +1,14 @@
 // What a driver's move asks of the endpoint that it moves and of the frames.
 ghost use Rattle.am_endpoint.specs.View.{state_after};
 ghost use Rattle.am_machine.specs.Moves.{failing_on, failing_unload, is_in_frame_of, is_taken};
-ghost use Rattle.am_machine.specs.Pages.{is_page};
-ghost use Rattle.am_local.specs.Granted.{MayMove};
 ghost use Rattle.am_model.specs.Endpoint as model;
 ghost use Rattle.am_model.specs.History as history;
-ghost use Rattle.std.specs.Prelude.{◌≡◌, ◌<◌, ◌∷◌, ◌++◌, [], length, false, true};
+ghost use Rattle.std.specs.Prelude.{◌≡◌};
 ghost use Rattle.std.specs.List.{list_any};
 
 use am_endpoint::Endpoint;
 use am_names::NodeId;
-use am_office::{Condition, Entry, Event, Place};
+use am_office::{Condition, Event, Place};
 
 /// Whether what lies there is resident.
 fn is_resident(place: Place) -> bool
@@ -101,22 +99,5 @@ fn failing_unload(end: &Endpoint) -> Option<Condition>
         Some(Condition::InFlight)
     } else {
         None
-    }
-}
-
-/// Gives the entry of a drain, an unload or a load to the endpoint that it moves.
-pub(crate) fn move_end(end: &mut Endpoint, entry: Entry)
-    requires ready { end.old.ready ≡ true }
-    requires room { length end.old.log < end.old.settings.log }
-    requires allowed { MayMove end.old.settings.node end.old.settings.id (state_after end.old) entry entry.event }
-    requires unpaged { is_page entry.event ≡ false }
-    ensures settings { end.new.settings ≡ end.old.settings }
-    ensures log { end.new.log ≡ end.old.log ++ entry ∷ [] }
-{
-    match entry.event {
-        Event::Drain { .. } => end.begin_drain(entry),
-        Event::Unload { .. } => end.unload(entry),
-        Event::Load { .. } => end.load(entry),
-        _ => unreachable!(),
     }
 }

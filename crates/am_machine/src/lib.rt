@@ -18,7 +18,6 @@ mod interfaces;
 mod logs;
 mod moves;
 mod opening;
-mod pages;
 mod paging;
 mod parting;
 mod parts;

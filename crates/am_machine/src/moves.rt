@@ -1,14 +1,15 @@
 // The moves of a node's driver.
 ghost use Rattle.am_local.specs.Driver.{driver_of, end_moved};
 ghost use Rattle.am_machine.specs.View.{Applies};
-ghost use Rattle.am_machine.specs.Pages.{is_page};
+ghost use Rattle.am_moves.specs.Pages.{is_page};
 ghost use Rattle.am_model.specs.History.{failing, is_in_range};
 ghost use Rattle.std.specs.Prelude.{◌≡◌, Some, false, true};
 
 use crate::Cluster;
 use crate::ends::{is_full, place_of};
-use crate::frames::{failing_on, is_taken, move_end};
+use crate::frames::{failing_on, is_taken};
 use crate::settings::ApplyFault;
+use am_moves::move_end;
 use am_names::{EndpointId, NodeId};
 use am_office::{Condition, Entry, Event, Outcome, Part};
 use am_scenario_types::Network;

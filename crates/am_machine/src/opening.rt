@@ -1,5 +1,5 @@
 // How the endpoints of a cluster begin.
-ghost use Rattle.am_machine.specs.Ends.{kept};
+ghost use Rattle.am_moves.specs.Logs.{kept};
 ghost use Rattle.am_machine.specs.Beginnings.{CanOpen, opened};
 ghost use Rattle.am_model.specs.Layout.{opening_place};
 ghost use Rattle.am_follow.specs.Layout.{is_direct};

@@ -1,14 +1,14 @@
 // The page calls of a node.
 ghost use Rattle.am_local.specs.Driver.{driver_of, end_moved};
-ghost use Rattle.am_machine.specs.Pages.{is_page};
+ghost use Rattle.am_moves.specs.Pages.{is_page};
 ghost use Rattle.am_machine.specs.View.{Applies};
 ghost use Rattle.am_model.specs.History.{is_in_range};
 ghost use Rattle.std.specs.Prelude.{◌≡◌, Some, true};
 
 use crate::Cluster;
 use crate::ends::{is_full, place_of};
-use crate::pages::page;
 use crate::settings::ApplyFault;
+use am_moves::page;
 use am_names::{EndpointId, NodeId};
 use am_office::{Entry, Event, Part};
 

@@ -1,7 +1,8 @@
 // The parts of a cluster, as its callers may look at them.
 ghost use Rattle.am_endpoint.specs.View.{state_after};
 ghost use Rattle.am_journal.specs.View.{receipts};
-ghost use Rattle.am_machine.specs.Ends.{kept, setting_in};
+ghost use Rattle.am_moves.specs.Logs.{kept};
+ghost use Rattle.am_machine.specs.Ends.{setting_in};
 ghost use Rattle.am_machine.specs.Interfaces.{IsInterface};
 ghost use Rattle.am_model.specs.Channels.{emitted};
 ghost use Rattle.am_model.specs.History.{IsHistory, state_of};

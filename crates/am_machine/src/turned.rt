@@ -3,7 +3,7 @@ ghost use Rattle.am_endpoint.specs.View.{state_after};
 ghost use Rattle.am_iface.specs.View.{own};
 ghost use Rattle.am_journal.specs.View.{IsIndexOf};
 ghost use Rattle.am_local.specs.Interface.{needs};
-ghost use Rattle.am_machine.specs.Ends.{kept};
+ghost use Rattle.am_moves.specs.Logs.{kept};
 ghost use Rattle.am_machine.specs.Turned.{CanTurn, CanTurnWith, TurnsAlone, TurnsWith, entries_after, refused};
 ghost use Rattle.am_machine.specs.Ways.{GoesTo};
 ghost use Rattle.am_model.specs.Endpoint.{State};

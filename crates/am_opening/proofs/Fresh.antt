@@ -13,10 +13,11 @@ use Rattle.am_model.specs.History.{state_of}
 use Rattle.am_model.specs.Layout.{AllAre, EndSetting, IsLawful, Layout, has_id, opening, opening_by, opening_place}
 use Rattle.am_merge.specs.Logs.{IsRising}
 use Rattle.am_local.specs.Together.{ends_of}
-use Rattle.am_machine.specs.Ends.{kept, setting_in}
+use Rattle.am_moves.specs.Logs.{kept}
+use Rattle.am_moves.specs.Pages.{HoldsBody}
+use Rattle.am_machine.specs.Ends.{setting_in}
 use Rattle.am_machine.specs.Kept.{IsOwn}
 use Rattle.am_machine.specs.Parts.{IsNodePart, is_declared_at}
-use Rattle.am_machine.specs.Swaps as swaps
 use Rattle.am_node.specs.declared.NodePart.{NodePart}
 use Rattle.am_phase.specs.Lying.{rests}
 use Rattle.am_places.specs.Codes.{place_code}
@@ -26,8 +27,6 @@ use Rattle.am_scenario_types.specs.Lists.{ScenarioLists}
 use Rattle.am_follow.proofs.Lawful.{eqb_turned}
 use Rattle.am_works.specs.Seats.{IsBorn}
 use Rattle.am_opening.specs.Openings.{IsFreshDisk, IsOpenIn, births_of, thread_ids}
-use Rattle.am_image.specs.Image.{image}
-use Rattle.am_image.specs.Valid.{IsValid}
 use Rattle.am_opening.proofs.Lists.{all_got, got_all, got_kept, got_map, length_map, map_all, map_twice}
 
 -- ---- an endpoint
@@ -113,11 +112,8 @@ module _ (layout : Layout) (node : NodeId) (p : NodePart) (ok : IsLawful layout)
       let there : slice_get (filter (is_declared_at node) layout.ends) k ≡ Some (setting_at e) = subst (λ (l : List EndSetting). slice_get l k ≡ Some (setting_at e)) part.ends' (got_map setting_at p.ends.items k e at) in
       let among = got_kept (is_declared_at node) layout.ends k (setting_at e) there in
       let opens : state_of layout [] e.settings.id ≡ fresh e.settings.tag e.settings.place = own.opening in
-      let held : swaps.HoldsBody p.swap layout.pool e.settings.id (state_of layout [] e.settings.id).body = part.disk.bodies among.0 (setting_at e) among.1 (part_home k e at) (ap (λ (t : State). is_on_disk t.head.place) opens ∙ on) in
-      record {
-        held = held.held ∙ ap (λ (t : State). Some (image t.body)) opens;
-        valid = subst (λ (o : Option ℕ). IsValid e.settings.id o (fresh e.settings.tag e.settings.place).body) (sym own.pool) (subst (λ (t : State). IsValid e.settings.id layout.pool t.body) opens held.valid);
-      }
+      let held : HoldsBody p.swap layout.pool e.settings.id (state_of layout [] e.settings.id).body = part.disk.bodies among.0 (setting_at e) among.1 (part_home k e at) (ap (λ (t : State). is_on_disk t.head.place) opens ∙ on) in
+      subst (λ (o : Option ℕ). HoldsBody p.swap o e.settings.id (fresh e.settings.tag e.settings.place).body) (sym own.pool) (subst (λ (t : State). HoldsBody p.swap layout.pool e.settings.id t.body) opens held)
 
   pub part_disk : (books : List EndBook) → map (λ (b : EndBook). b.end.value) books ≡ p.ends.items → IsFreshDisk layout node (births_of books) p.swap
   part_disk books are =

@@ -17,7 +17,8 @@ use Rattle.am_model.specs.Layout.{AllAre, AreApart}
 use Rattle.am_local.specs.Together.{ends_of}
 use Rattle.am_iface.specs.Settings.{AreLawful}
 use Rattle.am_iface.specs.View.{InterfaceView}
-use Rattle.am_machine.specs.Ends.{kept, setting_in}
+use Rattle.am_moves.specs.Logs.{kept}
+use Rattle.am_machine.specs.Ends.{setting_in}
 use Rattle.am_machine.specs.Interfaces.{IsInterface, node_at}
 use Rattle.am_machine.specs.Parts.{AreNodeParts, IsNodePart}
 use Rattle.am_node.specs.declared.NodePart.{NodePart}

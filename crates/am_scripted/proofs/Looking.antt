@@ -23,7 +23,8 @@ use Rattle.am_local.proofs.Parts.{bound_own}
 use Rattle.am_endpoint.specs.View.{EndpointView, state_after}
 use Rattle.am_iface.specs.View.{InterfaceView, own}
 use Rattle.am_iface.proofs.Frees.{bound_is}
-use Rattle.am_machine.specs.Ends.{kept, setting_in}
+use Rattle.am_moves.specs.Logs.{kept}
+use Rattle.am_machine.specs.Ends.{setting_in}
 use Rattle.am_machine.specs.Interfaces.{IsInterface}
 use Rattle.am_machine.specs.Moves.{is_in_frame_of}
 use Rattle.am_machine.specs.View.{ClusterView}

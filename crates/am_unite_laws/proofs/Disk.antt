@@ -14,7 +14,7 @@ use Rattle.am_office.specs.declared.Event.TheVariants as Events
 use Rattle.am_office.specs.declared.Outcome.{Outcome}
 use Rattle.am_office.specs.Entries.{ends_touched, touches}
 use Rattle.am_model.specs.Changes.{replay}
-use Rattle.am_model.specs.Endpoint.{Body, State, is_on_disk}
+use Rattle.am_model.specs.Endpoint.{State, is_on_disk}
 use Rattle.am_model.specs.History.{IsHistory, MayFollow, state_of}
 use Rattle.am_model.specs.Layout.{AllAre, IsLawful, Layout, home, opening}
 use Rattle.am_model.proofs.Each.{each_at, each_front}
@@ -28,11 +28,9 @@ use Rattle.am_scenario_types.specs.declared.parts.Network.TheVariants as Network
 use Rattle.am_follow.specs.Layout.{is_direct, layout_of}
 use Rattle.am_follow.proofs.Lawful.{lawful_layout}
 use Rattle.am_body.specs.declared.settings.EndSettings.{EndSettings}
-use Rattle.am_device.specs.Memory.{Store}
 use Rattle.am_driver.specs.declared.EndView.{EndView}
 use Rattle.am_endpoint.specs.View.{state_by}
-use Rattle.am_machine.specs.Swaps.{HoldsBody}
-use Rattle.am_moves.specs.Pages as moved
+use Rattle.am_moves.specs.Pages.{HoldsBody}
 use Rattle.am_places.specs.Rule.{Begins, joined, known_at}
 use Rattle.am_places.specs.declared.board.Tenure.{Tenure}
 use Rattle.am_phase.specs.Makers.{Driver, Interface, IsOfMaker, Maker, Thread}
@@ -181,10 +179,6 @@ on_disk_since layout e journal seen rest packet lawful history is none on = (
 
 -- ---- what the driver's disk holds
 
--- the same rule in the words of the machine
-same_rule : (s : Store) (pool : Option ℕ) (e : EndpointId) (b : Body) → moved.HoldsBody s pool e b → HoldsBody s pool e b
-same_rule s pool e b h = record { held = h.held; valid = h.valid }
-
 told : (s : ScenarioLists) (r : RunEnd) (node : NodeId) (f : IsDriverAt s r node) (k : ℕ) (e : EndpointId) → slice_get (ends_of (layout_of s) node) k ≡ Some e → IsBornAt f.worker.pass.births k
 told s r node f k e at = born_at f.worker.pass.births k (let less = got_low (ends_of (layout_of s) node) k e at in let all = f.end.works.knows.all in omega (arith, less, all))
 
@@ -194,7 +188,7 @@ held_there s r node f k e at on =
     subst (λ (d : EndpointId). HoldsBody (r.nodes node).disk s.pool d (replay d (opening (layout_of s) d) seen).body) same
     (subst (λ (st : State). HoldsBody (r.nodes node).disk s.pool set.id (replay set.id st seen).body) born.opens
     (subst (λ (p : Option ℕ). HoldsBody (r.nodes node).disk p set.id (state_by set seen).body) born.pool
-    (same_rule (r.nodes node).disk set.pool set.id (state_by set seen).body (place.lies.disk there))))
+    (place.lies.disk there)))
   where
     seen : List Entry
     seen = seen_log k f.worker.pass

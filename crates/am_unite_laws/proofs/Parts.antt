@@ -21,7 +21,8 @@ use Rattle.am_local.specs.Together.{ends_of}
 use Rattle.am_local.proofs.Moves.{pages_own}
 use Rattle.am_local.proofs.Parts.{emitted_own}
 use Rattle.am_local.proofs.Within.{count_within}
-use Rattle.am_machine.specs.Ends.{kept, setting_in}
+use Rattle.am_moves.specs.Logs.{kept}
+use Rattle.am_machine.specs.Ends.{setting_in}
 use Rattle.am_machine.specs.Interfaces.{node_at}
 use Rattle.am_machine.specs.Kept.{IsOwn}
 use Rattle.am_machine.specs.Parts.{IsNodePart, is_declared_at}

@@ -6,7 +6,8 @@ use Rattle.am_office.specs.declared.Event.TheVariants as Events
 use Rattle.am_model.specs.History.{is_in_range}
 use Rattle.am_model.specs.Steps.{stop}
 use Rattle.am_machine.specs.Carries.{IsReady, carried_at}
-use Rattle.am_machine.specs.Ends.{is_of, kept}
+use Rattle.am_moves.specs.Logs.{kept}
+use Rattle.am_machine.specs.Ends.{is_of}
 use Rattle.am_machine.specs.Kept.{IsIndexed, journal_by, layout_in}
 use Rattle.am_machine.specs.View.{ClusterView}
 use Rattle.am_machine.proofs.Applied as applied

@@ -1,7 +1,7 @@
 use Rattle.std.proofs.Common.{map, sym, ap, ◌∙◌}
 use Rattle.am_follow.specs.Layout.{is_direct}
 use Rattle.am_model.specs.History.{failing}
-use Rattle.am_machine.specs.Ends.{kept}
+use Rattle.am_moves.specs.Logs.{kept}
 use Rattle.am_machine.specs.Kept.{journal_by, layout_in}
 use Rattle.am_machine.specs.View.{ClusterView}
 use Rattle.am_machine.proofs.Moving as moving

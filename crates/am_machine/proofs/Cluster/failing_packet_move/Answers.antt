@@ -2,7 +2,8 @@ use Rattle.std.proofs.Common.{◌≡◌, true, false, List, map, position, refl,
 use Rattle.am_names.specs.declared.NodeId.{NodeId}
 use Rattle.am_endpoint.specs.View.{EndpointView, state_after}
 use Rattle.am_model.specs.History.{failing, is_in_range}
-use Rattle.am_machine.specs.Ends.{is_of, kept}
+use Rattle.am_moves.specs.Logs.{kept}
+use Rattle.am_machine.specs.Ends.{is_of}
 use Rattle.am_machine.specs.Kept.{journal_by, layout_in}
 use Rattle.am_machine.specs.Moves.{failing_on, is_taken}
 use Rattle.am_machine.specs.View.{ClusterView}

@@ -4,7 +4,7 @@ use Rattle.am_join.specs.Joined.{AreOne, lists_of}
 use Rattle.am_merge.specs.Logs.{IsRising}
 use Rattle.am_merge.specs.Merged.{entries_of}
 use Rattle.am_model.specs.Layout.{AllAre}
-use Rattle.am_machine.specs.Ends.{kept}
+use Rattle.am_moves.specs.Logs.{kept}
 use Rattle.am_machine.specs.Kept.{journal_by, layout_in, logs_in}
 use Rattle.am_machine.proofs.Merging.{logs_one, logs_rise}
 use Rattle.am_machine.proofs.Cluster.journal.Goals as goal

@@ -4,7 +4,7 @@ use Rattle.am_names.specs.declared.EndpointId.{EndpointId}
 use Rattle.am_names.specs.declared.NodeId.{NodeId}
 use Rattle.am_office.specs.Entries.{touches, touches_node}
 use Rattle.am_model.specs.Layout.{declared}
-use Rattle.am_machine.specs.Ends.{kept}
+use Rattle.am_moves.specs.Logs.{kept}
 use Rattle.am_machine.specs.Kept.{journal_by, layout_in}
 use Rattle.am_machine.specs.View.{ClusterView}
 use Rattle.am_machine.proofs.Short.{end_short, node_short}

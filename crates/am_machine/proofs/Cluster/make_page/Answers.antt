@@ -8,11 +8,12 @@ use Rattle.am_model.specs.Steps.{stop}
 use Rattle.am_device.specs.Memory.{Store}
 use Rattle.am_endpoint.specs.View.{EndpointView}
 use Rattle.am_drain.specs.Made.{next_stamp}
-use Rattle.am_machine.specs.Ends.{is_of, kept}
+use Rattle.am_moves.specs.Logs.{kept}
+use Rattle.am_machine.specs.Ends.{is_of}
 use Rattle.am_machine.specs.Kept.{IsIndexed, journal_by, layout_in}
 use Rattle.am_office.specs.Entries.{emitted_of}
 use Rattle.am_journal.specs.View.{AreNodes}
-use Rattle.am_machine.specs.Pages.{IsPagedBy, Pages, page_outcome}
+use Rattle.am_moves.specs.Pages.{IsPagedBy, Pages, page_outcome}
 use Rattle.am_machine.specs.View.{ClusterView}
 use Rattle.am_machine.proofs.Applied as applied
 use Rattle.am_machine.proofs.Indexed.{applied_by, indexed, indexed_counts, indexed_few, indexed_stamp, indexed_still, seen_still}

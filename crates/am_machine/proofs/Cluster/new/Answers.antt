@@ -1,5 +1,4 @@
 use Rattle.std.proofs.Common.{◌≡◌, [], List, map, refl, sym, ap, ◌∙◌, subst}
-use Rattle.am_model.specs.Layout.{EndSetting, Fault}
 use Rattle.am_model.specs.Layout as model
 use Rattle.am_follow.proofs.Lawful.{lawful_layout}
 use Rattle.am_machine.proofs.Beginnings.{pool_lawful}
@@ -9,7 +8,8 @@ use Rattle.am_scenario_types.specs.Lawful.{IsLawful}
 use Rattle.am_follow.specs.Layout.{fault_of, layout_of, setting_of}
 use Rattle.am_machine.specs.declared.settings.Settings.{Settings}
 use Rattle.am_machine.specs.Beginnings.{opened}
-use Rattle.am_machine.specs.Ends.{EndLog, kept, setting_in}
+use Rattle.am_moves.specs.Logs.{EndLog, kept}
+use Rattle.am_machine.specs.Ends.{setting_in}
 use Rattle.am_machine.specs.Kept.{layout_in}
 use Rattle.am_machine.proofs.Indexed.{indexed}
 use Rattle.am_machine.proofs.Merging.{kept_merges}

@@ -4,7 +4,7 @@ use Rattle.am_node.specs.Parts.{all_logs, journal_of, parts_of}
 use Rattle.am_node.specs.Shells.{AreShells}
 use Rattle.am_node.specs.Shells as shells
 use Rattle.am_journal.specs.View.{received_in, receipts}
-use Rattle.am_machine.specs.Ends.{kept}
+use Rattle.am_moves.specs.Logs.{kept}
 use Rattle.am_machine.specs.Kept.{journal_by, layout_in}
 use Rattle.am_machine.specs.Interfaces.{node_at}
 use Rattle.am_machine.specs.Parts.{AreNodeParts}

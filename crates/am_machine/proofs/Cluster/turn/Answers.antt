@@ -4,7 +4,8 @@ use Rattle.std.proofs.Common.{◌≡◌, ◌<◌, Option, map, refl, sym, ap, �
 use Rattle.am_names.specs.declared.NodeId.{NodeId}
 use Rattle.am_endpoint.specs.View.{state_after}
 use Rattle.am_iface.specs.View.{own}
-use Rattle.am_machine.specs.Ends.{is_of, kept}
+use Rattle.am_moves.specs.Logs.{kept}
+use Rattle.am_machine.specs.Ends.{is_of}
 use Rattle.am_machine.specs.Kept.{journal_by}
 use Rattle.am_machine.specs.Turned.{entries_after}
 use Rattle.am_machine.specs.Ways.{GoesTo, way}

@@ -16,7 +16,7 @@ use Rattle.am_node.specs.Parts.{all_logs, journal_of}
 use Rattle.am_scenario_types.specs.declared.parts.EndLine.{EndLine}
 use Rattle.am_scenario_types.specs.Lists.{ScenarioLists}
 use Rattle.am_machine.specs.declared.settings.Settings.{Settings}
-use Rattle.am_machine.specs.Ends.{kept}
+use Rattle.am_moves.specs.Logs.{kept}
 use Rattle.am_machine.specs.Kept.{IsIndexed, layout_in}
 use Rattle.am_machine.specs.Parting.{settings_from}
 use Rattle.am_machine.proofs.Indexed.{indexed}

@@ -6,7 +6,8 @@ use Rattle.am_office.specs.Entries.{emitted_in}
 use Rattle.am_model.specs.History.{is_in_range}
 use Rattle.am_model.specs.Steps.{stop}
 use Rattle.am_journal.specs.View.{AreNodes, greatest_stamp}
-use Rattle.am_machine.specs.Ends.{is_of, kept}
+use Rattle.am_moves.specs.Logs.{kept}
+use Rattle.am_machine.specs.Ends.{is_of}
 use Rattle.am_machine.specs.Kept.{journal_by, layout_in}
 use Rattle.am_machine.specs.View.{ClusterView}
 use Rattle.am_machine.proofs.Applied as applied

@@ -3,7 +3,7 @@ use Rattle.am_model.specs.Endpoint.{fresh}
 use Rattle.am_body.specs.declared.settings.EndSettings.{EndSettings}
 use Rattle.am_image.specs.Image.{image}
 use Rattle.am_machine.specs.Presets.{opening_body}
-use Rattle.am_machine.proofs.Paged.{preset_told}
+use Rattle.am_machine.proofs.Presets.{preset_told}
 use Rattle.am_machine.proofs.swaps.preset.Goals as goal
 
 pub returns : goal.returns

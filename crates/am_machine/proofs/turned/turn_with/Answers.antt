@@ -1,12 +1,12 @@
 use Rattle.std.specs.Prelude.{Err, Ok, max}
 use Rattle.std.proofs.Common.{◌≡◌, ◌+◌, ℕ, sym, ap, ◌∙◌, subst, arith}
-use Rattle.am_endpoint.specs.View.{EndpointView, state_after, state_by}
+use Rattle.am_endpoint.specs.View.{state_after}
 use Rattle.am_endpoint.specs.View as endpoints
 use Rattle.am_iface.specs.View.{last_stamp, own}
 use Rattle.am_iface.specs.Turns.{stamp_in}
 use Rattle.am_journal.specs.View.{CanCount, Readings}
 use Rattle.am_machine.specs.declared.settings.ApplyFault.{ApplyFault}
-use Rattle.am_machine.specs.Ends.{EndLog, state_in}
+use Rattle.am_moves.specs.Logs.{EndLog, state_in}
 use Rattle.am_machine.specs.Turned.{CanTurnWith, TurnsWith}
 use Rattle.am_machine.specs.Ways.{GoesTo}
 use Rattle.am_machine.proofs.Turning as turning
