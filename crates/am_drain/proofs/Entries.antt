@@ -13,7 +13,8 @@ use Rattle.am_office.specs.declared.Outcome.TheVariants as Out
 use Rattle.am_office.specs.declared.Entry.{Entry}
 use Rattle.am_office.specs.Entries.{share_part, answer_by, answer_packet, parcel, emitted_in, emitted_of}
 use Rattle.am_model.specs.Channels.{emitted, is_on_link}
-use Rattle.am_model.specs.History.{stamp_of, is_packet_before, is_taken_before, outcome_of}
+use Rattle.am_model.specs.History.{is_packet_before, is_taken_before, outcome_of}
+use Rattle.am_model.specs.Packets.{stamp_of}
 use Rattle.am_drain.specs.Made.{later_stamp, next_entry, next_stamp, EntryMayFollow, EntryIsStep}
 
 or_true : (a b : Bool) → b ≡ true → (a || b) ≡ true

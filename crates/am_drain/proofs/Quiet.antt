@@ -14,7 +14,7 @@ use Rattle.am_model.specs.Endpoint.{is_on_disk, is_on_host}
 use Rattle.am_model.specs.Layout.{Layout, home}
 use Rattle.am_model.specs.History.{state_of}
 use Rattle.am_scripts.specs.Standings.{Standing, standings}
-use Rattle.am_scripts.specs.Follows.{driver_of}
+use Rattle.am_model.specs.Parts.{driver_of}
 use Rattle.am_drain.specs.Made.{next_entry, after_event, after_event_if}
 use Rattle.am_drain.specs.Ready.{paged_in, off_disk, off_disk_at, is_draining_in_frame, not_draining, may_leave, unloaded, spare, paged_out, kept, emptied, emptied_if, free_frame, with_frame, loaded_into, loaded, ready, ready_at, ready_dest_if, ready_dest}
 

@@ -8,7 +8,7 @@ use Rattle.am_model.proofs.Each.{each_push}
 use Rattle.am_scenario_types.specs.Lists.{ScenarioLists}
 use Rattle.am_follow.specs.Layout.{layout_of}
 use Rattle.am_scripts.specs.Links.{IsReceiptInOrder, ReceivesInOrder}
-use Rattle.am_scripts.specs.Follows.{driver_of}
+use Rattle.am_model.specs.Parts.{driver_of}
 use Rattle.am_drain.specs.declared.Turn.{Turn}
 use Rattle.am_drain.specs.declared.Turn.TheVariants.{Make}
 use Rattle.am_drain.specs.Made.{next_entry}

@@ -11,7 +11,7 @@ use Rattle.am_scenario_types.specs.declared.parts.ScriptCall.{ScriptCall}
 use Rattle.am_scenario_types.specs.Lists.{ScenarioLists}
 use Rattle.am_follow.specs.Layout.{layout_of}
 use Rattle.am_scripts.specs.Scripts.{call_made, is_of_thread, calls_of, script_of, call_left, BeginsScripts}
-use Rattle.am_scripts.specs.Follows.{driver_of}
+use Rattle.am_model.specs.Parts.{driver_of}
 use Rattle.am_scripts.proofs.Lists.{Begins, begins_next}
 use Rattle.am_drain.specs.declared.Turn.{Turn}
 use Rattle.am_drain.specs.declared.Turn.TheVariants.{Once, Make}

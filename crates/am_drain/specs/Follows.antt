@@ -8,7 +8,8 @@ use Rattle.am_follow.specs.Layout.{layout_of}
 use Rattle.am_scripts.specs.Links.{KeepsLinks, ReceivesInOrder}
 use Rattle.am_scripts.specs.Scripts.{KeepsScripts, BeginsScripts}
 use Rattle.am_scripts.specs.Standings.{IsAtRest}
-use Rattle.am_scripts.specs.Follows.{KeepsLastTries, KeepsToEvents, IsPhase, touches_part}
+use Rattle.am_scripts.specs.Follows.{KeepsLastTries, KeepsToEvents, IsPhase}
+use Rattle.am_model.specs.Parts.{touches_part}
 use Rattle.am_drain.specs.Drain.{after_turns, IsDrained}
 
 -- phase then drain: a journal is that of the threads, and then what the drain makes of it

@@ -10,7 +10,8 @@ use Rattle.am_follow.specs.Layout.{layout_of}
 use Rattle.am_scripts.specs.Links.{ReceivesInOrder}
 use Rattle.am_scripts.specs.Scripts.{BeginsScripts}
 use Rattle.am_scripts.specs.Standings.{Standing, standings, is_standing_of, IsAtRest}
-use Rattle.am_scripts.specs.Follows.{KeepsLastTries, KeepsToEvents, IsPhase, touches_part}
+use Rattle.am_scripts.specs.Follows.{KeepsLastTries, KeepsToEvents, IsPhase}
+use Rattle.am_model.specs.Parts.{touches_part}
 use Rattle.am_drain.specs.Rules.{next_turn, next_time_out}
 use Rattle.am_drain.specs.Drain.{turn, IsDrained}
 use Rattle.am_drain.specs.Follows.{IsGoodPhase, FollowsScripts, IsStoppedFor}

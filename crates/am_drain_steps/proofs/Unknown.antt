@@ -24,7 +24,7 @@ use Rattle.am_model.specs.History.{MayFollow, IsHistory, channel_to, expire, is_
 use Rattle.am_model.specs.PostOffice.{Gave}
 use Rattle.am_model.proofs.Each.{each_front, each_at}
 use Rattle.am_model.proofs.Ends.{EmittedIn}
-use Rattle.am_local.specs.Together.{number_of as own_number}
+use Rattle.am_model.specs.Packets.{number_of as own_number}
 use Rattle.am_local.proofs.Numbering.{history_numbered, numbered_place}
 use Rattle.am_laws_channels.proofs.Sent.{emitted_gave, gave_emitted}
 use Rattle.am_plan.specs.declared.plan.LinkFault.{LinkFault}

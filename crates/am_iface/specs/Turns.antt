@@ -6,7 +6,7 @@ use Rattle.am_office.specs.declared.Part.TheVariants as Parts
 use Rattle.am_office.specs.declared.Entry.{Entry}
 use Rattle.am_office.specs.Entries.{emitted_of}
 use Rattle.am_model.specs.Endpoint.{State}
-use Rattle.am_model.specs.History.{stamp_of}
+use Rattle.am_model.specs.Packets.{stamp_of}
 use Rattle.am_local.specs.declared.work.Work.{Work}
 use Rattle.am_local.specs.declared.work.Work.TheVariants as Works
 use Rattle.am_local.specs.Interface.{event_of, failing_at, outcome_at}

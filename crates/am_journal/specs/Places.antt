@@ -4,8 +4,7 @@ use Rattle.am_names.specs.declared.NodeId.{NodeId}
 use Rattle.am_names.specs.declared.Packet.{Packet}
 use Rattle.am_office.specs.declared.Event.{Event}
 use Rattle.am_office.specs.declared.Event.TheVariants as Events
-use Rattle.am_local.specs.Interface.{receiver_of}
-use Rattle.am_local.specs.Together.{from_of}
+use Rattle.am_model.specs.Packets.{receiver_of, from_of}
 
 -- the place of a link among those of 16 nodes, sixteen to a node
 abbrev pub link : NodeId → NodeId → ℕ

@@ -8,9 +8,8 @@ use Rattle.am_office.specs.declared.Event.{Event}
 use Rattle.am_office.specs.declared.Event.TheVariants as Events
 use Rattle.am_office.specs.declared.Entry.{Entry}
 use Rattle.am_model.specs.Channels.{emitted}
-use Rattle.am_local.specs.Interface.{receiver_of}
+use Rattle.am_model.specs.Packets.{receiver_of, from_of}
 use Rattle.am_local.specs.Readings.{page_calls}
-use Rattle.am_local.specs.Together.{from_of}
 use Rattle.am_drain.specs.Made.{later_stamp}
 use Rattle.am_journal.specs.Places.{link}
 

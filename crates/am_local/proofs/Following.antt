@@ -21,11 +21,13 @@ use Rattle.am_model.specs.Endpoint.{State, entry_at, front}
 use Rattle.am_model.specs.Calls.{outcome_of_call}
 use Rattle.am_model.specs.Layout.{AllAre, Layout}
 use Rattle.am_model.specs.Channels.{emitted}
-use Rattle.am_model.specs.History.{IsHistory, MayFollow, failing, is_in_range, is_later, is_packet_before, is_taken_before, outcome_of, stamp_of, state_of}
+use Rattle.am_model.specs.History.{IsHistory, MayFollow, failing, is_in_range, is_later, is_packet_before, is_taken_before, outcome_of, state_of}
+use Rattle.am_model.specs.Packets.{stamp_of}
 use Rattle.am_model.proofs.Ends.{EmittedIn, was_emitted}
 use Rattle.am_local.specs.declared.work.Work.{Work}
 use Rattle.am_local.specs.Asked.{IsThere, carry_at, failing_call, failing_carry, failing_want}
-use Rattle.am_local.specs.Driver.{DriverLog, DriverSettings, driver_of, end_moved, failing_move, is_by_driver, outcome_move}
+use Rattle.am_local.specs.Driver.{DriverLog, DriverSettings, end_moved, failing_move, outcome_move}
+use Rattle.am_model.specs.Parts.{driver_of, is_by_driver}
 use Rattle.am_local.specs.Follows.{IsNext, PartsGrow}
 use Rattle.am_local.specs.Interface.{InterfaceLog, InterfaceSettings, event_of, failing_at, outcome_at}
 use Rattle.am_local.specs.Readings.{with_entry}

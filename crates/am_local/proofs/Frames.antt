@@ -31,7 +31,8 @@ use Rattle.am_model.specs.History.{state_of, MayFollow, IsHistory, failing, is_h
 use Rattle.am_model.proofs.Each.{over_each, state_of_push}
 use Rattle.am_model.proofs.Ends.{last_such_push}
 use Rattle.am_model.proofs.Names.{same_end-is}
-use Rattle.am_local.specs.Driver.{changes_frame, driver_of, is_by_driver, is_load_into, is_loaded_by, lies_in}
+use Rattle.am_local.specs.Driver.{changes_frame, is_load_into, is_loaded_by, lies_in}
+use Rattle.am_model.specs.Parts.{driver_of, is_by_driver}
 use Rattle.am_local.specs.Together.{AreDeclaredOnce, ends_of}
 use Rattle.am_local.proofs.Homes.{IsAmong, all_among, any_mapped, one_home}
 

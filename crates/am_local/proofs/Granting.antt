@@ -36,7 +36,8 @@ use Rattle.am_model.proofs.Names.{same_end-refl, same_serial-is}
 use Rattle.am_model.proofs.Order.{order_arrived, order_bound, order_drained, order_loaded, order_paged_in, order_paged_out, order_settled, order_unloaded}
 use Rattle.am_local.specs.declared.work.Work.{Work}
 use Rattle.am_local.specs.declared.work.Work.TheVariants as Works
-use Rattle.am_local.specs.Driver.{DriverLog, driver_of, end_moved, failing_move, is_end_of, is_frame_held_by, outcome_move, page_at, page_number}
+use Rattle.am_local.specs.Driver.{DriverLog, end_moved, failing_move, is_end_of, is_frame_held_by, outcome_move, page_at, page_number}
+use Rattle.am_model.specs.Parts.{driver_of}
 use Rattle.am_local.specs.Granted.{IsInFlight, IsMoveOf, IsWorkAt, MayDo, MayMove}
 use Rattle.am_local.specs.Interface.{InterfaceLog, arrival_in, arrive_at, bind_at, channel_by_home, channel_in, channel_of_front, event_of, expire_at, failing_at, has_try_left, home_in, home_of_front, is_home_in, needs_arrival, needs_bound, outcome_at, receiver, settle_at, settles}
 use Rattle.am_local.proofs.Frames.{none_holds, not_not}

@@ -16,7 +16,8 @@ use Rattle.am_model.specs.Choice.{first_holding}
 use Rattle.am_model.specs.Endpoint.{State, is_resident, is_on_host, is_on_disk}
 use Rattle.am_model.specs.Layout.{Layout, Fault}
 use Rattle.am_model.specs.History.{IsHistory, is_home, is_frame_held, is_page_call, page}
-use Rattle.am_local.specs.Driver.{DriverLog, driver_of, end_moved, is_by_driver, lies_in, is_frame_held_by, is_end_of, page_at}
+use Rattle.am_local.specs.Driver.{DriverLog, end_moved, lies_in, is_frame_held_by, is_end_of, page_at}
+use Rattle.am_model.specs.Parts.{driver_of, is_by_driver}
 use Rattle.am_local.specs.Readings.{of_driver, page_calls}
 use Rattle.am_local.specs.Together.{IsDriverPart, IsState, SaysTheSameOfMove}
 use Rattle.am_local.proofs.Within.{count_within}

@@ -29,9 +29,9 @@ use Rattle.am_model.specs.History.{EachAfter, IsHistory, MayFollow, arrive, bind
 use Rattle.am_model.proofs.Each.{over_each}
 use Rattle.am_local.specs.declared.work.Work.{Work}
 use Rattle.am_local.specs.declared.work.Work.TheVariants as Works
-use Rattle.am_local.specs.Interface.{InterfaceLog, arrival_in, arrive_at, bind_at, channel_in, channel_of_front, event_of, expire_at, has_try_left, home_in, outcome_at, receiver_of, settle_at}
+use Rattle.am_local.specs.Interface.{InterfaceLog, arrival_in, arrive_at, bind_at, channel_in, channel_of_front, event_of, expire_at, has_try_left, home_in, outcome_at, settle_at}
+use Rattle.am_model.specs.Packets.{receiver_of, from_of}
 use Rattle.am_local.specs.Numbered.{AreNumbered, HasNextNumber, IsNextPacket, IsPacketAt}
-use Rattle.am_local.specs.Together.{from_of}
 use Rattle.am_local.proofs.Growing.{emitted_append}
 use Rattle.am_local.proofs.Touched.{settle_silent, settling_silent}
 

@@ -1,27 +1,27 @@
 -- What an application or the direct network asks of endpoints, by the states of those that it touches alone.
-use Rattle.std.specs.Prelude.{◌≡◌, ℕ, not, Option, Some, None, is_none, List, [], ◌∷◌}
+use Rattle.std.specs.Prelude.{◌≡◌, ℕ, Option, Some, None, List}
 use Rattle.am_office.specs.declared.Condition.{Condition}
-use Rattle.am_office.specs.declared.Condition.TheVariants as Needs
 use Rattle.am_office.specs.declared.Outcome.{Outcome}
 use Rattle.am_office.specs.declared.Outcome.TheVariants as Out
 use Rattle.am_office.specs.declared.Entry.{Entry}
 use Rattle.am_model.specs.Choice.{first_holding}
 use Rattle.am_model.specs.declared.Queued.{Queued}
-use Rattle.am_model.specs.Endpoint.{State, is_on_disk, front, verdict}
+use Rattle.am_model.specs.Endpoint.{State, verdict}
 use Rattle.am_model.specs.Layout.{Layout}
+use Rattle.am_model.specs.Tables.{call_table, carry_table, want_table}
 use Rattle.am_model.specs.History.{judged, state_of}
 
 -- what keeps a call from being made on an endpoint in this state
 abbrev pub failing_call : State → Option Condition
-failing_call s = first_holding ((is_on_disk s.head.place, Needs.OnDisk) ∷ [])
+failing_call s = first_holding (call_table s)
 
 -- what keeps an endpoint in this state from being wanted
 abbrev pub failing_want : State → Option Condition
-failing_want s = first_holding ((not (is_on_disk s.head.place), Needs.NotOnDisk) ∷ [])
+failing_want s = first_holding (want_table s)
 
 -- what keeps the direct network from carrying the front message of an endpoint in this state
 abbrev pub failing_carry : State → Option Condition
-failing_carry s = first_holding ((is_none (front s), Needs.NoMessage) ∷ [])
+failing_carry s = first_holding (carry_table s)
 
 -- what comes of a carry of the front message to an endpoint in the second state, where messages may bounce up to the limit
 abbrev pub carry_at : ℕ → Option Queued → State → Outcome

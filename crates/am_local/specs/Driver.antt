@@ -1,20 +1,19 @@
 -- A node's driver by its settings and its own log, which has the node's driver entries: what its next move comes to, and
 -- what keeps it from being made. It reads the state of the endpoint that it moves, and nothing of other parts.
-use Rattle.std.specs.Prelude.{ℕ, ◌+◌, Bool, false, ◌==◌, not, Option, Some, None, List, [], ◌∷◌, length, count_by, if◌then◌else◌}
+use Rattle.std.specs.Prelude.{ℕ, ◌+◌, Bool, false, ◌==◌, Option, Some, None, List, count_by}
 use Rattle.std.specs.List.{list_any}
 use Rattle.am_names.specs.declared.EndpointId.{EndpointId}
 use Rattle.am_names.specs.declared.NodeId.{NodeId}
 use Rattle.am_names.specs.Names.{same_end}
 use Rattle.am_office.specs.declared.Condition.{Condition}
-use Rattle.am_office.specs.declared.Condition.TheVariants as Needs
 use Rattle.am_office.specs.declared.Event.{Event}
 use Rattle.am_office.specs.declared.Event.TheVariants as Events
 use Rattle.am_office.specs.declared.Outcome.{Outcome}
 use Rattle.am_office.specs.declared.Outcome.TheVariants as Out
 use Rattle.am_office.specs.declared.Entry.{Entry}
-use Rattle.am_office.specs.Entries.{is_node}
 use Rattle.am_model.specs.Choice.{first_holding}
-use Rattle.am_model.specs.Endpoint.{State, is_resident, is_on_disk, is_on_host}
+use Rattle.am_model.specs.Endpoint.{State}
+use Rattle.am_model.specs.Tables.{drain_table, load_table, page_in_table, page_out_table, page_ended, unload_table}
 use Rattle.am_model.specs.Channels.{last_such}
 use Rattle.am_model.specs.History.{is_page_call}
 
@@ -28,19 +27,6 @@ pub record DriverSettings : Type 0 where
 pub record DriverLog : Type 0 where
   pub settings : DriverSettings
   pub log : List Entry
-
--- the node whose driver makes the event, if a driver does
-abbrev pub driver_of : Event → Option NodeId
-driver_of (Events.Drain node end) = Some node
-driver_of (Events.Unload node end) = Some node
-driver_of (Events.Load node end frame) = Some node
-driver_of (Events.PageOut node end) = Some node
-driver_of (Events.PageIn node end) = Some node
-driver_of event = None
-
--- whether the node's driver makes the entry
-abbrev pub is_by_driver : NodeId → Entry → Bool
-is_by_driver node x = is_node node (driver_of x.event)
 
 -- the endpoint that a driver's event is about
 abbrev pub end_moved : Event → Option EndpointId
@@ -83,34 +69,15 @@ page_number d = count_by (λ (x : Entry). is_page_call d.settings.node x.event) 
 
 -- what comes of the next page call
 abbrev pub page_at : DriverLog → Outcome
-page_at d = if list_any (λ (number : ℕ). number == page_number d) d.settings.faults then Out.Failed else Out.Done
+page_at d = page_ended (list_any (λ (number : ℕ). number == page_number d) d.settings.faults)
 
 -- the first condition that keeps a move from being made, where its endpoint is in this state
 abbrev pub failing_move : DriverLog → State → Event → Option Condition
-failing_move d s (Events.Drain node end) =
-    first_holding (
-    (not (is_end_of d end), Needs.OtherNode)
-    ∷ (not (is_resident s.head.place), Needs.NotResident)
-    ∷ (s.head.draining, Needs.Draining)
-    ∷ [])
-failing_move d s (Events.Unload node end) =
-    first_holding (
-    (not (is_end_of d end), Needs.OtherNode)
-    ∷ (not (is_resident s.head.place), Needs.NotResident)
-    ∷ (not s.head.draining, Needs.NotDraining)
-    ∷ (not (length s.body.in_flight == 0), Needs.InFlight)
-    ∷ [])
-failing_move d s (Events.Load node end frame) =
-    first_holding (
-    (not (is_end_of d end), Needs.OtherNode)
-    ∷ (not (is_on_host s.head.place), Needs.NotOnHost)
-    ∷ (s.head.closed, Needs.Closed)
-    ∷ (is_frame_held_by d frame, Needs.FrameHeld)
-    ∷ [])
-failing_move d s (Events.PageOut node end) =
-    first_holding ((not (is_end_of d end), Needs.OtherNode) ∷ (not (is_on_host s.head.place), Needs.NotOnHost) ∷ (s.head.closed, Needs.Closed) ∷ [])
-failing_move d s (Events.PageIn node end) =
-    first_holding ((not (is_end_of d end), Needs.OtherNode) ∷ (not (is_on_disk s.head.place), Needs.NotOnDisk) ∷ [])
+failing_move d s (Events.Drain node end) = first_holding (drain_table (is_end_of d end) s)
+failing_move d s (Events.Unload node end) = first_holding (unload_table (is_end_of d end) s)
+failing_move d s (Events.Load node end frame) = first_holding (load_table (is_end_of d end) s (is_frame_held_by d frame))
+failing_move d s (Events.PageOut node end) = first_holding (page_out_table (is_end_of d end) s)
+failing_move d s (Events.PageIn node end) = first_holding (page_in_table (is_end_of d end) s)
 failing_move d s event = None
 
 -- what comes of a move

@@ -6,7 +6,8 @@ use Rattle.am_office.specs.declared.Entry.{Entry}
 use Rattle.am_office.specs.Entries.{touches, touches_node}
 use Rattle.am_model.specs.Layout.{AllAre, Layout}
 use Rattle.am_model.specs.History.{is_in_range}
-use Rattle.am_local.specs.Driver.{DriverLog, is_by_driver}
+use Rattle.am_local.specs.Driver.{DriverLog}
+use Rattle.am_model.specs.Parts.{is_by_driver}
 use Rattle.am_local.specs.Interface.{InterfaceLog}
 use Rattle.am_local.specs.Readings.{with_entry}
 use Rattle.am_local.specs.Together.{IsDriverPart, IsPart}

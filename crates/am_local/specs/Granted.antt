@@ -14,7 +14,8 @@ use Rattle.am_model.specs.Channels.{bound_message}
 use Rattle.am_local.specs.declared.work.Work.{Work}
 use Rattle.am_local.specs.declared.work.Work.TheVariants as Works
 use Rattle.am_local.specs.Interface.{InterfaceLog, channel_in, event_of, failing_at, needs, outcome_at}
-use Rattle.am_local.specs.Driver.{DriverLog, driver_of, end_moved, failing_move, outcome_move}
+use Rattle.am_local.specs.Driver.{DriverLog, end_moved, failing_move, outcome_move}
+use Rattle.am_model.specs.Parts.{driver_of}
 
 -- the bound message, if any, is in flight at the endpoint
 abbrev pub IsInFlight : State → Option Message → Type 0

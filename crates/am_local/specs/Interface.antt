@@ -1,7 +1,7 @@
 -- An interface by its settings and its own log: what its work comes to, what keeps it from being done, the endpoint that
 -- it touches and the node that it sends a packet to. It reads the state of one endpoint and the packet in hand, and nothing
 -- of other parts.
-use Rattle.std.specs.Prelude.{ℕ, ◌+◌, Bool, true, false, ◌==◌, ◌&&◌, not, nat_lt, Option, Some, None, is_none, List, [], ◌∷◌, if◌then◌else◌}
+use Rattle.std.specs.Prelude.{ℕ, ◌+◌, Bool, true, false, not, Option, Some, None, List, if◌then◌else◌}
 use Rattle.am_names.specs.declared.EndpointId.{EndpointId}
 use Rattle.am_names.specs.declared.NodeId.{NodeId}
 use Rattle.am_names.specs.declared.Message.{Message}
@@ -10,7 +10,6 @@ use Rattle.am_names.specs.declared.Packet.{Packet}
 use Rattle.am_names.specs.declared.Packet.TheVariants as Packets
 use Rattle.am_names.specs.Names.{same_node}
 use Rattle.am_office.specs.declared.Condition.{Condition}
-use Rattle.am_office.specs.declared.Condition.TheVariants as Needs
 use Rattle.am_office.specs.declared.Event.{Event}
 use Rattle.am_office.specs.declared.Event.TheVariants as Events
 use Rattle.am_office.specs.declared.Received.{Received}
@@ -20,10 +19,12 @@ use Rattle.am_office.specs.declared.Outcome.TheVariants as Out
 use Rattle.am_office.specs.declared.Entry.{Entry}
 use Rattle.am_model.specs.Choice.{first_holding}
 use Rattle.am_model.specs.declared.Queued.{Queued}
-use Rattle.am_model.specs.Endpoint.{State, is_resident, front, verdict, entry_at}
+use Rattle.am_model.specs.Endpoint.{State, front, verdict, entry_at}
+use Rattle.am_model.specs.Packets.{receiver_of}
+use Rattle.am_model.specs.Tables.{bind_table, expire_table, may_try, tries_ended}
 use Rattle.am_model.specs.Changes.{flying_of}
 use Rattle.am_model.specs.Channels.{Channel, Arrival, Stale, Again, Fresh, sequence, bound_message, attempt, mark, arrival}
-use Rattle.am_model.specs.History.{channel_to, is_bound, free_from, next_number, sent, bind_to, is_answered, bounced, decided, settle_by, counts}
+use Rattle.am_model.specs.History.{channel_to, is_bound, free_from, next_number, sent, bind_to, is_answered, bounced, decided, settle_by, settles_on}
 use Rattle.am_local.specs.declared.work.Work.{Work}
 use Rattle.am_local.specs.declared.work.Work.TheVariants as Works
 
@@ -75,15 +76,8 @@ is_home_in i e = is_node_in i (home_in i e)
 -- the first condition that keeps a work from being done, where the endpoint that it reads is in this state
 abbrev pub failing_at : InterfaceLog → State → Work → Option Condition
 failing_at i s (Works.Receive p) = None
-failing_at i s (Works.Bind end) =
-    first_holding (
-    (not (is_home_in i end), Needs.OtherNode)
-    ∷ (not (is_resident s.head.place), Needs.NotResident)
-    ∷ (s.head.draining, Needs.Draining)
-    ∷ (is_none (front s), Needs.NoMessage)
-    ∷ (is_none (channel_of_front i (front s)), Needs.NoChannel)
-    ∷ [])
-failing_at i s (Works.Expire peer channel) = first_holding ((not (is_bound (channel_in i peer channel) i.log), Needs.Idle) ∷ [])
+failing_at i s (Works.Bind end) = first_holding (bind_table (is_home_in i end) s (channel_of_front i (front s)))
+failing_at i s (Works.Expire peer channel) = first_holding (expire_table (is_bound (channel_in i peer channel) i.log))
 
 -- what a data packet from the peer is to the channel's receiving end
 abbrev pub arrival_in : InterfaceLog → NodeId → ℕ → ℕ → ℕ → Arrival
@@ -95,10 +89,9 @@ arrive_at s m answer Stale = Got.Stale
 arrive_at s m answer (Again verdict) = Got.Again m.serial verdict answer
 arrive_at s m answer Fresh = decided m answer (verdict s m)
 
--- whether the answer settles what is bound to the channel: it is of the present sequence, and a refusal is of the present
--- attempt too
+-- whether the answer settles what is bound to the channel
 abbrev pub settles : InterfaceLog → Channel → AnswerPacket → Bool
-settles i c p = (p.seq == sequence c i.log) && counts p.verdict (p.attempt == attempt c i.log)
+settles i c p = settles_on c i.log p
 
 -- what comes of an answer on a channel where this message is bound, whose source is in this state
 abbrev pub settle_at : InterfaceLog → State → Channel → AnswerPacket → Option Message → Received
@@ -112,7 +105,7 @@ bind_at i (Some q) = bind_to i.settings.node i.log q (home_in i q.message.dest) 
 
 -- whether the channel may send its message once more: the tries that it used are below the limit
 abbrev pub has_try_left : InterfaceLog → Channel → Bool
-has_try_left i c = nat_lt (attempt c i.log + 1) i.settings.tries
+has_try_left i c = may_try i.settings.tries (attempt c i.log)
 
 -- what comes of a time-out of the channel where this message is bound, whose source is in this state
 abbrev pub expire_at : InterfaceLog → State → NodeId → ℕ → Option Message → Outcome
@@ -120,7 +113,7 @@ expire_at i s peer channel None = Out.Silent
 expire_at i s peer channel (Some m) =
     if has_try_left i (channel_in i peer channel)
     then sent i.settings.node peer channel i.log m (sequence (channel_in i peer channel) i.log) (attempt (channel_in i peer channel) i.log + 1)
-    else (if is_answered (flying_of m.serial s.body.in_flight) then Out.Delivered m.serial else Out.Unknown m.serial)
+    else tries_ended m.serial (is_answered (flying_of m.serial s.body.in_flight))
 
 -- what comes of a work, where the endpoint that it reads is in this state
 abbrev pub outcome_at : InterfaceLog → State → Work → Outcome
@@ -178,10 +171,6 @@ is_bind (Works.Expire peer channel) = false
 abbrev pub home_of_front : InterfaceLog → Option Queued → Option NodeId
 home_of_front i None = None
 home_of_front i (Some q) = home_in i q.message.dest
-
-abbrev pub receiver_of : Packet → NodeId
-receiver_of (Packets.Parcel p) = p.to
-receiver_of (Packets.Answer p) = p.to
 
 -- where a packet goes, if there is one
 abbrev pub receiver : Option Packet → Option NodeId

@@ -4,9 +4,8 @@ use Rattle.am_names.specs.declared.NodeId.{NodeId}
 use Rattle.am_names.specs.declared.Packet.{Packet}
 use Rattle.am_office.specs.declared.Entry.{Entry}
 use Rattle.am_office.specs.Entries.{emitted_of}
-use Rattle.am_model.specs.History.{EachAfter, next_number, stamp_of}
-use Rattle.am_local.specs.Interface.{receiver_of}
-use Rattle.am_local.specs.Together.{from_of, number_of}
+use Rattle.am_model.specs.History.{EachAfter, next_number}
+use Rattle.am_model.specs.Packets.{stamp_of, from_of, number_of, receiver_of}
 
 -- the packet is the next that the node emits after these entries, on whichever link it is, with this stamp
 pub record IsNextPacket (node : NodeId) (past : List Entry) (stamp : ℕ) (p : Packet) : Type 0 where

@@ -9,7 +9,8 @@ use Rattle.am_model.specs.Changes.{after}
 use Rattle.am_model.specs.Layout.{Layout}
 use Rattle.am_model.specs.Channels.{Channel, sequence, bound_message, attempt, mark, emitted, binds, frees, sends, decides, sent_message, attempt_in, mark_in}
 use Rattle.am_model.specs.History.{state_of, channel_to, free_from, is_page_call}
-use Rattle.am_local.specs.Driver.{changes_frame, is_by_driver, is_load_into, lies_in}
+use Rattle.am_local.specs.Driver.{changes_frame, is_load_into, lies_in}
+use Rattle.am_model.specs.Parts.{is_by_driver}
 
 -- the entries that touch the node's interface
 abbrev pub of_interface : NodeId → List Entry → List Entry

@@ -4,7 +4,6 @@ use Rattle.std.specs.List.{range_with_len}
 use Rattle.am_names.specs.declared.EndpointId.{EndpointId}
 use Rattle.am_names.specs.declared.NodeId.{NodeId}
 use Rattle.am_names.specs.declared.Packet.{Packet}
-use Rattle.am_names.specs.declared.Packet.TheVariants as Packets
 use Rattle.am_names.specs.Names.{same_end, same_node}
 use Rattle.am_office.specs.declared.Actor.{Actor}
 use Rattle.am_office.specs.declared.Call.{Call}
@@ -17,12 +16,14 @@ use Rattle.am_model.specs.Endpoint.{State, front}
 use Rattle.am_model.specs.Calls.{outcome_of_call}
 use Rattle.am_model.specs.Layout.{Layout, EndSetting, Fault, AreApart, home}
 use Rattle.am_model.specs.Channels.{emitted}
-use Rattle.am_model.specs.History.{state_of, outcome_of, failing, stamp_of}
+use Rattle.am_model.specs.History.{state_of, outcome_of, failing}
+use Rattle.am_model.specs.Packets.{from_of, number_of, restamped, stamp_of}
 use Rattle.am_local.specs.declared.work.Work.{Work}
 use Rattle.am_local.specs.declared.work.Work.TheVariants as Works
 use Rattle.am_local.specs.Interface.{InterfaceLog, home_in, needs, event_of, outcome_at, failing_at}
 use Rattle.am_local.specs.Asked.{carry_at, failing_call, failing_carry, failing_want}
-use Rattle.am_local.specs.Driver.{DriverLog, is_by_driver, failing_move, outcome_move}
+use Rattle.am_local.specs.Driver.{DriverLog, failing_move, outcome_move}
+use Rattle.am_model.specs.Parts.{is_by_driver}
 
 -- no endpoint is declared twice
 abbrev pub AreDeclaredOnce : Layout → Type 0
@@ -46,19 +47,6 @@ pub record IsPart (layout : Layout) (past : List Entry) (i : InterfaceLog) : Typ
 abbrev pub IsState : Layout → List Entry → State → Option EndpointId → Type 0
 IsState layout past s None = Unit {0}
 IsState layout past s (Some e) = s ≡ state_of layout past e
-
--- the packet with another stamp
-abbrev pub restamped : ℕ → Packet → Packet
-restamped stamp (Packets.Parcel p) = Packets.Parcel (record p { stamp = stamp })
-restamped stamp (Packets.Answer p) = Packets.Answer (record p { stamp = stamp })
-
-abbrev pub from_of : Packet → NodeId
-from_of (Packets.Parcel p) = p.from
-from_of (Packets.Answer p) = p.from
-
-abbrev pub number_of : Packet → ℕ
-number_of (Packets.Parcel p) = p.number
-number_of (Packets.Answer p) = p.number
 
 -- the packet was emitted so to the node, but for its stamp: what comes out of a link that held it is stamped later
 pub record WasEmitted (past : List Entry) (node : NodeId) (p : Packet) : Type 0 where

@@ -5,13 +5,15 @@
 
 ghost use Rattle.am_local.specs.Asked.{IsThere, carry_at, failing_call, failing_carry, failing_want};
 ghost use Rattle.am_local.specs.Bounds.{IsBounded};
-ghost use Rattle.am_local.specs.Driver.{DriverLog, driver_of, end_moved, failing_move, outcome_move};
+ghost use Rattle.am_local.specs.Driver.{DriverLog, end_moved, failing_move, outcome_move};
+ghost use Rattle.am_model.specs.Parts.{driver_of};
 ghost use Rattle.am_local.specs.Follows.{IsNext, PartsGrow};
 ghost use Rattle.am_local.specs.Granted.{IsMoveOf, IsWorkAt, MayDo, MayMove};
 ghost use Rattle.am_local.specs.Interface.{InterfaceLog, emits_to, event_of, home_of_front, failing_at, is_bind, needs, outcome_at, receiver};
 ghost use Rattle.am_local.specs.Numbered.{AreNumbered, IsNextPacket, IsPacketAt};
 ghost use Rattle.am_local.specs.Readings.{ReadingsGrow, ReadsItsOwn};
-ghost use Rattle.am_local.specs.Together.{IsAt, IsDriverPart, IsPart, IsState, SaysTheSame, SaysTheSameOfCall, SaysTheSameOfCarry, SaysTheSameOfMove, SaysTheSameOfWant, driver_in, interface_in, restamped};
+ghost use Rattle.am_local.specs.Together.{IsAt, IsDriverPart, IsPart, IsState, SaysTheSame, SaysTheSameOfCall, SaysTheSameOfCarry, SaysTheSameOfMove, SaysTheSameOfWant, driver_in, interface_in};
+ghost use Rattle.am_model.specs.Packets.{restamped};
 ghost use Rattle.am_model.specs.Allowed.{MayArrive, MayBind, MayCarry, MayDrain, MayLoad, MayPageIn, MayPageOut, MaySettle, MayUnload, are_numbers_in_range};
 ghost use Rattle.am_model.specs.Calls.{outcome_of_call};
 ghost use Rattle.am_model.specs.Changes.{called, made_wanted};

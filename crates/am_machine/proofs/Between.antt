@@ -22,8 +22,7 @@ use Rattle.am_model.specs.History.{bind, bind_to, channel_for, channel_to, expir
 use Rattle.am_model.specs.Changes.{flying_of}
 use Rattle.am_model.specs.Layout.{EndSetting, IsLawful, IsSettingLawful, Layout, declared, has_id, home, home_by}
 use Rattle.am_laws_messages.proofs.Alls.{all_found}
-use Rattle.am_local.specs.Interface.{receiver_of}
-use Rattle.am_local.specs.Together.{from_of}
+use Rattle.am_model.specs.Packets.{receiver_of, from_of}
 
 -- the node of an endpoint is one of the layout's
 home_found : (layout : Layout) → IsLawful layout → (o : Option EndSetting) (e : EndpointId) (node : NodeId) → find (has_id e) layout.ends ≡ o → home_by o ≡ Some node → node.0 < layout.nodes

@@ -22,7 +22,8 @@ use Rattle.am_model.specs.Steps.{NotEnabled, full_log, stop, stop_by}
 use Rattle.am_local.specs.declared.work.Work.{Work}
 use Rattle.am_local.specs.declared.work.Work.TheVariants as Works
 use Rattle.am_local.specs.Interface.{arrival_in, channel_in, event_of, failing_at, has_try_left, needs, needs_arrival, needs_bound, settles}
-use Rattle.am_local.specs.Together.{IsState, from_of, number_of}
+use Rattle.am_local.specs.Together.{IsState}
+use Rattle.am_model.specs.Packets.{from_of, number_of}
 use Rattle.am_local.proofs.Outcomes.{same_ends}
 use Rattle.am_local.proofs.Numbering.{history_numbered, numbered_place}
 use Rattle.am_laws_packets.proofs.Packets.{bound_aloft, packets_fit}

@@ -20,7 +20,8 @@ use Rattle.am_model.specs.History.{failing, is_frame_held, is_home, is_in_frame,
 use Rattle.am_model.specs.Steps.{LogFull, stop}
 use Rattle.am_drain.specs.Made.{next_entry}
 use Rattle.am_office.specs.declared.Part.TheVariants as Parts
-use Rattle.am_local.specs.Driver.{DriverLog, driver_of, end_moved, failing_move, is_by_driver, outcome_move}
+use Rattle.am_local.specs.Driver.{DriverLog, end_moved, failing_move, outcome_move}
+use Rattle.am_model.specs.Parts.{driver_of, is_by_driver}
 use Rattle.am_local.specs.Granted.{MayMove}
 use Rattle.am_local.specs.Together.{IsDriverPart, IsState, ends_of, faults_of}
 use Rattle.am_local.proofs.Granting.{move_granted}

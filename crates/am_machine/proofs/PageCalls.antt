@@ -15,7 +15,8 @@ use Rattle.am_model.specs.History.{MayFollow, is_page_call, outcome_of, page, st
 use Rattle.am_model.specs.Layout.{Fault, Layout}
 use Rattle.am_drain.specs.Made.{next_entry, next_stamp}
 use Rattle.am_model.proofs.Names.{same_end-is}
-use Rattle.am_local.specs.Driver.{driver_of, end_moved}
+use Rattle.am_local.specs.Driver.{end_moved}
+use Rattle.am_model.specs.Parts.{driver_of}
 use Rattle.am_local.specs.Granted.{MayMove}
 use Rattle.am_local.specs.Readings.{page_calls}
 use Rattle.am_laws_disk.specs.Disk.{pages_out}

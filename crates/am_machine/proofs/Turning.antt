@@ -15,8 +15,8 @@ use Rattle.am_model.specs.Channels.{Again, Arrival, Fresh, Stale, bound_message}
 use Rattle.am_model.specs.Endpoint.{State}
 use Rattle.am_local.specs.declared.work.Work.{Work}
 use Rattle.am_local.specs.declared.work.Work.TheVariants as Works
-use Rattle.am_local.specs.Interface.{InterfaceLog, answers_to, arrival_in, channel_in, emits_to, event_of, failing_at, has_try_left, needs, outcome_at, receiver, receiver_of, sends_again_to}
-use Rattle.am_local.specs.Together.{from_of}
+use Rattle.am_local.specs.Interface.{InterfaceLog, answers_to, arrival_in, channel_in, emits_to, event_of, failing_at, has_try_left, needs, outcome_at, receiver, sends_again_to}
+use Rattle.am_model.specs.Packets.{receiver_of, from_of}
 use Rattle.am_local.proofs.Granting.{bind_emission}
 use Rattle.am_local.proofs.Numbering.{next_emitted}
 use Rattle.am_local.proofs.Touched.{emission_told}

@@ -8,7 +8,7 @@ use Rattle.am_local.specs.declared.work.Work.{Work}
 use Rattle.am_local.specs.declared.work.Work.TheVariants as Works
 use Rattle.am_local.specs.Granted.{FitsEndpoint}
 use Rattle.am_local.specs.Interface.{event_of, failing_at, home_in, needs, outcome_at}
-use Rattle.am_local.specs.Together.{from_of, number_of}
+use Rattle.am_model.specs.Packets.{from_of, number_of}
 use Rattle.am_drain.specs.Made.{next_stamp}
 use Rattle.am_journal.specs.View.{CanCount, Readings}
 use Rattle.am_endpoint.specs.View.{EndpointView, state_after}

@@ -1,5 +1,6 @@
 // The page calls of a node.
-ghost use Rattle.am_local.specs.Driver.{driver_of, end_moved};
+ghost use Rattle.am_local.specs.Driver.{end_moved};
+ghost use Rattle.am_model.specs.Parts.{driver_of};
 ghost use Rattle.am_moves.specs.Pages.{is_page};
 ghost use Rattle.am_machine.specs.View.{Applies};
 ghost use Rattle.am_model.specs.History.{is_in_range};

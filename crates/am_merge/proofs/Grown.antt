@@ -5,7 +5,8 @@ use Rattle.am_office.specs.declared.Entry.{Entry}
 use Rattle.am_local.specs.Readings.{with_entry}
 use Rattle.am_model.specs.Layout.{AllAre}
 use Rattle.am_model.specs.Merge.{rank, is_before}
-use Rattle.am_merge.specs.Merged.{IsBelow, PartLog, entries_of, grown, inserted, is_same, journal_after, journal_of, merged, sorted, touches_one, touches_part}
+use Rattle.am_merge.specs.Merged.{IsBelow, PartLog, entries_of, grown, inserted, is_same, journal_after, journal_of, merged, sorted, touches_one}
+use Rattle.am_model.specs.Parts.{touches_part}
 
 abbrev AreBelow : ℕ → List Entry → Type 0
 AreBelow stamp xs = AllAre (λ (y : Entry). y.stamp < stamp) xs
@@ -107,14 +108,14 @@ one_grown x log rest more false b h k grows =
 all_grown : (x : Entry) (ps : List PartLog) → AllAre (IsBelow x.stamp) ps → journal_after x ps ≡ with_entry (touches_one x ps) x (journal_of ps)
 all_grown x [] h = refl
 all_grown x (p ∷ ps) h =
-    one_grown x p.log (entries_of (map (λ (q : PartLog). q.log) ps)) (entries_of (map (grown x) ps)) (touches_part x p.part) (touches_one x ps) h.0 (below_entries x.stamp ps h.1) (all_grown x ps h.1)
+    one_grown x p.log (entries_of (map (λ (q : PartLog). q.log) ps)) (entries_of (map (grown x) ps)) (touches_part p.part x) (touches_one x ps) h.0 (below_entries x.stamp ps h.1) (all_grown x ps h.1)
 
 pub journal_grown : (x : Entry) (ps : List PartLog) → AllAre (IsBelow x.stamp) ps → touches_one x ps ≡ true → journal_after x ps ≡ journal_of ps ++ x ∷ []
 journal_grown x ps h one = all_grown x ps h ∙ ap (λ (b : Bool). with_entry b x (journal_of ps)) one
 
 none_touched : (x : Entry) (ps : List PartLog) → touches_one x ps ≡ false → map (grown x) ps ≡ map (λ (p : PartLog). p.log) ps
 none_touched x [] h = refl
-none_touched x (p ∷ ps) h = by_test (touches_part x p.part) h (none_touched x ps)
+none_touched x (p ∷ ps) h = by_test (touches_part p.part x) h (none_touched x ps)
   where
     by_test : (b : Bool) → (b || touches_one x ps) ≡ false → (touches_one x ps ≡ false → map (grown x) ps ≡ map (λ (q : PartLog). q.log) ps) → with_entry b x p.log ∷ map (grown x) ps ≡ p.log ∷ map (λ (q : PartLog). q.log) ps
     by_test true g more = absurd (cc)

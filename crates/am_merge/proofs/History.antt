@@ -23,15 +23,17 @@ use Rattle.am_model.specs.Changes.{replay}
 use Rattle.am_model.specs.Layout.{Layout, AllAre, opening}
 use Rattle.am_model.specs.Channels.{emitted}
 use Rattle.am_model.specs.Merge.{is_before, is_ordered, rank}
-use Rattle.am_model.specs.History.{state_of, MayFollow, EachAfter, IsHistory, is_in_range, failing, outcome_of, is_later, is_taken_before, is_packet_before, judged, stamp_of}
+use Rattle.am_model.specs.History.{state_of, MayFollow, EachAfter, IsHistory, is_in_range, failing, outcome_of, is_later, is_taken_before, is_packet_before, judged}
+use Rattle.am_model.specs.Packets.{stamp_of, from_of, number_of, restamped}
 use Rattle.am_model.proofs.Each.{each_push}
 use Rattle.am_model.proofs.Names.{same_end-refl}
 use Rattle.am_local.specs.declared.work.Work.{Work}
 use Rattle.am_local.specs.declared.work.Work.TheVariants as Works
 use Rattle.am_local.specs.Asked.{carry_at, IsThere}
-use Rattle.am_local.specs.Driver.{driver_of, end_moved, is_by_driver}
+use Rattle.am_local.specs.Driver.{end_moved}
+use Rattle.am_model.specs.Parts.{driver_of, is_by_driver}
 use Rattle.am_local.specs.Interface.{needs, event_of, outcome_at}
-use Rattle.am_local.specs.Together.{IsDriverPart, IsPart, IsAt, IsState, IsPacketOf, SaysTheSame, SaysTheSameOfCall, SaysTheSameOfCarry, SaysTheSameOfMove, SaysTheSameOfWant, WasEmitted, restamped, from_of, number_of}
+use Rattle.am_local.specs.Together.{IsDriverPart, IsPart, IsAt, IsState, IsPacketOf, SaysTheSame, SaysTheSameOfCall, SaysTheSameOfCarry, SaysTheSameOfMove, SaysTheSameOfWant, WasEmitted}
 use Rattle.am_local.proofs.Asking.{call_local, want_local, carry_local}
 use Rattle.am_local.proofs.Moves.{move_local}
 use Rattle.am_local.proofs.Outcomes.{work_local}

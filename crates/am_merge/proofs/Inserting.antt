@@ -9,7 +9,7 @@ use Rattle.am_names.specs.Names.{same_end}
 use Rattle.am_office.specs.declared.Entry.{Entry}
 use Rattle.am_office.specs.Entries.{touches, touches_node, ends_touched, node_touched, is_node}
 use Rattle.am_model.specs.Merge.{rank, rank_by, is_before, is_ordered}
-use Rattle.am_local.specs.Driver.{is_by_driver}
+use Rattle.am_model.specs.Parts.{is_by_driver}
 use Rattle.am_merge.specs.Logs.{AreRising, Logs, MergesInto, StandWhereTheyTouch}
 use Rattle.am_merge.specs.Merged.{entries_of, inserted, is_same, merged, sorted}
 use Rattle.am_merge.proofs.Sorted.{Has, before_from, before_then, contains_has, filter_has, has_contains, has_filter, one_stamp, ordered_filter, rising_ordered, same_list}

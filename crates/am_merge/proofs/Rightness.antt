@@ -23,15 +23,17 @@ use Rattle.am_model.specs.Changes.{replay}
 use Rattle.am_model.specs.Layout.{AllAre, IsLawful, Layout, opening}
 use Rattle.am_model.specs.Channels.{emitted}
 use Rattle.am_model.specs.Merge.{is_ordered}
-use Rattle.am_model.specs.History.{EachAfter, IsHistory, MayFollow, failing, is_in_range, is_packet_before, is_taken_before, outcome_of, stamp_of, state_of}
+use Rattle.am_model.specs.History.{EachAfter, IsHistory, MayFollow, failing, is_in_range, is_packet_before, is_taken_before, outcome_of, state_of}
+use Rattle.am_model.specs.Packets.{stamp_of, from_of, number_of, restamped}
 use Rattle.am_model.proofs.Each.{each_push}
 use Rattle.am_local.specs.declared.work.Work.{Work}
 use Rattle.am_local.specs.declared.work.Work.TheVariants as Works
 use Rattle.am_local.specs.Asked.{IsThere, carry_at}
-use Rattle.am_local.specs.Driver.{DriverLog, driver_of, end_moved, is_by_driver}
+use Rattle.am_local.specs.Driver.{DriverLog, end_moved}
+use Rattle.am_model.specs.Parts.{driver_of, is_by_driver}
 use Rattle.am_local.specs.Interface.{InterfaceLog, event_of, needs, outcome_at}
 use Rattle.am_local.specs.Numbered.{IsPacketAt}
-use Rattle.am_local.specs.Together.{IsAt, IsDriverPart, IsPacketOf, IsPart, IsState, SaysTheSame, SaysTheSameOfCall, SaysTheSameOfCarry, SaysTheSameOfMove, SaysTheSameOfWant, driver_in, from_of, interface_in, number_of, restamped}
+use Rattle.am_local.specs.Together.{IsAt, IsDriverPart, IsPacketOf, IsPart, IsState, SaysTheSame, SaysTheSameOfCall, SaysTheSameOfCarry, SaysTheSameOfMove, SaysTheSameOfWant, driver_in, interface_in}
 use Rattle.am_local.proofs.Asking.{call_local, carry_local, want_local}
 use Rattle.am_local.proofs.Growing.{emitted_append}
 use Rattle.am_local.proofs.Moves.{move_local}

@@ -6,7 +6,7 @@ use Rattle.am_office.specs.declared.Entry.{Entry}
 use Rattle.am_office.specs.Entries.{touches, touches_node}
 use Rattle.am_model.specs.Layout.{AllAre}
 use Rattle.am_model.specs.Merge.{IsMerged}
-use Rattle.am_local.specs.Driver.{is_by_driver}
+use Rattle.am_model.specs.Parts.{is_by_driver}
 
 -- the log of each endpoint, of each node's interface and of each node's driver
 pub record Logs : Type 0 where

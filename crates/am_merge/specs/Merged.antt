@@ -3,11 +3,10 @@ use Rattle.std.specs.Prelude.{ℕ, ◌<◌, Bool, ◌==◌, ◌&&◌, List, [], 
 use Rattle.std.specs.List.{list_any}
 use Rattle.am_office.specs.declared.Entry.{Entry}
 use Rattle.am_office.specs.declared.Part.{Part}
-use Rattle.am_office.specs.declared.Part.TheVariants as Parts
-use Rattle.am_office.specs.Entries.{touches, touches_node}
 use Rattle.am_local.specs.Readings.{with_entry}
 use Rattle.am_model.specs.Layout.{AllAre}
 use Rattle.am_model.specs.Merge.{rank, is_before}
+use Rattle.am_model.specs.Parts.{touches_part}
 
 -- whether two entries have the same stamp and the same part
 abbrev pub is_same : Entry → Entry → Bool
@@ -37,17 +36,13 @@ pub record PartLog : Type 0 where
   pub part : Part
   pub log : List Entry
 
-abbrev pub touches_part : Entry → Part → Bool
-touches_part x (Parts.Endpoint e) = touches e x
-touches_part x (Parts.Interface node) = touches_node node x
-
 -- the log of a part after an entry, which stands at its end where it touches the part
 abbrev pub grown : Entry → PartLog → List Entry
-grown x p = with_entry (touches_part x p.part) x p.log
+grown x p = with_entry (touches_part p.part x) x p.log
 
 -- whether the entry touches one of the parts
 abbrev pub touches_one : Entry → List PartLog → Bool
-touches_one x ps = list_any (λ (p : PartLog). touches_part x p.part) ps
+touches_one x ps = list_any (λ (p : PartLog). touches_part p.part x) ps
 
 -- all of a log is stamped below
 abbrev pub IsBelow : ℕ → PartLog → Type 0

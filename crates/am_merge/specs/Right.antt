@@ -14,13 +14,15 @@ use Rattle.am_model.specs.Calls.{outcome_of_call}
 use Rattle.am_model.specs.Changes.{replay}
 use Rattle.am_model.specs.Layout.{Layout, opening}
 use Rattle.am_model.specs.Channels.{emitted}
-use Rattle.am_model.specs.History.{is_in_range, stamp_of}
+use Rattle.am_model.specs.History.{is_in_range}
+use Rattle.am_model.specs.Packets.{stamp_of, from_of, number_of, restamped}
 use Rattle.am_local.specs.declared.work.Work.{Work}
 use Rattle.am_local.specs.declared.work.Work.TheVariants as Works
 use Rattle.am_local.specs.Asked.{carry_at, failing_call, failing_carry, failing_want}
-use Rattle.am_local.specs.Driver.{DriverLog, driver_of, end_moved, failing_move, outcome_move}
+use Rattle.am_local.specs.Driver.{DriverLog, end_moved, failing_move, outcome_move}
+use Rattle.am_model.specs.Parts.{driver_of}
 use Rattle.am_local.specs.Interface.{InterfaceLog, event_of, failing_at, needs, outcome_at}
-use Rattle.am_local.specs.Together.{IsDriverSet, IsSet, from_of, number_of, restamped}
+use Rattle.am_local.specs.Together.{IsDriverSet, IsSet}
 use Rattle.am_merge.specs.Logs.{Logs, before}
 
 -- the state of an endpoint by what its own log has below a stamp

@@ -23,6 +23,7 @@ use Rattle.am_model.specs.declared.Flying.{Flying}
 use Rattle.am_model.specs.declared.Queued.{Queued}
 use Rattle.am_model.specs.Endpoint.{State, front, is_direct, is_in_a_frame, is_on_disk, is_on_host, verdict}
 use Rattle.am_model.specs.Changes.{flying_of}
+use Rattle.am_model.specs.Tables.{tries_ended}
 use Rattle.am_model.specs.History.{are_credits_in_range, is_kind_in_range, judged, settle_by}
 
 abbrev pub are_zero : Words → Bool
@@ -116,7 +117,7 @@ pub record MayBind (node : NodeId) (e : EndpointId) (s : State) (x : Entry) : Ty
 
 -- what comes of a flight when its tries are used up
 abbrev pub tries_used_up : Flying → Outcome
-tries_used_up f = if f.answered then Out.Delivered f.message.serial else Out.Unknown f.message.serial
+tries_used_up f = tries_ended f.message.serial f.answered
 
 -- the flight ends here, by an answer that counts or by giving up, where a message may bounce up to the limit
 abbrev pub EndsFlight : ℕ → Flying → Event → Outcome → Type 0

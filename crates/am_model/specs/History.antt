@@ -1,7 +1,6 @@
 -- What a machine may do next, and its histories.
-use Rattle.std.specs.Prelude.{◌≡◌, ℕ, zero, suc, ◌+◌, ◌-◌, ◌^◌, Bool, true, false, ◌==◌, ◌&&◌, ◌||◌, not, nat_le, nat_lt, Option, Some, None, is_none, is_some, List, [], ◌∷◌, ◌++◌, length, filter, count_by, slice_get, if◌then◌else◌}
+use Rattle.std.specs.Prelude.{◌≡◌, ℕ, zero, suc, ◌+◌, ◌-◌, ◌^◌, Bool, true, false, ◌==◌, ◌&&◌, ◌||◌, not, nat_le, nat_lt, Option, Some, None, is_some, List, [], ◌∷◌, ◌++◌, length, filter, count_by, slice_get, if◌then◌else◌}
 use Rattle.std.specs.List.{list_any, list_all}
-use Rattle.am_names.specs.Rules.{is_transient}
 use Rattle.am_names.specs.declared.EndpointId.{EndpointId}
 use Rattle.am_names.specs.declared.NodeId.{NodeId}
 use Rattle.am_names.specs.declared.Verdict.{Verdict}
@@ -32,11 +31,13 @@ use Rattle.am_names.specs.Names.{same_end, same_node}
 use Rattle.am_model.specs.Choice.{first_holding}
 use Rattle.am_model.specs.declared.Queued.{Queued}
 use Rattle.am_model.specs.declared.Flying.{Flying}
-use Rattle.am_model.specs.Endpoint.{State, is_resident, is_on_disk, is_on_host, front, verdict}
+use Rattle.am_model.specs.Endpoint.{State, front, verdict}
 use Rattle.am_model.specs.Calls.{outcome_of_call}
 use Rattle.am_model.specs.Changes.{replay, flying_of}
 use Rattle.am_office.specs.Entries.{touches, share_part}
 use Rattle.am_model.specs.Layout.{Layout, EndSetting, Fault, declared, home, opening}
+use Rattle.am_model.specs.Packets.{stamp_of}
+use Rattle.am_model.specs.Tables.{bind_table, call_table, carry_table, drain_table, expire_table, load_table, may_bounce, may_try, page_in_table, page_out_table, page_ended, tries_ended, unload_table, want_table}
 use Rattle.am_model.specs.Channels.{Channel, Arrival, Stale, Again, Fresh, sequence, bound_message, attempt, mark, arrival, emitted}
 
 -- the state of an endpoint after these entries
@@ -82,65 +83,35 @@ is_frame_held layout past node frame =
 
 -- the first condition that keeps an event from happening
 abbrev pub failing : Layout → List Entry → Event → Option Condition
-failing layout past (Events.Call actor end call) = first_holding ((is_on_disk (state_of layout past end).head.place, Needs.OnDisk) ∷ [])
-failing layout past (Events.Want actor end) = first_holding ((not (is_on_disk (state_of layout past end).head.place), Needs.NotOnDisk) ∷ [])
-failing layout past (Events.Carry end) =
-    first_holding ((not layout.direct, Needs.NotDirect) ∷ (is_none (front (state_of layout past end)), Needs.NoMessage) ∷ [])
+failing layout past (Events.Call actor end call) = first_holding (call_table (state_of layout past end))
+failing layout past (Events.Want actor end) = first_holding (want_table (state_of layout past end))
+failing layout past (Events.Carry end) = first_holding ((not layout.direct, Needs.NotDirect) ∷ carry_table (state_of layout past end))
 failing layout past (Events.Bind node end) =
     first_holding (
     (layout.direct, Needs.NotPacket)
-    ∷ (not (is_home layout end node), Needs.OtherNode)
-    ∷ (not (is_resident (state_of layout past end).head.place), Needs.NotResident)
-    ∷ ((state_of layout past end).head.draining, Needs.Draining)
-    ∷ (is_none (front (state_of layout past end)), Needs.NoMessage)
-    ∷ (is_none (channel_for layout node past (front (state_of layout past end))), Needs.NoChannel)
-    ∷ [])
+    ∷ bind_table (is_home layout end node) (state_of layout past end) (channel_for layout node past (front (state_of layout past end))))
 failing layout past (Events.Expire node peer channel) =
-    first_holding ((layout.direct, Needs.NotPacket) ∷ (not (is_bound (channel_to node peer channel) past), Needs.Idle) ∷ [])
+    first_holding ((layout.direct, Needs.NotPacket) ∷ expire_table (is_bound (channel_to node peer channel) past))
 failing layout past (Events.Receive node peer number) =
     first_holding ((layout.direct, Needs.NotPacket) ∷ (nat_lt (length (emitted peer node past)) number, Needs.NoPacket) ∷ [])
 failing layout past (Events.Drain node end) =
-    first_holding (
-    (layout.direct, Needs.NotPacket)
-    ∷ (not (is_home layout end node), Needs.OtherNode)
-    ∷ (not (is_resident (state_of layout past end).head.place), Needs.NotResident)
-    ∷ ((state_of layout past end).head.draining, Needs.Draining)
-    ∷ [])
+    first_holding ((layout.direct, Needs.NotPacket) ∷ drain_table (is_home layout end node) (state_of layout past end))
 failing layout past (Events.Unload node end) =
-    first_holding (
-    (layout.direct, Needs.NotPacket)
-    ∷ (not (is_home layout end node), Needs.OtherNode)
-    ∷ (not (is_resident (state_of layout past end).head.place), Needs.NotResident)
-    ∷ (not (state_of layout past end).head.draining, Needs.NotDraining)
-    ∷ (not (length (state_of layout past end).body.in_flight == 0), Needs.InFlight)
-    ∷ [])
+    first_holding ((layout.direct, Needs.NotPacket) ∷ unload_table (is_home layout end node) (state_of layout past end))
 failing layout past (Events.Load node end frame) =
     first_holding (
     (layout.direct, Needs.NotPacket)
-    ∷ (not (is_home layout end node), Needs.OtherNode)
-    ∷ (not (is_on_host (state_of layout past end).head.place), Needs.NotOnHost)
-    ∷ ((state_of layout past end).head.closed, Needs.Closed)
-    ∷ (is_frame_held layout past node frame, Needs.FrameHeld)
-    ∷ [])
+    ∷ load_table (is_home layout end node) (state_of layout past end) (is_frame_held layout past node frame))
 failing layout past (Events.PageOut node end) =
-    first_holding (
-    (layout.direct, Needs.NotPacket)
-    ∷ (not (is_home layout end node), Needs.OtherNode)
-    ∷ (not (is_on_host (state_of layout past end).head.place), Needs.NotOnHost)
-    ∷ ((state_of layout past end).head.closed, Needs.Closed)
-    ∷ [])
+    first_holding ((layout.direct, Needs.NotPacket) ∷ page_out_table (is_home layout end node) (state_of layout past end))
 failing layout past (Events.PageIn node end) =
-    first_holding (
-    (layout.direct, Needs.NotPacket)
-    ∷ (not (is_home layout end node), Needs.OtherNode)
-    ∷ (not (is_on_disk (state_of layout past end).head.place), Needs.NotOnDisk)
-    ∷ [])
+    first_holding ((layout.direct, Needs.NotPacket) ∷ page_in_table (is_home layout end node) (state_of layout past end))
 
 -- a message that the destination judged, which bounced so often and may bounce up to the limit
 abbrev pub judged : ℕ → Message → ℕ → Verdict → Outcome
 judged limit m bounces Verdicts.Accepted = Out.Accepted m
 judged limit m bounces (Verdicts.Refused cause) =
-    if is_transient cause && nat_lt bounces limit then Out.Requeued m cause (bounces + 1) else Out.Returned m cause
+    if may_bounce limit cause bounces then Out.Requeued m cause (bounces + 1) else Out.Returned m cause
 
 abbrev pub carry : Layout → List Entry → Option Queued → Outcome
 carry layout past None = Out.Silent
@@ -170,13 +141,9 @@ abbrev pub expire : Layout → NodeId → NodeId → ℕ → List Entry → Opti
 expire layout node peer channel past None = Out.Silent
 expire layout node peer channel past (Some m) =
     let c = channel_to node peer channel in
-    let used = attempt c past + 1 in
-    if nat_lt used layout.tries
-    then sent node peer channel past m (sequence c past) used
-    else
-    (if is_answered (flying_of m.serial (state_of layout past m.serial.source).body.in_flight)
-    then Out.Delivered m.serial
-    else Out.Unknown m.serial)
+    if may_try layout.tries (attempt c past)
+    then sent node peer channel past m (sequence c past) (attempt c past + 1)
+    else tries_ended m.serial (is_answered (flying_of m.serial (state_of layout past m.serial.source).body.in_flight))
 
 abbrev pub decided : Message → ℕ → Verdict → Received
 decided m answer Verdicts.Accepted = Got.Accepted m answer
@@ -197,17 +164,22 @@ bounced (Some f) = f.bounces
 abbrev pub settle_by : ℕ → Message → ℕ → Verdict → Received
 settle_by limit m bounces Verdicts.Accepted = Got.Delivered m.serial
 settle_by limit m bounces (Verdicts.Refused cause) =
-    if is_transient cause && nat_lt bounces limit then Got.Requeued m.serial cause (bounces + 1) else Got.Returned m.serial cause
+    if may_bounce limit cause bounces then Got.Requeued m.serial cause (bounces + 1) else Got.Returned m.serial cause
 
 abbrev pub counts : Verdict → Bool → Bool
 counts Verdicts.Accepted same_attempt = true
 counts (Verdicts.Refused cause) same_attempt = same_attempt
 
+-- whether the answer settles what is bound to the channel: it is of the present sequence, and a refusal is of the present
+-- attempt too
+abbrev pub settles_on : Channel → List Entry → AnswerPacket → Bool
+settles_on c past p = (p.seq == sequence c past) && counts p.verdict (p.attempt == attempt c past)
+
 -- what comes of an answer on a channel where this message is bound
 abbrev pub settle : Layout → Channel → List Entry → AnswerPacket → Option Message → Received
 settle layout c past p None = Got.Nothing
 settle layout c past p (Some m) =
-    if (p.seq == sequence c past) && counts p.verdict (p.attempt == attempt c past)
+    if settles_on c past p
     then settle_by layout.bounces m (bounced (flying_of m.serial (state_of layout past m.serial.source).body.in_flight)) p.verdict
     else Got.Nothing
 
@@ -229,7 +201,7 @@ is_page_call node event = false
 abbrev pub page : Layout → NodeId → List Entry → Outcome
 page layout node past =
     let number = count_by (λ (x : Entry). is_page_call node x.event) past + 1 in
-    if list_any (λ (f : Fault). same_node node f.node && (f.number == number)) layout.faults then Out.Failed else Out.Done
+    page_ended (list_any (λ (f : Fault). same_node node f.node && (f.number == number)) layout.faults)
 
 -- what comes of an event after these entries
 abbrev pub outcome_of : Layout → List Entry → Event → Outcome
@@ -298,10 +270,6 @@ is_in_range layout (Events.Unload node end) = declared layout end && nat_lt node
 is_in_range layout (Events.Load node end frame) = declared layout end && nat_lt node.0 layout.nodes && nat_lt frame layout.frames
 is_in_range layout (Events.PageOut node end) = declared layout end && nat_lt node.0 layout.nodes
 is_in_range layout (Events.PageIn node end) = declared layout end && nat_lt node.0 layout.nodes
-
-abbrev pub stamp_of : Packet → ℕ
-stamp_of (Packets.Parcel p) = p.stamp
-stamp_of (Packets.Answer p) = p.stamp
 
 abbrev pub is_packet_before : ℕ → Option Packet → Bool
 is_packet_before stamp None = true

@@ -4,6 +4,9 @@ pub mod Calls
 pub mod Changes
 pub mod Layout
 pub mod Channels
+pub mod Packets
+pub mod Parts
+pub mod Tables
 pub mod History
 pub mod ThinPath
 pub mod DelayedTry

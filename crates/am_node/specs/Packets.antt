@@ -3,8 +3,7 @@ use Rattle.std.specs.Prelude.{◌<◌, Option, Some, None}
 use Rattle.am_names.specs.declared.Packet.{Packet}
 use Rattle.am_office.specs.declared.Entry.{Entry}
 use Rattle.am_office.specs.Entries.{emitted_of}
-use Rattle.am_local.specs.Interface.{receiver_of}
-use Rattle.am_local.specs.Together.{from_of}
+use Rattle.am_model.specs.Packets.{receiver_of, from_of}
 use Rattle.am_journal.specs.View.{AreNodes}
 
 -- the packet, if there is one, goes between two of 16 nodes

@@ -1,6 +1,5 @@
 // The journal that the logs of several nodes merge into, and what is read off it.
-ghost use Rattle.am_local.specs.Interface.{receiver_of};
-ghost use Rattle.am_local.specs.Together.{from_of};
+ghost use Rattle.am_model.specs.Packets.{from_of, receiver_of};
 ghost use Rattle.am_join.specs.Joined.{AreOne, lists_of};
 ghost use Rattle.am_journal.specs.View.{CanCount, HasRoomFor, IsIndexOf};
 ghost use Rattle.am_merge.specs.Logs.{IsRising};

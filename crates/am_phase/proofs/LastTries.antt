@@ -21,7 +21,8 @@ use Rattle.am_merge.specs.Logs.{AreRising, Logs, MergesInto}
 use Rattle.am_merge.specs.Right.{state_before}
 use Rattle.am_merge.proofs.Before.{part_before}
 use Rattle.am_merge.proofs.Sorted.{Has, contains_has, filter_has}
-use Rattle.am_scripts.specs.Follows.{is_bounced_out, is_by_driver, is_by_thread, is_last, is_last_in}
+use Rattle.am_scripts.specs.Follows.{is_bounced_out, is_by_thread, is_last, is_last_in}
+use Rattle.am_model.specs.Parts.{driver_of}
 use Rattle.am_phase.specs.Crew.{AreThreads, ByDriver, ByInterface, ByThread, IsMade, IsNotLast, is_last_by}
 use Rattle.am_phase.proofs.Splits.{all_at, has_middle}
 
@@ -36,7 +37,7 @@ by_thread t (Events.Call actor end call) h node = refl
 by_thread t (Events.Want actor end) h node = refl
 by_thread t e h node = absurd (cc)
 
-by_driver : (at : NodeId) (e : Event) → is_by_driver at e ≡ true → (node : NodeId) → is_node node (node_touched e) ≡ false
+by_driver : (at : NodeId) (e : Event) → is_node at (driver_of e) ≡ true → (node : NodeId) → is_node node (node_touched e) ≡ false
 by_driver at (Events.Drain n end) h node = refl
 by_driver at (Events.Unload n end) h node = refl
 by_driver at (Events.Load n end frame) h node = refl

@@ -10,7 +10,7 @@ use Rattle.am_office.specs.declared.Outcome.{Outcome}
 use Rattle.am_office.specs.declared.Entry.{Entry}
 use Rattle.am_office.specs.Entries.{ends_touched, is_node, node_touched, touches, touches_node}
 use Rattle.am_model.proofs.Names.{same_end-refl}
-use Rattle.am_local.specs.Driver as local
+use Rattle.am_model.specs.Parts.{driver_of, is_by_driver}
 use Rattle.am_follow.specs.Layout.{layout_of}
 use Rattle.am_merge.specs.Logs.{AreRising, IsRising, Logs, MergesInto, StandWhereTheyTouch}
 use Rattle.am_merge.specs.Merged.{entries_of, merged}
@@ -22,7 +22,7 @@ use Rattle.am_phase.specs.Crew as crew
 use Rattle.am_phase.specs.Crew.{IsCrew, IsMade}
 use Rattle.am_phase.specs.Then.{WasRight}
 use Rattle.am_phase.specs.Makers.{AreLogsOf, Driver, HaveAll, Interface, IsMadeBySome, IsOfMaker, Maker, Thread, WorkersMakeAPhase}
-use Rattle.am_phase.proofs.Phase.{phase_is_good, same_test}
+use Rattle.am_phase.proofs.Phase.{phase_is_good}
 use Rattle.am_phase.proofs.Splits.{all_at, all_from}
 use Rattle.am_phase.proofs.Then.{was_right}
 
@@ -36,12 +36,12 @@ one_node a b None h k = absurd (cc)
 one_node a b (Some n) h k = same_node-is a n h ∙ sym (same_node-is b n k)
 
 -- what a thread does touches no interface and is no driver's
-pub thread_apart : (t : ℕ) (e : Event) → scripts.is_by_thread t e ≡ true → (node_touched e ≡ None) × (local.driver_of e ≡ None)
+pub thread_apart : (t : ℕ) (e : Event) → scripts.is_by_thread t e ≡ true → (node_touched e ≡ None) × (driver_of e ≡ None)
 thread_apart t (Events.Call actor end call) h = (refl, refl)
 thread_apart t (Events.Want actor end) h = (refl, refl)
 thread_apart t e h = absurd (cc)
 
-pub driver_apart : (node : NodeId) (e : Event) → is_node node (local.driver_of e) ≡ true → node_touched e ≡ None
+pub driver_apart : (node : NodeId) (e : Event) → is_node node (driver_of e) ≡ true → node_touched e ≡ None
 driver_apart node (Events.Drain n end) h = refl
 driver_apart node (Events.Unload n end) h = refl
 driver_apart node (Events.Load n end frame) h = refl
@@ -57,10 +57,10 @@ by_interface made node x (Thread t) kind has is = absurd (none_node node (node_t
 by_interface made node x (Interface n) kind has is = subst (λ (m : NodeId). Contains (made (Interface m)) x) (one_node n node (node_touched x.event) kind is) has
 by_interface made node x (Driver n) kind has is = absurd (none_node node (node_touched x.event) (driver_apart n x.event kind) is)
 
-by_driver : (made : Maker → List Entry) (node : NodeId) (x : Entry) (k : Maker) → IsOfMaker k x → Contains (made k) x → local.is_by_driver node x ≡ true → Contains (made (Driver node)) x
-by_driver made node x (Thread t) kind has is = absurd (none_node node (local.driver_of x.event) (thread_apart t x.event kind).1 is)
+by_driver : (made : Maker → List Entry) (node : NodeId) (x : Entry) (k : Maker) → IsOfMaker k x → Contains (made k) x → is_by_driver node x ≡ true → Contains (made (Driver node)) x
+by_driver made node x (Thread t) kind has is = absurd (none_node node (driver_of x.event) (thread_apart t x.event kind).1 is)
 by_driver made node x (Interface n) kind has is = absurd (none_node n (node_touched x.event) (driver_apart node x.event is) kind)
-by_driver made node x (Driver n) kind has is = subst (λ (m : NodeId). Contains (made (Driver m)) x) (one_node n node (local.driver_of x.event) kind is) has
+by_driver made node x (Driver n) kind has is = subst (λ (m : NodeId). Contains (made (Driver m)) x) (one_node n node (driver_of x.event) kind is) has
 
 -- ---- the logs
 
@@ -97,7 +97,7 @@ stand made logs lists l all =
 made_by : (made : Maker → List Entry) (k : Maker) (x : Entry) → IsOfMaker k x → Contains (made k) x → IsMade (λ (t : ℕ). made (Thread t)) x
 made_by made (Thread t) x kind has = crew.ByThread t has
 made_by made (Interface node) x kind has = crew.ByInterface node kind
-made_by made (Driver node) x kind has = crew.ByDriver node (same_test node x.event ∙ kind)
+made_by made (Driver node) x kind has = crew.ByDriver node kind
 
 -- what a thread does touches an endpoint
 pub thread_end : (t : ℕ) (e : Event) (o : Outcome) → scripts.is_by_thread t e ≡ true → (end : EndpointId) × (list_any (same_end end) (ends_touched e o) ≡ true)

@@ -6,7 +6,6 @@ use Rattle.am_office.specs.declared.Event.{Event}
 use Rattle.am_office.specs.declared.Event.TheVariants as Events
 use Rattle.am_office.specs.declared.Entry.{Entry}
 use Rattle.am_office.specs.Entries.{is_node, touches_node}
-use Rattle.am_local.specs.Driver as local
 use Rattle.am_scenario_types.specs.declared.parts.ScriptCall.{ScriptCall}
 use Rattle.am_scenario_types.specs.declared.parts.ThreadLine.{ThreadLine}
 use Rattle.am_scenario_types.specs.Lists.{ScenarioLists}
@@ -17,7 +16,8 @@ use Rattle.am_merge.proofs.History.{made_history}
 use Rattle.am_merge.proofs.Sorted.{Has}
 use Rattle.am_scripts.specs.Links.{IsReceiptInOrder, nodes_of}
 use Rattle.am_scripts.specs.Scripts.{calls_of, script_of}
-use Rattle.am_scripts.specs.Follows.{is_by_driver, is_by_thread, is_last}
+use Rattle.am_scripts.specs.Follows.{is_by_thread, is_last}
+use Rattle.am_model.specs.Parts.{is_by_driver}
 use Rattle.am_phase.specs.Crew.{IsCrew, IsMade}
 use Rattle.am_phase.proofs.LastTries.{none_last}
 use Rattle.am_phase.proofs.Links.{in_order_at}
@@ -27,19 +27,6 @@ use Rattle.am_phase.proofs.Threads.{IsOfRun, all_of_run, calls_within, few_of, i
 each_of : {X : Type 0} (P : X → Type 0) (xs : List X) → ((x : X) → P x) → AllByRecursion P xs
 each_of P [] h = tt
 each_of P (x ∷ xs) h = (h x, each_of P xs h)
-
--- both tests tell the entries of a driver
-pub same_test : (node : NodeId) (e : Event) → is_by_driver node e ≡ is_node node (local.driver_of e)
-same_test node (Events.Drain at end) = refl
-same_test node (Events.Unload at end) = refl
-same_test node (Events.Load at end frame) = refl
-same_test node (Events.PageOut at end) = refl
-same_test node (Events.PageIn at end) = refl
-same_test node e = refl
-
-driver_counts : (node : NodeId) (xs : List Entry) → filter (λ (x : Entry). is_by_driver node x.event) xs ≡ filter (local.is_by_driver node) xs
-driver_counts node [] = refl
-driver_counts node (x ∷ xs) = λ i. cond (same_test node x.event i) (x ∷ driver_counts node xs i) (driver_counts node xs i)
 
 pub phase_is_good : (s : ScenarioLists) (logs : Logs) (made : ℕ → List Entry) (journal : List Entry) → MergesInto logs journal → AreRising logs → IsCrew s logs made journal → IsGoodPhase s journal
 phase_is_good s logs made journal merges rising crew =
@@ -51,8 +38,8 @@ phase_is_good s logs made journal merges rising crew =
             threads = each_of (λ (t : ThreadLine). count_by (λ (x : Entry). is_by_thread t.id x.event) journal ≤ s.turns) s.threads (λ t. few_of (is_by t.id) journal (made t.id) s.turns (thread t.id) (crew.threads.few t.id));
             interfaces = each_of (λ (node : NodeId). count_by (touches_node node) journal ≤ s.turns) (nodes_of s) (λ node. few_of (touches_node node) journal (logs.node node) s.turns (merges.merged.of_nodes node) (crew.interfaces.few node));
             drivers =
-                each_of (λ (node : NodeId). count_by (λ (x : Entry). is_by_driver node x.event) journal ≤ s.turns) (nodes_of s)
-                (λ node. few_of (λ (x : Entry). is_by_driver node x.event) journal (logs.driver node) s.turns (driver_counts node journal ∙ merges.of_drivers node) (crew.drivers node));
+                each_of (λ (node : NodeId). count_by (is_by_driver node) journal ≤ s.turns) (nodes_of s)
+                (λ node. few_of (is_by_driver node) journal (logs.driver node) s.turns (merges.of_drivers node) (crew.drivers node));
             no_last = each_split (λ (past : List Entry) (x : Entry). is_last s past x ≡ false) journal (λ past x rest whole. none_last s logs made journal past x rest merges rising crew.threads crew.interfaces.not_last whole (maker x (there past x rest whole)));
           };
       scripts =

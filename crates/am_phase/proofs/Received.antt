@@ -10,11 +10,11 @@ use Rattle.am_office.specs.Entries.{emitted_in, emitted_of}
 use Rattle.am_model.specs.Channels.{emitted, is_on_link}
 use Rattle.am_model.specs.Layout.{AllAre}
 use Rattle.am_model.specs.History as model
+use Rattle.am_model.specs.Packets as packets
 use Rattle.am_local.proofs.Following.{emitted_stamp, stamp_in}
 use Rattle.am_local.proofs.Numbering.{next_emitted, numbered_place}
-use Rattle.am_local.specs.Interface.{receiver_of}
+use Rattle.am_model.specs.Packets.{receiver_of, from_of, number_of, restamped}
 use Rattle.am_local.specs.Numbered.{HasNextNumber, IsNextPacket, IsPacketAt}
-use Rattle.am_local.specs.Together.{from_of, number_of, restamped}
 use Rattle.am_merge.specs.Logs.{IsRising}
 use Rattle.am_plan.specs.Shape.{stamp_of, stamped}
 use Rattle.am_phase.specs.Received.{GotWasSent, IsOfWork, WorksAreNumbered}
@@ -88,7 +88,7 @@ got_was_sent s logs from to link p rising numbered has =
           (λ i. slice_get (emitted (from_is i) to (logs.node (from_is i))) (place_is i))
           ∙ r.at
           ∙ ap Some (same_stamped r.stamp p);
-      earlier = let same : stamp_of p ≡ model.stamp_of p = same_stamp p in omega (arith, r.earlier, same);
+      earlier = let same : stamp_of p ≡ packets.stamp_of p = same_stamp p in omega (arith, r.earlier, same);
       later = omega arith;
     }
   where

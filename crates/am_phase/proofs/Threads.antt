@@ -16,7 +16,8 @@ use Rattle.am_scenario_types.specs.declared.parts.ScriptCall.{ScriptCall}
 use Rattle.am_scenario_types.specs.Lists.{ScenarioLists}
 use Rattle.am_merge.proofs.Sorted.{Has, contains_has, filter_has, has_contains, has_filter, ordered_filter, rising_ordered, same_list}
 use Rattle.am_scripts.specs.Scripts.{call_made, calls_of, is_of_thread}
-use Rattle.am_scripts.specs.Follows.{is_actor_thread, is_by_driver, is_by_outside, is_by_thread, is_of_run, is_thread}
+use Rattle.am_scripts.specs.Follows.{is_actor_thread, is_by_outside, is_by_thread, is_of_run, is_thread}
+use Rattle.am_model.specs.Parts.{driver_of}
 use Rattle.am_phase.specs.Crew.{AreThreads, ByDriver, ByInterface, ByThread, IsMade}
 use Rattle.am_phase.proofs.Splits.{all_at}
 
@@ -32,7 +33,7 @@ by_interface s node (Events.Expire at peer channel) h = ((λ t. refl), refl, ref
 by_interface s node (Events.Receive at peer number) h = ((λ t. refl), refl, refl)
 by_interface s node e h = absurd (cc)
 
-pub by_driver : (s : ScenarioLists) (node : NodeId) (e : Event) → is_by_driver node e ≡ true → IsOfPart s e
+pub by_driver : (s : ScenarioLists) (node : NodeId) (e : Event) → is_node node (driver_of e) ≡ true → IsOfPart s e
 by_driver s node (Events.Drain at end) h = ((λ t. refl), refl, refl)
 by_driver s node (Events.Unload at end) h = ((λ t. refl), refl, refl)
 by_driver s node (Events.Load at end frame) h = ((λ t. refl), refl, refl)

@@ -19,7 +19,8 @@ use Rattle.am_merge.specs.Logs.{IsRising, Logs}
 use Rattle.am_merge.specs.Right.{IsRight, state_before}
 use Rattle.am_scripts.specs.Links.{number_received}
 use Rattle.am_scripts.specs.Scripts.{calls_of, script_of}
-use Rattle.am_scripts.specs.Follows.{is_bounced_out, is_by_driver, is_by_thread, is_thread}
+use Rattle.am_scripts.specs.Follows.{is_bounced_out, is_by_thread, is_thread}
+use Rattle.am_model.specs.Parts.{is_by_driver}
 
 -- ---- the threads
 
@@ -74,7 +75,7 @@ pub record AreInterfaces (s : ScenarioLists) (logs : Logs) : Type 0 where
 pub data IsMade (made : ℕ → List Entry) (x : Entry) : Type 0 where
   ByThread : (t : ℕ) → Contains (made t) x → IsMade made x
   ByInterface : (node : NodeId) → touches_node node x ≡ true → IsMade made x
-  ByDriver : (node : NodeId) → is_by_driver node x.event ≡ true → IsMade made x
+  ByDriver : (node : NodeId) → is_by_driver node x ≡ true → IsMade made x
 
 pub record IsCrew (s : ScenarioLists) (logs : Logs) (made : ℕ → List Entry) (journal : List Entry) : Type 0 where
   pub threads : AreThreads s made

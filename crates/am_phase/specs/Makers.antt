@@ -5,7 +5,7 @@ use Rattle.am_names.specs.declared.NodeId.{NodeId}
 use Rattle.am_office.specs.declared.Entry.{Entry}
 use Rattle.am_office.specs.Entries.{touches, touches_node}
 use Rattle.am_model.specs.Layout.{AllAre}
-use Rattle.am_local.specs.Driver.{is_by_driver}
+use Rattle.am_model.specs.Parts.{is_by_driver}
 use Rattle.am_scenario_types.specs.Lists.{ScenarioLists}
 use Rattle.am_drain.specs.Follows.{IsGoodPhase}
 use Rattle.am_follow.specs.Layout.{layout_of}

@@ -7,7 +7,7 @@ use Rattle.am_local.specs.Numbered.{AreNumbered}
 use Rattle.am_local.specs.Interface.{InterfaceLog, event_of, outcome_at}
 use Rattle.am_local.specs.declared.work.Work.{Work}
 use Rattle.am_model.specs.Endpoint.{State}
-use Rattle.am_model.specs.History.{stamp_of}
+use Rattle.am_model.specs.Packets.{stamp_of}
 use Rattle.am_model.specs.Layout.{AllAre}
 use Rattle.am_merge.specs.Logs.{IsRising, Logs}
 use Rattle.am_merge.specs.Right.{WasSent}

@@ -13,7 +13,8 @@ use Rattle.am_model.specs.Layout.{Layout, opening}
 use Rattle.am_model.specs.History.{is_in_range}
 use Rattle.am_local.specs.declared.work.Work.{Work}
 use Rattle.am_local.specs.Asked.{failing_call, failing_want}
-use Rattle.am_local.specs.Driver.{DriverLog, driver_of, end_moved, failing_move, outcome_move}
+use Rattle.am_local.specs.Driver.{DriverLog, end_moved, failing_move, outcome_move}
+use Rattle.am_model.specs.Parts.{driver_of}
 use Rattle.am_local.specs.Interface.{InterfaceLog, event_of, failing_at, needs, outcome_at}
 use Rattle.am_local.specs.Together.{IsDriverSet, IsSet}
 use Rattle.am_merge.specs.Logs.{Logs}

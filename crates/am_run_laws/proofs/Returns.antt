@@ -25,7 +25,8 @@ use Rattle.am_laws_messages.proofs.Alls.{all_push}
 use Rattle.am_laws_order.proofs.Packets.{not_carry}
 use Rattle.am_scenario_types.specs.Lists.{ScenarioLists}
 use Rattle.am_follow.specs.Layout.{layout_of}
-use Rattle.am_scripts.specs.Follows.{driver_of, is_last}
+use Rattle.am_scripts.specs.Follows.{is_last}
+use Rattle.am_model.specs.Parts.{driver_of}
 use Rattle.am_scripts.specs.Links.{IsReceiptInOrder, ReceivesInOrder, next_receipt}
 use Rattle.am_scripts.specs.Standings.{standings, is_missed}
 use Rattle.am_scripts.proofs.Lists.{some_mapped}

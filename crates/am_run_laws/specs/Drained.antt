@@ -8,7 +8,7 @@ use Rattle.am_scenario_types.specs.declared.parts.Network.TheVariants.{Packet}
 use Rattle.am_scenario_types.specs.Lawful.{IsLawful}
 use Rattle.am_scenario_types.specs.Lists.{ScenarioLists}
 use Rattle.am_follow.specs.Layout.{layout_of}
-use Rattle.am_scripts.specs.Follows.{touches_part}
+use Rattle.am_model.specs.Parts.{touches_part}
 use Rattle.am_drain.specs.Drain.{IsDrained}
 use Rattle.am_drain.specs.Follows.{IsGoodPhase, IsStoppedFor}
 use Rattle.am_drain.specs.Cut.{HasRoom, IsDrainedWithRoom, IsDrainCutOff}

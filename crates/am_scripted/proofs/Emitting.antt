@@ -10,8 +10,7 @@ use Rattle.am_names.specs.declared.Packet.TheVariants as Packets
 use Rattle.am_office.specs.declared.Entry.{Entry}
 use Rattle.am_office.specs.Entries.{emitted_of}
 use Rattle.am_model.specs.Channels.{emitted, is_on_link}
-use Rattle.am_local.specs.Interface.{receiver_of}
-use Rattle.am_local.specs.Together.{from_of}
+use Rattle.am_model.specs.Packets.{receiver_of, from_of}
 use Rattle.am_local.proofs.Growing.{emitted_append}
 use Rattle.am_journal.proofs.Lists.{got_set, set_length, index_got}
 use Rattle.am_plan.specs.declared.plan.PlanLine.{PlanLine}

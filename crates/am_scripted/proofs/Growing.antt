@@ -12,9 +12,8 @@ use Rattle.am_model.specs.Channels.{emitted}
 use Rattle.am_model.specs.History.{IsHistory, MayFollow}
 use Rattle.am_model.specs.Layout.{IsLawful, Layout}
 use Rattle.am_model.proofs.Each.{each_at}
-use Rattle.am_local.specs.Interface.{receiver_of}
-use Rattle.am_local.specs.Together.{from_of}
-use Rattle.am_local.specs.Together as numbers
+use Rattle.am_model.specs.Packets.{receiver_of, from_of}
+use Rattle.am_model.specs.Packets as numbers
 use Rattle.am_local.specs.Numbered.{HasNextNumber}
 use Rattle.am_local.proofs.Numbering.{history_numbered}
 use Rattle.am_journal.proofs.Lists.{got_mapped}

@@ -7,7 +7,7 @@ use Rattle.am_model.specs.Channels.{emitted}
 use Rattle.am_journal.proofs.Lists.{got_all, got_mapped, map_length}
 use Rattle.am_plan.specs.declared.plan.PlanLine.{PlanLine}
 use Rattle.am_scenario_types.specs.Lists.{ScenarioLists}
-use Rattle.am_scripts.specs.Follows.{touches_part}
+use Rattle.am_model.specs.Parts.{touches_part}
 use Rattle.am_run_laws.specs.Drained.{HasShortLogs}
 use Rattle.am_release.specs.Staged.{Staged}
 use Rattle.am_scripted.specs.Links.{AreFed, Released, node_at, nothing, released_in, released_of}

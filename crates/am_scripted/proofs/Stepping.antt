@@ -9,8 +9,7 @@ use Rattle.am_office.specs.Entries.{emitted_of}
 use Rattle.am_model.specs.History.{IsHistory, MayFollow}
 use Rattle.am_model.specs.Layout.{IsLawful, Layout}
 use Rattle.am_model.proofs.Each.{each_front}
-use Rattle.am_local.specs.Interface.{receiver_of}
-use Rattle.am_local.specs.Together.{from_of}
+use Rattle.am_model.specs.Packets.{receiver_of, from_of}
 use Rattle.am_journal.proofs.Lists.{index_got}
 use Rattle.am_plan.specs.declared.plan.PlanLine.{PlanLine}
 use Rattle.am_scenario_types.specs.declared.parts.ScriptCall.{ScriptCall}

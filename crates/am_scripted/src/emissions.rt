@@ -2,8 +2,7 @@
 ghost use Rattle.am_scripted.specs.Links.{AreFed, HasAllRoom, IsSpared, released_in};
 ghost use Rattle.am_scripted.specs.Scripted.{AreParts, fed_by};
 ghost use Rattle.am_follow.specs.Layout.{layout_of};
-ghost use Rattle.am_local.specs.Interface as sides;
-ghost use Rattle.am_local.specs.Together as parts;
+ghost use Rattle.am_model.specs.Packets as packets;
 ghost use Rattle.am_model.specs.History.{IsHistory};
 ghost use Rattle.am_office.specs.Entries.{emitted_of};
 ghost use Rattle.am_plan.specs.Shape as shapes;
@@ -43,7 +42,7 @@ pub(crate) fn due_on(
 
 /// The node that a packet comes from.
 fn from_of(packet: &Packet) -> NodeId
-    ensures { result ≡ parts.from_of packet.now }
+    ensures { result ≡ packets.from_of packet.now }
 {
     match packet {
         Packet::Parcel(parcel) => parcel.from,
@@ -53,7 +52,7 @@ fn from_of(packet: &Packet) -> NodeId
 
 /// The node that a packet goes to.
 fn receiver_of(packet: &Packet) -> NodeId
-    ensures { result ≡ sides.receiver_of packet.now }
+    ensures { result ≡ packets.receiver_of packet.now }
 {
     match packet {
         Packet::Parcel(parcel) => parcel.to,
@@ -73,8 +72,8 @@ fn number_of(packet: &Packet) -> u32
 
 /// One packet more, which goes on its link. Its number is its place among those that were emitted there.
 fn feed_packet(links: &mut LinkTable, plan: &PlanIndex, packet: Packet)
-    requires from { (parts.from_of packet).0 < 16 }
-    requires to { (sides.receiver_of packet).0 < 16 }
+    requires from { (packets.from_of packet).0 < 16 }
+    requires to { (packets.receiver_of packet).0 < 16 }
     requires len { length links.old.all.items ≡ 256 }
     requires room { HasAllRoom links.old.all.items }
     ensures fed { map released_in links.new.all.items ≡ fed_by plan.now (Some packet) (map released_in links.old.all.items) }
@@ -95,8 +94,8 @@ fn feed_packet(links: &mut LinkTable, plan: &PlanIndex, packet: Packet)
 
 /// The packet that an entry emits, if it emits one, goes on its link.
 pub(crate) fn feed_entry(links: &mut LinkTable, plan: &PlanIndex, entry: &Entry)
-    requires from { IfSome (emitted_of entry.now) (λ packet. (parts.from_of packet).0 < 16) }
-    requires to { IfSome (emitted_of entry.now) (λ packet. (sides.receiver_of packet).0 < 16) }
+    requires from { IfSome (emitted_of entry.now) (λ packet. (packets.from_of packet).0 < 16) }
+    requires to { IfSome (emitted_of entry.now) (λ packet. (packets.receiver_of packet).0 < 16) }
     requires len { length links.old.all.items ≡ 256 }
     requires room { HasAllRoom links.old.all.items }
     requires spared { IsSpared links.old }
@@ -111,8 +110,8 @@ pub(crate) fn feed_entry(links: &mut LinkTable, plan: &PlanIndex, entry: &Entry)
 
 /// One entry more, with room made for what it emits.
 fn add_entry(links: &mut LinkTable, plan: &PlanIndex, entry: &Entry) -> Result<(), NoMemory>
-    requires from { IfSome (emitted_of entry.now) (λ packet. (parts.from_of packet).0 < 16) }
-    requires to { IfSome (emitted_of entry.now) (λ packet. (sides.receiver_of packet).0 < 16) }
+    requires from { IfSome (emitted_of entry.now) (λ packet. (packets.from_of packet).0 < 16) }
+    requires to { IfSome (emitted_of entry.now) (λ packet. (packets.receiver_of packet).0 < 16) }
     requires len { length links.old.all.items ≡ 256 }
     requires spared { IsSpared links.old }
     ensures len { length links.new.all.items ≡ 256 }

@@ -2,11 +2,8 @@
 use Rattle.std.specs.Prelude.{◌≡◌, ℕ, ◌+◌, ◌≤◌, Bool, true, false, ◌==◌, ◌||◌, not, Option, Some, None, List, [], count_by}
 use Rattle.std.specs.List.{list_any, list_all, AllByRecursion}
 use Rattle.am_names.specs.declared.NodeId.{NodeId}
-use Rattle.am_names.specs.Names.{same_node}
 use Rattle.am_office.specs.declared.Actor.{Actor}
 use Rattle.am_office.specs.declared.Actor.TheVariants.{Thread, Outside}
-use Rattle.am_office.specs.declared.Part.{Part}
-use Rattle.am_office.specs.declared.Part.TheVariants as Parts
 use Rattle.am_office.specs.declared.Call.{Call}
 use Rattle.am_office.specs.declared.Call.TheVariants as Calls
 use Rattle.am_office.specs.declared.Event.{Event}
@@ -14,10 +11,11 @@ use Rattle.am_office.specs.declared.Event.TheVariants as Events
 use Rattle.am_office.specs.declared.Outcome.{Outcome}
 use Rattle.am_office.specs.declared.Outcome.TheVariants as Out
 use Rattle.am_office.specs.declared.Entry.{Entry}
-use Rattle.am_office.specs.Entries.{touches, touches_node}
+use Rattle.am_office.specs.Entries.{touches_node}
 use Rattle.am_model.specs.declared.Queued.{Queued}
 use Rattle.am_model.specs.Endpoint.{front}
 use Rattle.am_model.specs.History.{EachAfter, state_of}
+use Rattle.am_model.specs.Parts.{is_by_driver}
 use Rattle.am_scenario_types.specs.declared.parts.ThreadLine.{ThreadLine}
 use Rattle.am_scenario_types.specs.Lists.{ScenarioLists}
 use Rattle.am_follow.specs.Layout.{layout_of}
@@ -93,32 +91,10 @@ is_by_outside (Events.Want actor end) = is_outside actor
 is_by_outside (Events.Carry end) = true
 is_by_outside event = false
 
--- the node whose driver makes an event
-abbrev pub driver_of : Event → Option NodeId
-driver_of (Events.Drain node end) = Some node
-driver_of (Events.Unload node end) = Some node
-driver_of (Events.Load node end frame) = Some node
-driver_of (Events.PageOut node end) = Some node
-driver_of (Events.PageIn node end) = Some node
-driver_of event = None
-
-abbrev pub is_some_node : NodeId → Option NodeId → Bool
-is_some_node node None = false
-is_some_node node (Some other) = same_node node other
-
--- whether the driver of a node makes an event
-abbrev pub is_by_driver : NodeId → Event → Bool
-is_by_driver node event = is_some_node node (driver_of event)
-
 -- the phase: a journal of threads, interfaces and drivers, each with at most so many turns, without what is left to the end
 pub record IsPhase (scenario : ScenarioLists) (journal : List Entry) : Type 0 where
   pub inside : list_any (λ (x : Entry). is_by_outside x.event) journal ≡ false
   pub threads : AllByRecursion (λ (t : ThreadLine). count_by (λ (x : Entry). is_by_thread t.id x.event) journal ≤ scenario.turns) scenario.threads
   pub interfaces : AllByRecursion (λ (node : NodeId). count_by (touches_node node) journal ≤ scenario.turns) (nodes_of scenario)
-  pub drivers : AllByRecursion (λ (node : NodeId). count_by (λ (x : Entry). is_by_driver node x.event) journal ≤ scenario.turns) (nodes_of scenario)
+  pub drivers : AllByRecursion (λ (node : NodeId). count_by (is_by_driver node) journal ≤ scenario.turns) (nodes_of scenario)
   pub no_last : EachAfter (λ (past : List Entry) (x : Entry). is_last scenario past x ≡ false) [] journal
-
--- whether an entry stands in the log of a part
-abbrev pub touches_part : Part → Entry → Bool
-touches_part (Parts.Endpoint e) x = touches e x
-touches_part (Parts.Interface node) x = touches_node node x

@@ -19,7 +19,8 @@ use Rattle.am_model.specs.declared.Queued.{Queued}
 use Rattle.am_model.specs.Changes.{flying_of}
 use Rattle.am_model.specs.Channels.{attempt, bound_message, sequence}
 use Rattle.am_model.specs.Endpoint.{State, front}
-use Rattle.am_model.specs.History.{bind_to, is_answered, sent, stamp_of}
+use Rattle.am_model.specs.History.{bind_to, is_answered, sent}
+use Rattle.am_model.specs.Packets.{stamp_of}
 use Rattle.am_local.specs.Interface.{InterfaceLog, bind_at, channel_in, channel_of_front, event_of, expire_at, home_in, needs, outcome_at}
 use Rattle.am_local.specs.declared.work.Work.{Work}
 use Rattle.am_local.specs.declared.work.Work.TheVariants as Works

@@ -1,6 +1,6 @@
 //! Which work an interface does next.
 ghost use Rattle.am_iface.specs.Settings.{AreLawful};
-ghost use Rattle.am_local.specs.Together.{from_of};
+ghost use Rattle.am_model.specs.Packets.{from_of};
 ghost use Rattle.am_turns.specs.Servers.{HandHolds};
 ghost use Rattle.am_works.specs.Works.{Hand};
 ghost use Rattle.std.specs.Prelude.{◌≡◌, ◌<◌, IfSome, length};

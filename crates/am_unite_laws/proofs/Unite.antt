@@ -17,7 +17,6 @@ use Rattle.am_follow.specs.Layout.{layout_of}
 use Rattle.am_phase.specs.Crew.{ByDriver, ByInterface, ByThread, IsMade}
 use Rattle.am_phase.specs.Makers.{Driver, Interface, IsOfMaker, Maker, Thread}
 use Rattle.am_phase.proofs.Makers.{thread_end}
-use Rattle.am_phase.proofs.Phase.{same_test}
 use Rattle.am_phase.proofs.Splits.{all_at, all_from}
 use Rattle.am_phase.proofs.Threads.{calls_within, of_thread}
 use Rattle.am_crew_laws.specs.Ended.{IsEnded, RunEnd, all_lists, logs_at}
@@ -89,7 +88,7 @@ module _ (s : ScenarioLists) (r : RunEnd) (end : IsEnded s r) where
   made_by : (k : Maker) (x : Entry) → IsOfMaker k x → Contains (r.made k) x → IsMade (λ (t : ℕ). r.made (Thread t)) x
   made_by (Thread t) x kind has = ByThread t has
   made_by (Interface node) x kind has = ByInterface node kind
-  made_by (Driver node) x kind has = ByDriver node (same_test node x.event ∙ kind)
+  made_by (Driver node) x kind has = ByDriver node kind
 
   kind : (k : Maker) (x : Entry) → Contains (r.made k) x → IsOfMaker k x
   kind k x has = all_at (IsOfMaker k) (r.made k) x (part s r end k).kinds (contains_has (r.made k) x has)

@@ -1,5 +1,5 @@
 //! The ends of an interface's links, by the numbers of the nodes.
-ghost use Rattle.am_local.specs.Interface.{receiver_of};
+ghost use Rattle.am_model.specs.Packets.{receiver_of};
 ghost use Rattle.am_names.specs.declared.NodeId.{NodeId};
 ghost use Rattle.am_names.specs.declared.Packet.{Packet};
 ghost use Rattle.am_turns.specs.Servers.{sent_to};

@@ -19,7 +19,7 @@ use Rattle.am_office.specs.declared.Outcome.TheVariants as Out
 use Rattle.am_office.specs.declared.Place.{Place}
 use Rattle.am_office.specs.declared.Place.TheVariants.{Host, Disk, Frame, Direct}
 use Rattle.am_office.specs.declared.Entry.{Entry}
-use Rattle.am_office.specs.Entries.{ends_touched, touches}
+use Rattle.am_office.specs.Entries.{ends_touched, is_node, touches}
 use Rattle.am_body.specs.declared.settings.EndSettings.{EndSettings}
 use Rattle.am_device.specs.Causes.{fails_after, one_more}
 use Rattle.am_device.specs.Memory.{Store, counted, faulted, with_held}
@@ -30,7 +30,8 @@ use Rattle.am_model.specs.Endpoint.{State, fresh, is_in_a_frame, is_on_disk, is_
 use Rattle.am_model.specs.History.{is_in_frame, is_in_range, is_page_call}
 use Rattle.am_model.specs.Layout.{AllAre, EndSetting, Layout, declared, has_id, opening}
 use Rattle.am_model.proofs.Names.{same_end-is, same_end-refl}
-use Rattle.am_local.specs.Driver.{DriverLog, changes_frame, driver_of, end_moved, failing_move, is_frame_held_by, lies_in, outcome_move, page_at, page_number}
+use Rattle.am_local.specs.Driver.{DriverLog, changes_frame, end_moved, failing_move, is_frame_held_by, lies_in, outcome_move, page_at, page_number}
+use Rattle.am_model.specs.Parts.{driver_of, is_by_driver}
 use Rattle.am_local.specs.Readings.{page_calls}
 use Rattle.am_local.specs.Together.{ends_of, faults_of}
 use Rattle.am_local.proofs.Growing.{readings_push}
@@ -52,7 +53,6 @@ use Rattle.am_places.specs.declared.board.Known.{Known}
 use Rattle.am_places.specs.declared.board.Tenure.{Tenure}
 use Rattle.am_scenario_types.specs.Lists.{ScenarioLists}
 use Rattle.am_follow.specs.Layout.{layout_of}
-use Rattle.am_scripts.specs.Follows.{is_by_driver, is_some_node}
 use Rattle.am_works.specs.Drivers.{DriversGoOn, DriversLook, DriversRest, DriversWait, IsDriverOf}
 use Rattle.am_moves.specs.Moves.{outcome_with, swap_with}
 use Rattle.am_works.specs.Drives.{CanDrive, CanWait, IsLook, IsMoved, frames_after, line_by, log_of, with_frames, with_line}
@@ -398,7 +398,7 @@ drivers_go_on s ids node turns k clock view view' swap swap' v w x d h m =
             low = all_push (λ (y : Entry). y.stamp ≤ 2 ^ 63) h.made x h.clocked.low times.1;
           };
       few = (let few = h.few in let longer = length_push h.made x in omega (arith, few, longer));
-      own = all_push (λ (y : Entry). is_by_driver node y.event ≡ true) h.made x h.own (ap (λ (o : Option NodeId). is_some_node node o) by ∙ node_same node);
+      own = all_push (λ (y : Entry). is_by_driver node y ≡ true) h.made x h.own (ap (λ (o : Option NodeId). is_node node o) by ∙ node_same node);
       ranged = all_push (λ (y : Entry). is_in_range (layout_of s) y.event ≡ true) h.made x h.ranged ranged;
       right =
           λ logs seen.

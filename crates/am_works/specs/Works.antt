@@ -9,9 +9,11 @@ use Rattle.am_office.specs.declared.Entry.{Entry}
 use Rattle.am_model.specs.Changes.{replay}
 use Rattle.am_model.specs.Channels.{emitted}
 use Rattle.am_model.specs.Endpoint.{State, is_on_disk}
-use Rattle.am_model.specs.History.{is_in_range, is_in_frame, stamp_of}
+use Rattle.am_model.specs.History.{is_in_range, is_in_frame}
+use Rattle.am_model.specs.Packets.{stamp_of}
 use Rattle.am_model.specs.Layout.{AllAre, Layout, opening}
-use Rattle.am_local.specs.Driver.{DriverLog, driver_of, end_moved, failing_move, lies_in, outcome_move}
+use Rattle.am_local.specs.Driver.{DriverLog, end_moved, failing_move, lies_in, outcome_move}
+use Rattle.am_model.specs.Parts.{driver_of, is_by_driver}
 use Rattle.am_local.specs.Interface.{InterfaceLog, event_of, failing_at, needs, outcome_at}
 use Rattle.am_local.specs.Readings.{page_calls}
 use Rattle.am_local.specs.Together.{IsDriverSet, IsSet, faults_of}
@@ -21,7 +23,7 @@ use Rattle.am_merge.specs.Logs.{IsRising}
 use Rattle.am_device.specs.Memory.{Store}
 use Rattle.am_scenario_types.specs.Lists.{ScenarioLists}
 use Rattle.am_follow.specs.Layout.{layout_of}
-use Rattle.am_scripts.specs.Follows.{is_by_thread, is_by_driver}
+use Rattle.am_scripts.specs.Follows.{is_by_thread}
 use Rattle.am_scripts.specs.Scripts.{calls_of, script_of}
 use Rattle.am_driver.specs.Lists.{ViewLists}
 use Rattle.am_places.specs.Rule.{Begins}
@@ -133,7 +135,7 @@ pub record DriverWorks (s : ScenarioLists) (ids : Ids) (node : NodeId) (turns cl
   pub knows : KnowsNode ids made v
   pub clocked : IsClocked made clock
   pub few : length made ≤ turns
-  pub own : AllAre (λ (x : Entry). is_by_driver node x.event ≡ true) made
+  pub own : AllAre (λ (x : Entry). is_by_driver node x ≡ true) made
   pub ranged : AllAre (λ (x : Entry). is_in_range (layout_of s) x.event ≡ true) made
   pub right : (logs : EndpointId → List Entry) → AreSeen ids v logs → AllAre (IsMoveThenHere s logs made) made
   pub frames : (k : ℕ) (e : EndpointId) → slice_get ids k ≡ Some e → LiesAsMoved made e (replay e (opening (layout_of s) e) (seen_log k v))
