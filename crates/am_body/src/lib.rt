@@ -82,6 +82,3 @@ impl Body {
         }
     }
 }
-
-#[cfg(test)]
-mod tests;

@@ -10,6 +10,3 @@ pub use crate::ends::Ends;
 pub use crate::receiving::{Arrival, RecvEnd};
 pub use crate::sending::{Bound, SendEnd, Sent, Settled, TimedOut};
 pub use am_block::Slot;
-
-#[cfg(test)]
-mod tests;

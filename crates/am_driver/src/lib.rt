@@ -167,6 +167,3 @@ pub fn moves_are_of_lines()
 pub fn first_is_least()
     ensures { FirstIsLeast }
 {}
-
-#[cfg(test)]
-mod tests;

@@ -647,6 +647,3 @@ fn is_kept_out(outcome: Outcome) -> bool
         _ => false,
     }
 }
-
-#[cfg(test)]
-mod tests;

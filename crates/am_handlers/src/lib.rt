@@ -137,6 +137,3 @@ pub fn run(kind: HandlerKind, words: Words, sum: u64) -> Ran
         }
     }
 }
-
-#[cfg(test)]
-mod tests;

@@ -496,6 +496,3 @@ fn stamp_in(work: &Work) -> u64
         Work::Bind(_) | Work::Expire { .. } => 0,
     }
 }
-
-#[cfg(test)]
-mod tests;

@@ -409,6 +409,3 @@ fn share_of(mapping: Option<Mapping>) -> usize
         Some(mapping) => mapping.credits as usize,
     }
 }
-
-#[cfg(test)]
-mod tests;

@@ -1,7 +1,7 @@
 // The part of a channel in worked journals, as calls on its sending and its receiving end.
 ghost use Rattle.std.specs.Prelude.{◌≡◌};
 
-use super::*;
+use am_channel::{Arrival, Bound, RecvEnd, SendEnd, Sent, Settled, Slot, TimedOut};
 use am_names::{
     AnswerPacket, Cause, EndpointId, Message, MsgKind, NodeId, Parcel, Serial, Tag, Verdict, Words,
 };
@@ -17,7 +17,7 @@ enum Step {
 }
 
 /// What the call answers.
-#[derive(Clone, Copy, PartialEq, Eq, Debug)]
+#[derive(Clone, Copy, PartialEq, Eq)]
 enum Said {
     Sent(Sent),
     TimedOut(TimedOut),
@@ -76,21 +76,21 @@ fn answer(attempt: u8, verdict: Verdict) -> AnswerPacket {
     }
 }
 
-fn bound(attempt: u8) -> Bound {
-    Bound {
-        message: REQUEST,
-        slot: Slot(3),
-        attempt,
-    }
-}
+const SENT: Said = Said::Sent(Sent { seq: 1, attempt: 0 });
 
-fn sent(attempt: u8) -> Said {
-    Said::Sent(Sent { seq: 1, attempt })
-}
+const RESENT: Said = Said::TimedOut(TimedOut::Resend(Sent { seq: 1, attempt: 1 }));
 
-fn resent(attempt: u8) -> Said {
-    Said::TimedOut(TimedOut::Resend(Sent { seq: 1, attempt }))
-}
+const FIRST_TRY: Bound = Bound {
+    message: REQUEST,
+    slot: Slot(3),
+    attempt: 0,
+};
+
+const SECOND_TRY: Bound = Bound {
+    message: REQUEST,
+    slot: Slot(3),
+    attempt: 1,
+};
 
 fn take(receiver: &mut RecvEnd, attempt: u8, verdict: Verdict) -> Arrival {
     let packet = parcel(attempt);
@@ -130,93 +130,93 @@ fn first_other(tries: u8, row: &[(Step, Said)]) -> Option<usize> {
     None
 }
 
-#[test]
-fn a_lost_acknowledgement(rt: HostRuntime) {
-    let row = [
-        (Step::Bind, sent(0)),
-        (
-            Step::Arrive(0, Verdict::Accepted),
-            Said::Arrival(Arrival::Fresh),
-        ),
-        (Step::TimeOut, resent(1)),
-        (
-            Step::Arrive(1, Verdict::Accepted),
-            Said::Arrival(Arrival::Again(Verdict::Accepted)),
-        ),
-        (
-            Step::Answer(1, Verdict::Accepted),
-            Said::Settled(Settled::Done(bound(1), Verdict::Accepted)),
-        ),
-        (
-            Step::Answer(0, Verdict::Accepted),
-            Said::Settled(Settled::Nothing),
-        ),
-    ];
-    assert_eq!(rt; first_other(3, &row), None);
-}
+const NO_REQUEST: Verdict = Verdict::Refused(Cause::NoRequest);
+
+const A_LOST_ACKNOWLEDGEMENT: [(Step, Said); 6] = [
+    (Step::Bind, SENT),
+    (
+        Step::Arrive(0, Verdict::Accepted),
+        Said::Arrival(Arrival::Fresh),
+    ),
+    (Step::TimeOut, RESENT),
+    (
+        Step::Arrive(1, Verdict::Accepted),
+        Said::Arrival(Arrival::Again(Verdict::Accepted)),
+    ),
+    (
+        Step::Answer(1, Verdict::Accepted),
+        Said::Settled(Settled::Done(SECOND_TRY, Verdict::Accepted)),
+    ),
+    (
+        Step::Answer(0, Verdict::Accepted),
+        Said::Settled(Settled::Nothing),
+    ),
+];
+
+const A_DELAYED_EARLIER_TRY: [(Step, Said); 5] = [
+    (Step::Bind, SENT),
+    (Step::TimeOut, RESENT),
+    (Step::Arrive(1, BAD_TAG), Said::Arrival(Arrival::Fresh)),
+    (
+        Step::Answer(1, BAD_TAG),
+        Said::Settled(Settled::Done(SECOND_TRY, BAD_TAG)),
+    ),
+    (
+        Step::Arrive(0, Verdict::Accepted),
+        Said::Arrival(Arrival::Stale),
+    ),
+];
+
+const AN_OLD_REFUSAL: [(Step, Said); 6] = [
+    (Step::Bind, SENT),
+    (Step::Arrive(0, BAD_TAG), Said::Arrival(Arrival::Fresh)),
+    (Step::TimeOut, RESENT),
+    (
+        Step::Arrive(1, Verdict::Accepted),
+        Said::Arrival(Arrival::Fresh),
+    ),
+    (Step::Answer(0, BAD_TAG), Said::Settled(Settled::Nothing)),
+    (
+        Step::Answer(1, Verdict::Accepted),
+        Said::Settled(Settled::Done(SECOND_TRY, Verdict::Accepted)),
+    ),
+];
+
+const UNKNOWN_BUT_RAN: [(Step, Said); 5] = [
+    (Step::Bind, SENT),
+    (Step::TimeOut, RESENT),
+    (Step::TimeOut, Said::TimedOut(TimedOut::GaveUp(SECOND_TRY))),
+    (
+        Step::Arrive(1, Verdict::Accepted),
+        Said::Arrival(Arrival::Fresh),
+    ),
+    (
+        Step::Answer(1, Verdict::Accepted),
+        Said::Settled(Settled::Nothing),
+    ),
+];
+
+const NO_REQUEST_BACK: [(Step, Said); 3] = [
+    (Step::Bind, SENT),
+    (Step::Arrive(0, NO_REQUEST), Said::Arrival(Arrival::Fresh)),
+    (
+        Step::Answer(0, NO_REQUEST),
+        Said::Settled(Settled::Done(FIRST_TRY, NO_REQUEST)),
+    ),
+];
+
+/// How many tries a message has, and a row.
+static ROWS: [(u8, &[(Step, Said)]); 5] = [
+    (3, &A_LOST_ACKNOWLEDGEMENT),
+    (3, &A_DELAYED_EARLIER_TRY),
+    (3, &AN_OLD_REFUSAL),
+    (2, &UNKNOWN_BUT_RAN),
+    (2, &NO_REQUEST_BACK),
+];
 
 #[test]
-fn a_delayed_earlier_try(rt: HostRuntime) {
-    let row = [
-        (Step::Bind, sent(0)),
-        (Step::TimeOut, resent(1)),
-        (Step::Arrive(1, BAD_TAG), Said::Arrival(Arrival::Fresh)),
-        (
-            Step::Answer(1, BAD_TAG),
-            Said::Settled(Settled::Done(bound(1), BAD_TAG)),
-        ),
-        (
-            Step::Arrive(0, Verdict::Accepted),
-            Said::Arrival(Arrival::Stale),
-        ),
-    ];
-    assert_eq!(rt; first_other(3, &row), None);
-}
-
-#[test]
-fn an_old_refusal(rt: HostRuntime) {
-    let row = [
-        (Step::Bind, sent(0)),
-        (Step::Arrive(0, BAD_TAG), Said::Arrival(Arrival::Fresh)),
-        (Step::TimeOut, resent(1)),
-        (
-            Step::Arrive(1, Verdict::Accepted),
-            Said::Arrival(Arrival::Fresh),
-        ),
-        (Step::Answer(0, BAD_TAG), Said::Settled(Settled::Nothing)),
-        (
-            Step::Answer(1, Verdict::Accepted),
-            Said::Settled(Settled::Done(bound(1), Verdict::Accepted)),
-        ),
-    ];
-    assert_eq!(rt; first_other(3, &row), None);
-}
-
-#[test]
-fn unknown_but_ran(rt: HostRuntime) {
-    let row = [
-        (Step::Bind, sent(0)),
-        (Step::TimeOut, resent(1)),
-        (Step::TimeOut, Said::TimedOut(TimedOut::GaveUp(bound(1)))),
-        (
-            Step::Arrive(1, Verdict::Accepted),
-            Said::Arrival(Arrival::Fresh),
-        ),
-        (
-            Step::Answer(1, Verdict::Accepted),
-            Said::Settled(Settled::Nothing),
-        ),
-    ];
-    assert_eq!(rt; first_other(2, &row), None);
-
-    let no_request = Verdict::Refused(Cause::NoRequest);
-    let back = [
-        (Step::Bind, sent(0)),
-        (Step::Arrive(0, no_request), Said::Arrival(Arrival::Fresh)),
-        (
-            Step::Answer(0, no_request),
-            Said::Settled(Settled::Done(bound(0), no_request)),
-        ),
-    ];
-    assert_eq!(rt; first_other(2, &back), None);
+fn each_row_is_answered(rt: HostRuntime) {
+    for (tries, row) in ROWS {
+        assert!(rt; first_other(tries, row).is_none());
+    }
 }

@@ -2,15 +2,13 @@
 ghost use Rattle.am_model.specs.Allowed.{are_numbers_in_range};
 ghost use Rattle.std.specs.Prelude.{◌≡◌, true};
 
-mod places;
-mod turns;
-
-use super::*;
-use am_names::{MsgKind, Tag, Words};
-use am_office::{HandlerKind, Mask, Refusal};
+use crate::places::REPLY;
+use am_endpoint::{EndFault, EndSettings, Endpoint};
+use am_names::{Cause, EndpointId, Message, MsgKind, NodeId, Serial, Tag, Verdict, Words};
+use am_office::{Actor, Call, Entry, Event, HandlerKind, Mask, Outcome, Place, Refusal};
 use std::test::Fail;
 
-const SETTINGS: EndSettings = EndSettings {
+pub const SETTINGS: EndSettings = EndSettings {
     id: EndpointId(0),
     node: NodeId(0),
     tag: Tag(5),
@@ -20,26 +18,26 @@ const SETTINGS: EndSettings = EndSettings {
     pool: None,
 };
 
-const WORDS: Words = Words {
+pub const WORDS: Words = Words {
     a: 1,
     b: 2,
     c: 3,
     d: 4,
 };
 
-const REQUEST: Call = Call::Request {
+pub const REQUEST: Call = Call::Request {
     index: 0,
     handler: 2,
     words: WORDS,
 };
 
-const FIRST_SERIAL: Serial = Serial {
+pub const FIRST_SERIAL: Serial = Serial {
     source: EndpointId(0),
     count: 1,
 };
 
 /// The message of the first request.
-const FIRST: Message = Message {
+pub const FIRST: Message = Message {
     serial: FIRST_SERIAL,
     kind: MsgKind::Request,
     dest: EndpointId(1),
@@ -51,11 +49,11 @@ const FIRST: Message = Message {
 };
 
 /// The outcome of a call, unless the endpoint can't make it.
-fn outcome_of(end: &mut Endpoint, call: Call) -> Option<Outcome>
+pub fn outcome_of(end: &mut Endpoint, call: Call) -> Option<Outcome>
     requires { are_numbers_in_range end.old.settings.pool call ≡ true }
     ensures { end.new.settings ≡ end.old.settings }
 {
-    if is_on_disk(end.place()) || end.last_stamp() > 1000 {
+    if end.place() == Place::Disk || end.last_stamp() > 1000 {
         return None;
     }
     match end.call(0, Actor::Outside, call) {
@@ -67,7 +65,7 @@ fn outcome_of(end: &mut Endpoint, call: Call) -> Option<Outcome>
 #[test]
 fn one_credit_takes_one_request(rt: HostRuntime) -> Result<(), Fail> {
     let mut end = Endpoint::new(rt.alloc(), SETTINGS)?;
-    assert_eq!(rt; end.room(), Ok(()));
+    assert!(rt; end.room() == Ok(()));
     let map = Call::Map {
         index: 0,
         name: EndpointId(1),
@@ -79,16 +77,16 @@ fn one_credit_takes_one_request(rt: HostRuntime) -> Result<(), Fail> {
         kind: HandlerKind::Note,
     };
     let unmapped = Outcome::Refused(Refusal::NotMapped);
-    assert_eq!(rt; outcome_of(&mut end, REQUEST), Some(unmapped));
-    assert_eq!(rt; outcome_of(&mut end, map), Some(Outcome::Done));
+    assert!(rt; outcome_of(&mut end, REQUEST) == Some(unmapped));
+    assert!(rt; outcome_of(&mut end, map) == Some(Outcome::Done));
     let requested = Outcome::Requested(FIRST);
-    assert_eq!(rt; outcome_of(&mut end, REQUEST), Some(requested));
+    assert!(rt; outcome_of(&mut end, REQUEST) == Some(requested));
     let spent = Outcome::Refused(Refusal::NoCredit);
-    assert_eq!(rt; outcome_of(&mut end, REQUEST), Some(spent));
-    assert_eq!(rt; outcome_of(&mut end, handler), Some(Outcome::Done));
-    assert_eq!(rt; end.last_stamp(), 5);
-    assert_eq!(rt; end.log().len(), 5);
-    assert_eq!(rt; end.room(), Err(EndFault::LogFull));
+    assert!(rt; outcome_of(&mut end, REQUEST) == Some(spent));
+    assert!(rt; outcome_of(&mut end, handler) == Some(Outcome::Done));
+    assert!(rt; end.last_stamp() == 5);
+    assert!(rt; end.log().len() == 5);
+    assert!(rt; end.room() == Err(EndFault::LogFull));
     Ok(())
 }
 
@@ -134,7 +132,7 @@ const CALLS: [(Call, Outcome); 14] = [
     (Call::Test(Mask::NotEmpty), Outcome::Quiet),
 ];
 
-const MAP: Call = Call::Map {
+pub const MAP: Call = Call::Map {
     index: 0,
     name: EndpointId(1),
     tag: Tag(7),
@@ -156,9 +154,9 @@ fn each_call_has_its_outcome(rt: HostRuntime) -> Result<(), Fail> {
     };
     let mut end = Endpoint::new(rt.alloc(), settings)?;
     for (call, outcome) in CALLS {
-        assert_eq!(rt; outcome_of(&mut end, call), Some(outcome));
+        assert!(rt; outcome_of(&mut end, call) == Some(outcome));
     }
-    assert_eq!(rt; end.log().len(), 14);
+    assert!(rt; end.log().len() == 14);
     Ok(())
 }
 
@@ -169,7 +167,7 @@ fn an_endpoint_on_disk_is_wanted(rt: HostRuntime) -> Result<(), Fail> {
         ..SETTINGS
     };
     let mut end = Endpoint::new(rt.alloc(), settings)?;
-    assert_eq!(rt; end.wanted(), false);
+    assert!(rt; !end.wanted());
     let wanted = match end.place() {
         Place::Disk => end.want(6, Actor::Thread(2)),
         Place::Host | Place::Frame(_) | Place::Direct => Err(EndFault::LogFull),
@@ -182,11 +180,11 @@ fn an_endpoint_on_disk_is_wanted(rt: HostRuntime) -> Result<(), Fail> {
         },
         outcome: Outcome::Silent,
     };
-    assert_eq!(rt; wanted, Ok(entry));
-    assert_eq!(rt; end.wanted(), true);
+    assert!(rt; wanted == Ok(entry));
+    assert!(rt; end.wanted());
     let verdict = Verdict::Refused(Cause::NotResident);
-    assert_eq!(rt; end.verdict(&places::REPLY), verdict);
-    assert_eq!(rt; end.in_flight_len(), 0);
-    assert_eq!(rt; end.in_flight(FIRST_SERIAL), false);
+    assert!(rt; end.verdict(&REPLY) == verdict);
+    assert!(rt; end.in_flight_len() == 0);
+    assert!(rt; !end.in_flight(FIRST_SERIAL));
     Ok(())
 }

@@ -13,7 +13,7 @@ use Rattle.am_model.proofs.Names.{same_serial-is}
 use Rattle.am_model.proofs.Records.{found_is}
 use Rattle.am_endpoint.specs.Flights.{IsSlotOf, given_up_by, settled_in}
 use Rattle.am_endpoint.specs.View.{state_after}
-use Rattle.am_endpoint.proofs.tests.turns.expire.Goals as goal
+use Rattle.am_parts_tests.proofs.turns.expire.Goals as goal
 
 -- what is found by a serial has it
 flying_same : (serial : Serial) (fs : List Flying) (f : Flying) → flying_of serial fs ≡ Some f → flying_of f.message.serial fs ≡ Some f

@@ -3,8 +3,11 @@
 ghost use Rattle.am_endpoint.specs.View.{state_after};
 ghost use Rattle.std.specs.Prelude.{◌≡◌, IfSome};
 
-use super::*;
-use am_names::Cause;
+use crate::calls::{FIRST_SERIAL, SETTINGS};
+use am_endpoint::{Body, EndSettings, Endpoint};
+use am_names::{Cause, EndpointId, Message, MsgKind, Serial, Tag, Verdict, Words};
+use am_office::{Entry, Event, Outcome, Place};
+use std::test::Fail;
 
 /// An entry of this event. No outcome reads the stamp.
 pub fn entry_of(event: Event, outcome: Outcome) -> Entry
@@ -185,21 +188,21 @@ fn an_endpoint_goes_through_its_places(rt: HostRuntime) -> Result<(), Fail> {
         ..SETTINGS
     };
     let mut end = Endpoint::new(rt.alloc(), settings)?;
-    assert_eq!(rt; end.verdict(&REPLY), Verdict::Refused(Cause::NotResident));
-    assert_eq!(rt; load(&mut end), true);
-    assert_eq!(rt; end.place(), Place::Frame(1));
-    assert_eq!(rt; end.verdict(&REPLY), Verdict::Refused(Cause::NoRequest));
-    assert_eq!(rt; page_out_and_in(&mut end), false);
-    assert_eq!(rt; drain(&mut end), true);
-    assert_eq!(rt; drain(&mut end), false);
-    assert_eq!(rt; unload(&mut end), true);
-    assert_eq!(rt; end.place(), Place::Host);
-    assert_eq!(rt; end.draining(), true);
-    assert_eq!(rt; page_out_and_in(&mut end), true);
-    assert_eq!(rt; end.place(), Place::Host);
-    assert_eq!(rt; end.draining(), true);
-    assert_eq!(rt; load(&mut end), true);
-    assert_eq!(rt; end.draining(), false);
-    assert_eq!(rt; end.log().len(), 7);
+    assert!(rt; end.verdict(&REPLY) == Verdict::Refused(Cause::NotResident));
+    assert!(rt; load(&mut end));
+    assert!(rt; end.place() == Place::Frame(1));
+    assert!(rt; end.verdict(&REPLY) == Verdict::Refused(Cause::NoRequest));
+    assert!(rt; !page_out_and_in(&mut end));
+    assert!(rt; drain(&mut end));
+    assert!(rt; !drain(&mut end));
+    assert!(rt; unload(&mut end));
+    assert!(rt; end.place() == Place::Host);
+    assert!(rt; end.draining());
+    assert!(rt; page_out_and_in(&mut end));
+    assert!(rt; end.place() == Place::Host);
+    assert!(rt; end.draining());
+    assert!(rt; load(&mut end));
+    assert!(rt; !end.draining());
+    assert!(rt; end.log().len() == 7);
     Ok(())
 }

@@ -5,10 +5,13 @@ ghost use Rattle.am_model.specs.Endpoint.{is_direct};
 ghost use Rattle.am_model.specs.History.{decided, judged};
 ghost use Rattle.std.specs.Prelude.{◌≡◌, true};
 
-use super::places::{REPLY, entry_of, load};
-use super::*;
-use am_names::{Cause, Why};
-use am_office::Received;
+use crate::calls::{FIRST, FIRST_SERIAL, MAP, REQUEST, SETTINGS, WORDS, outcome_of};
+use crate::places::{REPLY, entry_of, load};
+use am_endpoint::{EndSettings, Endpoint};
+use am_model::Flying;
+use am_names::{Cause, EndpointId, Message, MsgKind, NodeId, Serial, Tag, Verdict, Why, Words};
+use am_office::{Call, Event, HandlerKind, Outcome, Place, Received};
+use std::test::Fail;
 
 const ASKED_SERIAL: Serial = Serial {
     source: EndpointId(1),
@@ -227,63 +230,57 @@ const NOTE: Call = Call::SetHandler {
 #[test]
 fn messages_fly_arrive_and_are_settled(rt: HostRuntime) -> Result<(), Fail> {
     let mut end = Endpoint::new(rt.alloc(), HOST)?;
-    assert_eq!(rt; outcome_of(&mut end, NOTE), Some(Outcome::Done));
-    assert_eq!(rt; outcome_of(&mut end, MAP), Some(Outcome::Done));
-    assert_eq!(rt;
-        outcome_of(&mut end, REQUEST),
-        Some(Outcome::Requested(FIRST))
-    );
-    assert_eq!(rt; end.wanted(), true);
-    assert_eq!(rt; take(&mut end), None);
-    assert_eq!(rt; load(&mut end), true);
-    assert_eq!(rt; end.wanted(), false);
-    assert_eq!(rt; take(&mut end), Some(FIRST));
-    assert_eq!(rt; take(&mut end), None);
-    assert_eq!(rt; end.in_flight_len(), 1);
-    assert_eq!(rt; end.in_flight(FIRST_SERIAL), true);
-    assert_eq!(rt; end.flight_slot(FIRST_SERIAL).is_some(), true);
-    assert_eq!(rt; end.flight_slot(ASKED_SERIAL), None);
-    assert_eq!(rt; put(&mut end, &REPLY), Some(Verdict::Accepted));
-    assert_eq!(rt;
-        put(&mut end, &REPLY),
-        Some(Verdict::Refused(Cause::NoRequest))
-    );
+    assert!(rt; outcome_of(&mut end, NOTE) == Some(Outcome::Done));
+    assert!(rt; outcome_of(&mut end, MAP) == Some(Outcome::Done));
+    assert!(rt; outcome_of(&mut end, REQUEST) == Some(Outcome::Requested(FIRST)));
+    assert!(rt; end.wanted());
+    assert!(rt; take(&mut end) == None);
+    assert!(rt; load(&mut end));
+    assert!(rt; !end.wanted());
+    assert!(rt; take(&mut end) == Some(FIRST));
+    assert!(rt; take(&mut end) == None);
+    assert!(rt; end.in_flight_len() == 1);
+    assert!(rt; end.in_flight(FIRST_SERIAL));
+    assert!(rt; end.flight_slot(FIRST_SERIAL).is_some());
+    assert!(rt; end.flight_slot(ASKED_SERIAL) == None);
+    assert!(rt; put(&mut end, &REPLY) == Some(Verdict::Accepted));
+    assert!(rt; put(&mut end, &REPLY) == Some(Verdict::Refused(Cause::NoRequest)));
     let delivered = Outcome::Delivered(FIRST_SERIAL);
-    assert_eq!(rt; expire(&mut end, FIRST_SERIAL), Some(delivered));
-    assert_eq!(rt; expire(&mut end, FIRST_SERIAL), None);
-    assert_eq!(rt; end.flight_slot(FIRST_SERIAL), None);
-    assert_eq!(rt; end.in_flight_len(), 0);
+    assert!(rt; expire(&mut end, FIRST_SERIAL) == Some(delivered));
+    assert!(rt; expire(&mut end, FIRST_SERIAL) == None);
+    assert!(rt; end.flight_slot(FIRST_SERIAL) == None);
+    assert!(rt; end.in_flight_len() == 0);
     let ran = Outcome::Ran {
         message: REPLY,
         handler: None,
         sends: None,
     };
-    assert_eq!(rt; outcome_of(&mut end, Call::Poll), Some(ran));
-    assert_eq!(rt; end.log().len(), 9);
+    assert!(rt; outcome_of(&mut end, Call::Poll) == Some(ran));
+    assert!(rt; end.log().len() == 9);
     Ok(())
 }
 
 #[test]
 fn a_request_is_answered_and_the_answer_is_unknown(rt: HostRuntime) -> Result<(), Fail> {
     let mut end = Endpoint::new(rt.alloc(), HOST)?;
-    assert_eq!(rt; outcome_of(&mut end, NOTE), Some(Outcome::Done));
-    assert_eq!(rt; load(&mut end), true);
-    assert_eq!(rt; put(&mut end, &ASKED), Some(Verdict::Accepted));
+    assert!(rt; outcome_of(&mut end, NOTE) == Some(Outcome::Done));
+    assert!(rt; load(&mut end));
+    assert!(rt; put(&mut end, &ASKED) == Some(Verdict::Accepted));
     let ran = Outcome::Ran {
         message: ASKED,
         handler: Some(3),
         sends: Some(ANSWER),
     };
-    assert_eq!(rt; outcome_of(&mut end, Call::Poll), Some(ran));
-    assert_eq!(rt; take(&mut end), Some(ANSWER));
+    assert!(rt; outcome_of(&mut end, Call::Poll) == Some(ran));
+    assert!(rt; take(&mut end) == Some(ANSWER));
     let unknown = Outcome::Unknown(ANSWER.serial);
-    assert_eq!(rt; expire(&mut end, ANSWER.serial), Some(unknown));
+    assert!(rt; expire(&mut end, ANSWER.serial) == Some(unknown));
     let zero = Outcome::Zero {
         serial: ANSWER.serial,
         why: Why::Unknown,
     };
-    assert_eq!(rt; outcome_of(&mut end, Call::Poll), Some(zero));
-    assert_eq!(rt; outcome_of(&mut end, Call::Poll), Some(Outcome::Empty));
+    assert!(rt; outcome_of(&mut end, Call::Poll) == Some(zero));
+    assert!(rt; outcome_of(&mut end, Call::Poll) == Some(Outcome::Empty));
     Ok(())
 }
 
@@ -294,21 +291,18 @@ fn a_carried_message_bounces_and_arrives(rt: HostRuntime) -> Result<(), Fail> {
         ..SETTINGS
     };
     let mut end = Endpoint::new(rt.alloc(), settings)?;
-    assert_eq!(rt; outcome_of(&mut end, MAP), Some(Outcome::Done));
-    assert_eq!(rt;
-        outcome_of(&mut end, REQUEST),
-        Some(Outcome::Requested(FIRST))
-    );
+    assert!(rt; outcome_of(&mut end, MAP) == Some(Outcome::Done));
+    assert!(rt; outcome_of(&mut end, REQUEST) == Some(Outcome::Requested(FIRST)));
     let full = Verdict::Refused(Cause::QueueFull);
     let requeued = Outcome::Requeued {
         message: FIRST,
         cause: Cause::QueueFull,
         used: 1,
     };
-    assert_eq!(rt; carry_out(&mut end, full), Some(requeued));
+    assert!(rt; carry_out(&mut end, full) == Some(requeued));
     let accepted = Outcome::Accepted(FIRST);
-    assert_eq!(rt; carry_out(&mut end, Verdict::Accepted), Some(accepted));
-    assert_eq!(rt; carry_out(&mut end, Verdict::Accepted), None);
-    assert_eq!(rt; end.log().len(), 4);
+    assert!(rt; carry_out(&mut end, Verdict::Accepted) == Some(accepted));
+    assert!(rt; carry_out(&mut end, Verdict::Accepted) == None);
+    assert!(rt; end.log().len() == 4);
     Ok(())
 }
