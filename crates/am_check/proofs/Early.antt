@@ -8,8 +8,8 @@ use Rattle.am_office.specs.declared.Part.{Part}
 use Rattle.am_model.specs.History.{failing}
 use Rattle.am_model.specs.Steps.{LogFull, full_log, stop_by}
 use Rattle.am_machine.specs.View.{Applies, ClusterView}
-use Rattle.am_machine.specs.declared.settings.ApplyFault.{ApplyFault}
-use Rattle.am_machine.specs.declared.settings.ApplyFault.TheVariants as Applied
+use Rattle.am_model.specs.declared.EntryFault.{EntryFault}
+use Rattle.am_model.specs.declared.EntryFault.TheVariants as EntryFaults
 use Rattle.am_scenario_types.specs.declared.parts.Form.TheVariants.{Run}
 use Rattle.am_scenario_types.specs.Lists.{ScenarioLists}
 use Rattle.am_follow.specs.Layout.{layout_of}
@@ -25,14 +25,14 @@ unfailing (Some c) l p h = absurd (cc)
 abbrev pub TellsEarly : ScenarioLists → List Entry → Event → Bool → Type 0
 TellsEarly s past event early = failing (layout_of s) past event ≡ None → (early ≡ true) ↔ IsEarly Run s past (next_entry (layout_of s) past event)
 
-pub early_stops : (s : ScenarioLists) (past : List Entry) (new : ClusterView) (event : Event) (early : Bool) (fault : ApplyFault) → TellsEarly s past event early → Applies (record { layout = layout_of s; journal = past }) new event (Err fault) → StopsEvent Run s past event (stop_in_run early fault)
-early_stops s past new event true (Applied.LogFull part) tells told =
+pub early_stops : (s : ScenarioLists) (past : List Entry) (new : ClusterView) (event : Event) (early : Bool) (fault : EntryFault) → TellsEarly s past event early → Applies (record { layout = layout_of s; journal = past }) new event (Err fault) → StopsEvent Run s past event (stop_in_run early fault)
+early_stops s past new event true (EntryFaults.LogFull part) tells told =
     let free = unfailing (failing (layout_of s) past event) (full_log (layout_of s) past event) part told.0 in
     (free, (tells free).0 refl)
-early_stops s past new event false (Applied.LogFull part) tells told =
+early_stops s past new event false (EntryFaults.LogFull part) tells told =
     let free = unfailing (failing (layout_of s) past event) (full_log (layout_of s) past event) part told.0 in
     ((λ early. let both : false ≡ true = (tells free).1 early in absurd (cc)), told.0)
-early_stops s past new event true (Applied.NotEnabled condition) tells told = told.0
-early_stops s past new event false (Applied.NotEnabled condition) tells told = told.0
-early_stops s past new event true Applied.NoMemory tells told = tt
-early_stops s past new event false Applied.NoMemory tells told = tt
+early_stops s past new event true (EntryFaults.NotEnabled condition) tells told = told.0
+early_stops s past new event false (EntryFaults.NotEnabled condition) tells told = told.0
+early_stops s past new event true EntryFaults.NoMemory tells told = tt
+early_stops s past new event false EntryFaults.NoMemory tells told = tt

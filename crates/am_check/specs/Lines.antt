@@ -10,8 +10,8 @@ use Rattle.am_scenario_types.specs.declared.parts.Form.{Form}
 use Rattle.am_scenario_types.specs.Lists.{ScenarioLists}
 use Rattle.am_follow.specs.Layout.{layout_of}
 use Rattle.am_drain.specs.Made.{next_entry}
-use Rattle.am_machine.specs.declared.settings.ApplyFault.{ApplyFault}
-use Rattle.am_machine.specs.declared.settings.ApplyFault.TheVariants as Applied
+use Rattle.am_model.specs.declared.EntryFault.{EntryFault}
+use Rattle.am_model.specs.declared.EntryFault.TheVariants as EntryFaults
 use Rattle.am_check.specs.declared.faults.CheckWhat.TheVariants as Whats
 use Rattle.am_check.specs.declared.faults.LineStop.{LineStop}
 use Rattle.am_check.specs.declared.faults.LineStop.TheVariants as Stops
@@ -67,12 +67,12 @@ IsOther x line Stops.NoMemory = Unit {0}
 IsOther x line stop = ⊥
 
 -- why a line does not pass whose event the machine does not make
-abbrev pub stop_of : ApplyFault → LineStop
-stop_of (Applied.NotEnabled condition) = Stops.What (Whats.NotEnabled condition)
-stop_of (Applied.LogFull part) = Stops.LogFull part
-stop_of Applied.NoMemory = Stops.NoMemory
+abbrev pub stop_of : EntryFault → LineStop
+stop_of (EntryFaults.NotEnabled condition) = Stops.What (Whats.NotEnabled condition)
+stop_of (EntryFaults.LogFull part) = Stops.LogFull part
+stop_of EntryFaults.NoMemory = Stops.NoMemory
 
 -- why an event of a run is not made, where its entry would come too early or not: that comes before a full log
-abbrev pub stop_in_run : Bool → ApplyFault → LineStop
-stop_in_run true (Applied.LogFull part) = Stops.What Whats.Follows
+abbrev pub stop_in_run : Bool → EntryFault → LineStop
+stop_in_run true (EntryFaults.LogFull part) = Stops.What Whats.Follows
 stop_in_run early fault = stop_of fault

@@ -18,7 +18,7 @@ use crate::follower::Follower;
 use crate::same::is_same_script_call;
 use crate::step_cluster::stop_of;
 use am_drain_loop::{Machine, next_turn, receipt};
-use am_machine::ApplyFault;
+use am_model::EntryFault;
 use am_names::{NoMemory, NodeId};
 use am_office::{Actor, Entry, Event, Journal};
 use am_scenario::ScriptCall;
@@ -100,11 +100,11 @@ fn is_early(run: &ScriptedCluster, event: Event) -> bool
 }
 
 /// Why an event of a run is not made, where its entry would come too early or not.
-fn stop_in_run(early: bool, fault: ApplyFault) -> LineStop
+fn stop_in_run(early: bool, fault: EntryFault) -> LineStop
     ensures { result ≡ stop_in_run early fault }
 {
     match fault {
-        ApplyFault::LogFull(_) if early => LineStop::What(CheckWhat::Follows),
+        EntryFault::LogFull(_) if early => LineStop::What(CheckWhat::Follows),
         other => stop_of(other),
     }
 }

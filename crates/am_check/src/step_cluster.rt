@@ -9,7 +9,8 @@ ghost use Rattle.std.specs.Prelude.{◌≡◌, ◌↔◌, [], IfOk, IsTrue, Some
 use crate::faults::{CheckWhat, LineStop};
 use crate::follower::Follower;
 use crate::same::is_same;
-use am_machine::{ApplyFault, Cluster};
+use am_machine::Cluster;
+use am_model::EntryFault;
 use am_names::NoMemory;
 use am_office::{Entry, Event, Journal};
 use am_scenario::{Scenario, StepLine};
@@ -75,13 +76,13 @@ fn is_step(steps: &[StepLine], place: usize, event: Event) -> bool
 }
 
 /// Why a line does not pass whose event the machine does not make.
-pub(crate) fn stop_of(fault: ApplyFault) -> LineStop
+pub(crate) fn stop_of(fault: EntryFault) -> LineStop
     ensures { result ≡ stop_of fault }
 {
     match fault {
-        ApplyFault::NotEnabled(condition) => LineStop::What(CheckWhat::NotEnabled(condition)),
-        ApplyFault::LogFull(part) => LineStop::LogFull(part),
-        ApplyFault::NoMemory => LineStop::NoMemory,
+        EntryFault::NotEnabled(condition) => LineStop::What(CheckWhat::NotEnabled(condition)),
+        EntryFault::LogFull(part) => LineStop::LogFull(part),
+        EntryFault::NoMemory => LineStop::NoMemory,
     }
 }
 

@@ -20,6 +20,7 @@ ghost use Rattle.std.specs.Prelude.{◌≡◌, [], IfErr, IfOk, OnOk, length, ma
 use am_crew::make_phase;
 pub use am_crew::{Gate, OpenGate};
 use am_machine::Cluster;
+use am_model::EntryFault;
 use am_office::{Journal, Part};
 use am_run_laws::{
     drains_leave_nothing, drains_receive_all, none_is_refused, runs_with_room_are_whole,
@@ -88,9 +89,9 @@ pub fn drain(cluster: &mut Cluster, scenario: &Scenario, made: &mut [u32]) -> Re
     cluster.laws();
     match drained {
         Ok(()) => Ok(()),
-        Err(am_drain_loop::DrainFault::LogFull(part)) => Err(DrainFault::LogFull(part)),
-        Err(am_drain_loop::DrainFault::NoMemory) => Err(DrainFault::NoMemory),
-        Err(am_drain_loop::DrainFault::NotEnabled(_)) => unreachable!(),
+        Err(EntryFault::LogFull(part)) => Err(DrainFault::LogFull(part)),
+        Err(EntryFault::NoMemory) => Err(DrainFault::NoMemory),
+        Err(EntryFault::NotEnabled(_)) => unreachable!(),
     }
 }
 
@@ -98,7 +99,7 @@ pub fn drain(cluster: &mut Cluster, scenario: &Scenario, made: &mut [u32]) -> Re
 #[tactic(auto, using(crate::proofs::Obeying::whole_obeys, crate::proofs::Obeying::alone_is_cut_off))]
 fn run_of(
     scenario: &Scenario,
-    drained: Result<(), am_drain_loop::DrainFault>,
+    drained: Result<(), EntryFault>,
     journal: Journal,
 ) -> Result<Finished, RunFault>
     requires lawful { IsLawful scenario.now }
@@ -115,9 +116,9 @@ fn run_of(
     runs_with_room_are_whole();
     match drained {
         Ok(()) => Ok(Finished { journal }),
-        Err(am_drain_loop::DrainFault::LogFull(part)) => Err(RunFault::LogFull { part, journal }),
-        Err(am_drain_loop::DrainFault::NoMemory) => Err(RunFault::NoMemory),
-        Err(am_drain_loop::DrainFault::NotEnabled(_)) => unreachable!(),
+        Err(EntryFault::LogFull(part)) => Err(RunFault::LogFull { part, journal }),
+        Err(EntryFault::NoMemory) => Err(RunFault::NoMemory),
+        Err(EntryFault::NotEnabled(_)) => unreachable!(),
     }
 }
 
@@ -169,12 +170,12 @@ fn drain_phase(
     };
     match drained {
         Ok(()) => Ok(Finished { journal }),
-        Err(am_drain_loop::DrainFault::LogFull(full)) => Err(RunFault::LogFull {
+        Err(EntryFault::LogFull(full)) => Err(RunFault::LogFull {
             part: full,
             journal,
         }),
-        Err(am_drain_loop::DrainFault::NoMemory) => Err(RunFault::NoMemory),
-        Err(am_drain_loop::DrainFault::NotEnabled(_)) => unreachable!(),
+        Err(EntryFault::NoMemory) => Err(RunFault::NoMemory),
+        Err(EntryFault::NotEnabled(_)) => unreachable!(),
     }
 }
 

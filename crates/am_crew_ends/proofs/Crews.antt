@@ -6,9 +6,8 @@ use Rattle.atomic_table.specs.Seated.{TableId}
 use Rattle.am_names.specs.declared.NodeId.{NodeId}
 use Rattle.am_names.specs.declared.Packet.{Packet}
 use Rattle.am_iface.specs.View.{InterfaceView, own}
-use Rattle.am_model.specs.Layout.{AllAre}
+use Rattle.am_model.specs.Layout.{AllAre, node_at}
 use Rattle.am_local.specs.Interface.{home_in}
-use Rattle.am_machine.specs.Interfaces.{node_at}
 use Rattle.am_node.specs.declared.NodePart.{NodePart}
 use Rattle.am_node.specs.Parts.{journal_of}
 use Rattle.am_plan.specs.Shape.{shape}

@@ -4,10 +4,10 @@ use Rattle.std.specs.Global.{Vec}
 use Rattle.std.proofs.Common.{◌≡◌, ◌⊎◌, ⊎_elim, ℕ, ◌+◌, ◌*◌, ◌<◌, ◌≤◌, Some, List, [], ◌∷◌, ◌++◌, length, map, reverse, refl, sym, ap, ◌∙◌, subst, arith}
 use Rattle.std.proofs.lemmas.List.{length-reverse, length_push}
 use Rattle.am_names.specs.declared.NodeId.{NodeId}
-use Rattle.am_model.specs.Layout.{AllAre}
+use Rattle.am_model.specs.Layout.{AllAre, node_at}
 use Rattle.am_scenario_types.specs.Lawful as lawful
 use Rattle.am_scenario_types.specs.Lists.{ScenarioLists}
-use Rattle.am_links.specs.Links.{AreLinks, IsOutOpened, node_at}
+use Rattle.am_links.specs.Links.{AreLinks, IsOutOpened}
 use Rattle.am_links.specs.declared.Links.{Links}
 use Rattle.am_links.proofs.Lists.{got_low, got_push}
 use Rattle.am_wire.specs.Links.{IsLink}

@@ -10,7 +10,7 @@ use Rattle.am_names.specs.declared.NodeId.{NodeId}
 use Rattle.am_office.specs.declared.Entry.{Entry}
 use Rattle.am_body.specs.declared.settings.EndSettings.{EndSettings}
 use Rattle.am_books.specs.declared.EndBook.{EndBook}
-use Rattle.am_model.specs.Layout.{AllAre}
+use Rattle.am_model.specs.Layout.{AllAre, node_at}
 use Rattle.am_places.specs.declared.places.Places.{Places}
 use Rattle.am_scenario_types.specs.declared.parts.ScriptCall.{ScriptCall}
 use Rattle.am_scenario_types.specs.Lawful as lawful
@@ -25,7 +25,7 @@ use Rattle.am_scripts.specs.Follows.{is_thread}
 use Rattle.am_turns.specs.Callers.{IsScript}
 use Rattle.am_turns.specs.declared.choices.Waits.{Waits}
 use Rattle.am_opening.proofs.Lists.{all_mapped}
-use Rattle.am_links.specs.Links.{IsOutOpened, node_at}
+use Rattle.am_links.specs.Links.{IsOutOpened}
 use Rattle.am_links.proofs.Lists.{got_last, got_low, got_one, got_some}
 use Rattle.am_wire.specs.Links.{emitted, received}
 use Rattle.am_wire.specs.declared.receiving.LinkIn.{LinkIn}

@@ -6,7 +6,7 @@ use Rattle.am_office.specs.declared.Entry.{Entry}
 use Rattle.am_scenario_types.specs.Lists.{ScenarioLists}
 use Rattle.am_model.proofs.Each.{each_at}
 use Rattle.am_drain.specs.Rules.{next_turn}
-use Rattle.am_drain.specs.Drain.{turn, after_turns}
+use Rattle.am_drain.specs.Drain.{turn, after_turns, IsDrainedBefore}
 use Rattle.am_drain.specs.Cut.{full_for, HasRoom, IsDrainCutOff}
 use Rattle.am_drain.specs.Laws.{CutIsDetermined}
 use Rattle.am_drain.proofs.Turns.{Extends, turns_extend}
@@ -76,19 +76,21 @@ IsOne part here one other = (part ≡ here) × (one ≡ other)
 some_part : (part here : Part) → Some part ≡ Some here → part ≡ here
 some_part part here e = cc
 
-cut_alike : (scenario : ScenarioLists) (past one other : List Entry) (part here : Part) (c : IsDrainCutOff scenario past part one) (d : IsDrainCutOff scenario past here other) (more : List Entry) → past ++ (d.added ++ d.next ∷ d.later) ≡ (past ++ (c.added ++ c.next ∷ c.later)) ++ more → IsOne part here one other
+cut_alike : (scenario : ScenarioLists) (past one other : List Entry) (part here : Part) (c : IsDrainCutOff scenario past part one) (d : IsDrainCutOff scenario past here other) (more : List Entry) → past ++ (d.drained.added ++ d.drained.next ∷ d.drained.later) ≡ (past ++ (c.drained.added ++ c.drained.next ∷ c.drained.later)) ++ more → IsOne part here one other
 cut_alike scenario past one other part here c d more e =
-    let whole : past ++ (c.added ++ c.next ∷ (c.later ++ more)) ≡ past ++ (d.added ++ d.next ∷ d.later) =
-    sym (e ∙ (append_assoc past (c.added ++ c.next ∷ c.later) more ∙ ap (λ (xs : List Entry). past ++ xs) (append_assoc c.added (c.next ∷ c.later) more))) in
-    let lists : c.added ++ c.next ∷ (c.later ++ more) ≡ d.added ++ d.next ∷ d.later = cancelled past (c.added ++ c.next ∷ (c.later ++ more)) (d.added ++ d.next ∷ d.later) whole in
-    let full_c : Meets scenario (past ++ c.added) c.next part = ap (λ (xs : List Entry). full_for scenario xs c.next) (sym c.made) ∙ c.full in
-    let full_d : Meets scenario (past ++ d.added) d.next here = ap (λ (xs : List Entry). full_for scenario xs d.next) (sym d.made) ∙ d.full in
-    let both = one_first scenario past c.added d.added c.next d.next (c.later ++ more) d.later part here lists c.room d.room full_c full_d in
-    let same : one ≡ other = c.made ∙ (ap (λ (xs : List Entry). past ++ xs) both.0 ∙ sym d.made) in
-    (some_part part here (sym c.full ∙ (ap (λ (xs : List Entry). full_for scenario xs c.next) same ∙ (ap (full_for scenario other) both.1 ∙ d.full))), same)
+    let a = c.drained in
+    let b = d.drained in
+    let whole : past ++ (a.added ++ a.next ∷ (a.later ++ more)) ≡ past ++ (b.added ++ b.next ∷ b.later) =
+    sym (e ∙ (append_assoc past (a.added ++ a.next ∷ a.later) more ∙ ap (λ (xs : List Entry). past ++ xs) (append_assoc a.added (a.next ∷ a.later) more))) in
+    let lists : a.added ++ a.next ∷ (a.later ++ more) ≡ b.added ++ b.next ∷ b.later = cancelled past (a.added ++ a.next ∷ (a.later ++ more)) (b.added ++ b.next ∷ b.later) whole in
+    let full_c : Meets scenario (past ++ a.added) a.next part = ap (λ (xs : List Entry). full_for scenario xs a.next) (sym a.made) ∙ c.full in
+    let full_d : Meets scenario (past ++ b.added) b.next here = ap (λ (xs : List Entry). full_for scenario xs b.next) (sym b.made) ∙ d.full in
+    let both = one_first scenario past a.added b.added a.next b.next (a.later ++ more) b.later part here lists c.room d.room full_c full_d in
+    let same : one ≡ other = a.made ∙ (ap (λ (xs : List Entry). past ++ xs) both.0 ∙ sym b.made) in
+    (some_part part here (sym c.full ∙ (ap (λ (xs : List Entry). full_for scenario xs a.next) same ∙ (ap (full_for scenario other) both.1 ∙ d.full))), same)
 
-plan_is : (scenario : ScenarioLists) (past one : List Entry) (part : Part) (c : IsDrainCutOff scenario past part one) → after_turns c.turns scenario past ≡ Some (past ++ (c.added ++ c.next ∷ c.later))
-plan_is scenario past one part c =
+plan_is : (scenario : ScenarioLists) (past one : List Entry) (c : IsDrainedBefore scenario past one) → after_turns c.turns scenario past ≡ Some (past ++ (c.added ++ c.next ∷ c.later))
+plan_is scenario past one c =
     c.planned ∙ ap (λ (xs : List Entry). let o : Option (List Entry) = Some xs in o) (ap (λ (xs : List Entry). xs ++ c.next ∷ c.later) c.made ∙ append_assoc past c.added (c.next ∷ c.later))
 
 pub cut_is_determined : CutIsDetermined
@@ -96,16 +98,16 @@ cut_is_determined =
     record {
       one = λ scenario past one other part here c d.
           ⊎_elim
-          (λ (ex : Extends (past ++ (c.added ++ c.next ∷ c.later)) (past ++ (d.added ++ d.next ∷ d.later))). cut_alike scenario past one other part here c d ex.0 ex.1)
-          (λ (ex : Extends (past ++ (d.added ++ d.next ∷ d.later)) (past ++ (c.added ++ c.next ∷ c.later))).
+          (λ (ex : Extends (past ++ (c.drained.added ++ c.drained.next ∷ c.drained.later)) (past ++ (d.drained.added ++ d.drained.next ∷ d.drained.later))). cut_alike scenario past one other part here c d ex.0 ex.1)
+          (λ (ex : Extends (past ++ (d.drained.added ++ d.drained.next ∷ d.drained.later)) (past ++ (c.drained.added ++ c.drained.next ∷ c.drained.later))).
           let back = cut_alike scenario past other one here part d c ex.0 ex.1 in (sym back.0, sym back.1))
-          (turns_meet c.turns d.turns scenario past (past ++ (c.added ++ c.next ∷ c.later)) (past ++ (d.added ++ d.next ∷ d.later)) (plan_is scenario past one part c) (plan_is scenario past other here d));
+          (turns_meet c.drained.turns d.drained.turns scenario past (past ++ (c.drained.added ++ c.drained.next ∷ c.drained.later)) (past ++ (d.drained.added ++ d.drained.next ∷ d.drained.later)) (plan_is scenario past one c.drained) (plan_is scenario past other d.drained));
       or = λ scenario past one other part c d.
-          let ex : Extends (past ++ (c.added ++ c.next ∷ c.later)) other = turns_before c.turns d.drained.0 scenario past (past ++ (c.added ++ c.next ∷ c.later)) other (plan_is scenario past one part c) d.drained.1.made d.drained.1.ended in
-          let whole : past ++ d.added ≡ past ++ (c.added ++ c.next ∷ (c.later ++ ex.0)) = sym d.made ∙ (ex.1 ∙ (append_assoc past (c.added ++ c.next ∷ c.later) ex.0 ∙ ap (λ (xs : List Entry). past ++ xs) (append_assoc c.added (c.next ∷ c.later) ex.0))) in
-          let lists : d.added ≡ c.added ++ c.next ∷ (c.later ++ ex.0) = cancelled past d.added (c.added ++ c.next ∷ (c.later ++ ex.0)) whole in
-          let none : full_for scenario (past ++ c.added) c.next ≡ None = each_at (λ (before : List Entry) (x : Entry). full_for scenario before x ≡ None) past c.added c.next (c.later ++ ex.0) (subst (λ (xs : List Entry). HasRoom scenario past xs) lists d.room) in
-          let some : full_for scenario (past ++ c.added) c.next ≡ Some part = ap (λ (xs : List Entry). full_for scenario xs c.next) (sym c.made) ∙ c.full in
+          let ex : Extends (past ++ (c.drained.added ++ c.drained.next ∷ c.drained.later)) other = turns_before c.drained.turns d.drained.0 scenario past (past ++ (c.drained.added ++ c.drained.next ∷ c.drained.later)) other (plan_is scenario past one c.drained) d.drained.1.made d.drained.1.ended in
+          let whole : past ++ d.added ≡ past ++ (c.drained.added ++ c.drained.next ∷ (c.drained.later ++ ex.0)) = sym d.made ∙ (ex.1 ∙ (append_assoc past (c.drained.added ++ c.drained.next ∷ c.drained.later) ex.0 ∙ ap (λ (xs : List Entry). past ++ xs) (append_assoc c.drained.added (c.drained.next ∷ c.drained.later) ex.0))) in
+          let lists : d.added ≡ c.drained.added ++ c.drained.next ∷ (c.drained.later ++ ex.0) = cancelled past d.added (c.drained.added ++ c.drained.next ∷ (c.drained.later ++ ex.0)) whole in
+          let none : full_for scenario (past ++ c.drained.added) c.drained.next ≡ None = each_at (λ (before : List Entry) (x : Entry). full_for scenario before x ≡ None) past c.drained.added c.drained.next (c.drained.later ++ ex.0) (subst (λ (xs : List Entry). HasRoom scenario past xs) lists d.room) in
+          let some : full_for scenario (past ++ c.drained.added) c.drained.next ≡ Some part = ap (λ (xs : List Entry). full_for scenario xs c.drained.next) (sym c.drained.made) ∙ c.full in
           let both : Some part ≡ None = sym some ∙ none in
           absurd (cc);
     }

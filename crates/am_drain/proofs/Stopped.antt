@@ -88,16 +88,11 @@ meets_full s past x part h =
 
 pub cut_off_is_stopped : CutOffIsStopped
 cut_off_is_stopped s phase journal part good within cut =
-    let meets = meets_full s journal cut.next part cut.full in
+    let meets = meets_full s journal cut.drained.next part cut.full in
     record {
       phase = phase;
       is_phase = good;
-      added = cut.added;
-      next = cut.next;
-      later = cut.later;
-      turns = cut.turns;
-      drained = cut.planned;
-      made = cut.made;
+      drained = cut.drained;
       touches = meets.touches;
       full = omega (arith, meets.full, within part);
     }

@@ -1,5 +1,5 @@
 -- A drain that meets a full log.
-use Rattle.std.specs.Prelude.{◌≡◌, ℕ, Option, Some, None, List, ◌∷◌, ◌++◌}
+use Rattle.std.specs.Prelude.{◌≡◌, Option, Some, None, List, ◌++◌}
 use Rattle.am_office.specs.declared.Part.{Part}
 use Rattle.am_office.specs.declared.Entry.{Entry}
 use Rattle.am_office.specs.Entries.{ends_touched, node_touched}
@@ -7,7 +7,7 @@ use Rattle.am_model.specs.History.{EachAfter}
 use Rattle.am_model.specs.Steps.{is_end_full, least_such, full_by}
 use Rattle.am_scenario_types.specs.Lists.{ScenarioLists}
 use Rattle.am_follow.specs.Layout.{layout_of}
-use Rattle.am_drain.specs.Drain.{after_turns, IsDrained}
+use Rattle.am_drain.specs.Drain.{IsDrained, IsDrainedBefore}
 
 -- the full log that an entry meets, if it meets one: an endpoint's before an interface's, each by number
 abbrev pub full_for : ScenarioLists → List Entry → Entry → Option Part
@@ -29,11 +29,6 @@ pub record IsDrainedWithRoom (scenario : ScenarioLists) (past journal : List Ent
 -- the journal is what the drain makes of the journal `past` before the first entry that meets a full log, which is that of the
 -- part
 pub record IsDrainCutOff (scenario : ScenarioLists) (past : List Entry) (part : Part) (journal : List Entry) : Type 0 where
-  pub added : List Entry
-  pub next : Entry
-  pub later : List Entry
-  pub turns : ℕ
-  pub planned : after_turns turns scenario past ≡ Some (journal ++ next ∷ later)
-  pub made : journal ≡ past ++ added
-  pub room : HasRoom scenario past added
-  pub full : full_for scenario journal next ≡ Some part
+  pub drained : IsDrainedBefore scenario past journal
+  pub room : HasRoom scenario past drained.added
+  pub full : full_for scenario journal drained.next ≡ Some part

@@ -1,5 +1,5 @@
 -- The drain: what is done when no thread runs any more, turn by turn until no rule applies.
-use Rattle.std.specs.Prelude.{◌≡◌, ℕ, zero, suc, Option, Some, None, List, ◌++◌, option_map, option_and_then}
+use Rattle.std.specs.Prelude.{◌≡◌, ℕ, zero, suc, Option, Some, None, List, ◌∷◌, ◌++◌, option_map, option_and_then}
 use Rattle.am_office.specs.declared.Actor.TheVariants.{Thread}
 use Rattle.am_office.specs.declared.Event.TheVariants as Events
 use Rattle.am_office.specs.declared.Entry.{Entry}
@@ -39,6 +39,15 @@ pub record IsDrainedIn (turns : ℕ) (scenario : ScenarioLists) (past journal : 
 -- the journal is what the drain makes of the journal `past`
 abbrev pub IsDrained : ScenarioLists → List Entry → List Entry → Type 0
 IsDrained scenario past journal = (turns : ℕ) × IsDrainedIn turns scenario past journal
+
+-- the journal is what the drain makes of the journal `past` before an entry: some turns make it, that entry next, and maybe more
+pub record IsDrainedBefore (scenario : ScenarioLists) (past journal : List Entry) : Type 0 where
+  pub added : List Entry
+  pub made : journal ≡ past ++ added
+  pub next : Entry
+  pub later : List Entry
+  pub turns : ℕ
+  pub planned : after_turns turns scenario past ≡ Some (journal ++ next ∷ later)
 
 -- the drain makes at most one journal of a journal
 abbrev pub DrainIsDetermined : Type 0

@@ -1,5 +1,5 @@
 -- Which journals follow the scripts of a scenario, and which are stopped for a full log.
-use Rattle.std.specs.Prelude.{◌≡◌, ℕ, true, Some, List, ◌∷◌, ◌++◌, count_by}
+use Rattle.std.specs.Prelude.{◌≡◌, true, List, count_by}
 use Rattle.am_office.specs.declared.Part.{Part}
 use Rattle.am_office.specs.declared.Entry.{Entry}
 use Rattle.am_model.specs.History.{IsHistory}
@@ -10,7 +10,7 @@ use Rattle.am_scripts.specs.Scripts.{KeepsScripts, BeginsScripts}
 use Rattle.am_scripts.specs.Standings.{IsAtRest}
 use Rattle.am_scripts.specs.Follows.{KeepsLastTries, KeepsToEvents, IsPhase}
 use Rattle.am_model.specs.Parts.{touches_part}
-use Rattle.am_drain.specs.Drain.{after_turns, IsDrained}
+use Rattle.am_drain.specs.Drain.{IsDrained, IsDrainedBefore}
 
 -- phase then drain: a journal is that of the threads, and then what the drain makes of it
 pub record IsPhaseThenDrain (scenario : ScenarioLists) (journal : List Entry) : Type 0 where
@@ -40,11 +40,6 @@ pub record IsGoodPhase (scenario : ScenarioLists) (phase : List Entry) : Type 0 
 pub record IsStoppedFor (scenario : ScenarioLists) (part : Part) (journal : List Entry) : Type 0 where
   pub phase : List Entry
   pub is_phase : IsGoodPhase scenario phase
-  pub added : List Entry
-  pub next : Entry
-  pub later : List Entry
-  pub turns : ℕ
-  pub drained : after_turns turns scenario phase ≡ Some (journal ++ next ∷ later)
-  pub made : journal ≡ phase ++ added
-  pub touches : touches_part part next ≡ true
+  pub drained : IsDrainedBefore scenario phase journal
+  pub touches : touches_part part drained.next ≡ true
   pub full : count_by (touches_part part) journal ≡ scenario.log

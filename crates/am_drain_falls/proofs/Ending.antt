@@ -84,18 +84,22 @@ rest_after s past next t r falls =
 full_after : (s : ScenarioLists) (past next : List Entry) (t : TurnsWithRoom s past next) (f : ComesToFullLog s next) → work s next < work s past → ComesToFullLog s past
 full_after s past next t f falls =
     let few = f.few in
+    let d = f.ends.drained in
     record {
       part = f.part;
       journal = f.journal;
       ends =
           record {
-            added = t.added ++ f.ends.added;
-            next = f.ends.next;
-            later = f.ends.later;
-            turns = suc f.ends.turns;
-            planned = turns_first f.ends.turns s past next (Some (f.journal ++ f.ends.next ∷ f.ends.later)) t.turn' f.ends.planned;
-            made = f.ends.made ∙ (ap (λ (xs : List Entry). xs ++ f.ends.added) t.made ∙ append_assoc past t.added f.ends.added);
-            room = room_then s past t.added f.ends.added t.room (subst (λ (xs : List Entry). HasRoom s xs f.ends.added) t.made f.ends.room);
+            drained =
+                record {
+                  added = t.added ++ d.added;
+                  next = d.next;
+                  later = d.later;
+                  turns = suc d.turns;
+                  planned = turns_first d.turns s past next (Some (f.journal ++ d.next ∷ d.later)) t.turn' d.planned;
+                  made = d.made ∙ (ap (λ (xs : List Entry). xs ++ d.added) t.made ∙ append_assoc past t.added d.added);
+                };
+            room = room_then s past t.added d.added t.room (subst (λ (xs : List Entry). HasRoom s xs d.added) t.made f.ends.room);
             full = f.ends.full;
           };
       few = omega (arith, few, falls);
@@ -109,12 +113,15 @@ full_now s past next added made first m falls =
       journal = past ++ m.front;
       ends =
           record {
-            added = m.front;
-            next = m.next;
-            later = m.later;
-            turns = suc zero;
-            planned = turns_first zero s past next (Some ((past ++ m.front) ++ m.next ∷ m.later)) first (ap (λ (xs : List Entry). Some xs) (made ∙ (ap (λ (xs : List Entry). past ++ xs) m.is ∙ sym (append_assoc past m.front (m.next ∷ m.later)))));
-            made = refl;
+            drained =
+                record {
+                  added = m.front;
+                  next = m.next;
+                  later = m.later;
+                  turns = suc zero;
+                  planned = turns_first zero s past next (Some ((past ++ m.front) ++ m.next ∷ m.later)) first (ap (λ (xs : List Entry). Some xs) (made ∙ (ap (λ (xs : List Entry). past ++ xs) m.is ∙ sym (append_assoc past m.front (m.next ∷ m.later)))));
+                  made = refl;
+                };
             room = m.room;
             full = m.full;
           };

@@ -8,11 +8,11 @@ use Rattle.am_names.specs.declared.NodeId.{NodeId}
 use Rattle.am_names.specs.Names.{same_end, same_node}
 use Rattle.am_model.specs.Channels.{Channel, same_channel}
 use Rattle.am_model.specs.History.{channel_to}
-use Rattle.am_model.specs.Layout.{EndSetting, AreApart, has_id}
+use Rattle.am_model.specs.Layout.{EndSetting, AreApart, has_id, node_at}
 use Rattle.am_model.proofs.Names.{same_end-is}
 use Rattle.am_model.proofs.Received.{bit}
 use Rattle.am_scenario_types.specs.Lists.{ScenarioLists}
-use Rattle.am_scripts.specs.Links.{node_at, nodes_of}
+use Rattle.am_scripts.specs.Links.{nodes_of}
 use Rattle.am_scripts.proofs.Links.{same_node-is}
 
 -- ---- a sum that changes where a test passes, which is once

@@ -63,7 +63,7 @@ pub record ComesToFullLog (s : ScenarioLists) (past : List Entry) : Type 0 where
   pub part : Part
   pub journal : List Entry
   pub ends : IsDrainCutOff s past part journal
-  pub few : ends.turns ≤ work s past
+  pub few : ends.drained.turns ≤ work s past
 
 -- one of the two, in at most as many turns as there is work
 abbrev pub ComesToEnd : ScenarioLists → List Entry → Type 0

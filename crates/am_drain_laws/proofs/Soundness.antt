@@ -11,7 +11,7 @@ use Rattle.am_office.specs.declared.Entry.{Entry}
 use Rattle.am_model.specs.declared.Queued.{Queued}
 use Rattle.am_model.specs.declared.Flying.{Flying}
 use Rattle.am_model.specs.Endpoint.{State, front}
-use Rattle.am_model.specs.Layout.{Layout, EndSetting, AllAre, has_id, declared, home}
+use Rattle.am_model.specs.Layout.{Layout, EndSetting, AllAre, has_id, declared, home, node_at}
 use Rattle.am_model.specs.Channels.{Channel, bound_message}
 use Rattle.am_model.specs.Cluster.{IsHeldOnce, InFlightIsBound}
 use Rattle.am_model.specs.History.{IsHistory, state_of, channel_to, is_bound}
@@ -22,7 +22,7 @@ use Rattle.am_follow.proofs.Lawful.{lawful_layout}
 use Rattle.am_laws_homes.proofs.Homes.{front_addressed}
 use Rattle.am_laws_messages.proofs.Delivered.{delivers}
 use Rattle.am_laws_cluster.proofs.Bound.{in_flight_bound}
-use Rattle.am_scripts.specs.Links.{first_some, node_at, nodes_of}
+use Rattle.am_scripts.specs.Links.{first_some, nodes_of}
 use Rattle.am_scripts.specs.Standings.{Standing, standings, is_standing_of, is_idle}
 use Rattle.am_drain.specs.Rules.{next_time_out}
 use Rattle.am_drain.specs.Laws.{is_known, has_known_front, has_no_flight, IsSound}

@@ -11,8 +11,8 @@ use Rattle.am_drain.specs.Cut.{full_for, HasRoom, IsDrainedWithRoom}
 use Rattle.am_drain.proofs.Determined.{one_turn_more}
 use Rattle.am_drain.proofs.Quiet.{Quiet}
 use Rattle.am_drain.proofs.Turns.{Extends}
-use Rattle.am_drain_loop.specs.declared.DrainFault.{DrainFault}
-use Rattle.am_drain_loop.specs.declared.DrainFault.TheVariants.{NotEnabled, LogFull, NoMemory}
+use Rattle.am_model.specs.declared.EntryFault.{EntryFault}
+use Rattle.am_model.specs.declared.EntryFault.TheVariants.{NotEnabled, LogFull, NoMemory}
 use Rattle.am_drain_loop.specs.Stops.{Reaches, IsStopped, Does, Acts, IsDrainStopped}
 
 -- ---- room
@@ -38,7 +38,7 @@ reaches_then s s0 past mid next same p q = reaches_on s0 past mid next p (subst 
 
 -- ---- what stops a part of a plan stops the whole
 
-stopped_further : (s : ScenarioLists) (fault : DrainFault) (planned more made : List Entry) → Extends planned more → IsStopped s fault planned made → IsStopped s fault more made
+stopped_further : (s : ScenarioLists) (fault : EntryFault) (planned more made : List Entry) → Extends planned more → IsStopped s fault planned made → IsStopped s fault more made
 stopped_further s (NotEnabled condition) planned more made (a, p) refused =
     record {
       next = refused.next;
@@ -68,20 +68,20 @@ extends_one past x = (x ∷ [], refl)
 pub acts_not : {U : Type 0} (s : ScenarioLists) (done : U) (past : List Entry) → Acts s (Ok done) past past past
 acts_not s done past = record { does = refl; reaches = reaches_same s past }
 
-pub acts_same : {U : Type 0} (s : ScenarioLists) (r : Result U DrainFault) (past planned more made : List Entry) → planned ≡ more → Acts s r past planned made → Acts s r past more made
+pub acts_same : {U : Type 0} (s : ScenarioLists) (r : Result U EntryFault) (past planned more made : List Entry) → planned ≡ more → Acts s r past planned made → Acts s r past more made
 acts_same s r past planned more made same acts = subst (λ (xs : List Entry). Acts s r past xs made) same acts
 
 -- what is stopped is stopped on the way to more
-pub acts_less : {U V : Type 0} (s : ScenarioLists) (fault : DrainFault) (past planned more made : List Entry) → Extends planned more → Acts {U = U} s (Err fault) past planned made → Acts {U = V} s (Err fault) past more made
+pub acts_less : {U V : Type 0} (s : ScenarioLists) (fault : EntryFault) (past planned more made : List Entry) → Extends planned more → Acts {U = U} s (Err fault) past planned made → Acts {U = V} s (Err fault) past more made
 acts_less s fault past planned more made extends acts =
     record { does = stopped_further s fault planned more made extends acts.does; reaches = acts.reaches }
 
-does_from : {V : Type 0} (s s0 : ScenarioLists) (r : Result V DrainFault) (plan : ScenarioLists → List Entry → List Entry) (mid planned made : List Entry) → s ≡ s0 → mid ≡ planned → Does s r (plan s mid) made → Does s0 r (plan s0 planned) made
+does_from : {V : Type 0} (s s0 : ScenarioLists) (r : Result V EntryFault) (plan : ScenarioLists → List Entry → List Entry) (mid planned made : List Entry) → s ≡ s0 → mid ≡ planned → Does s r (plan s mid) made → Does s0 r (plan s0 planned) made
 does_from s s0 r plan mid planned made same is does =
     subst (λ (xs : List Entry). Does s0 r (plan s0 xs) made) is (subst (λ (x : ScenarioLists). Does x r (plan x mid) made) same does)
 
 -- first one plan, and then another
-pub acts_then : {U V : Type 0} (s s0 : ScenarioLists) (done : U) (r : Result V DrainFault) (plan : ScenarioLists → List Entry → List Entry) (past planned mid made : List Entry) → s ≡ s0 → Acts {U = U} s0 (Ok done) past planned mid → Acts {U = V} s r mid (plan s mid) made → Acts {U = V} s0 r past (plan s0 planned) made
+pub acts_then : {U V : Type 0} (s s0 : ScenarioLists) (done : U) (r : Result V EntryFault) (plan : ScenarioLists → List Entry → List Entry) (past planned mid made : List Entry) → s ≡ s0 → Acts {U = U} s0 (Ok done) past planned mid → Acts {U = V} s r mid (plan s mid) made → Acts {U = V} s0 r past (plan s0 planned) made
 acts_then s s0 done r plan past planned mid made same one next =
     record {
       does = does_from s s0 r plan mid planned made same one.does next.does;
@@ -103,32 +103,38 @@ turned s s0 past now next t same (n, made) e f =
     let f' : next ≡ after_turn s0 now t = subst (λ (x : ScenarioLists). next ≡ after_turn x now t) same f in
     (suc n, one_turn_more n s0 past now next made (turn_of s0 now t e' ∙ ap (λ (xs : List Entry). let o : Option (List Entry) = Some xs in o) (sym f')))
 
-stops : (s : ScenarioLists) (past planned journal : List Entry) (n : ℕ) (fault : DrainFault) → after_turns n s past ≡ Some planned → Reaches s past journal → IsStopped s fault planned journal → IsDrainStopped s past fault journal
+stops : (s : ScenarioLists) (past planned journal : List Entry) (n : ℕ) (fault : EntryFault) → after_turns n s past ≡ Some planned → Reaches s past journal → IsStopped s fault planned journal → IsDrainStopped s past fault journal
 stops s past planned journal n (NotEnabled condition) made reach refused =
     record {
-      added = reach.added;
-      next = refused.next;
-      later = refused.later;
-      turns = n;
-      planned = made ∙ ap (λ (xs : List Entry). let o : Option (List Entry) = Some xs in o) refused.is_planned;
-      made = reach.made;
+      drained =
+          record {
+            added = reach.added;
+            made = reach.made;
+            next = refused.next;
+            later = refused.later;
+            turns = n;
+            planned = made ∙ ap (λ (xs : List Entry). let o : Option (List Entry) = Some xs in o) refused.is_planned;
+          };
       room = reach.room;
       failing' = refused.failing';
     }
 stops s past planned journal n (LogFull part) made reach cut =
     record {
-      added = reach.added;
-      next = cut.next;
-      later = cut.later;
-      turns = n;
-      planned = made ∙ ap (λ (xs : List Entry). let o : Option (List Entry) = Some xs in o) cut.is_planned;
-      made = reach.made;
+      drained =
+          record {
+            added = reach.added;
+            made = reach.made;
+            next = cut.next;
+            later = cut.later;
+            turns = n;
+            planned = made ∙ ap (λ (xs : List Entry). let o : Option (List Entry) = Some xs in o) cut.is_planned;
+          };
       room = reach.room;
       full = cut.full;
     }
 stops s past planned journal n NoMemory made reach begins = record { turns = n; planned = planned; is_planned = made; begins = begins }
 
-pub stopped : (s s0 : ScenarioLists) (past now journal : List Entry) (t : Turn) (fault : DrainFault) → s ≡ s0 → Made s0 past now → Reaches s0 past now → next_turn s now ≡ Some t → Reaches s now journal → IsStopped s fault (after_turn s now t) journal → IsDrainStopped s0 past fault journal
+pub stopped : (s s0 : ScenarioLists) (past now journal : List Entry) (t : Turn) (fault : EntryFault) → s ≡ s0 → Made s0 past now → Reaches s0 past now → next_turn s now ≡ Some t → Reaches s now journal → IsStopped s fault (after_turn s now t) journal → IsDrainStopped s0 past fault journal
 stopped s s0 past now journal t fault same (n, made) reached e reach stop =
     let e' : next_turn s0 now ≡ Some t = subst (λ (x : ScenarioLists). next_turn x now ≡ Some t) same e in
     let stop' : IsStopped s0 fault (after_turn s0 now t) journal = subst (λ (x : ScenarioLists). IsStopped x fault (after_turn x now t) journal) same stop in

@@ -12,7 +12,7 @@ use Rattle.am_follow.specs.Layout.{layout_of}
 use Rattle.am_drain.specs.Made.{after_event_if}
 use Rattle.am_drain.specs.Ready.{paged_in}
 use Rattle.am_drain.proofs.Quiet.{paged_in-quiet}
-use Rattle.am_drain_loop.specs.declared.DrainFault.{DrainFault}
+use Rattle.am_model.specs.declared.EntryFault.{EntryFault}
 use Rattle.am_drain_loop.specs.Stops.{Reaches, Does, Acts}
 use Rattle.am_drain_loop.proofs.Acting.{reaches_then, acts_less, quiet_extends}
 
@@ -32,7 +32,7 @@ pub left_after : (n k : ℕ) (s s0 : ScenarioLists) (node : NodeId) (e : Endpoin
 left_after n k s s0 node e past next all on_disk same test number is_all made =
     ap (λ (xs : List Entry). paged_in k (layout_of s0) node e xs) (made ∙ once_is s s0 node e past on_disk same test) ∙ (sym (step n k (layout_of s0) node e past number) ∙ is_all)
 
-pub left_stopped : {U V : Type 0} (n : ℕ) (s s0 : ScenarioLists) (node : NodeId) (e : EndpointId) (first past all journal : List Entry) (fault : DrainFault) (on_disk : Bool) → s ≡ s0 → on_disk ≡ is_on_disk (state_of (layout_of s) past e).head.place → 0 < n → paged_in n (layout_of s0) node e past ≡ all → Reaches s0 first past → Acts {U = U} s (Err fault) past (after_event_if on_disk (layout_of s) (Events.PageIn node e) past) journal → Acts {U = V} s0 (Err fault) first all journal
+pub left_stopped : {U V : Type 0} (n : ℕ) (s s0 : ScenarioLists) (node : NodeId) (e : EndpointId) (first past all journal : List Entry) (fault : EntryFault) (on_disk : Bool) → s ≡ s0 → on_disk ≡ is_on_disk (state_of (layout_of s) past e).head.place → 0 < n → paged_in n (layout_of s0) node e past ≡ all → Reaches s0 first past → Acts {U = U} s (Err fault) past (after_event_if on_disk (layout_of s) (Events.PageIn node e) past) journal → Acts {U = V} s0 (Err fault) first all journal
 left_stopped {U} {V} n s s0 node e first past all journal fault on_disk same test some is_all reached acts =
     let k : ℕ = n - 1 in
     let number : n ≡ suc k = omega (arith, some) in

@@ -3,7 +3,8 @@ use Rattle.std.proofs.Common.{◌≡◌, ℕ, zero, suc, ◌+◌, ◌-◌, ◌<�
 use Rattle.std.specs.Prelude.{find, option_map}
 use Rattle.std.specs.List.{range_with_len}
 use Rattle.am_names.specs.declared.NodeId.{NodeId}
-use Rattle.am_scripts.specs.Links.{first_some, node_at}
+use Rattle.am_model.specs.Layout.{node_at}
+use Rattle.am_scripts.specs.Links.{first_some}
 
 -- the first that is given from `i` on, below `n`
 abbrev pub rest : {X : Type 0} → (ℕ → Option X) → ℕ → ℕ → Option X

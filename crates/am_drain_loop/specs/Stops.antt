@@ -6,10 +6,10 @@ use Rattle.am_office.specs.declared.Entry.{Entry}
 use Rattle.am_model.specs.History.{failing}
 use Rattle.am_scenario_types.specs.Lists.{ScenarioLists}
 use Rattle.am_follow.specs.Layout.{layout_of}
-use Rattle.am_drain.specs.Drain.{after_turns}
+use Rattle.am_drain.specs.Drain.{after_turns, IsDrainedBefore}
 use Rattle.am_drain.specs.Cut.{full_for, HasRoom, IsDrainCutOff}
-use Rattle.am_drain_loop.specs.declared.DrainFault.{DrainFault}
-use Rattle.am_drain_loop.specs.declared.DrainFault.TheVariants.{NotEnabled, LogFull, NoMemory}
+use Rattle.am_model.specs.declared.EntryFault.{EntryFault}
+use Rattle.am_model.specs.declared.EntryFault.TheVariants.{NotEnabled, LogFull, NoMemory}
 
 -- a journal with entries more, none of which met a full log
 pub record Reaches (scenario : ScenarioLists) (past journal : List Entry) : Type 0 where
@@ -37,18 +37,18 @@ pub record IsBeginning (planned made : List Entry) : Type 0 where
   pub is_planned : planned ≡ made ++ later
 
 -- what was planned was not made to the end, for this fault
-abbrev pub IsStopped : ScenarioLists → DrainFault → List Entry → List Entry → Type 0
+abbrev pub IsStopped : ScenarioLists → EntryFault → List Entry → List Entry → Type 0
 IsStopped scenario (NotEnabled condition) planned made = IsRefused scenario condition planned made
 IsStopped scenario (LogFull part) planned made = IsCutOff scenario part planned made
 IsStopped scenario NoMemory planned made = IsBeginning planned made
 
 -- all that was planned was made, or it was stopped
-abbrev pub Does : {U : Type 0} → ScenarioLists → Result U DrainFault → List Entry → List Entry → Type 0
+abbrev pub Does : {U : Type 0} → ScenarioLists → Result U EntryFault → List Entry → List Entry → Type 0
 Does scenario (Ok done) planned made = made ≡ planned
 Does scenario (Err fault) planned made = IsStopped scenario fault planned made
 
 -- of the journal `past` all that was planned was made, or it was stopped, and no entry that was made met a full log
-pub record Acts {U : Type 0} (scenario : ScenarioLists) (result : Result U DrainFault) (past planned made : List Entry) : Type 0 where
+pub record Acts {U : Type 0} (scenario : ScenarioLists) (result : Result U EntryFault) (past planned made : List Entry) : Type 0 where
   pub does : Does scenario result planned made
   pub reaches : Reaches scenario past made
 
@@ -61,17 +61,12 @@ pub record IsDrainBeginning (scenario : ScenarioLists) (past journal : List Entr
 
 -- the journal is what the drain makes of `past` before the first entry whose event has this condition against it
 pub record IsDrainRefused (scenario : ScenarioLists) (past : List Entry) (condition : Condition) (journal : List Entry) : Type 0 where
-  pub added : List Entry
-  pub next : Entry
-  pub later : List Entry
-  pub turns : ℕ
-  pub planned : after_turns turns scenario past ≡ Some (journal ++ next ∷ later)
-  pub made : journal ≡ past ++ added
-  pub room : HasRoom scenario past added
-  pub failing' : failing (layout_of scenario) journal next.event ≡ Some condition
+  pub drained : IsDrainedBefore scenario past journal
+  pub room : HasRoom scenario past drained.added
+  pub failing' : failing (layout_of scenario) journal drained.next.event ≡ Some condition
 
 -- the drain of `past` ends for this fault, and leaves this journal
-abbrev pub IsDrainStopped : ScenarioLists → List Entry → DrainFault → List Entry → Type 0
+abbrev pub IsDrainStopped : ScenarioLists → List Entry → EntryFault → List Entry → Type 0
 IsDrainStopped scenario past (NotEnabled condition) journal = IsDrainRefused scenario past condition journal
 IsDrainStopped scenario past (LogFull part) journal = IsDrainCutOff scenario past part journal
 IsDrainStopped scenario past NoMemory journal = IsDrainBeginning scenario past journal

@@ -11,8 +11,8 @@ ghost use Rattle.am_scripts.specs.Standings.{standings};
 ghost use Rattle.std.specs.Prelude.{◌≡◌, ◌<◌, ◌&&◌, true, not, is_none, option_map, length, filter, find, Some, IfSome};
 
 use crate::pages::{apply_if, is_on_disk, off_disk};
-use crate::{DrainFault, EndHead, Machine};
-use am_model::Head;
+use crate::{EndHead, Machine};
+use am_model::{EntryFault, Head};
 use am_names::{EndpointId, NodeId};
 use am_office::{Event, Place};
 
@@ -154,7 +154,7 @@ fn stop_draining<M: Machine>(
     machine: &mut M,
     node: NodeId,
     end: EndpointId,
-) -> Result<(), DrainFault>
+) -> Result<(), EntryFault>
     requires { is_seat (layout_of (M.scenario machine.old)) node end ≡ true }
     ensures scenario { M.scenario machine.new ≡ M.scenario machine.old }
     ensures capacity { M.capacity machine.new ≡ M.capacity machine.old }
@@ -165,7 +165,7 @@ fn stop_draining<M: Machine>(
 }
 
 /// An endpoint leaves its frame, and drains before if it doesn't yet.
-fn unload<M: Machine>(machine: &mut M, leaver: EndHead) -> Result<(), DrainFault>
+fn unload<M: Machine>(machine: &mut M, leaver: EndHead) -> Result<(), EntryFault>
     requires { is_seat (layout_of (M.scenario machine.old)) leaver.node leaver.id ≡ true }
     ensures scenario { M.scenario machine.new ≡ M.scenario machine.old }
     ensures capacity { M.capacity machine.new ≡ M.capacity machine.old }
@@ -185,7 +185,7 @@ fn unload_leaver<M: Machine>(
     node: NodeId,
     source: EndpointId,
     dest: EndpointId,
-) -> Result<(), DrainFault>
+) -> Result<(), EntryFault>
     ensures scenario { M.scenario machine.new ≡ M.scenario machine.old }
     ensures capacity { M.capacity machine.new ≡ M.capacity machine.old }
     ensures acts { let s = M.scenario machine.old in let layout = layout_of s in let past = M.journal machine.old in Acts s result past (plan.unloaded layout (find (plan.may_leave node source dest) (standings layout past)) past) (M.journal machine.new) }
@@ -202,7 +202,7 @@ fn page_out_spare<M: Machine>(
     node: NodeId,
     source: EndpointId,
     dest: EndpointId,
-) -> Result<(), DrainFault>
+) -> Result<(), EntryFault>
     ensures scenario { M.scenario machine.new ≡ M.scenario machine.old }
     ensures capacity { M.capacity machine.new ≡ M.capacity machine.old }
     ensures acts { let s = M.scenario machine.old in Acts s result (M.journal machine.old) (plan.kept (layout_of s) s.keep node source dest (M.journal machine.old)) (M.journal machine.new) }
@@ -222,7 +222,7 @@ fn empty_frame<M: Machine>(
     node: NodeId,
     source: EndpointId,
     dest: EndpointId,
-) -> Result<(), DrainFault>
+) -> Result<(), EntryFault>
     ensures scenario { M.scenario machine.new ≡ M.scenario machine.old }
     ensures capacity { M.capacity machine.new ≡ M.capacity machine.old }
     ensures acts { let s = M.scenario machine.old in Acts s result (M.journal machine.old) (plan.emptied (layout_of s) s.keep node source dest (M.journal machine.old)) (M.journal machine.new) }
@@ -248,7 +248,7 @@ fn make_frame<M: Machine>(
     end: EndpointId,
     source: EndpointId,
     dest: EndpointId,
-) -> Result<(), DrainFault>
+) -> Result<(), EntryFault>
     requires { is_seat (layout_of (M.scenario machine.old)) node end ≡ true }
     ensures scenario { M.scenario machine.new ≡ M.scenario machine.old }
     ensures capacity { M.capacity machine.new ≡ M.capacity machine.old }
@@ -262,7 +262,7 @@ fn make_frame<M: Machine>(
 }
 
 /// An endpoint on the host goes into the least free frame.
-fn load<M: Machine>(machine: &mut M, node: NodeId, end: EndpointId) -> Result<(), DrainFault>
+fn load<M: Machine>(machine: &mut M, node: NodeId, end: EndpointId) -> Result<(), EntryFault>
     requires { is_seat (layout_of (M.scenario machine.old)) node end ≡ true }
     ensures scenario { M.scenario machine.new ≡ M.scenario machine.old }
     ensures capacity { M.capacity machine.new ≡ M.capacity machine.old }
@@ -284,7 +284,7 @@ fn fill_frame<M: Machine>(
     end: EndpointId,
     source: EndpointId,
     dest: EndpointId,
-) -> Result<(), DrainFault>
+) -> Result<(), EntryFault>
     requires { is_seat (layout_of (M.scenario machine.old)) node end ≡ true }
     ensures scenario { M.scenario machine.new ≡ M.scenario machine.old }
     ensures capacity { M.capacity machine.new ≡ M.capacity machine.old }
@@ -303,7 +303,7 @@ fn seat<M: Machine>(
     end: EndpointId,
     source: EndpointId,
     dest: EndpointId,
-) -> Result<(), DrainFault>
+) -> Result<(), EntryFault>
     requires { is_seat (layout_of (M.scenario machine.old)) node end ≡ true }
     ensures scenario { M.scenario machine.new ≡ M.scenario machine.old }
     ensures capacity { M.capacity machine.new ≡ M.capacity machine.old }
@@ -322,7 +322,7 @@ pub(crate) fn ready<M: Machine>(
     end: EndpointId,
     source: EndpointId,
     dest: EndpointId,
-) -> Result<(), DrainFault>
+) -> Result<(), EntryFault>
     requires { is_seat (layout_of (M.scenario machine.old)) node end ≡ true }
     ensures scenario { M.scenario machine.new ≡ M.scenario machine.old }
     ensures capacity { M.capacity machine.new ≡ M.capacity machine.old }
@@ -346,7 +346,7 @@ pub(crate) fn ready_dest<M: Machine>(
     machine: &mut M,
     source: EndpointId,
     dest: EndpointId,
-) -> Result<(), DrainFault>
+) -> Result<(), EntryFault>
     ensures scenario { M.scenario machine.new ≡ M.scenario machine.old }
     ensures capacity { M.capacity machine.new ≡ M.capacity machine.old }
     ensures acts { let s = M.scenario machine.old in Acts s result (M.journal machine.old) (plan.ready_dest (layout_of s) s.keep source dest (M.journal machine.old)) (M.journal machine.new) }

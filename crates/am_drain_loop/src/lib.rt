@@ -23,22 +23,12 @@ mod pages;
 mod rules;
 mod turns;
 
+pub use am_model::EntryFault;
 use am_model::{Head, Queued};
 use am_names::{EndpointId, NodeId};
-use am_office::{Condition, Event, Part};
+use am_office::Event;
 use am_scenario_types::ScriptCall;
 pub use rules::{next_turn, receipt};
-
-/// Why a drain ended before all was at rest. The entries that were made before it stand.
-#[derive(Clone, Copy, PartialEq, Eq, Debug)]
-pub enum DrainFault {
-    /// The next event is one that the machine may not make, for this condition.
-    NotEnabled(Condition),
-    /// The log of this part is full, and the next entry would have to go into it.
-    LogFull(Part),
-    /// There is no memory for an entry.
-    NoMemory,
-}
 
 /// An endpoint, and what is known of it wherever it lies.
 #[derive(Clone, Copy, PartialEq, Eq, Debug)]
@@ -156,7 +146,7 @@ pub trait Machine {
         ensures in_range { IfSome result (λ left. is_in_range (layout_of (scenario self.now)) (call_event left.call) ≡ true) };
 
     /// Makes the entry of an event. A fault changes nothing.
-    fn apply(&mut self, event: Event) -> Result<(), DrainFault>
+    fn apply(&mut self, event: Event) -> Result<(), EntryFault>
         requires { is_in_range (layout_of (scenario self.old)) event ≡ true }
         ensures scenario { scenario self.new ≡ scenario self.old }
         ensures capacity { capacity self.new ≡ capacity self.old }
@@ -168,7 +158,7 @@ pub trait Machine {
 /// what the drain makes of the one before, and no entry met a full log. LogFull: it is what the drain makes before the first
 /// entry that meets a full log, which is the part's. NotEnabled: before the first entry whose event has this condition
 /// against it. NoMemory: it is a beginning of what the drain makes.
-pub fn drain<M: Machine>(machine: &mut M) -> Result<(), DrainFault>
+pub fn drain<M: Machine>(machine: &mut M) -> Result<(), EntryFault>
     ensures scenario { M.scenario machine.new ≡ M.scenario machine.old }
     ensures drained { OnOk result (IsDrainedWithRoom (M.scenario machine.old) (M.journal machine.old) (M.journal machine.new)) }
     ensures stopped { IfErr result (λ fault. IsDrainStopped (M.scenario machine.old) (M.journal machine.old) fault (M.journal machine.new)) }

@@ -9,7 +9,8 @@ ghost use Rattle.am_model.specs.History.{is_in_range};
 ghost use Rattle.am_model.specs.Layout as layouts;
 ghost use Rattle.std.specs.Prelude.{◌≡◌, true};
 
-use crate::{DrainFault, Machine};
+use crate::Machine;
+use am_model::EntryFault;
 use am_names::{EndpointId, NodeId};
 use am_office::{Event, Place};
 
@@ -28,7 +29,7 @@ pub(crate) fn apply_if<M: Machine>(
     machine: &mut M,
     condition: bool,
     event: Event,
-) -> Result<(), DrainFault>
+) -> Result<(), EntryFault>
     requires { is_in_range (layout_of (M.scenario machine.old)) event ≡ true }
     ensures scenario { M.scenario machine.new ≡ M.scenario machine.old }
     ensures capacity { M.capacity machine.new ≡ M.capacity machine.old }
@@ -46,7 +47,7 @@ pub(crate) fn off_disk<M: Machine>(
     machine: &mut M,
     node: NodeId,
     end: EndpointId,
-) -> Result<(), DrainFault>
+) -> Result<(), EntryFault>
     requires { is_seat (layout_of (M.scenario machine.old)) node end ≡ true }
     ensures scenario { M.scenario machine.new ≡ M.scenario machine.old }
     ensures capacity { M.capacity machine.new ≡ M.capacity machine.old }
@@ -67,7 +68,7 @@ pub(crate) fn off_disk<M: Machine>(
 pub(crate) fn off_disk_at_home<M: Machine>(
     machine: &mut M,
     end: EndpointId,
-) -> Result<(), DrainFault>
+) -> Result<(), EntryFault>
     ensures scenario { M.scenario machine.new ≡ M.scenario machine.old }
     ensures capacity { M.capacity machine.new ≡ M.capacity machine.old }
     ensures acts { let layout = layout_of (M.scenario machine.old) in Acts (M.scenario machine.old) result (M.journal machine.old) (plan.off_disk_at (layouts.home layout end) layout end (M.journal machine.old)) (M.journal machine.new) }

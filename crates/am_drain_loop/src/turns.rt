@@ -7,10 +7,11 @@ ghost use Rattle.am_follow.specs.Layout.{layout_of};
 ghost use Rattle.am_model.specs.History.{is_in_range};
 ghost use Rattle.std.specs.Prelude.{◌≡◌, ◌≤◌, length, true, OnOk};
 
+use crate::Machine;
 use crate::frames::{ready, ready_dest};
 use crate::pages::off_disk_at_home;
-use crate::{DrainFault, Machine};
 use am_drain::Turn;
+use am_model::EntryFault;
 use am_names::{EndpointId, Message, NodeId};
 use am_office::{Actor, Event};
 use am_scenario_types::ScriptCall;
@@ -21,7 +22,7 @@ fn send_to<M: Machine>(
     node: NodeId,
     end: EndpointId,
     dest: EndpointId,
-) -> Result<(), DrainFault>
+) -> Result<(), EntryFault>
     requires { is_seat (layout_of (M.scenario machine.old)) node end ≡ true }
     ensures scenario { M.scenario machine.new ≡ M.scenario machine.old }
     ensures capacity { M.capacity machine.new ≡ M.capacity machine.old }
@@ -40,7 +41,7 @@ fn send<M: Machine>(
     node: NodeId,
     end: EndpointId,
     message: Message,
-) -> Result<(), DrainFault>
+) -> Result<(), EntryFault>
     requires { is_seat (layout_of (M.scenario machine.old)) node end ≡ true }
     ensures scenario { M.scenario machine.new ≡ M.scenario machine.old }
     ensures capacity { M.capacity machine.new ≡ M.capacity machine.old }
@@ -54,7 +55,7 @@ fn send<M: Machine>(
 }
 
 /// Makes the next call of a thread, once its endpoint is off the disk.
-fn make<M: Machine>(machine: &mut M, call: ScriptCall) -> Result<(), DrainFault>
+fn make<M: Machine>(machine: &mut M, call: ScriptCall) -> Result<(), EntryFault>
     requires { is_in_range (layout_of (M.scenario machine.old)) (call_event call) ≡ true }
     ensures scenario { M.scenario machine.new ≡ M.scenario machine.old }
     ensures capacity { M.capacity machine.new ≡ M.capacity machine.old }
@@ -72,7 +73,7 @@ fn make<M: Machine>(machine: &mut M, call: ScriptCall) -> Result<(), DrainFault>
 }
 
 /// Does a turn.
-pub(crate) fn do_turn<M: Machine>(machine: &mut M, turn: Turn) -> Result<(), DrainFault>
+pub(crate) fn do_turn<M: Machine>(machine: &mut M, turn: Turn) -> Result<(), EntryFault>
     requires { is_turn_in_range (layout_of (M.scenario machine.old)) turn ≡ true }
     ensures scenario { M.scenario machine.new ≡ M.scenario machine.old }
     ensures capacity { M.capacity machine.new ≡ M.capacity machine.old }

@@ -17,7 +17,7 @@ use Rattle.am_office.specs.declared.Place.{Place}
 use Rattle.am_office.specs.declared.Place.TheVariants.{Host, Disk, Frame, Direct}
 use Rattle.am_model.specs.Endpoint.{State, Body, is_on_disk}
 use Rattle.am_model.specs.Changes.{has_queued, has_arrivals}
-use Rattle.am_model.specs.Layout.{Layout, EndSetting, AllAre, IsLawful, IsSettingLawful, has_id, declared}
+use Rattle.am_model.specs.Layout.{Layout, EndSetting, AllAre, IsLawful, IsSettingLawful, has_id, declared, node_at}
 use Rattle.am_model.specs.History.{MayFollow, IsHistory, state_of, failing, is_in_range, is_home, is_bound, channel_to}
 use Rattle.am_model.proofs.Each.{each_push}
 use Rattle.am_laws_messages.proofs.Alls.{all_map}
@@ -25,7 +25,7 @@ use Rattle.am_scenario_types.specs.declared.parts.Network.TheVariants.{Packet}
 use Rattle.am_scenario_types.specs.Lists.{ScenarioLists}
 use Rattle.am_follow.specs.Layout.{is_direct, layout_of}
 use Rattle.am_follow.proofs.Lawful.{lawful_layout}
-use Rattle.am_scripts.specs.Links.{first_some, node_at, nodes_of}
+use Rattle.am_scripts.specs.Links.{first_some, nodes_of}
 use Rattle.am_scripts.specs.Standings.{Standing, standings, is_missed}
 use Rattle.am_scripts.proofs.Lists.{some_mapped, none_mapped, none_all, found_in, found_true}
 use Rattle.am_drain.specs.declared.Turn.{Turn}

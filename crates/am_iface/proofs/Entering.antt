@@ -9,12 +9,13 @@ use Rattle.am_office.specs.declared.Entry.{Entry}
 use Rattle.am_office.specs.Entries.{emitted_of}
 use Rattle.am_model.specs.Channels.{Channel, emitted}
 use Rattle.am_model.specs.History.{channel_to}
+use Rattle.am_model.specs.Layout.{node_at}
 use Rattle.am_channel.specs.declared.ends.Ends.{Ends}
 use Rattle.am_channel_laws.specs.Counted.{AreCounted}
 use Rattle.am_channel_laws.proofs.Pushes.{call_counted}
 use Rattle.am_channel_laws.proofs.Apart.{call_apart}
 use Rattle.am_iface.specs.Settings.{SettingsView}
-use Rattle.am_iface.specs.Kept.{AreOfLog, AreEndsOf, AreEmissionsOf, IsCounted, node_of, settings_in, view_of}
+use Rattle.am_iface.specs.Kept.{AreOfLog, AreEndsOf, AreEmissionsOf, IsCounted, settings_in, view_of}
 use Rattle.am_iface.specs.View.{InterfaceView, own}
 use Rattle.am_iface.specs.declared.Interface.TheInside.{Inside}
 use Rattle.am_local.specs.Interface.{channel_in}
@@ -43,16 +44,16 @@ ends_made node peer channel log ends new x below are made to k e lt got =
     counted_now : AreCounted (channel_to node peer channel) (log ++ x ∷ []) new
     counted_now = subst (λ (f : Ends). AreCounted (channel_to node peer channel) (log ++ x ∷ []) f) (sym made.leaves) (call_counted (channel_to node peer channel) log made.old made.call x made.counted made.tells)
 
-    here : (4 * to + k ≡ 4 * peer.0 + channel) × (e ≡ new) → AreCounted (channel_to node (node_of to) k) (log ++ x ∷ []) e
+    here : (4 * to + k ≡ 4 * peer.0 + channel) × (e ≡ new) → AreCounted (channel_to node (node_at to) k) (log ++ x ∷ []) e
     here both =
         let same_peer : peer.0 ≡ to = omega (arith, both.0) in
         let same_channel : channel ≡ k = omega (arith, both.0) in
-        subst (λ (f : Ends). AreCounted (channel_to node (node_of to) k) (log ++ x ∷ []) f) (sym both.1)
-        (subst (λ (c : Channel). AreCounted c (log ++ x ∷ []) new) (λ i. channel_to node (node_of (same_peer i)) (same_channel i)) counted_now)
+        subst (λ (f : Ends). AreCounted (channel_to node (node_at to) k) (log ++ x ∷ []) f) (sym both.1)
+        (subst (λ (c : Channel). AreCounted c (log ++ x ∷ []) new) (λ i. channel_to node (node_at (same_peer i)) (same_channel i)) counted_now)
 
-    there : (4 * to + k ≡ 4 * peer.0 + channel → ⊥) × (slice_get ends (4 * to + k) ≡ Some e) → AreCounted (channel_to node (node_of to) k) (log ++ x ∷ []) e
+    there : (4 * to + k ≡ 4 * peer.0 + channel → ⊥) × (slice_get ends (4 * to + k) ≡ Some e) → AreCounted (channel_to node (node_at to) k) (log ++ x ∷ []) e
     there both =
-        call_apart (channel_to node (node_of to) k) (channel_to node peer channel) log e made.old made.call x (are to k e lt both.1) made.tells
+        call_apart (channel_to node (node_at to) k) (channel_to node peer channel) log e made.old made.call x (are to k e lt both.1) made.tells
         (λ same.
         let same_peer : peer.0 ≡ to = ap (λ (c : Channel). c.peer.0) same in
         let same_channel : channel ≡ k = ap (λ (c : Channel). c.number) same in
@@ -91,22 +92,22 @@ emissions_made node peer channel log counts n new x are made was to k got =
           omega (arith, old.1, at_most (is_some (emitted_of x)), length_push log x),
         )
 
-    here : (to ≡ peer.0) × (k ≡ n + bit (is_some (emitted_of x))) → (k ≡ length (emitted node (node_of to) (log ++ x ∷ []))) × (k ≤ length (log ++ x ∷ []))
+    here : (to ≡ peer.0) × (k ≡ n + bit (is_some (emitted_of x))) → (k ≡ length (emitted node (node_at to) (log ++ x ∷ []))) × (k ≤ length (log ++ x ∷ []))
     here both =
-        (both.1 ∙ at_peer.0 ∙ (λ i. length (emitted node (node_of (sym both.0 i)) (log ++ x ∷ []))), omega (arith, both.1, at_peer.1))
+        (both.1 ∙ at_peer.0 ∙ (λ i. length (emitted node (node_at (sym both.0 i)) (log ++ x ∷ []))), omega (arith, both.1, at_peer.1))
 
-    there : (to ≡ peer.0 → ⊥) × (slice_get counts to ≡ Some k) → (k ≡ length (emitted node (node_of to) (log ++ x ∷ []))) × (k ≤ length (log ++ x ∷ []))
+    there : (to ≡ peer.0 → ⊥) × (slice_get counts to ≡ Some k) → (k ≡ length (emitted node (node_at to) (log ++ x ∷ []))) × (k ≤ length (log ++ x ∷ []))
     there both =
         let old = are to k both.1 in
-        let other : same_node (node_of to) peer ≡ false = eqb_apart to peer.0 both.0 in (
+        let other : same_node (node_at to) peer ≡ false = eqb_apart to peer.0 both.0 in (
           old.0
-              ∙ sym (no_more (length (emitted node (node_of to) log)))
-              ∙ ap (λ (m : ℕ). length (emitted node (node_of to) log) + m) (sym (and_false (is_some (emitted_of x)) (same_node (node_of to) peer) other))
-              ∙ sym (more (node_of to)),
+              ∙ sym (no_more (length (emitted node (node_at to) log)))
+              ∙ ap (λ (m : ℕ). length (emitted node (node_at to) log) + m) (sym (and_false (is_some (emitted_of x)) (same_node (node_at to) peer) other))
+              ∙ sym (more (node_at to)),
           omega (arith, old.1, length_push log x),
         )
       where
-        eqb_apart : (a b : ℕ) → (a ≡ b → ⊥) → same_node (node_of a) (node_of b) ≡ false
+        eqb_apart : (a b : ℕ) → (a ≡ b → ⊥) → same_node (node_at a) (node_at b) ≡ false
         eqb_apart a b apart = by_test (a == b) refl
           where
             by_test : (t : Bool) → (a == b) ≡ t → t ≡ false

@@ -10,13 +10,13 @@ use Rattle.am_model.specs.Endpoint.{State}
 use Rattle.am_local.specs.declared.work.Work.{Work}
 use Rattle.am_local.specs.Interface.{event_of, failing_at, outcome_at}
 use Rattle.am_iface.specs.declared.Turned.{Turned}
-use Rattle.am_iface.specs.declared.IfaceFault.{IfaceFault}
-use Rattle.am_iface.specs.declared.IfaceFault.TheVariants as Faults
+use Rattle.am_model.specs.declared.EntryFault.{EntryFault}
+use Rattle.am_model.specs.declared.EntryFault.TheVariants as Faults
 use Rattle.am_iface.specs.View.{InterfaceView, own}
 use Rattle.am_iface.specs.Turns.{Turns}
 
 -- what logging an entry answers
-pub record Enters (old new : InterfaceView) (x : Entry) (result : Result Turned IfaceFault) : Type 0 where
+pub record Enters (old new : InterfaceView) (x : Entry) (result : Result Turned EntryFault) : Type 0 where
   pub turned : IfOk result (λ (t : Turned). t ≡ record { entry = x; out = emitted_of x })
   pub logged : OnOk result (new ≡ record old { log = old.log ++ x ∷ [] })
   pub enabled : (c : Condition) → result ≢ Err (Faults.NotEnabled c)
@@ -30,7 +30,7 @@ pub record IsEntryOf (old : InterfaceView) (s : State) (stamp : ℕ) (w : Work) 
   pub stamped : x.stamp ≡ stamp
   pub enabled : failing_at (own old) s w ≡ None
 
-pub turns_by_entering : (old new : InterfaceView) (s : State) (stamp : ℕ) (w : Work) (x : Entry) (result : Result Turned IfaceFault) → IsEntryOf old s stamp w x → Enters old new x result → Turns old new s stamp w result
+pub turns_by_entering : (old new : InterfaceView) (s : State) (stamp : ℕ) (w : Work) (x : Entry) (result : Result Turned EntryFault) → IsEntryOf old s stamp w x → Enters old new x result → Turns old new s stamp w result
 turns_by_entering old new s stamp w x (Ok t) is enters =
     let entry : t.entry ≡ x = ap (λ (u : Turned). u.entry) enters.turned in
     record {

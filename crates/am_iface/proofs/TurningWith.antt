@@ -9,8 +9,8 @@ use Rattle.am_endpoint.specs.View.{EndpointView, state_after}
 use Rattle.am_local.specs.Interface.{failing_at}
 use Rattle.am_local.specs.declared.work.Work.{Work}
 use Rattle.am_iface.specs.declared.Turned.{Turned}
-use Rattle.am_iface.specs.declared.IfaceFault.{IfaceFault}
-use Rattle.am_iface.specs.declared.IfaceFault.TheVariants as Faults
+use Rattle.am_model.specs.declared.EntryFault.{EntryFault}
+use Rattle.am_model.specs.declared.EntryFault.TheVariants as Faults
 use Rattle.am_iface.specs.View.{InterfaceView, own}
 use Rattle.am_iface.specs.With.{IsFullOf, TurnsWith}
 use Rattle.am_iface.proofs.Turning.{IsEntryOf}
@@ -21,7 +21,7 @@ no_full_log v e p here there full =
     ⊎_elim (λ first. omega (arith, first.1, there)) (λ second. omega (arith, second.1.1, here)) full
 
 -- what logging an entry in the interface answers, once both logs have room
-pub record EntersWith (old new : InterfaceView) (e : EndpointView) (x : Entry) (result : Result Turned IfaceFault) : Type 0 where
+pub record EntersWith (old new : InterfaceView) (e : EndpointView) (x : Entry) (result : Result Turned EntryFault) : Type 0 where
   pub turned : IfOk result (λ (t : Turned). t ≡ record { entry = x; out = emitted_of x })
   pub logged : OnOk result (new ≡ record old { log = old.log ++ x ∷ [] })
   pub enabled : (c : Condition) → result ≢ Err (Faults.NotEnabled c)
@@ -29,12 +29,12 @@ pub record EntersWith (old new : InterfaceView) (e : EndpointView) (x : Entry) (
   pub err : OnErr result (new ≡ old)
 
 -- what becomes of the endpoint
-pub record Follows (e f : EndpointView) (x : Entry) (result : Result Turned IfaceFault) : Type 0 where
+pub record Follows (e f : EndpointView) (x : Entry) (result : Result Turned EntryFault) : Type 0 where
   pub same : f.settings ≡ e.settings
   pub there : OnOk result (f.log ≡ e.log ++ x ∷ [])
   pub err : OnErr result (f.log ≡ e.log)
 
-pub turns_with : (old new : InterfaceView) (e f : EndpointView) (stamp : ℕ) (w : Work) (x : Entry) (result : Result Turned IfaceFault) → IsEntryOf old (state_after e) stamp w x → EntersWith old new e x result → Follows e f x result → TurnsWith old new e f stamp w result
+pub turns_with : (old new : InterfaceView) (e f : EndpointView) (stamp : ℕ) (w : Work) (x : Entry) (result : Result Turned EntryFault) → IsEntryOf old (state_after e) stamp w x → EntersWith old new e x result → Follows e f x result → TurnsWith old new e f stamp w result
 turns_with old new e f stamp w x (Ok t) is enters follows =
     let entry : t.entry ≡ x = ap (λ (u : Turned). u.entry) enters.turned in
     record {

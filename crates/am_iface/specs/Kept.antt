@@ -4,6 +4,7 @@ use Rattle.am_names.specs.declared.NodeId.{NodeId}
 use Rattle.am_office.specs.declared.Entry.{Entry}
 use Rattle.am_model.specs.Channels.{emitted}
 use Rattle.am_model.specs.History.{channel_to}
+use Rattle.am_model.specs.Layout.{node_at}
 use Rattle.am_channel.specs.declared.ends.Ends.{Ends}
 use Rattle.am_channel_laws.specs.Counted.{AreCounted}
 use Rattle.am_iface.specs.Settings.{AreLawful, SettingsView}
@@ -25,18 +26,15 @@ settings_in i =
 abbrev pub view_of : Inside → InterfaceView
 view_of i = record { settings = settings_in i; log = i.log.items }
 
-abbrev pub node_of : ℕ → NodeId
-node_of n = record { 0 = n }
-
 -- the ends of the channels to each peer, four to a peer
 abbrev pub AreEndsOf : NodeId → List Entry → List Ends → Type 0
 AreEndsOf node log ends =
-    (peer channel : ℕ) (e : Ends) → channel < 4 → slice_get ends (4 * peer + channel) ≡ Some e → AreCounted (channel_to node (node_of peer) channel) log e
+    (peer channel : ℕ) (e : Ends) → channel < 4 → slice_get ends (4 * peer + channel) ≡ Some e → AreCounted (channel_to node (node_at peer) channel) log e
 
 -- the numbers of packets to each peer, each at most the number of entries
 abbrev pub AreEmissionsOf : NodeId → List Entry → List ℕ → Type 0
 AreEmissionsOf node log counts =
-    (peer n : ℕ) → slice_get counts peer ≡ Some n → (n ≡ length (emitted node (node_of peer) log)) × (n ≤ length log)
+    (peer n : ℕ) → slice_get counts peer ≡ Some n → (n ≡ length (emitted node (node_at peer) log)) × (n ≤ length log)
 
 pub record AreOfLog (set : SettingsView) (all : List Ends) (counts : List ℕ) (log : List Entry) : Type 0 where
   pub ends : AreEndsOf set.node log all

@@ -11,8 +11,8 @@ use Rattle.am_local.specs.declared.work.Work.{Work}
 use Rattle.am_local.specs.declared.work.Work.TheVariants as Works
 use Rattle.am_local.specs.Interface.{event_of, failing_at, outcome_at}
 use Rattle.am_iface.specs.declared.Turned.{Turned}
-use Rattle.am_iface.specs.declared.IfaceFault.{IfaceFault}
-use Rattle.am_iface.specs.declared.IfaceFault.TheVariants as Faults
+use Rattle.am_model.specs.declared.EntryFault.{EntryFault}
+use Rattle.am_model.specs.declared.EntryFault.TheVariants as Faults
 use Rattle.am_iface.specs.View.{InterfaceView, last_stamp, own}
 
 -- the stamp of the packet in hand, and 0 where there is none
@@ -30,7 +30,7 @@ abbrev pub IsFull : InterfaceView → Part → Type 0
 IsFull v part = (part ≡ Parts.Interface v.settings.node) × (length v.log ≡ v.settings.log)
 
 -- where the work touches no endpoint, or one in this state
-pub record Turns (old new : InterfaceView) (s : State) (stamp : ℕ) (w : Work) (result : Result Turned IfaceFault) : Type 0 where
+pub record Turns (old new : InterfaceView) (s : State) (stamp : ℕ) (w : Work) (result : Result Turned EntryFault) : Type 0 where
   pub event : IfOk result (λ t. t.entry.event ≡ event_of old.settings.node w)
   pub outcome : IfOk result (λ t. t.entry.outcome ≡ outcome_at (own old) s w)
   pub stamped : IfOk result (λ t. t.entry.stamp ≡ stamp)

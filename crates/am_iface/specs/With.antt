@@ -14,8 +14,8 @@ use Rattle.am_model.specs.Changes.{flying_of}
 use Rattle.am_model.specs.Endpoint.{State, front}
 use Rattle.am_local.specs.Interface.{InterfaceLog, event_of, failing_at, home_in, outcome_at}
 use Rattle.am_iface.specs.declared.Turned.{Turned}
-use Rattle.am_iface.specs.declared.IfaceFault.{IfaceFault}
-use Rattle.am_iface.specs.declared.IfaceFault.TheVariants as Faults
+use Rattle.am_model.specs.declared.EntryFault.{EntryFault}
+use Rattle.am_model.specs.declared.EntryFault.TheVariants as Faults
 use Rattle.am_iface.specs.View.{InterfaceView, own}
 use Rattle.am_iface.specs.Turns.{IsFull}
 
@@ -23,7 +23,7 @@ use Rattle.am_iface.specs.Turns.{IsFull}
 abbrev pub IsFullOf : InterfaceView → EndpointView → Part → Type 0
 IsFullOf v e part = ((part ≡ Parts.Endpoint e.settings.id) × (length e.log ≡ e.settings.log)) ⊎ ((length e.log ≢ e.settings.log) × IsFull v part)
 
-pub record TurnsWith (old new : InterfaceView) (e f : EndpointView) (stamp : ℕ) (w : Work) (result : Result Turned IfaceFault) : Type 0 where
+pub record TurnsWith (old new : InterfaceView) (e f : EndpointView) (stamp : ℕ) (w : Work) (result : Result Turned EntryFault) : Type 0 where
   pub event : IfOk result (λ t. t.entry.event ≡ event_of old.settings.node w)
   pub outcome : IfOk result (λ t. t.entry.outcome ≡ outcome_at (own old) (state_after e) w)
   pub stamped : IfOk result (λ t. t.entry.stamp ≡ stamp)

@@ -20,10 +20,10 @@ ghost use Rattle.std.specs.Prelude.{◌≡◌, ◌≢◌, ◌↔◌, ◌-◌, �
 use crate::by_ends::{bind, first_try};
 use crate::entries::{bind_entry, sent};
 use crate::packets::emitted_of;
-use crate::{IfaceFault, Interface, Turned, write};
+use crate::{Interface, Turned, write};
 use am_channel::Ends;
 use am_endpoint::Endpoint;
-use am_model::Queued;
+use am_model::{EntryFault, Queued};
 use am_names::{EndpointId, Message, NodeId};
 use am_office::{Condition, Entry, Part, Place};
 
@@ -111,7 +111,7 @@ impl Interface {
         message: Message,
         entry: Entry,
         endpoint: &mut Endpoint,
-    ) -> Result<Turned, IfaceFault>
+    ) -> Result<Turned, EntryFault>
         requires peer { peer.0 < self.old.settings.nodes }
         requires channel { channel < self.old.settings.channels }
         requires idle { IsNone idle.sending.bound }
@@ -122,8 +122,8 @@ impl Interface {
         ensures logged { OnOk result (self.new ≡ record self.old { log = self.old.log ++ entry ∷ [] }) }
         ensures there { OnOk result (endpoint.new.log ≡ endpoint.old.log ++ entry ∷ []) }
         ensures settings { endpoint.new.settings ≡ endpoint.old.settings }
-        ensures enabled { (c : Condition) → result ≢ Err (IfaceFault.NotEnabled c) }
-        ensures full { (p : Part) → (result ≡ Err (IfaceFault.LogFull p)) ↔ IsFullOf self.old endpoint.old p }
+        ensures enabled { (c : Condition) → result ≢ Err (EntryFault.NotEnabled c) }
+        ensures full { (p : Part) → (result ≡ Err (EntryFault.LogFull p)) ↔ IsFullOf self.old endpoint.old p }
         ensures err { OnErr result (self.new ≡ self.old) }
         ensures err_there { OnErr result (endpoint.new.log ≡ endpoint.old.log) }
     {
@@ -131,7 +131,7 @@ impl Interface {
             return Err(fault);
         }
         if self.log.reserve(1).is_err() {
-            return Err(IfaceFault::NoMemory);
+            return Err(EntryFault::NoMemory);
         }
         let mut ends = idle;
         bind(&mut ends, message, endpoint.take(entry));
@@ -156,7 +156,7 @@ impl Interface {
         peer: NodeId,
         channel: u8,
         endpoint: &mut Endpoint,
-    ) -> Result<Turned, IfaceFault>
+    ) -> Result<Turned, EntryFault>
         requires enabled { failing_at (own self.old) (state_after endpoint.old) (Works.Bind endpoint.old.settings.id) ≡ None }
         requires at { home_in (own self.old) endpoint.old.settings.id ≡ Some endpoint.old.settings.node }
         requires packet { is_direct (state_after endpoint.old).head.place ≡ false }
@@ -175,7 +175,7 @@ impl Interface {
     }
 
     /// Binds the front message, which nothing keeps from being bound.
-    fn bind_front(&mut self, stamp: u64, endpoint: &mut Endpoint) -> Result<Turned, IfaceFault>
+    fn bind_front(&mut self, stamp: u64, endpoint: &mut Endpoint) -> Result<Turned, EntryFault>
         requires enabled { failing_at (own self.old) (state_after endpoint.old) (Works.Bind endpoint.old.settings.id) ≡ None }
         requires at { home_in (own self.old) endpoint.old.settings.id ≡ Some endpoint.old.settings.node }
         requires packet { is_direct (state_after endpoint.old).head.place ≡ false }
@@ -198,14 +198,14 @@ impl Interface {
         &mut self,
         stamp: u64,
         endpoint: &mut Endpoint,
-    ) -> Result<Turned, IfaceFault>
+    ) -> Result<Turned, EntryFault>
         requires at { home_in (own self.old) endpoint.old.settings.id ≡ Some endpoint.old.settings.node }
         requires packet { is_direct (state_after endpoint.old).head.place ≡ false }
         requires known { IsHomeKnown (own self.old) (front (state_after endpoint.old)) }
         ensures { TurnsWith self.old self.new endpoint.old endpoint.new stamp (Works.Bind endpoint.old.settings.id) result }
     {
         match self.disabled_bind(endpoint.id(), endpoint) {
-            Some(why) => Err(IfaceFault::NotEnabled(why)),
+            Some(why) => Err(EntryFault::NotEnabled(why)),
             None => self.bind_front(stamp, endpoint),
         }
     }

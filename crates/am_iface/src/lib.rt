@@ -44,6 +44,7 @@ pub use am_channel::Bound;
 use am_channel::{Ends, TimedOut};
 use am_endpoint::Endpoint;
 pub use am_local::work::Work;
+pub use am_model::EntryFault;
 use am_names::{AnswerPacket, EndpointId, NodeId, Packet, Parcel};
 pub use am_office::NoMemory;
 use am_office::{Condition, Entry, Part, Received};
@@ -55,17 +56,6 @@ use std::marker::Model;
 pub struct Turned {
     pub entry: Entry,
     pub out: Option<Packet>,
-}
-
-/// Why a turn did nothing.
-#[derive(Clone, Copy, PartialEq, Eq, Debug)]
-pub enum IfaceFault {
-    /// The work can't be done: this is the first condition that fails.
-    NotEnabled(Condition),
-    /// The work can be done, and the log of this part has as many entries as it may.
-    LogFull(Part),
-    /// There is no memory for one more entry.
-    NoMemory,
 }
 
 /// An interface with its log. Contracts see what it began with and its log. Its channels' ends, their slots aside, and the
@@ -240,21 +230,21 @@ impl Interface {
         channel: u8,
         ends: Ends,
         entry: Entry,
-    ) -> Result<Turned, IfaceFault>
+    ) -> Result<Turned, EntryFault>
         requires peer { peer.0 < self.old.settings.nodes }
         requires channel { channel < self.old.settings.channels }
         requires made { IsMade (channel_in (own self.old) peer channel) self.old.log ends entry }
         ensures turned { IfOk result (λ t. t ≡ record { entry = entry; out = emitted_of entry }) }
         ensures logged { OnOk result (self.new ≡ record self.old { log = self.old.log ++ entry ∷ [] }) }
-        ensures enabled { (c : Condition) → result ≢ Err (IfaceFault.NotEnabled c) }
-        ensures full { (p : Part) → (result ≡ Err (IfaceFault.LogFull p)) ↔ ((p ≡ Part.Interface self.old.settings.node) × (length self.old.log ≡ self.old.settings.log)) }
+        ensures enabled { (c : Condition) → result ≢ Err (EntryFault.NotEnabled c) }
+        ensures full { (p : Part) → (result ≡ Err (EntryFault.LogFull p)) ↔ ((p ≡ Part.Interface self.old.settings.node) × (length self.old.log ≡ self.old.settings.log)) }
         ensures err { OnErr result (self.new ≡ self.old) }
     {
         if self.log.len() >= self.limits.log as usize {
-            return Err(IfaceFault::LogFull(Part::Interface(self.limits.node)));
+            return Err(EntryFault::LogFull(Part::Interface(self.limits.node)));
         }
         if self.log.reserve(1).is_err() {
-            return Err(IfaceFault::NoMemory);
+            return Err(EntryFault::NoMemory);
         }
         let out = packets::emitted_of(&entry);
         write(
@@ -299,7 +289,7 @@ impl Interface {
     }
 
     /// Receives a parcel that is stale or comes again.
-    fn receive_again(&mut self, stamp: u64, p: &Parcel) -> Result<Turned, IfaceFault>
+    fn receive_again(&mut self, stamp: u64, p: &Parcel) -> Result<Turned, EntryFault>
         requires fits { FitsParcel self.old.settings p.now }
         requires known { needs_arrival p.now.message.dest (arrival_in (own self.old) p.now.from p.now.channel p.now.seq p.now.attempt) ≡ None }
         ensures { (s : State) → Turns self.old self.new s stamp (Works.Receive (Packets.Parcel p.now)) result }
@@ -312,7 +302,7 @@ impl Interface {
     }
 
     /// Receives an answer that counts for nothing.
-    fn receive_nothing(&mut self, stamp: u64, p: &AnswerPacket) -> Result<Turned, IfaceFault>
+    fn receive_nothing(&mut self, stamp: u64, p: &AnswerPacket) -> Result<Turned, EntryFault>
         requires fits { FitsAnswer self.old.settings p.now }
         requires nothing { needs (own self.old) (Works.Receive (Packets.Answer p.now)) ≡ None }
         ensures { (s : State) → Turns self.old self.new s stamp (Works.Receive (Packets.Answer p.now)) result }
@@ -344,14 +334,14 @@ impl Interface {
     }
 
     /// Lets a channel time out that is idle or has a try left.
-    fn expire_alone(&mut self, stamp: u64, peer: NodeId, channel: u8) -> Result<Turned, IfaceFault>
+    fn expire_alone(&mut self, stamp: u64, peer: NodeId, channel: u8) -> Result<Turned, EntryFault>
         requires on { IsChannelOf self.old.settings peer channel }
         requires alone { needs (own self.old) (Works.Expire peer channel) ≡ None }
         ensures { (s : State) → Turns self.old self.new s stamp (Works.Expire peer channel) result }
     {
         let mut ends = self.ends(peer, channel);
         let Some(bound) = ends.sending.busy() else {
-            return Err(IfaceFault::NotEnabled(Condition::Idle));
+            return Err(EntryFault::NotEnabled(Condition::Idle));
         };
         let number = self.next_number(peer);
         match time_out(&mut ends, self.tries()) {
@@ -372,7 +362,7 @@ impl Interface {
     }
 
     /// Receives a packet that touches no endpoint.
-    fn receive_alone(&mut self, stamp: u64, packet: Packet) -> Result<Turned, IfaceFault>
+    fn receive_alone(&mut self, stamp: u64, packet: Packet) -> Result<Turned, EntryFault>
         requires fits { FitsInterface self.old (Works.Receive packet) }
         requires alone { needs (own self.old) (Works.Receive packet) ≡ None }
         ensures { (s : State) → Turns self.old self.new s stamp (Works.Receive packet) result }
@@ -384,7 +374,7 @@ impl Interface {
     }
 
     /// Does a work that touches no endpoint.
-    fn work_alone(&mut self, stamp: u64, work: &Work) -> Result<Turned, IfaceFault>
+    fn work_alone(&mut self, stamp: u64, work: &Work) -> Result<Turned, EntryFault>
         requires fits { FitsInterface self.old work.now }
         requires alone { needs (own self.old) work.now ≡ None }
         ensures { (s : State) → Turns self.old self.new s stamp work.now result }
@@ -397,7 +387,7 @@ impl Interface {
     }
 
     /// Does a work that touches no endpoint, and logs its entry. Where it answers no entry, nothing has changed.
-    pub fn turn_alone(&mut self, floor: u64, work: &Work) -> Result<Turned, IfaceFault>
+    pub fn turn_alone(&mut self, floor: u64, work: &Work) -> Result<Turned, EntryFault>
         requires fits { FitsInterface self.old work.now }
         requires alone { needs (own self.old) work.now ≡ None }
         requires floor { floor + 1 < 2 ^ 64 }
@@ -412,8 +402,8 @@ impl Interface {
         ensures logged { IfOk result (λ t. self.new ≡ record self.old { log = self.old.log ++ t.entry ∷ [] }) }
 
         // the first condition that fails, or the full log where none does
-        ensures disabled { (s : State) (c : Condition) → (result ≡ Err (IfaceFault.NotEnabled c)) ↔ (failing_at (own self.old) s work.now ≡ Some c) }
-        ensures full { (s : State) (p : Part) → (result ≡ Err (IfaceFault.LogFull p)) ↔ ((failing_at (own self.old) s work.now ≡ None) × IsFull self.old p) }
+        ensures disabled { (s : State) (c : Condition) → (result ≡ Err (EntryFault.NotEnabled c)) ↔ (failing_at (own self.old) s work.now ≡ Some c) }
+        ensures full { (s : State) (p : Part) → (result ≡ Err (EntryFault.LogFull p)) ↔ ((failing_at (own self.old) s work.now ≡ None) × IsFull self.old p) }
         ensures err { OnErr result (self.new ≡ self.old) }
     {
         let stamp = self.stamp_after(floor, work);
@@ -427,7 +417,7 @@ impl Interface {
         floor: u64,
         work: &Work,
         endpoint: &mut Endpoint,
-    ) -> Result<Turned, IfaceFault>
+    ) -> Result<Turned, EntryFault>
         requires fits { FitsInterface self.old work.now }
         requires needs { needs (own self.old) work.now ≡ Some endpoint.old.settings.id }
         requires home { home_in (own self.old) endpoint.old.settings.id ≡ Some endpoint.old.settings.node }
@@ -450,8 +440,8 @@ impl Interface {
         ensures settings_there { endpoint.new.settings ≡ endpoint.old.settings }
 
         // the first condition that fails, or the first full log where none does
-        ensures disabled { (c : Condition) → (result ≡ Err (IfaceFault.NotEnabled c)) ↔ (failing_at (own self.old) (state_after endpoint.old) work.now ≡ Some c) }
-        ensures full { (p : Part) → (result ≡ Err (IfaceFault.LogFull p)) ↔ ((failing_at (own self.old) (state_after endpoint.old) work.now ≡ None) × IsFullOf self.old endpoint.old p) }
+        ensures disabled { (c : Condition) → (result ≡ Err (EntryFault.NotEnabled c)) ↔ (failing_at (own self.old) (state_after endpoint.old) work.now ≡ Some c) }
+        ensures full { (p : Part) → (result ≡ Err (EntryFault.LogFull p)) ↔ ((failing_at (own self.old) (state_after endpoint.old) work.now ≡ None) × IsFullOf self.old endpoint.old p) }
         ensures err { OnErr result (self.new ≡ self.old) }
         ensures err_there { OnErr result (endpoint.new.log ≡ endpoint.old.log) }
     {

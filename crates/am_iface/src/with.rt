@@ -20,35 +20,35 @@ ghost use Rattle.std.specs.Prelude.{◌≡◌, ◌≢◌, ◌↔◌, ◌<◌, Er
 
 use crate::by_ends::{answer, decide, time_out};
 use crate::entries::{answer_receipt, decided, give_up, parcel_receipt, settled_by};
-use crate::{IfaceFault, Interface, Turned};
+use crate::{Interface, Turned};
 use am_channel::{Ends, Settled, TimedOut};
 use am_endpoint::{EndFault, Endpoint};
 use am_local::work::Work;
-use am_model::Flying;
+use am_model::{EntryFault, Flying};
 use am_names::{AnswerPacket, Message, NodeId, Packet, Parcel, Serial, Verdict};
 use am_office::{Entry, Event, Outcome, Part};
 
 impl Interface {
     /// Makes room for one more entry in an endpoint's log and finds it in the interface's. Neither log changes.
-    pub(crate) fn room_with(&self, endpoint: &mut Endpoint) -> Result<(), IfaceFault>
+    pub(crate) fn room_with(&self, endpoint: &mut Endpoint) -> Result<(), EntryFault>
         ensures ready { OnOk result (endpoint.new.ready ≡ true) }
         ensures there { OnOk result (length endpoint.new.log < endpoint.new.settings.log) }
         ensures here { OnOk result (length self.now.log < self.now.settings.log) }
         ensures settings { endpoint.new.settings ≡ endpoint.old.settings }
         ensures log { endpoint.new.log ≡ endpoint.old.log }
-        ensures enabled { (c : Condition) → result ≢ Err (IfaceFault.NotEnabled c) }
-        ensures full { (p : Part) → (result ≡ Err (IfaceFault.LogFull p)) ↔ IsFullOf self.now endpoint.old p }
+        ensures enabled { (c : Condition) → result ≢ Err (EntryFault.NotEnabled c) }
+        ensures full { (p : Part) → (result ≡ Err (EntryFault.LogFull p)) ↔ IsFullOf self.now endpoint.old p }
     {
         let made = endpoint.room();
         if let Err(EndFault::LogFull) = made {
-            return Err(IfaceFault::LogFull(Part::Endpoint(endpoint.id())));
+            return Err(EntryFault::LogFull(Part::Endpoint(endpoint.id())));
         }
         if self.is_full() {
-            return Err(IfaceFault::LogFull(Part::Interface(self.node())));
+            return Err(EntryFault::LogFull(Part::Interface(self.node())));
         }
         match made {
             Ok(()) => Ok(()),
-            Err(_) => Err(IfaceFault::NoMemory),
+            Err(_) => Err(EntryFault::NoMemory),
         }
     }
 
@@ -61,7 +61,7 @@ impl Interface {
         ends: Ends,
         entry: Entry,
         endpoint: &mut Endpoint,
-    ) -> Result<Turned, IfaceFault>
+    ) -> Result<Turned, EntryFault>
         requires peer { peer.0 < self.old.settings.nodes }
         requires channel { channel < self.old.settings.channels }
         requires made { IsMade (channel_in (own self.old) peer channel) self.old.log ends entry }
@@ -71,8 +71,8 @@ impl Interface {
         ensures there { OnOk result (length endpoint.new.log < endpoint.new.settings.log) }
         ensures settings { endpoint.new.settings ≡ endpoint.old.settings }
         ensures log { endpoint.new.log ≡ endpoint.old.log }
-        ensures enabled { (c : Condition) → result ≢ Err (IfaceFault.NotEnabled c) }
-        ensures full { (p : Part) → (result ≡ Err (IfaceFault.LogFull p)) ↔ IsFullOf self.old endpoint.old p }
+        ensures enabled { (c : Condition) → result ≢ Err (EntryFault.NotEnabled c) }
+        ensures full { (p : Part) → (result ≡ Err (EntryFault.LogFull p)) ↔ IsFullOf self.old endpoint.old p }
         ensures err { OnErr result (self.new ≡ self.old) }
     {
         match self.room_with(endpoint) {
@@ -87,7 +87,7 @@ impl Interface {
         stamp: u64,
         p: &Parcel,
         endpoint: &mut Endpoint,
-    ) -> Result<Turned, IfaceFault>
+    ) -> Result<Turned, EntryFault>
         requires fits { FitsParcel self.old.settings p.now }
         requires needs { needs (own self.old) (Works.Receive (Packets.Parcel p.now)) ≡ Some endpoint.old.settings.id }
         requires packet { is_direct (state_after endpoint.old).head.place ≡ false }
@@ -129,7 +129,7 @@ impl Interface {
         p: &AnswerPacket,
         flight: Flying,
         endpoint: &mut Endpoint,
-    ) -> Result<Turned, IfaceFault>
+    ) -> Result<Turned, EntryFault>
         requires fits { FitsAnswer self.old.settings p.now }
         requires needs { needs (own self.old) (Works.Receive (Packets.Answer p.now)) ≡ Some endpoint.old.settings.id }
         requires packet { is_direct (state_after endpoint.old).head.place ≡ false }
@@ -159,7 +159,7 @@ impl Interface {
         channel: u8,
         flight: Flying,
         endpoint: &mut Endpoint,
-    ) -> Result<Turned, IfaceFault>
+    ) -> Result<Turned, EntryFault>
         requires on { IsChannelOf self.old.settings peer channel }
         requires needs { needs (own self.old) (Works.Expire peer channel) ≡ Some endpoint.old.settings.id }
         requires packet { is_direct (state_after endpoint.old).head.place ≡ false }
@@ -213,7 +213,7 @@ impl Interface {
         stamp: u64,
         p: &AnswerPacket,
         endpoint: &mut Endpoint,
-    ) -> Result<Turned, IfaceFault>
+    ) -> Result<Turned, EntryFault>
         requires fits { FitsAnswer self.old.settings p.now }
         requires needs { needs (own self.old) (Works.Receive (Packets.Answer p.now)) ≡ Some endpoint.old.settings.id }
         requires packet { is_direct (state_after endpoint.old).head.place ≡ false }
@@ -231,7 +231,7 @@ impl Interface {
         stamp: u64,
         packet: Packet,
         endpoint: &mut Endpoint,
-    ) -> Result<Turned, IfaceFault>
+    ) -> Result<Turned, EntryFault>
         requires fits { FitsInterface self.old (Works.Receive packet) }
         requires needs { needs (own self.old) (Works.Receive packet) ≡ Some endpoint.old.settings.id }
         requires packet { is_direct (state_after endpoint.old).head.place ≡ false }
@@ -252,7 +252,7 @@ impl Interface {
         peer: NodeId,
         channel: u8,
         endpoint: &mut Endpoint,
-    ) -> Result<Turned, IfaceFault>
+    ) -> Result<Turned, EntryFault>
         requires on { IsChannelOf self.old.settings peer channel }
         requires needs { needs (own self.old) (Works.Expire peer channel) ≡ Some endpoint.old.settings.id }
         requires packet { is_direct (state_after endpoint.old).head.place ≡ false }
@@ -270,7 +270,7 @@ impl Interface {
         stamp: u64,
         work: &Work,
         endpoint: &mut Endpoint,
-    ) -> Result<Turned, IfaceFault>
+    ) -> Result<Turned, EntryFault>
         requires fits { FitsInterface self.old work.now }
         requires needs { needs (own self.old) work.now ≡ Some endpoint.old.settings.id }
         requires at { home_in (own self.old) endpoint.old.settings.id ≡ Some endpoint.old.settings.node }

@@ -17,12 +17,13 @@ use Rattle.am_model.specs.Channels.{emitted, is_on_link}
 use Rattle.am_model.specs.History.{is_page_call}
 use Rattle.am_model.proofs.Received.{bit}
 use Rattle.am_model.specs.Packets.{receiver_of, from_of}
+use Rattle.am_model.specs.Layout.{node_at}
 use Rattle.am_local.specs.Readings.{page_calls}
 use Rattle.am_local.proofs.Growing.{emitted_append, readings_push}
 use Rattle.am_drain.specs.Made.{later_stamp}
 use Rattle.am_journal.specs.Kept.{items_of}
 use Rattle.am_journal.specs.Places.{link, link_of, page_place, receipt_place, counted, delivered}
-use Rattle.am_journal.specs.View.{AreNodes, AreRead, CanCount, HasRoomFor, IndexView, IsIndexOf, Readings, greatest_stamp, is_receipt, node_of, received_in, receipts}
+use Rattle.am_journal.specs.View.{AreNodes, AreRead, CanCount, HasRoomFor, IndexView, IsIndexOf, Readings, greatest_stamp, is_receipt, received_in, receipts}
 use Rattle.am_journal.proofs.Lists.{got_set, index_got, got_mapped, got_all, set_length}
 
 -- the greatest stamp, one entry more
@@ -61,7 +62,7 @@ counted_got (Some j) ns k n h = ⊎_elim here there (got_set ns j k (slice_index
         let none : n ≡ n + one_if false = omega arith in
         (n, both.1, none ∙ ap (λ (b : Bool). n + one_if b) (sym (same_number k j both.0)))
 
-same_page : (node : ℕ) (e : Event) → is_there (page_place e) node ≡ is_page_call (node_of node) e
+same_page : (node : ℕ) (e : Event) → is_there (page_place e) node ≡ is_page_call (node_at node) e
 same_page node (Events.PageOut at end) = refl
 same_page node (Events.PageIn at end) = refl
 same_page node e = refl
@@ -85,7 +86,7 @@ same_link a b c d lt below = by_tests ((16 * a + b) == (16 * c + d)) (b == d) (a
     by_tests false false r whole low high = refl
     by_tests false true false whole low high = refl
 
-same_receipt : (from to : ℕ) (e : Event) → to < 16 → AreNodes e → is_there (receipt_place e) (16 * from + to) ≡ is_receipt (node_of from) (node_of to) e
+same_receipt : (from to : ℕ) (e : Event) → to < 16 → AreNodes e → is_there (receipt_place e) (16 * from + to) ≡ is_receipt (node_at from) (node_at to) e
 same_receipt from to (Events.Receive node peer number) lt nodes = same_link from to peer.0 node.0 lt nodes.0
 same_receipt from to e lt nodes = refl
 
@@ -131,7 +132,7 @@ abbrev pub IsWithin : Option Packet → Type 0
 IsWithin None = Unit {0}
 IsWithin (Some p) = ((from_of p).0 < 16) × ((receiver_of p).0 < 16)
 
-put_same : (from to : ℕ) (p : Option Packet) → to < 16 → IsWithin p → put_on p (16 * from + to) ≡ on_link (node_of from) (node_of to) p
+put_same : (from to : ℕ) (p : Option Packet) → to < 16 → IsWithin p → put_on p (16 * from + to) ≡ on_link (node_at from) (node_at to) p
 put_same from to None lt nodes = refl
 put_same from to (Some (Packets.Parcel p)) lt nodes =
     ap (λ (b : Bool). cond b (Packets.Parcel p ∷ []) []) (same_link from to p.from.0 p.to.0 lt nodes.1 ∙ and_commutes (to == p.to.0) (from == p.from.0))
@@ -155,18 +156,18 @@ read_more entries pages received links x packet are is nodes at =
           (let g = counted_got (page_place x.event) pages node n h in
           g.2
           ∙ (λ i. are.pages node g.0 g.1 i + one_if (same_page node x.event i))
-          ∙ sym ((readings_push entries x).pages (node_of node)));
+          ∙ sym ((readings_push entries x).pages (node_at node)));
       received = λ from to n lt h.
           (let g = counted_got (receipt_place x.event) received (16 * from + to) n h in
           g.2
           ∙ (λ i. are.received from to g.0 lt g.1 i + one_if (same_receipt from to x.event lt at i))
-          ∙ sym (sum_by_push (λ (y : Entry). bit (is_receipt (node_of from) (node_of to) y.event)) entries x));
+          ∙ sym (sum_by_push (λ (y : Entry). bit (is_receipt (node_at from) (node_at to) y.event)) entries x));
       emitted = λ from to ps lt h.
           (let g = delivered_got packet links (16 * from + to) ps h in
           g.2
           ∙ (λ i. are.emitted from to g.0 lt g.1 i ++ put_same from to packet lt nodes i)
-          ∙ (λ i. emitted (node_of from) (node_of to) entries ++ on_link (node_of from) (node_of to) (is i))
-          ∙ sym (emitted_append (node_of from) (node_of to) entries (x ∷ [])));
+          ∙ (λ i. emitted (node_at from) (node_at to) entries ++ on_link (node_at from) (node_at to) (is i))
+          ∙ sym (emitted_append (node_at from) (node_at to) entries (x ∷ [])));
       all_pages = counted_length (page_place x.event) pages ∙ are.all_pages;
       all_received = counted_length (receipt_place x.event) received ∙ are.all_received;
       all_links = delivered_length packet links ∙ are.all_links;
@@ -232,13 +233,13 @@ can_count entries r is few =
     record {
       pages = λ k d lt.
           (let same = is.read.pages k (slice_index_or r.pages k d) (index_got r.pages k d lt) in
-          let most = count_by-le-length (λ (x : Entry). is_page_call (node_of k) x.event) entries in
+          let most = count_by-le-length (λ (x : Entry). is_page_call (node_at k) x.event) entries in
           omega (arith, same, most, few));
       received = λ k d lt.
           (let n = nodes_at k in
           let at : slice_get r.received (16 * n.0 + n.1) ≡ Some (slice_index_or r.received k d) = ap (slice_get r.received) (sym n.3) ∙ index_got r.received k d lt in
           let same = is.read.received n.0 n.1 (slice_index_or r.received k d) n.2 at in
-          let most = count_by-le-length (λ (x : Entry). is_receipt (node_of n.0) (node_of n.1) x.event) entries in
+          let most = count_by-le-length (λ (x : Entry). is_receipt (node_at n.0) (node_at n.1) x.event) entries in
           omega (arith, same, most, few));
     }
 

@@ -9,6 +9,7 @@ use Rattle.am_office.specs.declared.Event.TheVariants as Events
 use Rattle.am_office.specs.declared.Entry.{Entry}
 use Rattle.am_model.specs.Channels.{emitted}
 use Rattle.am_model.specs.Packets.{receiver_of, from_of}
+use Rattle.am_model.specs.Layout.{node_at}
 use Rattle.am_local.specs.Readings.{page_calls}
 use Rattle.am_drain.specs.Made.{later_stamp}
 use Rattle.am_journal.specs.Places.{link}
@@ -63,14 +64,11 @@ abbrev pub HasRoomFor : IndexView → Option Packet → Type 0
 HasRoomFor v None = Unit {0}
 HasRoomFor v (Some p) = ((from_of p).0 < 16) × ((receiver_of p).0 < 16) × (is_ready_on v (from_of p) (receiver_of p) ≡ true)
 
-abbrev pub node_of : ℕ → NodeId
-node_of n = record { 0 = n }
-
 -- the numbers of each node and link, and the packets of each link, are those of the entries
 pub record AreRead (entries : List Entry) (of_nodes of_links : List ℕ) (packets : List (List Packet)) : Type 0 where
-  pub pages : (node n : ℕ) → slice_get of_nodes node ≡ Some n → n ≡ page_calls (node_of node) entries
-  pub received : (from to n : ℕ) → to < 16 → slice_get of_links (16 * from + to) ≡ Some n → n ≡ receipts (node_of from) (node_of to) entries
-  pub emitted : (from to : ℕ) (ps : List Packet) → to < 16 → slice_get packets (16 * from + to) ≡ Some ps → ps ≡ emitted (node_of from) (node_of to) entries
+  pub pages : (node n : ℕ) → slice_get of_nodes node ≡ Some n → n ≡ page_calls (node_at node) entries
+  pub received : (from to n : ℕ) → to < 16 → slice_get of_links (16 * from + to) ≡ Some n → n ≡ receipts (node_at from) (node_at to) entries
+  pub emitted : (from to : ℕ) (ps : List Packet) → to < 16 → slice_get packets (16 * from + to) ≡ Some ps → ps ≡ emitted (node_at from) (node_at to) entries
   pub all_pages : length of_nodes ≡ 16
   pub all_received : length of_links ≡ 256
   pub all_links : length packets ≡ 256

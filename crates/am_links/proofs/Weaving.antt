@@ -4,11 +4,12 @@ use Rattle.std.specs.Global.{Vec}
 use Rattle.std.proofs.Common.{◌≡◌, ⊎_elim, ℕ, ◌+◌, Some, List, [], ◌∷◌, ◌++◌, length, refl, sym, ap, ◌∙◌, subst, arith}
 use Rattle.std.proofs.lemmas.List.{length_push}
 use Rattle.am_names.specs.declared.NodeId.{NodeId}
+use Rattle.am_model.specs.Layout.{node_at}
 use Rattle.am_plan.specs.declared.plan.PlanLine.{PlanLine}
 use Rattle.am_wire.specs.Links.{IsLink, received}
 use Rattle.am_wire.specs.declared.receiving.LinkIn.{LinkIn}
 use Rattle.am_wire.specs.declared.sending.LinkOut.{LinkOut}
-use Rattle.am_links.specs.Links.{AreSpread, AreWoven, IsOpened, IsOutOpened, IsRow, node_at}
+use Rattle.am_links.specs.Links.{AreSpread, AreWoven, IsOpened, IsOutOpened, IsRow}
 use Rattle.am_links.proofs.Lists.{got_low, got_push, got_some}
 
 -- ---- a row

@@ -3,15 +3,13 @@ use Rattle.std.specs.Prelude.{◌≡◌, ℕ, ◌≤◌, ◌==◌, ◌&&◌, Boo
 use Rattle.std.specs.Global.{Vec}
 use Rattle.am_names.specs.declared.NodeId.{NodeId}
 use Rattle.am_names.specs.declared.Packet.{Packet}
+use Rattle.am_model.specs.Layout.{node_at}
 use Rattle.am_plan.specs.Shape.{shape}
 use Rattle.am_plan.specs.declared.plan.PlanLine.{PlanLine}
 use Rattle.am_wire.specs.Links.{IsLink, emitted, pumped, received, spare}
 use Rattle.am_wire.specs.declared.receiving.LinkIn.{LinkIn}
 use Rattle.am_wire.specs.declared.sending.LinkOut.{LinkOut}
 use Rattle.am_links.specs.declared.Links.{Links}
-
-abbrev pub node_at : ℕ → NodeId
-node_at number = record { 0 = number }
 
 -- whether the line is one of the link from a node to a node
 abbrev pub is_of_link : NodeId → NodeId → PlanLine → Bool

@@ -37,8 +37,8 @@ use Rattle.am_endpoint.specs.View.{EndpointView, state_after}
 use Rattle.am_journal.specs.View.{IsIndexOf, Readings}
 use Rattle.am_iface.specs.View.{FitsInterface, InterfaceView, own}
 use Rattle.am_iface.specs.With.{IsFullOf, IsHomeKnown, KnowsHome}
-use Rattle.am_machine.specs.declared.settings.ApplyFault.{ApplyFault}
-use Rattle.am_machine.specs.declared.settings.ApplyFault.TheVariants as Faults
+use Rattle.am_model.specs.declared.EntryFault.{EntryFault}
+use Rattle.am_model.specs.declared.EntryFault.TheVariants as Faults
 use Rattle.am_moves.specs.Logs.{kept}
 use Rattle.am_machine.specs.Ends.{is_of, setting_in}
 use Rattle.am_machine.specs.Kept.{IsKept, IsOwn, layout_in}
@@ -299,14 +299,14 @@ turned_at j b new x t = subst (λ (s : State). IsTurned j.one new j.journal s j.
 enabled_at : (j : Joint) (b : Beside j) (o : Option Condition) → failing_at (own j.one) (state_after b.endpoint) j.work ≡ o → failing_at (own j.one) j.state j.work ≡ o
 enabled_at j b o is = ap (λ (s : State). failing_at (own j.one) s j.work) b.reads ∙ is
 
-pub beside_keeps : (j : Joint) (b : Beside j) (new : InterfaceView) (f : EndpointView) (result : Result Entry ApplyFault) → TurnsWith j.one new b.endpoint f j.journal j.work result → IsKept (layout_in j.settings j.faults (map kept (slice_set j.ends b.place f))) (map kept (slice_set j.ends b.place f)) (entries_after j.journal result) (slice_set j.interfaces j.node.0 new) j.swaps
+pub beside_keeps : (j : Joint) (b : Beside j) (new : InterfaceView) (f : EndpointView) (result : Result Entry EntryFault) → TurnsWith j.one new b.endpoint f j.journal j.work result → IsKept (layout_in j.settings j.faults (map kept (slice_set j.ends b.place f))) (map kept (slice_set j.ends b.place f)) (entries_after j.journal result) (slice_set j.interfaces j.node.0 new) j.swaps
 beside_keeps j b new f (Ok x) turns =
     let t = turned_at j b new x turns.0 in joint_kept j x new (map kept (slice_set j.ends b.place f)) (beside_next j b x new f t turns.1) t
 beside_keeps j b new f (Err (Faults.NotEnabled c)) turns = joint_still j new (map kept (slice_set j.ends b.place f)) turns.1 (ends_still j b f turns.2)
 beside_keeps j b new f (Err (Faults.LogFull p)) turns = joint_still j new (map kept (slice_set j.ends b.place f)) turns.3 (ends_still j b f turns.4)
 beside_keeps j b new f (Err Faults.NoMemory) turns = joint_still j new (map kept (slice_set j.ends b.place f)) turns.0 (ends_still j b f turns.1)
 
-pub beside_applies : (j : Joint) (b : Beside j) (v : ClusterView) (new : InterfaceView) (f : EndpointView) (result : Result Entry ApplyFault) → seen j.settings j.faults (map kept j.ends) j.journal ≡ v → TurnsWith j.one new b.endpoint f j.journal j.work result → Applies v (seen j.settings j.faults (map kept (slice_set j.ends b.place f)) (entries_after j.journal result)) (event_in j) result
+pub beside_applies : (j : Joint) (b : Beside j) (v : ClusterView) (new : InterfaceView) (f : EndpointView) (result : Result Entry EntryFault) → seen j.settings j.faults (map kept j.ends) j.journal ≡ v → TurnsWith j.one new b.endpoint f j.journal j.work result → Applies v (seen j.settings j.faults (map kept (slice_set j.ends b.place f)) (entries_after j.journal result)) (event_in j) result
 beside_applies j b v new f (Ok x) is turns =
     seen_next j.settings j.faults (map kept j.ends) j.journal (event_in j) x (map kept (slice_set j.ends b.place f)) (j.journal ++ x ∷ []) v is
     (beside_next j b x new f (turned_at j b new x turns.0) turns.1)

@@ -6,7 +6,7 @@ use Rattle.std.proofs.lemmas.List.Sums.{sum_by-cons}
 use Rattle.am_names.specs.declared.NodeId.{NodeId}
 use Rattle.am_names.specs.Names.{same_node}
 use Rattle.am_office.specs.declared.Entry.{Entry}
-use Rattle.am_model.specs.Layout.{AllAre, EndSetting, IsLawful, IsSettingLawful, Layout}
+use Rattle.am_model.specs.Layout.{AllAre, EndSetting, IsLawful, IsSettingLawful, Layout, node_at}
 use Rattle.am_model.specs.Merge.{is_before}
 use Rattle.am_model.proofs.Received.{bit}
 use Rattle.am_merge.specs.Merged.{entries_of, inserted, is_same, sorted}
@@ -16,7 +16,6 @@ use Rattle.am_journal.specs.View.{CanCount, IsIndexOf, Readings}
 use Rattle.am_journal.proofs.Growing.{can_count}
 use Rattle.am_moves.specs.Logs.{EndLog}
 use Rattle.am_machine.specs.Ends.{setting_in}
-use Rattle.am_machine.specs.Interfaces.{node_at}
 use Rattle.am_machine.specs.Kept.{IsKept, IsOwn, IsShort, end_logs, interface_logs, logs_in}
 use Rattle.am_machine.proofs.Beginnings.{all_by_place}
 use Rattle.am_machine.proofs.Merging.{kept_merges}

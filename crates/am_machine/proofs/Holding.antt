@@ -16,7 +16,7 @@ use Rattle.am_office.specs.Entries.{ends_touched, touches}
 use Rattle.am_model.specs.Changes.{changed, paged_out}
 use Rattle.am_model.specs.Endpoint.{Body, State, is_on_disk}
 use Rattle.am_model.specs.History.{IsHistory, MayFollow, is_home, is_page_call, state_of}
-use Rattle.am_model.specs.Layout.{EndSetting, IsLawful, Layout}
+use Rattle.am_model.specs.Layout.{EndSetting, IsLawful, Layout, node_at}
 use Rattle.am_model.proofs.Each.{state_of_push}
 use Rattle.am_model.proofs.Names.{same_end-is, same_end-refl}
 use Rattle.am_local.specs.Readings.{page_calls}
@@ -32,7 +32,6 @@ use Rattle.am_image.specs.Valid.{IsValid}
 use Rattle.am_journal.proofs.Lists.{got_set, set_length}
 use Rattle.am_moves.specs.Logs.{EndLog, state_in}
 use Rattle.am_moves.proofs.Paged.{host_no_disk}
-use Rattle.am_machine.specs.Interfaces.{node_at}
 use Rattle.am_moves.specs.Pages.{CanPage, CanPageOut, HoldsBody, IsBodyValid, after_call, after_page, is_page, page_outcome}
 use Rattle.am_machine.specs.Swaps.{AreSwaps, IsSwap}
 

@@ -8,7 +8,7 @@ use Rattle.am_iface.specs.View.{InterfaceView}
 use Rattle.am_device.specs.Memory.{Store}
 use Rattle.am_journal.specs.View.{CanCount, IsIndexOf, Readings}
 use Rattle.am_machine.specs.declared.settings.Settings.{Settings}
-use Rattle.am_machine.specs.declared.settings.ApplyFault.{ApplyFault}
+use Rattle.am_model.specs.declared.EntryFault.{EntryFault}
 use Rattle.am_moves.specs.Logs.{EndLog}
 use Rattle.am_machine.specs.Kept.{IsIndexed, IsKept, journal_by, layout_in}
 use Rattle.am_machine.specs.View.{Applies, ClusterView}
@@ -28,7 +28,7 @@ indexed s faults es journal is ss r k index =
 pub indexed_still : (s : Settings) (faults : List FaultLine) (es new : List EndLog) (is : List InterfaceView) (ss : List Store) (r : Readings) → new ≡ es → IsIndexed (layout_in s faults es) es is ss r → IsIndexed (layout_in s faults new) new is ss r
 indexed_still s faults es new is ss r same kept' = subst (λ (ns : List EndLog). IsIndexed (layout_in s faults ns) ns is ss r) (sym same) kept'
 
-pub applied_by : (s : Settings) (faults : List FaultLine) (es : List EndLog) (journal : List Entry) (is : List InterfaceView) (ss : List Store) (v : ClusterView) (event : Event) (result : Result Entry ApplyFault) → IsKept (layout_in s faults es) es journal is ss → Applies v (seen s faults es journal) event result → Applies v (seen s faults es (journal_by es is)) event result
+pub applied_by : (s : Settings) (faults : List FaultLine) (es : List EndLog) (journal : List Entry) (is : List InterfaceView) (ss : List Store) (v : ClusterView) (event : Event) (result : Result Entry EntryFault) → IsKept (layout_in s faults es) es journal is ss → Applies v (seen s faults es journal) event result → Applies v (seen s faults es (journal_by es is)) event result
 applied_by s faults es journal is ss v event result k applies =
     subst (λ (j : List Entry). Applies v (seen s faults es j) event result) (sym (kept_merges (layout_in s faults es) es journal is ss refl k)) applies
 

@@ -8,10 +8,10 @@ use Rattle.am_names.specs.declared.NodeId.{NodeId}
 use Rattle.am_names.specs.Names.{same_node}
 use Rattle.am_office.specs.declared.Entry.{Entry}
 use Rattle.am_office.specs.Entries.{is_node, node_touched, touches_node}
-use Rattle.am_model.specs.Layout.{Layout}
+use Rattle.am_model.specs.Layout.{Layout, node_at}
 use Rattle.am_iface.specs.View.{InterfaceView}
 use Rattle.am_journal.proofs.Lists.{got_set, set_length}
-use Rattle.am_machine.specs.Interfaces.{AreInterfaces, IsInterface, node_at}
+use Rattle.am_machine.specs.Interfaces.{AreInterfaces, IsInterface}
 
 part_push : (node : NodeId) (journal : List Entry) (x : Entry) (t : Bool) → touches_node node x ≡ t → filter (touches_node node) (journal ++ x ∷ []) ≡ (if t then filter (touches_node node) journal ++ x ∷ [] else filter (touches_node node) journal)
 part_push node journal x t is = filter-append (touches_node node) journal (x ∷ []) ∙ rw is (by_test t)

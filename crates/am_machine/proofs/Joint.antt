@@ -24,8 +24,8 @@ use Rattle.am_local.specs.Interface.{event_of, failing_at, needs, outcome_at}
 use Rattle.am_local.specs.Together.{IsPacketOf, IsPart, IsState, SaysTheSame}
 use Rattle.am_local.proofs.Outcomes.{work_local}
 use Rattle.am_local.proofs.Touched.{needs_touched}
-use Rattle.am_machine.specs.declared.settings.ApplyFault.{ApplyFault}
-use Rattle.am_machine.specs.declared.settings.ApplyFault.TheVariants as Faults
+use Rattle.am_model.specs.declared.EntryFault.{EntryFault}
+use Rattle.am_model.specs.declared.EntryFault.TheVariants as Faults
 use Rattle.am_scenario_types.specs.declared.parts.FaultLine.{FaultLine}
 use Rattle.am_endpoint.specs.View.{EndpointView}
 use Rattle.am_iface.specs.View.{InterfaceView, own}
@@ -246,13 +246,13 @@ joint_kept j x new es next turned =
 alone_of : (j : Joint) → needs (own j.one) j.work ≡ None → IsAlone j
 alone_of j none = record { none = needs_touched (own j.one) j.state j.work ∙ ap option_to_list none }
 
-pub alone_keeps : (j : Joint) (new : InterfaceView) (result : Result Entry ApplyFault) → needs (own j.one) j.work ≡ None → TurnsAlone j.one new j.journal j.state j.work result → IsKept (layout_of j) (map kept j.ends) (entries_after j.journal result) (slice_set j.interfaces j.node.0 new) j.swaps
+pub alone_keeps : (j : Joint) (new : InterfaceView) (result : Result Entry EntryFault) → needs (own j.one) j.work ≡ None → TurnsAlone j.one new j.journal j.state j.work result → IsKept (layout_of j) (map kept j.ends) (entries_after j.journal result) (slice_set j.interfaces j.node.0 new) j.swaps
 alone_keeps j new (Ok x) none turns = joint_kept j x new (map kept j.ends) (alone_next j x new (alone_of j none) turns) turns
 alone_keeps j new (Err (Faults.NotEnabled c)) none turns = joint_still j new (map kept j.ends) turns.1 refl
 alone_keeps j new (Err (Faults.LogFull p)) none turns = joint_still j new (map kept j.ends) turns.2 refl
 alone_keeps j new (Err Faults.NoMemory) none turns = joint_still j new (map kept j.ends) turns refl
 
-pub alone_applies : (j : Joint) (v : ClusterView) (new : InterfaceView) (result : Result Entry ApplyFault) → seen j.settings j.faults (map kept j.ends) j.journal ≡ v → needs (own j.one) j.work ≡ None → TurnsAlone j.one new j.journal j.state j.work result → Applies v (seen j.settings j.faults (map kept j.ends) (entries_after j.journal result)) (event_in j) result
+pub alone_applies : (j : Joint) (v : ClusterView) (new : InterfaceView) (result : Result Entry EntryFault) → seen j.settings j.faults (map kept j.ends) j.journal ≡ v → needs (own j.one) j.work ≡ None → TurnsAlone j.one new j.journal j.state j.work result → Applies v (seen j.settings j.faults (map kept j.ends) (entries_after j.journal result)) (event_in j) result
 alone_applies j v new (Ok x) is none turns =
     seen_next j.settings j.faults (map kept j.ends) j.journal (event_in j) x (map kept j.ends) (j.journal ++ x ∷ []) v is (alone_next j x new (alone_of j none) turns)
 alone_applies j v new (Err (Faults.NotEnabled c)) is none turns = (ap (λ (w : ClusterView). stop w.layout w.journal (event_in j)) (sym is) ∙ alone_disabled j c turns.0, is)

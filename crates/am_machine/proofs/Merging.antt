@@ -11,7 +11,7 @@ use Rattle.am_office.specs.declared.Outcome.{Outcome}
 use Rattle.am_office.specs.declared.Entry.{Entry}
 use Rattle.am_office.specs.Entries.{ends_touched, is_node, node_touched, touches, touches_node}
 use Rattle.am_model.specs.History.{EachAfter, MayFollow, failing}
-use Rattle.am_model.specs.Layout.{AllAre, EndSetting, Layout, declared}
+use Rattle.am_model.specs.Layout.{AllAre, EndSetting, Layout, declared, node_at}
 use Rattle.am_iface.specs.View.{InterfaceView}
 use Rattle.am_device.specs.Memory.{Store}
 use Rattle.am_merge.specs.Logs.{IsRising}
@@ -24,7 +24,7 @@ use Rattle.am_endpoint.specs.View.{EndpointView}
 use Rattle.am_node.specs.Parts.{log_of}
 use Rattle.am_moves.specs.Logs.{EndLog, kept}
 use Rattle.am_machine.specs.Ends.{setting_in}
-use Rattle.am_machine.specs.Interfaces.{IsInterface, node_at}
+use Rattle.am_machine.specs.Interfaces.{IsInterface}
 use Rattle.am_machine.specs.Kept.{IsKept, IsOwn, end_logs, interface_logs, journal_by, logs_in}
 use Rattle.am_machine.proofs.Beginnings.{all_by_place}
 use Rattle.am_machine.proofs.Direct.{not_packet}

@@ -12,7 +12,7 @@ use Rattle.am_office.specs.declared.Outcome.{Outcome}
 use Rattle.am_office.specs.declared.Entry.{Entry}
 use Rattle.am_office.specs.Entries.{ends_touched, is_node, node_touched, share_part, shares_node, touches, touches_node}
 use Rattle.am_model.specs.History.{EachAfter, IsHistory, MayFollow, is_in_range, is_later, is_taken_before}
-use Rattle.am_model.specs.Layout.{AllAre, EndSetting, IsLawful, IsSettingLawful, Layout, declared, has_id}
+use Rattle.am_model.specs.Layout.{AllAre, EndSetting, IsLawful, IsSettingLawful, Layout, declared, has_id, node_at}
 use Rattle.am_model.proofs.Names.{same_end-refl}
 use Rattle.am_endpoint.specs.View.{EndpointView}
 use Rattle.am_merge.specs.Logs.{IsRising}
@@ -24,7 +24,6 @@ use Rattle.am_node.specs.declared.NodePart.{NodePart}
 use Rattle.am_node.specs.Parts.{all_logs, log_of, logs_of_part}
 use Rattle.am_moves.specs.Logs.{kept}
 use Rattle.am_machine.specs.Ends.{setting_in}
-use Rattle.am_machine.specs.Interfaces.{node_at}
 use Rattle.am_machine.specs.Kept.{IsOwn}
 use Rattle.am_machine.specs.Parts.{AreNodeParts, IsNodePart, is_declared_at}
 use Rattle.am_machine.proofs.Beginnings.{all_by_place}

@@ -6,7 +6,7 @@ use Rattle.std.proofs.Common.{◌≡◌, ℕ, zero, suc, ◌<◌, Bool, true, fa
 use Rattle.std.proofs.lemmas.Option.{slice_get_within}
 use Rattle.am_names.specs.declared.Packet.{Packet}
 use Rattle.am_office.specs.declared.Entry.{Entry}
-use Rattle.am_model.specs.Layout.{AllAre, EndSetting, IsLawful, IsSettingLawful, Layout}
+use Rattle.am_model.specs.Layout.{AllAre, EndSetting, IsLawful, IsSettingLawful, Layout, node_at}
 use Rattle.am_endpoint.specs.View.{EndpointView}
 use Rattle.am_iface.specs.View.{InterfaceView}
 use Rattle.am_device.specs.Memory.{Store}
@@ -17,7 +17,7 @@ use Rattle.am_node.specs.Parts.{part_of, parts_of}
 use Rattle.am_node.specs.Shells.{AreShells, is_at}
 use Rattle.am_moves.specs.Logs.{kept}
 use Rattle.am_machine.specs.Ends.{setting_in}
-use Rattle.am_machine.specs.Interfaces.{AreInterfaces, node_at}
+use Rattle.am_machine.specs.Interfaces.{AreInterfaces}
 use Rattle.am_machine.specs.Kept.{IsOwn}
 use Rattle.am_machine.specs.Parts.{AreNodeParts, IsNodePart, is_declared_at}
 use Rattle.am_machine.specs.Swaps.{AreSwaps}

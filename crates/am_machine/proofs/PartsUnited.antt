@@ -14,7 +14,7 @@ use Rattle.am_office.specs.declared.Event.{Event}
 use Rattle.am_office.specs.declared.Entry.{Entry}
 use Rattle.am_office.specs.Entries.{emitted_in, emitted_of}
 use Rattle.am_model.specs.History.{EachAfter, MayFollow, is_in_range}
-use Rattle.am_model.specs.Layout.{AllAre, EndSetting, IsLawful, IsSettingLawful, Layout, declared}
+use Rattle.am_model.specs.Layout.{AllAre, EndSetting, IsLawful, IsSettingLawful, Layout, declared, node_at}
 use Rattle.am_model.specs.Merge.{is_ordered}
 use Rattle.am_drain.specs.Made.{later_stamp}
 use Rattle.am_endpoint.specs.View.{EndpointView}
@@ -40,7 +40,7 @@ use Rattle.am_scenario_types.specs.declared.parts.FaultLine.{FaultLine}
 use Rattle.am_scenario_types.specs.Lists.{ScenarioLists}
 use Rattle.am_moves.specs.Logs.{EndLog, kept}
 use Rattle.am_machine.specs.Ends.{setting_in}
-use Rattle.am_machine.specs.Interfaces.{AreInterfaces, IsInterface, node_at}
+use Rattle.am_machine.specs.Interfaces.{AreInterfaces, IsInterface}
 use Rattle.am_machine.specs.Kept.{IsKept, IsOwn, IsShort, IsTied, layout_in}
 use Rattle.am_machine.specs.Parting.{settings_from}
 use Rattle.am_machine.specs.Parts.{AreNodeParts, CanUnite}

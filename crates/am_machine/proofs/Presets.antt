@@ -11,7 +11,7 @@ use Rattle.am_names.specs.Names.{same_end, same_node}
 use Rattle.am_office.specs.declared.Place.TheVariants.{Disk}
 use Rattle.am_model.specs.Endpoint.{Body, State, is_on_disk}
 use Rattle.am_model.specs.History.{state_of}
-use Rattle.am_model.specs.Layout.{AllAre, EndSetting, Fault, IsLawful, IsPoolLawful, IsSettingLawful, Layout, has_id, opening, opening_by, opening_place}
+use Rattle.am_model.specs.Layout.{AllAre, EndSetting, Fault, IsLawful, IsPoolLawful, IsSettingLawful, Layout, has_id, opening, opening_by, opening_place, node_at}
 use Rattle.am_model.proofs.Names.{same_end-refl}
 use Rattle.am_model.proofs.Order.{order_fresh}
 use Rattle.am_scenario_types.specs.declared.parts.EndLine.{EndLine}
@@ -24,7 +24,6 @@ use Rattle.am_image.specs.Valid.{IsValid}
 use Rattle.am_machine.specs.declared.settings.Settings.{Settings}
 use Rattle.am_moves.specs.Logs.{EndLog}
 use Rattle.am_machine.specs.Ends.{setting_in}
-use Rattle.am_machine.specs.Interfaces.{node_at}
 use Rattle.am_machine.specs.Kept.{layout_in}
 use Rattle.am_machine.specs.Presets.{AreOpened, AreOpenedUpTo, begins_on, fails_of, is_of_node, opened_swap, opening_body, preset_all, preset_if}
 use Rattle.am_moves.specs.Pages.{HoldsBody}

@@ -23,15 +23,14 @@ use Rattle.am_local.proofs.Touched.{emission_told}
 use Rattle.am_drain.specs.Made.{next_stamp}
 use Rattle.am_endpoint.specs.View.{EndpointView, state_after}
 use Rattle.am_iface.specs.declared.Turned.{Turned}
-use Rattle.am_iface.specs.declared.IfaceFault.{IfaceFault}
-use Rattle.am_iface.specs.declared.IfaceFault.TheVariants as Ifaces
+use Rattle.am_model.specs.declared.EntryFault.{EntryFault}
+use Rattle.am_model.specs.declared.EntryFault.TheVariants as Faults
 use Rattle.am_iface.specs.View.{InterfaceView, FitsInterface, own}
 use Rattle.am_iface.specs.Turns.{IsFull, stamp_in}
 use Rattle.am_iface.specs.With.{IsFullOf}
 use Rattle.am_journal.specs.View.{AreNodes, HasRoomFor, IndexView, IsIndexOf, Readings, greatest_stamp, is_ready_on}
-use Rattle.am_machine.specs.declared.settings.ApplyFault.{ApplyFault}
 use Rattle.am_moves.specs.Logs.{EndLog, kept}
-use Rattle.am_machine.specs.Turned.{IsGrown, IsTurned, TurnsAlone, TurnsWith, entry_of_work, refused}
+use Rattle.am_machine.specs.Turned.{IsGrown, IsTurned, TurnsAlone, TurnsWith, entry_of_work}
 use Rattle.am_machine.specs.Ways.{GoesTo}
 
 -- a stamp above the greatest so far
@@ -54,8 +53,8 @@ pub none_fails : (o : Option Condition) → ((c : Condition) → o ≡ Some c �
 none_fails None h = refl
 none_fails (Some c) h = absurd (h c refl)
 
-pub enabled_by : (i : InterfaceView) (s : State) (w : Work) (t : Turned) (result : Result Turned IfaceFault) → result ≡ Ok t → ((c : Condition) → failing_at (own i) s w ≡ Some c → result ≡ Err (Ifaces.NotEnabled c)) → failing_at (own i) s w ≡ None
-enabled_by i s w t result ok disabled = none_fails (failing_at (own i) s w) (λ c h. (let both : ◌≡◌ {A = Result Turned IfaceFault} (Ok t) (Err (Ifaces.NotEnabled c)) = sym ok ∙ disabled c h in cc))
+pub enabled_by : (i : InterfaceView) (s : State) (w : Work) (t : Turned) (result : Result Turned EntryFault) → result ≡ Ok t → ((c : Condition) → failing_at (own i) s w ≡ Some c → result ≡ Err (Faults.NotEnabled c)) → failing_at (own i) s w ≡ None
+enabled_by i s w t result ok disabled = none_fails (failing_at (own i) s w) (λ c h. (let both : ◌≡◌ {A = Result Turned EntryFault} (Ok t) (Err (Faults.NotEnabled c)) = sym ok ∙ disabled c h in cc))
 
 -- ---- where the packet of a work goes
 
@@ -124,35 +123,35 @@ logged_entry i past s w x floor last event outcome stamp at le packet =
     let stamped : x.stamp ≡ next_stamp past = stamp ∙ ap (λ (n : ℕ). 1 + max (max n last) (stamp_in w)) at ∙ stamp_next (greatest_stamp past) last (stamp_in w) le packet in
     λ k. record { stamp = stamped k; event = event k; outcome = outcome k }
 
-pub turned_ok : (i j : InterfaceView) (past : List Entry) (s : State) (w : Work) (result : Result Turned IfaceFault) (t : Turned) → result ≡ Ok t
-    → ((c : Condition) → failing_at (own i) s w ≡ Some c → result ≡ Err (Ifaces.NotEnabled c))
-    → ((p : Part) → (failing_at (own i) s w ≡ None) × IsFull i p → result ≡ Err (Ifaces.LogFull p))
+pub turned_ok : (i j : InterfaceView) (past : List Entry) (s : State) (w : Work) (result : Result Turned EntryFault) (t : Turned) → result ≡ Ok t
+    → ((c : Condition) → failing_at (own i) s w ≡ Some c → result ≡ Err (Faults.NotEnabled c))
+    → ((p : Part) → (failing_at (own i) s w ≡ None) × IsFull i p → result ≡ Err (Faults.LogFull p))
     → t.entry ≡ entry_of_work i past s w → j ≡ record i { log = i.log ++ t.entry ∷ [] } → IsTurned i j past s w t.entry
 turned_ok i j past s w result t ok disabled full entry interface =
     let enabled = enabled_by i s w t result ok disabled in
     record {
       enabled = enabled;
-      room = λ is_full. (let err : result ≡ Err (Ifaces.LogFull (Parts.Interface i.settings.node)) = full (Parts.Interface i.settings.node) (enabled, (refl, is_full)) in let both : ◌≡◌ {A = Result Turned IfaceFault} (Ok t) (Err (Ifaces.LogFull (Parts.Interface i.settings.node))) = sym ok ∙ err in cc);
+      room = λ is_full. (let err : result ≡ Err (Faults.LogFull (Parts.Interface i.settings.node)) = full (Parts.Interface i.settings.node) (enabled, (refl, is_full)) in let both : ◌≡◌ {A = Result Turned EntryFault} (Ok t) (Err (Faults.LogFull (Parts.Interface i.settings.node))) = sym ok ∙ err in cc);
       entry = entry;
       interface = interface;
     }
 
-pub turned_err : (i j : InterfaceView) (past : List Entry) (s : State) (w : Work) (result : Result Turned IfaceFault) (fault : IfaceFault) → result ≡ Err fault
-    → ((c : Condition) → result ≡ Err (Ifaces.NotEnabled c) → failing_at (own i) s w ≡ Some c)
-    → ((p : Part) → result ≡ Err (Ifaces.LogFull p) → (failing_at (own i) s w ≡ None) × IsFull i p)
-    → j ≡ i → TurnsAlone i j past s w (Err (refused fault))
-turned_err i j past s w result (Ifaces.NotEnabled c) err disabled full interface = (disabled c err, interface)
-turned_err i j past s w result (Ifaces.LogFull p) err disabled full interface = let f = full p err in (f.0, f.1, interface)
-turned_err i j past s w result Ifaces.NoMemory err disabled full interface = interface
+pub turned_err : (i j : InterfaceView) (past : List Entry) (s : State) (w : Work) (result : Result Turned EntryFault) (fault : EntryFault) → result ≡ Err fault
+    → ((c : Condition) → result ≡ Err (Faults.NotEnabled c) → failing_at (own i) s w ≡ Some c)
+    → ((p : Part) → result ≡ Err (Faults.LogFull p) → (failing_at (own i) s w ≡ None) × IsFull i p)
+    → j ≡ i → TurnsAlone i j past s w (Err fault)
+turned_err i j past s w result (Faults.NotEnabled c) err disabled full interface = (disabled c err, interface)
+turned_err i j past s w result (Faults.LogFull p) err disabled full interface = let f = full p err in (f.0, f.1, interface)
+turned_err i j past s w result Faults.NoMemory err disabled full interface = interface
 
 -- ---- what it answers beside an endpoint
 
 -- neither log is full
-with_room : (i : InterfaceView) (e : EndpointView) (s : State) (w : Work) (result : Result Turned IfaceFault) (t : Turned) → result ≡ Ok t → failing_at (own i) s w ≡ None → ((p : Part) → (failing_at (own i) s w ≡ None) × IsFullOf i e p → result ≡ Err (Ifaces.LogFull p)) → (length e.log ≢ e.settings.log) × (length i.log ≢ i.settings.log)
+with_room : (i : InterfaceView) (e : EndpointView) (s : State) (w : Work) (result : Result Turned EntryFault) (t : Turned) → result ≡ Ok t → failing_at (own i) s w ≡ None → ((p : Part) → (failing_at (own i) s w ≡ None) × IsFullOf i e p → result ≡ Err (Faults.LogFull p)) → (length e.log ≢ e.settings.log) × (length i.log ≢ i.settings.log)
 with_room i e s w result t ok enabled full = (there, here)
   where
     never : (p : Part) → IsFullOf i e p → ⊥
-    never p is = let both : ◌≡◌ {A = Result Turned IfaceFault} (Ok t) (Err (Ifaces.LogFull p)) = sym ok ∙ full p (enabled, is) in cc
+    never p is = let both : ◌≡◌ {A = Result Turned EntryFault} (Ok t) (Err (Faults.LogFull p)) = sym ok ∙ full p (enabled, is) in cc
 
     there : length e.log ≢ e.settings.log
     there is = never (Parts.Endpoint e.settings.id) (inl (refl, is))
@@ -163,10 +162,10 @@ with_room i e s w result t ok enabled full = (there, here)
 pub less_than : (a b : ℕ) → a ≤ b → a ≢ b → a < b
 less_than a b le apart = omega arith
 
-pub turned_with_ok : (i j : InterfaceView) (e f : EndpointView) (past : List Entry) (w : Work) (result : Result Turned IfaceFault) (t : Turned) → result ≡ Ok t
+pub turned_with_ok : (i j : InterfaceView) (e f : EndpointView) (past : List Entry) (w : Work) (result : Result Turned EntryFault) (t : Turned) → result ≡ Ok t
     → length e.log ≤ e.settings.log
-    → ((c : Condition) → failing_at (own i) (state_after e) w ≡ Some c → result ≡ Err (Ifaces.NotEnabled c))
-    → ((p : Part) → (failing_at (own i) (state_after e) w ≡ None) × IsFullOf i e p → result ≡ Err (Ifaces.LogFull p))
+    → ((c : Condition) → failing_at (own i) (state_after e) w ≡ Some c → result ≡ Err (Faults.NotEnabled c))
+    → ((p : Part) → (failing_at (own i) (state_after e) w ≡ None) × IsFullOf i e p → result ≡ Err (Faults.LogFull p))
     → t.entry ≡ entry_of_work i past (state_after e) w → j ≡ record i { log = i.log ++ t.entry ∷ [] }
     → f.settings ≡ e.settings → f.log ≡ e.log ++ t.entry ∷ []
     → IsTurned i j past (state_after e) w t.entry × IsGrown (kept e) f t.entry
@@ -177,17 +176,17 @@ turned_with_ok i j e f past w result t ok bounded disabled full entry interface 
       record { room = less_than (length e.log) e.settings.log bounded room.0; settings = settings; log = log },
     )
 
-pub turned_with_err : (i j : InterfaceView) (e f : EndpointView) (past : List Entry) (w : Work) (result : Result Turned IfaceFault) (fault : IfaceFault) → result ≡ Err fault
+pub turned_with_err : (i j : InterfaceView) (e f : EndpointView) (past : List Entry) (w : Work) (result : Result Turned EntryFault) (fault : EntryFault) → result ≡ Err fault
     → length e.log ≤ e.settings.log
-    → ((c : Condition) → result ≡ Err (Ifaces.NotEnabled c) → failing_at (own i) (state_after e) w ≡ Some c)
-    → ((p : Part) → result ≡ Err (Ifaces.LogFull p) → (failing_at (own i) (state_after e) w ≡ None) × IsFullOf i e p)
-    → j ≡ i → kept f ≡ kept e → TurnsWith i j e f past w (Err (refused fault))
-turned_with_err i j e f past w result (Ifaces.NotEnabled c) err bounded disabled full interface same = (disabled c err, interface, same)
-turned_with_err i j e f past w result (Ifaces.LogFull p) err bounded disabled full interface same = let g = full p err in (g.0, g.1, bounded, interface, same)
-turned_with_err i j e f past w result Ifaces.NoMemory err bounded disabled full interface same = (interface, same)
+    → ((c : Condition) → result ≡ Err (Faults.NotEnabled c) → failing_at (own i) (state_after e) w ≡ Some c)
+    → ((p : Part) → result ≡ Err (Faults.LogFull p) → (failing_at (own i) (state_after e) w ≡ None) × IsFullOf i e p)
+    → j ≡ i → kept f ≡ kept e → TurnsWith i j e f past w (Err fault)
+turned_with_err i j e f past w result (Faults.NotEnabled c) err bounded disabled full interface same = (disabled c err, interface, same)
+turned_with_err i j e f past w result (Faults.LogFull p) err bounded disabled full interface same = let g = full p err in (g.0, g.1, bounded, interface, same)
+turned_with_err i j e f past w result Faults.NoMemory err bounded disabled full interface same = (interface, same)
 
 -- the same of the endpoint as it was before room was made
-pub turns_still : (i j : InterfaceView) (e one f : EndpointView) (past : List Entry) (w : Work) (result : Result Entry ApplyFault) → kept one ≡ kept e → TurnsWith i j one f past w result → TurnsWith i j e f past w result
+pub turns_still : (i j : InterfaceView) (e one f : EndpointView) (past : List Entry) (w : Work) (result : Result Entry EntryFault) → kept one ≡ kept e → TurnsWith i j one f past w result → TurnsWith i j e f past w result
 turns_still i j e one f past w result same turns = subst (λ (d : EndLog). TurnsWith i j (record { settings = d.settings; log = d.log; ready = e.ready; flights = e.flights }) f past w result) same turns
 
 -- ---- what the index reads after it

@@ -5,12 +5,9 @@ use Rattle.am_names.specs.declared.EndpointId.{EndpointId}
 use Rattle.am_names.specs.declared.NodeId.{NodeId}
 use Rattle.am_office.specs.declared.Entry.{Entry}
 use Rattle.am_office.specs.Entries.{touches_node}
-use Rattle.am_model.specs.Layout.{Layout, home}
+use Rattle.am_model.specs.Layout.{Layout, home, node_at}
 use Rattle.am_local.specs.Interface.{home_in}
 use Rattle.am_iface.specs.View.{InterfaceView, own}
-
-abbrev pub node_at : ℕ → NodeId
-node_at n = record { 0 = n }
 
 -- the interface of the node, with its part of the journal
 pub record IsInterface (layout : Layout) (journal : List Entry) (node : NodeId) (i : InterfaceView) : Type 0 where

@@ -5,13 +5,13 @@ use Rattle.am_names.specs.declared.NodeId.{NodeId}
 use Rattle.am_names.specs.Names.{same_node}
 use Rattle.am_office.specs.declared.Place.TheVariants.{Disk}
 use Rattle.am_model.specs.Endpoint.{Body, fresh}
+use Rattle.am_model.specs.Layout.{node_at}
 use Rattle.am_device.specs.Memory.{Store, with_held}
 use Rattle.am_image.specs.Image.{image}
 use Rattle.am_scenario_types.specs.declared.parts.EndLine.{EndLine}
 use Rattle.am_scenario_types.specs.declared.parts.FaultLine.{FaultLine}
 use Rattle.am_follow.specs.Layout.{is_direct}
 use Rattle.am_machine.specs.declared.settings.Settings.{Settings}
-use Rattle.am_machine.specs.Interfaces.{node_at}
 
 abbrev pub is_of_node : NodeId → FaultLine → Bool
 is_of_node node fault = same_node node fault.node

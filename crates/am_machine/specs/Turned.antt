@@ -4,6 +4,8 @@ use Rattle.am_names.specs.declared.NodeId.{NodeId}
 use Rattle.am_office.specs.declared.Entry.{Entry}
 use Rattle.am_model.specs.Channels.{emitted}
 use Rattle.am_model.specs.Endpoint.{State, is_direct}
+use Rattle.am_model.specs.declared.EntryFault.{EntryFault}
+use Rattle.am_model.specs.declared.EntryFault.TheVariants as Faults
 use Rattle.am_local.specs.declared.work.Work.{Work}
 use Rattle.am_local.specs.declared.work.Work.TheVariants as Works
 use Rattle.am_local.specs.Granted.{FitsEndpoint}
@@ -16,10 +18,6 @@ use Rattle.am_endpoint.specs.View as endpoints
 use Rattle.am_iface.specs.View.{FitsInterface, InterfaceView, last_stamp, own}
 use Rattle.am_iface.specs.Turns.{IsFull, stamp_in}
 use Rattle.am_iface.specs.With.{IsFullOf, KnowsHome}
-use Rattle.am_iface.specs.declared.IfaceFault.{IfaceFault}
-use Rattle.am_iface.specs.declared.IfaceFault.TheVariants as Ifaces
-use Rattle.am_machine.specs.declared.settings.ApplyFault.{ApplyFault}
-use Rattle.am_machine.specs.declared.settings.ApplyFault.TheVariants as Faults
 use Rattle.am_moves.specs.Logs.{EndLog, kept, state_in}
 
 -- the entry of a work, with the next stamp
@@ -27,7 +25,7 @@ abbrev pub entry_of_work : InterfaceView → List Entry → State → Work → E
 entry_of_work i past s w = record { stamp = next_stamp past; event = event_of i.settings.node w; outcome = outcome_at (own i) s w }
 
 -- the entries and the one that was made, if one was
-abbrev pub entries_after : List Entry → Result Entry ApplyFault → List Entry
+abbrev pub entries_after : List Entry → Result Entry EntryFault → List Entry
 entries_after past (Ok x) = past ++ x ∷ []
 entries_after past (Err fault) = past
 
@@ -38,7 +36,7 @@ pub record IsTurned (i j : InterfaceView) (past : List Entry) (s : State) (w : W
   pub interface : j ≡ record i { log = i.log ++ x ∷ [] }
 
 -- a work that touches no endpoint, whatever the state of one
-abbrev pub TurnsAlone : InterfaceView → InterfaceView → List Entry → State → Work → Result Entry ApplyFault → Type 0
+abbrev pub TurnsAlone : InterfaceView → InterfaceView → List Entry → State → Work → Result Entry EntryFault → Type 0
 TurnsAlone i j past s w (Ok x) = IsTurned i j past s w x
 TurnsAlone i j past s w (Err (Faults.NotEnabled condition)) = (failing_at (own i) s w ≡ Some condition) × (j ≡ i)
 TurnsAlone i j past s w (Err (Faults.LogFull part)) = (failing_at (own i) s w ≡ None) × IsFull i part × (j ≡ i)
@@ -51,18 +49,12 @@ pub record IsGrown (d : EndLog) (f : EndpointView) (x : Entry) : Type 0 where
   pub log : f.log ≡ d.log ++ x ∷ []
 
 -- a work that touches this endpoint
-abbrev pub TurnsWith : InterfaceView → InterfaceView → EndpointView → EndpointView → List Entry → Work → Result Entry ApplyFault → Type 0
+abbrev pub TurnsWith : InterfaceView → InterfaceView → EndpointView → EndpointView → List Entry → Work → Result Entry EntryFault → Type 0
 TurnsWith i j e f past w (Ok x) = IsTurned i j past (state_after e) w x × IsGrown (kept e) f x
 TurnsWith i j e f past w (Err (Faults.NotEnabled condition)) = (failing_at (own i) (state_after e) w ≡ Some condition) × (j ≡ i) × (kept f ≡ kept e)
 TurnsWith i j e f past w (Err (Faults.LogFull part)) =
     (failing_at (own i) (state_after e) w ≡ None) × IsFullOf i e part × (length e.log ≤ e.settings.log) × (j ≡ i) × (kept f ≡ kept e)
 TurnsWith i j e f past w (Err Faults.NoMemory) = (j ≡ i) × (kept f ≡ kept e)
-
--- why a work was not done
-abbrev pub refused : IfaceFault → ApplyFault
-refused (Ifaces.NotEnabled condition) = Faults.NotEnabled condition
-refused (Ifaces.LogFull part) = Faults.LogFull part
-refused Ifaces.NoMemory = Faults.NoMemory
 
 -- the interface is of a cluster of at most 16 nodes
 abbrev pub IsOfCluster : InterfaceView → Type 0

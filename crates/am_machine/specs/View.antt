@@ -5,8 +5,8 @@ use Rattle.am_office.specs.declared.Entry.{Entry}
 use Rattle.am_model.specs.Layout.{Layout}
 use Rattle.am_model.specs.Steps.{NotEnabled, LogFull, stop}
 use Rattle.am_drain.specs.Made.{next_entry}
-use Rattle.am_machine.specs.declared.settings.ApplyFault.{ApplyFault}
-use Rattle.am_machine.specs.declared.settings.ApplyFault.TheVariants as Faults
+use Rattle.am_model.specs.declared.EntryFault.{EntryFault}
+use Rattle.am_model.specs.declared.EntryFault.TheVariants as Faults
 
 pub record ClusterView : Type 0 where
   pub layout : Layout
@@ -14,7 +14,7 @@ pub record ClusterView : Type 0 where
 
 -- What an application of an event answers and leaves. Ok is the entry that the definitions give, with a stamp above the
 -- greatest so far, and just that is new in the journal. A refusal names what keeps the event from happening. Want of memory is free. A refusal changes nothing.
-abbrev pub Applies : ClusterView → ClusterView → Event → Result Entry ApplyFault → Type 0
+abbrev pub Applies : ClusterView → ClusterView → Event → Result Entry EntryFault → Type 0
 Applies old new event (Ok x) =
     (stop old.layout old.journal event ≡ None) × (x ≡ next_entry old.layout old.journal event) × (new ≡ record old { journal = old.journal ++ x ∷ [] })
 Applies old new event (Err (Faults.NotEnabled condition)) = (stop old.layout old.journal event ≡ Some (NotEnabled condition)) × (new ≡ old)

@@ -6,7 +6,7 @@ ghost use Rattle.std.specs.Prelude.{◌≡◌, true};
 
 use crate::Cluster;
 use crate::ends::{is_full, is_on_disk, place_of};
-use crate::settings::ApplyFault;
+use am_model::EntryFault;
 use am_names::EndpointId;
 use am_office::{Actor, Call, Condition, Entry, Part};
 
@@ -17,7 +17,7 @@ impl Cluster {
         actor: Actor,
         end: EndpointId,
         call: Call,
-    ) -> Result<Entry, ApplyFault>
+    ) -> Result<Entry, EntryFault>
         requires { is_in_range self.old.layout (Events.Call actor end call) ≡ true }
         ensures { Applies self.old self.new (Events.Call actor end call) result }
     {
@@ -25,22 +25,22 @@ impl Cluster {
             unreachable!()
         };
         if is_on_disk(&self.ends[place]) {
-            return Err(ApplyFault::NotEnabled(Condition::OnDisk));
+            return Err(EntryFault::NotEnabled(Condition::OnDisk));
         }
         if is_full(&self.ends[place], self.settings.log) {
-            return Err(ApplyFault::LogFull(Part::Endpoint(end)));
+            return Err(EntryFault::LogFull(Part::Endpoint(end)));
         }
         match self.ends[place].call(self.index.greatest_stamp(), actor, call) {
             Ok(entry) => {
                 self.index.log(entry, None);
                 Ok(entry)
             }
-            Err(_) => Err(ApplyFault::NoMemory),
+            Err(_) => Err(EntryFault::NoMemory),
         }
     }
 
     /// Wants an endpoint that is on disk.
-    pub(crate) fn want(&mut self, actor: Actor, end: EndpointId) -> Result<Entry, ApplyFault>
+    pub(crate) fn want(&mut self, actor: Actor, end: EndpointId) -> Result<Entry, EntryFault>
         requires { is_in_range self.old.layout (Events.Want actor end) ≡ true }
         ensures { Applies self.old self.new (Events.Want actor end) result }
     {
@@ -48,17 +48,17 @@ impl Cluster {
             unreachable!()
         };
         if !is_on_disk(&self.ends[place]) {
-            return Err(ApplyFault::NotEnabled(Condition::NotOnDisk));
+            return Err(EntryFault::NotEnabled(Condition::NotOnDisk));
         }
         if is_full(&self.ends[place], self.settings.log) {
-            return Err(ApplyFault::LogFull(Part::Endpoint(end)));
+            return Err(EntryFault::LogFull(Part::Endpoint(end)));
         }
         match self.ends[place].want(self.index.greatest_stamp(), actor) {
             Ok(entry) => {
                 self.index.log(entry, None);
                 Ok(entry)
             }
-            Err(_) => Err(ApplyFault::NoMemory),
+            Err(_) => Err(EntryFault::NoMemory),
         }
     }
 }

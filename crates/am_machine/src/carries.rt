@@ -6,25 +6,25 @@ ghost use Rattle.std.specs.Prelude.{◌≡◌, true};
 
 use crate::Cluster;
 use crate::ends::{carry_between, is_full, judged, least_full, place_of, room_for_both};
-use crate::settings::ApplyFault;
+use am_model::EntryFault;
 use am_names::EndpointId;
 use am_office::{Condition, Entry, Event, Part};
 use am_scenario_types::Network;
 
 impl Cluster {
     /// Carries the front message of an endpoint to its destination, where the network is direct.
-    pub(crate) fn carry(&mut self, end: EndpointId) -> Result<Entry, ApplyFault>
+    pub(crate) fn carry(&mut self, end: EndpointId) -> Result<Entry, EntryFault>
         requires { is_in_range self.old.layout (Events.Carry end) ≡ true }
         ensures { Applies self.old self.new (Events.Carry end) result }
     {
         match self.settings.network {
-            Network::Packet => Err(ApplyFault::NotEnabled(Condition::NotDirect)),
+            Network::Packet => Err(EntryFault::NotEnabled(Condition::NotDirect)),
             Network::Direct => self.carry_front(end),
         }
     }
 
     /// Carries the front message of an endpoint of the direct network to its destination.
-    fn carry_front(&mut self, end: EndpointId) -> Result<Entry, ApplyFault>
+    fn carry_front(&mut self, end: EndpointId) -> Result<Entry, EntryFault>
         requires direct { self.old.layout.direct ≡ true }
         requires in_range { is_in_range self.old.layout (Events.Carry end) ≡ true }
         ensures { Applies self.old self.new (Events.Carry end) result }
@@ -33,7 +33,7 @@ impl Cluster {
             unreachable!()
         };
         let Some(front) = self.ends[source].front() else {
-            return Err(ApplyFault::NotEnabled(Condition::NoMessage));
+            return Err(EntryFault::NotEnabled(Condition::NoMessage));
         };
         let message = front.message;
         let Some(dest) = place_of(&self.ends, message.dest) else {
@@ -44,10 +44,10 @@ impl Cluster {
         let is_source_full = is_full(&self.ends[source], limit);
         let is_dest_full = is_full(&self.ends[dest], limit);
         if let Some(full) = least_full(end, is_source_full, message.dest, is_dest_full) {
-            return Err(ApplyFault::LogFull(Part::Endpoint(full)));
+            return Err(EntryFault::LogFull(Part::Endpoint(full)));
         }
         let Ok(()) = room_for_both(&mut self.ends, source, dest) else {
-            return Err(ApplyFault::NoMemory);
+            return Err(EntryFault::NoMemory);
         };
         let entry = Entry {
             stamp: self.index.greatest_stamp() + 1,

@@ -30,7 +30,6 @@ mod ways;
 use crate::interfaces::open_interfaces;
 use crate::logs::logs_of;
 use crate::opening::open_ends;
-pub use crate::settings::ApplyFault;
 use crate::settings::Settings;
 use crate::swaps::open_swaps;
 use am_endpoint::Endpoint;
@@ -39,6 +38,7 @@ use am_join::join;
 use am_journal::JournalIndex;
 use am_laws::post_office;
 use am_laws_cluster::cluster_holds;
+pub use am_model::EntryFault;
 pub use am_node::NodePart;
 pub use am_office::NoMemory;
 use am_office::{Entry, Event, Journal};
@@ -111,7 +111,7 @@ impl Cluster {
 
     /// Applies an event: Ok is the one entry that the definitions give, and a refusal names the first condition that
     /// doesn't hold, or the log that is full, or tells that there is no memory for the entry. A refusal changes nothing.
-    pub fn apply(&mut self, event: &Event) -> Result<Entry, ApplyFault>
+    pub fn apply(&mut self, event: &Event) -> Result<Entry, EntryFault>
         requires in_range { is_in_range self.old.layout event.now ≡ true }
         ensures { Applies self.old self.new event.now result }
     {

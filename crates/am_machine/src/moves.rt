@@ -9,7 +9,7 @@ ghost use Rattle.std.specs.Prelude.{◌≡◌, Some, false, true};
 use crate::Cluster;
 use crate::ends::{is_full, place_of};
 use crate::frames::{failing_on, is_taken};
-use crate::settings::ApplyFault;
+use am_model::EntryFault;
 use am_moves::move_end;
 use am_names::{EndpointId, NodeId};
 use am_office::{Condition, Entry, Event, Outcome, Part};
@@ -22,7 +22,7 @@ impl Cluster {
         event: Event,
         node: NodeId,
         end: EndpointId,
-    ) -> Result<Entry, ApplyFault>
+    ) -> Result<Entry, EntryFault>
         requires driver { driver_of event ≡ Some node }
         requires end { end_moved event ≡ Some end }
         requires unpaged { is_page event ≡ false }
@@ -30,17 +30,17 @@ impl Cluster {
         ensures { Applies self.old self.new event result }
     {
         if let Some(condition) = self.failing_move(event, node, end) {
-            return Err(ApplyFault::NotEnabled(condition));
+            return Err(EntryFault::NotEnabled(condition));
         }
         let Some(place) = place_of(&self.ends, end) else {
             unreachable!()
         };
         if is_full(&self.ends[place], self.settings.log) {
-            return Err(ApplyFault::LogFull(Part::Endpoint(end)));
+            return Err(EntryFault::LogFull(Part::Endpoint(end)));
         }
         let one = &mut self.ends[place];
         if one.room().is_err() {
-            return Err(ApplyFault::NoMemory);
+            return Err(EntryFault::NoMemory);
         }
         let entry = Entry {
             stamp: self.index.greatest_stamp() + 1,

@@ -8,7 +8,7 @@ ghost use Rattle.std.specs.Prelude.{◌≡◌, Some, true};
 
 use crate::Cluster;
 use crate::ends::{is_full, place_of};
-use crate::settings::ApplyFault;
+use am_model::EntryFault;
 use am_moves::page;
 use am_names::{EndpointId, NodeId};
 use am_office::{Entry, Event, Part};
@@ -20,7 +20,7 @@ impl Cluster {
         event: Event,
         node: NodeId,
         end: EndpointId,
-    ) -> Result<Entry, ApplyFault>
+    ) -> Result<Entry, EntryFault>
         requires driver { driver_of event ≡ Some node }
         requires end { end_moved event ≡ Some end }
         requires paged { is_page event ≡ true }
@@ -28,13 +28,13 @@ impl Cluster {
         ensures { Applies self.old self.new event result }
     {
         if let Some(condition) = self.failing_move(event, node, end) {
-            return Err(ApplyFault::NotEnabled(condition));
+            return Err(EntryFault::NotEnabled(condition));
         }
         let Some(place) = place_of(&self.ends, end) else {
             unreachable!()
         };
         if is_full(&self.ends[place], self.settings.log) {
-            return Err(ApplyFault::LogFull(Part::Endpoint(end)));
+            return Err(EntryFault::LogFull(Part::Endpoint(end)));
         }
         let stamp = self.index.greatest_stamp() + 1;
         let swap = &mut self.swaps[node.0 as usize];
@@ -43,7 +43,7 @@ impl Cluster {
                 self.index.log(entry, None);
                 Ok(entry)
             }
-            Err(_) => Err(ApplyFault::NoMemory),
+            Err(_) => Err(EntryFault::NoMemory),
         }
     }
 }

@@ -1,4 +1,3 @@
-use am_office::{Condition, Part};
 use am_scenario_types::Network;
 
 /// What a cluster begins with beside its endpoints and failing page calls, each number in the range that the scenario
@@ -13,16 +12,4 @@ pub struct Settings {
     pub bounces: u8,
     pub pool: Option<u8>,
     pub log: u32,
-}
-
-/// Why an event was not applied. Nothing changed then.
-#[derive(Clone, Copy, PartialEq, Eq, Debug)]
-pub enum ApplyFault {
-    /// The first condition of the event that does not hold.
-    NotEnabled(Condition),
-    /// The event is enabled, and this log that its entry would go into has as many entries as it may: an endpoint's
-    /// before an interface's, each by number.
-    LogFull(Part),
-    /// There is no memory for one more entry.
-    NoMemory,
 }

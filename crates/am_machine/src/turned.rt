@@ -4,36 +4,25 @@ ghost use Rattle.am_iface.specs.View.{own};
 ghost use Rattle.am_journal.specs.View.{IsIndexOf};
 ghost use Rattle.am_local.specs.Interface.{needs};
 ghost use Rattle.am_moves.specs.Logs.{kept};
-ghost use Rattle.am_machine.specs.Turned.{CanTurn, CanTurnWith, TurnsAlone, TurnsWith, entries_after, refused};
+ghost use Rattle.am_machine.specs.Turned.{CanTurn, CanTurnWith, TurnsAlone, TurnsWith, entries_after};
 ghost use Rattle.am_machine.specs.Ways.{GoesTo};
 ghost use Rattle.am_model.specs.Endpoint.{State};
 ghost use Rattle.am_office.specs.declared.Entry.{Entry};
 ghost use Rattle.std.specs.Prelude.{◌≡◌, ◌<◌, ◌≤◌, None, IfSome, List, OnOk, length};
 
-use crate::settings::ApplyFault;
 use am_endpoint::{EndFault, Endpoint};
-use am_iface::{IfaceFault, Interface, Work};
+use am_iface::{Interface, Work};
 use am_journal::JournalIndex;
+use am_model::EntryFault;
 use am_names::NodeId;
 use am_office::{Entry, NoMemory};
-
-/// Why a work was not done.
-fn refused(fault: IfaceFault) -> ApplyFault
-    ensures { result ≡ refused fault }
-{
-    match fault {
-        IfaceFault::NotEnabled(condition) => ApplyFault::NotEnabled(condition),
-        IfaceFault::LogFull(part) => ApplyFault::LogFull(part),
-        IfaceFault::NoMemory => ApplyFault::NoMemory,
-    }
-}
 
 /// Does a work that touches no endpoint.
 pub(crate) fn turn_alone(
     interface: &mut Interface,
     index: &mut JournalIndex,
     work: &Work,
-) -> Result<Entry, ApplyFault>
+) -> Result<Entry, EntryFault>
     requires can { CanTurn interface.old index.old.read work.now }
     requires alone { needs (own interface.old) work.now ≡ None }
     ensures turns { (past : List Entry) (s : State) → IsIndexOf past index.old.read → TurnsAlone interface.old interface.new past s work.now result }
@@ -41,14 +30,14 @@ pub(crate) fn turn_alone(
 {
     let to = interface.emits_to(work);
     if index.room_to(interface.node(), to).is_err() {
-        return Err(ApplyFault::NoMemory);
+        return Err(EntryFault::NoMemory);
     }
     match interface.turn_alone(index.greatest_stamp(), work) {
         Ok(turned) => {
             index.log(turned.entry, turned.out);
             Ok(turned.entry)
         }
-        Err(fault) => Err(refused(fault)),
+        Err(fault) => Err(fault),
     }
 }
 
@@ -70,7 +59,7 @@ pub(crate) fn turn_with(
     index: &mut JournalIndex,
     work: &Work,
     to: Option<NodeId>,
-) -> Result<Entry, ApplyFault>
+) -> Result<Entry, EntryFault>
     requires can { CanTurnWith interface.old (kept endpoint.old) index.old.read work.now }
     requires within { IfSome to (λ node. node.0 < 16) }
     requires goes { GoesTo (own interface.old) (state_after endpoint.old) work.now to }
@@ -78,16 +67,16 @@ pub(crate) fn turn_with(
     ensures index { (past : List Entry) → IsIndexOf past index.old.read → IsIndexOf (entries_after past result) index.new.read }
 {
     if make_room(endpoint).is_err() {
-        return Err(ApplyFault::NoMemory);
+        return Err(EntryFault::NoMemory);
     }
     if index.room_to(interface.node(), to).is_err() {
-        return Err(ApplyFault::NoMemory);
+        return Err(EntryFault::NoMemory);
     }
     match interface.turn_with(index.greatest_stamp(), work, endpoint) {
         Ok(turned) => {
             index.log(turned.entry, turned.out);
             Ok(turned.entry)
         }
-        Err(fault) => Err(refused(fault)),
+        Err(fault) => Err(fault),
     }
 }

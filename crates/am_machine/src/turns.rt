@@ -10,22 +10,22 @@ ghost use Rattle.std.specs.Prelude.{◌≡◌, ◌-◌, ◌<◌, ◌≤◌, fals
 
 use crate::Cluster;
 use crate::ends::place_of;
-use crate::settings::ApplyFault;
 use crate::turned::{turn_alone, turn_with};
 use crate::ways::way;
 use am_iface::Work;
+use am_model::EntryFault;
 use am_names::{EndpointId, NodeId, Packet};
 use am_office::{Condition, Entry};
 use am_scenario_types::Network;
 
 impl Cluster {
     /// Binds the front message of an endpoint to a channel of a node, where the network is packet.
-    pub(crate) fn bind(&mut self, node: NodeId, end: EndpointId) -> Result<Entry, ApplyFault>
+    pub(crate) fn bind(&mut self, node: NodeId, end: EndpointId) -> Result<Entry, EntryFault>
         requires { is_in_range self.old.layout (Events.Bind node end) ≡ true }
         ensures { Applies self.old self.new (Events.Bind node end) result }
     {
         match self.settings.network {
-            Network::Direct => Err(ApplyFault::NotEnabled(Condition::NotPacket)),
+            Network::Direct => Err(EntryFault::NotEnabled(Condition::NotPacket)),
             Network::Packet => self.turn(node, Work::Bind(end)),
         }
     }
@@ -36,12 +36,12 @@ impl Cluster {
         node: NodeId,
         peer: NodeId,
         channel: u8,
-    ) -> Result<Entry, ApplyFault>
+    ) -> Result<Entry, EntryFault>
         requires { is_in_range self.old.layout (Events.Expire node peer channel) ≡ true }
         ensures { Applies self.old self.new (Events.Expire node peer channel) result }
     {
         match self.settings.network {
-            Network::Direct => Err(ApplyFault::NotEnabled(Condition::NotPacket)),
+            Network::Direct => Err(EntryFault::NotEnabled(Condition::NotPacket)),
             Network::Packet => self.turn(node, Work::Expire { peer, channel }),
         }
     }
@@ -52,15 +52,15 @@ impl Cluster {
         node: NodeId,
         peer: NodeId,
         number: u32,
-    ) -> Result<Entry, ApplyFault>
+    ) -> Result<Entry, EntryFault>
         requires { is_in_range self.old.layout (Events.Receive node peer number) ≡ true }
         ensures { Applies self.old self.new (Events.Receive node peer number) result }
     {
         match self.settings.network {
-            Network::Direct => Err(ApplyFault::NotEnabled(Condition::NotPacket)),
+            Network::Direct => Err(EntryFault::NotEnabled(Condition::NotPacket)),
             Network::Packet => match self.packet(peer, node, number) {
                 Some(packet) => self.turn(node, Work::Receive(packet)),
-                None => Err(ApplyFault::NotEnabled(Condition::NoPacket)),
+                None => Err(EntryFault::NotEnabled(Condition::NoPacket)),
             },
         }
     }
@@ -79,7 +79,7 @@ impl Cluster {
     }
 
     /// Does a work of a node's interface, on the packet network.
-    fn turn(&mut self, node: NodeId, work: Work) -> Result<Entry, ApplyFault>
+    fn turn(&mut self, node: NodeId, work: Work) -> Result<Entry, EntryFault>
         requires packet { self.old.layout.direct ≡ false }
         requires in_range { is_in_range self.old.layout (event_of node work) ≡ true }
         requires taken { IsTaken self.old.journal node work }

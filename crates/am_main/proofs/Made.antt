@@ -21,8 +21,8 @@ use Rattle.am_model.specs.Layout.{Layout}
 use Rattle.am_model.specs.Steps.{FollowsSteps, Made, Stop, NotEnabled, LogFull, stop, step_entry, made, made_by, made_from}
 use Rattle.std.specs.Global.{Vec}
 use Rattle.am_scenario_types.specs.declared.faults.ScenarioFault.{ScenarioFault}
-use Rattle.am_machine.specs.declared.settings.ApplyFault.{ApplyFault}
-use Rattle.am_machine.specs.declared.settings.ApplyFault.TheVariants as Applied
+use Rattle.am_model.specs.declared.EntryFault.{EntryFault}
+use Rattle.am_model.specs.declared.EntryFault.TheVariants as EntryFaults
 use Rattle.am_machine.specs.View.{ClusterView, Applies}
 use Rattle.am_machine.proofs.Applied.{enabled_of}
 use Rattle.am_main.specs.declared.faults.StepFault.{StepFault}
@@ -149,15 +149,15 @@ pub stopped_line : (steps : List StepLine) (i : ℕ) (step : StepLine) (m : Made
 stopped_line steps i step m journal why at count is = line_here steps i step at ∙ ap (line_at steps) (sym (ap (λ (w : Made). length w.journal) is ∙ count))
 
 -- a step that was refused stops the steps
-pub stops_make : (layout now : Layout) (steps : List StepLine) (i : ℕ) (journal other : List Entry) (step : StepLine) (old new : ClusterView) (fault : ApplyFault) → Walks layout now steps i journal → slice_get steps i ≡ Some step → old.layout ≡ now → old.journal ≡ journal → Applies old new step.event (Err fault) → Makes steps other (made layout (events_of steps)) (Err (fault_of step.line fault))
-stops_make layout now steps i journal other step old new (Applied.NotEnabled condition) w at same before h =
+pub stops_make : (layout now : Layout) (steps : List StepLine) (i : ℕ) (journal other : List Entry) (step : StepLine) (old new : ClusterView) (fault : EntryFault) → Walks layout now steps i journal → slice_get steps i ≡ Some step → old.layout ≡ now → old.journal ≡ journal → Applies old new step.event (Err fault) → Makes steps other (made layout (events_of steps)) (Err (fault_of step.line fault))
+stops_make layout now steps i journal other step old new (EntryFaults.NotEnabled condition) w at same before h =
     let stops : stop now journal step.event ≡ Some (NotEnabled condition) = (λ k. stop (sym same k) (sym before k) step.event) ∙ h.0 in
     let is = walks_stop layout now steps i journal step (NotEnabled condition) w at stops in
     (ap (λ (m : Made). m.stopped) is, stopped_line steps i step (made layout (events_of steps)) journal (Some (NotEnabled condition)) at w.count is)
-stops_make layout now steps i journal other step old new (Applied.LogFull part) w at same before h =
+stops_make layout now steps i journal other step old new (EntryFaults.LogFull part) w at same before h =
     let stops : stop now journal step.event ≡ Some (LogFull part) = (λ k. stop (sym same k) (sym before k) step.event) ∙ h.0 in
     ap (λ (m : Made). m.stopped) (walks_stop layout now steps i journal step (LogFull part) w at stops)
-stops_make layout now steps i journal other step old new Applied.NoMemory w at same before h = tt
+stops_make layout now steps i journal other step old new EntryFaults.NoMemory w at same before h = tt
 
 -- what the answers of a lawful scenario mean
 pub tells_means : (s : ScenarioLists) (read : Result ScenarioLists ScenarioFault) (answer : Result (Vec ℕ) StepFault) → IsLawful s → read ≡ Ok s → TellsText s (made (layout_of s) (events_of s.steps)) answer → TextMeans answer read

@@ -13,8 +13,8 @@ use Rattle.am_scenario_types.specs.declared.faults.ScenarioFault.{ScenarioFault}
 use Rattle.am_scenario_types.specs.Lists.{ScenarioLists}
 use Rattle.am_follow.specs.Layout.{layout_of, events_of}
 use Rattle.am_model.specs.Steps.{Made, Stop, NotEnabled, LogFull, made}
-use Rattle.am_machine.specs.declared.settings.ApplyFault.{ApplyFault}
-use Rattle.am_machine.specs.declared.settings.ApplyFault.TheVariants as Applied
+use Rattle.am_model.specs.declared.EntryFault.{EntryFault}
+use Rattle.am_model.specs.declared.EntryFault.TheVariants as EntryFaults
 use Rattle.am_main.specs.declared.faults.StepFault.{StepFault}
 use Rattle.am_main.specs.declared.faults.StepFault.TheVariants as Faults
 use Rattle.am_main.specs.Words.{what_word, condition_word, part_word}
@@ -63,10 +63,10 @@ answer_of_fault (Faults.LogFull part) = record { status = 6; text = full_line pa
 answer_of_fault Faults.NoMemory = record { status = 8; text = codes "no memory\n" }
 
 -- why the step in this line made no entry
-abbrev pub fault_of : ℕ → ApplyFault → StepFault
-fault_of line (Applied.NotEnabled condition) = Faults.NotEnabled line condition
-fault_of line (Applied.LogFull part) = Faults.LogFull part
-fault_of line Applied.NoMemory = Faults.NoMemory
+abbrev pub fault_of : ℕ → EntryFault → StepFault
+fault_of line (EntryFaults.NotEnabled condition) = Faults.NotEnabled line condition
+fault_of line (EntryFaults.LogFull part) = Faults.LogFull part
+fault_of line EntryFaults.NoMemory = Faults.NoMemory
 
 -- the code gives this answer, unless memory runs out
 abbrev pub Gives : Result (List ℕ) StepFault → Answer → Type 0

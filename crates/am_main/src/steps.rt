@@ -10,20 +10,21 @@ ghost use Rattle.am_scenario_types.specs.declared.parts.Form.TheVariants as Form
 ghost use Rattle.am_scenario_types.specs.Lawful.{IsLawful};
 
 use crate::faults::StepFault;
-use am_machine::{ApplyFault, Cluster};
+use am_machine::Cluster;
+use am_model::EntryFault;
 use am_names::EndpointId;
 use am_report::report;
 use am_scenario::{EndLine, Form, ReadFault, Scenario, StepLine, read};
 use std::alloc::{AllocError, Global};
 
 /// Why the step in this line made no entry.
-fn fault_of(line: u32, fault: ApplyFault) -> StepFault
+fn fault_of(line: u32, fault: EntryFault) -> StepFault
     ensures { result ≡ fault_of line fault }
 {
     match fault {
-        ApplyFault::NotEnabled(condition) => StepFault::NotEnabled { line, condition },
-        ApplyFault::LogFull(part) => StepFault::LogFull(part),
-        ApplyFault::NoMemory => StepFault::NoMemory,
+        EntryFault::NotEnabled(condition) => StepFault::NotEnabled { line, condition },
+        EntryFault::LogFull(part) => StepFault::LogFull(part),
+        EntryFault::NoMemory => StepFault::NoMemory,
     }
 }
 

@@ -9,6 +9,10 @@ use Rattle.am_office.specs.declared.Place.TheVariants.{Host, Disk, Direct}
 use Rattle.am_names.specs.Names.{same_end, same_node}
 use Rattle.am_model.specs.Endpoint.{State, fresh}
 
+-- the node with this number
+abbrev pub node_at : ℕ → NodeId
+node_at number = record { 0 = number }
+
 -- an endpoint as it is declared
 pub record EndSetting : Type 0 where
   pub id : EndpointId

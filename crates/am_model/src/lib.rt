@@ -11,7 +11,7 @@ ghost use Rattle.am_model.specs.ThinPath as thin;
 ghost use Rattle.std.specs.Prelude.{◌≡◌, [], Some, true};
 
 use am_names::{EndpointId, Message, Serial, Tag, Why};
-use am_office::{Fate, Place};
+use am_office::{Condition, Fate, Part, Place};
 
 /// Where the requests of an index go, under which tag, and how many may be out: its credits, or
 /// its least share where the endpoint has a pool.
@@ -51,6 +51,18 @@ pub struct Notice {
     pub message: Message,
     pub bounces: u8,
     pub why: Why,
+}
+
+/// Why no entry was made of an event. All is as it was before the event.
+#[derive(Clone, Copy, PartialEq, Eq, Debug)]
+pub enum EntryFault {
+    /// The event can't happen: this is the first of its conditions that doesn't hold.
+    NotEnabled(Condition),
+    /// The event can happen, and this log that its entry would go into has as many entries as it may: an endpoint's
+    /// before an interface's, each by number.
+    LogFull(Part),
+    /// There is no memory for one more entry.
+    NoMemory,
 }
 
 /// What is known of an endpoint wherever it lies.

@@ -4,11 +4,11 @@ use Rattle.std.specs.List.{filter}
 use Rattle.std.proofs.Common.{◌≡◌, ⊎_elim, ℕ, ◌+◌, ◌<◌, ◌≤◌, Bool, true, false, cond, Some, List, [], ◌∷◌, ◌++◌, reverse, length, refl, sym, ap, ◌∙◌, subst, arith, append_assoc, eq-eqb, eqb-true}
 use Rattle.std.proofs.lemmas.List.{append-nil, reverse-append, reverse-reverse}
 use Rattle.std.proofs.lemmas.List.Sums.{sum_by-cons, sum_by_push}
-use Rattle.am_model.specs.Layout.{AllAre}
+use Rattle.am_model.specs.Layout.{AllAre, node_at}
 use Rattle.am_endpoint.specs.View.{EndpointView}
 use Rattle.am_journal.proofs.Lists.{got_set, index_got, set_length}
 use Rattle.am_node.specs.declared.shells.Shell.{Shell}
-use Rattle.am_node.specs.Shells.{is_at, node_at}
+use Rattle.am_node.specs.Shells.{is_at}
 use Rattle.am_node.specs.Dealt.{AreDealt, HasRoom, IsFilled, IsPut}
 
 -- the endpoints that a shell got, and those that it is still to get, are its node's

@@ -6,13 +6,12 @@ use Rattle.std.proofs.Common.{◌≡◌, ◌⊎◌, inl, inr, ⊎_elim, ℕ, zer
 use Rattle.std.proofs.lemmas.List.{append-nil, reverse-append, map-append}
 use Rattle.std.proofs.lemmas.Option.{slice_get_within}
 use Rattle.am_names.specs.declared.NodeId.{NodeId}
-use Rattle.am_model.specs.Layout.{AllAre, EndSetting}
+use Rattle.am_model.specs.Layout.{AllAre, EndSetting, node_at}
 use Rattle.am_endpoint.specs.View.{EndpointView}
 use Rattle.am_follow.specs.Layout.{setting_of}
 use Rattle.am_scenario_types.specs.declared.parts.EndLine.{EndLine}
 use Rattle.am_journal.proofs.Lists.{got_set, index_got, set_length}
 use Rattle.am_join.proofs.Standing.{behind, first_or_behind, in_front}
-use Rattle.am_node.specs.Shells.{node_at}
 use Rattle.am_node.specs.Gathered.{AreDeclared, AreOfGroups, HasOne, IsLastOf, is_of_node, setting_in}
 
 -- the endpoints of the first lines are gathered, and those of the others are still in their groups

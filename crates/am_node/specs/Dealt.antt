@@ -1,10 +1,10 @@
 -- Endpoints in the shells of their nodes.
 use Rattle.std.specs.Prelude.{◌≡◌, ℕ, ◌+◌, ◌<◌, ◌≤◌, Some, List, [], ◌∷◌, ◌++◌, length, slice_get, count_by, vec_capacity, vec_len}
 use Rattle.std.specs.List.{filter}
-use Rattle.am_model.specs.Layout.{AllAre}
+use Rattle.am_model.specs.Layout.{AllAre, node_at}
 use Rattle.am_endpoint.specs.View.{EndpointView}
 use Rattle.am_node.specs.declared.shells.Shell.{Shell}
-use Rattle.am_node.specs.Shells.{is_at, node_at}
+use Rattle.am_node.specs.Shells.{is_at}
 
 -- each endpoint's node has a shell, which has room for its endpoints
 pub record HasRoom (ends : List EndpointView) (shells : List Shell) : Type 0 where

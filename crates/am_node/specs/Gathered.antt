@@ -5,11 +5,10 @@ use Rattle.std.specs.Global.{Vec}
 use Rattle.am_names.specs.declared.NodeId.{NodeId}
 use Rattle.am_names.specs.Names.{same_node}
 use Rattle.am_model.specs.Endpoint.{is_on_disk}
-use Rattle.am_model.specs.Layout.{AllAre, EndSetting}
+use Rattle.am_model.specs.Layout.{AllAre, EndSetting, node_at}
 use Rattle.am_endpoint.specs.View.{EndpointView}
 use Rattle.am_follow.specs.Layout.{setting_of}
 use Rattle.am_scenario_types.specs.declared.parts.EndLine.{EndLine}
-use Rattle.am_node.specs.Shells.{node_at}
 
 -- how an endpoint is declared
 abbrev pub setting_in : EndpointView → EndSetting

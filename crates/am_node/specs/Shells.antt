@@ -6,12 +6,10 @@ use Rattle.am_names.specs.declared.Packet.{Packet}
 use Rattle.am_names.specs.Names.{same_node}
 use Rattle.am_office.specs.declared.Entry.{Entry}
 use Rattle.am_model.specs.Channels.{emitted}
+use Rattle.am_model.specs.Layout.{node_at}
 use Rattle.am_endpoint.specs.View.{EndpointView}
 use Rattle.am_journal.specs.View.{Readings, received_in, receipts}
 use Rattle.am_node.specs.declared.shells.Shell.{Shell}
-
-abbrev pub node_at : ℕ → NodeId
-node_at number = record { 0 = number }
 
 -- whether it is an endpoint of the node
 abbrev pub is_at : NodeId → EndpointView → Bool

@@ -13,13 +13,13 @@ use Rattle.am_books.specs.declared.EndBook.{EndBook}
 use Rattle.am_driver.specs.Views.{line_of}
 use Rattle.am_driver.specs.declared.EndView.{EndView}
 use Rattle.am_endpoint.specs.View.{EndpointView, state_after}
-use Rattle.am_model.specs.Layout.{AllAre, AreApart}
+use Rattle.am_model.specs.Layout.{AllAre, AreApart, node_at}
 use Rattle.am_local.specs.Together.{ends_of}
 use Rattle.am_iface.specs.Settings.{AreLawful}
 use Rattle.am_iface.specs.View.{InterfaceView}
 use Rattle.am_moves.specs.Logs.{kept}
 use Rattle.am_machine.specs.Ends.{setting_in}
-use Rattle.am_machine.specs.Interfaces.{IsInterface, node_at}
+use Rattle.am_machine.specs.Interfaces.{IsInterface}
 use Rattle.am_machine.specs.Parts.{AreNodeParts, IsNodePart}
 use Rattle.am_node.specs.declared.NodePart.{NodePart}
 use Rattle.am_scenario_types.specs.Lawful as lawful

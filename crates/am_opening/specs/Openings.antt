@@ -13,13 +13,12 @@ use Rattle.am_driver.specs.Views.{line_of}
 use Rattle.am_driver.specs.declared.EndView.{EndView}
 use Rattle.am_endpoint.specs.View.{EndpointView, state_after}
 use Rattle.am_model.specs.Endpoint.{fresh, is_on_disk}
-use Rattle.am_model.specs.Layout.{AllAre, EndSetting, Layout}
+use Rattle.am_model.specs.Layout.{AllAre, EndSetting, Layout, node_at}
 use Rattle.am_local.specs.Together.{ends_of, faults_of}
 use Rattle.am_moves.specs.Pages.{HoldsBody}
 use Rattle.am_places.specs.declared.places.Seat.{Seat}
 use Rattle.am_scenario_types.specs.declared.parts.ThreadLine.{ThreadLine}
 use Rattle.am_scenario_types.specs.Lists.{ScenarioLists}
-use Rattle.am_scripts.specs.Links.{node_at}
 use Rattle.am_follow.specs.Layout.{layout_of}
 use Rattle.am_iface.specs.Settings.{AreLawful}
 use Rattle.am_machine.specs.Interfaces.{IsInterface}

@@ -11,6 +11,7 @@ use Rattle.am_office.specs.declared.Event.TheVariants as Events
 use Rattle.am_office.specs.declared.Outcome.TheVariants as Out
 use Rattle.am_office.specs.declared.Part.TheVariants as Parts
 use Rattle.am_office.specs.declared.Entry.{Entry}
+use Rattle.am_model.specs.Layout.{node_at}
 use Rattle.am_local.specs.Driver.{DriverLog}
 use Rattle.am_local.specs.Interface.{InterfaceLog, InterfaceSettings}
 use Rattle.am_merge.specs.Merged.{PartLog}
@@ -20,9 +21,6 @@ use Rattle.am_rows.specs.LostAcknowledgement as lost
 
 abbrev pub end : ℕ → EndpointId
 end number = record { 0 = number }
-
-abbrev pub node : ℕ → NodeId
-node number = record { 0 = number }
 
 abbrev pub call_at_first : Entry
 call_at_first = record { stamp = 1; event = Events.Call Outside (end 0) Calls.Poll; outcome = Out.Empty }
@@ -50,45 +48,45 @@ abbrev pub parts_before : List PartLog
 parts_before =
     record { part = Parts.Endpoint (end 0); log = at_end_0 }
     ∷ record { part = Parts.Endpoint (end 1); log = at_end_1 }
-    ∷ record { part = Parts.Interface (node 0); log = picked lost.journal (6 ∷ 8 ∷ 10 ∷ []) }
-    ∷ record { part = Parts.Interface (node 1); log = at_node_1 }
+    ∷ record { part = Parts.Interface (node_at 0); log = picked lost.journal (6 ∷ 8 ∷ 10 ∷ []) }
+    ∷ record { part = Parts.Interface (node_at 1); log = at_node_1 }
     ∷ []
 
 abbrev pub last_entry : Entry
 last_entry = slice_index_or lost.journal 11 call_at_first
 
 abbrev pub two_nodes : NodeId → InterfaceSettings
-two_nodes at = record { node = at; channels = 1; tries = 3; bounces = 2; homes = Some (node 0) ∷ Some (node 1) ∷ [] }
+two_nodes at = record { node = at; channels = 1; tries = 3; bounces = 2; homes = Some (node_at 0) ∷ Some (node_at 1) ∷ [] }
 
 -- node 1's interface when it has accepted the message, and its acknowledgement was lost
 abbrev pub receiver : InterfaceLog
-receiver = record { settings = two_nodes (node 1); log = picked lost.journal (7 ∷ []) }
+receiver = record { settings = two_nodes (node_at 1); log = picked lost.journal (7 ∷ []) }
 
 -- the message sent again
 abbrev pub second_try : Packet
 second_try =
-    Packets.Parcel (record { from = node 0; to = node 1; channel = 0; seq = 1; attempt = 1; number = 2; stamp = 8; message = lost.m1 })
+    Packets.Parcel (record { from = node_at 0; to = node_at 1; channel = 0; seq = 1; attempt = 1; number = 2; stamp = 8; message = lost.m1 })
 
 -- node 0's interface when it has sent the message again
 abbrev pub sender : InterfaceLog
-sender = record { settings = two_nodes (node 0); log = picked lost.journal (6 ∷ 8 ∷ []) }
+sender = record { settings = two_nodes (node_at 0); log = picked lost.journal (6 ∷ 8 ∷ []) }
 
 -- the acknowledgement of the second try
 abbrev pub acknowledgement : Packet
 acknowledgement =
-    Packets.Answer (record { from = node 1; to = node 0; channel = 0; seq = 1; attempt = 1; number = 2; stamp = 9; verdict = Verdicts.Accepted })
+    Packets.Answer (record { from = node_at 1; to = node_at 0; channel = 0; seq = 1; attempt = 1; number = 2; stamp = 9; verdict = Verdicts.Accepted })
 
 -- the same, as a link that held it gives it
 abbrev pub held_acknowledgement : Packet
 held_acknowledgement =
-    Packets.Answer (record { from = node 1; to = node 0; channel = 0; seq = 1; attempt = 1; number = 2; stamp = 40; verdict = Verdicts.Accepted })
+    Packets.Answer (record { from = node_at 1; to = node_at 0; channel = 0; seq = 1; attempt = 1; number = 2; stamp = 40; verdict = Verdicts.Accepted })
 
 -- ---- frames: three endpoints of one node
 
 -- the driver of the node after so many entries, all of which it made
 abbrev pub driver_after : List ℕ → DriverLog
 driver_after positions =
-    record { settings = record { node = node 0; ends = end 0 ∷ end 1 ∷ end 2 ∷ []; faults = [] }; log = picked frames.journal positions }
+    record { settings = record { node = node_at 0; ends = end 0 ∷ end 1 ∷ end 2 ∷ []; faults = [] }; log = picked frames.journal positions }
 
 -- ---- entries with one stamp
 
@@ -96,10 +94,10 @@ abbrev pub poll_of : ℕ → Entry
 poll_of number = record { stamp = 5; event = Events.Call Outside (end number) Calls.Poll; outcome = Out.Empty }
 
 abbrev pub try_of : ℕ → Entry
-try_of number = record { stamp = 5; event = Events.Expire (node number) (node 9) 0; outcome = Out.Sent lost.m1 (node 9) 0 1 1 2 }
+try_of number = record { stamp = 5; event = Events.Expire (node_at number) (node_at 9) 0; outcome = Out.Sent lost.m1 (node_at 9) 0 1 1 2 }
 
 -- ---- a failing page call: one endpoint, and the second page call fails
 
 abbrev pub pager_after : List ℕ → DriverLog
 pager_after positions =
-    record { settings = record { node = node 0; ends = end 0 ∷ []; faults = 2 ∷ [] }; log = picked failed_read.journal positions }
+    record { settings = record { node = node_at 0; ends = end 0 ∷ []; faults = 2 ∷ [] }; log = picked failed_read.journal positions }

@@ -88,7 +88,8 @@ may_not_fail s journal x condition may fails =
 
 pub drains_are_not_refused : DrainsAreNotRefused
 drains_are_not_refused s past journal condition run low r =
-    may_not_fail s journal r.next condition (next_may r.turns s past journal r.later r.next run low r.planned) r.failing'
+    let d = r.drained in
+    may_not_fail s journal d.next condition (next_may d.turns s past journal d.later d.next run low d.planned) r.failing'
 
 pub cut_offs_are_histories : CutOffsAreHistories
-cut_offs_are_histories s past journal part run low c = begins c.turns s past journal (c.next ∷ c.later) run low c.planned
+cut_offs_are_histories s past journal part run low c = let d = c.drained in begins d.turns s past journal (d.next ∷ d.later) run low d.planned

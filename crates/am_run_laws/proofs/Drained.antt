@@ -93,8 +93,9 @@ short_of n s past added later run logs room e =
 
 pub cut_offs_are_short : CutOffsAreShort
 cut_offs_are_short s past journal part run logs c =
-    subst (λ (xs : List Entry). IsShortHistory s xs) (sym c.made)
-    (short_of c.turns s past c.added (c.next ∷ c.later) run logs c.room (c.planned ∙ ap (λ (xs : List Entry). Some (xs ++ c.next ∷ c.later)) c.made))
+    let d = c.drained in
+    subst (λ (xs : List Entry). IsShortHistory s xs) (sym d.made)
+    (short_of d.turns s past d.added (d.next ∷ d.later) run logs c.room (d.planned ∙ ap (λ (xs : List Entry). Some (xs ++ d.next ∷ d.later)) d.made))
 
 pub drains_are_short : DrainsAreShort
 drains_are_short s past journal run logs d =
@@ -103,9 +104,10 @@ drains_are_short s past journal run logs d =
 
 pub none_is_refused : NoneIsRefused
 none_is_refused s past journal condition run logs r =
-    let k : IsShortHistory s (past ++ r.added) = short_of r.turns s past r.added (r.next ∷ r.later) run logs r.room (r.planned ∙ ap (λ (xs : List Entry). Some (xs ++ r.next ∷ r.later)) r.made) in
-    let same : length journal ≡ length (past ++ r.added) = ap (λ (xs : List Entry). length xs) r.made in
-    let few : length (past ++ r.added) < 2 ^ 31 = far_below (length (past ++ r.added)) s.log k.short run.lawful.settings.log.1 in
+    let d = r.drained in
+    let k : IsShortHistory s (past ++ d.added) = short_of d.turns s past d.added (d.next ∷ d.later) run logs r.room (d.planned ∙ ap (λ (xs : List Entry). Some (xs ++ d.next ∷ d.later)) d.made) in
+    let same : length journal ≡ length (past ++ d.added) = ap (λ (xs : List Entry). length xs) d.made in
+    let few : length (past ++ d.added) < 2 ^ 31 = far_below (length (past ++ d.added)) s.log k.short run.lawful.settings.log.1 in
     drains_are_not_refused s past journal condition run (omega (arith, same, few)) r
 
 -- ---- the empty phase

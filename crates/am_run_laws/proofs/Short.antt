@@ -13,25 +13,22 @@ use Rattle.am_office.specs.declared.Event.TheVariants as Events
 use Rattle.am_office.specs.declared.Outcome.{Outcome}
 use Rattle.am_office.specs.declared.Entry.{Entry}
 use Rattle.am_office.specs.Entries.{ends_touched, node_touched, is_node, reached_by, touches, touches_node}
-use Rattle.am_model.specs.Layout.{Layout, EndSetting, AllAre, IsLawful, IsSettingLawful, has_id, declared}
+use Rattle.am_model.specs.Layout.{Layout, EndSetting, AllAre, IsLawful, IsSettingLawful, has_id, declared, node_at}
 use Rattle.am_model.specs.History.{MayFollow, EachAfter, is_in_range, is_actor_in_range, is_call_in_range, is_four_bytes}
 use Rattle.am_model.proofs.Names.{same_end-is, same_end-refl}
 use Rattle.am_run_laws.specs.Short.{IsWithinLogs, JournalsAreShort, JournalsAreNumbered}
 use Rattle.am_run_laws.proofs.Counts.{IsPassed, passed, passed-le, length-le-passed}
 
--- ---- the tests: a declared endpoint of this number, an interface of this number
+-- ---- the tests: a declared endpoint of this number, an interface of the node of this number
 
 abbrev pub end_at : ℕ → EndpointId
 end_at number = record { 0 = number }
-
-abbrev pub interface_at : ℕ → NodeId
-interface_at number = record { 0 = number }
 
 abbrev pub is_in_end : Layout → ℕ → Entry → Bool
 is_in_end layout number x = declared layout (end_at number) && touches (end_at number) x
 
 abbrev pub is_in_interface : ℕ → Entry → Bool
-is_in_interface number x = touches_node (interface_at number) x
+is_in_interface number x = touches_node (node_at number) x
 
 abbrev pub Stands : Layout → Entry → Type 0
 Stands layout x = IsPassed (is_in_end layout) is_in_interface 256 layout.nodes x
@@ -123,8 +120,8 @@ few_in_end layout journal within k = few_where (declared layout (end_at k)) (tou
 
 few_in_interface : (layout : Layout) (journal : List Entry) → IsWithinLogs layout journal → (k : ℕ) → k < layout.nodes → count_by (is_in_interface k) journal ≤ layout.log
 few_in_interface layout journal within k low =
-    let most : length (filter (touches_node (interface_at k)) journal) ≤ layout.log = within.nodes (interface_at k) low in
-    omega (arith, most, length-filter (touches_node (interface_at k)) journal)
+    let most : length (filter (touches_node (node_at k)) journal) ≤ layout.log = within.nodes (node_at k) low in
+    omega (arith, most, length-filter (touches_node (node_at k)) journal)
 
 nodes_times : (nodes log : ℕ) → nodes ≤ 16 → nodes * log ≤ 16 * log
 nodes_times nodes log low = mul-le nodes log 16 log low (omega arith)

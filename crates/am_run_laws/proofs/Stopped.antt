@@ -20,11 +20,12 @@ use Rattle.am_run_laws.proofs.Returns.{IsWhole, ReturnsForGood, fate_for_good, t
 
 pub stopped_runs_are_orderly : StoppedRunsAreOrderly
 stopped_runs_are_orderly s journal part run st =
-    let k : IsKept s (journal ++ st.next ∷ st.later) = turns_keep st.turns s st.phase (journal ++ st.next ∷ st.later) st.is_phase st.drained in
+    let d = st.drained in
+    let k : IsKept s (journal ++ d.next ∷ d.later) = turns_keep d.turns s st.phase (journal ++ d.next ∷ d.later) st.is_phase d.planned in
     record {
       run = run;
-      in_order = each_front (λ (before : List Entry) (x : Entry). IsReceiptInOrder s before x.event) [] journal (st.next ∷ st.later) k.in_order;
-      last_tries = each_front (λ (before : List Entry) (x : Entry). (not (is_last s before x) || is_all_received s before) ≡ true) [] journal (st.next ∷ st.later) k.last_tries;
+      in_order = each_front (λ (before : List Entry) (x : Entry). IsReceiptInOrder s before x.event) [] journal (d.next ∷ d.later) k.in_order;
+      last_tries = each_front (λ (before : List Entry) (x : Entry). (not (is_last s before x) || is_all_received s before) ≡ true) [] journal (d.next ∷ d.later) k.last_tries;
     }
 
 all_front : (P : Cause → Type 0) (xs ys : List Cause) → AllAre P (xs ++ ys) → AllAre P xs
@@ -38,8 +39,9 @@ returns_before journal later k s =
 
 pub stopped_returns_are_for_good : StoppedReturnsAreForGood
 stopped_returns_are_for_good s journal part run short st nothing serial cause e =
+    let d = st.drained in
     let phase : IsOfRun s st.phase = record { lawful = run.lawful; packet = run.packet; history = st.is_phase.history } in
-    let c : IsCovered s st.phase journal = covers st.turns s st.phase journal (st.next ∷ st.later) phase short st.drained in
+    let c : IsCovered s st.phase journal = covers d.turns s st.phase journal (d.next ∷ d.later) phase short d.planned in
     let whole : IsWhole s c.whole = record {
       run = record { lawful = run.lawful; packet = run.packet; history = c.history };
       order = (turns_keep c.turns s st.phase c.whole st.is_phase c.planned).in_order;

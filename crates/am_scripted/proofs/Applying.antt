@@ -10,8 +10,8 @@ use Rattle.am_office.specs.Entries.{emitted_of}
 use Rattle.am_model.specs.History.{IsHistory, failing}
 use Rattle.am_model.specs.Steps.{LogFull, NotEnabled, full_log, stop, stop_by}
 use Rattle.am_machine.specs.View.{Applies, ClusterView}
-use Rattle.am_machine.specs.declared.settings.ApplyFault.{ApplyFault}
-use Rattle.am_machine.specs.declared.settings.ApplyFault.TheVariants as Applied
+use Rattle.am_model.specs.declared.EntryFault.{EntryFault}
+use Rattle.am_model.specs.declared.EntryFault.TheVariants as Faults
 use Rattle.am_plan.specs.declared.plan.PlanLine.{PlanLine}
 use Rattle.am_scenario_types.specs.Lists.{ScenarioLists}
 use Rattle.am_scripts.specs.Scripts.{call_made}
@@ -20,14 +20,12 @@ use Rattle.am_run_laws.specs.Drained.{HasShortLogs}
 use Rattle.am_run_laws.proofs.Logs.{room_keeps_logs}
 use Rattle.am_run_laws.proofs.Drained.{runs_are_short}
 use Rattle.am_scripted.specs.Links.{AreFed, Released}
-use Rattle.am_scripted.specs.Scripted.{AreParts, as_fault, fed_by}
+use Rattle.am_scripted.specs.Scripted.{AreParts, fed_by}
 use Rattle.am_scripted.specs.Threads.{Scripted, scripted_of, with_call_if}
 use Rattle.am_scripted.proofs.Growing.{called_after, fed_after}
 use Rattle.am_follow.specs.Layout.{layout_of}
 use Rattle.am_drain.specs.Cut.{HasRoom, full_for}
 use Rattle.am_drain.specs.Made.{after_event, next_entry}
-use Rattle.am_drain_loop.specs.declared.DrainFault.{DrainFault}
-use Rattle.am_drain_loop.specs.declared.DrainFault.TheVariants as Faults
 use Rattle.am_drain_loop.specs.Stops.{Acts, IsDrainBeginning}
 
 stop_none : (f : Option Condition) (l : Option Part) → stop_by f l ≡ None → (f ≡ None) × (l ≡ None)
@@ -61,7 +59,7 @@ acts_ok s past now event x u free is made =
     }
 
 -- what is left as it was has made nothing
-unmoved : {U : Type 0} (s : ScenarioLists) (past now : List Entry) (event : Event) (fault : DrainFault) → now ≡ past → Acts {U = U} s (Err fault) past (after_event (layout_of s) event past) past → Acts {U = U} s (Err fault) past (after_event (layout_of s) event past) now
+unmoved : {U : Type 0} (s : ScenarioLists) (past now : List Entry) (event : Event) (fault : EntryFault) → now ≡ past → Acts {U = U} s (Err fault) past (after_event (layout_of s) event past) past → Acts {U = U} s (Err fault) past (after_event (layout_of s) event past) now
 unmoved {U} s past now event fault same acts = subst (λ (m : List Entry). Acts {U = U} s (Err fault) past (after_event (layout_of s) event past) m) (sym same) acts
 
 nothing_more : (past : List Entry) → past ≡ past ++ []
@@ -106,29 +104,25 @@ acts_memory {U} s past now event same =
 
 -- ---- an application of an event, as the cluster tells it
 
-pub acts_err : {U : Type 0} (s : ScenarioLists) (old new : ClusterView) (event : Event) (fault : ApplyFault) (f : DrainFault) → old.layout ≡ layout_of s → Applies old new event (Err fault) → f ≡ as_fault fault → Acts {U = U} s (Err f) old.journal (after_event (layout_of s) event old.journal) new.journal
-acts_err {U} s old new event fault f same told is =
-    subst (λ (g : DrainFault). Acts {U = U} s (Err g) old.journal (after_event (layout_of s) event old.journal) new.journal) (sym is) (by_fault fault told)
-  where
-    by_fault : (g : ApplyFault) → Applies old new event (Err g) → Acts {U = U} s (Err (as_fault g)) old.journal (after_event (layout_of s) event old.journal) new.journal
-    by_fault (Applied.NotEnabled c) h = acts_refused {U = U} s old.journal new.journal event c (ap (λ (l : Layout). stop l old.journal event) (sym same) ∙ h.0) (ap (λ (v : ClusterView). v.journal) h.1)
-    by_fault (Applied.LogFull p) h = acts_full {U = U} s old.journal new.journal event p (ap (λ (l : Layout). stop l old.journal event) (sym same) ∙ h.0) (ap (λ (v : ClusterView). v.journal) h.1)
-    by_fault Applied.NoMemory h = acts_memory {U = U} s old.journal new.journal event (ap (λ (v : ClusterView). v.journal) h)
+pub acts_err : {U : Type 0} (s : ScenarioLists) (old new : ClusterView) (event : Event) (fault : EntryFault) → old.layout ≡ layout_of s → Applies old new event (Err fault) → Acts {U = U} s (Err fault) old.journal (after_event (layout_of s) event old.journal) new.journal
+acts_err {U} s old new event (Faults.NotEnabled c) same h = acts_refused {U = U} s old.journal new.journal event c (ap (λ (l : Layout). stop l old.journal event) (sym same) ∙ h.0) (ap (λ (v : ClusterView). v.journal) h.1)
+acts_err {U} s old new event (Faults.LogFull p) same h = acts_full {U = U} s old.journal new.journal event p (ap (λ (l : Layout). stop l old.journal event) (sym same) ∙ h.0) (ap (λ (v : ClusterView). v.journal) h.1)
+acts_err {U} s old new event Faults.NoMemory same h = acts_memory {U = U} s old.journal new.journal event (ap (λ (v : ClusterView). v.journal) h)
 
 -- a cluster, with the layout of a scenario
 abbrev pub of_layout : ScenarioLists → ClusterView → ClusterView
 of_layout s v = record { layout = layout_of s; journal = v.journal }
 
 -- what is applied to a cluster of a scenario is so applied
-pub applies_to : (s : ScenarioLists) (old new : ClusterView) (event : Event) (r : Result Entry ApplyFault) → old.layout ≡ layout_of s → Applies old new event r → Applies (of_layout s old) (of_layout s new) event r
+pub applies_to : (s : ScenarioLists) (old new : ClusterView) (event : Event) (r : Result Entry EntryFault) → old.layout ≡ layout_of s → Applies old new event r → Applies (of_layout s old) (of_layout s new) event r
 applies_to s old new event (Ok x) same told = (
   ap (λ (l : Layout). stop l old.journal event) (sym same) ∙ told.0,
   told.1 ∙ ap (λ (l : Layout). next_entry l old.journal event) same,
   ap (of_layout s) told.2,
 )
-applies_to s old new event (Err (Applied.NotEnabled c)) same told = (ap (λ (l : Layout). stop l old.journal event) (sym same) ∙ told.0, ap (of_layout s) told.1)
-applies_to s old new event (Err (Applied.LogFull p)) same told = (ap (λ (l : Layout). stop l old.journal event) (sym same) ∙ told.0, ap (of_layout s) told.1)
-applies_to s old new event (Err Applied.NoMemory) same told = ap (of_layout s) told
+applies_to s old new event (Err (Faults.NotEnabled c)) same told = (ap (λ (l : Layout). stop l old.journal event) (sym same) ∙ told.0, ap (of_layout s) told.1)
+applies_to s old new event (Err (Faults.LogFull p)) same told = (ap (λ (l : Layout). stop l old.journal event) (sym same) ∙ told.0, ap (of_layout s) told.1)
+applies_to s old new event (Err Faults.NoMemory) same told = ap (of_layout s) told
 
 -- an event that was applied
 pub record IsStep (s : ScenarioLists) (old new : ClusterView) (event : Event) (x : Entry) : Type 0 where

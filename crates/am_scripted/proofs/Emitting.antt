@@ -11,11 +11,12 @@ use Rattle.am_office.specs.declared.Entry.{Entry}
 use Rattle.am_office.specs.Entries.{emitted_of}
 use Rattle.am_model.specs.Channels.{emitted, is_on_link}
 use Rattle.am_model.specs.Packets.{receiver_of, from_of}
+use Rattle.am_model.specs.Layout.{node_at}
 use Rattle.am_local.proofs.Growing.{emitted_append}
 use Rattle.am_journal.proofs.Lists.{got_set, set_length, index_got}
 use Rattle.am_plan.specs.declared.plan.PlanLine.{PlanLine}
 use Rattle.am_plan.specs.Shape.{fault_at, number_of}
-use Rattle.am_scripted.specs.Links.{AreFed, Released, fed, fed_at, node_at, nothing, released_of}
+use Rattle.am_scripted.specs.Links.{AreFed, Released, fed, fed_at, nothing, released_of}
 use Rattle.am_scripted.specs.Scripted.{fed_by}
 use Rattle.am_scripted.proofs.Feeding.{fed_more}
 

@@ -2,12 +2,12 @@
 use Rattle.std.specs.Prelude.{slice_get, slice_index_or, slice_set}
 use Rattle.std.proofs.Common.{◌≡◌, ◌⊎◌, inl, inr, ⊎_elim, ℕ, zero, suc, ◌+◌, ◌*◌, ◌<◌, ◌==◌, cond, List, [], ◌∷◌, ◌++◌, length, Some, None, sym, ap, ◌∙◌, arith, ◌-◌, drop, subst}
 use Rattle.std.proofs.lemmas.List.{drop_more}
+use Rattle.am_model.specs.Layout.{node_at}
 use Rattle.am_journal.proofs.Lists.{got_set, set_length}
 use Rattle.am_plan.specs.declared.plan.LinkFault.{LinkFault}
 use Rattle.am_plan.specs.declared.plan.PlanLine.{PlanLine}
 use Rattle.am_release.specs.Faults.{SaysOf, said}
 use Rattle.am_release.proofs.Saying.{line_of_another, line_of_it}
-use Rattle.am_scripted.specs.Links.{node_at}
 use Rattle.am_scripted.specs.Plans.{HasFaults}
 
 pub got_push : {X : Type 0} (xs : List X) (x m : X) (k : ℕ) → slice_get (xs ++ x ∷ []) k ≡ Some m → (slice_get xs k ≡ Some m) ⊎ (m ≡ x)

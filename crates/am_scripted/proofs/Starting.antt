@@ -4,13 +4,14 @@ use Rattle.std.specs.List.{All}
 use Rattle.std.proofs.Common.{◌≡◌, ℕ, ◌+◌, ◌*◌, ◌≤◌, List, [], map, length, Some, sym, ◌∙◌, subst, arith}
 use Rattle.am_office.specs.declared.Entry.{Entry}
 use Rattle.am_model.specs.Channels.{emitted}
+use Rattle.am_model.specs.Layout.{node_at}
 use Rattle.am_journal.proofs.Lists.{got_all, got_mapped, map_length}
 use Rattle.am_plan.specs.declared.plan.PlanLine.{PlanLine}
 use Rattle.am_scenario_types.specs.Lists.{ScenarioLists}
 use Rattle.am_model.specs.Parts.{touches_part}
 use Rattle.am_run_laws.specs.Drained.{HasShortLogs}
 use Rattle.am_release.specs.Staged.{Staged}
-use Rattle.am_scripted.specs.Links.{AreFed, Released, node_at, nothing, released_in, released_of}
+use Rattle.am_scripted.specs.Links.{AreFed, Released, nothing, released_in, released_of}
 
 pub fed_nothing : (plan : List PlanLine) (links : List (Staged ℕ)) → length links ≡ 256 → All (λ (l : Staged ℕ). released_in l ≡ nothing) links → AreFed plan [] (map released_in links)
 fed_nothing plan links all none =

@@ -4,6 +4,7 @@ use Rattle.am_names.specs.declared.NodeId.{NodeId}
 use Rattle.am_names.specs.declared.Packet.{Packet}
 use Rattle.am_office.specs.declared.Entry.{Entry}
 use Rattle.am_model.specs.Channels.{emitted}
+use Rattle.am_model.specs.Layout.{node_at}
 use Rattle.am_plan.specs.declared.plan.LinkFault.{LinkFault}
 use Rattle.am_plan.specs.declared.plan.PlanLine.{PlanLine}
 use Rattle.am_plan.specs.Shape.{fault_at, number_of, shape}
@@ -43,9 +44,6 @@ fed place fault number r = record { numbers = r.numbers ++ freed place fault num
 -- what the emissions on a link released, and what they hold back that was not released
 abbrev pub released_of : List PlanLine → NodeId → NodeId → List Packet → Released
 released_of plan from to sent = record { numbers = map number_of (shape plan from to sent); held = held_after (fault_at plan from to) (map number_of sent) }
-
-abbrev pub node_at : ℕ → NodeId
-node_at n = record { 0 = n }
 
 -- a link that released nothing
 abbrev pub nothing : Released

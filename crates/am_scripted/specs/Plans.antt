@@ -1,9 +1,9 @@
 -- What a plan says of the packets of each link.
 use Rattle.std.specs.Prelude.{◌≡◌, ℕ, ◌+◌, ◌*◌, ◌<◌, Some, List, All, length, slice_get}
+use Rattle.am_model.specs.Layout.{node_at}
 use Rattle.am_plan.specs.declared.plan.LinkFault.{LinkFault}
 use Rattle.am_plan.specs.declared.plan.PlanLine.{PlanLine}
 use Rattle.am_release.specs.Faults.{SaysOf}
-use Rattle.am_scripted.specs.Links.{node_at}
 use Rattle.am_scripted.specs.declared.plan_index.PlanIndex.TheInside.{Inside}
 
 -- the lines are of links between 16 nodes

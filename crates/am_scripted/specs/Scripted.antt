@@ -10,11 +10,7 @@ use Rattle.am_scenario_types.specs.Lawful.{IsLawful}
 use Rattle.am_scenario_types.specs.Lists.{ScenarioLists}
 use Rattle.am_follow.specs.Layout.{layout_of}
 use Rattle.am_run_laws.specs.Drained.{HasShortLogs}
-use Rattle.am_drain_loop.specs.declared.DrainFault.{DrainFault}
-use Rattle.am_drain_loop.specs.declared.DrainFault.TheVariants as Drains
 use Rattle.am_machine.specs.View.{ClusterView}
-use Rattle.am_machine.specs.declared.settings.ApplyFault.{ApplyFault}
-use Rattle.am_machine.specs.declared.settings.ApplyFault.TheVariants as Applied
 use Rattle.am_scripted.specs.Links.{AreFed, IsSpared, Released, fed_at, released_in}
 use Rattle.am_scripted.specs.Threads.{scripted_in, scripted_of}
 use Rattle.am_scripted.specs.declared.scripted.ScriptedCluster.TheInside.{Inside}
@@ -30,12 +26,6 @@ view_of m = record { scenario = m.scenario.now; journal = m.cluster.journal }
 -- its cluster, as callers of a cluster see it
 abbrev pub cluster_of : ScriptedView → ClusterView
 cluster_of v = record { layout = layout_of v.scenario; journal = v.journal }
-
--- why a drain could not make an entry, by why the cluster could not
-abbrev pub as_fault : ApplyFault → DrainFault
-as_fault (Applied.NotEnabled condition) = Drains.NotEnabled condition
-as_fault (Applied.LogFull part) = Drains.LogFull part
-as_fault Applied.NoMemory = Drains.NoMemory
 
 -- how many entries the logs of a cluster hold together at most: those of 256 endpoints and 16 interfaces
 abbrev pub capacity_of : ScenarioLists → ℕ

@@ -28,8 +28,8 @@ use crate::emissions::links_after;
 pub use crate::scripted::ScriptedCluster;
 use crate::scripted::{Beside, Drained, drain_in_place, plan_of};
 use crate::threads::{ThreadScript, scripts_after, tell_made};
-use am_drain_loop::DrainFault;
 use am_machine::{Cluster, NoMemory};
+use am_model::EntryFault;
 use am_run_laws::runs_have_short_logs;
 use am_scenario_types::Scenario;
 use std::alloc::Global;
@@ -90,7 +90,7 @@ fn drain_threads(cluster: &mut Cluster, scenario: &Scenario) -> Result<Drained, 
 /// NotEnabled: before the first entry whose event has this condition against it. NoMemory: it is a beginning of what the drain
 /// makes.
 #[tactic(auto, using(crate::proofs::Applying::begun))]
-pub fn drain_cluster(cluster: &mut Cluster, scenario: &Scenario) -> Result<(), DrainFault>
+pub fn drain_cluster(cluster: &mut Cluster, scenario: &Scenario) -> Result<(), EntryFault>
     requires lawful { IsLawful scenario.now }
     requires packet { scenario.now.network ≡ Packet }
     requires layout { cluster.old.layout ≡ layout_of scenario.now }
@@ -100,13 +100,13 @@ pub fn drain_cluster(cluster: &mut Cluster, scenario: &Scenario) -> Result<(), D
 {
     match drain_threads(cluster, scenario) {
         Ok(drained) => drained.result,
-        Err(_) => Err(DrainFault::NoMemory),
+        Err(_) => Err(EntryFault::NoMemory),
     }
 }
 
 /// The same, with how many calls each thread made: `made` has the numbers in the order of the threads, before and after.
 #[tactic(auto, using(crate::proofs::Applying::begun))]
-pub fn drain(cluster: &mut Cluster, scenario: &Scenario, made: &mut [u32]) -> Result<(), DrainFault>
+pub fn drain(cluster: &mut Cluster, scenario: &Scenario, made: &mut [u32]) -> Result<(), EntryFault>
     requires lawful { IsLawful scenario.now }
     requires packet { scenario.now.network ≡ Packet }
     requires layout { cluster.old.layout ≡ layout_of scenario.now }
@@ -121,7 +121,7 @@ pub fn drain(cluster: &mut Cluster, scenario: &Scenario, made: &mut [u32]) -> Re
             tell_of(scenario, cluster, &drained.threads, made);
             drained.result
         }
-        Err(_) => Err(DrainFault::NoMemory),
+        Err(_) => Err(EntryFault::NoMemory),
     }
 }
 

@@ -2,7 +2,7 @@
 ghost use Rattle.am_scripted.specs.Links.{AreFed, IsSpared, released_in};
 ghost use Rattle.am_machine.specs.View.{Applies};
 ghost use Rattle.am_model.specs.History.{IsHistory, is_in_range};
-ghost use Rattle.am_scripted.specs.Scripted.{AreParts, as_fault, capacity_of, cluster_of};
+ghost use Rattle.am_scripted.specs.Scripted.{AreParts, capacity_of, cluster_of};
 ghost use Rattle.am_scripted.specs.Tries.{IsLastIfMade};
 ghost use Rattle.am_scripted.specs.Threads.{scripted_in, scripted_of};
 ghost use Rattle.am_drain.specs.Cut.{IsDrainedWithRoom};
@@ -21,9 +21,9 @@ use crate::looks::{has_bound, head_at, head_by, home, is_frame_held, mail_at, re
 use crate::plan_index::PlanIndex;
 use crate::threads::{ThreadScript, all_scripts, count_event, left_to, next_call};
 use crate::tries::is_last;
-use am_drain_loop::{DrainFault, EndHead, EndMail, LeftCall, Machine};
-use am_machine::{ApplyFault, Cluster};
-use am_model::Head;
+use am_drain_loop::{EndHead, EndMail, LeftCall, Machine};
+use am_machine::Cluster;
+use am_model::{EntryFault, Head};
 use am_names::{EndpointId, NodeId};
 use am_office::{Entry, Event, Journal, NoMemory};
 use am_scenario_types::{Scenario, ScriptCall};
@@ -118,7 +118,7 @@ impl<'a> ScriptedCluster<'a> {
     }
 
     /// Makes the entry of an event. A fault says what keeps it from happening, and changes nothing.
-    pub fn step(&mut self, event: Event) -> Result<Entry, ApplyFault>
+    pub fn step(&mut self, event: Event) -> Result<Entry, EntryFault>
         requires { is_in_range (layout_of self.old.scenario) event ≡ true }
         ensures scenario { self.new.scenario ≡ self.old.scenario }
         ensures applies { Applies (cluster_of self.old) (cluster_of self.new) event result }
@@ -126,7 +126,7 @@ impl<'a> ScriptedCluster<'a> {
     {
         self.cluster.laws();
         if make_all_room(&mut self.links).is_err() {
-            return Err(ApplyFault::NoMemory);
+            return Err(EntryFault::NoMemory);
         }
         match self.cluster.apply(&event) {
             Ok(entry) => {
@@ -148,17 +148,6 @@ pub(crate) fn plan_of<'a>(alloc: Global, scenario: &'a Scenario) -> Result<PlanI
     PlanIndex::new(alloc, &scenario.plan)
 }
 
-/// Why a drain could not make an entry, by why the cluster could not.
-fn as_fault(fault: ApplyFault) -> DrainFault
-    ensures { result ≡ as_fault fault }
-{
-    match fault {
-        ApplyFault::NotEnabled(condition) => DrainFault::NotEnabled(condition),
-        ApplyFault::LogFull(part) => DrainFault::LogFull(part),
-        ApplyFault::NoMemory => DrainFault::NoMemory,
-    }
-}
-
 /// What is kept beside a cluster that has made entries.
 #[derive(Drop)]
 pub(crate) struct Beside<'a> {
@@ -171,7 +160,7 @@ pub(crate) struct Beside<'a> {
 /// How a drain ended, and what each thread is still to call.
 #[derive(Drop)]
 pub(crate) struct Drained {
-    pub(crate) result: Result<(), DrainFault>,
+    pub(crate) result: Result<(), EntryFault>,
     pub(crate) threads: Vec<ThreadScript>,
 }
 
@@ -303,10 +292,10 @@ impl<'a> Machine for ScriptedCluster<'a> {
         left_to(&self.threads[index])
     }
 
-    fn apply(&mut self, event: Event) -> Result<(), DrainFault> {
+    fn apply(&mut self, event: Event) -> Result<(), EntryFault> {
         match self.step(event) {
             Ok(_) => Ok(()),
-            Err(fault) => Err(as_fault(fault)),
+            Err(fault) => Err(fault),
         }
     }
 }

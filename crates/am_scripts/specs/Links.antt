@@ -9,6 +9,7 @@ use Rattle.am_office.specs.declared.Event.TheVariants as Events
 use Rattle.am_office.specs.declared.Entry.{Entry}
 use Rattle.am_model.specs.Channels.{emitted}
 use Rattle.am_model.specs.History.{EachAfter}
+use Rattle.am_model.specs.Layout.{node_at}
 use Rattle.am_plan.specs.Shape.{shape, number_of}
 use Rattle.am_scenario_types.specs.Lists.{ScenarioLists}
 
@@ -17,9 +18,6 @@ abbrev pub first_some : {X : Type 0} → List (Option X) → Option X
 first_some [] = None
 first_some (Some x ∷ xs) = Some x
 first_some (None ∷ xs) = first_some xs
-
-abbrev pub node_at : ℕ → NodeId
-node_at number = record { 0 = number }
 
 -- the nodes of a scenario, in ascending order
 abbrev pub nodes_of : ScenarioLists → List NodeId

@@ -21,8 +21,8 @@ use Rattle.am_iface.specs.View as ifaces
 use Rattle.am_iface.specs.View.{InterfaceView}
 use Rattle.am_iface.specs.With.{IsFullOf}
 use Rattle.am_iface.specs.declared.Turned.{Turned}
-use Rattle.am_iface.specs.declared.IfaceFault.{IfaceFault}
-use Rattle.am_iface.specs.declared.IfaceFault.TheVariants as Ifaults
+use Rattle.am_model.specs.declared.EntryFault.{EntryFault}
+use Rattle.am_model.specs.declared.EntryFault.TheVariants as EntryFaults
 
 -- a book after a call or a want, whatever it answers
 pub called_book : (e f : EndpointView) (r : Result Entry EndFault) (clock : ℕ) → IsBook e → f.settings ≡ e.settings → IfOk r (λ (x : Entry). f.log ≡ e.log ++ x ∷ []) → OnErr r (f.log ≡ e.log)
@@ -41,20 +41,20 @@ want_keeps s (Err fault) actor end is = tt
 -- ---- a book after an interface's work
 
 -- the first condition that fails, where the turn did its work
-abbrev pub TellsDisabled : Result Turned IfaceFault → Option Condition → Type 0
-TellsDisabled r failing = (c : Condition) → (r ≡ Err (Ifaults.NotEnabled c)) ↔ (failing ≡ Some c)
+abbrev pub TellsDisabled : Result Turned EntryFault → Option Condition → Type 0
+TellsDisabled r failing = (c : Condition) → (r ≡ Err (EntryFaults.NotEnabled c)) ↔ (failing ≡ Some c)
 
-abbrev pub TellsFull : Result Turned IfaceFault → Option Condition → (Part → Type 0) → Type 0
-TellsFull r failing Full = (p : Part) → (r ≡ Err (Ifaults.LogFull p)) ↔ ((failing ≡ None) × Full p)
+abbrev pub TellsFull : Result Turned EntryFault → Option Condition → (Part → Type 0) → Type 0
+TellsFull r failing Full = (p : Part) → (r ≡ Err (EntryFaults.LogFull p)) ↔ ((failing ≡ None) × Full p)
 
 pub enabled_done : (t : Turned) (failing : Option Condition) → TellsDisabled (Ok t) failing → failing ≡ None
 enabled_done t None disabled = refl
-enabled_done t (Some c) disabled = absurd (let bad : ◌≡◌ {A = Result Turned IfaceFault} (Ok t) (Err (Ifaults.NotEnabled c)) = (disabled c).1 refl in cc)
+enabled_done t (Some c) disabled = absurd (let bad : ◌≡◌ {A = Result Turned EntryFault} (Ok t) (Err (EntryFaults.NotEnabled c)) = (disabled c).1 refl in cc)
 
 full_none : (t : Turned) (failing : Option Condition) (Full : Part → Type 0) (p : Part) → TellsDisabled (Ok t) failing → TellsFull (Ok t) failing Full → Full p → ⊥
-full_none t failing Full p disabled full h = let bad : ◌≡◌ {A = Result Turned IfaceFault} (Ok t) (Err (Ifaults.LogFull p)) = (full p).1 (enabled_done t failing disabled, h) in cc
+full_none t failing Full p disabled full h = let bad : ◌≡◌ {A = Result Turned EntryFault} (Ok t) (Err (EntryFaults.LogFull p)) = (full p).1 (enabled_done t failing disabled, h) in cc
 
-pub worked_book : (e f : EndpointView) (i : InterfaceView) (w : Work) (r : Result Turned IfaceFault) (failing : Option Condition) → IsBook e → f.settings ≡ e.settings → IfOk r (λ (t : Turned). f.log ≡ e.log ++ t.entry ∷ []) → OnErr r (f.log ≡ e.log)
+pub worked_book : (e f : EndpointView) (i : InterfaceView) (w : Work) (r : Result Turned EntryFault) (failing : Option Condition) → IsBook e → f.settings ≡ e.settings → IfOk r (λ (t : Turned). f.log ≡ e.log ++ t.entry ∷ []) → OnErr r (f.log ≡ e.log)
     → TellsDisabled r failing → TellsFull r failing (IsFullOf i e) → IfOk r (λ (t : Turned). t.entry.stamp ≡ stamp_after (max 0 (last_stamp e.log)) i.log w) → IfOk r (λ (t : Turned). keeps_on_disk (state_after e) t.entry ≡ true) → IsBook f
 worked_book e f i w (Ok t) failing b set log same disabled full stamped keeps =
     grown_book e f t.entry b set log (λ h. full_none t failing (IsFullOf i e) (Parts.Endpoint e.settings.id) disabled full (inl (refl, h)))

@@ -29,7 +29,7 @@ use Rattle.am_local.specs.declared.work.Work.{Work}
 use Rattle.am_local.specs.declared.work.Work.TheVariants as Works
 use Rattle.am_local.proofs.Granting.{work_granted}
 use Rattle.am_iface.specs.View.{InterfaceView, own}
-use Rattle.am_iface.specs.declared.IfaceFault.{IfaceFault}
+use Rattle.am_model.specs.declared.EntryFault.{EntryFault}
 use Rattle.am_iface.specs.declared.Turned.{Turned}
 use Rattle.am_phase.specs.Lying.{keeps_body, keeps_on_disk}
 use Rattle.am_turns.specs.Turns.{MayBounce, SettlesHere}
@@ -95,7 +95,7 @@ work_keeps i e s (Works.Bind end) x at here bounces =
 work_keeps i e s (Works.Expire peer channel) x at here bounces = absurd bounces
 
 -- whatever the turn answers
-pub turn_keeps : (i : InterfaceView) (e : EndpointView) (w : Work) (r : Result Turned IfaceFault) → needs (own i) w ≡ Some e.settings.id → TellsDisabled r (failing_at (own i) (state_after e) w) → IfOk r (λ (t : Turned). t.entry.event ≡ event_of i.settings.node w)
+pub turn_keeps : (i : InterfaceView) (e : EndpointView) (w : Work) (r : Result Turned EntryFault) → needs (own i) w ≡ Some e.settings.id → TellsDisabled r (failing_at (own i) (state_after e) w) → IfOk r (λ (t : Turned). t.entry.event ≡ event_of i.settings.node w)
     → IfOk r (λ (t : Turned). t.entry.outcome ≡ outcome_at (own i) (state_after e) w) → FitsEndpoint (own i) (state_after e) w → is_direct (state_after e).head.place ≡ false → SettlesHere (state_after e) w → MayBounce i.settings.bounces (state_after e) w
     → IfOk r (λ (t : Turned). keeps_on_disk (state_after e) t.entry ≡ true)
 turn_keeps i e w (Ok t) needed disabled event outcome fits packet here bounces =

@@ -19,7 +19,7 @@ use Rattle.am_iface.specs.View as ifaces
 use Rattle.am_iface.specs.View.{InterfaceView, own}
 use Rattle.am_iface.specs.With.{IsFullOf}
 use Rattle.am_iface.specs.declared.Turned.{Turned}
-use Rattle.am_iface.specs.declared.IfaceFault.TheVariants as Ifaults
+use Rattle.am_model.specs.declared.EntryFault.TheVariants as EntryFaults
 use Rattle.am_places.specs.Rule.{joined}
 use Rattle.am_places.specs.declared.board.Tenure.{Tenure}
 use Rattle.am_works.specs.Seats.{EndPass, Stays}
@@ -80,7 +80,7 @@ worked_found e i j w t needed disabled event outcome stamped out logged bounces 
 )
 
 -- a log is full
-pub full_found : (e : EndpointView) (i j : InterfaceView) (p : Part) (failing : Option Condition) → TellsFull (Err (Ifaults.LogFull p)) failing (IsFullOf i e) → j ≡ i → IsSomeFull i e.settings e.log × (j ≡ i)
+pub full_found : (e : EndpointView) (i j : InterfaceView) (p : Part) (failing : Option Condition) → TellsFull (Err (EntryFaults.LogFull p)) failing (IsFullOf i e) → j ≡ i → IsSomeFull i e.settings e.log × (j ≡ i)
 full_found e i j p failing full same = (⊎_elim at_end at_interface ((full p).0 refl).1, same)
   where
     at_end : (p ≡ Parts.Endpoint e.settings.id) × (length e.log ≡ e.settings.log) → IsSomeFull i e.settings e.log

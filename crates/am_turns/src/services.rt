@@ -19,7 +19,8 @@ use crate::interfaces::interface_turn;
 use crate::turns::InterfaceTurn;
 use crate::works::stamp_in;
 use am_books::EndBook;
-use am_iface::{IfaceFault, IfaceSettings, Interface, Work};
+use am_iface::{IfaceSettings, Interface, Work};
+use am_model::EntryFault;
 use am_names::{EndpointId, NodeId};
 use am_places::{Places, Seat};
 
@@ -74,9 +75,9 @@ fn work_alone(interface: &mut Interface, work: &Work) -> InterfaceTurn
 {
     match interface.turn_alone(0, work) {
         Ok(turned) => InterfaceTurn::Made(turned),
-        Err(IfaceFault::NotEnabled(_)) => InterfaceTurn::NotYet,
-        Err(IfaceFault::LogFull(_)) => InterfaceTurn::Full,
-        Err(IfaceFault::NoMemory) => InterfaceTurn::NoMemory,
+        Err(EntryFault::NotEnabled(_)) => InterfaceTurn::NotYet,
+        Err(EntryFault::LogFull(_)) => InterfaceTurn::Full,
+        Err(EntryFault::NoMemory) => InterfaceTurn::NoMemory,
     }
 }
 

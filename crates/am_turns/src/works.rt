@@ -17,8 +17,8 @@ use crate::calls::{is_on_disk, is_spent};
 use crate::turns::InterfaceTurn;
 use am_books::EndBook;
 use am_endpoint::Endpoint;
-use am_iface::{IfaceFault, IfaceSettings, Interface, Work};
-use am_model::Queued;
+use am_iface::{IfaceSettings, Interface, Work};
+use am_model::{EntryFault, Queued};
 use am_names::{EndpointId, NodeId, Packet};
 use am_office::Place;
 
@@ -151,9 +151,9 @@ fn work_on(interface: &mut Interface, work: &Work, book: &mut EndBook) -> Interf
 {
     match interface.turn_with(0, work, &mut book.end) {
         Ok(turned) => InterfaceTurn::Made(turned),
-        Err(IfaceFault::NotEnabled(_)) => InterfaceTurn::NotYet,
-        Err(IfaceFault::LogFull(_)) => InterfaceTurn::Full,
-        Err(IfaceFault::NoMemory) => InterfaceTurn::NoMemory,
+        Err(EntryFault::NotEnabled(_)) => InterfaceTurn::NotYet,
+        Err(EntryFault::LogFull(_)) => InterfaceTurn::Full,
+        Err(EntryFault::NoMemory) => InterfaceTurn::NoMemory,
     }
 }
 

@@ -14,7 +14,7 @@ use Rattle.am_office.specs.Entries.{is_node, node_touched, touches_node}
 use Rattle.am_body.specs.declared.settings.EndSettings.{EndSettings}
 use Rattle.am_endpoint.specs.View.{EndpointView}
 use Rattle.am_model.specs.Channels.{emitted}
-use Rattle.am_model.specs.Layout.{AllAre, EndSetting}
+use Rattle.am_model.specs.Layout.{AllAre, EndSetting, node_at}
 use Rattle.am_journal.specs.View.{is_receipt, receipts}
 use Rattle.am_local.specs.Readings.{page_calls}
 use Rattle.am_local.specs.Together.{ends_of}
@@ -23,7 +23,6 @@ use Rattle.am_local.proofs.Parts.{emitted_own}
 use Rattle.am_local.proofs.Within.{count_within}
 use Rattle.am_moves.specs.Logs.{kept}
 use Rattle.am_machine.specs.Ends.{setting_in}
-use Rattle.am_machine.specs.Interfaces.{node_at}
 use Rattle.am_machine.specs.Kept.{IsOwn}
 use Rattle.am_machine.specs.Parts.{IsNodePart, is_declared_at}
 use Rattle.am_machine.specs.Swaps.{IsSwap}

@@ -7,10 +7,9 @@ use Rattle.std.proofs.Math.Seq.{drop-append_seam}
 use Rattle.am_names.specs.declared.NodeId.{NodeId}
 use Rattle.am_office.specs.declared.Entry.{Entry}
 use Rattle.am_join.proofs.Standing.{behind}
-use Rattle.am_model.specs.Layout.{AllAre}
+use Rattle.am_model.specs.Layout.{AllAre, node_at}
 use Rattle.am_local.specs.Together.{ends_of}
 use Rattle.am_journal.specs.View.{receipts}
-use Rattle.am_machine.specs.Interfaces.{node_at}
 use Rattle.am_machine.specs.Parts.{is_declared_at}
 use Rattle.am_node.specs.declared.NodePart.{NodePart}
 use Rattle.am_plan.specs.Shape.{shape}

@@ -4,8 +4,7 @@ use Rattle.std.specs.List.{AllPairs, filter}
 use Rattle.std.specs.Option.{option_map}
 use Rattle.std.proofs.Common.{◌≡◌, ◌≢◌, ◌⊎◌, inl, inr, ⊎_elim, ℕ, zero, suc, ◌<◌, ◌==◌, Bool, true, false, cond, List, [], ◌∷◌, ◌++◌, length, Some, refl, sym, ap, ◌∙◌, subst, arith, eqb-true, eq-eqb, true≢false}
 use Rattle.std.proofs.lemmas.Option.{same_Some, slice_get-map}
-use Rattle.am_model.specs.Layout.{AllAre}
-use Rattle.am_machine.specs.Interfaces.{node_at}
+use Rattle.am_model.specs.Layout.{AllAre, node_at}
 use Rattle.am_machine.proofs.PartLogs.{got_mapped}
 use Rattle.am_scenario_types.specs.declared.parts.ThreadLine.{ThreadLine}
 use Rattle.am_scenario_types.specs.Lists.{ScenarioLists}

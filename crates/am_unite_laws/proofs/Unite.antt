@@ -2,8 +2,7 @@
 use Rattle.std.proofs.Common.{◌≡◌, ℕ, ◌^◌, ◌<◌, ◌≤◌, List, sym, ap, ◌∙◌, subst, arith, Contains}
 use Rattle.am_office.specs.declared.Entry.{Entry}
 use Rattle.am_office.specs.Entries.{touches}
-use Rattle.am_model.specs.Layout.{AllAre}
-use Rattle.am_machine.specs.Interfaces.{node_at}
+use Rattle.am_model.specs.Layout.{AllAre, node_at}
 use Rattle.am_machine.specs.Parts.{AreNodeParts}
 use Rattle.am_merge.specs.Merged.{entries_of, merged}
 use Rattle.am_merge.proofs.Inserting.{sorted_has}

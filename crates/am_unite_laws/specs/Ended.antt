@@ -9,10 +9,9 @@ use Rattle.am_endpoint.specs.View.{EndpointView}
 use Rattle.am_iface.specs.View.{InterfaceView, own}
 use Rattle.am_journal.specs.View.{receipts}
 use Rattle.am_local.specs.Interface.{home_in}
-use Rattle.am_machine.specs.Interfaces.{node_at}
 use Rattle.am_machine.specs.Parts.{CanUnite, is_declared_at}
 use Rattle.am_merge.specs.Merged.{merged}
-use Rattle.am_model.specs.Layout.{Layout, home}
+use Rattle.am_model.specs.Layout.{Layout, home, node_at}
 use Rattle.am_node.specs.declared.NodePart.{NodePart}
 use Rattle.am_node.specs.Parts.{journal_of}
 use Rattle.am_scenario_types.specs.declared.parts.Network.TheVariants as Networks

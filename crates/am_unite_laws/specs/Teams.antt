@@ -9,9 +9,8 @@ use Rattle.am_office.specs.declared.Entry.{Entry}
 use Rattle.am_device.specs.Memory.{Store}
 use Rattle.am_journal.specs.View.{receipts}
 use Rattle.am_local.specs.Together.{ends_of}
-use Rattle.am_machine.specs.Interfaces.{node_at}
 use Rattle.am_machine.specs.Parts.{CanUnite, is_declared_at}
-use Rattle.am_model.specs.Layout.{AllAre}
+use Rattle.am_model.specs.Layout.{AllAre, node_at}
 use Rattle.am_node.specs.declared.NodePart.{NodePart}
 use Rattle.am_node.specs.Parts.{journal_of}
 use Rattle.am_plan.specs.Shape.{shape}

@@ -27,16 +27,11 @@ returns-clause-stopped c =
     record {
       phase = [];
       is_phase = record { history = tt; is_phase = is_phase; scripts = search rules; in_order = tt; events = refl };
-      added = journal;
-      next = next;
-      later = later;
-      turns = 4;
-      drained = refl;
-      made = refl;
+      drained = record { added = journal; made = refl; next = next; later = later; turns = 4; planned = refl };
       touches = refl;
       full = refl;
     }
 
 pub returns-clause-cut_off : goal.returns-clause-cut_off
 unfolding next later
-returns-clause-cut_off c = record { added = journal; next = next; later = later; turns = 4; planned = refl; made = refl; room = room; full = refl }
+returns-clause-cut_off c = record { drained = record { added = journal; made = refl; next = next; later = later; turns = 4; planned = refl }; room = room; full = refl }

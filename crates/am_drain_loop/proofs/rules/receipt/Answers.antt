@@ -1,6 +1,7 @@
 use Rattle.std.proofs.Common.{sym, ◌∙◌, ap, arith}
 use Rattle.std.specs.Prelude.{option_map}
-use Rattle.am_scripts.specs.Links.{node_at, receipt_at}
+use Rattle.am_model.specs.Layout.{node_at}
+use Rattle.am_scripts.specs.Links.{receipt_at}
 use Rattle.am_scripts.proofs.Lists.{none_mapped}
 use Rattle.am_drain_loop.proofs.Ranges.{rest_mapped}
 use Rattle.am_drain.specs.declared.Turn.TheVariants as Turns

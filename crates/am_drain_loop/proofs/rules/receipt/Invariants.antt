@@ -1,5 +1,6 @@
 use Rattle.std.proofs.Common.{◌≡◌}
-use Rattle.am_scripts.specs.Links.{node_at, receipt_at, next_receipt}
+use Rattle.am_model.specs.Layout.{node_at}
+use Rattle.am_scripts.specs.Links.{receipt_at, next_receipt}
 use Rattle.am_drain_loop.proofs.Ranges.{rest}
 use Rattle.am_drain_loop.proofs.rules.receipt.Given as goal
 

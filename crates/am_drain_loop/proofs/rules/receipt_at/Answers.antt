@@ -1,6 +1,7 @@
 use Rattle.std.proofs.Common.{sym, ◌∙◌, ap, arith}
 use Rattle.std.specs.Prelude.{option_map}
-use Rattle.am_scripts.specs.Links.{node_at, due, receipt}
+use Rattle.am_model.specs.Layout.{node_at}
+use Rattle.am_scripts.specs.Links.{due, receipt}
 use Rattle.am_drain.specs.declared.Turn.TheVariants as Turns
 use Rattle.am_drain_loop.proofs.Ranges.{rest_nodes, rest_some, rest_none, rest_past}
 use Rattle.am_drain_loop.proofs.rules.receipt_at.Goals as goal

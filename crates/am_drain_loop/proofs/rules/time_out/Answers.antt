@@ -1,5 +1,5 @@
 use Rattle.std.proofs.Common.{sym, ◌∙◌, arith}
-use Rattle.am_scripts.specs.Links.{node_at}
+use Rattle.am_model.specs.Layout.{node_at}
 use Rattle.am_drain.specs.Rules as rules
 use Rattle.am_drain_loop.proofs.Ranges.{rest_nodes, rest_some, rest_none, rest_past}
 use Rattle.am_drain_loop.proofs.rules.time_out.Goals as goal

@@ -5,7 +5,7 @@ use Rattle.am_channel.specs.declared.ends.Ends.{Ends}
 use Rattle.am_local.specs.Interface.{channel_in}
 use Rattle.am_iface.specs.Made.{IsMade}
 use Rattle.am_iface.specs.View.{InterfaceView, own}
-use Rattle.am_iface.specs.declared.IfaceFault.TheVariants as Faults
+use Rattle.am_model.specs.declared.EntryFault.TheVariants as Faults
 use Rattle.am_iface.proofs.Entering as entering
 use Rattle.am_iface.proofs.Interface.enter_bound.Goals as goal
 

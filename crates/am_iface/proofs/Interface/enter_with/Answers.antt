@@ -1,7 +1,7 @@
 use Rattle.std.specs.Prelude.{Err}
 use Rattle.std.proofs.Common.{◌≡◌, ◌<◌, length, ap, arith}
 use Rattle.am_body.specs.declared.settings.EndSettings.{EndSettings}
-use Rattle.am_iface.specs.declared.IfaceFault.TheVariants as Faults
+use Rattle.am_model.specs.declared.EntryFault.TheVariants as Faults
 use Rattle.am_iface.proofs.TurningWith as turning
 use Rattle.am_iface.proofs.Interface.enter_with.Goals as goal
 

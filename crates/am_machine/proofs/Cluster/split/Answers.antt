@@ -1,12 +1,11 @@
 use Rattle.std.proofs.Common.{◌≡◌, List, false, map, refl, ap, ◌∙◌, sym, subst, arith}
+use Rattle.am_model.specs.Layout.{node_at}
 use Rattle.am_endpoint.specs.View.{EndpointView}
 use Rattle.am_node.specs.Parts.{all_logs, journal_of, parts_of}
 use Rattle.am_node.specs.Shells.{AreShells}
-use Rattle.am_node.specs.Shells as shells
 use Rattle.am_journal.specs.View.{received_in, receipts}
 use Rattle.am_moves.specs.Logs.{kept}
 use Rattle.am_machine.specs.Kept.{journal_by, layout_in}
-use Rattle.am_machine.specs.Interfaces.{node_at}
 use Rattle.am_machine.specs.Parts.{AreNodeParts}
 use Rattle.am_machine.specs.View.{ClusterView}
 use Rattle.am_journal.proofs.Growing.{received_is}
@@ -26,7 +25,7 @@ open_shells-requires-clause-small c =
     let nodes = c.self.invariant.kept'.tied.lawful.nodes.1 in
     λ k lt from below.
     (let few = receipts_bounded layout journal c.self.inside.interfaces.items (node_at from) (node_at k) c.self.invariant.kept'.interfaces' packet lt in
-    let is : received_in c.self.inside.index.read (shells.node_at from) (record { 0 = k }) ≡ receipts (node_at from) (node_at k) journal = received_is journal c.self.inside.index.read (node_at from) (node_at k) c.self.invariant.index' (omega (arith, below, nodes)) (omega (arith, lt, nodes)) in
+    let is : received_in c.self.inside.index.read (node_at from) (record { 0 = k }) ≡ receipts (node_at from) (node_at k) journal = received_is journal c.self.inside.index.read (node_at from) (node_at k) c.self.invariant.index' (omega (arith, below, nodes)) (omega (arith, lt, nodes)) in
     omega (arith, few, most, is))
 
 pub deal-requires : goal.deal-requires

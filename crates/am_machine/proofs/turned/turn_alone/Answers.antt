@@ -5,8 +5,6 @@ use Rattle.am_office.specs.declared.Place.TheVariants.{Host}
 use Rattle.am_model.specs.Endpoint.{State, fresh}
 use Rattle.am_iface.specs.View.{last_stamp, own}
 use Rattle.am_journal.specs.View.{CanCount, Readings}
-use Rattle.am_machine.specs.declared.settings.ApplyFault.{ApplyFault}
-use Rattle.am_machine.specs.Turned.{TurnsAlone}
 use Rattle.am_machine.specs.Ways.{GoesTo}
 use Rattle.am_machine.proofs.Turning as turning
 use Rattle.am_machine.proofs.turned.turn_alone.Goals as goal
@@ -49,9 +47,8 @@ pub returns-in-Err-clause-turns : goal.returns-in-Err-clause-turns
 returns-in-Err-clause-turns c past s is =
     let i = c.args.interface.now in
     let w = c.args.work.now in
-    subst (λ (f : ApplyFault). TurnsAlone i c.turn_alone.new.self past s w (Err f)) (sym c.refused.ensures)
-    (turning.turned_err i c.turn_alone.new.self past s w c.turn_alone.result c.in-Err.fault c.in-Err.is
-    (λ k. (c.turn_alone.ensures.disabled s k).0) (λ p. (c.turn_alone.ensures.full s p).0) c.in-Err.ensures.err)
+    turning.turned_err i c.turn_alone.new.self past s w c.turn_alone.result c.in-Err.fault c.in-Err.is
+    (λ k. (c.turn_alone.ensures.disabled s k).0) (λ p. (c.turn_alone.ensures.full s p).0) c.in-Err.ensures.err
 
 pub returns-in-Err-clause-index : goal.returns-in-Err-clause-index
 returns-in-Err-clause-index c past is = turning.index_same past c.args.index.now.read c.room_to.new.self.read c.room_to.ensures.read is

@@ -5,9 +5,8 @@ use Rattle.am_endpoint.specs.View as endpoints
 use Rattle.am_iface.specs.View.{last_stamp, own}
 use Rattle.am_iface.specs.Turns.{stamp_in}
 use Rattle.am_journal.specs.View.{CanCount, Readings}
-use Rattle.am_machine.specs.declared.settings.ApplyFault.{ApplyFault}
 use Rattle.am_moves.specs.Logs.{EndLog, state_in}
-use Rattle.am_machine.specs.Turned.{CanTurnWith, TurnsWith}
+use Rattle.am_machine.specs.Turned.{CanTurnWith}
 use Rattle.am_machine.specs.Ways.{GoesTo}
 use Rattle.am_machine.proofs.Turning as turning
 use Rattle.am_machine.proofs.turned.turn_with.Goals as goal
@@ -91,12 +90,11 @@ returns-in-Err-clause-turns c past is =
     let e = c.args.endpoint.now in
     let one = c.make_room.new.endpoint in
     let f = c.turn_with.new.endpoint in
-    turning.turns_still i c.turn_with.new.self e one f past w (Err c.refused.result) c.make_room.ensures.same
-    (subst (λ (g : ApplyFault). TurnsWith i c.turn_with.new.self one f past w (Err g)) (sym c.refused.ensures)
+    turning.turns_still i c.turn_with.new.self e one f past w (Err c.in-Err.fault) c.make_room.ensures.same
     (turning.turned_with_err i c.turn_with.new.self one f past w c.turn_with.result c.in-Err.fault c.in-Err.is
     (turning.ok_then c.make_room.result _ (sym c.is_err.ensures.value ∙ c.if-is_err.false) c.make_room.ensures.bounded)
     (λ k. (c.turn_with.ensures.disabled k).0) (λ p. (c.turn_with.ensures.full p).0) c.in-Err.ensures.err
-    (λ k. record { settings = c.in-Err.ensures.settings_there k; log = c.in-Err.ensures.err_there k })))
+    (λ k. record { settings = c.in-Err.ensures.settings_there k; log = c.in-Err.ensures.err_there k }))
 
 pub returns-in-Err-clause-index : goal.returns-in-Err-clause-index
 returns-in-Err-clause-index c past is = turning.index_same past c.args.index.now.read c.room_to.new.self.read c.room_to.ensures.read is

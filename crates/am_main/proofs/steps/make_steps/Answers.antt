@@ -1,6 +1,6 @@
 use Rattle.std.specs.Prelude.{slice_index_or, Result, Err}
 use Rattle.am_follow.specs.Layout.{events_of}
-use Rattle.am_machine.specs.declared.settings.ApplyFault.{ApplyFault}
+use Rattle.am_model.specs.declared.EntryFault.{EntryFault}
 use Rattle.am_machine.specs.View.{Applies, ClusterView}
 use Rattle.am_main.specs.Answer.{Makes}
 use Rattle.am_main.specs.declared.faults.StepFault.{StepFault}
@@ -37,7 +37,7 @@ loop-step-preserved c =
     let layout = c.args.cluster.now.layout in
     let old = c.loop-step.cluster in
     let range = ap (λ (l : Layout). is_in_range l step.event) c.loop-step.invariant.same ∙ event_in_range layout steps c.loop-step.step-index step c.requires.in_range at in
-    let told = subst (λ (r : Result Entry ApplyFault). Applies old c.apply.new.self step.event r) c.in-Ok.is c.apply.ensures in
+    let told = subst (λ (r : Result Entry EntryFault). Applies old c.apply.new.self step.event r) c.in-Ok.is c.apply.ensures in
     walks_on layout old.layout c.apply.new.self.layout steps c.loop-step.step-index old.journal c.apply.new.self.journal step c.in-Ok.field-0 c.loop-step.invariant at range
     told.0 told.1 (ap (λ (v : ClusterView). v.journal) told.2) (ap (λ (v : ClusterView). v.layout) told.2)
 
@@ -49,6 +49,6 @@ returns-in-Err-clause-makes c =
     let at = step_got steps c.loop-step.step-index none c.loop-step-test.true in
     let layout = c.args.cluster.now.layout in
     let old = c.loop-step.cluster in
-    let refused = subst (λ (r : Result Entry ApplyFault). Applies old c.apply.new.self step.event r) c.in-Err.is c.apply.ensures in
+    let refused = subst (λ (r : Result Entry EntryFault). Applies old c.apply.new.self step.event r) c.in-Err.is c.apply.ensures in
     subst (λ (f : StepFault). Makes steps c.apply.new.self.journal (made layout (events_of steps)) (Err f)) (sym c.fault_of.ensures)
     (stops_make layout old.layout steps c.loop-step.step-index old.journal c.apply.new.self.journal step old c.apply.new.self c.in-Err.fault c.loop-step.invariant at refl refl refused)

@@ -2,7 +2,8 @@ use Rattle.std.proofs.Common.{◌≡◌, ◌+◌, ◌∷◌, [], ◌∙◌, sym,
 use Rattle.std.specs.Global.{Vec}
 use Rattle.am_names.specs.declared.Packet.{Packet}
 use Rattle.am_model.specs.Channels.{emitted}
-use Rattle.am_node.specs.Shells.{AreCopies, node_at}
+use Rattle.am_model.specs.Layout.{node_at}
+use Rattle.am_node.specs.Shells.{AreCopies}
 use Rattle.am_node.proofs.Pushed.{each_more}
 use Rattle.am_node.proofs.shells.copies_of.Goals as goal
 

@@ -1,6 +1,7 @@
 use Rattle.std.proofs.Common.{◌≡◌, ◌+◌, ◌∷◌, [], ℕ, sym, subst, arith, length-append}
+use Rattle.am_model.specs.Layout.{node_at}
 use Rattle.am_journal.specs.View.{receipts}
-use Rattle.am_node.specs.Shells.{AreCounts, node_at}
+use Rattle.am_node.specs.Shells.{AreCounts}
 use Rattle.am_node.proofs.Pushed.{each_more}
 use Rattle.am_node.proofs.shells.counts_of.Goals as goal
 

@@ -1,5 +1,6 @@
 use Rattle.std.proofs.Common.{◌+◌, ◌∷◌, [], sym, subst, arith, length-append}
-use Rattle.am_node.specs.Shells.{AreShells, IsShell, node_at}
+use Rattle.am_model.specs.Layout.{node_at}
+use Rattle.am_node.specs.Shells.{AreShells, IsShell}
 use Rattle.am_node.specs.declared.shells.Shell.{Shell}
 use Rattle.am_node.proofs.Pushed.{each_more}
 use Rattle.am_node.proofs.shells.open_shells.Goals as goal

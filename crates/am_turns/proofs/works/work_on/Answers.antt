@@ -4,7 +4,7 @@ use Rattle.am_endpoint.specs.View as endpoints
 use Rattle.am_endpoint.specs.View.{EndpointView, state_after}
 use Rattle.am_iface.specs.View.{own}
 use Rattle.am_iface.specs.With.{IsFullOf}
-use Rattle.am_iface.specs.declared.IfaceFault.{IfaceFault}
+use Rattle.am_model.specs.declared.EntryFault.{EntryFault}
 use Rattle.am_local.specs.Granted.{FitsEndpoint}
 use Rattle.am_local.specs.Interface.{failing_at, needs}
 use Rattle.am_model.specs.Endpoint.{is_direct}
@@ -36,4 +36,4 @@ returns-in-Err-LogFull-clause-found c =
     let e = c.deref_mut.result.now in let i = c.args.interface.now in let w = c.args.work.now in
     subst (λ (d : EndpointView). InterfaceFound w i c.turn_with.new.self Worked.Full d.settings d.log) c.deref_mut.ensures.value
     (full_found e i c.turn_with.new.self c.in-Err-LogFull.field-0-0 (failing_at (own i) (state_after e) w)
-    (subst (λ (f : IfaceFault). TellsFull (Err f) (failing_at (own i) (state_after e) w) (IsFullOf i e)) c.in-Err-LogFull.field-0-is c.in-Err-LogFull.ensures.full) c.in-Err-LogFull.ensures.err)
+    (subst (λ (f : EntryFault). TellsFull (Err f) (failing_at (own i) (state_after e) w) (IsFullOf i e)) c.in-Err-LogFull.field-0-is c.in-Err-LogFull.ensures.full) c.in-Err-LogFull.ensures.err)

@@ -11,4 +11,4 @@ returns-in-Ok-clause-acts c =
 
 pub returns-in-Err-clause-acts : goal.returns-in-Err-clause-acts
 returns-in-Err-clause-acts c =
-    acts_err {U = Unit {0}} c.args.self.now.scenario (cluster_of c.args.self.now) (cluster_of c.step.new.self) c.args.event c.in-Err.fault c.as_fault.result refl c.in-Err.ensures.applies c.as_fault.ensures
+    acts_err {U = Unit {0}} c.args.self.now.scenario (cluster_of c.args.self.now) (cluster_of c.step.new.self) c.args.event c.in-Err.fault refl c.in-Err.ensures.applies
