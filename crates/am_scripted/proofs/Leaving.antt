@@ -1,9 +1,7 @@
 -- The call that is left to a thread is the one that its scenario names, and its numbers are in range.
-use Rattle.std.specs.Prelude.{slice_get, option_map, nat_lt, ◌&&◌, ◌==◌, IfSome}
-use Rattle.std.specs.List.{All, filter, find}
-use Rattle.std.proofs.Common.{◌≡◌, ℕ, zero, suc, ◌<◌, Bool, true, false, cond, List, [], ◌∷◌, map, Option, Some, None, refl, sym, ap, ◌∙◌, subst, arith, lt-ltb, eqb-true}
-use Rattle.am_names.specs.declared.EndpointId.{EndpointId}
-use Rattle.am_names.specs.declared.NodeId.{NodeId}
+use Rattle.std.specs.Prelude.{slice_get, option_map, nat_lt, ◌&&◌, IfSome}
+use Rattle.std.proofs.Common.{◌≡◌, ℕ, Bool, true, List, [], ◌∷◌, map, Option, Some, None, refl, sym, ap, ◌∙◌, lt-ltb}
+use Rattle.am_lemmas.proofs.Lists.{slice_get-map_Some, Some-slice_get_map}
 use Rattle.am_office.specs.declared.Actor.TheVariants.{Outside}
 use Rattle.am_office.specs.declared.Event.TheVariants as Events
 use Rattle.am_office.specs.declared.Entry.{Entry}
@@ -16,18 +14,12 @@ use Rattle.am_scenario_types.specs.Lists.{ScenarioLists}
 use Rattle.am_follow.specs.Layout.{layout_of}
 use Rattle.am_follow.proofs.Lawful.{event_in_range}
 use Rattle.am_scripts.specs.Scripts.{is_of_thread}
+use Rattle.am_scripts.proofs.Declared.{thread_below_64, is_on_declared}
 use Rattle.am_drain.specs.Rules.{Left, left_after, left_to}
 use Rattle.am_drain_loop.specs.declared.LeftCall.{LeftCall}
 use Rattle.am_drain_loop.specs.Reads.{call_event, left_of}
-use Rattle.am_journal.proofs.Lists.{got_mapped}
+use Rattle.am_drain_steps.proofs.Calls.{All-filter_at}
 use Rattle.am_scripted.specs.Threads.{Scripted, left_in, scripted_of}
-
-pub got_map : {X Y : Type 0} (f : X → Y) (xs : List X) (k : ℕ) (x : X) → slice_get xs k ≡ Some x → slice_get (map f xs) k ≡ Some (f x)
-got_map f [] k x h = absurd (cc)
-got_map f (y ∷ xs) zero x h =
-    let same : y ≡ x = cc in
-    ap (λ z. Some (f z)) same
-got_map f (y ∷ xs) (suc k) x h = got_map f xs k x h
 
 -- ---- what is left
 
@@ -38,50 +30,28 @@ map_twice f g (x ∷ xs) = ap (λ l. g (f x) ∷ l) (map_twice f g xs)
 pub left_read : (s : ScenarioLists) (past : List Entry) (all : List Scripted) (k : ℕ) (t : Scripted) → all ≡ map (scripted_of s past) s.threads → slice_get all k ≡ Some t → slice_get (map (left_to s past) s.threads) k ≡ Some (left_in t)
 left_read s past all k t is h =
     ap (λ (l : List (Option Left)). slice_get l k) (sym (map_twice (scripted_of s past) left_in s.threads))
-    ∙ got_map left_in (map (scripted_of s past) s.threads) k t (ap (λ (l : List Scripted). slice_get l k) (sym is) ∙ h)
+    ∙ slice_get-map_Some left_in (map (scripted_of s past) s.threads) k t (ap (λ (l : List Scripted). slice_get l k) (sym is) ∙ h)
 
 -- ---- calls of the script are in range
-
-all_at : {X : Type 0} (P : X → Type 0) (q : X → Bool) (xs : List X) (k : ℕ) (x : X) → All P xs → slice_get (filter q xs) k ≡ Some x → P x
-all_at P q [] k x all e = absurd (cc)
-all_at P q (y ∷ ys) k x all e = by_test (q y) k e (λ j h. all_at P q ys j x (λ i d lt. all (suc i) d (omega (arith, lt))) h)
-  where
-    by_test : (b : Bool) (j : ℕ) → slice_get (cond b (y ∷ filter q ys) (filter q ys)) j ≡ Some x → ((i : ℕ) → slice_get (filter q ys) i ≡ Some x → P x) → P x
-    by_test true zero h later =
-        let same : y ≡ x = cc in
-        subst P same (all zero y (omega arith))
-    by_test true (suc j) h later = later j h
-    by_test false j h later = later j h
-
-found_thread : (ts : List ThreadLine) (id : ℕ) (node : NodeId) (s : ScenarioLists) → All (lawful.IsLawfulThread s.nodes) ts → lawful.thread_node ts id ≡ Some node → id < 64
-found_thread [] id node s all h = absurd (cc)
-found_thread (t ∷ ts) id node s all h = by_test (t.id == id) refl h (found_thread ts id node s (λ i d lt. all (suc i) d (omega (arith, lt))))
-  where
-    by_test : (b : Bool) → (t.id == id) ≡ b → option_map (λ (x : ThreadLine). x.node) (cond b (Some t) (find (λ (x : ThreadLine). x.id == id) ts)) ≡ Some node → (lawful.thread_node ts id ≡ Some node → id < 64) → id < 64
-    by_test true is k later = omega (arith, eqb-true t.id id is, (all zero t (omega arith)).id)
-    by_test false is k later = later k
-
-is_on_declared : (s : ScenarioLists) (node : NodeId) (e : EndpointId) → lawful.IsOn s.ends node e → lawful.IsDeclared s.ends e
-is_on_declared s node e on = rw on refl
 
 call_in_range : (s : ScenarioLists) (c : ScriptCall) → lawful.IsLawful s → lawful.IsLawfulScriptCall s.ends s.threads (lawful.least_credits s.pool) c → is_in_range (layout_of s) (call_event c) ≡ true
 call_in_range s c ok k =
     let known : lawful.IsDeclared s.ends c.endpoint = is_on_declared s k.placed.0 c.endpoint k.placed.1.1 in
     let outside : is_in_range (layout_of s) (Events.Call Outside c.endpoint c.call) ≡ true = event_in_range s (Events.Call Outside c.endpoint c.call) (refl, known, k.call) in
-    let thread : nat_lt c.thread 64 ≡ true = lt-ltb c.thread 64 (found_thread s.threads c.thread k.placed.0 s ok.threads k.placed.1.0) in
+    let thread : nat_lt c.thread 64 ≡ true = lt-ltb c.thread 64 (thread_below_64 s.threads c.thread k.placed.0 s ok.threads k.placed.1.0) in
     ap (λ (b : Bool). b && declared (layout_of s) c.endpoint && is_call_in_range (layout_of s) c.call) thread ∙ outside
 
 -- so a call that is left to a thread is
 pub left_in_range : (s : ScenarioLists) (past : List Entry) (line : ThreadLine) (n : ℕ) (c : ScriptCall) → lawful.IsLawful s → slice_get (scripted_of s past line).calls n ≡ Some c → is_in_range (layout_of s) (call_event c) ≡ true
 left_in_range s past line n c ok at =
-    call_in_range s c ok (all_at (lawful.IsLawfulScriptCall s.ends s.threads (lawful.least_credits s.pool)) (is_of_thread line.id) s.script n c ok.script at)
+    call_in_range s c ok (All-filter_at (lawful.IsLawfulScriptCall s.ends s.threads (lawful.least_credits s.pool)) (is_of_thread line.id) s.script n c ok.script at)
 
 pub left_ranged : (s : ScenarioLists) (past : List Entry) (all : List Scripted) (k : ℕ) (t : Scripted) (o : Option LeftCall) → lawful.IsLawful s → all ≡ map (scripted_of s past) s.threads → slice_get all k ≡ Some t → option_map left_of o ≡ left_in t → IfSome o (λ (l : LeftCall). is_in_range (layout_of s) (call_event l.call) ≡ true)
 left_ranged s past all k t None ok is at told = tt
 left_ranged s past all k t (Some l) ok is at told = by_call (slice_get t.calls t.made) refl told
   where
     line : (x : ThreadLine) × (slice_get s.threads k ≡ Some x) × (scripted_of s past x ≡ t)
-    line = got_mapped (scripted_of s past) s.threads k t (ap (λ (ts : List Scripted). slice_get ts k) (sym is) ∙ at)
+    line = Some-slice_get_map (scripted_of s past) s.threads k t (ap (λ (ts : List Scripted). slice_get ts k) (sym is) ∙ at)
 
     by_call : (c : Option ScriptCall) → slice_get t.calls t.made ≡ c → Some (left_of l) ≡ left_after t.made c → is_in_range (layout_of s) (call_event l.call) ≡ true
     by_call None here h = absurd (cc)
