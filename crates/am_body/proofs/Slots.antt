@@ -1,8 +1,8 @@
 -- How many slots the messages of a body take.
-use Rattle.std.proofs.Common.{◌≡◌, ℕ, ◌+◌, ◌<◌, ◌≤◌, Bool, true, false, cond, List, [], ◌∷◌, ◌++◌, length, Option, Some, None, refl, arith, if◌then◌else◌}
+use Rattle.std.proofs.Common.{◌≡◌, ℕ, ◌+◌, ◌<◌, ◌≤◌, Bool, true, false, cond, List, ◌++◌, length, Option, Some, None, refl, arith, if◌then◌else◌}
 use Rattle.std.specs.List.{count_by}
 use Rattle.std.proofs.lemmas.List.{length-map, length_push}
-use Rattle.std.proofs.lemmas.List.Sums.{sum_by-cons, count_by-le-length}
+use Rattle.std.proofs.lemmas.List.Sums.{count_by-le-length}
 use Rattle.am_names.specs.Names.{is_answer, is_request}
 use Rattle.am_names.specs.declared.Message.{Message}
 use Rattle.am_names.specs.declared.Serial.{Serial}
@@ -12,20 +12,12 @@ use Rattle.am_model.specs.declared.Notice.{Notice}
 use Rattle.am_model.specs.Endpoint.{Body, IsWithin, State, is_arrived, replies_held, requests_held}
 use Rattle.am_model.specs.Changes.{marked, noticed, put, queued, with_marked}
 use Rattle.am_model.proofs.Sizes.{length_appended}
+use Rattle.am_model.proofs.Sizes.{requests_and_answers}
 use Rattle.am_body.specs.Views.{Fits, slots_held}
-
--- requests and answers are all there is
-both_kinds : {X : Type 0} (m : X → Message) (xs : List X) → count_by (λ x. is_request (m x)) xs + count_by (λ x. is_answer (m x)) xs ≡ length xs
-both_kinds m [] = refl
-both_kinds m (x ∷ xs) = omega (arith, both_kinds m xs, sum_by-cons (λ y. cond (is_request (m y)) 1 0) x xs, sum_by-cons (λ y. cond (is_answer (m y)) 1 0) x xs, one (is_request (m x)))
-  where
-    one : (b : Bool) → cond b 1 0 + cond (if b then false else true) 1 0 ≡ 1
-    one true = refl
-    one false = refl
 
 pub held_by_kind : (b : Body) → slots_held b ≡ requests_held b + replies_held b + (count_by is_request b.received + count_by is_answer b.received)
 held_by_kind b =
-    omega (arith, both_kinds (λ (f : Flying). f.message) b.in_flight, both_kinds (λ (n : Notice). n.message) b.notices, both_kinds (λ (m : Message). m) b.received)
+    omega (arith, requests_and_answers (λ (f : Flying). f.message) b.in_flight, requests_and_answers (λ (n : Notice). n.message) b.notices, requests_and_answers (λ (m : Message). m) b.received)
 
 pub fits_within : (b : Body) → IsWithin b → Fits b
 fits_within b w = omega (arith, held_by_kind b, w.requests, w.replies, w.received, w.answers, w.awaited, count_by-le-length is_arrived b.awaited)

@@ -1,7 +1,6 @@
 -- The ends of the other channels, one call more.
 use Rattle.std.proofs.Common.{◌≡◌, ◌≢◌, ℕ, ◌+◌, ◌==◌, Bool, true, false, ◌||◌, ◌&&◌, List, [], ◌∷◌, ◌++◌, Option, Some, None, refl, sym, ap, ◌∙◌, subst, arith, eqb-true, if◌then◌else◌}
 use Rattle.std.proofs.lemmas.Bool.{and_parts}
-use Rattle.am_names.specs.declared.NodeId.{NodeId}
 use Rattle.am_names.specs.Names.{same_node}
 use Rattle.am_office.specs.declared.Event.{Event}
 use Rattle.am_office.specs.declared.Event.TheVariants as Events
@@ -12,6 +11,7 @@ use Rattle.am_office.specs.declared.Entry.{Entry}
 use Rattle.am_model.specs.Channels.{Channel, same_channel, sequence, attempt, binds, sends, frees, frees_by, decides, decides_by, arrival}
 use Rattle.am_model.proofs.Received.{bit}
 use Rattle.am_model.proofs.Ends.{sequence_push, bound_push, attempt_push, mark_push}
+use Rattle.am_model.proofs.Names.{same_node-is}
 use Rattle.am_channel.specs.declared.sending.Bound.{Bound}
 use Rattle.am_channel.specs.declared.sending.TimedOut.{TimedOut}
 use Rattle.am_channel.specs.declared.sending.TimedOut.TheVariants as Times
@@ -20,9 +20,6 @@ use Rattle.am_channel.specs.declared.ends.Ends.{Ends}
 use Rattle.am_channel_laws.specs.Calls.{Call, Bind, TimeOut, Answer, Arrive, Tells, TellsTimedOut, TellsTimeOut, settled_as, arrived_as}
 use Rattle.am_channel_laws.specs.Counted.{AreCounted}
 use Rattle.am_channel_laws.proofs.Pushes.{entry_is, kept}
-
-pub same_node-is : (a b : NodeId) → same_node a b ≡ true → a ≡ b
-same_node-is a b h = let e : a.0 ≡ b.0 = eqb-true a.0 b.0 h in λ i. record { 0 = e i }
 
 pub same_channel-is : (c d : Channel) → same_channel c d.node d.peer d.number ≡ true → d ≡ c
 same_channel-is c d h =

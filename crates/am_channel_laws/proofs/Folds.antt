@@ -3,12 +3,13 @@ use Rattle.std.proofs.Common.{◌≡◌, Bool, true, false, List, [], ◌∷◌,
 use Rattle.std.proofs.lemmas.List.{append-nil}
 use Rattle.am_office.specs.declared.Entry.{Entry}
 use Rattle.am_model.specs.Channels.{Channel, same_channel}
+use Rattle.am_model.proofs.Names.{same_channel-refl}
 use Rattle.am_channel.specs.declared.ends.Ends.{Ends}
 use Rattle.am_channel.specs.Ends.{new_ends}
 use Rattle.am_channel_laws.specs.Calls.{Tells, after}
 use Rattle.am_channel_laws.specs.Counted.{AreCounted}
 use Rattle.am_channel_laws.specs.Folded.{Told, AreMade, changed, ends_after, entries_of}
-use Rattle.am_channel_laws.proofs.Pushes.{call_counted, same_channel-refl}
+use Rattle.am_channel_laws.proofs.Pushes.{call_counted}
 use Rattle.am_channel_laws.proofs.Apart.{call_apart, same_channel-is}
 
 pub new_counted : (c : Channel) → AreCounted c [] new_ends

@@ -1,5 +1,5 @@
 -- The ends of a channel, one call more.
-use Rattle.std.proofs.Common.{◌≡◌, ℕ, ◌+◌, Bool, true, false, ◌||◌, ◌&&◌, List, [], ◌∷◌, ◌++◌, Option, Some, None, refl, sym, ap, ◌∙◌, subst, arith, eq-eqb, if◌then◌else◌}
+use Rattle.std.proofs.Common.{◌≡◌, ℕ, ◌+◌, Bool, true, false, ◌||◌, ◌&&◌, List, [], ◌∷◌, ◌++◌, Option, Some, None, refl, sym, ap, ◌∙◌, subst, arith, if◌then◌else◌}
 use Rattle.am_names.specs.declared.EndpointId.{EndpointId}
 use Rattle.am_names.specs.declared.Verdict.{Verdict}
 use Rattle.am_names.specs.declared.Verdict.TheVariants as Verdicts
@@ -19,6 +19,7 @@ use Rattle.am_model.specs.Channels.{Channel, Mark, Arrival, Stale, Again, Fresh,
 use Rattle.am_model.specs.History.{decided, settle_by}
 use Rattle.am_model.proofs.Received.{bit}
 use Rattle.am_model.proofs.Ends.{sequence_push, bound_push, attempt_push, mark_push}
+use Rattle.am_model.proofs.Names.{same_channel-refl}
 use Rattle.am_block.specs.declared.Slot.{Slot}
 use Rattle.am_channel.specs.declared.sending.Bound.{Bound}
 use Rattle.am_channel.specs.declared.sending.Settled.{Settled}
@@ -29,9 +30,6 @@ use Rattle.am_channel.specs.Sending.{SendView, timed_out, unanswered, settled, b
 use Rattle.am_channel.specs.declared.ends.Ends.{Ends}
 use Rattle.am_channel_laws.specs.Calls.{Call, Bind, TimeOut, Answer, Arrive, after, bound_later, mark_later, Tells, TellsBind, TellsTimedOut, TellsTimeOut, TellsAnswer, TellsArrival}
 use Rattle.am_channel_laws.specs.Counted.{AreCounted}
-
-pub same_channel-refl : (c : Channel) → same_channel c c.node c.peer c.number ≡ true
-same_channel-refl c = λ i. eq-eqb c.node.0 c.node.0 refl i && eq-eqb c.peer.0 c.peer.0 refl i && eq-eqb c.number c.number refl i
 
 -- an entry with this event and this outcome
 pub entry_is : (x : Entry) (event : Event) (outcome : Outcome) → x.event ≡ event → x.outcome ≡ outcome → record { stamp = x.stamp; event = event; outcome = outcome } ≡ x

@@ -6,6 +6,7 @@ use Rattle.am_office.specs.declared.Entry.{Entry}
 use Rattle.am_office.specs.declared.Event.{Event}
 use Rattle.am_model.specs.History.{failing}
 use Rattle.am_model.specs.Steps.{NotEnabled, LogFull, Stop, stop, stop_by, full_log}
+use Rattle.am_laws_steps.proofs.Steps.{no_condition}
 use Rattle.am_scenario_types.specs.declared.parts.Form.{Form}
 use Rattle.am_scenario_types.specs.Lists.{ScenarioLists}
 use Rattle.am_follow.specs.Layout.{layout_of}
@@ -49,10 +50,6 @@ condition_of : (f : Option Condition) (g : Option Part) (condition : Condition) 
 condition_of None None condition e = absurd (cc)
 condition_of None (Some part) condition e = absurd (cc)
 condition_of (Some c) g condition e = let same : c ≡ condition = cc in ap Some same
-
-no_condition : (f : Option Condition) (g : Option Part) → stop_by f g ≡ None → f ≡ None
-no_condition None g e = refl
-no_condition (Some c) g e = absurd (cc)
 
 no_condition_full : (f : Option Condition) (g : Option Part) (part : Part) → stop_by f g ≡ Some (LogFull part) → f ≡ None
 no_condition_full None g part e = refl

@@ -2,7 +2,7 @@
 use Rattle.std.specs.Prelude.{◌↔◌, IsTrue, is_none, is_some, ◌==◌, ◌||◌, not, find, filter_map, fold, slice_get, option_map}
 use Rattle.std.specs.List.{list_all, range_with_len, cons_option, AllByRecursion}
 use Rattle.std.proofs.Common.{◌≡◌, ℕ, ◌+◌, Bool, true, false, cond, Option, Some, None, List, [], ◌∷◌, length, map, refl, sym, ap, ◌∙◌, arith, eqb-true}
-use Rattle.std.proofs.lemmas.Bool.{and_parts}
+use Rattle.std.proofs.lemmas.Bool.{and_parts, not-true}
 use Rattle.am_names.specs.declared.NodeId.{NodeId}
 use Rattle.am_office.specs.declared.Entry.{Entry}
 use Rattle.am_office.specs.declared.Event.TheVariants as Events
@@ -43,14 +43,10 @@ none_found p q step (x ∷ xs) h =
     let both = and_parts (q x) (list_all q xs) h in
     ap (λ b. cond b (Some x) (find p xs)) (step x both.0) ∙ none_found p q step xs both.1
 
-not_true : (b : Bool) → not b ≡ true → b ≡ false
-not_true true h = absurd (cc)
-not_true false h = refl
-
 -- ---- channels
 
 idle_number : (past : List Entry) (node peer : NodeId) (number : ℕ) → not (is_bound (channel_to node peer number) past) ≡ true → time_out node peer past number ≡ None
-idle_number past node peer number h = ap (λ (b : Bool). cond b (Some (Once (Events.Expire node peer number))) None) (not_true (is_bound (channel_to node peer number) past) h)
+idle_number past node peer number h = ap (λ (b : Bool). cond b (Some (Once (Events.Expire node peer number))) None) (not-true (is_bound (channel_to node peer number) past) h)
 
 idle_peer : (s : ScenarioLists) (past : List Entry) (node peer : NodeId) → is_idle s past node peer ≡ true → time_out_to s past node peer ≡ None
 idle_peer s past node peer h = none_of (time_out node peer past) (λ (number : ℕ). not (is_bound (channel_to node peer number) past)) (idle_number past node peer) (range_with_len 0 s.channels) h
@@ -115,7 +111,7 @@ no_turn s journal ended =
     time_outs = none_from (time_out_at s journal) (λ (node : NodeId). AllByRecursion (λ (peer : NodeId). is_idle s journal node peer ≡ true) (nodes_of s)) (idle_node s journal) (nodes_of s) ended.rest.channels
 
     pages : next_page_in ends ≡ None
-    pages = ap (option_map page_in_of) (none_found is_missed (λ (x : Standing). not (is_missed x)) (λ x h. not_true (is_missed x) h) ends ended.rest.wanted)
+    pages = ap (option_map page_in_of) (none_found is_missed (λ (x : Standing). not (is_missed x)) (λ x h. not-true (is_missed x) h) ends ended.rest.wanted)
 
     replies : find has_reply ends ≡ None
     replies = none_found has_reply holds_nothing no_reply ends ended.rest.messages

@@ -9,15 +9,11 @@ use Rattle.am_scenario_types.specs.Lawful.{IsLawful}
 use Rattle.am_follow.specs.Layout.{events_of, layout_of}
 use Rattle.am_follow.proofs.Lawful.{steps_in_range}
 use Rattle.am_model.specs.History.{is_in_range}
-use Rattle.am_model.specs.Layout.{Layout, AllAre}
+use Rattle.am_model.specs.Layout.{Layout}
+use Rattle.am_model.proofs.Alls.{all_at}
 
 pub step_at : (steps : List StepLine) (k : ℕ) → slice_get (events_of steps) k ≡ option_map (λ (step : StepLine). step.event) (slice_get steps k)
 step_at steps k = slice_get-map (λ (step : StepLine). step.event) steps k
-
-all_at : {X : Type 0} (P : X → Type 0) (xs : List X) (k : ℕ) (x : X) → AllAre P xs → slice_get xs k ≡ Some x → P x
-all_at P [] k x a e = absurd (cc e)
-all_at P (y ∷ ys) zero x a e = let same : y ≡ x = cc e in subst P same a.0
-all_at P (y ∷ ys) (suc k) x a e = all_at P ys k x a.1 e
 
 -- the event of a step is in range, in the layout of its scenario
 pub in_range_at : (s : ScenarioLists) (layout : Layout) (k : ℕ) (event : Event) → IsLawful s → layout ≡ layout_of s → slice_get (events_of s.steps) k ≡ Some event → is_in_range layout event ≡ true

@@ -1,22 +1,20 @@
 -- The journal of a checked report, one entry after the other.
-use Rattle.std.proofs.Common.{◌≡◌, ℕ, zero, suc, Bool, true, false, ◌||◌, List, [], ◌∷◌, ◌++◌, map, length, take, Option, Some, None, refl, sym, ap, ◌∙◌, subst, arith, length-append, add-one}
+use Rattle.std.proofs.Common.{◌≡◌, ℕ, zero, suc, Bool, true, false, ◌||◌, List, [], ◌∷◌, ◌++◌, map, length, take, Some, None, refl, sym, ap, ◌∙◌, subst, arith, length-append, add-one}
 use Rattle.std.specs.Prelude.{slice_get, not}
 use Rattle.std.proofs.lemmas.List.{take_all, map_push, length-map}
 use Rattle.std.proofs.lemmas.List.Folds.{list_all-append}
-use Rattle.am_office.specs.declared.Condition.{Condition}
 use Rattle.am_office.specs.declared.Event.{Event}
 use Rattle.am_office.specs.declared.Entry.{Entry}
-use Rattle.am_office.specs.declared.Part.{Part}
 use Rattle.am_check.proofs.Coming.{in_range}
 use Rattle.am_check.specs.Follows.{Comes, IsBegun, IsEnded}
 use Rattle.am_check_laws.specs.Laws.{IsStepHistory, IsRunHistory, IsHistoryOf}
 use Rattle.am_drain.proofs.Entries.{entry_is_step}
 use Rattle.am_follow.specs.Layout.{layout_of, events_of}
-use Rattle.am_laws_steps.proofs.Steps.{walked_more}
+use Rattle.am_laws_steps.proofs.Steps.{walked_more, no_condition}
 use Rattle.am_laws_steps.specs.Laws.{IsUnstopped, Walked}
 use Rattle.am_model.proofs.Each.{each_has, over_each}
 use Rattle.am_model.specs.History.{EachAfter, IsHistory, failing, is_in_range}
-use Rattle.am_model.specs.Steps.{full_log, step_entry, stop_by}
+use Rattle.am_model.specs.Steps.{full_log, step_entry}
 use Rattle.am_scenario_types.specs.declared.parts.Form.{Form}
 use Rattle.am_scenario_types.specs.declared.parts.Form.TheVariants.{Step, Run}
 use Rattle.am_scenario_types.specs.declared.parts.StepLine.{StepLine}
@@ -27,10 +25,6 @@ use Rattle.am_scripts.specs.Follows.{KeepsToEvents, is_last, is_of_run}
 use Rattle.am_scripts.proofs.Links.{all_is_received}
 
 -- ---- a history, with one stamp after the other
-
-no_condition : (f : Option Condition) (g : Option Part) → stop_by f g ≡ None → f ≡ None
-no_condition None g e = refl
-no_condition (Some c) g e = absurd (cc e)
 
 walked_one : (form : Form) (s : ScenarioLists) → IsLawful s → (past : List Entry) (x : Entry) → Walked (layout_of s) past → Comes form s past x → Walked (layout_of s) (past ++ x ∷ [])
 walked_one form s lawful past x walked c =

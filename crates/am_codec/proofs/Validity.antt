@@ -2,8 +2,10 @@
 use Rattle.std.proofs.Common.{◌≡◌, ℕ, ◌+◌, ◌≤◌, Bool, true, false, ◌&&◌, ◌||◌, cond, List, [], ◌∷◌, length, Option, Some, None, refl, sym, ap, ◌∙◌, arith, leb-true, eqb-true, eq-eqb}
 use Rattle.std.specs.Prelude.{nat_le, is_none, is_some, not, ◌==◌, count_by}
 use Rattle.std.specs.List.{list_all, list_any}
-use Rattle.std.proofs.lemmas.Bool.{and_parts, and_from, ltb-true}
-use Rattle.std.proofs.lemmas.List.Sums.{sum_by-cons}
+use Rattle.std.proofs.lemmas.Bool.{and_parts, and_from, ltb-true, or_right, or_left}
+use Rattle.am_lemmas.proofs.Bools.{implied}
+use Rattle.am_lemmas.proofs.Options.{is_none-None}
+use Rattle.am_lemmas.proofs.Lists.{count_by-none}
 use Rattle.am_names.specs.declared.EndpointId.{EndpointId}
 use Rattle.am_names.specs.declared.Serial.{Serial}
 use Rattle.am_names.specs.declared.MsgKind.{MsgKind}
@@ -45,34 +47,12 @@ some_passes p (x ∷ xs) h = by_test p x xs (p x) refl h (λ more. some_passes p
         let rest : Passes p xs = more h in
         record { value = rest.value; holds = rest.holds; each = λ q all. rest.each q (and_parts (q x) (list_all q xs) all).1 }
 
-none_counts : {X : Type 0} (p : X → Bool) (xs : List X) → list_any p xs ≡ false → count_by p xs ≡ 0
-none_counts p [] h = refl
-none_counts p (x ∷ xs) h = by_test p x xs (p x) refl h (none_counts p xs)
-  where
-    by_test : {X : Type 0} (p : X → Bool) (x : X) (xs : List X) (b : Bool) → p x ≡ b → (b || list_any p xs) ≡ false → (list_any p xs ≡ false → count_by p xs ≡ 0) → count_by p (x ∷ xs) ≡ 0
-    by_test p x xs true is h more = absurd (one_of h)
-      where
-        one_of : true ≡ false → ⊥
-        one_of e = cc
-    by_test p x xs false is h more = omega (arith, more h, sum_by-cons (λ y. cond (p y) 1 0) x xs, ap {B = ℕ} (λ b. cond b 1 0) is)
-
 counts_any : {X : Type 0} (p : X → Bool) (xs : List X) → 1 ≤ count_by p xs → list_any p xs ≡ true
 counts_any p xs h = by_test (list_any p xs) refl
   where
     by_test : (b : Bool) → list_any p xs ≡ b → list_any p xs ≡ true
     by_test true is = is
-    by_test false is = absurd (omega (arith, h, none_counts p xs is))
-
-or_true : (a b : Bool) → b ≡ true → (a || b) ≡ true
-or_true true b h = refl
-or_true false b h = h
-
-or_first : (a b : Bool) → a ≡ true → (a || b) ≡ true
-or_first true b h = refl
-or_first false b h = absurd (no_way h)
-  where
-    no_way : false ≡ true → ⊥
-    no_way e = cc
+    by_test false is = absurd (omega (arith, h, count_by-none p xs is))
 
 -- all pass where each does that is among them and passes another test that all pass
 all_pass : {X : Type 0} (q p : X → Bool) (xs : List X) → list_all q xs ≡ true → ((x : X) → q x ≡ true → ((t : X → Bool) → t x ≡ true → list_any t xs ≡ true) → p x ≡ true) → list_all p xs ≡ true
@@ -80,21 +60,14 @@ all_pass q p [] h each = refl
 all_pass {X} q p (x ∷ xs) h each =
     let parts = and_parts (q x) (list_all q xs) h in
     and_from (p x) (list_all p xs)
-    (each x parts.0 (λ t is. or_first (t x) (list_any t xs) is))
-    (all_pass q p xs parts.1 (λ y qy among. each y qy (λ t is. or_true (t x) (list_any t xs) (among t is))))
+    (each x parts.0 (λ t is. or_left (t x) (list_any t xs) is))
+    (all_pass q p xs parts.1 (λ y qy among. each y qy (λ t is. or_right (t x) (list_any t xs) (among t is))))
 
 -- ---- answers and records
 
 -- at most one record is of a request
 one_arrived : (last : ℕ) (r : Serial) (xs : List Awaited) → rise 0 last xs ≡ true → count_by (has_arrived r) xs ≤ 1
 one_arrived last r xs h = omega (arith, arrives_or_waits r xs, one_record 0 last r xs h)
-
-not_off : (a b : Bool) → a ≡ true → (not a || b) ≡ true → b ≡ true
-not_off true b is h = h
-not_off false b is h = absurd (no_way is)
-  where
-    no_way : false ≡ true → ⊥
-    no_way e = cc
 
 -- an answer to a request that is expected has the record of it
 expected_is : (r : Serial) (awaited : List Awaited) (about : Option Serial) → is_serial r about ≡ true → is_expected awaited about ≡ true → list_any (has_arrived r) awaited ≡ true
@@ -112,23 +85,23 @@ each_matches last received awaited rises expected once r = by_test (list_any (ha
     answered found =
         let a : Awaited = found.value in
         let parts = and_parts (same_serial r a.serial) a.arrived found.holds in
-        let one : (count_by (answers a.serial) received == 1) ≡ true = not_off a.arrived (count_by (answers a.serial) received == 1) parts.1 (found.each (is_answered_once received) once) in
+        let one : (count_by (answers a.serial) received == 1) ≡ true = implied a.arrived (count_by (answers a.serial) received == 1) parts.1 (found.each (is_answered_once received) once) in
         ap (λ (s : Serial). count_by (answers s) received) (same_serial-is r a.serial parts.0) ∙ eqb-true (count_by (answers a.serial) received) 1 one
 
     unasked : list_any (has_arrived r) awaited ≡ false → Passes (answers r) received → true ≡ false
     unasked none found =
         let m : Message = found.value in
         let parts = and_parts (is_answer m) (is_serial r m.about) found.holds in
-        let known : is_expected awaited m.about ≡ true = not_off (is_answer m) (is_expected awaited m.about) parts.0 (found.each (answers_expected awaited) expected) in
+        let known : is_expected awaited m.about ≡ true = implied (is_answer m) (is_expected awaited m.about) parts.0 (found.each (answers_expected awaited) expected) in
         sym (expected_is r awaited m.about parts.1 known) ∙ none
 
     unanswered : list_any (has_arrived r) awaited ≡ false → (b : Bool) → list_any (answers r) received ≡ b → count_by (answers r) received ≡ 0
     unanswered none true is = let no_way : true ≡ false = unasked none (some_passes (answers r) received is) in cc
-    unanswered none false is = none_counts (answers r) received is
+    unanswered none false is = count_by-none (answers r) received is
 
     by_test : (b : Bool) → list_any (has_arrived r) awaited ≡ b → count_by (answers r) received ≡ count_by (has_arrived r) awaited
     by_test true is = omega (arith, answered (some_passes (has_arrived r) awaited is), any_counts (has_arrived r) awaited is, one_arrived last r awaited rises)
-    by_test false is = omega (arith, unanswered is (list_any (answers r) received) refl, none_counts (has_arrived r) awaited is)
+    by_test false is = omega (arith, unanswered is (list_any (answers r) received) refl, count_by-none (has_arrived r) awaited is)
 
 -- a well-formed answer names its request
 names_request : (m : Message) → is_well_formed m ≡ true → is_answer m ≡ true → is_some m.about ≡ true
@@ -163,8 +136,8 @@ all_expected e received awaited here matches =
         ap (is_expected awaited) at ∙ some
 
     by_answer : (m : Message) → is_well_formed m ≡ true → ((t : Message → Bool) → t m ≡ true → list_any t received ≡ true) → (b : Bool) → is_answer m ≡ b → answers_expected awaited m ≡ true
-    by_answer m formed among true is = or_true (not (is_answer m)) (is_expected awaited m.about) (of_request m among is m.about refl (names_request m formed is))
-    by_answer m formed among false is = or_first (not (is_answer m)) (is_expected awaited m.about) (ap not is)
+    by_answer m formed among true is = or_right (not (is_answer m)) (is_expected awaited m.about) (of_request m among is m.about refl (names_request m formed is))
+    by_answer m formed among false is = or_left (not (is_answer m)) (is_expected awaited m.about) (ap not is)
 
 all_once : (last : ℕ) (received : List Message) (awaited : List Awaited) → rise 0 last awaited ≡ true → ((r : Serial) → count_by (answers r) received ≡ count_by (has_arrived r) awaited) → list_all (is_answered_once received) awaited ≡ true
 all_once last received awaited rises matches =
@@ -179,20 +152,13 @@ all_once last received awaited rises matches =
         let here : has_arrived a.serial a ≡ true = and_from (same_serial a.serial a.serial) a.arrived (same_serial-refl a.serial) is in
         let least : 1 ≤ count_by (has_arrived a.serial) awaited = any_counts (has_arrived a.serial) awaited (among (has_arrived a.serial) here) in
         let one : count_by (answers a.serial) received ≡ 1 = omega (arith, least, one_arrived last a.serial awaited rises, matches a.serial) in
-        or_true (not a.arrived) (count_by (answers a.serial) received == 1) (eq-eqb _ _ one)
-    by_arrived a among false is = or_first (not a.arrived) (count_by (answers a.serial) received == 1) (ap not is)
+        or_right (not a.arrived) (count_by (answers a.serial) received == 1) (eq-eqb _ _ one)
+    by_arrived a among false is = or_left (not a.arrived) (count_by (answers a.serial) received == 1) (ap not is)
 
 -- ---- bodies
 
 le_test : (a b : ℕ) → a ≤ b → nat_le a b ≡ true
 le_test a b h = grind arith
-
-none_is : {X : Type 0} (o : Option X) → is_none o ≡ true → o ≡ None
-none_is None h = refl
-none_is (Some x) h = absurd (no_way h)
-  where
-    no_way : false ≡ true → ⊥
-    no_way e = cc
 
 fits_pool : (pool : Option ℕ) (b : Body) → is_within_pool pool b ≡ true → FitsPool pool b
 fits_pool None b h = eqb-true (excess b) 0 h
@@ -238,7 +204,7 @@ passes_valid e pool b written h =
             indexes = eqb-true (length b.mapped) 16 t1.0;
             mappings = t2.0;
             handlers = eqb-true (length b.handlers) 16 t3.0;
-            handler_zero = none_is (entry_at b.handlers 0) t4.0;
+            handler_zero = is_none-None (entry_at b.handlers 0) t4.0;
             kinds = t4.1;
             counts = r2.0;
             records = r3.0;

@@ -7,6 +7,7 @@ use Rattle.std.proofs.lemmas.List.Elements.{All-contains, All-from_recursion, Co
 use Rattle.std.proofs.lemmas.List.Folds.{list_any-append}
 use Rattle.std.proofs.lemmas.Nat.{mod_below}
 use Rattle.std.proofs.lemmas.List.Sums.{sum_by-append, sum_by-cons, sum_by-le-sum_by}
+use Rattle.std.proofs.lemmas.Bool.{and_parts}
 use Rattle.am_office.specs.declared.Actor.{Actor}
 use Rattle.am_office.specs.declared.Actor.TheVariants.{Thread, Outside}
 use Rattle.am_office.specs.declared.HandlerKind.TheVariants.{Note}
@@ -114,11 +115,6 @@ part_less q n calls = sum_by-le-sum_by (λ (c : ScriptCall). if q c && nat_lt c.
 
 -- ---- every call is of a thread of the round
 
-both_true : (a b : Bool) → (a && b) ≡ true → (a ≡ true) × (b ≡ true)
-both_true true true h = (refl, refl)
-both_true true false h = absurd (cc)
-both_true false b h = absurd (cc)
-
 lt_yes : (t w : ℕ) → t < w → nat_lt t w ≡ true
 lt_yes t w less = grind (arith, nat_tests)
 
@@ -150,7 +146,7 @@ and_yes false b is = refl
 part_whole : (w turns : ℕ) (words : List CodedWord) (q : ScriptCall → Bool) (journal : List Entry) → list_all (λ (x : Entry). is_of_run (scenario w turns words) x.event) journal ≡ true → part q w (filter_map made journal) ≡ count_by q (filter_map made journal)
 part_whole w turns words q [] run = refl
 part_whole w turns words q (x ∷ journal) run =
-    let parts = both_true (is_of_run (scenario w turns words) x.event) (list_all (λ (x : Entry). is_of_run (scenario w turns words) x.event) journal) run in
+    let parts = and_parts (is_of_run (scenario w turns words) x.event) (list_all (λ (x : Entry). is_of_run (scenario w turns words) x.event) journal) run in
     by_call (made x) refl parts.0 (part_whole w turns words q journal parts.1)
   where
     by_call : (o : Option ScriptCall) → made x ≡ o → is_of_run (scenario w turns words) x.event ≡ true → part q w (filter_map made journal) ≡ count_by q (filter_map made journal) → part q w (cons_option (made x) (filter_map made journal)) ≡ count_by q (cons_option (made x) (filter_map made journal))

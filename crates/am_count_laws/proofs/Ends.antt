@@ -7,6 +7,8 @@ use Rattle.std.proofs.lemmas.List.Elements.{Contains-append_cases, Contains-appe
 use Rattle.std.proofs.lemmas.List.Sums.{sum_by-append}
 use Rattle.std.proofs.lemmas.Nat.{mod_below}
 use Rattle.std.proofs.lemmas.Option.{get_or_from_slice_get, slice_get-get_or, slice_get_within}
+use Rattle.am_lemmas.proofs.Bools.{and_first}
+use Rattle.am_lemmas.proofs.Lists.{count_by-none}
 use Rattle.am_names.specs.declared.Cause.{Cause}
 use Rattle.am_names.specs.declared.EndpointId.{EndpointId}
 use Rattle.am_names.specs.declared.Message.{Message}
@@ -63,14 +65,6 @@ none_any p (x ∷ xs) none = by_test (none_any p xs) (p x) refl
     by_test : (count_by p xs ≡ 0 → list_any p xs ≡ false) → (b : Bool) → p x ≡ b → list_any p (x ∷ xs) ≡ false
     by_test later true is = let one : weight (p x) ≡ 1 = ap weight is in absurd (omega (arith, count_cons p x xs, one, none))
     by_test later false is = rw is (later (omega (arith, count_cons p x xs, none)))
-
-any_none : {X : Type 0} (p : X → Bool) (xs : List X) → list_any p xs ≡ false → count_by p xs ≡ 0
-any_none p [] none = refl
-any_none p (x ∷ xs) none = by_test (any_none p xs) (p x) refl none
-  where
-    by_test : (list_any p xs ≡ false → count_by p xs ≡ 0) → (b : Bool) → p x ≡ b → (b || list_any p xs) ≡ false → count_by p (x ∷ xs) ≡ 0
-    by_test later true is none' = absurd (cc)
-    by_test later false is none' = let zero' : weight (p x) ≡ 0 = ap weight is in omega (arith, count_cons p x xs, zero', later none')
 
 -- what passes a filter
 count_kept : (q p : Message → Bool) (ms : List Message) → count_by q (filter p ms) ≡ count_by (λ (m : Message). p m && q m) ms
@@ -133,7 +127,7 @@ found_in role journal m has = by_test (list_any (λ (x : Entry). passes (has_ser
     by_test : (b : Bool) → list_any (λ (x : Entry). passes (has_serial m.serial) (role x)) journal ≡ b → list_any (λ (x : Entry). passes (has_serial m.serial) (role x)) journal ≡ true
     by_test true is = is
     by_test false is =
-        let none : count_by (has_serial m.serial) (filter_map role journal) ≡ 0 = count_role role (has_serial m.serial) journal ∙ any_none (λ (x : Entry). passes (has_serial m.serial) (role x)) journal is in
+        let none : count_by (has_serial m.serial) (filter_map role journal) ≡ 0 = count_role role (has_serial m.serial) journal ∙ count_by-none (λ (x : Entry). passes (has_serial m.serial) (role x)) journal is in
         absurd (none_has m.serial (filter_map role journal) m none has (own_serial m))
 
 has_place : (xs : List Message) (m : Message) → Contains xs m → (k : ℕ) × (slice_get xs k ≡ Some m)
@@ -164,10 +158,6 @@ split_ends word journal (m ∷ ms) each =
     )
 
 -- ---- what was accepted and ran is what ran
-
-and_true : (a b : Bool) → (a && b) ≡ true → a ≡ true
-and_true true b is = refl
-and_true false b is = absurd (cc)
 
 all_ran : (word : List ℕ) (journal : List Entry) (ms : List Message) → ((m : Message) → Contains ms m → is_run journal m.serial ≡ true) → count_by (carries word) ms ≡ count_by (ran_with journal word) ms
 all_ran word journal [] each = refl
@@ -254,7 +244,7 @@ ran_same layout journal laws word =
     let fewer : count_by (ran_with journal word) runs ≤ count_by (ran_with journal word) taken =
     at_most (ran_with journal word) runs taken (runs_once layout journal laws) (λ (m : Message) (p : ran_with journal word m ≡ true) (has : Contains runs m). all_accepted layout journal laws m has) in
     let more : count_by (ran_with journal word) taken ≤ count_by (ran_with journal word) runs =
-    at_most (ran_with journal word) taken runs (accepted_once layout journal laws) (λ (m : Message) (p : ran_with journal word m ≡ true) (has : Contains taken m). runs_again layout journal laws m (and_true (is_run journal m.serial) (carries word m) p) has) in
+    at_most (ran_with journal word) taken runs (accepted_once layout journal laws) (λ (m : Message) (p : ran_with journal word m ≡ true) (has : Contains taken m). runs_again layout journal laws m (and_first (is_run journal m.serial) (carries word m) p) has) in
     omega (arith, all, fewer, more)
 
 -- ---- what was asked for was accepted or refused

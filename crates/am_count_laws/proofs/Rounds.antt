@@ -1,11 +1,12 @@
 -- In a round no word runs more often than it is sent.
-use Rattle.std.proofs.Common.{◌≡◌, ℕ, zero, suc, ◌+◌, ◌*◌, ◌%◌, ◌<◌, ◌≤◌, Bool, true, false, ◌&&◌, Option, Some, None, List, [], ◌∷◌, ◌++◌, refl, sym, ap, ◌∙◌, subst, ⊎_elim, length, count_by, filter_map, if◌then◌else◌, arith, append-nil}
+use Rattle.std.proofs.Common.{◌≡◌, ℕ, zero, suc, ◌+◌, ◌*◌, ◌%◌, ◌<◌, ◌≤◌, Bool, true, false, Option, Some, None, List, [], ◌∷◌, ◌++◌, refl, sym, ap, ◌∙◌, subst, ⊎_elim, length, count_by, filter_map, if◌then◌else◌, arith, append-nil}
 use Rattle.std.specs.Prelude.{MatchOption, option_to_list, slice_get}
 use Rattle.std.specs.List.{Contains, cons_option, list_all}
 use Rattle.std.specs.Option.{option_and_then}
 use Rattle.std.proofs.lemmas.List.Elements.{Contains-append_left, Contains-append_right, Contains-append_cases, Contains-push, filter_map-append}
 use Rattle.std.proofs.lemmas.List.Sums.{sum_by-append}
 use Rattle.std.proofs.lemmas.Option.{get_or_from_slice_get, slice_get_within}
+use Rattle.std.proofs.lemmas.Bool.{and_parts}
 use Rattle.am_names.specs.declared.EndpointId.{EndpointId}
 use Rattle.am_names.specs.declared.Message.{Message}
 use Rattle.am_names.specs.declared.MsgKind.TheVariants as Kind
@@ -238,11 +239,6 @@ zero_weight : (b : Bool) → weight b ≡ 0 → b ≡ false
 zero_weight true e = absurd (omega arith)
 zero_weight false e = refl
 
-both_true : (a b : Bool) → (a && b) ≡ true → (a ≡ true) × (b ≡ true)
-both_true true true h = (refl, refl)
-both_true true false h = absurd (cc)
-both_true false b h = absurd (cc)
-
 made_cons : (x : Entry) (journal : List Entry) → count_by bad (filter_map made (x ∷ journal)) ≡ weight (holds bad (made x)) + count_by bad (filter_map made journal)
 made_cons x journal = by_call (made x)
   where
@@ -254,7 +250,7 @@ pub all_follow : (layout : Layout) (w turns : ℕ) (coded : List CodedWord) (pas
     → list_all (λ (x : Entry). is_of_run (scenario w turns coded) x.event) journal ≡ true → count_by bad (filter_map made journal) ≡ 0 → EachAfter (Follows layout w turns coded) past journal
 all_follow layout w turns coded past [] may asked run good = tt
 all_follow layout w turns coded past (x ∷ journal) may asked run good =
-    let parts = both_true (is_of_run (scenario w turns coded) x.event) (list_all (λ (x : Entry). is_of_run (scenario w turns coded) x.event) journal) run in
+    let parts = and_parts (is_of_run (scenario w turns coded) x.event) (list_all (λ (x : Entry). is_of_run (scenario w turns coded) x.event) journal) run in
     let here : weight (holds bad (made x)) ≡ 0 = omega (arith, made_cons x journal, good) in
     let rest : count_by bad (filter_map made journal) ≡ 0 = omega (arith, made_cons x journal, good) in (
       record { may = may.0; asked = asked.0; run = parts.0; note = note_event w turns coded x.event parts.0 (zero_weight (holds bad (made x)) here) },

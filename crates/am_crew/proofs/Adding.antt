@@ -3,7 +3,7 @@ use Rattle.std.specs.Prelude.{slice_get}
 use Rattle.std.specs.Global.{Vec}
 use Rattle.std.proofs.Common.{◌≡◌, ◌⊎◌, inl, inr, ⊎_elim, ℕ, zero, suc, ◌+◌, ◌<◌, List, [], ◌∷◌, ◌++◌, length, length-append, Some, refl, sym, ap, ◌∙◌, subst, arith}
 use Rattle.std.proofs.lemmas.Option.{slice_get_within}
-use Rattle.am_node.proofs.Pushed.{got_push}
+use Rattle.am_lemmas.proofs.Lists.{slice_get-push_cases}
 use Rattle.am_wire.specs.declared.receiving.LinkIn.{LinkIn}
 use Rattle.am_wire.specs.declared.sending.LinkOut.{LinkOut}
 use Rattle.am_crew_opening.specs.declared.crew.NodeCrew.{NodeCrew}
@@ -20,13 +20,13 @@ pairs_more {X} {Y} P xs ys x y long old new k a b at_a at_b =
     ⊎_elim
     (λ (there : slice_get ys k ≡ Some b). old k a b here there)
     (λ (last : (k ≡ length ys) × (b ≡ y)). (let low = slice_get_within xs k a here in let is = last.0 in absurd (omega (arith, low, is, long))))
-    (got_push ys y k b at_b))
+    (slice_get-push_cases ys y k b at_b))
     (λ (last : (k ≡ length xs) × (a ≡ x)).
     ⊎_elim
     (λ (there : slice_get ys k ≡ Some b). (let low = slice_get_within ys k b there in let is = last.0 in absurd (omega (arith, low, is, long))))
     (λ (end : (k ≡ length ys) × (b ≡ y)). subst (λ (u : X). P u b) (sym last.1) (subst (λ (v : Y). P x v) (sym end.1) new))
-    (got_push ys y k b at_b))
-    (got_push xs x k a at_a)
+    (slice_get-push_cases ys y k b at_b))
+    (slice_get-push_cases xs x k a at_a)
 
 long_more : {X Y : Type 0} (xs : List X) (ys : List Y) (x : X) (y : Y) → length ys ≡ length xs → length (ys ++ y ∷ []) ≡ length (xs ++ x ∷ [])
 long_more xs ys x y e = length-append ys (y ∷ []) ∙ ap (λ (n : ℕ). n + 1) e ∙ sym (length-append xs (x ∷ []))

@@ -1,10 +1,11 @@
 -- Seats that are gathered one after the other.
 use Rattle.std.specs.Prelude.{slice_index_or}
-use Rattle.std.proofs.Common.{◌≡◌, ℕ, zero, suc, ◌<◌, false, Bool, List, [], ◌∷◌, ◌++◌, length, refl, sym, ap, ◌∙◌, subst, arith}
+use Rattle.std.proofs.Common.{◌≡◌, ℕ, zero, suc, ◌<◌, false, Bool, List, [], ◌∷◌, ◌++◌, length, refl, sym, ◌∙◌, subst, arith}
 use Rattle.am_office.specs.declared.Entry.{Entry}
 use Rattle.am_places.specs.Rule.{IsOutside, both_known, gathered, known_at, nothing}
 use Rattle.am_places.specs.declared.board.Known.{Known}
 use Rattle.am_works.specs.Seats.{EndPass}
+use Rattle.am_crew_laws.proofs.Passes.{both_length}
 use Rattle.am_crew_ends.specs.Ends.{gathered_all}
 
 pub gathered_push : (v : EndPass) (ws : List EndPass) (w : EndPass) → gathered_all v (ws ++ w ∷ []) ≡ gathered (gathered_all v ws) w
@@ -17,13 +18,8 @@ both_inside (x ∷ xs) [] k = refl
 both_inside (x ∷ xs) (y ∷ ys) zero = refl
 both_inside (x ∷ xs) (y ∷ ys) (suc k) = both_inside xs ys k
 
-both_long : (xs ys : List (Known Entry)) → length (both_known xs ys) ≡ length xs
-both_long [] ys = refl
-both_long (x ∷ xs) [] = refl
-both_long (x ∷ xs) (y ∷ ys) = ap suc (both_long xs ys)
-
 outside_more : (v w : EndPass) → IsOutside v → IsOutside (gathered v w)
-outside_more v w h k low = both_inside v.known w.known k ∙ h k (let n = both_long v.known w.known in omega (arith, low, n))
+outside_more v w h k low = both_inside v.known w.known k ∙ h k (let n = both_length v.known w.known in omega (arith, low, n))
 
 -- a seat that holds no book holds none when it has gathered others
 pub outside_all : (v : EndPass) (ws : List EndPass) → IsOutside v → IsOutside (gathered_all v ws)
@@ -32,4 +28,4 @@ outside_all v (w ∷ ws) h = outside_all (gathered v w) ws (outside_more v w h)
 
 pub wide_all : (v : EndPass) (ws : List EndPass) → length (gathered_all v ws).known ≡ length v.known
 wide_all v [] = refl
-wide_all v (w ∷ ws) = wide_all (gathered v w) ws ∙ both_long v.known w.known
+wide_all v (w ∷ ws) = wide_all (gathered v w) ws ∙ both_length v.known w.known

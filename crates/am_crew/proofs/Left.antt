@@ -5,6 +5,7 @@ use Rattle.std.specs.Option.{option_map}
 use Rattle.std.proofs.Common.{◌≡◌, ℕ, ◌+◌, ◌<◌, ◌≤◌, Option, List, map, length, Some, refl, sym, ap, ◌∙◌, subst, arith}
 use Rattle.std.proofs.lemmas.List.{length-map}
 use Rattle.std.proofs.lemmas.Option.{slice_get-map, slice_get_within}
+use Rattle.am_lemmas.proofs.Lists.{slice_get-Some}
 use Rattle.am_names.specs.declared.NodeId.{NodeId}
 use Rattle.am_names.specs.declared.Packet.{Packet}
 use Rattle.am_model.specs.Layout.{node_at}
@@ -31,7 +32,7 @@ use Rattle.am_crew.specs.Ending.{AreEnded, IsNodeEndedOf}
 use Rattle.am_crew.specs.Parting.{ArePartsOf, IsPartOf, emitted_in}
 use Rattle.am_crew.specs.declared.ended.AllEnded.{AllEnded}
 use Rattle.am_crew.specs.declared.ended.NodeEnded.{NodeEnded}
-use Rattle.am_crew.proofs.Links.{links_are_closed, there}
+use Rattle.am_crew.proofs.Links.{links_are_closed}
 
 abbrev books_in : NodeEnded → List EndBook
 books_in n = n.books.items
@@ -44,7 +45,7 @@ node_with : (ns : List NodeEnded) (k : ℕ) (bs : List EndBook) → slice_get (b
 node_with ns k bs at =
     let low = slice_get_within (map books_in ns) k bs at in
     let long = length-map ns books_in in
-    let n = there ns k (omega (arith, low, long)) in
+    let n = slice_get-Some ns k (omega (arith, low, long)) in
     let got : Some (books_in n.0) ≡ Some bs = sym (ap (λ (x : Option NodeEnded). option_map books_in x) n.1) ∙ sym (slice_get-map books_in ns k) ∙ at in
     let same : books_in n.0 ≡ bs = cc in
     (n.0, n.1, same)
@@ -54,7 +55,7 @@ part_left count s crews all records k c n rs p crewed ended closed at_c at_n at_
     let h = crewed.each k c at_c in
     let over = ended.node k c n at_c at_n in
     let interface : p.iface ≡ c.interface.interface = part.interface ∙ over.interface in
-    let os = there all.outs.items k (let low = slice_get_within crews k c at_c in let m = ended.all_outs in omega (arith, low, m)) in
+    let os = slice_get-Some all.outs.items k (let low = slice_get_within crews k c at_c in let m = ended.all_outs in omega (arith, low, m)) in
     let same_outs = ended.outs k c os.0 at_c os.1 in
     let row = closed.rows k os.0 rs os.1 at_r in
     record {
@@ -74,19 +75,19 @@ part_left count s crews all records k c n rs p crewed ended closed at_c at_n at_
           let low = slice_get_within (map emitted_in rs.items) j ps at in
           let long = length-map rs.items emitted_in in
           let low_j : j < length rs.items = omega (arith, low, long) in
-          let r = there rs.items j low_j in
+          let r = slice_get-Some rs.items j low_j in
           let got : Some (emitted_in r.0) ≡ Some ps = sym (ap (λ (x : Option LinkRecord). option_map emitted_in x) r.1) ∙ sym (slice_get-map emitted_in rs.items j) ∙ at in
           let one : emitted_in r.0 ≡ ps = cc in
           let few = h.interface.outs.all in
           let wide = crewed.all in
           let ins = ended.all_ins in
           let outs = ap (λ (xs : List LinkOut). length xs) same_outs in
-          let d = there crews j (omega (arith, low_j, row, outs, few, wide)) in
-          let is = there all.ins.items j (omega (arith, low_j, row, outs, few, wide, ins)) in
+          let d = slice_get-Some crews j (omega (arith, low_j, row, outs, few, wide)) in
+          let is = slice_get-Some all.ins.items j (omega (arith, low_j, row, outs, few, wide, ins)) in
           let same_ins = ended.ins j d.0 is.0 d.1 is.1 in
           let low_k = slice_get_within crews k c at_c in
           let few_ins = (crewed.each j d.0 d.1).interface.ins in
-          let i = there d.0.interface.ins.items k (omega (arith, low_k, wide, few_ins)) in
+          let i = slice_get-Some d.0.interface.ins.items k (omega (arith, low_k, wide, few_ins)) in
           let rec = closed.each k j os.0 is.0 rs o i.0 r.0 os.1 is.1 at_r (subst (λ (xs : List LinkOut). slice_get xs j ≡ Some o) (sym same_outs) at_o) (subst (λ (xs : List LinkIn). slice_get xs k ≡ Some i.0) (sym same_ins) i.1) r.1 in
           ap (λ (v : Vec Packet). v.items) (sym one) ∙ rec.emitted';
       all_received = part.counts.all;
@@ -115,7 +116,7 @@ crews_are_left count s crews all records parts lawful packet crewed ended closed
       all_parts = parted.all_parts ∙ ended.all_nodes ∙ crewed.all;
       parts' = λ k c bs p at_c at_b at_p.
           let n = node_with all.nodes.items k bs at_b in
-          let rs = there records k (let low = slice_get_within crews k c at_c in let m = closed.all in let o = ended.all_outs in omega (arith, low, m, o)) in
+          let rs = slice_get-Some records k (let low = slice_get_within crews k c at_c in let m = closed.all in let o = ended.all_outs in omega (arith, low, m, o)) in
           subst (λ (xs : List EndBook). IsPartOfCrew s (node_at k) c xs p) n.2
           (part_left count s crews all records k c n.0 rs.0 p crewed ended closed at_c n.1 rs.1 (parted.each k n.0 rs.0 p n.1 rs.1 at_p));
     }

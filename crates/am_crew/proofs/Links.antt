@@ -1,8 +1,9 @@
 -- The links of a run's nodes when its phase is over.
-use Rattle.std.specs.Prelude.{slice_get, get_or}
+use Rattle.std.specs.Prelude.{slice_get}
 use Rattle.std.specs.Global.{Vec}
-use Rattle.std.proofs.Common.{◌≡◌, ◌⊎◌, ⊎_elim, ℕ, ◌+◌, ◌<◌, ◌≤◌, None, Option, List, [], ◌∷◌, ◌++◌, length, Some, refl, sym, ap, ◌∙◌, subst, arith}
-use Rattle.std.proofs.lemmas.Option.{slice_get_cases, slice_get_past, slice_get_within}
+use Rattle.std.proofs.Common.{◌≡◌, ◌⊎◌, ℕ, ◌+◌, Option, List, [], ◌∷◌, ◌++◌, length, Some, refl, sym, ap, ◌∙◌, subst, arith}
+use Rattle.std.proofs.lemmas.Option.{slice_get_past, slice_get_within}
+use Rattle.am_lemmas.proofs.Lists.{slice_get-Some}
 use Rattle.am_names.specs.declared.Packet.{Packet}
 use Rattle.am_scenario_types.specs.Lists.{ScenarioLists}
 use Rattle.am_wire.specs.declared.closing.LinkRecord.{LinkRecord}
@@ -15,14 +16,6 @@ use Rattle.am_crew.specs.Closing.{AreClosed, AreLinkedEnds, IsRecordOf}
 use Rattle.am_crew.specs.Ending.{AreEnded}
 use Rattle.am_crew.specs.declared.ended.AllEnded.{AllEnded}
 
--- an element that is there
-pub there : {X : Type 0} (xs : List X) (k : ℕ) → k < length xs → (x : X) × (slice_get xs k ≡ Some x)
-there {X = X} xs k less =
-    ⊎_elim
-    (λ (here : (x : X) × (k < length xs) × (slice_get xs k ≡ Some x) × (get_or xs k x ≡ x)). (here.0, here.2))
-    (λ (past : (length xs ≤ k) × (slice_get xs k ≡ None)). (let far = past.0 in absurd (omega (arith, far, less))))
-    (slice_get_cases xs k).1
-
 -- ---- the two ends of each link
 
 pub ends_are_linked : (s : ScenarioLists) (turns : ℕ) (crews : List NodeCrew) (all : AllEnded) → AreCrews s turns crews → AreLinked crews → AreEnded crews all → AreLinkedEnds all.outs.items all.ins.items
@@ -30,14 +23,14 @@ ends_are_linked s turns crews all own linked ended =
     record {
       all = ended.all_ins ∙ sym ended.all_outs;
       rows = λ from os at.
-          let c = there crews from (let within = slice_get_within all.outs.items from os at in let n = ended.all_outs in omega (arith, within, n)) in
+          let c = slice_get-Some crews from (let within = slice_get_within all.outs.items from os at in let n = ended.all_outs in omega (arith, within, n)) in
           ap (λ (xs : List LinkOut). length xs) (ended.outs from c.0 os c.1 at) ∙ (own.each from c.0 c.1).interface.outs.all ∙ sym own.all ∙ sym ended.all_outs;
       columns = λ to is at.
-          let c = there crews to (let within = slice_get_within all.ins.items to is at in let n = ended.all_ins in omega (arith, within, n)) in
+          let c = slice_get-Some crews to (let within = slice_get_within all.ins.items to is at in let n = ended.all_ins in omega (arith, within, n)) in
           ap (λ (xs : List LinkIn). length xs) (ended.ins to c.0 is c.1 at) ∙ (own.each to c.0 c.1).interface.ins ∙ sym own.all ∙ sym ended.all_outs;
       each = λ from to os is o i out inn at_o at_i.
-          let a = there crews from (let within = slice_get_within all.outs.items from os out in let n = ended.all_outs in omega (arith, within, n)) in
-          let b = there crews to (let within = slice_get_within all.ins.items to is inn in let n = ended.all_ins in omega (arith, within, n)) in
+          let a = slice_get-Some crews from (let within = slice_get_within all.outs.items from os out in let n = ended.all_outs in omega (arith, within, n)) in
+          let b = slice_get-Some crews to (let within = slice_get_within all.ins.items to is inn in let n = ended.all_ins in omega (arith, within, n)) in
           linked from to a.0 b.0 o i a.1 b.1
           (subst (λ (xs : List LinkOut). slice_get xs to ≡ Some o) (ended.outs from a.0 os a.1 out) at_o)
           (subst (λ (xs : List LinkIn). slice_get xs from ≡ Some i) (ended.ins to b.0 is b.1 inn) at_i);
@@ -52,15 +45,15 @@ record_at s turns crews all records from to a b o i own ended closed at_a at_b a
     let outs = ended.all_outs in
     let ins = ended.all_ins in
     let rows = closed.all in
-    let os = there all.outs.items from (omega (arith, low_from, outs)) in
-    let is = there all.ins.items to (omega (arith, low_to, ins)) in
-    let rs = there records from (omega (arith, low_from, outs, rows)) in
+    let os = slice_get-Some all.outs.items from (omega (arith, low_from, outs)) in
+    let is = slice_get-Some all.ins.items to (omega (arith, low_to, ins)) in
+    let rs = slice_get-Some records from (omega (arith, low_from, outs, rows)) in
     let same_outs = ended.outs from a os.0 at_a os.1 in
     let same_ins = ended.ins to b is.0 at_b is.1 in
     let row = closed.rows from os.0 rs.0 os.1 rs.1 in
     let long = ap (λ (xs : List LinkOut). length xs) same_outs in
     let low_o = slice_get_within a.interface.outs.items to o at_o in
-    let r = there rs.0.items to (omega (arith, low_o, row, long)) in
+    let r = slice_get-Some rs.0.items to (omega (arith, low_o, row, long)) in
     (r.0, closed.each from to os.0 is.0 rs.0 o i r.0 os.1 is.1 rs.1 (subst (λ (xs : List LinkOut). slice_get xs to ≡ Some o) (sym same_outs) at_o) (subst (λ (xs : List LinkIn). slice_get xs from ≡ Some i) (sym same_ins) at_i) r.1)
 
 -- ---- what was received on a link is a beginning of what it released

@@ -4,6 +4,7 @@ use Rattle.std.specs.Global.{Vec}
 use Rattle.std.proofs.Common.{◌≡◌, ℕ, zero, suc, ◌+◌, ◌*◌, ◌<◌, ◌≤◌, List, [], ◌∷◌, map, length, Some, refl, sym, ap, ◌∙◌, subst, arith}
 use Rattle.std.proofs.lemmas.List.{length-map}
 use Rattle.std.proofs.lemmas.Option.{slice_get_within}
+use Rattle.am_lemmas.proofs.Lists.{slice_get-Some}
 use Rattle.am_names.specs.declared.NodeId.{NodeId}
 use Rattle.am_model.specs.Layout.{node_at}
 use Rattle.am_scenario_types.specs.Lawful as lawful
@@ -21,7 +22,6 @@ use Rattle.am_crew_opening.specs.Crews.{AreCrews, AreLinked, AreNumbered, IsCrew
 use Rattle.am_crew_opening.specs.declared.crew.NodeCrew.{NodeCrew}
 use Rattle.am_crew.specs.Running.{SameCrew, SameDriver, SameInterface, SameThread}
 use Rattle.am_opening.proofs.Fresh.{few_threads}
-use Rattle.am_crew.proofs.Links.{there}
 
 -- ---- a crew
 
@@ -51,7 +51,7 @@ crew_ran s c ts i w h long threads same interface same_i driver same_d =
       declared = h.declared;
       named = same_names c.threads.items ts.items long same ∙ h.named;
       threads = λ k t at.
-          let v = there c.threads.items k (let low = slice_get_within ts.items k t at in omega (arith, low, long)) in
+          let v = slice_get-Some c.threads.items k (let low = slice_get_within ts.items k t at in omega (arith, low, long)) in
           record { at_work = threads k t at; seat = same_seat h.births (seats_of c) (length ts.items + 2) (k + 1) v.0.seat.token.me.0 t.seat.token.me.0 (same k v.0 t v.1 at).seat seats (h.threads k v.0 v.1).seat };
       interface = interface;
       interface_seat =
@@ -98,12 +98,12 @@ same_links p o q i a b h = (
 -- the links' ends still belong together
 pub still_linked : (cs ds : List NodeCrew) → length ds ≡ length cs → ((k : ℕ) (c d : NodeCrew) → slice_get cs k ≡ Some c → slice_get ds k ≡ Some d → SameCrew c d) → AreLinked cs → AreLinked ds
 still_linked cs ds long same h from to a b o i at_a at_b at_o at_i =
-    let c = there cs from (let low = slice_get_within ds from a at_a in omega (arith, low, long)) in
-    let d = there cs to (let low = slice_get_within ds to b at_b in omega (arith, low, long)) in
+    let c = slice_get-Some cs from (let low = slice_get_within ds from a at_a in omega (arith, low, long)) in
+    let d = slice_get-Some cs to (let low = slice_get_within ds to b at_b in omega (arith, low, long)) in
     let out = same from c.0 a c.1 at_a in
     let inn = same to d.0 b d.1 at_b in
-    let p = there c.0.interface.outs.items to (let low = slice_get_within a.interface.outs.items to o at_o in let n = out.outs.all in omega (arith, low, n)) in
-    let q = there d.0.interface.ins.items from (let low = slice_get_within b.interface.ins.items from i at_i in let n = inn.ins.all in omega (arith, low, n)) in
+    let p = slice_get-Some c.0.interface.outs.items to (let low = slice_get_within a.interface.outs.items to o at_o in let n = out.outs.all in omega (arith, low, n)) in
+    let q = slice_get-Some d.0.interface.ins.items from (let low = slice_get_within b.interface.ins.items from i at_i in let n = inn.ins.all in omega (arith, low, n)) in
     same_links p.0 o q.0 i (out.outs.each to p.0 o p.1 at_o) (inn.ins.each from q.0 i q.1 at_i) (h from to c.0 d.0 p.0 q.0 c.1 d.1 p.1 q.1)
 
 pub crews_ran : (s : ScenarioLists) (cs ds : List NodeCrew) → length ds ≡ length cs → ((k : ℕ) (c d : NodeCrew) → slice_get cs k ≡ Some c → slice_get ds k ≡ Some d → IsCrew s c.node s.turns d) → AreCrews s 0 cs → AreCrews s s.turns ds
@@ -111,6 +111,6 @@ crews_ran s cs ds long ran h =
     record {
       all = long ∙ h.all;
       each = λ k d at.
-          let c = there cs k (let low = slice_get_within ds k d at in omega (arith, low, long)) in
+          let c = slice_get-Some cs k (let low = slice_get_within ds k d at in omega (arith, low, long)) in
           subst (λ (n : NodeId). IsCrew s n s.turns d) (h.each k c.0 c.1).is_node (ran k c.0 d c.1 at);
     }

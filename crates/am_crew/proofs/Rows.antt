@@ -3,25 +3,19 @@ use Rattle.std.specs.Prelude.{remove, slice_get, slice_index_or, slice_set}
 use Rattle.std.specs.Global.{Vec}
 use Rattle.std.proofs.Common.{◌≡◌, ◌≢◌, ⊎_elim, ℕ, zero, suc, ◌+◌, ◌<◌, ◌≤◌, List, [], ◌∷◌, ◌++◌, length, length-append, drop, Some, refl, sym, ap, ◌∙◌, subst, arith}
 use Rattle.std.proofs.lemmas.Option.{slice_get_read, slice_get_within}
+use Rattle.am_lemmas.proofs.Lists.{slice_get-Some, slice_get-push_cases}
 use Rattle.am_wire.specs.Links.{IsLink}
 use Rattle.am_wire.specs.declared.closing.LinkRecord.{LinkRecord}
 use Rattle.am_wire.specs.declared.receiving.LinkIn.{LinkIn}
 use Rattle.am_wire.specs.declared.sending.LinkOut.{LinkOut}
 use Rattle.am_crew.specs.Closing.{AreClosed, AreLinkedEnds, IsLinkedRow, IsRecordOf, IsRowClosed}
-use Rattle.am_node.proofs.Pushed.{got_push}
 use Rattle.am_crew.proofs.Adding.{pairs_more}
-use Rattle.am_crew.proofs.Links.{there}
 
 -- ---- lists
 
 got_seam : {X : Type 0} (xs ys : List X) (y : X) → slice_get (xs ++ y ∷ ys) (length xs) ≡ Some y
 got_seam [] ys y = refl
 got_seam (x ∷ xs) ys y = got_seam xs ys y
-
-got_before : {X : Type 0} (xs ys : List X) (k : ℕ) (x : X) → slice_get xs k ≡ Some x → slice_get (xs ++ ys) k ≡ Some x
-got_before [] ys k x e = absurd (cc)
-got_before (z ∷ xs) ys zero x e = e
-got_before (z ∷ xs) ys (suc k) x e = got_before xs ys k x e
 
 pub moved : {X : Type 0} (xs ys all : List X) (y : X) → xs ++ y ∷ ys ≡ all → (xs ++ y ∷ []) ++ ys ≡ all
 moved [] ys all y e = e
@@ -110,7 +104,7 @@ row_more done rest outs ins records more now o is is' i r n linked so_far all pl
           ⊎_elim
           (λ (was : slice_get records to ≡ Some q). so_far.each to p js js' q old at_js (sym (got_elsewhere now n to is' (λ same. absurd (omega (arith, same, low, place)))) ∙ at_js') was)
           (λ (last : (to ≡ length records) × (q ≡ r)). (let e = last.0 in let m = so_far.all in absurd (omega (arith, e, m, low))))
-          (got_push records r to q (subst (λ (xs : List LinkRecord). slice_get xs to ≡ Some q) pushed at_q)))
+          (slice_get-push_cases records r to q (subst (λ (xs : List LinkRecord). slice_get xs to ≡ Some q) pushed at_q)))
           (λ (new : (to ≡ length done) × (p ≡ o)).
           let at : to ≡ n = new.0 ∙ sym place in
           ⊎_elim
@@ -126,8 +120,8 @@ row_more done rest outs ins records more now o is is' i r n linked so_far all pl
             ap (λ (v : Vec LinkIn). v.items) (sym is_js) ∙ whole ∙ ap (λ (v : Vec LinkIn). i ∷ v.items) is_js',
             subst (λ (u : LinkOut). IsRecordOf u i q) (sym new.1) (subst (λ (u : LinkRecord). IsRecordOf o i u) (sym last.1) closed),
           ))
-          (got_push records r to q (subst (λ (xs : List LinkRecord). slice_get xs to ≡ Some q) pushed at_q)))
-          (got_push done o to p at_p);
+          (slice_get-push_cases records r to q (subst (λ (xs : List LinkRecord). slice_get xs to ≡ Some q) pushed at_q)))
+          (slice_get-push_cases done o to p at_p);
     }
 
 pub row_end : (outs : List LinkOut) (ins : List (Vec LinkIn)) (records : List LinkRecord) (now : List (Vec LinkIn)) → IsRowSoFar outs ins records now → IsRowClosed outs ins records now
@@ -165,9 +159,9 @@ next_row done rest outs ins records now os linked so_far all =
       all = omega (arith, long, wide, left);
       each = λ to o is' at_o at_is'.
           let low_to = slice_get_within now to is' at_is' in
-          let is = there ins to (omega (arith, low_to, left)) in
+          let is = slice_get-Some ins to (omega (arith, low_to, left)) in
           let column = linked.columns to is.0 is.1 in
-          let i = there is.0.items (length done) (omega (arith, column, low)) in
+          let i = slice_get-Some is.0.items (length done) (omega (arith, column, low)) in
           (i.0, drop (suc (length done)) is.0.items, so_far.columns to is.0 is' is.1 at_is' ∙ drop_seam is.0.items (length done) i.0 i.1, linked.each (length done) to os is.0 o i.0 at_os is.1 at_o i.1);
     }
 
@@ -184,9 +178,9 @@ closed_next done rest outs ins records now now' os rs to is is'' o r linked so_f
     let low = slice_get_within outs (length done) os at_os in
     let low_to = slice_get_within ins to is at_is in
     let left = so_far.left in
-    let is' = there now to (omega (arith, low_to, left)) in
+    let is' = slice_get-Some now to (omega (arith, low_to, left)) in
     let column = linked.columns to is at_is in
-    let i = there is.items (length done) (omega (arith, column, low)) in
+    let i = slice_get-Some is.items (length done) (omega (arith, column, low)) in
     let h = row.each to o is'.0 is'' r at_o is'.1 at_is'' at_r in
     let same : i.0 ∷ drop (suc (length done)) is.items ≡ h.0 ∷ is''.items = sym (drop_seam is.items (length done) i.0 i.1) ∙ sym (so_far.columns to is is'.0 at_is is'.1) ∙ h.1 in
     let first : h.0 ≡ i.0 = cc in
@@ -205,8 +199,8 @@ rows_more done rest outs ins records more now now' os rs linked so_far all row p
       left = row.left ∙ so_far.left;
       columns = λ to is is'' at_is at_is''.
           let low_to = slice_get_within ins to is at_is in
-          let o = there os.items to (omega (arith, low_to, long, wide)) in
-          let r = there rs.items to (omega (arith, low_to, long, wide, few)) in
+          let o = slice_get-Some os.items to (omega (arith, low_to, long, wide)) in
+          let r = slice_get-Some rs.items to (omega (arith, low_to, long, wide, few)) in
           let next = closed_next done rest outs ins records now now' os rs.items to is is'' o.0 r.0 linked so_far all row at_is at_is'' o.1 r.1 in
           let more = longer done os in
           let same : suc (length done) ≡ length (done ++ os ∷ []) = omega (arith, more) in
@@ -219,21 +213,21 @@ rows_more done rest outs ins records more now now' os rs linked so_far all row p
           ⊎_elim
           (λ (was : slice_get records from ≡ Some qs). so_far.each from to ps is qs o i r old at_is was at_o at_i at_r)
           (λ (last : (from ≡ length records) × (qs ≡ rs)). (let e = last.0 in let m = so_far.all in absurd (omega (arith, e, m, low))))
-          (got_push records rs from qs (subst (λ (xs : List (Vec LinkRecord)). slice_get xs from ≡ Some qs) pushed at_qs)))
+          (slice_get-push_cases records rs from qs (subst (λ (xs : List (Vec LinkRecord)). slice_get xs from ≡ Some qs) pushed at_qs)))
           (λ (new : (from ≡ length done) × (ps ≡ os)).
           ⊎_elim
           (λ (was : slice_get records from ≡ Some qs). (let low = slice_get_within records from qs was in let e = new.0 in let m = so_far.all in absurd (omega (arith, e, m, low))))
           (λ (last : (from ≡ length records) × (qs ≡ rs)).
           let low_to = slice_get_within ins to is at_is in
           let gone = row.left in
-          let is'' = there now' to (omega (arith, low_to, left, gone)) in
+          let is'' = slice_get-Some now' to (omega (arith, low_to, left, gone)) in
           let next = closed_next done rest outs ins records now now' os rs.items to is is''.0 o r linked so_far all row at_is is''.1 (subst (λ (v : Vec LinkOut). slice_get v.items to ≡ Some o) new.1 at_o) (subst (λ (v : Vec LinkRecord). slice_get v.items to ≡ Some r) last.1 at_r) in
           let here : slice_get is.items (length done) ≡ Some i = subst (λ (k : ℕ). slice_get is.items k ≡ Some i) new.0 at_i in
           let got = next.got in
           let same : next.first ≡ i = cc in
           subst (λ (k : LinkIn). IsRecordOf o k r) same next.closed)
-          (got_push records rs from qs (subst (λ (xs : List (Vec LinkRecord)). slice_get xs from ≡ Some qs) pushed at_qs)))
-          (got_push done os from ps at_ps);
+          (slice_get-push_cases records rs from qs (subst (λ (xs : List (Vec LinkRecord)). slice_get xs from ≡ Some qs) pushed at_qs)))
+          (slice_get-push_cases done os from ps at_ps);
     }
 
 pub rows_end : (outs : List (Vec LinkOut)) (ins : List (Vec LinkIn)) (records : List (Vec LinkRecord)) (now : List (Vec LinkIn)) → AreClosedSoFar outs ins records now → AreClosed outs ins records

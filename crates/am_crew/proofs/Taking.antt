@@ -2,8 +2,8 @@
 use Rattle.std.specs.Prelude.{slice_get, slice_index_or, slice_set}
 use Rattle.std.proofs.Common.{◌≡◌, ◌≢◌, ◌⊎◌, ⊎_elim, ℕ, zero, suc, ◌+◌, ◌≤◌, Option, Some, List, [], ◌∷◌, ◌++◌, length, length-append, refl, sym, ap, ◌∙◌, subst, arith}
 use Rattle.atomic_table.specs.Table.{Me}
+use Rattle.am_lemmas.proofs.Lists.{slice_get-push_cases}
 use Rattle.am_office.specs.declared.Entry.{Entry}
-use Rattle.am_node.proofs.Pushed.{got_push}
 use Rattle.am_books.specs.declared.EndBook.{EndBook}
 use Rattle.am_places.specs.Rule.{known_at, nothing, with_known}
 use Rattle.am_places.specs.declared.board.Known.{Known}
@@ -48,5 +48,5 @@ taken_more n v me books more b log x w h comes is pushed =
           subst (λ (j : ℕ). IsTakenOut v j c) (sym (new.0 ∙ h.long))
           (subst (λ (d : EndBook). IsTakenOut v n d) (sym new.1)
           (record { me = me; log = log; knows = record { known = h.knows n (omega arith); keeps = h.keeps; seats = h.seats; births = h.births }; comes = comes })))
-          (got_push books b k c (subst (λ (bs : List EndBook). slice_get bs k ≡ Some c) pushed at));
+          (slice_get-push_cases books b k c (subst (λ (bs : List EndBook). slice_get bs k ≡ Some c) pushed at));
     }

@@ -3,6 +3,7 @@ use Rattle.std.specs.Prelude.{slice_get, take}
 use Rattle.std.proofs.Common.{◌≡◌, ℕ, zero, suc, ◌+◌, ◌<◌, ◌≤◌, List, [], ◌∷◌, ◌++◌, map, length, Option, Some, None, refl, sym, ap, ◌∙◌, subst, arith}
 use Rattle.std.proofs.lemmas.Option.{same_Some, slice_get_within}
 use Rattle.atomic_table.specs.Seated.{TableId}
+use Rattle.am_lemmas.proofs.Lists.{slice_get-Some}
 use Rattle.am_names.specs.declared.NodeId.{NodeId}
 use Rattle.am_names.specs.declared.Packet.{Packet}
 use Rattle.am_iface.specs.View.{InterfaceView, own}
@@ -34,11 +35,6 @@ use Rattle.am_unite_laws.proofs.Teams.{teams_unite}
 use Rattle.am_crew_ends.specs.Ends.{AreBooksOf, AreLeft, CrewsGather, CrewsUnite, IsPartOfCrew, gathered_all, pass_of, whole_of}
 
 -- ---- words on lists
-
-there_is : {X : Type 0} (xs : List X) (k : ℕ) → k < length xs → (x : X) × (slice_get xs k ≡ Some x)
-there_is [] k less = absurd (omega (arith, less))
-there_is (x ∷ xs) zero less = (x, refl)
-there_is (x ∷ xs) (suc k) less = there_is xs k (omega (arith, less))
 
 past_none : {X : Type 0} (xs : List X) (k : ℕ) → length xs ≤ k → slice_get xs k ≡ None
 past_none [] k most = refl
@@ -156,10 +152,10 @@ module _ (s : ScenarioLists) (node : NodeId) (turns : ℕ) (c : NodeCrew) (h : I
   -- ---- its links
 
   out_at : (k : ℕ) → k < s.nodes → (o : LinkOut) × (slice_get c.interface.outs.items k ≡ Some o)
-  out_at k d = there_is c.interface.outs.items k (let all = h.interface.outs.all in omega (arith, d, all))
+  out_at k d = slice_get-Some c.interface.outs.items k (let all = h.interface.outs.all in omega (arith, d, all))
 
   in_at : (k : ℕ) → k < s.nodes → (i : LinkIn) × (slice_get c.interface.ins.items k ≡ Some i)
-  in_at k d = there_is c.interface.ins.items k (let all = h.interface.ins in omega (arith, d, all))
+  in_at k d = slice_get-Some c.interface.ins.items k (let all = h.interface.ins in omega (arith, d, all))
 
   none_strange : (from : NodeId) → s.nodes ≤ from.0 → taken_by c.interface.ins.items from ≡ []
   none_strange from far = ap taken_on (past_none c.interface.ins.items from.0 (let all = h.interface.ins in omega (arith, far, all)))
@@ -329,7 +325,7 @@ crews_unite s crews books parts a =
       good = (united s crews books parts a).good;
       none = (united s crews books parts a).none;
       calls = λ k j c w at_c at_w.
-          (let t = there_is (teams s crews books parts a) k (let less = slice_get_within crews k c at_c in let all = a.crews'.all in let long = count s crews books parts a in omega (arith, less, all, long)) in
+          (let t = slice_get-Some (teams s crews books parts a) k (let less = slice_get_within crews k c at_c in let all = a.crews'.all in let long = count s crews books parts a in omega (arith, less, all, long)) in
           let u = team_of_place s crews books parts a k t.0 t.1 in
           let same = same_Some c u.crew (sym at_c ∙ u.at) in
           counted s crews books parts a k j c w t.0 u t.1 (subst (λ (x : NodeCrew). slice_get x.threads.items j ≡ Some w) same at_w));

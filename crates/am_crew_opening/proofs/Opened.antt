@@ -1,10 +1,11 @@
 -- A crew that is made of what its workers begin with and of its links is at work, with no turn made.
 use Rattle.std.specs.Prelude.{slice_get}
-use Rattle.std.proofs.Common.{◌≡◌, ◌≢◌, ℕ, zero, suc, ◌+◌, ◌<◌, ◌≤◌, Option, None, Some, List, [], ◌∷◌, ◌++◌, length, map, refl, sym, ap, ◌∙◌, subst, arith, append-nil}
+use Rattle.std.proofs.Common.{◌≡◌, ◌≢◌, ℕ, suc, ◌+◌, ◌<◌, ◌≤◌, Option, None, Some, List, [], ◌∷◌, ◌++◌, length, map, refl, sym, ap, ◌∙◌, subst, arith, append-nil}
 use Rattle.std.specs.Global.{Vec}
 use Rattle.std.proofs.lemmas.List.{length_push}
 use Rattle.atomic_table.specs.Seated.{TableId}
 use Rattle.atomic_table.specs.Table.{Me}
+use Rattle.am_lemmas.proofs.Lists.{slice_get-append_left}
 use Rattle.am_names.specs.declared.EndpointId.{EndpointId}
 use Rattle.am_names.specs.declared.NodeId.{NodeId}
 use Rattle.am_office.specs.declared.Entry.{Entry}
@@ -98,11 +99,6 @@ is_made s first o guests threads inner last outs ins waits seats made =
       clock' = refl;
     }
 
-got_left : {X : Type 0} (xs ys : List X) (k : ℕ) (x : X) → slice_get xs k ≡ Some x → slice_get (xs ++ ys) k ≡ Some x
-got_left [] ys k x h = absurd (cc)
-got_left (z ∷ xs) ys zero x h = h
-got_left (z ∷ xs) ys (suc k) x h = got_left xs ys k x h
-
 module _ (s : ScenarioLists) (o : Opening) (guests : List EndSeat) (inner last : EndSeat) (outs : List LinkOut) (ins : List LinkIn) (c : NodeCrew) (ok : lawful.IsLawful s) (packet : s.network ≡ Networks.Packet) (op : IsOpening s o.node o) (declared : o.node.0 < s.nodes) (links : AreNodeLinks s o.node outs ins) (made : IsCrewMade s o guests inner last outs ins c) where
   guests_all : length guests ≡ length o.threads.items
   guests_all =
@@ -116,7 +112,7 @@ module _ (s : ScenarioLists) (o : Opening) (guests : List EndSeat) (inner last :
   seat_at k seat at = op.seats' k seat (subst (λ (l : List EndSeat). slice_get l k ≡ Some seat) (sym made.seats) at)
 
   guest_at : (k : ℕ) (seat : EndSeat) → slice_get guests k ≡ Some seat → IsFreshSeat o.places.board.shared.table_id op.books o.places.ids.items k (length o.threads.items + 2) s.frames seat
-  guest_at k seat at = seat_at k seat (got_left (guests ++ inner ∷ []) (last ∷ []) k seat (got_left guests (inner ∷ []) k seat at))
+  guest_at k seat at = seat_at k seat (slice_get-append_left (guests ++ inner ∷ []) (last ∷ []) k seat (slice_get-append_left guests (inner ∷ []) k seat at))
 
   inner_at : IsFreshSeat o.places.board.shared.table_id op.books o.places.ids.items (length o.threads.items) (length o.threads.items + 2) s.frames inner
   inner_at = subst (λ (n : ℕ). IsFreshSeat o.places.board.shared.table_id op.books o.places.ids.items n (length o.threads.items + 2) s.frames inner) guests_all (seat_at (length guests) inner (got_last guests (last ∷ []) inner))

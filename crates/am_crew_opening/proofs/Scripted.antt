@@ -1,9 +1,9 @@
 -- The threads of a node are declared, and the numbers of their calls are in range.
-use Rattle.std.specs.Prelude.{slice_get, option_map, nat_lt, ◌&&◌, ◌==◌, ◌||◌, filter}
-use Rattle.std.specs.List.{All, find, list_any}
-use Rattle.std.proofs.Common.{◌≡◌, ℕ, zero, suc, ◌+◌, ◌<◌, ◌≤◌, Bool, true, false, cond, List, [], ◌∷◌, ◌++◌, length, map, Option, Some, None, refl, sym, ap, ◌∙◌, subst, arith, lt-ltb, eqb-true, eq-eqb}
+use Rattle.std.specs.Prelude.{slice_get, nat_lt, ◌&&◌, ◌==◌, ◌||◌, filter}
+use Rattle.std.specs.List.{All, list_any}
+use Rattle.std.proofs.Common.{◌≡◌, ℕ, zero, suc, ◌+◌, ◌≤◌, Bool, true, false, cond, List, [], ◌∷◌, ◌++◌, length, Option, Some, None, refl, sym, ap, ◌∙◌, subst, arith, lt-ltb, eqb-true, eq-eqb}
 use Rattle.std.proofs.lemmas.List.Sums.{count_by-le-length, length-filter}
-use Rattle.am_names.specs.declared.EndpointId.{EndpointId}
+use Rattle.am_lemmas.proofs.Lists.{Some-slice_get_map}
 use Rattle.am_names.specs.declared.NodeId.{NodeId}
 use Rattle.am_names.specs.Names.{same_node}
 use Rattle.am_office.specs.declared.Actor.TheVariants.{Outside, Thread}
@@ -18,16 +18,12 @@ use Rattle.am_follow.specs.Layout.{layout_of}
 use Rattle.am_follow.proofs.Lawful.{event_in_range}
 use Rattle.am_scripts.specs.Follows.{is_thread}
 use Rattle.am_scripts.specs.Scripts.{is_of_thread, script_of}
+use Rattle.am_scripts.proofs.Declared.{thread_below_64, is_on_declared}
 use Rattle.am_turns.specs.Callers.{IsScript}
 use Rattle.am_opening.specs.Openings.{thread_ids, threads_of}
 use Rattle.am_opening.proofs.Lists.{got_kept}
 
 -- ---- a thread of the node is declared
-
-got_unmap : {X Y : Type 0} (f : X → Y) (xs : List X) (k : ℕ) (y : Y) → slice_get (map f xs) k ≡ Some y → (x : X) × (slice_get xs k ≡ Some x) × (f x ≡ y)
-got_unmap f [] k y h = absurd (cc)
-got_unmap f (x ∷ xs) zero y h = (x, refl, cc)
-got_unmap f (x ∷ xs) (suc k) y h = got_unmap f xs k y h
 
 any_at : {X : Type 0} (q : X → Bool) (xs : List X) (k : ℕ) (x : X) → slice_get xs k ≡ Some x → q x ≡ true → list_any q xs ≡ true
 any_at q [] k x h is = absurd (cc)
@@ -40,7 +36,7 @@ any_at q (y ∷ xs) (suc k) x h is = by_test (q y) (any_at q xs k x h is)
 
 pub is_declared : (s : ScenarioLists) (node : NodeId) (k id : ℕ) → slice_get (threads_of s node) k ≡ Some id → is_thread s id ≡ true
 is_declared s node k id h =
-    let line = got_unmap (λ (t : ThreadLine). t.id) (filter (λ (t : ThreadLine). same_node node t.node) s.threads) k id h in
+    let line = Some-slice_get_map (λ (t : ThreadLine). t.id) (filter (λ (t : ThreadLine). same_node node t.node) s.threads) k id h in
     let among = got_kept (λ (t : ThreadLine). same_node node t.node) s.threads k line.0 line.1 in
     any_at (λ (t : ThreadLine). t.id == id) s.threads among.0 line.0 among.1 (eq-eqb line.0.id id line.2)
 
@@ -57,23 +53,12 @@ all_at P q (y ∷ ys) k x all e = by_test (q y) refl k e (λ j h. all_at P q ys 
     by_test true is (suc j) h later = later j h
     by_test false is j h later = later j h
 
-found_thread : (ts : List ThreadLine) (id : ℕ) (node : NodeId) (s : ScenarioLists) → All (lawful.IsLawfulThread s.nodes) ts → lawful.thread_node ts id ≡ Some node → id < 64
-found_thread [] id node s all h = absurd (cc)
-found_thread (t ∷ ts) id node s all h = by_test (t.id == id) refl h (found_thread ts id node s (λ i d lt. all (suc i) d (omega (arith, lt))))
-  where
-    by_test : (b : Bool) → (t.id == id) ≡ b → option_map (λ (x : ThreadLine). x.node) (cond b (Some t) (find (λ (x : ThreadLine). x.id == id) ts)) ≡ Some node → (lawful.thread_node ts id ≡ Some node → id < 64) → id < 64
-    by_test true is k later = omega (arith, eqb-true t.id id is, (all zero t (omega arith)).id)
-    by_test false is k later = later k
-
-is_on_declared : (s : ScenarioLists) (node : NodeId) (e : EndpointId) → lawful.IsOn s.ends node e → lawful.IsDeclared s.ends e
-is_on_declared s node e on = rw on refl
-
 module _ (s : ScenarioLists) (c : ScriptCall) (ok : lawful.IsLawful s) (k : lawful.IsLawfulScriptCall s.ends s.threads (lawful.least_credits s.pool) c) where
   known : lawful.IsDeclared s.ends c.endpoint
   known = is_on_declared s k.placed.0 c.endpoint k.placed.1.1
 
   low : nat_lt c.thread 64 ≡ true
-  low = lt-ltb c.thread 64 (found_thread s.threads c.thread k.placed.0 s ok.threads k.placed.1.0)
+  low = lt-ltb c.thread 64 (thread_below_64 s.threads c.thread k.placed.0 s ok.threads k.placed.1.0)
 
   call_in_range : is_in_range (layout_of s) (Events.Call (Thread c.thread) c.endpoint c.call) ≡ true
   call_in_range =

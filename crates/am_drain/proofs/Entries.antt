@@ -2,7 +2,7 @@
 use Rattle.std.proofs.Common.{◌≡◌, ℕ, zero, suc, ◌+◌, ◌<◌, List, [], ◌∷◌, Option, Some, None, Bool, true, false, map, length, refl, ◌∙◌, ap, cond, arith, lt-ltb}
 use Rattle.std.specs.Prelude.{◌&&◌, ◌||◌, not, nat_lt, max, fold, filter, filter_map, slice_get, MatchOption}
 use Rattle.std.specs.List.{list_all, cons_option, range_with_len}
-use Rattle.std.proofs.lemmas.Bool.{and_parts, and_from}
+use Rattle.std.proofs.lemmas.Bool.{and_parts, and_from, or_right}
 use Rattle.am_names.specs.declared.NodeId.{NodeId}
 use Rattle.am_names.specs.declared.Packet.{Packet}
 use Rattle.am_names.specs.declared.Verdict.{Verdict}
@@ -16,10 +16,6 @@ use Rattle.am_model.specs.Channels.{emitted, is_on_link}
 use Rattle.am_model.specs.History.{is_packet_before, is_taken_before, outcome_of}
 use Rattle.am_model.specs.Packets.{stamp_of}
 use Rattle.am_drain.specs.Made.{later_stamp, next_entry, next_stamp, EntryMayFollow, EntryIsStep}
-
-or_true : (a b : Bool) → b ≡ true → (a || b) ≡ true
-or_true true b e = refl
-or_true false b e = e
 
 below : (a : ℕ) (xs : List Entry) (n : ℕ) → fold later_stamp a xs < n → a < n
 below a [] n h = h
@@ -36,7 +32,7 @@ later_than_all : (shares : Entry → Bool) (a : ℕ) (xs : List Entry) (n : ℕ)
 later_than_all shares a [] n h = refl
 later_than_all shares a (x ∷ xs) n h =
     and_from (not (shares x) || nat_lt x.stamp n) (list_all (λ (y : Entry). not (shares y) || nat_lt y.stamp n) xs)
-    (or_true (not (shares x)) (nat_lt x.stamp n) (lt-ltb x.stamp n (stamp_below a x xs n h)))
+    (or_right (not (shares x)) (nat_lt x.stamp n) (lt-ltb x.stamp n (stamp_below a x xs n h)))
     (later_than_all shares (max a x.stamp) xs n h)
 
 -- a packet has the stamp of the entry that emits it

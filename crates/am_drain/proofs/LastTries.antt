@@ -2,6 +2,7 @@
 use Rattle.std.proofs.Common.{◌≡◌, ℕ, List, [], ◌∷◌, ◌++◌, length, map, Option, None, Bool, true, false, refl, sym, ◌∙◌, ap, subst, append-nil}
 use Rattle.std.specs.Prelude.{◌||◌, not, is_some, is_none, filter, slice_get}
 use Rattle.std.specs.List.{cons_option}
+use Rattle.am_lemmas.proofs.Lists.{map_alike}
 use Rattle.am_names.specs.declared.NodeId.{NodeId}
 use Rattle.am_names.specs.declared.Packet.{Packet}
 use Rattle.am_office.specs.declared.Event.{Event}
@@ -79,18 +80,14 @@ due_same scenario from to past x e =
     ap (λ (ps : List Packet). slice_get (map number_of (shape scenario.plan from to ps)) (length (received from to (past ++ x ∷ [])))) (emitted_same from to past x e)
     ∙ ap (λ (ns : List ℕ). slice_get (map number_of (shape scenario.plan from to (emitted from to past))) (length ns)) (received_same from to past x e)
 
-map_same : {X Y : Type 0} (f g : X → Y) → ((x : X) → f x ≡ g x) → (xs : List X) → map f xs ≡ map g xs
-map_same f g h [] = refl
-map_same f g h (x ∷ xs) = ap (λ y. y ∷ map f xs) (h x) ∙ ap (λ ys. g x ∷ ys) (map_same f g h xs)
-
 receipt_at_same : (scenario : ScenarioLists) (past : List Entry) (x : Entry) → is_driven x ≡ true → (node : NodeId) → receipt_at scenario (past ++ x ∷ []) node ≡ receipt_at scenario past node
 receipt_at_same scenario past x e node =
     ap first_some
-    (map_same (λ (peer : NodeId). receipt node peer (due scenario peer node (past ++ x ∷ []))) (λ (peer : NodeId). receipt node peer (due scenario peer node past)) (λ (peer : NodeId). ap (receipt node peer) (due_same scenario peer node past x e)) (nodes_of scenario))
+    (map_alike (λ (peer : NodeId). receipt node peer (due scenario peer node (past ++ x ∷ []))) (λ (peer : NodeId). receipt node peer (due scenario peer node past)) (λ (peer : NodeId). ap (receipt node peer) (due_same scenario peer node past x e)) (nodes_of scenario))
 
 -- a driver's entry makes nothing due, and receives nothing
 pub receipt_same : (scenario : ScenarioLists) (past : List Entry) (x : Entry) → is_driven x ≡ true → next_receipt scenario (past ++ x ∷ []) ≡ next_receipt scenario past
-receipt_same scenario past x e = ap first_some (map_same (receipt_at scenario (past ++ x ∷ [])) (receipt_at scenario past) (receipt_at_same scenario past x e) (nodes_of scenario))
+receipt_same scenario past x e = ap first_some (map_alike (receipt_at scenario (past ++ x ∷ [])) (receipt_at scenario past) (receipt_at_same scenario past x e) (nodes_of scenario))
 
 -- the last tries come last, and all that was released was received
 pub record AllKept (scenario : ScenarioLists) (past : List Entry) : Type 0 where

@@ -25,7 +25,7 @@ due_receipt : (scenario : ScenarioLists) (past : List Entry) (event : Event) →
 due_receipt scenario past (Events.Receive node peer number) is = is
 due_receipt scenario past event is = absurd is
 
-driven_receipt : (event : Event) → is_some (driver_of event) ≡ true → IsNoReceipt event
+pub driven_receipt : (event : Event) → is_some (driver_of event) ≡ true → IsNoReceipt event
 driven_receipt (Events.Receive node peer number) e = absurd (cc)
 driven_receipt event e = tt
 

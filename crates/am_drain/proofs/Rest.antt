@@ -38,7 +38,7 @@ twice_not : (b : Bool) → not (not b) ≡ true → b ≡ true
 twice_not true e = refl
 twice_not false e = absurd (cc)
 
-zero_of : (n : ℕ) → not (not (n == 0)) ≡ true → n ≡ 0
+pub zero_of : (n : ℕ) → not (not (n == 0)) ≡ true → n ≡ 0
 zero_of n e = eqb-true n 0 (twice_not (n == 0) e)
 
 -- an endpoint with something queued has a front message to send
@@ -51,7 +51,7 @@ sends_request ends s replies [] has e = cc
 sends_request ends s [] (q ∷ qs) has e = cc
 sends_request ends s (r ∷ rs) (q ∷ qs) has e = cc
 
-no_reply : (ends : List Standing) (o : Option Standing) → find has_reply ends ≡ o → send_of (first_some (o ∷ find (has_request ends) ends ∷ [])) ≡ None → o ≡ None
+pub no_reply : (ends : List Standing) (o : Option Standing) → find has_reply ends ≡ o → send_of (first_some (o ∷ find (has_request ends) ends ∷ [])) ≡ None → o ≡ None
 no_reply ends None is e = refl
 no_reply ends (Some s) is e = absurd (sends_reply s s.state.body.replies s.state.body.requests (found_true has_reply ends s is) e)
 

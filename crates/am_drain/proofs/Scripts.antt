@@ -28,7 +28,7 @@ calls_push thread past x o is =
     ∙ (filter-append (is_of_thread thread) (filter_map (λ (y : Entry). call_made y.event) past) (cons_option (call_made x.event) [])
     ∙ ap (λ (m : Option ScriptCall). calls_of thread past ++ filter (is_of_thread thread) (cons_option m [])) is)
 
-calls_same : (thread : ℕ) (past : List Entry) (x : Entry) → call_made x.event ≡ None → calls_of thread (past ++ x ∷ []) ≡ calls_of thread past
+pub calls_same : (thread : ℕ) (past : List Entry) (x : Entry) → call_made x.event ≡ None → calls_of thread (past ++ x ∷ []) ≡ calls_of thread past
 calls_same thread past x none = calls_push thread past x None none ∙ append-nil (calls_of thread past)
 
 -- the calls of a thread are the first ones of its script
@@ -53,7 +53,7 @@ begun_call : (scenario : ScenarioLists) (past : List Entry) (x : Entry) (c : Scr
 begun_call scenario past x c made left h =
     each_thread (Begun scenario past) (Begun scenario (past ++ x ∷ [])) (λ (thread : ℕ) b. subst (λ (cs : List ScriptCall). Begins cs (script_of scenario thread)) (sym (calls_push thread past x (Some c) made)) (by_test scenario past c thread (thread == c.thread) refl left b)) scenario.threads h
 
-driven_call : (event : Event) → is_some (driver_of event) ≡ true → call_made event ≡ None
+pub driven_call : (event : Event) → is_some (driver_of event) ≡ true → call_made event ≡ None
 driven_call (Events.Call actor end call) e = absurd (cc)
 driven_call event e = refl
 

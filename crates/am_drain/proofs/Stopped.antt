@@ -1,8 +1,8 @@
 -- A drain that is cut off after a good phase is stopped for the part.
 use Rattle.std.proofs.Common.{◌≡◌, ℕ, ◌≤◌, List, [], ◌∷◌, length, Option, Some, None, Bool, true, false, refl, ◌∙◌, ap, subst, arith, eq-eqb}
-use Rattle.std.specs.Prelude.{◌||◌, nat_lt, nat_le, filter, count_by, if◌then◌else◌}
+use Rattle.std.specs.Prelude.{nat_lt, nat_le, filter, count_by, if◌then◌else◌}
 use Rattle.std.specs.List.{list_any}
-use Rattle.std.proofs.lemmas.Bool.{leb-true}
+use Rattle.std.proofs.lemmas.Bool.{leb-true, or_right, or_left}
 use Rattle.std.proofs.lemmas.List.Sums.{length-filter}
 use Rattle.am_names.specs.declared.EndpointId.{EndpointId}
 use Rattle.am_names.specs.declared.NodeId.{NodeId}
@@ -23,14 +23,6 @@ use Rattle.am_drain.specs.Laws.{CutOffIsStopped}
 pub record IsSuch (p : EndpointId → Bool) (es : List EndpointId) (e : EndpointId) : Type 0 where
   pub among : list_any (same_end e) es ≡ true
   pub passes : p e ≡ true
-
-or_left : (a b : Bool) → a ≡ true → (a || b) ≡ true
-or_left true b e = refl
-or_left false b e = absurd (cc)
-
-or_right : (a b : Bool) → b ≡ true → (a || b) ≡ true
-or_right true b e = refl
-or_right false b e = e
 
 such_first : (p : EndpointId → Bool) (x : EndpointId) (xs : List EndpointId) → p x ≡ true → IsSuch p (x ∷ xs) x
 such_first p x xs is = record { among = or_left (same_end x x) (list_any (same_end x) xs) (same_end-refl x); passes = is }

@@ -1,7 +1,8 @@
 -- Which turns the rules give.
 use Rattle.std.proofs.Common.{◌≡◌, ℕ, zero, suc, List, [], ◌∷◌, map, length, Option, Some, None, Bool, true, false, refl, sym, ◌∙◌, ap, subst, cond, eqb-true, eq-eqb}
-use Rattle.std.specs.Prelude.{◌==◌, ◌||◌, nat_lt, filter, filter_map, find, fold, slice_get, option_map, MatchOption, if◌then◌else◌}
+use Rattle.std.specs.Prelude.{◌==◌, nat_lt, filter, filter_map, find, fold, slice_get, option_map, MatchOption, if◌then◌else◌}
 use Rattle.std.specs.List.{list_any, cons_option, range_with_len, AllByRecursion}
+use Rattle.std.proofs.lemmas.Bool.{or_right, or_left}
 use Rattle.am_names.specs.declared.NodeId.{NodeId}
 use Rattle.am_office.specs.declared.Event.{Event}
 use Rattle.am_office.specs.declared.Event.TheVariants as Events
@@ -31,7 +32,7 @@ pub is_so : {X : Type 0} (P : X → Type 0) (o : Option X) (x : X) → Maybe P o
 is_so P None x h e = absurd (cc)
 is_so P (Some y) x h e = let same : y ≡ x = cc in subst P same h
 
-first_so : {X : Type 0} (P : X → Type 0) (o : Option X) (os : List (Option X)) → Maybe P o → Maybe P (first_some os) → Maybe P (first_some (o ∷ os))
+pub first_so : {X : Type 0} (P : X → Type 0) (o : Option X) (os : List (Option X)) → Maybe P o → Maybe P (first_some os) → Maybe P (first_some (o ∷ os))
 first_so P None os a b = b
 first_so P (Some x) os a b = a
 
@@ -131,14 +132,6 @@ left_step scenario past thread after (Some c) rest e is same all = (
 -- whether one of these threads has this number
 abbrev pub is_among : List ThreadLine → ℕ → Bool
 is_among threads thread = list_any (λ (t : ThreadLine). t.id == thread) threads
-
-or_left : (a b : Bool) → a ≡ true → (a || b) ≡ true
-or_left true b e = refl
-or_left false b e = absurd (cc)
-
-or_right : (a b : Bool) → b ≡ true → (a || b) ≡ true
-or_right true b e = refl
-or_right false b e = e
 
 lefts_so : (scenario : ScenarioLists) (past : List Entry) (threads : List ThreadLine) → ((thread : ℕ) → is_among threads thread ≡ true → is_thread scenario thread ≡ true) → AllByRecursion (IsLeft scenario past) (filter_map (left_to scenario past) threads)
 lefts_so scenario past [] h = tt

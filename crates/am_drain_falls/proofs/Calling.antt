@@ -1,9 +1,11 @@
 -- A call of a script and a poll leave less work.
-use Rattle.std.proofs.Common.{◌≡◌, ℕ, zero, suc, ◌+◌, ◌-◌, ◌*◌, ◌<◌, ◌≤◌, Bool, true, false, cond, ◌||◌, List, [], ◌∷◌, ◌++◌, length, Option, Some, None, refl, sym, ap, ◌∙◌, subst, arith, true≢false, eqb-true, length-append}
-use Rattle.std.specs.Prelude.{◌==◌, ◌&&◌, not, nat_le, is_some, filter, filter_map, slice_get, find, count_by}
+use Rattle.std.proofs.Common.{◌≡◌, ℕ, ◌+◌, ◌-◌, ◌*◌, ◌<◌, ◌≤◌, Bool, true, false, cond, ◌||◌, List, [], ◌∷◌, ◌++◌, length, Option, Some, refl, sym, ap, ◌∙◌, subst, arith, true≢false, eqb-true, length-append}
+use Rattle.std.specs.Prelude.{◌==◌, ◌&&◌, not, nat_le, filter, filter_map, slice_get, find}
 use Rattle.std.specs.List.{cons_option}
 use Rattle.std.proofs.lemmas.Bool.{and_parts}
 use Rattle.std.proofs.lemmas.List.Elements.{filter-append, filter_map-append}
+use Rattle.std.proofs.lemmas.Option.{slice_get_within}
+use Rattle.am_lemmas.proofs.Lists.{count_by-empty}
 use Rattle.am_names.specs.declared.EndpointId.{EndpointId}
 use Rattle.am_names.specs.Names.{is_answer}
 use Rattle.am_office.specs.declared.Actor.TheVariants.{Outside, Thread}
@@ -13,9 +15,8 @@ use Rattle.am_office.specs.declared.Event.TheVariants as Events
 use Rattle.am_office.specs.declared.Entry.{Entry}
 use Rattle.am_model.specs.declared.Flying.{Flying}
 use Rattle.am_model.specs.declared.Notice.{Notice}
-use Rattle.am_model.specs.declared.Queued.{Queued}
 use Rattle.am_model.specs.Calls.{poll}
-use Rattle.am_model.specs.Endpoint.{State, Body, front_of, replies_held}
+use Rattle.am_model.specs.Endpoint.{State, Body, replies_held}
 use Rattle.am_model.specs.Changes.{called, has_arrivals}
 use Rattle.am_model.specs.Channels.{Channel}
 use Rattle.am_model.specs.Layout.{Layout, IsLawful, declared, home}
@@ -27,7 +28,6 @@ use Rattle.am_scenario_types.specs.declared.parts.ScriptCall.{ScriptCall}
 use Rattle.am_scenario_types.specs.Lists.{ScenarioLists}
 use Rattle.am_follow.specs.Layout.{layout_of}
 use Rattle.am_follow.proofs.Lawful.{lawful_layout}
-use Rattle.am_scripts.specs.Links.{first_some}
 use Rattle.am_scripts.specs.Scripts.{call_made, is_of_thread, calls_of, script_of, call_left}
 use Rattle.am_scripts.specs.Standings.{Standing, standings}
 use Rattle.am_scripts.specs.Follows.{is_thread}
@@ -36,13 +36,14 @@ use Rattle.am_scripts.proofs.Lists.{some_mapped, none_all, found_in, found_true}
 use Rattle.am_drain.specs.declared.Turn.{Turn}
 use Rattle.am_drain.specs.Made.{next_entry, after_event}
 use Rattle.am_drain.specs.Ready.{off_disk_at}
-use Rattle.am_drain.specs.Rules.{has_reply, has_request, send_front, send_of, is_pollable, poll_of}
+use Rattle.am_drain.specs.Rules.{has_reply, is_pollable, poll_of}
 use Rattle.am_drain.proofs.Quiet.{off_disk_at-quiet}
 use Rattle.am_drain.proofs.Turns.{ready_keeps}
+use Rattle.am_drain.proofs.Rest.{zero_of, no_reply}
+use Rattle.am_drain.proofs.Scripts.{calls_same, driven_call}
 use Rattle.am_drain_steps.specs.Work.{new_request, thread_work, work}
 use Rattle.am_drain_steps.proofs.Enabled.{IsStanding, is_standing}
 use Rattle.am_drain_steps.proofs.Calls.{calls_may_follow}
-use Rattle.am_drain_steps.proofs.Falling.{calls_push}
 use Rattle.am_drain_steps.proofs.Sends.{grounded}
 use Rattle.am_drain_falls.specs.Falls.{Falls, CallsFall, PollsFall}
 use Rattle.am_drain_falls.proofs.Sums.{least_less}
@@ -54,11 +55,6 @@ use Rattle.am_drain_falls.proofs.Polling.{Polled, Less, Empty, Full, poll_work, 
 use Rattle.am_drain_falls.proofs.Moving.{off_disk_at_work}
 
 -- ---- the calls that are left
-
-slice_below : {X : Type 0} (xs : List X) (k : ℕ) (x : X) → slice_get xs k ≡ Some x → k < length xs
-slice_below [] k x e = absurd (cc)
-slice_below (y ∷ ys) zero x e = omega arith
-slice_below (y ∷ ys) (suc k) x e = omega (arith, slice_below ys k x e)
 
 calls_more : (thread : ℕ) (past : List Entry) (x : Entry) (c : ScriptCall) → call_made x.event ≡ Some c → calls_of thread (past ++ x ∷ []) ≡ calls_of thread past ++ cond (is_of_thread thread c) (c ∷ []) []
 calls_more thread past x c is =
@@ -101,7 +97,7 @@ threads_less s past x c known left made =
 
     here : (t : ThreadLine) → (t.id == c.thread) ≡ true → thread_work s (past ++ x ∷ []) t + (1 + new_request s) ≤ thread_work s past t
     here t is =
-        let room : length (calls_of c.thread past) < length (script_of s c.thread) = slice_below (script_of s c.thread) (length (calls_of c.thread past)) c left in
+        let room : length (calls_of c.thread past) < length (script_of s c.thread) = slice_get_within (script_of s c.thread) (length (calls_of c.thread past)) c left in
         let own : length (calls_of t.id past) < length (script_of s t.id) = subst (λ (i : ℕ). length (calls_of i past) < length (script_of s i)) (sym (eqb-true t.id c.thread is)) room in
         times_one (length (script_of s t.id) - length (calls_of t.id (past ++ x ∷ []))) (length (script_of s t.id) - length (calls_of t.id past)) (1 + new_request s)
         (omega (arith, own, counted_calls t.id past x c true made is))
@@ -124,14 +120,10 @@ call_falls s past c ok known thread left =
     channels : channels_work s (past ++ x ∷ []) ≤ channels_work s past
     channels = channels_fewer s past x tt (λ (d : Channel). record { bound' = refl; sent' = refl; stays = λ m other u e same. never u e })
 
-driven_call : (event : Event) → is_some (driver_of event) ≡ true → call_made event ≡ None
-driven_call (Events.Call actor end call) h = absurd (true≢false (sym h))
-driven_call event h = refl
-
 -- page-ins make no calls
 paged_calls : (s : ScenarioLists) (c : ScriptCall) (past : List Entry) → calls_of c.thread (off_disk_at (home (layout_of s) c.endpoint) (layout_of s) c.endpoint past) ≡ calls_of c.thread past
 paged_calls s c past =
-    ready_keeps (λ (xs : List Entry). calls_of c.thread xs ≡ calls_of c.thread past) (λ (xs : List Entry) (x : Entry) driven same. calls_push c.thread xs x (driven_call x.event driven) ∙ same) past (off_disk_at (home (layout_of s) c.endpoint) (layout_of s) c.endpoint past)
+    ready_keeps (λ (xs : List Entry). calls_of c.thread xs ≡ calls_of c.thread past) (λ (xs : List Entry) (x : Entry) driven same. calls_same c.thread xs x (driven_call x.event driven) ∙ same) past (off_disk_at (home (layout_of s) c.endpoint) (layout_of s) c.endpoint past)
     (off_disk_at-quiet (home (layout_of s) c.endpoint) (layout_of s) c.endpoint past) refl
 
 pub calls_fall : CallsFall
@@ -146,29 +138,10 @@ calls_fall s past c run thread left =
 
 -- ---- a poll
 
-sends_reply : (st : Standing) (replies requests : List Queued) → not (length replies == 0) ≡ true → send_front st (front_of replies requests) ≡ None → ⊥
-sends_reply st [] requests has e = true≢false (sym has)
-sends_reply st (q ∷ qs) requests has e = cc
-
-no_reply : (ends : List Standing) (o : Option Standing) → find has_reply ends ≡ o → send_of (first_some (o ∷ find (has_request ends) ends ∷ [])) ≡ None → o ≡ None
-no_reply ends None is e = refl
-no_reply ends (Some st) is e = absurd (sends_reply st st.state.body.replies st.state.body.requests (found_true has_reply ends st is) e)
-
-zero_by : (n : ℕ) → not (not (n == 0)) ≡ true → n ≡ 0
-zero_by n h = by_test (n == 0) refl h
-  where
-    by_test : (b : Bool) → (n == 0) ≡ b → not (not b) ≡ true → n ≡ 0
-    by_test true is k = eqb-true n 0 is
-    by_test false is k = absurd (true≢false (sym k))
-
-none_pass : {X : Type 0} (p : X → Bool) (xs : List X) → length xs ≡ 0 → count_by p xs ≡ 0
-none_pass p [] none = refl
-none_pass p (x ∷ xs) none = absurd (omega (arith, none))
-
 -- an endpoint with nothing to send, nothing in flight and no notice has room for a reply
 has_slots : (b : Body) → length b.replies ≡ 0 → length b.in_flight ≡ 0 → length b.notices ≡ 0 → nat_le 16 (replies_held b) ≡ false
 has_slots b r f n =
-    let held : replies_held b ≡ 0 = omega (arith, r, none_pass (λ (g : Flying). is_answer g.message) b.in_flight f, none_pass (λ (w : Notice). is_answer w.message) b.notices n) in
+    let held : replies_held b ≡ 0 = omega (arith, r, count_by-empty (λ (g : Flying). is_answer g.message) b.in_flight f, count_by-empty (λ (w : Notice). is_answer w.message) b.notices n) in
     ap (nat_le 16) held
 
 nothing_arrived : (b : Body) → length b.notices ≡ 0 → length b.received ≡ 0 → has_arrivals b ≡ false
@@ -206,7 +179,7 @@ polls_fall s past t run free quiet is =
     let k : IsStanding layout past st = is_standing layout past is_pollable st ok found.1 in
     let e : EndpointId = st.setting.id in
     let none = none_all has_reply ends (no_reply ends (find has_reply ends) refl quiet) in
-    let replies : length (state_of layout past e).body.replies ≡ 0 = ap (λ (z : State). length z.body.replies) (sym k.state) ∙ zero_by (length st.state.body.replies) (found_in is_pollable (λ (y : Standing). not (has_reply y)) ends st found.1 none) in
+    let replies : length (state_of layout past e).body.replies ≡ 0 = ap (λ (z : State). length z.body.replies) (sym k.state) ∙ zero_of (length st.state.body.replies) (found_in is_pollable (λ (y : Standing). not (has_reply y)) ends st found.1 none) in
     let flights : length (state_of layout past e).body.in_flight ≡ 0 = eqb-true (length (state_of layout past e).body.in_flight) 0 (grounded s past run free e k.seated.declared') in
     let arrived : has_arrivals (state_of layout past e).body ≡ true = ap (λ (z : State). has_arrivals z.body) (sym k.state) ∙ found_true is_pollable ends st found.1 in
     subst (λ (u : Turn). Falls s past u) found.2 (poll_falls s past e ok k.seated.declared' replies flights arrived)

@@ -17,14 +17,13 @@ use Rattle.am_model.specs.Layout.{Layout, AllAre}
 use Rattle.am_model.specs.Channels.{Channel, same_channel, bound_message, attempt, binds, frees, sends}
 use Rattle.am_model.specs.History.{channel_to}
 use Rattle.am_model.proofs.Ends.{bound_push, attempt_push}
-use Rattle.am_model.proofs.Names.{same_serial-is}
+use Rattle.am_model.proofs.Names.{same_serial-is, same_node-refl}
 use Rattle.am_model.proofs.Received.{bit}
 use Rattle.am_laws_order.proofs.Effects.{landed_in}
 use Rattle.am_scenario_types.specs.Lists.{ScenarioLists}
 use Rattle.am_follow.specs.Layout.{layout_of}
 use Rattle.am_scripts.specs.Links.{nodes_of}
 use Rattle.am_drain_steps.specs.Work.{sending, time_outs, bindings, copy_of, bounces_flown, bound_work, channel_work}
-use Rattle.am_drain_steps.proofs.Enabled.{node_self}
 use Rattle.am_drain_falls.proofs.Sums.{channels_more}
 use Rattle.am_drain_falls.proofs.Flights.{Acts, StaysAloft, flights_kept}
 use Rattle.am_drain_falls.proofs.Parts.{channels_work}
@@ -136,7 +135,7 @@ one_channel layout past c d m n k is other same =
 
 pub channel_self : (node peer : NodeId) (number : ℕ) → same_channel (channel_to node peer number) node peer number ≡ true
 channel_self node peer number =
-    and_from (same_node node node && same_node peer peer) (number == number) (and_from (same_node node node) (same_node peer peer) (node_self node) (node_self peer)) (eq-eqb number number refl)
+    and_from (same_node node node && same_node peer peer) (number == number) (and_from (same_node node node) (same_node peer peer) (same_node-refl node) (same_node-refl peer)) (eq-eqb number number refl)
 
 -- where the message of one channel lands, those of the others stay
 pub others_stay : (layout : Layout) (past : List Entry) (node peer : NodeId) (number : ℕ) (d : Channel) (m n : Message) → InFlightIsBound layout past → bound_message (channel_to node peer number) past ≡ Some m → same_channel d node peer number ≡ false → bound_message d past ≡ Some n → StaysAloft n.serial (Some m.serial)

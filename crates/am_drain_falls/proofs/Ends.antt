@@ -3,6 +3,7 @@ use Rattle.std.proofs.Common.{◌≡◌, ℕ, ◌+◌, ◌≤◌, Bool, true, fa
 use Rattle.std.specs.Prelude.{sum_by}
 use Rattle.std.specs.List.{list_any}
 use Rattle.std.proofs.lemmas.List.Sums.{sum_by-cons, sum_by_push, sum_by-le-sum_by}
+use Rattle.std.proofs.lemmas.Bool.{or_left}
 use Rattle.am_names.specs.declared.EndpointId.{EndpointId}
 use Rattle.am_names.specs.declared.Message.{Message}
 use Rattle.am_names.specs.declared.Why.{Why}
@@ -17,12 +18,12 @@ use Rattle.am_model.specs.Changes.{changed, appended, notice_of, requeued_flight
 use Rattle.am_model.specs.Layout.{EndSetting, IsLawful, has_id, declared}
 use Rattle.am_model.specs.History.{state_of}
 use Rattle.am_model.proofs.Each.{state_of_push}
-use Rattle.am_model.proofs.Names.{same_end-is}
+use Rattle.am_model.proofs.Names.{same_end-is, same_end-refl}
 use Rattle.am_scenario_types.specs.Lists.{ScenarioLists}
 use Rattle.am_follow.specs.Layout.{layout_of}
 use Rattle.am_scripts.specs.Standings.{standings}
 use Rattle.am_drain_steps.specs.Work.{queued_work, received_work, end_work}
-use Rattle.am_drain_steps.proofs.Enabled.{same_self, stand}
+use Rattle.am_drain_steps.proofs.Enabled.{stand}
 use Rattle.am_drain_falls.proofs.Sums.{one_more, ends_one}
 
 -- what an endpoint's lists are still to cause
@@ -60,12 +61,8 @@ other_end : (e f : EndpointId) → same_end e f ≡ false → (same_end f e || f
 other_end e f apart = by_test (same_end f e) refl
   where
     by_test : (b : Bool) → same_end f e ≡ b → (b || false) ≡ false
-    by_test true is = absurd (true≢false (sym (same_self e) ∙ (ap (same_end e) (sym (same_end-is f e is)) ∙ apart)))
+    by_test true is = absurd (true≢false (sym (same_end-refl e) ∙ (ap (same_end e) (sym (same_end-is f e is)) ∙ apart)))
     by_test false is = refl
-
-or_none : (b : Bool) → b ≡ true → (b || false) ≡ true
-or_none true h = refl
-or_none false h = absurd (true≢false (sym h))
 
 -- after an entry that touches the endpoint e alone
 pub entry_ends : (s : ScenarioLists) (past : List Entry) (x : Entry) (e : EndpointId) (a b : ℕ) → IsLawful (layout_of s) → declared (layout_of s) e ≡ true → ends_touched x.event x.outcome ≡ e ∷ [] → body_work s (changed e (state_of (layout_of s) past e) x.event x.outcome).body + a ≤ work_at s past e + b → ends_work s (past ++ x ∷ []) + a ≤ ends_work s past + b
@@ -79,7 +76,7 @@ entry_ends s past x e a b ok known touched here = ends_more s past (past ++ x �
 
     own : work_at s (past ++ x ∷ []) e + a ≤ work_at s past e + b
     own =
-        let at : touches e x ≡ true = ap (list_any (same_end e)) touched ∙ or_none (same_end e e) (same_self e) in
+        let at : touches e x ≡ true = ap (list_any (same_end e)) touched ∙ or_left (same_end e e) false (same_end-refl e) in
         let same : work_at s (past ++ x ∷ []) e ≡ body_work s (changed e (state_of (layout_of s) past e) x.event x.outcome).body = ap (λ (z : State). body_work s z.body) (state_of_push (layout_of s) past x e true at) in
         omega (arith, same, here)
 

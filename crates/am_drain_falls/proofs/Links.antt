@@ -1,5 +1,5 @@
 -- What an emission and a receipt make of the work of a link.
-use Rattle.std.proofs.Common.{◌≡◌, ℕ, zero, suc, ◌+◌, ◌-◌, ◌*◌, ◌<◌, ◌≤◌, Bool, true, false, cond, List, [], ◌∷◌, ◌++◌, map, length, Option, Some, None, refl, sym, ap, ◌∙◌, subst, arith, eqb-true, ltb-true, ltb-false, length-append, append-nil, if◌then◌else◌}
+use Rattle.std.proofs.Common.{◌≡◌, ℕ, zero, suc, ◌+◌, ◌-◌, ◌*◌, ◌<◌, ◌≤◌, Bool, true, false, cond, List, [], ◌∷◌, ◌++◌, map, length, Option, Some, None, refl, sym, ap, ◌∙◌, arith, eqb-true, ltb-true, ltb-false, length-append, append-nil, if◌then◌else◌}
 use Rattle.std.specs.Prelude.{◌==◌, ◌&&◌, nat_lt, sum_by, drop, filter, slice_get, option_map}
 use Rattle.std.specs.List.{cons_option}
 use Rattle.std.proofs.lemmas.Bool.{and_from, and_parts}
@@ -17,17 +17,18 @@ use Rattle.am_model.specs.Channels.{emitted, is_on_link}
 use Rattle.am_model.specs.History.{IsHistory}
 use Rattle.am_model.proofs.Ends.{was_emitted}
 use Rattle.am_model.proofs.Received.{bit}
+use Rattle.am_model.proofs.Alls.{all_at, all_by_place, all_append}
+use Rattle.am_model.proofs.Names.{same_node-is, same_node-refl}
 use Rattle.am_plan.specs.declared.plan.LinkFault.{LinkFault}
 use Rattle.am_plan.specs.declared.plan.LinkFault.TheVariants.{Lose, Repeat, Late}
 use Rattle.am_plan.specs.Shape.{fault_at, at_once, is_late_until, late_from, stamped, stamp_of, number_of, released_by, shape_after, shape}
 use Rattle.am_plan.proofs.Shapes.{one_packet_more}
 use Rattle.am_scenario_types.specs.Lists.{ScenarioLists}
 use Rattle.am_scripts.specs.Links.{nodes_of, number_received, received}
-use Rattle.am_scripts.proofs.Links.{emitted_push, received_push, same_node-is}
+use Rattle.am_scripts.proofs.Links.{emitted_push, received_push}
 use Rattle.am_scripts.proofs.Lists.{some_mapped}
 use Rattle.am_drain_steps.specs.Work.{packet_copy, is_still_late, still_late}
 use Rattle.am_drain_steps.proofs.Counted.{counted}
-use Rattle.am_drain_steps.proofs.Enabled.{node_self}
 use Rattle.am_drain_steps.proofs.Receipts.{from_of, to_of}
 use Rattle.am_drain_falls.proofs.Sums.{pairs_more}
 
@@ -172,19 +173,6 @@ takes s from to sent n m r next e =
 
 -- ---- what is released is what was emitted
 
-all_append : {X : Type 0} (P : X → Type 0) (xs ys : List X) → AllAre P xs → AllAre P ys → AllAre P (xs ++ ys)
-all_append P [] ys h k = k
-all_append P (x ∷ xs) ys h k = (h.0, all_append P xs ys h.1 k)
-
-all_places : {X : Type 0} (P : X → Type 0) (xs : List X) → ((k : ℕ) (x : X) → slice_get xs k ≡ Some x → P x) → AllAre P xs
-all_places P [] h = tt
-all_places P (x ∷ xs) h = (h zero x refl, all_places P xs (λ k y e. h (suc k) y e))
-
-pub at_place : {X : Type 0} (P : X → Type 0) (xs : List X) (k : ℕ) (x : X) → AllAre P xs → slice_get xs k ≡ Some x → P x
-at_place P [] k x all e = absurd (cc)
-at_place P (y ∷ ys) zero x all e = let same : y ≡ x = cc in subst P same all.0
-at_place P (y ∷ ys) (suc k) x all e = at_place P ys k x all.1 e
-
 once_all : (P : Packet → Type 0) (o : Option LinkFault) (p : Packet) → P p → AllAre P (at_once o p)
 once_all P None p h = (h, tt)
 once_all P (Some Repeat) p h = (h, (h, tt))
@@ -223,7 +211,7 @@ on_link from to (Packets.Answer p) h =
     let both = and_parts (same_node from p.from) (same_node to p.to) h in (same_node-is from p.from both.0, same_node-is to p.to both.1)
 
 all_copies : (s : ScenarioLists) (layout : Layout) (past : List Entry) (from to : NodeId) → IsHistory layout past → AllAre (IsCopy s (emitted from to past)) (emitted from to past)
-all_copies s layout past from to h = all_places (IsCopy s (emitted from to past)) (emitted from to past) (λ k p e. at k p e)
+all_copies s layout past from to h = all_by_place (IsCopy s (emitted from to past)) (emitted from to past) (λ k p e. at k p e)
   where
     at : (k : ℕ) (p : Packet) → slice_get (emitted from to past) k ≡ Some p → IsCopy s (emitted from to past) p
     at k p e =
@@ -251,7 +239,7 @@ due_is s layout past from to k number h e =
     let r = number_at (shape s.plan from to (emitted from to past)) k number e in
     let sent : List Packet = emitted from to past in
     let all : AllAre (IsCopy s sent) (shape s.plan from to sent) = shape_all (IsCopy s sent) (λ stamp p i. stamped_is_copy s sent stamp p i) (fault_at s.plan from to) [] sent tt (all_copies s layout past from to h) in
-    let is : IsCopy s sent r.0 = at_place (IsCopy s sent) (shape s.plan from to sent) k r.0 all r.1 in
+    let is : IsCopy s sent r.0 = all_at (IsCopy s sent) (shape s.plan from to sent) k r.0 all r.1 in
     let one = some_mapped (packet_copy s) (slice_get sent (number_of r.0 - 1)) (packet_copy s r.0) is in
     record {
       released' = r.0;
@@ -283,8 +271,8 @@ emitted_own past x p is =
     (ap (λ (o : Option Packet). filter (is_on_link (from_of p) (to_of p)) (cons_option o [])) is ∙ ap (λ (b : Bool). cond b (p ∷ []) []) (own p))
   where
     own : (q : Packet) → is_on_link (from_of q) (to_of q) q ≡ true
-    own (Packets.Parcel q) = and_from (same_node q.from q.from) (same_node q.to q.to) (node_self q.from) (node_self q.to)
-    own (Packets.Answer q) = and_from (same_node q.from q.from) (same_node q.to q.to) (node_self q.from) (node_self q.to)
+    own (Packets.Parcel q) = and_from (same_node q.from q.from) (same_node q.to q.to) (same_node-refl q.from) (same_node-refl q.to)
+    own (Packets.Answer q) = and_from (same_node q.from q.from) (same_node q.to q.to) (same_node-refl q.from) (same_node-refl q.to)
 
 emitted_other : (from to : NodeId) (past : List Entry) (x : Entry) (p : Packet) → emitted_of x ≡ Some p → (same_node from (from_of p) && same_node to (to_of p)) ≡ false → emitted from to (past ++ x ∷ []) ≡ emitted from to past
 emitted_other from to past x p is apart =
@@ -348,7 +336,7 @@ links_take s past x node peer number r is low high e =
 
     here : link_left s peer node (sent_by past peer node) (taken_by (past ++ x ∷ []) peer node) + packet_copy s r ≤ link_left s peer node (sent_by past peer node) (taken_by past peer node) + 0
     here =
-        let own : (same_node peer peer && same_node node node) ≡ true = and_from (same_node peer peer) (same_node node node) (node_self peer) (node_self node) in
+        let own : (same_node peer peer && same_node node node) ≡ true = and_from (same_node peer peer) (same_node node node) (same_node-refl peer) (same_node-refl node) in
         let one : received peer node (past ++ x ∷ []) ≡ received peer node past ++ number ∷ [] = got peer node ∙ ap (λ (t : Bool). received peer node past ++ cons_option (if t then Some number else None) []) own in
         let longer : length (received peer node (past ++ x ∷ [])) ≡ length (received peer node past) + 1 = ap length one ∙ length-append (received peer node past) (number ∷ []) in
         omega (arith, takes s peer node (emitted peer node past) (length (received peer node past)) (length (received peer node (past ++ x ∷ []))) r longer e)

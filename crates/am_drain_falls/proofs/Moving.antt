@@ -15,7 +15,7 @@ use Rattle.am_model.specs.Layout.{Layout, EndSetting, IsLawful, has_id, home}
 use Rattle.am_model.specs.Channels.{Channel, sends}
 use Rattle.am_model.specs.History.{state_of}
 use Rattle.am_model.proofs.Ends.{attempt_push}
-use Rattle.am_model.proofs.Names.{same_end-is}
+use Rattle.am_model.proofs.Names.{same_end-is, same_end-refl}
 use Rattle.am_model.proofs.Received.{bit}
 use Rattle.am_scenario_types.specs.Lists.{ScenarioLists}
 use Rattle.am_follow.specs.Layout.{layout_of}
@@ -25,9 +25,10 @@ use Rattle.am_drain.specs.Made.{next_entry, after_event, after_event_if}
 use Rattle.am_drain.specs.Ready.{paged_in as page_ins, off_disk, off_disk_at, is_draining_in_frame, not_draining, free_frame, may_leave, unloaded, paged_out, spare, emptied, emptied_if, with_frame, loaded_into, ready, ready_at, ready_dest_if, ready_dest}
 use Rattle.am_drain.proofs.LastTries.{emitted_same, received_same}
 use Rattle.am_drain.proofs.Quiet.{is_driven}
+use Rattle.am_drain.proofs.Scripts.{calls_same}
 use Rattle.am_drain_steps.specs.Work.{is_standing_on_disk, work}
-use Rattle.am_drain_steps.proofs.Enabled.{same_self, stand}
-use Rattle.am_drain_steps.proofs.Falling.{IsStill, calls_push, ends_same, nodes_same, threads_same, IsOnDiskBefore, on_disk_bit, disk_fewer}
+use Rattle.am_drain_steps.proofs.Enabled.{stand}
+use Rattle.am_drain_steps.proofs.Falling.{IsStill, ends_same, nodes_same, threads_same, IsOnDiskBefore, on_disk_bit, disk_fewer}
 use Rattle.am_drain_steps.proofs.Moves.{moves, Spares, spares, move_keeps, after_move}
 use Rattle.am_drain_falls.proofs.Sums.{most_more, ends_most}
 use Rattle.am_drain_falls.proofs.Ends.{sum_mapped}
@@ -69,7 +70,7 @@ move_still layout past e event m =
       attempt' = λ c. attempt_push c past x false (move_sends e c event x.outcome m);
       emitted' = λ from to. emitted_same from to past x (move_driven e layout past event m);
       received' = λ from to. received_same from to past x (move_driven e layout past event m);
-      calls' = λ thread. calls_push thread past x (move_calls e event m);
+      calls' = λ thread. calls_same thread past x (move_calls e event m);
     }
 
 -- the endpoints on disk
@@ -142,7 +143,7 @@ page_out_work s past node e ok = still_work s past e (Events.PageOut node e) 1 r
     other f apart = by_test (same_end f e) refl
       where
         by_test : (b : Bool) → same_end f e ≡ b → b ≡ false
-        by_test true is = sym (ap (same_end e) (same_end-is f e is) ∙ same_self e) ∙ apart
+        by_test true is = sym (ap (same_end e) (same_end-is f e is) ∙ same_end-refl e) ∙ apart
         by_test false is = refl
 
     more : sum_by (on_disk next) (layout_of s).ends ≤ sum_by (on_disk past) (layout_of s).ends + 1

@@ -15,8 +15,9 @@ use Rattle.am_follow.specs.Layout.{layout_of}
 use Rattle.am_scripts.specs.Links.{nodes_of}
 use Rattle.am_scripts.specs.Scripts.{call_made, script_of}
 use Rattle.am_scripts.specs.Standings.{standings}
+use Rattle.am_drain.proofs.Scripts.{calls_same}
 use Rattle.am_drain_steps.specs.Work.{channel_work, link_work, node_work, thread_work, new_request, is_fault_left, is_standing_on_disk, work}
-use Rattle.am_drain_steps.proofs.Falling.{calls_push, bit_le, disk_fewer, page_calls, fault_bit}
+use Rattle.am_drain_steps.proofs.Falling.{bit_le, disk_fewer, page_calls, fault_bit}
 use Rattle.am_drain_falls.proofs.Sums.{over_channels}
 use Rattle.am_drain_falls.proofs.Flights.{Acts, places_kept}
 use Rattle.am_drain_falls.proofs.Links.{links_work, sent_by, taken_by}
@@ -68,7 +69,7 @@ places_fewer s past x acts =
 -- ---- an entry that is no call of a thread
 
 threads_kept : (s : ScenarioLists) (past : List Entry) (x : Entry) → call_made x.event ≡ None → threads_work s (past ++ x ∷ []) ≡ threads_work s past
-threads_kept s past x none = λ i. sum_by (λ (t : ThreadLine). (length (script_of s t.id) - length (calls_push t.id past x none i)) * (1 + new_request s)) s.threads
+threads_kept s past x none = λ i. sum_by (λ (t : ThreadLine). (length (script_of s t.id) - length (calls_same t.id past x none i)) * (1 + new_request s)) s.threads
 
 pub acted : (s : ScenarioLists) (past : List Entry) (x : Entry) (n : ℕ) → Acts x.event → call_made x.event ≡ None → ends_work s (past ++ x ∷ []) + links_left s (past ++ x ∷ []) + channels_work s (past ++ x ∷ []) + n ≤ ends_work s past + links_left s past + channels_work s past → work s (past ++ x ∷ []) + n ≤ work s past
 acted s past x n acts none less =

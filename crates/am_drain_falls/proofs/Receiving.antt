@@ -33,8 +33,8 @@ use Rattle.am_model.specs.Channels.{Channel, Arrival, Stale, Again, Fresh, same_
 use Rattle.am_model.specs.History.{state_of, channel_to, next_number, decided, arrive, settle_by, counts, settle, receive}
 use Rattle.am_model.proofs.Ends.{bound_push}
 use Rattle.am_laws_order.proofs.Effects.{landed_by}
-use Rattle.am_laws_order.proofs.Waiting.{found_has}
 use Rattle.am_model.proofs.Names.{same_serial-is}
+use Rattle.am_model.proofs.Chosen.{flying_of-has_serial}
 use Rattle.am_laws_messages.proofs.Alls.{all_found}
 use Rattle.am_laws_packets.specs.Packets.{FitsReceiver}
 use Rattle.am_laws_packets.proofs.Packets.{packets_fit, bound_aloft}
@@ -224,7 +224,7 @@ requeue_falls s past stamp node peer number channel seq attempt m cause k low =
     own g is =
         let fly : IsFlying (layout_of s) past (channel_to node peer channel) m = (flies_of s past k.run).flies (channel_to node peer channel) m k.is in
         all_found (λ (f : Flying). f.message.serial ≡ m.serial → f.message ≡ m) (λ (f : Flying). has_serial m.serial f.message) (in_flight (layout_of s) past m.serial.source) g is fly.message
-        (sym (same_serial-is m.serial g.message.serial (found_has m.serial (in_flight (layout_of s) past m.serial.source) g is)))
+        (sym (same_serial-is m.serial g.message.serial (flying_of-has_serial m.serial (in_flight (layout_of s) past m.serial.source) g is)))
 
     ends : ends_work s (past ++ x ∷ []) + 0 ≤ ends_work s past + left
     ends =

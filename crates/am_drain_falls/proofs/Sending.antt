@@ -26,9 +26,10 @@ use Rattle.am_model.specs.Channels.{Channel, same_channel, bound_message, attemp
 use Rattle.am_model.specs.History.{MayFollow, IsHistory, state_of, is_home, channel_to, free_channel, channel_by, channel_for, next_number, bind_to, bind, bounced, outcome_of}
 use Rattle.am_model.proofs.Each.{state_of_push, each_at}
 use Rattle.am_model.proofs.Ends.{bound_push, attempt_push}
-use Rattle.am_model.proofs.Names.{same_serial-refl}
+use Rattle.am_model.proofs.Names.{same_serial-refl, same_end-refl}
 use Rattle.am_model.proofs.Received.{bit}
-use Rattle.am_laws_fates.proofs.Aloft.{front_bounces}
+use Rattle.am_model.proofs.Valid.{front_bounces}
+use Rattle.am_laws_homes.proofs.Homes.{home_below}
 use Rattle.am_laws_cluster.proofs.Bound.{in_flight_bound}
 use Rattle.am_scenario_types.specs.Lists.{ScenarioLists}
 use Rattle.am_follow.specs.Layout.{layout_of}
@@ -39,9 +40,9 @@ use Rattle.am_drain.specs.declared.Turn.TheVariants.{Send}
 use Rattle.am_drain.specs.Made.{next_stamp, next_entry, after_event}
 use Rattle.am_drain.specs.Ready.{ready, ready_dest}
 use Rattle.am_drain.specs.Rules.{next_sender, send_front, send_of}
-use Rattle.am_drain_laws.proofs.Channels.{channels_below, home_below}
+use Rattle.am_drain_laws.proofs.Channels.{channels_below}
 use Rattle.am_drain_steps.specs.Work.{sending, time_outs, bindings, copy_of, queued_work, bounces_flown, channel_work, work}
-use Rattle.am_drain_steps.proofs.Enabled.{same_self, MakesHistory}
+use Rattle.am_drain_steps.proofs.Enabled.{MakesHistory}
 use Rattle.am_drain_steps.proofs.Sends.{sends_may_follow}
 use Rattle.am_drain_falls.specs.Falls.{Falls, SendsFall}
 use Rattle.am_drain_falls.proofs.Flights.{bounces_in}
@@ -125,7 +126,7 @@ flown_now s past stamp node peer e q k seq number b =
     flies = in_flight_bound (layout_of s) b.lawful next b.history
 
     now : in_flight (layout_of s) next e ≡ st.body.in_flight ++ f ∷ []
-    now = ap (λ (z : State). z.body.in_flight) (state_of_push (layout_of s) past (bound_entry stamp node peer e q k seq number) e true (or_true (same_end e e) false (same_self e)))
+    now = ap (λ (z : State). z.body.in_flight) (state_of_push (layout_of s) past (bound_entry stamp node peer e q k seq number) e true (or_true (same_end e e) false (same_end-refl e)))
 
     own : IsHeldOnce (layout_of s) next e q.message
     own = all_last (λ (g : Flying). IsHeldOnce (layout_of s) next e g.message) st.body.in_flight f (subst (λ (fs : List Flying). AllAre (λ (g : Flying). IsHeldOnce (layout_of s) next e g.message) fs) now (flies.held e))

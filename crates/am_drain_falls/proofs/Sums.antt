@@ -3,17 +3,17 @@ use Rattle.std.proofs.Common.{◌≡◌, ℕ, zero, suc, ◌+◌, ◌<◌, ◌�
 use Rattle.std.specs.Prelude.{◌==◌, ◌&&◌, count_by, sum_by}
 use Rattle.std.specs.List.{list_any, range_with_len}
 use Rattle.std.proofs.lemmas.List.Sums.{sum_by-cons, sum_by-le-sum_by}
+use Rattle.std.proofs.lemmas.Bool.{and_right}
 use Rattle.am_names.specs.declared.EndpointId.{EndpointId}
 use Rattle.am_names.specs.declared.NodeId.{NodeId}
 use Rattle.am_names.specs.Names.{same_end, same_node}
 use Rattle.am_model.specs.Channels.{Channel, same_channel}
 use Rattle.am_model.specs.History.{channel_to}
 use Rattle.am_model.specs.Layout.{EndSetting, AreApart, has_id, node_at}
-use Rattle.am_model.proofs.Names.{same_end-is}
+use Rattle.am_model.proofs.Names.{same_end-is, same_node-is}
 use Rattle.am_model.proofs.Received.{bit}
 use Rattle.am_scenario_types.specs.Lists.{ScenarioLists}
 use Rattle.am_scripts.specs.Links.{nodes_of}
-use Rattle.am_scripts.proofs.Links.{same_node-is}
 
 -- ---- a sum that changes where a test passes, which is once
 
@@ -99,10 +99,6 @@ nodes_one node n low = nodes_counted node (range_with_len 0 n) ∙ range_one nod
 
 -- ---- pairs of nodes, and channels
 
-both : (a b : Bool) → b ≡ false → (a && b) ≡ false
-both true b h = h
-both false b h = refl
-
 off : (a b : Bool) → a ≡ false → (a && b) ≡ false
 off true b h = absurd (true≢false h)
 off false b h = refl
@@ -118,7 +114,7 @@ pairs_more s f g a b from to low high others here =
     row : (x : NodeId) → x ≡ from → sum_by (g x) (nodes_of s) + a ≤ sum_by (f x) (nodes_of s) + b
     row x same =
         one_more (f x) (g x) (λ (y : NodeId). same_node y to) a b (nodes_of s)
-        (λ (y : NodeId) is. others x y (both (same_node x from) (same_node y to) is))
+        (λ (y : NodeId) is. others x y (and_right (same_node x from) (same_node y to) is))
         (λ (y : NodeId) is. subst (λ (z : NodeId). g z y + a ≤ f z y + b) (sym same) (subst (λ (z : NodeId). g from z + a ≤ f from z + b) (sym (same_node-is y to is)) here))
         (nodes_one to s.nodes high)
 
@@ -133,7 +129,7 @@ channels_more s f g a b node peer number n p c others here =
     pairs_more s (λ (x y : NodeId). sum_by (λ (k : ℕ). f (channel_to x y k)) (range_with_len 0 s.channels)) (λ (x y : NodeId). sum_by (λ (k : ℕ). g (channel_to x y k)) (range_with_len 0 s.channels)) a b node peer n p
     (λ (x y : NodeId) is. sum_by-le-sum_by (λ (k : ℕ). g (channel_to x y k)) (λ (k : ℕ). f (channel_to x y k)) (range_with_len 0 s.channels) (λ (k : ℕ). others (channel_to x y k) (off (same_node x node && same_node y peer) (k == number) is)))
     (one_more (λ (k : ℕ). f (channel_to node peer k)) (λ (k : ℕ). g (channel_to node peer k)) (λ (k : ℕ). k == number) a b (range_with_len 0 s.channels)
-    (λ (k : ℕ) is. others (channel_to node peer k) (both (same_node node node && same_node peer peer) (k == number) is))
+    (λ (k : ℕ) is. others (channel_to node peer k) (and_right (same_node node node && same_node peer peer) (k == number) is))
     (λ (k : ℕ) is. subst (λ (j : ℕ). g (channel_to node peer j) + a ≤ f (channel_to node peer j) + b) (sym (eqb-true k number is)) here)
     (range_one number 0 s.channels (omega arith) (omega (arith, c))))
 

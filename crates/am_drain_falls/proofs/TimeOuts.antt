@@ -1,7 +1,6 @@
 -- A time-out leaves less work: its channel has a try less, or is free.
-use Rattle.std.proofs.Common.{◌≡◌, ℕ, zero, suc, ◌+◌, ◌-◌, ◌*◌, ◌<◌, ◌≤◌, Bool, true, false, List, [], ◌∷◌, ◌++◌, map, Option, Some, None, refl, sym, ap, ◌∙◌, subst, arith, ltb-true, if◌then◌else◌}
+use Rattle.std.proofs.Common.{◌≡◌, ℕ, ◌+◌, ◌-◌, ◌*◌, ◌<◌, ◌≤◌, Bool, true, false, List, [], ◌∷◌, ◌++◌, Option, Some, None, refl, sym, ap, ◌∙◌, subst, arith, ltb-true, if◌then◌else◌}
 use Rattle.std.specs.Prelude.{nat_lt, is_some}
-use Rattle.std.specs.List.{range_with_len}
 use Rattle.am_names.specs.declared.NodeId.{NodeId}
 use Rattle.am_names.specs.declared.Message.{Message}
 use Rattle.am_names.specs.declared.Packet.{Packet}
@@ -22,14 +21,13 @@ use Rattle.am_laws_cluster.proofs.Bound.{in_flight_bound}
 use Rattle.am_scenario_types.specs.Lists.{ScenarioLists}
 use Rattle.am_follow.specs.Layout.{layout_of}
 use Rattle.am_follow.proofs.Lawful.{lawful_layout}
-use Rattle.am_scripts.specs.Links.{first_some}
 use Rattle.am_drain.specs.declared.Turn.TheVariants.{Once}
 use Rattle.am_drain.specs.Made.{next_stamp, after_event}
 use Rattle.am_drain.specs.Rules.{time_out, time_out_to, time_out_at, next_time_out}
 use Rattle.am_drain.proofs.TurnKinds.{Maybe, is_so}
 use Rattle.am_drain_steps.specs.Enabled.{IsOfRun}
 use Rattle.am_drain_steps.specs.Work.{time_outs, copy_of, bounces_flown, channel_work, work}
-use Rattle.am_drain_steps.proofs.Enabled.{of_packets, nodes_so}
+use Rattle.am_drain_steps.proofs.Enabled.{of_packets, nodes_so, range_so}
 use Rattle.am_drain_falls.specs.Falls.{Falls, TimeOutsFall}
 use Rattle.am_drain_falls.proofs.Flights.{flights_kept}
 use Rattle.am_drain_falls.proofs.Links.{sent_by, taken_by, links_emit, links_still, links_untaken}
@@ -154,15 +152,6 @@ expire_falls s past node peer channel m run at is =
     by_tests true b low = resend_falls s past (next_stamp past) node peer channel m (sequence (channel_to node peer channel) past) (next_number node peer past) at is (ltb-true (attempt (channel_to node peer channel) past + 1) s.tries low)
     by_tests false true over = deliver_falls s past (next_stamp past) node peer channel m run at is
     by_tests false false over = give_up_falls s past (next_stamp past) node peer channel m run at is
-
-first_so : {X : Type 0} (P : X → Type 0) (o : Option X) (os : List (Option X)) → Maybe P o → Maybe P (first_some os) → Maybe P (first_some (o ∷ os))
-first_so P None os a b = b
-first_so P (Some x) os a b = a
-
-range_so : {Y : Type 0} (P : Y → Type 0) (f : ℕ → Option Y) (a n : ℕ) → ((k : ℕ) → k < a + n → Maybe P (f k)) → Maybe P (first_some (map f (range_with_len a n)))
-range_so P f a zero h = tt
-range_so P f a (suc n) h =
-    first_so P (f a) (map f (range_with_len (a + 1) n)) (h a (omega arith)) (range_so P f (a + 1) n (λ (k : ℕ) low. h k (omega (arith, low))))
 
 pub time_outs_fall : TimeOutsFall
 time_outs_fall s past t run e =

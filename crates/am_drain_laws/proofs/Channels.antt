@@ -1,8 +1,7 @@
 -- A bound channel is one of the layout's.
 use Rattle.std.specs.Prelude.{◌==◌}
-use Rattle.std.proofs.Common.{◌≡◌, ◌⊎◌, inl, inr, ⊎_elim, ℕ, zero, suc, ◌+◌, ◌<◌, Bool, true, false, cond, ◌&&◌, ◌||◌, List, [], ◌∷◌, ◌++◌, Option, Some, None, refl, sym, ap, ◌∙◌, subst, arith, eqb-true, if◌then◌else◌}
+use Rattle.std.proofs.Common.{◌≡◌, ◌⊎◌, inl, inr, ⊎_elim, ℕ, ◌+◌, ◌<◌, Bool, true, false, cond, ◌&&◌, ◌||◌, List, [], ◌∷◌, ◌++◌, Option, Some, None, refl, sym, ap, ◌∙◌, subst, arith, eqb-true, if◌then◌else◌}
 use Rattle.std.proofs.lemmas.Bool.{and_parts}
-use Rattle.std.specs.List.{find}
 use Rattle.am_names.specs.declared.EndpointId.{EndpointId}
 use Rattle.am_names.specs.declared.NodeId.{NodeId}
 use Rattle.am_names.specs.declared.Message.{Message}
@@ -10,30 +9,18 @@ use Rattle.am_names.specs.Names.{same_node}
 use Rattle.am_office.specs.declared.Event.{Event}
 use Rattle.am_office.specs.declared.Event.TheVariants as Events
 use Rattle.am_office.specs.declared.Outcome.{Outcome}
-use Rattle.am_office.specs.declared.Outcome.TheVariants as Out
 use Rattle.am_office.specs.declared.Entry.{Entry}
 use Rattle.am_model.specs.declared.Queued.{Queued}
 use Rattle.am_model.specs.Endpoint.{front}
-use Rattle.am_model.specs.Layout.{Layout, EndSetting, AllAre, IsLawful, IsSettingLawful, has_id, home, home_by}
-use Rattle.am_model.specs.Channels.{Channel, same_channel, bound_message, frees_by}
-use Rattle.am_model.specs.History.{MayFollow, IsHistory, state_of, channel_to, is_bound, free_from, channel_by, channel_for, bind, bind_to, outcome_of}
+use Rattle.am_model.specs.Layout.{Layout, AllAre, home}
+use Rattle.am_model.specs.Channels.{Channel, same_channel, bound_message}
+use Rattle.am_model.specs.History.{MayFollow, IsHistory, state_of, channel_by, channel_for, bind, bind_to, outcome_of}
 use Rattle.am_model.proofs.Each.{over_each}
 use Rattle.am_model.proofs.Ends.{bound_push}
-use Rattle.am_laws_messages.proofs.Alls.{all_found}
-use Rattle.am_laws_messages.proofs.Delivered.{bound_then}
+use Rattle.am_model.proofs.Channels.{free_below}
+use Rattle.am_laws_messages.proofs.Delivered.{bound_then, expire_binds, receive_binds}
 
 -- ---- the number of a free channel
-
-free_step : (node peer : NodeId) (past : List Entry) (number more k : ℕ) (b : Bool) → (free_from node peer past (number + 1) more ≡ Some k → k < number + 1 + more) → (if b then free_from node peer past (number + 1) more else Some number) ≡ Some k → k < number + suc more
-free_step node peer past number more k true later e =
-    let rest : k < number + 1 + more = later e in omega (arith, rest)
-free_step node peer past number more k false later e =
-    let same : number ≡ k = cc in omega (arith, same)
-
-free_below : (node peer : NodeId) (past : List Entry) (number more k : ℕ) → free_from node peer past number more ≡ Some k → k < number + more
-free_below node peer past number zero k h = absurd (cc)
-free_below node peer past number (suc more) k h =
-    free_step node peer past number more k (is_bound (channel_to node peer number) past) (free_below node peer past (number + 1) more k) h
 
 channel_below : (layout : Layout) (node : NodeId) (past : List Entry) (peer : Option NodeId) (k : ℕ) → channel_by layout node past peer ≡ Some k → k < layout.channels
 channel_below layout node past None k h = absurd (cc)
@@ -63,23 +50,10 @@ front_numbered layout past c m node end None h = inl h
 front_numbered layout past c m node end (Some q) h =
     bind_numbered layout past c m node end q (home layout q.message.dest) (channel_for layout node past (Some q)) (λ (k : ℕ) e. channel_below layout node past (home layout q.message.dest) k e) h
 
-none_if : (t : Bool) (b : Option Message) (m : Message) → (if t then None else b) ≡ Some m → b ≡ Some m
-none_if true b m h = absurd (cc)
-none_if false b m h = h
-
-expire_before : (c : Channel) (node peer : NodeId) (channel : ℕ) (o : Outcome) (b : Option Message) (m : Message) → bound_then c (Events.Expire node peer channel) o b ≡ Some m → b ≡ Some m
-expire_before c node peer channel (Out.Delivered serial) b m h = none_if (same_channel c node peer channel) b m h
-expire_before c node peer channel (Out.Unknown serial) b m h = none_if (same_channel c node peer channel) b m h
-expire_before c node peer channel o b m h = h
-
-receive_before : (c : Channel) (node peer : NodeId) (number : ℕ) (o : Outcome) (b : Option Message) (m : Message) → bound_then c (Events.Receive node peer number) o b ≡ Some m → b ≡ Some m
-receive_before c node peer number (Out.Received channel seq attempt r) b m h = none_if (frees_by r && same_channel c node peer channel) b m h
-receive_before c node peer number o b m h = h
-
 event_numbered : (layout : Layout) (past : List Entry) (c : Channel) (m : Message) (event : Event) → bound_then c event (outcome_of layout past event) (bound_message c past) ≡ Some m → Numbered layout c (bound_message c past) m
 event_numbered layout past c m (Events.Bind node end) h = front_numbered layout past c m node end (front (state_of layout past end)) h
-event_numbered layout past c m (Events.Expire node peer channel) h = inl (expire_before c node peer channel (outcome_of layout past (Events.Expire node peer channel)) (bound_message c past) m h)
-event_numbered layout past c m (Events.Receive node peer number) h = inl (receive_before c node peer number (outcome_of layout past (Events.Receive node peer number)) (bound_message c past) m h)
+event_numbered layout past c m (Events.Expire node peer channel) h = inl (expire_binds c node peer channel (outcome_of layout past (Events.Expire node peer channel)) (bound_message c past) m h)
+event_numbered layout past c m (Events.Receive node peer number) h = inl (receive_binds c node peer number (outcome_of layout past (Events.Receive node peer number)) (bound_message c past) m h)
 event_numbered layout past c m event h = inl h
 
 abbrev pub ChannelsBelow : Layout → List Entry → Type 0
@@ -95,14 +69,3 @@ channels_below layout past h =
     over_each (MayFollow layout) (λ (xs : List Entry). ChannelsBelow layout xs) (λ xs x k may. below_more layout xs x k may) [] past (λ c m e. absurd (cc)) h
 
 -- ---- homes
-
-home_found : (layout : Layout) → IsLawful layout → (o : Option EndSetting) (e : EndpointId) (node : NodeId) → find (has_id e) layout.ends ≡ o → home_by o ≡ Some node → node.0 < layout.nodes
-home_found layout lawful None e node is h = absurd (cc)
-home_found layout lawful (Some setting) e node is h =
-    let same : setting.node ≡ node = cc in
-    let at : setting.node.0 < layout.nodes = (all_found (IsSettingLawful layout) (has_id e) layout.ends setting is lawful.ends).node in
-    subst (λ (n : NodeId). n.0 < layout.nodes) same at
-
--- the node of an endpoint is one of the layout's
-pub home_below : (layout : Layout) → IsLawful layout → (e : EndpointId) (node : NodeId) → home layout e ≡ Some node → node.0 < layout.nodes
-home_below layout lawful e node h = home_found layout lawful (find (has_id e) layout.ends) e node refl h

@@ -1,9 +1,10 @@
 -- At rest no accepted message is pending.
 use Rattle.std.specs.Prelude.{◌==◌, ◌≢◌, not, count_by, filter_map, slice_get}
 use Rattle.std.proofs.Common.{◌≡◌, ◌⊎◌, inl, inr, ⊎_elim, ℕ, zero, suc, ◌+◌, ◌≤◌, Bool, true, false, cond, ◌&&◌, ◌||◌, List, [], ◌∷◌, map, length, Option, Some, None, refl, sym, ap, ◌∙◌, subst, arith, true≢false, eqb-true, if◌then◌else◌}
-use Rattle.std.proofs.lemmas.Bool.{and_parts, or_parts}
+use Rattle.std.proofs.lemmas.Bool.{and_parts}
 use Rattle.std.proofs.lemmas.List.Sums.{sum_by-cons}
 use Rattle.std.specs.List.{list_any, list_all, cons_option}
+use Rattle.am_lemmas.proofs.Lists.{count_by-none, count_by-empty}
 use Rattle.am_names.specs.declared.EndpointId.{EndpointId}
 use Rattle.am_names.specs.declared.Serial.{Serial}
 use Rattle.am_names.specs.declared.Cause.{Cause}
@@ -61,13 +62,6 @@ by_accepted journal s true h =
 by_accepted journal s false h = absurd (cc)
 
 -- ---- counts of what no entry does
-
-none_counted : {X : Type 0} (p : X → Bool) (xs : List X) → list_any p xs ≡ false → count_by p xs ≡ 0
-none_counted p [] h = refl
-none_counted p (x ∷ xs) h =
-    let parts = or_parts (p x) (list_any p xs) h in
-    let here : bit (p x) ≡ 0 = ap bit parts.0 in
-    omega (arith, sum_by-cons (λ y. bit (p y)) x xs, here, none_counted p xs parts.1)
 
 cause_none : (b : Bool) (cause : Cause) → cause_if b cause ≡ None → b ≡ false
 cause_none true cause h = absurd (cc)
@@ -136,10 +130,6 @@ rests_at layout past e (setting ∷ settings) there all =
     let parts = and_parts (holds_nothing (standing layout past setting)) (list_all holds_nothing (map (standing layout past) settings)) all in
     rests_step layout past e setting (same_end e setting.id) (list_any (has_id e) settings) refl there parts.0 (λ more. rests_at layout past e settings more parts.1)
 
-empty_counted : {X : Type 0} (p : X → Bool) (xs : List X) → length xs ≡ 0 → count_by p xs ≡ 0
-empty_counted p [] h = refl
-empty_counted p (x ∷ xs) h = absurd (omega (arith, h))
-
 -- an endpoint that has received a message is declared
 received_declared : (layout : Layout) (past : List Entry) → IsHistory layout past → (e : EndpointId) (p : Message → Bool) (ms : List Message) → AllAre (IsIn past e (state_of layout past e).body.tag) ms → 1 ≤ count_by p ms → declared layout e ≡ true
 received_declared layout past h e p [] all low = absurd (omega (arith, low))
@@ -153,14 +143,14 @@ none_pending s journal ok h rest m accepted pending =
     let one = (cluster_holds layout journal (lawful_layout s ok) h).live in
     let source = rests_at layout journal m.serial.source layout.ends (messages_addressed layout journal h m accepted).source rest.messages in
     let body : Body = (state_of layout journal m.serial.source).body in
-    let queued : count_queued m.serial body ≡ 0 = omega (arith, empty_counted (λ (q : Queued). has_serial m.serial q.message) body.requests source.requests, empty_counted (λ (q : Queued). has_serial m.serial q.message) body.replies source.replies) in
-    let flying : count_flying m.serial body ≡ 0 = empty_counted (λ (f : Flying). has_serial m.serial f.message) body.in_flight source.in_flight in
+    let queued : count_queued m.serial body ≡ 0 = omega (arith, count_by-empty (λ (q : Queued). has_serial m.serial q.message) body.requests source.requests, count_by-empty (λ (q : Queued). has_serial m.serial q.message) body.replies source.replies) in
+    let flying : count_flying m.serial body ≡ 0 = count_by-empty (λ (f : Flying). has_serial m.serial f.message) body.in_flight source.in_flight in
     let returned = none_returned m.serial journal left.causes in
-    let unknown : times_serial unknown_of m.serial journal ≡ 0 = none_counted (λ (x : Entry). is_serial m.serial (unknown_of x)) journal left.unknown in
+    let unknown : times_serial unknown_of m.serial journal ≡ 0 = count_by-none (λ (x : Entry). is_serial m.serial (unknown_of x)) journal left.unknown in
     by_put (times put_of (has_serial m.serial) journal) refl (λ none. one.waits m accepted none returned unknown) queued flying
   where
     ran_none : times run_of (has_serial m.serial) journal ≡ 0
-    ran_none = none_counted (λ (x : Entry). passes (has_serial m.serial) (run_of x)) journal (by_accepted journal m.serial (is_accepted journal m.serial) pending).ran
+    ran_none = count_by-none (λ (x : Entry). passes (has_serial m.serial) (run_of x)) journal (by_accepted journal m.serial (is_accepted journal m.serial) pending).ran
 
     put_nowhere : 1 ≤ times put_of (has_serial m.serial) journal → ⊥
     put_nowhere low =
@@ -173,7 +163,7 @@ none_pending s journal ok h rest m accepted pending =
         let some : 1 ≤ count_by (has_serial put.message.serial) (state_of layout journal d).body.received = omega (arith, count, ran) in
         let there = received_declared layout journal h d (has_serial put.message.serial) (state_of layout journal d).body.received ((delivers layout journal h).received d) some in
         let empty = rests_at layout journal d layout.ends there rest.messages in
-        omega (arith, some, empty_counted (has_serial put.message.serial) (state_of layout journal d).body.received empty.received)
+        omega (arith, some, count_by-empty (has_serial put.message.serial) (state_of layout journal d).body.received empty.received)
 
     by_put : (n : ℕ) → times put_of (has_serial m.serial) journal ≡ n → (times put_of (has_serial m.serial) journal ≡ 0 → count_queued m.serial (state_of (layout_of s) journal m.serial.source).body + count_flying m.serial (state_of (layout_of s) journal m.serial.source).body ≡ 1) → count_queued m.serial (state_of (layout_of s) journal m.serial.source).body ≡ 0 → count_flying m.serial (state_of (layout_of s) journal m.serial.source).body ≡ 0 → ⊥
     by_put zero is waits queued flying = omega (arith, waits is, queued, flying)

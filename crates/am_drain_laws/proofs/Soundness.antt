@@ -19,7 +19,7 @@ use Rattle.am_scenario_types.specs.Lawful as lawful
 use Rattle.am_scenario_types.specs.Lists.{ScenarioLists}
 use Rattle.am_follow.specs.Layout.{layout_of}
 use Rattle.am_follow.proofs.Lawful.{lawful_layout}
-use Rattle.am_laws_homes.proofs.Homes.{front_addressed}
+use Rattle.am_laws_homes.proofs.Homes.{front_addressed, home_below}
 use Rattle.am_laws_messages.proofs.Delivered.{delivers}
 use Rattle.am_laws_cluster.proofs.Bound.{in_flight_bound}
 use Rattle.am_scripts.specs.Links.{first_some, nodes_of}
@@ -29,7 +29,7 @@ use Rattle.am_drain.specs.Laws.{is_known, has_known_front, has_no_flight, IsSoun
 use Rattle.am_drain.proofs.Rest.{idle_nodes, rests_at_end}
 use Rattle.am_drain.proofs.Follows.{drained_follows}
 use Rattle.am_drain_laws.specs.Laws.{HistoriesAreSound, DrainsFollow, DrainsRest}
-use Rattle.am_drain_laws.proofs.Channels.{channels_below, home_below}
+use Rattle.am_drain_laws.proofs.Channels.{channels_below}
 
 abbrev pub standing : Layout → List Entry → EndSetting → Standing
 standing layout past setting = record { setting = setting; state = state_of layout past setting.id }

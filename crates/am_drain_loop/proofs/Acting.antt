@@ -2,7 +2,7 @@
 use Rattle.std.proofs.Common.{◌≡◌, ℕ, suc, List, [], ◌∷◌, ◌++◌, Option, Some, None, Result, Ok, Err, ap, sym, ◌∙◌, subst, refl, append_assoc, append-nil}
 use Rattle.std.specs.Prelude.{option_map}
 use Rattle.am_office.specs.declared.Entry.{Entry}
-use Rattle.am_model.specs.History.{EachAfter}
+use Rattle.am_model.proofs.Each.{each_append}
 use Rattle.am_scenario_types.specs.Lists.{ScenarioLists}
 use Rattle.am_drain.specs.declared.Turn.{Turn}
 use Rattle.am_drain.specs.Rules.{next_turn}
@@ -19,11 +19,6 @@ use Rattle.am_drain_loop.specs.Stops.{Reaches, IsStopped, Does, Acts, IsDrainSto
 
 reaches_same : (s : ScenarioLists) (past : List Entry) → Reaches s past past
 reaches_same s past = record { added = []; made = sym (append-nil past); room = tt }
-
-each_append : (May : List Entry → Entry → Type 0) (past xs ys : List Entry) → EachAfter May past xs → EachAfter May (past ++ xs) ys → EachAfter May past (xs ++ ys)
-each_append May past [] ys h k = subst (λ (b : List Entry). EachAfter May b ys) (append-nil past) k
-each_append May past (x ∷ xs) ys h k =
-    (h.0, each_append May (past ++ x ∷ []) xs ys h.1 (subst (λ (b : List Entry). EachAfter May b ys) (sym (append_assoc past (x ∷ []) xs)) k))
 
 reaches_on : (s : ScenarioLists) (past mid next : List Entry) → Reaches s past mid → Reaches s mid next → Reaches s past next
 reaches_on s past mid next p q =

@@ -2,7 +2,7 @@
 use Rattle.std.proofs.Common.{◌≡◌, ℕ, Bool, true, false, cond, ◌||◌, List, [], ◌∷◌, ◌++◌, length, Option, Some, None, refl, sym, ap, ◌∙◌, subst, arith, true≢false, eqb-true, append-nil}
 use Rattle.std.specs.Prelude.{◌&&◌, ◌==◌, not}
 use Rattle.std.specs.List.{find, list_any}
-use Rattle.std.proofs.lemmas.Bool.{and_from, and_parts}
+use Rattle.std.proofs.lemmas.Bool.{and_from, and_parts, not-false}
 use Rattle.am_names.specs.declared.EndpointId.{EndpointId}
 use Rattle.am_names.specs.declared.NodeId.{NodeId}
 use Rattle.am_names.specs.declared.Serial.{Serial}
@@ -13,7 +13,6 @@ use Rattle.am_names.specs.declared.Why.TheVariants as Whys
 use Rattle.am_names.specs.Names.{same_end, has_serial}
 use Rattle.am_office.specs.declared.Call.{Call}
 use Rattle.am_office.specs.declared.Call.TheVariants as Calls
-use Rattle.am_office.specs.declared.Condition.{Condition}
 use Rattle.am_office.specs.declared.Condition.TheVariants as Needs
 use Rattle.am_office.specs.declared.Event.{Event}
 use Rattle.am_office.specs.declared.Event.TheVariants as Events
@@ -33,13 +32,12 @@ use Rattle.am_model.specs.Changes.{called, received, expired, bound, paged_out, 
 use Rattle.am_model.specs.Layout.{Layout, EndSetting, has_id, opening_place, opening_by}
 use Rattle.am_model.specs.History.{MayFollow, IsHistory, state_of, failing, is_home}
 use Rattle.am_model.proofs.Each.{over_each, state_of_push, each_push}
-use Rattle.am_model.proofs.Books.{same_end-is, first_fails, second_fails}
+use Rattle.am_model.proofs.Books.{first_fails, second_fails}
+use Rattle.am_model.proofs.Names.{same_end-is}
+use Rattle.am_model.proofs.Received.{one_touched}
 use Rattle.am_laws_messages.proofs.Delivered.{delivers, put_facts}
+use Rattle.am_laws_cluster.proofs.Flights.{third_none}
 use Rattle.am_drain_steps.specs.Away.{is_grounded, is_settled_at, is_settled, AwayIsSettled}
-
-pub not_false : (b : Bool) → not b ≡ false → b ≡ true
-not_false true h = refl
-not_false false h = absurd (true≢false h)
 
 -- ---- by the place
 
@@ -214,19 +212,9 @@ unloaded_so false false = refl
 
 unload_settled : (s : State) → not (length s.body.in_flight == 0) ≡ false → is_settled (placed s Host (s.head.wanted || has_queued s.body) s.head.draining) ≡ true
 unload_settled s none =
-    and_from (is_grounded s.body) ((s.head.wanted || has_queued s.body) || not (has_queued s.body)) (not_false (is_grounded s.body) none) (unloaded_so s.head.wanted (has_queued s.body))
+    and_from (is_grounded s.body) ((s.head.wanted || has_queued s.body) || not (has_queued s.body)) (not-false (is_grounded s.body) none) (unloaded_so s.head.wanted (has_queued s.body))
 
 -- ---- each entry
-
-pub third_none : (a b c : Bool) (u v w : Condition) (rest : Option Condition) → cond a (Some u) (cond b (Some v) (cond c (Some w) rest)) ≡ None → (b ≡ false) × (c ≡ false) × (rest ≡ None)
-third_none true b c u v w rest h = absurd (cc)
-third_none false true c u v w rest h = absurd (cc)
-third_none false false true u v w rest h = absurd (cc)
-third_none false false false u v w rest h = (refl, refl, h)
-
-pub one_touched : (b : Bool) → (b || false) ≡ true → b ≡ true
-one_touched true h = refl
-one_touched false h = h
 
 no_carry : (direct none : Bool) → direct ≡ false → cond (not direct) (Some Needs.NotDirect) (cond none (Some Needs.NoMessage) None) ≡ None → ⊥
 no_carry true none packet on = true≢false packet
@@ -266,7 +254,7 @@ touched_settled layout past x packet h may e at k = by_event x.event x.outcome r
     by_event (Events.Carry end) o ev ou on t = absurd (no_carry layout.direct _ packet on)
     by_event (Events.Bind node end) o ev ou on t =
         let c = third_none layout.direct (not (is_home layout end node)) (not (is_resident (state_of layout past end).head.place)) Needs.NotPacket Needs.OtherNode Needs.NotResident _ on in
-        bound_settled (state_of layout past e) o (moved end is_resident (there end t) (not_false (is_resident (state_of layout past end).head.place) c.1)) k
+        bound_settled (state_of layout past e) o (moved end is_resident (there end t) (not-false (is_resident (state_of layout past end).head.place) c.1)) k
     by_event (Events.Expire node peer channel) o ev ou on t = expired_either (is_resident (state_of layout past e).head.place) refl o
     by_event (Events.Receive node peer number) (Out.Received channel seq attempt r) ev ou on t =
         received_either (is_resident (state_of layout past e).head.place) refl r (welcomed node peer number channel seq attempt r ev ou t)
@@ -279,10 +267,10 @@ touched_settled layout past x packet h may e at k = by_event x.event x.outcome r
     by_event (Events.Load node end frame) o ev ou on t = refl
     by_event (Events.PageOut node end) o ev ou on t =
         let c = third_none layout.direct (not (is_home layout end node)) (not (is_on_host (state_of layout past end).head.place)) Needs.NotPacket Needs.OtherNode Needs.NotOnHost _ on in
-        out_settled (state_of layout past e) o (moved end is_on_host (there end t) (not_false (is_on_host (state_of layout past end).head.place) c.1)) k
+        out_settled (state_of layout past e) o (moved end is_on_host (there end t) (not-false (is_on_host (state_of layout past end).head.place) c.1)) k
     by_event (Events.PageIn node end) o ev ou on t =
         let c = third_none layout.direct (not (is_home layout end node)) (not (is_on_disk (state_of layout past end).head.place)) Needs.NotPacket Needs.OtherNode Needs.NotOnDisk _ on in
-        in_settled (state_of layout past e) o (moved end is_on_disk (there end t) (not_false (is_on_disk (state_of layout past end).head.place) c.1)) k
+        in_settled (state_of layout past e) o (moved end is_on_disk (there end t) (not-false (is_on_disk (state_of layout past end).head.place) c.1)) k
 
 record Settles (layout : Layout) (past : List Entry) : Type 0 where
   pub history : IsHistory layout past

@@ -1,6 +1,6 @@
 -- The next call of a thread may happen, after the page-ins that it needs.
-use Rattle.std.proofs.Common.{◌≡◌, ℕ, zero, suc, ◌<◌, Bool, true, false, cond, List, [], ◌∷◌, length, Option, Some, None, refl, sym, ap, ◌∙◌, subst, arith, true≢false, lt-ltb, eqb-true}
-use Rattle.std.specs.Prelude.{◌&&◌, ◌||◌, ◌==◌, nat_lt, find, filter, slice_get, option_map}
+use Rattle.std.proofs.Common.{◌≡◌, ℕ, zero, suc, Bool, true, false, cond, List, [], ◌∷◌, length, Option, Some, None, refl, sym, ap, ◌∙◌, subst, arith, true≢false, lt-ltb}
+use Rattle.std.specs.Prelude.{◌&&◌, ◌||◌, nat_lt, find, filter, slice_get}
 use Rattle.std.specs.List.{list_any, All}
 use Rattle.am_names.specs.declared.EndpointId.{EndpointId}
 use Rattle.am_names.specs.declared.NodeId.{NodeId}
@@ -12,15 +12,15 @@ use Rattle.am_office.specs.declared.Entry.{Entry}
 use Rattle.am_model.specs.Endpoint.{is_on_disk}
 use Rattle.am_model.specs.Layout.{Layout, EndSetting, IsLawful, has_id, declared, home, home_by}
 use Rattle.am_model.specs.History.{IsHistory, state_of, is_in_range, is_call_in_range}
-use Rattle.am_model.proofs.Books.{same_end-is}
+use Rattle.am_model.proofs.Names.{same_end-is}
 use Rattle.am_laws_messages.proofs.Alls.{all_found}
 use Rattle.am_scenario_types.specs.declared.parts.ScriptCall.{ScriptCall}
-use Rattle.am_scenario_types.specs.declared.parts.ThreadLine.{ThreadLine}
 use Rattle.am_scenario_types.specs.Lawful as lawful
 use Rattle.am_scenario_types.specs.Lists.{ScenarioLists}
 use Rattle.am_follow.specs.Layout.{layout_of}
 use Rattle.am_follow.proofs.Lawful.{lawful_layout, is_declared, event_in_range}
 use Rattle.am_scripts.specs.Scripts.{is_of_thread, calls_of}
+use Rattle.am_scripts.proofs.Declared.{thread_below_64, is_on_declared}
 use Rattle.am_drain.specs.Made.{after_event}
 use Rattle.am_drain.specs.Ready.{off_disk_at}
 use Rattle.am_drain_steps.specs.Enabled.{CallsMayFollow}
@@ -62,9 +62,9 @@ declared_home layout e known none = declared_in e layout.ends known none
 
 -- ---- a call of the script
 
-pub all_at : {X : Type 0} (P : X → Type 0) (q : X → Bool) (xs : List X) (k : ℕ) (x : X) → All P xs → slice_get (filter q xs) k ≡ Some x → P x
-all_at P q [] k x all e = absurd (cc)
-all_at P q (y ∷ ys) k x all e = by_test (q y) k e (λ j h. all_at P q ys j x (λ i d lt. all (suc i) d (omega (arith, lt))) h)
+pub All-filter_at : {X : Type 0} (P : X → Type 0) (q : X → Bool) (xs : List X) (k : ℕ) (x : X) → All P xs → slice_get (filter q xs) k ≡ Some x → P x
+All-filter_at P q [] k x all e = absurd (cc)
+All-filter_at P q (y ∷ ys) k x all e = by_test (q y) k e (λ j h. All-filter_at P q ys j x (λ i d lt. all (suc i) d (omega (arith, lt))) h)
   where
     by_test : (b : Bool) (j : ℕ) → slice_get (cond b (y ∷ filter q ys) (filter q ys)) j ≡ Some x → ((i : ℕ) → slice_get (filter q ys) i ≡ Some x → P x) → P x
     by_test true zero h later =
@@ -73,22 +73,11 @@ all_at P q (y ∷ ys) k x all e = by_test (q y) k e (λ j h. all_at P q ys j x (
     by_test true (suc j) h later = later j h
     by_test false j h later = later j h
 
-found_thread : (ts : List ThreadLine) (id : ℕ) (node : NodeId) (s : ScenarioLists) → All (lawful.IsLawfulThread s.nodes) ts → lawful.thread_node ts id ≡ Some node → id < 64
-found_thread [] id node s all h = absurd (cc)
-found_thread (t ∷ ts) id node s all h = by_test (t.id == id) refl h (found_thread ts id node s (λ i d lt. all (suc i) d (omega (arith, lt))))
-  where
-    by_test : (b : Bool) → (t.id == id) ≡ b → option_map (λ (x : ThreadLine). x.node) (cond b (Some t) (find (λ (x : ThreadLine). x.id == id) ts)) ≡ Some node → (lawful.thread_node ts id ≡ Some node → id < 64) → id < 64
-    by_test true is k later = omega (arith, eqb-true t.id id is, (all zero t (omega arith)).id)
-    by_test false is k later = later k
-
-is_on_declared : (s : ScenarioLists) (node : NodeId) (e : EndpointId) → lawful.IsOn s.ends node e → lawful.IsDeclared s.ends e
-is_on_declared s node e on = rw on refl
-
 pub call_is_in_range : (s : ScenarioLists) (c : ScriptCall) → lawful.IsLawful s → lawful.IsLawfulScriptCall s.ends s.threads (lawful.least_credits s.pool) c → (is_in_range (layout_of s) (Events.Call (Thread c.thread) c.endpoint c.call) ≡ true) × (declared (layout_of s) c.endpoint ≡ true)
 call_is_in_range s c ok k =
     let known : lawful.IsDeclared s.ends c.endpoint = is_on_declared s k.placed.0 c.endpoint k.placed.1.1 in
     let outside : is_in_range (layout_of s) (Events.Call Outside c.endpoint c.call) ≡ true = event_in_range s (Events.Call Outside c.endpoint c.call) (refl, known, k.call) in
-    let thread : nat_lt c.thread 64 ≡ true = lt-ltb c.thread 64 (found_thread s.threads c.thread k.placed.0 s ok.threads k.placed.1.0) in
+    let thread : nat_lt c.thread 64 ≡ true = lt-ltb c.thread 64 (thread_below_64 s.threads c.thread k.placed.0 s ok.threads k.placed.1.0) in
     (ap (λ (b : Bool). b && declared (layout_of s) c.endpoint && is_call_in_range (layout_of s) c.call) thread ∙ outside, is_declared s c.endpoint known)
 
 -- ---- off the disk, and then the call
@@ -102,7 +91,7 @@ pub calls_may_follow : CallsMayFollow
 calls_may_follow s past c run left =
     let layout : Layout = layout_of s in
     let ok : IsLawful layout = lawful_layout s run.lawful in
-    let made = all_at (lawful.IsLawfulScriptCall s.ends s.threads (lawful.least_credits s.pool)) (is_of_thread c.thread) s.script (length (calls_of c.thread past)) c run.lawful.script left in
+    let made = All-filter_at (lawful.IsLawfulScriptCall s.ends s.threads (lawful.least_credits s.pool)) (is_of_thread c.thread) s.script (length (calls_of c.thread past)) c run.lawful.script left in
     let ranged = call_is_in_range s c run.lawful made in
     call_off_disk layout c (off_disk_at (home layout c.endpoint) layout c.endpoint past) ranged.0 (by_home ok ranged.1 (home layout c.endpoint) refl)
   where

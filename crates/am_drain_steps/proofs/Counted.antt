@@ -3,11 +3,11 @@ use Rattle.std.proofs.Common.{◌≡◌, ⊎_elim, ℕ, zero, suc, ◌-◌, ◌�
 use Rattle.std.specs.Prelude.{◌&&◌, ◌==◌, nat_lt, filter, slice_get}
 use Rattle.std.specs.List.{cons_option}
 use Rattle.std.proofs.lemmas.Bool.{and_from, and_parts}
+use Rattle.am_lemmas.proofs.Lists.{slice_get-append_left}
 use Rattle.am_names.specs.declared.NodeId.{NodeId}
 use Rattle.am_names.specs.declared.Packet.{Packet}
 use Rattle.am_names.specs.declared.Packet.TheVariants as Packets
 use Rattle.am_names.specs.Names.{same_node}
-use Rattle.am_office.specs.declared.Condition.{Condition}
 use Rattle.am_office.specs.declared.Condition.TheVariants as Needs
 use Rattle.am_office.specs.declared.Event.{Event}
 use Rattle.am_office.specs.declared.Event.TheVariants as Events
@@ -18,11 +18,12 @@ use Rattle.am_model.specs.Channels.{emitted, is_on_link}
 use Rattle.am_model.specs.History.{MayFollow, IsHistory, failing, next_number}
 use Rattle.am_model.proofs.Each.{over_each}
 use Rattle.am_model.proofs.Ends.{EmittedIn, emitted_more}
+use Rattle.am_model.proofs.Names.{same_node-is, same_node-refl}
+use Rattle.am_laws_cluster.proofs.Flights.{second_none}
 use Rattle.am_plan.specs.Shape.{number_of}
 use Rattle.am_scripts.specs.Links.{number_received, received}
-use Rattle.am_scripts.proofs.Links.{emitted_push, received_push, same_node-is}
+use Rattle.am_scripts.proofs.Links.{emitted_push, received_push}
 use Rattle.am_drain_steps.specs.Endings.{is_among}
-use Rattle.am_drain_steps.proofs.Enabled.{node_self}
 use Rattle.am_drain_steps.proofs.Receipts.{from_of, to_of, packet_next}
 
 -- ---- among
@@ -36,11 +37,6 @@ among_append n (x ∷ xs) ys = by_test (x == n) (among_append n xs ys)
     by_test false h = h
 
 -- ---- what was emitted on a link stands at its number
-
-slice_more : {X : Type 0} (xs ys : List X) (k : ℕ) (x : X) → slice_get xs k ≡ Some x → slice_get (xs ++ ys) k ≡ Some x
-slice_more [] ys k x h = absurd (cc)
-slice_more (y ∷ xs) ys zero x h = h
-slice_more (y ∷ xs) ys (suc k) x h = slice_more xs ys k x h
 
 slice_last : {X : Type 0} (xs : List X) (k : ℕ) (x : X) → k ≡ length xs → slice_get (xs ++ x ∷ []) k ≡ Some x
 slice_last [] zero x h = refl
@@ -59,22 +55,17 @@ own_emission p x is =
     ap (λ (o : Option Packet). filter (is_on_link (from_of p) (to_of p)) (cons_option o [])) is ∙ ap (λ (b : Bool). cond b (p ∷ []) []) (own p)
   where
     own : (q : Packet) → is_on_link (from_of q) (to_of q) q ≡ true
-    own (Packets.Parcel q) = and_from (same_node q.from q.from) (same_node q.to q.to) (node_self q.from) (node_self q.to)
-    own (Packets.Answer q) = and_from (same_node q.from q.from) (same_node q.to q.to) (node_self q.from) (node_self q.to)
+    own (Packets.Parcel q) = and_from (same_node q.from q.from) (same_node q.to q.to) (same_node-refl q.from) (same_node-refl q.to)
+    own (Packets.Answer q) = and_from (same_node q.from q.from) (same_node q.to q.to) (same_node-refl q.from) (same_node-refl q.to)
 
 placed_more : (layout : Layout) (past : List Entry) (x : Entry) → MayFollow layout past x → IsCounted past → (p : Packet) → EmittedIn p (past ++ x ∷ []) → slice_get (emitted (from_of p) (to_of p) (past ++ x ∷ [])) (number_of p - 1) ≡ Some p
 placed_more layout past x may k p h =
     ap (λ (ps : List Packet). slice_get ps (number_of p - 1)) (emitted_push (from_of p) (to_of p) past x)
-    ∙ ⊎_elim (λ (old : EmittedIn p past). slice_more (emitted (from_of p) (to_of p) past) (emitted (from_of p) (to_of p) (x ∷ [])) (number_of p - 1) p (k.placed p old))
+    ∙ ⊎_elim (λ (old : EmittedIn p past). slice_get-append_left (emitted (from_of p) (to_of p) past) (emitted (from_of p) (to_of p) (x ∷ [])) (number_of p - 1) p (k.placed p old))
     (λ (new : emitted_of x ≡ Some p).
     let number : number_of p ≡ next_number (from_of p) (to_of p) past = packet_next layout past x may p new in
     ap (λ (ps : List Packet). slice_get (emitted (from_of p) (to_of p) past ++ ps) (number_of p - 1)) (own_emission p x new) ∙ slice_last (emitted (from_of p) (to_of p) past) (number_of p - 1) p (omega (arith, number)))
     (emitted_more p past x h)
-
-pub second_none : (a b : Bool) (u v : Condition) → cond a (Some u) (cond b (Some v) None) ≡ None → b ≡ false
-second_none true b u v h = absurd (cc)
-second_none false true u v h = absurd (cc)
-second_none false false u v h = refl
 
 -- a number that an event receives was emitted
 pub receipt_below : (layout : Layout) (past : List Entry) (from to : NodeId) (n : ℕ) (event : Event) → failing layout past event ≡ None → is_among n (cons_option (number_received from to event) []) ≡ true → n ≤ length (emitted from to past)

@@ -2,7 +2,7 @@
 use Rattle.std.proofs.Common.{◌≡◌, ℕ, zero, suc, ◌+◌, ◌<◌, ◌≤◌, Bool, true, false, cond, ◌||◌, List, [], ◌∷◌, map, length, Option, Some, None, refl, sym, ap, ◌∙◌, subst, arith, true≢false, ltb-true, ltb-false, eqb-true, eq-eqb}
 use Rattle.std.specs.Prelude.{◌&&◌, ◌==◌, not, nat_lt, is_none, find, filter}
 use Rattle.std.specs.List.{list_any, list_all, range_with_len}
-use Rattle.std.proofs.lemmas.Bool.{and_parts}
+use Rattle.std.proofs.lemmas.Bool.{and_parts, not-false, not-true}
 use Rattle.am_names.specs.declared.EndpointId.{EndpointId}
 use Rattle.am_names.specs.declared.NodeId.{NodeId}
 use Rattle.am_names.specs.Names.{same_end, same_node}
@@ -17,13 +17,11 @@ use Rattle.am_model.specs.Endpoint.{State, Body, is_resident, is_in_a_frame, is_
 use Rattle.am_model.specs.Changes.{paged_out}
 use Rattle.am_model.specs.Layout.{Layout, AllAre, IsLawful, declared}
 use Rattle.am_model.specs.History.{IsHistory, state_of, is_home, is_in_frame}
-use Rattle.am_model.proofs.Names.{same_end-is}
+use Rattle.am_model.proofs.Names.{same_end-is, same_node-is}
 use Rattle.am_scripts.specs.Standings.{Standing, standings}
-use Rattle.am_scripts.proofs.Links.{same_node-is}
 use Rattle.am_scripts.proofs.Lists.{none_all, found_true}
 use Rattle.am_drain.specs.Made.{next_entry, after_event, after_event_if}
 use Rattle.am_drain.specs.Ready.{holds_frame, free_frame, is_neither, may_leave, unloaded, is_open_on_host, paged_out as page_out, spare_of, spare, kept, emptied}
-use Rattle.am_drain_steps.proofs.Away.{not_false}
 use Rattle.am_drain_steps.proofs.Enabled.{no_fail, event_follows, IsSeated, IsSeatedSetting, all_seated, IsStanding, is_standing, seat_in_range, stand}
 use Rattle.am_drain_steps.proofs.Frames.{frames_are_apart, frames_are_used}
 use Rattle.am_drain_steps.proofs.Moves.{Keeps, keeps_same, keeps_then, after_move, move_keeps, Spares, spares_same, spares, spares_then}
@@ -35,15 +33,11 @@ pub data IsNamed (source dest e : EndpointId) : Type 0 where
   AsSource : e ≡ source → IsNamed source dest e
   AsDest : e ≡ dest → IsNamed source dest e
 
-pub not_true : (b : Bool) → not b ≡ true → b ≡ false
-not_true true h = absurd (true≢false (sym h))
-not_true false h = refl
-
 named_apart : (source dest i f : EndpointId) → (not (same_end source i) && not (same_end dest i)) ≡ true → IsNamed source dest f → same_end f i ≡ false
 named_apart source dest i f h (AsSource is) =
-    ap (λ (j : EndpointId). same_end j i) is ∙ not_true (same_end source i) (and_parts (not (same_end source i)) (not (same_end dest i)) h).0
+    ap (λ (j : EndpointId). same_end j i) is ∙ not-true (same_end source i) (and_parts (not (same_end source i)) (not (same_end dest i)) h).0
 named_apart source dest i f h (AsDest is) =
-    ap (λ (j : EndpointId). same_end j i) is ∙ not_true (same_end dest i) (and_parts (not (same_end source i)) (not (same_end dest i)) h).1
+    ap (λ (j : EndpointId). same_end j i) is ∙ not-true (same_end dest i) (and_parts (not (same_end source i)) (not (same_end dest i)) h).1
 
 -- a journal that goes on and leaves the endpoints of a message, and what all hold, as they were
 pub record Aside (layout : Layout) (source dest : EndpointId) (past next : List Entry) : Type 0 where
@@ -245,13 +239,13 @@ drains layout past node e true packet h seated framed not_yet =
           (no_fail layout.direct Needs.NotPacket _ packet
           (no_fail (not (is_home layout e node)) Needs.OtherNode _ (ap not seated.home)
           (no_fail (not (is_resident (state_of layout past e).head.place)) Needs.NotResident _ (ap not (framed_resident (state_of layout past e).head.place framed))
-          (no_fail (state_of layout past e).head.draining Needs.Draining None (not_true (state_of layout past e).head.draining not_yet) refl))));
+          (no_fail (state_of layout past e).head.draining Needs.Draining None (not-true (state_of layout past e).head.draining not_yet) refl))));
       keeps = move_keeps e layout past (Events.Drain node e) refl;
       place' = ap (λ (s : State). s.head.place) (after_move e layout past (Events.Drain node e) refl);
       draining' = ap (λ (s : State). s.head.draining) (after_move e layout past (Events.Drain node e) refl);
     }
 drains layout past node e false packet h seated framed already =
-    record { history = h; keeps = keeps_same layout e past; place' = refl; draining' = not_false (state_of layout past e).head.draining already }
+    record { history = h; keeps = keeps_same layout e past; place' = refl; draining' = not-false (state_of layout past e).head.draining already }
 
 -- an endpoint that drains, with nothing in flight, may leave its frame
 pub unload_may : (layout : Layout) (past : List Entry) (node : NodeId) (e : EndpointId) → layout.direct ≡ false → IsHistory layout past → IsSeated layout e node → is_in_a_frame (state_of layout past e).head.place ≡ true → (state_of layout past e).head.draining ≡ true → (length (state_of layout past e).body.in_flight == 0) ≡ true → IsHistory layout (after_event layout (Events.Unload node e) past)
@@ -341,7 +335,7 @@ goes_to_disk layout past node source dest frame st packet h free k passes =
     let own = and_parts (same_node node st.setting.node) (is_on_host st.state.head.place && not st.state.head.closed) both.0 in
     let there = and_parts (is_on_host st.state.head.place) (not st.state.head.closed) own.1 in
     let host : is_on_host (state_of layout past end).head.place ≡ true = ap (λ (s : State). is_on_host s.head.place) (sym k.state) ∙ there.0 in
-    let opened : (state_of layout past end).head.closed ≡ false = ap (λ (s : State). s.head.closed) (sym k.state) ∙ not_true st.state.head.closed there.1 in
+    let opened : (state_of layout past end).head.closed ≡ false = ap (λ (s : State). s.head.closed) (sym k.state) ∙ not-true st.state.head.closed there.1 in
     let next : List Entry = after_event layout (Events.PageOut home end) past in
     let history : IsHistory layout next = event_follows layout past (Events.PageOut home end) h (seat_in_range layout end home k.seated)
     (no_fail layout.direct Needs.NotPacket _ packet

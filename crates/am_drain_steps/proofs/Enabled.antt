@@ -1,5 +1,5 @@
 -- Page-ins, time-outs and polls that the drain names may happen.
-use Rattle.std.proofs.Common.{◌≡◌, ℕ, zero, suc, ◌+◌, ◌<◌, Bool, true, false, cond, ◌||◌, List, [], ◌∷◌, map, Option, Some, None, refl, sym, ap, ◌∙◌, subst, arith, true≢false, lt-ltb, eq-eqb, if◌then◌else◌}
+use Rattle.std.proofs.Common.{◌≡◌, ℕ, zero, suc, ◌+◌, ◌<◌, Bool, true, false, cond, ◌||◌, List, [], ◌∷◌, map, Option, Some, None, refl, sym, ap, ◌∙◌, subst, arith, true≢false, lt-ltb, if◌then◌else◌}
 use Rattle.std.specs.Prelude.{◌&&◌, not, nat_lt, find}
 use Rattle.std.specs.List.{list_any, range_with_len}
 use Rattle.std.proofs.lemmas.Bool.{and_from, and_parts}
@@ -20,6 +20,7 @@ use Rattle.am_model.specs.Changes.{has_queued, has_arrivals}
 use Rattle.am_model.specs.Layout.{Layout, EndSetting, AllAre, IsLawful, IsSettingLawful, has_id, declared, node_at}
 use Rattle.am_model.specs.History.{MayFollow, IsHistory, state_of, failing, is_in_range, is_home, is_bound, channel_to}
 use Rattle.am_model.proofs.Each.{each_push}
+use Rattle.am_model.proofs.Names.{same_end-refl, same_node-refl}
 use Rattle.am_laws_messages.proofs.Alls.{all_map}
 use Rattle.am_scenario_types.specs.declared.parts.Network.TheVariants.{Packet}
 use Rattle.am_scenario_types.specs.Lists.{ScenarioLists}
@@ -34,7 +35,7 @@ use Rattle.am_drain.specs.Made.{after_event, next_entry}
 use Rattle.am_drain.specs.Rules.{time_out, time_out_to, time_out_at, next_time_out, page_in_of, is_pollable, poll_of}
 use Rattle.am_drain.specs.Drain.{after_turn}
 use Rattle.am_drain.proofs.Entries.{entry_may_follow}
-use Rattle.am_drain.proofs.TurnKinds.{Maybe, is_so}
+use Rattle.am_drain.proofs.TurnKinds.{Maybe, is_so, first_so}
 use Rattle.am_drain_steps.specs.Away.{is_grounded, is_settled_at, is_settled}
 use Rattle.am_drain_steps.specs.Enabled.{TimeOutsMayFollow, PageInsMayFollow, PollsMayFollow}
 use Rattle.am_drain_steps.proofs.Away.{away_is_settled}
@@ -79,12 +80,6 @@ found_mapped {X} {Y} P p f (x ∷ xs) y all e = by_test (p (f x)) e (found_mappe
     by_test true h later = (x, cc, all.0)
     by_test false h later = later h
 
-pub same_self : (e : EndpointId) → same_end e e ≡ true
-same_self e = eq-eqb e.0 e.0 refl
-
-pub node_self : (n : NodeId) → same_node n n ≡ true
-node_self n = eq-eqb n.0 n.0 refl
-
 -- an endpoint that is declared, on a node of the layout
 pub record IsSeated (layout : Layout) (e : EndpointId) (node : NodeId) : Type 0 where
   pub home : is_home layout e node ≡ true
@@ -97,8 +92,8 @@ IsSeatedSetting layout x = IsSeated layout x.id x.node
 pub all_seated : (layout : Layout) → IsLawful layout → AllAre (IsSeatedSetting layout) layout.ends
 all_seated layout lawful =
     each layout.ends
-    (each_any (λ (x s : EndSetting). same_end x.id s.id && same_node x.node s.node) (λ (x : EndSetting). and_from (same_end x.id x.id) (same_node x.node x.node) (same_self x.id) (node_self x.node)) layout.ends)
-    (each_any (λ (x s : EndSetting). has_id x.id s) (λ (x : EndSetting). same_self x.id) layout.ends) lawful.ends
+    (each_any (λ (x s : EndSetting). same_end x.id s.id && same_node x.node s.node) (λ (x : EndSetting). and_from (same_end x.id x.id) (same_node x.node x.node) (same_end-refl x.id) (same_node-refl x.node)) layout.ends)
+    (each_any (λ (x s : EndSetting). has_id x.id s) (λ (x : EndSetting). same_end-refl x.id) layout.ends) lawful.ends
   where
     each : (xs : List EndSetting) → AllAre (λ (x : EndSetting). list_any (λ (s : EndSetting). same_end x.id s.id && same_node x.node s.node) layout.ends ≡ true) xs → AllAre (λ (x : EndSetting). list_any (λ (s : EndSetting). has_id x.id s) layout.ends ≡ true) xs → AllAre (IsSettingLawful layout) xs → AllAre (IsSeatedSetting layout) xs
     each [] a b c = tt
@@ -176,11 +171,7 @@ polls_may_follow s past t run none e =
 
 -- ---- time-outs
 
-first_so : {X : Type 0} (P : X → Type 0) (o : Option X) (os : List (Option X)) → Maybe P o → Maybe P (first_some os) → Maybe P (first_some (o ∷ os))
-first_so P None os a b = b
-first_so P (Some x) os a b = a
-
-range_so : {Y : Type 0} (P : Y → Type 0) (f : ℕ → Option Y) (a n : ℕ) → ((k : ℕ) → k < a + n → Maybe P (f k)) → Maybe P (first_some (map f (range_with_len a n)))
+pub range_so : {Y : Type 0} (P : Y → Type 0) (f : ℕ → Option Y) (a n : ℕ) → ((k : ℕ) → k < a + n → Maybe P (f k)) → Maybe P (first_some (map f (range_with_len a n)))
 range_so P f a zero h = tt
 range_so P f a (suc n) h =
     first_so P (f a) (map f (range_with_len (a + 1) n)) (h a (omega arith)) (range_so P f (a + 1) n (λ (k : ℕ) low. h k (omega (arith, low))))

@@ -1,10 +1,9 @@
 -- What a page-in leaves of the work: all but the endpoints on disk and the faults that are left.
-use Rattle.std.proofs.Common.{◌≡◌, ℕ, ◌+◌, ◌-◌, ◌*◌, ◌<◌, ◌≤◌, Bool, true, false, cond, ◌||◌, List, [], ◌∷◌, ◌++◌, map, length, Option, Some, None, refl, sym, ap, ◌∙◌, subst, arith, true≢false, append-nil, ltb-true, lt-ltb, eqb-true, if◌then◌else◌}
-use Rattle.std.specs.Prelude.{◌&&◌, ◌==◌, filter, filter_map, count_by, sum_by, drop, find}
-use Rattle.std.specs.List.{list_any, cons_option, range_with_len}
+use Rattle.std.proofs.Common.{◌≡◌, ℕ, ◌+◌, ◌-◌, ◌*◌, ◌<◌, ◌≤◌, Bool, true, false, cond, ◌||◌, List, [], ◌∷◌, map, length, Option, Some, None, refl, sym, ap, ◌∙◌, subst, arith, true≢false, append-nil, ltb-true, lt-ltb, eqb-true, if◌then◌else◌}
+use Rattle.std.specs.Prelude.{◌&&◌, ◌==◌, count_by, sum_by, drop, find}
+use Rattle.std.specs.List.{list_any, range_with_len}
 use Rattle.std.proofs.lemmas.Bool.{and_parts}
 use Rattle.std.proofs.lemmas.List.Sums.{sum_by-cons, sum_by_push}
-use Rattle.std.proofs.lemmas.List.Elements.{filter_map-append}
 use Rattle.am_names.specs.declared.EndpointId.{EndpointId}
 use Rattle.am_names.specs.declared.NodeId.{NodeId}
 use Rattle.am_names.specs.declared.Message.{Message}
@@ -19,25 +18,25 @@ use Rattle.am_model.specs.Channels.{Channel, bound_message, attempt, emitted}
 use Rattle.am_model.specs.History.{channel_to, bounced, is_page_call, page, state_of}
 use Rattle.am_model.proofs.Ends.{attempt_push}
 use Rattle.am_model.proofs.Received.{bit}
-use Rattle.am_model.proofs.Names.{same_end-is}
+use Rattle.am_model.proofs.Names.{same_end-is, same_node-is, same_node-refl}
 use Rattle.am_plan.specs.Shape.{fault_at, shape}
 use Rattle.am_scenario_types.specs.declared.parts.ThreadLine.{ThreadLine}
-use Rattle.am_scenario_types.specs.declared.parts.ScriptCall.{ScriptCall}
 use Rattle.am_scenario_types.specs.Lists.{ScenarioLists}
 use Rattle.am_follow.specs.Layout.{layout_of}
 use Rattle.am_follow.proofs.Lawful.{lawful_layout}
 use Rattle.am_scripts.specs.Links.{nodes_of, received}
-use Rattle.am_scripts.specs.Scripts.{calls_of, script_of, is_of_thread, call_made}
+use Rattle.am_scripts.specs.Scripts.{calls_of, script_of}
 use Rattle.am_scripts.specs.Standings.{Standing, standings, is_missed}
-use Rattle.am_scripts.proofs.Links.{emitted_push, received_push, same_node-is}
+use Rattle.am_scripts.proofs.Links.{emitted_push, received_push}
 use Rattle.am_scripts.proofs.Lists.{some_mapped, found_true}
 use Rattle.am_drain.specs.declared.Turn.{Turn}
 use Rattle.am_drain.specs.Made.{next_entry, after_event}
 use Rattle.am_drain.specs.Rules.{page_in_of}
 use Rattle.am_drain.specs.Drain.{after_turn}
+use Rattle.am_drain.proofs.Scripts.{calls_same}
 use Rattle.am_drain_steps.specs.Work.{time_outs, bindings, copy_of, packet_copy, queued_work, received_work, end_work, bound_work, channel_work, still_late, link_work, node_work, thread_work, new_request, is_fault_left, is_standing_on_disk, work}
 use Rattle.am_drain_steps.specs.Endings.{PageInsFall}
-use Rattle.am_drain_steps.proofs.Enabled.{node_self, IsStanding, is_standing, stand}
+use Rattle.am_drain_steps.proofs.Enabled.{IsStanding, is_standing, stand}
 use Rattle.am_drain_steps.proofs.Paging.{after_page_in}
 use Rattle.am_drain_steps.proofs.Moves.{Spares, spares, move_keeps}
 
@@ -52,10 +51,6 @@ pub record IsStill (layout : Layout) (past next : List Entry) : Type 0 where
   pub received' : (from to : NodeId) → received from to next ≡ received from to past
   pub calls' : (thread : ℕ) → calls_of thread next ≡ calls_of thread past
 
-pub calls_push : (thread : ℕ) (past : List Entry) (x : Entry) → call_made x.event ≡ None → calls_of thread (past ++ x ∷ []) ≡ calls_of thread past
-calls_push thread past x none =
-    ap (filter (is_of_thread thread)) (filter_map-append (λ (y : Entry). call_made y.event) past (x ∷ []) ∙ (ap (λ (o : Option ScriptCall). filter_map (λ (y : Entry). call_made y.event) past ++ cons_option o []) none ∙ append-nil (filter_map (λ (y : Entry). call_made y.event) past)))
-
 page_in_still : (layout : Layout) (past : List Entry) (node : NodeId) (e : EndpointId) → IsStill layout past (after_event layout (Events.PageIn node e) past)
 page_in_still layout past node e =
     let x : Entry = next_entry layout past (Events.PageIn node e) in
@@ -66,7 +61,7 @@ page_in_still layout past node e =
       attempt' = λ c. attempt_push c past x false refl;
       emitted' = λ from to. emitted_push from to past x ∙ append-nil (emitted from to past);
       received' = λ from to. received_push from to past x ∙ append-nil (received from to past);
-      calls' = λ thread. calls_push thread past x refl;
+      calls' = λ thread. calls_same thread past x refl;
     }
 
 -- ---- the work of the messages
@@ -157,7 +152,7 @@ faults_less layout past node e (f ∷ fs) h = by_test (same_node node f.node && 
     gone true is own number =
         let same : node ≡ f.node = same_node-is node f.node own in
         let calls : page_calls f.node past ≡ page_calls node past = ap (λ (n : NodeId). page_calls n past) (sym same) in
-        let one : bit (same_node f.node node) ≡ bit true = ap (λ (n : NodeId). bit (same_node f.node n)) same ∙ ap bit (node_self f.node) in
+        let one : bit (same_node f.node node) ≡ bit true = ap (λ (n : NodeId). bit (same_node f.node n)) same ∙ ap bit (same_node-refl f.node) in
         absurd (omega (arith, ltb-true (page_calls f.node (after_event layout (Events.PageIn node e) past)) f.number is, calls_more layout past node f.node e, one, calls, number))
 
     there : same_node node f.node ≡ true → f.number ≡ page_calls node past + 1 → is_fault_left past f ≡ true

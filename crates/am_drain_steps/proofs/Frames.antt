@@ -23,11 +23,9 @@ use Rattle.am_model.specs.Changes.{called, left, reached, received, expired, bou
 use Rattle.am_model.specs.Layout.{Layout, EndSetting, AreApart, IsLawful, has_id, declared, opening_by, opening_place}
 use Rattle.am_model.specs.History.{MayFollow, state_of, failing, is_in_range, is_home, is_in_frame, is_frame_held}
 use Rattle.am_model.proofs.Each.{over_each, state_of_push}
-use Rattle.am_model.proofs.Books.{same_end-is}
-use Rattle.am_scripts.proofs.Links.{same_node-is}
+use Rattle.am_model.proofs.Names.{same_end-refl, same_end-is, same_node-is}
+use Rattle.am_model.proofs.Received.{one_touched}
 use Rattle.am_drain_steps.specs.Frames.{AreApartInFrames, FramesAreApart, UsesItsFrames, FramesAreUsed}
-use Rattle.am_drain_steps.proofs.Enabled.{same_self}
-use Rattle.am_drain_steps.proofs.Away.{one_touched}
 
 -- ---- an event that is no load brings no endpoint into a frame
 
@@ -221,7 +219,7 @@ apart_more layout past x ok k may e f node frame he hf ie if' =
     by_before true false ae af = absurd (loaded_alone layout past f e node frame x.event ok may.enabled ((lay layout past x f frame if').loaded af) hf he ae)
     by_before false false ae af =
         let same : e ≡ f = one_load layout e f frame frame x.event ((lay layout past x e frame ie).loaded ae) ((lay layout past x f frame if').loaded af) in
-        ap (same_end e) (sym same) ∙ same_self e
+        ap (same_end e) (sym same) ∙ same_end-refl e
 
 -- an endpoint begins in no frame
 begins_in_none : (layout : Layout) (frame : ℕ) (o : Option EndSetting) → is_in_frame frame (opening_by layout o).head.place ≡ true → ⊥

@@ -1,23 +1,23 @@
 -- What a driver's move leaves as it was: all but where its endpoint lies.
-use Rattle.std.proofs.Common.{◌≡◌, Bool, true, false, ◌||◌, List, refl, sym, ap, ◌∙◌, subst}
+use Rattle.std.proofs.Common.{◌≡◌, Bool, true, false, List, refl, sym, ap, ◌∙◌, subst}
+use mathlib.Core.Bool.{or-false}
 use Rattle.am_names.specs.declared.EndpointId.{EndpointId}
 use Rattle.am_names.specs.Names.{same_end}
 use Rattle.am_office.specs.declared.Event.{Event}
 use Rattle.am_office.specs.declared.Event.TheVariants as Events
 use Rattle.am_office.specs.declared.Outcome.{Outcome}
-use Rattle.am_office.specs.declared.Outcome.TheVariants as Out
 use Rattle.am_office.specs.declared.Entry.{Entry}
 use Rattle.am_office.specs.Entries.{touches}
 use Rattle.am_model.specs.Endpoint.{State}
-use Rattle.am_model.specs.Changes.{changed, paged_out, paged_in}
+use Rattle.am_model.specs.Changes.{changed}
 use Rattle.am_model.specs.Channels.{Channel, bound_message}
 use Rattle.am_model.specs.Layout.{Layout}
 use Rattle.am_model.specs.History.{state_of}
 use Rattle.am_model.proofs.Each.{state_of_push}
 use Rattle.am_model.proofs.Ends.{bound_push}
-use Rattle.am_model.proofs.Names.{same_end-is}
+use Rattle.am_model.proofs.Names.{same_end-is, same_end-refl}
+use Rattle.am_model.proofs.Unchanged.{paged_out_body, paged_in_body, paged_out_closed, paged_in_closed}
 use Rattle.am_drain.specs.Made.{next_entry, after_event, after_event_if}
-use Rattle.am_drain_steps.proofs.Enabled.{same_self}
 
 -- the endpoint that a driver moves
 abbrev pub moves : EndpointId → Event → Type 0
@@ -47,55 +47,35 @@ keeps_then layout e past mid next p q =
       bound' = λ c. q.bound' c ∙ p.bound' c;
     }
 
-out_body : (s : State) (o : Outcome) → (paged_out s o).body ≡ s.body
-out_body s Out.Done = refl
-out_body s o = refl
-
-in_body : (s : State) (o : Outcome) → (paged_in s o).body ≡ s.body
-in_body s Out.Done = refl
-in_body s o = refl
-
-out_closed : (s : State) (o : Outcome) → (paged_out s o).head.closed ≡ s.head.closed
-out_closed s Out.Done = refl
-out_closed s o = refl
-
-in_closed : (s : State) (o : Outcome) → (paged_in s o).head.closed ≡ s.head.closed
-in_closed s Out.Done = refl
-in_closed s o = refl
-
 moved_body : (e : EndpointId) (s : State) (event : Event) (o : Outcome) → moves e event → (changed e s event o).body ≡ s.body
 moved_body e s (Events.Drain node end) o m = refl
 moved_body e s (Events.Unload node end) o m = refl
 moved_body e s (Events.Load node end frame) o m = refl
-moved_body e s (Events.PageOut node end) o m = out_body s o
-moved_body e s (Events.PageIn node end) o m = in_body s o
+moved_body e s (Events.PageOut node end) o m = paged_out_body s o
+moved_body e s (Events.PageIn node end) o m = paged_in_body s o
 moved_body e s event o m = absurd m
 
 moved_closed : (e : EndpointId) (s : State) (event : Event) (o : Outcome) → moves e event → (changed e s event o).head.closed ≡ s.head.closed
 moved_closed e s (Events.Drain node end) o m = refl
 moved_closed e s (Events.Unload node end) o m = refl
 moved_closed e s (Events.Load node end frame) o m = refl
-moved_closed e s (Events.PageOut node end) o m = out_closed s o
-moved_closed e s (Events.PageIn node end) o m = in_closed s o
+moved_closed e s (Events.PageOut node end) o m = paged_out_closed s o
+moved_closed e s (Events.PageIn node end) o m = paged_in_closed s o
 moved_closed e s event o m = absurd m
-
-or_false : (b : Bool) → (b || false) ≡ b
-or_false true = refl
-or_false false = refl
 
 -- the endpoint that a move touches is its own
 moved_touches : (e f : EndpointId) (layout : Layout) (past : List Entry) (event : Event) → moves e event → touches f (next_entry layout past event) ≡ same_end f e
-moved_touches e f layout past (Events.Drain node end) m = or_false (same_end f end) ∙ ap (same_end f) m
-moved_touches e f layout past (Events.Unload node end) m = or_false (same_end f end) ∙ ap (same_end f) m
-moved_touches e f layout past (Events.Load node end frame) m = or_false (same_end f end) ∙ ap (same_end f) m
-moved_touches e f layout past (Events.PageOut node end) m = or_false (same_end f end) ∙ ap (same_end f) m
-moved_touches e f layout past (Events.PageIn node end) m = or_false (same_end f end) ∙ ap (same_end f) m
+moved_touches e f layout past (Events.Drain node end) m = or-false (same_end f end) ∙ ap (same_end f) m
+moved_touches e f layout past (Events.Unload node end) m = or-false (same_end f end) ∙ ap (same_end f) m
+moved_touches e f layout past (Events.Load node end frame) m = or-false (same_end f end) ∙ ap (same_end f) m
+moved_touches e f layout past (Events.PageOut node end) m = or-false (same_end f end) ∙ ap (same_end f) m
+moved_touches e f layout past (Events.PageIn node end) m = or-false (same_end f end) ∙ ap (same_end f) m
 moved_touches e f layout past event m = absurd m
 
 -- the endpoint after its move
 pub after_move : (e : EndpointId) (layout : Layout) (past : List Entry) (event : Event) → moves e event → state_of layout (after_event layout event past) e ≡ changed e (state_of layout past e) event (next_entry layout past event).outcome
 after_move e layout past event m =
-    state_of_push layout past (next_entry layout past event) e true (moved_touches e e layout past event m ∙ same_self e)
+    state_of_push layout past (next_entry layout past event) e true (moved_touches e e layout past event m ∙ same_end-refl e)
 
 moved_bound : (e : EndpointId) (layout : Layout) (past : List Entry) (event : Event) → moves e event → (c : Channel) → bound_message c (after_event layout event past) ≡ bound_message c past
 moved_bound e layout past (Events.Drain node end) m c = bound_push c past (next_entry layout past (Events.Drain node end)) false refl

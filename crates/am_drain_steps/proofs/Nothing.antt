@@ -40,7 +40,7 @@ use Rattle.am_drain_steps.proofs.Unknown.{expired}
 abbrev Passes : Option LinkFault → Type 0
 Passes o = (o ≡ None) ⊎ (o ≡ Some Repeat)
 
-fault_found : (plan : List PlanLine) (p : PlanLine → Bool) → All (λ (line : PlanLine). line.fault ≡ Repeat) plan → Passes (fault_in (find p plan))
+pub fault_found : (plan : List PlanLine) (p : PlanLine → Bool) → All (λ (line : PlanLine). line.fault ≡ Repeat) plan → Passes (fault_in (find p plan))
 fault_found [] p all = inl refl
 fault_found (l ∷ ls) p all = by_test (p l) (fault_found ls p (λ i d lt. all (suc i) d (omega (arith, lt))))
   where
@@ -55,7 +55,7 @@ at_once_has o p h =
     (λ (twice : o ≡ Some Repeat). ap (λ (l : Option LinkFault). is_among (number_of p) (map number_of (at_once l p))) twice ∙ among_first (number_of p) p (p ∷ []) refl)
     h
 
-all_come : (fault : ℕ → Option LinkFault) → ((k : ℕ) → Passes (fault k)) → (before ps : List Packet) (i : ℕ) (p : Packet) → slice_get ps i ≡ Some p → is_among (number_of p) (map number_of (shape_after fault before ps)) ≡ true
+pub all_come : (fault : ℕ → Option LinkFault) → ((k : ℕ) → Passes (fault k)) → (before ps : List Packet) (i : ℕ) (p : Packet) → slice_get ps i ≡ Some p → is_among (number_of p) (map number_of (shape_after fault before ps)) ≡ true
 all_come fault passes before [] i p h = absurd (cc)
 all_come fault passes before (q ∷ qs) zero p h =
     let same : q ≡ p = cc in
@@ -65,7 +65,7 @@ all_come fault passes before (q ∷ qs) zero p h =
 all_come fault passes before (q ∷ qs) (suc i) p h =
     among_right (number_of p) (released_by fault before q) (shape_after fault (before ++ q ∷ []) qs) (all_come fault passes (before ++ q ∷ []) qs i p h)
 
-is_released : (s : ScenarioLists) (past : List Entry) → WithholdsNothing s → IsHistory (layout_of s) past → (p : Packet) → EmittedIn p past → is_among (number_of p) (numbers_released s (from_of p) (to_of p) past) ≡ true
+pub is_released : (s : ScenarioLists) (past : List Entry) → WithholdsNothing s → IsHistory (layout_of s) past → (p : Packet) → EmittedIn p past → is_among (number_of p) (numbers_released s (from_of p) (to_of p) past) ≡ true
 is_released s past nothing h p there =
     all_come (fault_at s.plan (from_of p) (to_of p)) (λ (k : ℕ). fault_found s.plan (is_line_of (from_of p) (to_of p) k) nothing) [] (emitted (from_of p) (to_of p) past) (number_of p - 1) p ((counted (layout_of s) past h).placed p there)
 
@@ -130,7 +130,7 @@ fate_unknown (cause ∷ causes) false ran h = absurd (⊎_elim (λ (e : Fates.Re
 fate_unknown [] false true h = absurd (⊎_elim (λ (e : Fates.Ran ≡ Fates.Unknown). cc) (λ (e : Fates.Ran ≡ Fates.UnknownButRan). cc) h)
 fate_unknown [] false false h = absurd (⊎_elim (λ (e : Fates.Pending ≡ Fates.Unknown). cc) (λ (e : Fates.Pending ≡ Fates.UnknownButRan). cc) h)
 
-accepted_fate : (b : Bool) (f g : Fate) → (if b then Some f else None) ≡ Some g → f ≡ g
+pub accepted_fate : (b : Bool) (f g : Fate) → (if b then Some f else None) ≡ Some g → f ≡ g
 accepted_fate true f g h = cc
 accepted_fate false f g h = absurd (cc)
 

@@ -15,9 +15,10 @@ use Rattle.am_model.specs.Changes.{paged_in}
 use Rattle.am_model.specs.Layout.{Layout, Fault}
 use Rattle.am_model.specs.History.{IsHistory, state_of, page, is_page_call, is_home}
 use Rattle.am_model.proofs.Each.{state_of_push}
+use Rattle.am_model.proofs.Names.{same_end-refl, same_node-refl}
 use Rattle.am_drain.specs.Made.{next_entry, after_event, after_event_if}
 use Rattle.am_drain.specs.Ready.{paged_in as page_ins, off_disk}
-use Rattle.am_drain_steps.proofs.Enabled.{no_fail, event_follows, same_self, node_self, IsSeated, seat_in_range}
+use Rattle.am_drain_steps.proofs.Enabled.{no_fail, event_follows, IsSeated, seat_in_range}
 
 -- ---- the faults that are left
 
@@ -72,13 +73,13 @@ page_calls node past = count_by (λ (x : Entry). is_page_call node x.event) past
 one_call_more : (layout : Layout) (node : NodeId) (e : EndpointId) (past : List Entry) → page_calls node (after_event layout (Events.PageIn node e) past) ≡ page_calls node past + 1
 one_call_more layout node e past =
     let x : Entry = next_entry layout past (Events.PageIn node e) in
-    let own : ◌≡◌ {A = ℕ} (cond (same_node node node) 1 0) 1 = ap (λ (b : Bool). cond b 1 0) (node_self node) in
+    let own : ◌≡◌ {A = ℕ} (cond (same_node node node) 1 0) 1 = ap (λ (b : Bool). cond b 1 0) (same_node-refl node) in
     let pushed = sum_by_push (λ (y : Entry). cond (is_page_call node y.event) 1 0) past x in
     omega (arith, own, pushed)
 
 pub after_page_in : (layout : Layout) (node : NodeId) (e : EndpointId) (past : List Entry) → state_of layout (after_event layout (Events.PageIn node e) past) e ≡ paged_in (state_of layout past e) (page layout node past)
 after_page_in layout node e past =
-    state_of_push layout past (next_entry layout past (Events.PageIn node e)) e true (ap (λ (b : Bool). b || false) (same_self e))
+    state_of_push layout past (next_entry layout past (Events.PageIn node e)) e true (ap (λ (b : Bool). b || false) (same_end-refl e))
 
 -- where an endpoint is on disk, a page-in may happen
 page_in_happens : (layout : Layout) (node : NodeId) (e : EndpointId) (past : List Entry) → layout.direct ≡ false → IsHistory layout past → IsSeated layout e node → is_on_disk (state_of layout past e).head.place ≡ true → IsHistory layout (after_event layout (Events.PageIn node e) past)

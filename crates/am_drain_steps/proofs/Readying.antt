@@ -2,7 +2,7 @@
 use Rattle.std.proofs.Common.{◌≡◌, ℕ, zero, suc, ◌+◌, ◌<◌, Bool, true, false, ◌||◌, List, [], ◌∷◌, map, length, Option, Some, None, refl, sym, ap, ◌∙◌, subst, arith, true≢false, lt-ltb}
 use Rattle.std.specs.Prelude.{◌&&◌, ◌==◌, not, nat_lt, is_none}
 use Rattle.std.specs.List.{list_any, range_with_len}
-use Rattle.std.proofs.lemmas.Bool.{and_from}
+use Rattle.std.proofs.lemmas.Bool.{and_from, and_parts, not-true, and_right}
 use Rattle.am_names.specs.declared.EndpointId.{EndpointId}
 use Rattle.am_names.specs.declared.NodeId.{NodeId}
 use Rattle.am_names.specs.Names.{same_end}
@@ -23,7 +23,7 @@ use Rattle.am_drain_steps.proofs.Away.{away_is_settled}
 use Rattle.am_drain_steps.proofs.Enabled.{no_fail, event_follows, IsSeated, seat_in_range, stand}
 use Rattle.am_drain_steps.proofs.Paging.{leaves_disk}
 use Rattle.am_drain_steps.proofs.Moves.{Keeps, keeps_same, keeps_then, after_move, move_keeps, move_if_keeps, Spares, spares, spares_then}
-use Rattle.am_drain_steps.proofs.Emptying.{IsNamed, not_true, Aside, found_below, unload_may, unloads_to_host, IsGrounded, IsEmptied, empties}
+use Rattle.am_drain_steps.proofs.Emptying.{IsNamed, Aside, found_below, unload_may, unloads_to_host, IsGrounded, IsEmptied, empties}
 
 -- ---- off the disk
 
@@ -52,13 +52,9 @@ awake_by s Disk at settled off still = absurd (true≢false off)
 awake_by s (Frame frame) at settled off still = InFrame (ap is_in_a_frame at) still
 awake_by s Direct at settled off still = absurd (true≢false (sym settled))
 
-both_true : (a b : Bool) → (a && b) ≡ true → (a ≡ true) × (b ≡ true)
-both_true true b h = (refl, h)
-both_true false b h = absurd (true≢false (sym h))
-
 wakes : (layout : Layout) (past : List Entry) (node : NodeId) (e : EndpointId) (b : Bool) → layout.direct ≡ false → IsHistory layout past → IsSeated layout e node → is_on_disk (state_of layout past e).head.place ≡ false → (length (state_of layout past e).body.in_flight == 0) ≡ true → is_draining_in_frame (state_of layout past e) ≡ b → Wakes layout e past (after_event_if b layout (Events.Unload node e) past)
 wakes layout past node e true packet h seated off empty drains =
-    let both = both_true (is_in_a_frame (state_of layout past e).head.place) (state_of layout past e).head.draining drains in
+    let both = and_parts (is_in_a_frame (state_of layout past e).head.place) (state_of layout past e).head.draining drains in
     record {
       history = unload_may layout past node e packet h seated both.0 both.1 empty;
       keeps = move_keeps e layout past (Events.Unload node e) refl;
@@ -90,7 +86,7 @@ loads layout past node e packet h seated host opened some = by_frame (free_frame
     into : (frame : ℕ) → free_frame layout node (standings layout past) ≡ Some frame → IsLoaded layout e past (after_event layout (Events.Load node e frame) past)
     into frame is =
         let free : not (list_any (holds_frame node frame) (standings layout past)) ≡ true = found_true (λ (k : ℕ). not (list_any (holds_frame node k) (standings layout past))) (range_with_len 0 layout.frames) frame is in
-        let held : is_frame_held layout past node frame ≡ false = any_mapped (holds_frame node frame) (stand layout past) layout.ends ∙ not_true (list_any (holds_frame node frame) (standings layout past)) free in
+        let held : is_frame_held layout past node frame ≡ false = any_mapped (holds_frame node frame) (stand layout past) layout.ends ∙ not-true (list_any (holds_frame node frame) (standings layout past)) free in
         let low : frame < 0 + layout.frames = found_below (λ (k : ℕ). not (list_any (holds_frame node k) (standings layout past))) 0 layout.frames frame is in
         record {
           history =
@@ -152,10 +148,6 @@ not_host_framed Direct h = refl
 not_host_framed Host h = absurd (true≢false (sym h))
 not_host_framed Disk h = absurd (true≢false (sym h))
 
-and_false : (a b : Bool) → b ≡ false → (a && b) ≡ false
-and_false true b h = h
-and_false false b h = refl
-
 -- an endpoint in a frame stays as it is
 framed_ready : (layout : Layout) (past : List Entry) (keep : ℕ) (node : NodeId) (source dest e : EndpointId) → IsHistory layout past → is_in_a_frame (state_of layout past e).head.place ≡ true → (state_of layout past e).head.draining ≡ false → IsReady layout source dest e past (loaded layout node e (with_frame layout keep node e source dest past))
 framed_ready layout past keep node source dest e h framed still =
@@ -179,7 +171,7 @@ host_ready layout past keep node source dest e packet ok h seated named ground o
     by_frame : (o : Option ℕ) → free_frame layout node (standings layout past) ≡ o → IsReady layout source dest e past (loaded layout node e (with_frame layout keep node e source dest past))
     by_frame (Some frame) is =
         let has : is_none (free_frame layout node (standings layout past)) ≡ false = ap (λ (o : Option ℕ). is_none o) is in
-        let same : with_frame layout keep node e source dest past ≡ past = ap (λ (b : Bool). emptied_if b layout keep node source dest past) (and_false (is_on_host (state_of layout past e).head.place) (is_none (free_frame layout node (standings layout past))) has) in
+        let same : with_frame layout keep node e source dest past ≡ past = ap (λ (b : Bool). emptied_if b layout keep node source dest past) (and_right (is_on_host (state_of layout past e).head.place) (is_none (free_frame layout node (standings layout past))) has) in
         subst (λ (xs : List Entry). IsReady layout source dest e past (loaded layout node e xs)) (sym same) (loaded_ready layout source dest e past (loaded layout node e past) (loads layout past node e packet h seated host opened has))
     by_frame None is =
         let full : is_none (free_frame layout node (standings layout past)) ≡ true = ap (λ (o : Option ℕ). is_none o) is in

@@ -11,7 +11,6 @@ use Rattle.am_names.specs.declared.AnswerPacket.{AnswerPacket}
 use Rattle.am_names.specs.declared.Packet.{Packet}
 use Rattle.am_names.specs.declared.Packet.TheVariants as Packets
 use Rattle.am_names.specs.Names.{same_node}
-use Rattle.am_names.specs.Rules.{is_transient}
 use Rattle.am_office.specs.declared.Condition.TheVariants as Needs
 use Rattle.am_office.specs.declared.Event.{Event}
 use Rattle.am_office.specs.declared.Event.TheVariants as Events
@@ -27,6 +26,9 @@ use Rattle.am_model.specs.Layout.{Layout, AllAre, home}
 use Rattle.am_model.specs.Channels.{Arrival, Stale, Again, Fresh, emitted, is_on_link, bound_message, sequence, attempt, mark, arrival}
 use Rattle.am_model.specs.History.{MayFollow, IsHistory, state_of, channel_to, channel_for, next_number, sent, bind_to, bind, is_answered, expire, decided, bounced, arrive, counts, receive, settle, settle_by, outcome_of}
 use Rattle.am_model.proofs.Each.{over_each}
+use Rattle.am_model.proofs.Alls.{all_append}
+use Rattle.am_model.proofs.Names.{same_node-is}
+use Rattle.am_local.proofs.Touched.{settling_silent}
 use Rattle.am_laws_messages.proofs.Alls.{all_map}
 use Rattle.am_plan.specs.declared.plan.LinkFault.{LinkFault}
 use Rattle.am_plan.specs.declared.plan.LinkFault.TheVariants.{Lose, Repeat, Late}
@@ -34,7 +36,7 @@ use Rattle.am_plan.specs.Shape.{fault_at, at_once, is_late_until, late_from, sta
 use Rattle.am_scenario_types.specs.Lists.{ScenarioLists}
 use Rattle.am_follow.specs.Layout.{layout_of}
 use Rattle.am_scripts.specs.Links.{due, receipt, receipt_at, next_receipt, received}
-use Rattle.am_scripts.proofs.Links.{emitted_push, same_node-is}
+use Rattle.am_scripts.proofs.Links.{emitted_push}
 use Rattle.am_scripts.proofs.Lists.{some_mapped}
 use Rattle.am_drain.specs.declared.Turn.{Turn}
 use Rattle.am_drain.specs.declared.Turn.TheVariants.{Once}
@@ -90,20 +92,12 @@ arrive_next layout node peer channel seq attempt stamp past m Stale = tt
 arrive_next layout node peer channel seq attempt stamp past m (Again v) = refl
 arrive_next layout node peer channel seq attempt stamp past m Fresh = decided_next node peer channel seq attempt stamp past m (verdict (state_of layout past m.dest) m)
 
-settled_none : (limit : ℕ) (m : Message) (bounces : ℕ) (v : Verdict) → answer_by (settle_by limit m bounces v) ≡ None
-settled_none limit m bounces Verdicts.Accepted = refl
-settled_none limit m bounces (Verdicts.Refused cause) = by_test (is_transient cause && nat_lt bounces limit)
-  where
-    by_test : (b : Bool) → answer_by (if b then Got.Requeued m.serial cause (bounces + 1) else Got.Returned m.serial cause) ≡ None
-    by_test true = refl
-    by_test false = refl
-
 settle_none : (layout : Layout) (node peer : NodeId) (past : List Entry) (p : AnswerPacket) (m : Option Message) → answer_by (settle layout (channel_to node peer p.channel) past p m) ≡ None
 settle_none layout node peer past p None = refl
 settle_none layout node peer past p (Some m) = by_test ((p.seq == sequence (channel_to node peer p.channel) past) && counts p.verdict (p.attempt == attempt (channel_to node peer p.channel) past))
   where
     by_test : (b : Bool) → answer_by (if b then settle_by layout.bounces m (bounced (flying_of m.serial (state_of layout past m.serial.source).body.in_flight)) p.verdict else Got.Nothing) ≡ None
-    by_test true = settled_none layout.bounces m (bounced (flying_of m.serial (state_of layout past m.serial.source).body.in_flight)) p.verdict
+    by_test true = settling_silent layout.bounces m (bounced (flying_of m.serial (state_of layout past m.serial.source).body.in_flight)) p.verdict
     by_test false = refl
 
 receive_next : (layout : Layout) (node peer : NodeId) (number : ℕ) (past : List Entry) (stamp : ℕ) (p : Option Packet) → AreNext past (emitted_in stamp (Events.Receive node peer number) (receive layout node peer past p))
@@ -134,10 +128,6 @@ IsNumbered most p = (1 ≤ number_of p) × (number_of p ≤ most)
 
 abbrev AreNumbered : List Entry → Type 0
 AreNumbered past = (from to : NodeId) → AllAre (IsNumbered (length (emitted from to past))) (emitted from to past)
-
-all_append : {X : Type 0} (P : X → Type 0) (xs ys : List X) → AllAre P xs → AllAre P ys → AllAre P (xs ++ ys)
-all_append P [] ys h k = k
-all_append P (x ∷ xs) ys h k = (h.0, all_append P xs ys h.1 k)
 
 -- what an entry emits on a link, beside what was emitted there
 new_numbered : (from to : NodeId) (past : List Entry) (o : Option Packet) → AreNext past o → AllAre (IsNumbered (length (emitted from to past) + length (filter (is_on_link from to) (cons_option o [])))) (filter (is_on_link from to) (cons_option o []))

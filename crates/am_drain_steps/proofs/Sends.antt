@@ -2,7 +2,7 @@
 use Rattle.std.proofs.Common.{◌≡◌, ℕ, zero, suc, ◌+◌, ◌<◌, ◌≤◌, Bool, true, false, ◌||◌, List, [], ◌∷◌, map, length, Option, Some, None, refl, sym, ap, ◌∙◌, subst, arith, true≢false, if◌then◌else◌}
 use Rattle.std.specs.Prelude.{◌&&◌, ◌==◌, not, is_none, is_some, find}
 use Rattle.std.specs.List.{list_any, list_all}
-use Rattle.std.proofs.lemmas.Bool.{and_parts}
+use Rattle.std.proofs.lemmas.Bool.{and_parts, not-true}
 use Rattle.am_names.specs.declared.EndpointId.{EndpointId}
 use Rattle.am_names.specs.declared.NodeId.{NodeId}
 use Rattle.am_names.specs.declared.Message.{Message}
@@ -36,7 +36,7 @@ use Rattle.am_drain_steps.proofs.Enabled.{MakesHistory, no_fail, event_follows, 
 use Rattle.am_drain_steps.proofs.Calls.{home_seated, declared_home}
 use Rattle.am_drain_steps.proofs.Paging.{leaves_disk}
 use Rattle.am_drain_steps.proofs.Moves.{Spares, spares_then}
-use Rattle.am_drain_steps.proofs.Emptying.{IsNamed, AsSource, AsDest, not_true, framed_resident, IsGrounded}
+use Rattle.am_drain_steps.proofs.Emptying.{IsNamed, AsSource, AsDest, framed_resident, IsGrounded}
 use Rattle.am_drain_steps.proofs.Readying.{IsReady, readies, spared_ground}
 
 -- ---- nothing is in flight
@@ -102,8 +102,8 @@ dest_ready s past one e dest peer run ground at r = by_test (not (same_end e des
         let ok : IsLawful layout = lawful_layout s run.lawful in
         let both = and_parts (not (same_end e dest)) (not (state_of layout one dest).head.closed) is in
         let next : List Entry = ready layout s.keep peer dest e dest one in
-        let d : IsReady layout e dest dest one next = readies layout one s.keep peer e dest dest (of_packets s run.packet) ok r.history (home_seated layout dest peer ok at) (AsDest refl) (spared_ground layout past one r.spares' ground) (not_true (state_of layout one dest).head.closed both.1) in
-        let stays : state_of layout next e ≡ state_of layout one e = d.named e (AsSource refl) (not_true (same_end e dest) both.0) in
+        let d : IsReady layout e dest dest one next = readies layout one s.keep peer e dest dest (of_packets s run.packet) ok r.history (home_seated layout dest peer ok at) (AsDest refl) (spared_ground layout past one r.spares' ground) (not-true (state_of layout one dest).head.closed both.1) in
+        let stays : state_of layout next e ≡ state_of layout one e = d.named e (AsSource refl) (not-true (same_end e dest) both.0) in
         subst (λ (o : Option NodeId). MaySend layout e past (ready_at o layout s.keep e dest one)) (sym at)
         (record {
           history = d.history;
@@ -133,7 +133,7 @@ send_may s past st q run none k has = by_home (home (layout_of s) q.message.dest
         bind_may s past (ready_dest layout s.keep e dest one) node peer e q run none k.seated sends to (home_seated layout dest peer ok to).node' (dest_ready s past one e dest peer run ground to r)
 
 -- the endpoint that the rule finds is one of the layout, and has a message to send
-sender_stands : (layout : Layout) (past : List Entry) (st : Standing) → IsLawful layout → next_sender (standings layout past) ≡ Some st → IsStanding layout past st
+pub sender_stands : (layout : Layout) (past : List Entry) (st : Standing) → IsLawful layout → next_sender (standings layout past) ≡ Some st → IsStanding layout past st
 sender_stands layout past st ok h = by_reply (find has_reply (standings layout past)) refl h
   where
     by_request : (o : Option Standing) → find (has_request (standings layout past)) (standings layout past) ≡ o → first_some (o ∷ []) ≡ Some st → IsStanding layout past st

@@ -3,6 +3,7 @@ use Rattle.std.proofs.Common.{◌≡◌, ◌⊎◌, ⊎_elim, ℕ, ◌+◌, ◌-
 use Rattle.std.specs.Prelude.{◌&&◌, ◌==◌, nat_lt, slice_get}
 use Rattle.std.specs.List.{cons_option}
 use Rattle.std.proofs.lemmas.Bool.{and_from}
+use mathlib.Core.Bool.{or-true}
 use Rattle.am_names.specs.declared.NodeId.{NodeId}
 use Rattle.am_names.specs.declared.Message.{Message}
 use Rattle.am_names.specs.declared.Verdict.{Verdict}
@@ -25,13 +26,13 @@ use Rattle.am_model.specs.Cluster.{IsTrueAnswer, ParcelsFitSender}
 use Rattle.am_model.specs.History.{MayFollow, IsHistory, state_of, channel_to, outcome_of, bounced, settle, settle_by, counts, receive}
 use Rattle.am_model.proofs.Each.{over_each, each_push}
 use Rattle.am_model.proofs.Ends.{EmittedIn, emitted_more, bound_push}
+use Rattle.am_model.proofs.Names.{same_node-refl}
 use Rattle.am_laws_order.proofs.Senders.{SenderMoves, sender, sender_moves}
 use Rattle.am_laws_channels.proofs.Sent.{emitted_gave, parcels_fit}
 use Rattle.am_laws_channels.proofs.Answers.{answers_true}
 use Rattle.am_scripts.specs.Links.{number_received, received}
 use Rattle.am_scripts.proofs.Links.{received_push}
 use Rattle.am_drain_steps.specs.Endings.{is_among}
-use Rattle.am_drain_steps.proofs.Enabled.{node_self}
 use Rattle.am_drain_steps.proofs.Counted.{among_append, counted, not_yet, received_now}
 
 -- the channel that an answer is about, as the asking end has it
@@ -95,7 +96,7 @@ heard_frees layout past a m at k =
   where
     own : same_channel (asked a) a.to a.from a.channel ≡ true
     own =
-        and_from (same_node a.to a.to && same_node a.from a.from) (a.channel == a.channel) (and_from (same_node a.to a.to) (same_node a.from a.from) (node_self a.to) (node_self a.from)) (eq-eqb a.channel a.channel refl)
+        and_from (same_node a.to a.to && same_node a.from a.from) (a.channel == a.channel) (and_from (same_node a.to a.to) (same_node a.from a.from) (same_node-refl a.to) (same_node-refl a.from)) (eq-eqb a.channel a.channel refl)
 
     settles : frees_by (settle layout (asked a) past a (bound_message (asked a) past)) ≡ true
     settles =
@@ -109,15 +110,11 @@ sends_none layout node peer past None = refl
 sends_none layout node peer past (Some (Packets.Parcel p)) = refl
 sends_none layout node peer past (Some (Packets.Answer p)) = refl
 
-or_true : (b : Bool) → (b || true) ≡ true
-or_true true = refl
-or_true false = refl
-
 -- what receives such an answer frees the channel
 hears_none : (layout : Layout) (past : List Entry) (x : Entry) (a : AnswerPacket) (m : Message) → IsHistory layout past → MayFollow layout past x → EmittedIn (Packets.Answer a) past → IsToLast past a m → bound_message (asked a) (past ++ x ∷ []) ≡ Some m → x.event ≡ Events.Receive a.to a.from a.number → ⊥
 hears_none layout past x a m h may old last bound ev =
     let freed : frees (asked a) x.event x.outcome ≡ true = ap (λ (o : Outcome). frees (asked a) x.event o) may.outcome ∙ (ap (λ (v : Event). frees (asked a) v (outcome_of layout past v)) ev ∙ heard_frees layout past a m ((counted layout past h).placed (Packets.Answer a) old) last) in
-    let any : (binds (asked a) x.event x.outcome || frees (asked a) x.event x.outcome) ≡ true = ap (λ (b : Bool). binds (asked a) x.event x.outcome || b) freed ∙ or_true (binds (asked a) x.event x.outcome) in
+    let any : (binds (asked a) x.event x.outcome || frees (asked a) x.event x.outcome) ≡ true = ap (λ (b : Bool). binds (asked a) x.event x.outcome || b) freed ∙ or-true (binds (asked a) x.event x.outcome) in
     let none : sent_message x.outcome ≡ None = ap sent_message may.outcome ∙ (ap (λ (v : Event). sent_message (outcome_of layout past v)) ev ∙ sends_none layout a.to a.from past (slice_get (emitted a.from a.to past) (a.number - 1))) in
     let free : bound_message (asked a) (past ++ x ∷ []) ≡ None = bound_push (asked a) past x true any ∙ none in
     let both : ◌≡◌ {A = Option Message} (Some m) None = sym bound ∙ free in

@@ -1,9 +1,11 @@
 -- A message is unknown only where the plan withholds packets of the last try.
 use Rattle.std.proofs.Common.{◌≡◌, ◌⊎◌, inl, inr, ℕ, zero, suc, ◌+◌, ◌-◌, ◌<◌, ◌≤◌, Bool, true, false, cond, ◌||◌, List, [], ◌∷◌, ◌++◌, length, Option, Some, None, refl, sym, ap, ◌∙◌, subst, arith, true≢false, ltb-true, if◌then◌else◌}
-use Rattle.std.specs.Prelude.{◌&&◌, not, nat_lt, find, slice_get, is_none, is_some}
+use Rattle.std.specs.Prelude.{◌&&◌, not, nat_lt, find, slice_get, is_some}
 use Rattle.std.specs.List.{All, AllByRecursion}
-use Rattle.std.proofs.lemmas.Bool.{and_parts}
+use Rattle.std.proofs.lemmas.Bool.{and_parts, not-false}
 use Rattle.std.proofs.lemmas.Option.{slice_get_within}
+use Rattle.am_lemmas.proofs.Bools.{implied}
+use Rattle.am_lemmas.proofs.Options.{is_none-None}
 use Rattle.am_names.specs.declared.NodeId.{NodeId}
 use Rattle.am_names.specs.declared.Message.{Message}
 use Rattle.am_names.specs.declared.Serial.{Serial}
@@ -27,6 +29,7 @@ use Rattle.am_model.proofs.Ends.{EmittedIn}
 use Rattle.am_model.specs.Packets.{number_of as own_number}
 use Rattle.am_local.proofs.Numbering.{history_numbered, numbered_place}
 use Rattle.am_laws_channels.proofs.Sent.{emitted_gave, gave_emitted}
+use Rattle.am_laws_cluster.proofs.Flights.{second_none}
 use Rattle.am_plan.specs.declared.plan.LinkFault.{LinkFault}
 use Rattle.am_plan.specs.declared.plan.LinkFault.TheVariants.{Late}
 use Rattle.am_plan.specs.declared.plan.PlanLine.{PlanLine}
@@ -40,8 +43,7 @@ use Rattle.am_scripts.proofs.Links.{all_is_received}
 use Rattle.am_drain_laws.proofs.Soundness.{node_holds}
 use Rattle.am_drain_steps.specs.Enabled.{IsOfRun}
 use Rattle.am_drain_steps.specs.Endings.{is_among, IsAnswerTo, IsAnsweredInVain, IsFaultOf, IsKeptBack, IsOrderly, IsWithheld, UnknownIsWithheld}
-use Rattle.am_drain_steps.proofs.Away.{not_false}
-use Rattle.am_drain_steps.proofs.Counted.{counted, second_none}
+use Rattle.am_drain_steps.proofs.Counted.{counted}
 use Rattle.am_drain_steps.proofs.Receipts.{from_of, to_of}
 use Rattle.am_drain_steps.proofs.Withheld.{unreleased_is_planned}
 use Rattle.am_drain_steps.proofs.Answered.{LastSent, last_are_sent, HasAnswer, last_are_answered}
@@ -49,7 +51,7 @@ use Rattle.am_drain_steps.proofs.Unheard.{asked, unheard}
 
 -- ---- of each node
 
-link_is_received : (s : ScenarioLists) (past : List Entry) (from to : NodeId) → KeepsLinks s past → from.0 < s.nodes → to.0 < s.nodes → received from to past ≡ numbers_released s from to past
+pub link_is_received : (s : ScenarioLists) (past : List Entry) (from to : NodeId) → KeepsLinks s past → from.0 < s.nodes → to.0 < s.nodes → received from to past ≡ numbers_released s from to past
 link_is_received s past from to k f t =
     node_holds (λ (n : NodeId). received n to past ≡ numbers_released s n to past) 0 s.nodes from.0
     (node_holds (λ (n : NodeId). AllByRecursion (λ (m : NodeId). received m n past ≡ numbers_released s m n past) (nodes_of s)) 0 s.nodes to.0 k.all (omega arith) (omega (arith, t)))
@@ -97,19 +99,11 @@ some_of : (o : Option Message) → is_some o ≡ true → (m : Message) × (o �
 some_of None h = absurd (true≢false (sym h))
 some_of (Some m) h = (m, refl)
 
-none_of : {X : Type 0} (o : Option X) → is_none o ≡ true → o ≡ None
-none_of None h = refl
-none_of (Some x) h = absurd (true≢false (sym h))
-
-or_second : (a b : Bool) → a ≡ true → (not a || b) ≡ true → b ≡ true
-or_second true b is h = h
-or_second false b is h = absurd (true≢false (sym is))
-
 -- before a time-out that is of the last kind all that was released was received
 pub last_after_all : (s : ScenarioLists) (past : List Entry) (x : Entry) (node peer : NodeId) (channel : ℕ) (serial : Serial) → ReceivesInOrder s past → (not (is_last s past x) || is_all_received s past) ≡ true → x.event ≡ Events.Expire node peer channel → x.outcome ≡ Out.Unknown serial → KeepsLinks s past
 last_after_all s past x node peer channel serial order comes_last ev ou =
     let last : is_last s past x ≡ true = ap (λ (v : Event). is_last_in s past v x.outcome) ev ∙ ap (is_last_in s past (Events.Expire node peer channel)) ou in
-    all_is_received s past order (none_of (next_receipt s past) (or_second (is_last s past x) (is_all_received s past) last comes_last))
+    all_is_received s past order (is_none-None (next_receipt s past) (implied (is_last s past x) (is_all_received s past) last comes_last))
 
 withheld : (s : ScenarioLists) (past : List Entry) (node peer : NodeId) (channel : ℕ) (serial : Serial) (m : Message) → IsOfRun s past → KeepsLinks s past → node.0 < s.nodes → peer.0 < s.nodes → bound_message (channel_to node peer channel) past ≡ Some m → m.serial ≡ serial → IsWithheld s past node peer channel serial
 withheld s past node peer channel serial m run links n r bound own =
@@ -185,7 +179,7 @@ expired s past later x node peer channel serial orderly ev ou =
     let ranged : is_in_range layout (Events.Expire node peer channel) ≡ true = sym (ap (is_in_range layout) ev) ∙ may.in_range in
     let enabled : failing layout past (Events.Expire node peer channel) ≡ None = sym (ap (failing layout past) ev) ∙ may.enabled in
     let nodes = and_parts (nat_lt node.0 layout.nodes) (nat_lt peer.0 layout.nodes) (and_parts (nat_lt node.0 layout.nodes && nat_lt peer.0 layout.nodes) (nat_lt channel layout.channels) ranged).0 in
-    let is : is_bound (channel_to node peer channel) past ≡ true = not_false (is_bound (channel_to node peer channel) past) (second_none layout.direct (not (is_bound (channel_to node peer channel) past)) Needs.NotPacket Needs.Idle enabled) in
+    let is : is_bound (channel_to node peer channel) past ≡ true = not-false (is_bound (channel_to node peer channel) past) (second_none layout.direct (not (is_bound (channel_to node peer channel) past)) Needs.NotPacket Needs.Idle enabled) in
     let m = some_of (bound_message (channel_to node peer channel) past) is in
     let links : KeepsLinks s past = last_after_all s past x node peer channel serial order comes_last ev ou in
     let left : expire layout node peer channel past (Some m.0) ≡ Out.Unknown serial = sym (may.outcome ∙ (ap (outcome_of layout past) ev ∙ ap (expire layout node peer channel past) m.1)) ∙ ou in

@@ -3,13 +3,15 @@ use Rattle.std.proofs.Common.{◌≡◌, ◌⊎◌, inl, inr, ℕ, suc, ◌<◌,
 use Rattle.std.specs.Prelude.{is_some, not, slice_get}
 use Rattle.std.specs.List.{find, list_any, range_with_len}
 use Rattle.std.specs.Option.{option_map, option_or}
+use Rattle.std.proofs.lemmas.Bool.{and_from, not-true}
+use Rattle.am_lemmas.proofs.Bools.{and_first, and_second}
 use Rattle.am_driver.specs.declared.EndView.{EndView}
 use Rattle.am_driver.specs.declared.Move.{Move}
 use Rattle.am_driver.specs.declared.Move.TheVariants as Moves
 use Rattle.am_driver.specs.Chosen.{IsOfLine, MovesOfLines}
 use Rattle.am_driver.specs.Lists.{ViewLists}
 use Rattle.am_driver.specs.Moves.{has_frame, is_leaving, is_next, is_after, may_unload, wants_memory, wants_frame, may_page_out, is_free, free_frame, next_framed, must_drain, is_crowded, given, load_into, unload, page_in, load, drain, page_out, first_move}
-use Rattle.am_driver.proofs.Found.{IsFound, found, is_anything, and_left, and_right, both, true_not}
+use Rattle.am_driver.proofs.Found.{IsFound, found, is_anything}
 use Rattle.am_driver.proofs.Frames.{range_below}
 
 -- what is found stands somewhere, and passes
@@ -63,14 +65,14 @@ drains view p e none framed h =
   where
     by_test : (b : Bool) → e.draining ≡ b → has_frame e ≡ true → IsFound (λ (x : EndView). Unit {0}) p view.ends e → e.draining ≡ false
     by_test false is here one = is
-    by_test true is here one = is ∙ (sym (one.among is_leaving (both (has_frame e) e.draining here is)) ∙ none)
+    by_test true is here one = is ∙ (sym (one.among is_leaving (and_from (has_frame e) e.draining here is)) ∙ none)
 
 by_next : (view : ViewLists) (e : EndView) → list_any is_leaving view.ends ≡ false → next_framed view ≡ Some e → IsOfLine view (Moves.Drain e.id)
 by_next view e none h = by_found (find (is_next view.last) view.ends) refl h
   where
     by_found : (o : Option EndView) → find (is_next view.last) view.ends ≡ o → option_or o (find has_frame view.ends) ≡ Some e → IsOfLine view (Moves.Drain e.id)
     by_found None is h = drains view has_frame e none (λ x p. p) h
-    by_found (Some d) is h = drains view (is_next view.last) e none (λ x p. and_left (has_frame x) (is_after view.last x) p) (is ∙ h)
+    by_found (Some d) is h = drains view (is_next view.last) e none (λ x p. and_first (has_frame x) (is_after view.last x) p) (is ∙ h)
 
 first_chosen : (view : ViewLists) (o : Option Move) (rest : List (Option Move)) → ((move : Move) → o ≡ Some move → IsOfLine view move) → ((first_move rest ≡ Moves.Nothing) ⊎ IsOfLine view (first_move rest)) → ((first_move (o ∷ rest) ≡ Moves.Nothing) ⊎ IsOfLine view (first_move (o ∷ rest)))
 first_chosen view None rest each more = more
@@ -87,4 +89,4 @@ moves_of_lines view =
   where
     drained : (e : EndView) → (must_drain view ≡ true) × (next_framed view ≡ Some e) → IsOfLine view (Moves.Drain e.id)
     drained e (must, next) =
-        by_next view e (true_not (list_any is_leaving view.ends) (and_right (list_any wants_frame view.ends && not (is_some (free_frame view))) (not (list_any is_leaving view.ends)) must)) next
+        by_next view e (not-true (list_any is_leaving view.ends) (and_second (list_any wants_frame view.ends && not (is_some (free_frame view))) (not (list_any is_leaving view.ends)) must)) next

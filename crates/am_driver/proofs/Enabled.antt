@@ -3,14 +3,15 @@ use Rattle.std.proofs.Common.{◌≡◌, ℕ, ◌<◌, Bool, true, false, ◌&&�
 use Rattle.std.specs.Prelude.{is_some, not, nat_lt, ◌==◌}
 use Rattle.std.specs.List.{find, list_any, range_with_len}
 use Rattle.std.specs.Option.{option_map, option_or}
+use Rattle.std.proofs.lemmas.Bool.{and_from, not-true}
+use Rattle.am_lemmas.proofs.Bools.{and_first, and_second}
 use Rattle.am_names.specs.declared.EndpointId.{EndpointId}
 use Rattle.am_names.specs.declared.NodeId.{NodeId}
 use Rattle.am_names.specs.Names.{same_end, same_node}
 use Rattle.am_office.specs.declared.Condition.{Condition}
 use Rattle.am_office.specs.declared.Entry.{Entry}
 use Rattle.am_office.specs.declared.Place.{Place}
-use Rattle.am_office.specs.declared.Place.TheVariants.{Host, Disk, Frame, Direct}
-use Rattle.am_model.specs.Endpoint.{is_resident, is_in_a_frame, is_on_disk, is_on_host}
+use Rattle.am_model.specs.Endpoint.{is_resident, is_on_disk, is_on_host}
 use Rattle.am_model.specs.Layout.{Layout, EndSetting, declared, has_id}
 use Rattle.am_model.specs.History.{is_home, is_in_frame, is_frame_held, state_of}
 use Rattle.am_driver.specs.declared.EndView.{EndView}
@@ -19,46 +20,41 @@ use Rattle.am_driver.specs.declared.Move.TheVariants as Moves
 use Rattle.am_driver.specs.Lists.{ViewLists}
 use Rattle.am_driver.specs.Moves.{has_frame, is_leaving, is_next, is_after, may_unload, wants_memory, wants_frame, may_page_out, is_open_on_host, is_free, free_frame, next_framed, must_drain, is_crowded, given, load_into, unload, page_in, load, drain, page_out, first_move, next_move}
 use Rattle.am_driver.specs.Shown.{ShowsEnd, Shows, is_line_of, IsEnabledWhereShown}
-use Rattle.am_driver.proofs.Found.{IsFound, Finds, found, finds, weaker, is_anything, and_left, and_right, both, not_true, true_not}
+use Rattle.am_driver.proofs.Found.{IsFound, Finds, found, finds, weaker, is_anything, not_true}
 use Rattle.am_model.proofs.Names.{same_end-is, same_end-refl}
+use Rattle.am_model.proofs.Places.{framed_is_resident}
 use Rattle.am_driver.proofs.Frames.{range_below}
 
-skip : (b : Bool) (word : Condition) (rest : Option Condition) → b ≡ false → rest ≡ None → cond b (Some word) rest ≡ None
+pub skip : (b : Bool) (word : Condition) (rest : Option Condition) → b ≡ false → rest ≡ None → cond b (Some word) rest ≡ None
 skip true word rest e h = absurd (cc)
 skip false word rest e h = h
-
-framed_resident : (place : Place) → is_in_a_frame place ≡ true → is_resident place ≡ true
-framed_resident (Frame frame) h = refl
-framed_resident Host h = absurd (cc)
-framed_resident Disk h = absurd (cc)
-framed_resident Direct h = absurd (cc)
 
 node_in : (layout : Layout) (past : List Entry) (node : NodeId) (view : ViewLists) → Shows layout past node view → nat_lt node.0 layout.nodes ≡ true
 node_in layout past node view shows = lt-ltb _ _ shows.node_declared
 
 is_declared : (layout : Layout) (past : List Entry) (node : NodeId) (e : EndView) → ShowsEnd layout past node e → declared layout e.id ≡ true
 is_declared layout past node e line =
-    weaker (λ (s : EndSetting). same_end e.id s.id && same_node node s.node) (has_id e.id) (λ s h. and_left (same_end e.id s.id) (same_node node s.node) h) layout.ends line.home
+    weaker (λ (s : EndSetting). same_end e.id s.id && same_node node s.node) (has_id e.id) (λ s h. and_first (same_end e.id s.id) (same_node node s.node) h) layout.ends line.home
 
 -- what a line says of the place, as the state has it
 placed : (test : Place → Bool) (layout : Layout) (past : List Entry) (node : NodeId) (e : EndView) → ShowsEnd layout past node e → test e.place ≡ true → test (state_of layout past e.id).head.place ≡ true
 placed test layout past node e line h = sym (ap test line.place) ∙ h
 
 at_node : (layout : Layout) (past : List Entry) (node : NodeId) (view : ViewLists) (e : EndView) → Shows layout past node view → ShowsEnd layout past node e → (declared layout e.id && nat_lt node.0 layout.nodes) ≡ true
-at_node layout past node view e shows line = both (declared layout e.id) (nat_lt node.0 layout.nodes) (is_declared layout past node e line) (node_in layout past node view shows)
+at_node layout past node view e shows line = and_from (declared layout e.id) (nat_lt node.0 layout.nodes) (is_declared layout past node e line) (node_in layout past node view shows)
 
 unload_enabled : (view : ViewLists) (e : EndView) → find may_unload view.ends ≡ Some e → IsEnabledWhereShown view (Moves.Unload e.id)
 unload_enabled view e h layout past node shows =
     let one : IsFound (ShowsEnd layout past node) may_unload view.ends e = found (ShowsEnd layout past node) may_unload view.ends e shows.right h in
     let line : ShowsEnd layout past node e = one.holds in
-    let leaving : is_leaving e ≡ true = and_left (is_leaving e) (e.in_flight == 0) one.passes in
-    let landed : (e.in_flight == 0) ≡ true = and_right (is_leaving e) (e.in_flight == 0) one.passes in
-    let resident : is_resident e.place ≡ true = framed_resident e.place (and_left (has_frame e) e.draining leaving) in (
+    let leaving : is_leaving e ≡ true = and_first (is_leaving e) (e.in_flight == 0) one.passes in
+    let landed : (e.in_flight == 0) ≡ true = and_second (is_leaving e) (e.in_flight == 0) one.passes in
+    let resident : is_resident e.place ≡ true = framed_is_resident e.place (and_first (has_frame e) e.draining leaving) in (
       at_node layout past node view e shows line,
       skip _ _ _ shows.packet
           (skip _ _ _ (not_true _ line.home)
           (skip _ _ _ (not_true _ (placed is_resident layout past node e line resident))
-          (skip _ _ _ (not_true _ (sym line.draining ∙ and_right (has_frame e) e.draining leaving))
+          (skip _ _ _ (not_true _ (sym line.draining ∙ and_second (has_frame e) e.draining leaving))
           (skip _ _ _ (not_true _ (sym (ap (λ (n : ℕ). n == 0) line.in_flight) ∙ landed)) refl)))),
     )
 
@@ -69,7 +65,7 @@ page_in_enabled view e h layout past node shows =
       at_node layout past node view e shows line,
       skip _ _ _ shows.packet
           (skip _ _ _ (not_true _ line.home)
-          (skip _ _ _ (not_true _ (placed is_on_disk layout past node e line (and_left (is_on_disk e.place) e.wanted one.passes))) refl)),
+          (skip _ _ _ (not_true _ (placed is_on_disk layout past node e line (and_first (is_on_disk e.place) e.wanted one.passes))) refl)),
     )
 
 record IsOpenOnHost (layout : Layout) (past : List Entry) (e : EndView) : Type 0 where
@@ -79,8 +75,8 @@ record IsOpenOnHost (layout : Layout) (past : List Entry) (e : EndView) : Type 0
 open_on_host : (layout : Layout) (past : List Entry) (node : NodeId) (e : EndView) → ShowsEnd layout past node e → is_open_on_host e ≡ true → IsOpenOnHost layout past e
 open_on_host layout past node e line h =
     record {
-      on_host = not_true _ (placed is_on_host layout past node e line (and_left (is_on_host e.place) (not e.closed) h));
-      unclosed = sym line.closed ∙ true_not e.closed (and_right (is_on_host e.place) (not e.closed) h);
+      on_host = not_true _ (placed is_on_host layout past node e line (and_first (is_on_host e.place) (not e.closed) h));
+      unclosed = sym line.closed ∙ not-true e.closed (and_second (is_on_host e.place) (not e.closed) h);
     }
 
 -- a frame that is free in the view is held by no endpoint of the node
@@ -88,7 +84,7 @@ free_in : (layout : Layout) (past : List Entry) (node : NodeId) (view : ViewList
 free_in layout past node view frame shows free = by_test (is_frame_held layout past node frame) refl
   where
     at_home : (s : EndSetting) → same_node node s.node ≡ true → (same_end s.id s.id && same_node node s.node) ≡ true
-    at_home s h = both (same_end s.id s.id) (same_node node s.node) (same_end-refl s.id) h
+    at_home s h = and_from (same_end s.id s.id) (same_node node s.node) (same_end-refl s.id) h
 
     held : (s : EndSetting) (e : EndView) → ShowsEnd layout past node e → same_end s.id e.id ≡ true → is_in_frame frame (state_of layout past s.id).head.place ≡ true → is_in_frame frame e.place ≡ true
     held s e line same h =
@@ -97,15 +93,15 @@ free_in layout past node view frame shows free = by_test (is_frame_held layout p
 
     by_line : (s : EndSetting) → Finds (ShowsEnd layout past node) (is_line_of s.id) view.ends → is_in_frame frame (state_of layout past s.id).head.place ≡ true → false ≡ true
     by_line s line h =
-        sym (true_not (list_any (λ (e : EndView). is_in_frame frame e.place) view.ends) free)
+        sym (not-true (list_any (λ (e : EndView). is_in_frame frame e.place) view.ends) free)
         ∙ line.found.among (λ (e : EndView). is_in_frame frame e.place) (held s line.value line.found.holds line.found.passes h)
 
     by_setting : Finds (λ (s : EndSetting). Unit {0}) (λ (s : EndSetting). same_node node s.node && is_in_frame frame (state_of layout past s.id).head.place) layout.ends → false ≡ true
     by_setting one =
         let s : EndSetting = one.value in
-        let here : same_node node s.node ≡ true = and_left (same_node node s.node) (is_in_frame frame (state_of layout past s.id).head.place) one.found.passes in
+        let here : same_node node s.node ≡ true = and_first (same_node node s.node) (is_in_frame frame (state_of layout past s.id).head.place) one.found.passes in
         let home : is_home layout s.id node ≡ true = one.found.among (λ (t : EndSetting). same_end s.id t.id && same_node node t.node) (at_home s here) in
-        by_line s (finds (ShowsEnd layout past node) (is_line_of s.id) view.ends shows.right (shows.whole s.id home)) (and_right (same_node node s.node) (is_in_frame frame (state_of layout past s.id).head.place) one.found.passes)
+        by_line s (finds (ShowsEnd layout past node) (is_line_of s.id) view.ends shows.right (shows.whole s.id home)) (and_second (same_node node s.node) (is_in_frame frame (state_of layout past s.id).head.place) one.found.passes)
 
     by_test : (b : Bool) → is_frame_held layout past node frame ≡ b → is_frame_held layout past node frame ≡ false
     by_test true h = h ∙ sym (by_setting (finds (λ (s : EndSetting). Unit {0}) (λ (s : EndSetting). same_node node s.node && is_in_frame frame (state_of layout past s.id).head.place) layout.ends (is_anything layout.ends) h))
@@ -116,10 +112,10 @@ load_enabled view e frame is_frame h layout past node shows =
     let one : IsFound (ShowsEnd layout past node) wants_frame view.ends e = found (ShowsEnd layout past node) wants_frame view.ends e shows.right h in
     let line : ShowsEnd layout past node e = one.holds in
     let free : IsFound (λ (k : ℕ). k < view.frames) (is_free view.ends) (range_with_len 0 view.frames) frame = found (λ (k : ℕ). k < view.frames) (is_free view.ends) (range_with_len 0 view.frames) frame (range_below 0 view.frames view.frames (omega arith)) is_frame in
-    let open_there : IsOpenOnHost layout past e = open_on_host layout past node e line (and_left (is_open_on_host e) e.wanted one.passes) in
+    let open_there : IsOpenOnHost layout past e = open_on_host layout past node e line (and_first (is_open_on_host e) e.wanted one.passes) in
     let below : frame < view.frames = free.holds in
     let in_layout : nat_lt frame layout.frames ≡ true = ap (λ (n : ℕ). nat_lt frame n) (sym shows.frames) ∙ lt-ltb _ _ below in (
-      both (declared layout e.id && nat_lt node.0 layout.nodes) (nat_lt frame layout.frames) (at_node layout past node view e shows line) in_layout,
+      and_from (declared layout e.id && nat_lt node.0 layout.nodes) (nat_lt frame layout.frames) (at_node layout past node view e shows line) in_layout,
       skip _ _ _ shows.packet
           (skip _ _ _ (not_true _ line.home)
           (skip _ _ _ open_there.on_host
@@ -131,7 +127,7 @@ page_out_enabled : (view : ViewLists) (e : EndView) → find may_page_out view.e
 page_out_enabled view e h layout past node shows =
     let one : IsFound (ShowsEnd layout past node) may_page_out view.ends e = found (ShowsEnd layout past node) may_page_out view.ends e shows.right h in
     let line : ShowsEnd layout past node e = one.holds in
-    let open_there : IsOpenOnHost layout past e = open_on_host layout past node e line (and_left (is_open_on_host e) (not e.wanted) one.passes) in (
+    let open_there : IsOpenOnHost layout past e = open_on_host layout past node e line (and_first (is_open_on_host e) (not e.wanted) one.passes) in (
       at_node layout past node view e shows line,
       skip _ _ _ shows.packet
           (skip _ _ _ (not_true _ line.home)
@@ -149,13 +145,13 @@ drain_enabled view p e none framed h layout past node shows =
       at_node layout past node view e shows line,
       skip _ _ _ shows.packet
           (skip _ _ _ (not_true _ line.home)
-          (skip _ _ _ (not_true _ (placed is_resident layout past node e line (framed_resident e.place here)))
+          (skip _ _ _ (not_true _ (placed is_resident layout past node e line (framed_is_resident e.place here)))
           (skip _ _ _ (sym line.draining ∙ undrained) refl))),
     )
   where
     by_test : {P : EndView → Type 0} (b : Bool) → e.draining ≡ b → has_frame e ≡ true → IsFound P p view.ends e → list_any is_leaving view.ends ≡ false → e.draining ≡ false
     by_test false is here one none = is
-    by_test true is here one none = is ∙ (sym (one.among is_leaving (both (has_frame e) e.draining here is)) ∙ none)
+    by_test true is here one none = is ∙ (sym (one.among is_leaving (and_from (has_frame e) e.draining here is)) ∙ none)
 
 -- a rule that names a move names one that is enabled
 by_map : (view : ViewLists) (f : EndView → Move) (o : Option EndView) (move : Move) → ((e : EndView) → o ≡ Some e → IsEnabledWhereShown view (f e)) → option_map f o ≡ Some move → IsEnabledWhereShown view move
@@ -176,7 +172,7 @@ by_next view e none h = by_found (find (is_next view.last) view.ends) refl h
   where
     by_found : (o : Option EndView) → find (is_next view.last) view.ends ≡ o → option_or o (find has_frame view.ends) ≡ Some e → IsEnabledWhereShown view (Moves.Drain e.id)
     by_found None is h = drain_enabled view has_frame e none (λ x p. p) h
-    by_found (Some d) is h = drain_enabled view (is_next view.last) e none (λ x p. and_left (has_frame x) (is_after view.last x) p) (is ∙ h)
+    by_found (Some d) is h = drain_enabled view (is_next view.last) e none (λ x p. and_first (has_frame x) (is_after view.last x) p) (is ∙ h)
 
 first_enabled : (view : ViewLists) (o : Option Move) (rest : List (Option Move)) → ((move : Move) → o ≡ Some move → IsEnabledWhereShown view move) → IsEnabledWhereShown view (first_move rest) → IsEnabledWhereShown view (first_move (o ∷ rest))
 first_enabled view None rest each more = more
@@ -193,4 +189,4 @@ enabled view =
   where
     drained : (e : EndView) → (must_drain view ≡ true) × (next_framed view ≡ Some e) → IsEnabledWhereShown view (Moves.Drain e.id)
     drained e (must, next) =
-        by_next view e (true_not (list_any is_leaving view.ends) (and_right (list_any wants_frame view.ends && not (is_some (free_frame view))) (not (list_any is_leaving view.ends)) must)) next
+        by_next view e (not-true (list_any is_leaving view.ends) (and_second (list_any wants_frame view.ends && not (is_some (free_frame view))) (not (list_any is_leaving view.ends)) must)) next

@@ -1,28 +1,13 @@
 -- What `find` finds, and what `list_any` says of it.
-use Rattle.std.proofs.Common.{◌≡◌, Bool, true, false, ◌&&◌, ◌||◌, cond, List, [], ◌∷◌, Option, Some, None, refl, sym, ◌∙◌, ap, subst}
+use Rattle.std.proofs.Common.{◌≡◌, Bool, true, false, ◌||◌, cond, List, [], ◌∷◌, Option, Some, None, refl, sym, ◌∙◌, ap, subst}
 use Rattle.std.specs.Prelude.{not, is_some}
 use Rattle.std.specs.List.{find, list_any}
+use Rattle.std.proofs.lemmas.Bool.{or_right, or_left}
 use Rattle.am_model.specs.Layout.{AllAre}
-
-pub and_left : (a b : Bool) → (a && b) ≡ true → a ≡ true
-and_left true b h = refl
-and_left false b h = h
-
-pub and_right : (a b : Bool) → (a && b) ≡ true → b ≡ true
-and_right true b h = h
-and_right false b h = absurd (cc)
-
-pub both : (a b : Bool) → a ≡ true → b ≡ true → (a && b) ≡ true
-both true b p q = q
-both false b p q = p
 
 pub not_true : (b : Bool) → b ≡ true → not b ≡ false
 not_true true h = refl
 not_true false h = absurd (cc)
-
-pub true_not : (b : Bool) → not b ≡ true → b ≡ false
-true_not true h = absurd (cc)
-true_not false h = refl
 
 -- a test that finds nothing, or something
 pub some_found : {X : Type 0} (p : X → Bool) (xs : List X) → is_some (find p xs) ≡ list_any p xs
@@ -38,21 +23,13 @@ pub record IsFound {X : Type 0} (P : X → Type 0) (p : X → Bool) (xs : List X
   pub passes : p x ≡ true
   pub among : (q : X → Bool) → q x ≡ true → list_any q xs ≡ true
 
-or_true : (a b : Bool) → b ≡ true → (a || b) ≡ true
-or_true true b h = refl
-or_true false b h = h
-
-or_left : (a b : Bool) → a ≡ true → (a || b) ≡ true
-or_left true b h = refl
-or_left false b h = absurd (cc)
-
 -- what is found is among the elements, and passes
 pub found : {X : Type 0} (P : X → Type 0) (p : X → Bool) (xs : List X) (x : X) → AllAre P xs → find p xs ≡ Some x → IsFound P p xs x
 found P p [] x all h = absurd (cc)
 found P p (y ∷ ys) x all h = by_test P p y ys x (p y) refl all h (λ more. found P p ys x all.1 more)
   where
     later : {X : Type 0} (P : X → Type 0) (p : X → Bool) (y : X) (ys : List X) (x : X) → IsFound P p ys x → IsFound P p (y ∷ ys) x
-    later P p y ys x is = record { holds = is.holds; passes = is.passes; among = λ q h. or_true (q y) (list_any q ys) (is.among q h) }
+    later P p y ys x is = record { holds = is.holds; passes = is.passes; among = λ q h. or_right (q y) (list_any q ys) (is.among q h) }
 
     here : {X : Type 0} (P : X → Type 0) (p : X → Bool) (y : X) (ys : List X) (x : X) → y ≡ x → P y → p y ≡ true → IsFound P p (y ∷ ys) x
     here {X} P p y ys x e holds passes =

@@ -1,6 +1,6 @@
 pub mod Found
 pub mod Frames
-mod Enabled
+pub mod Enabled
 mod Nothing
 mod Views
 pub mod Chosen

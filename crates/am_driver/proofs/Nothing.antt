@@ -3,12 +3,13 @@ use Rattle.std.proofs.Common.{◌≡◌, ◌≢◌, Bool, true, false, ◌&&◌,
 use Rattle.std.specs.Prelude.{is_some}
 use Rattle.std.specs.List.{find, list_any}
 use Rattle.std.specs.Option.{option_map, option_or}
+use Rattle.am_lemmas.proofs.Bools.{and_first}
 use Rattle.am_driver.specs.declared.EndView.{EndView}
 use Rattle.am_driver.specs.declared.Move.{Move}
 use Rattle.am_driver.specs.declared.Move.TheVariants as Moves
 use Rattle.am_driver.specs.Lists.{ViewLists}
 use Rattle.am_driver.specs.Moves.{has_frame, is_next, is_after, may_unload, wants_memory, wants_frame, may_page_out, free_frame, next_framed, must_drain, is_crowded, given, load_into, unload, page_in, load, drain, page_out, first_move, next_move, NoRuleApplies}
-use Rattle.am_driver.proofs.Found.{some_found, and_left, weaker}
+use Rattle.am_driver.proofs.Found.{some_found, weaker}
 
 some_map : {X Y : Type 0} (f : X → Y) (o : Option X) → is_some (option_map f o) ≡ is_some o
 some_map f None = refl
@@ -39,7 +40,7 @@ some_next view =
     some_or (find p view.ends) (find has_frame view.ends)
     ∙ (ap (λ (b : Bool). b || is_some (find has_frame view.ends)) (some_found p view.ends)
     ∙ (ap (λ (b : Bool). list_any p view.ends || b) (some_found has_frame view.ends)
-    ∙ absorbed (list_any p view.ends) (list_any has_frame view.ends) (weaker p has_frame (λ e h. and_left (has_frame e) (is_after view.last e) h) view.ends)))
+    ∙ absorbed (list_any p view.ends) (list_any has_frame view.ends) (weaker p has_frame (λ e h. and_first (has_frame e) (is_after view.last e) h) view.ends)))
 
 some_drain : (view : ViewLists) → is_some (drain view) ≡ (must_drain view && list_any has_frame view.ends)
 some_drain view =

@@ -2,6 +2,7 @@
 use Rattle.std.proofs.Common.{◌≡◌, ◌<◌, ◌≤◌, Bool, true, false, ◌&&◌, ◌||◌, cond, List, [], ◌∷◌, map, Some, refl, sym, ◌∙◌, ap, subst, arith}
 use Rattle.std.specs.Prelude.{filter, find}
 use Rattle.std.specs.List.{list_any}
+use Rattle.std.proofs.lemmas.Bool.{and_from}
 use Rattle.am_names.specs.declared.EndpointId.{EndpointId}
 use Rattle.am_names.specs.declared.NodeId.{NodeId}
 use Rattle.am_names.specs.Names.{same_end, same_node}
@@ -12,7 +13,6 @@ use Rattle.am_model.proofs.Names.{same_end-refl}
 use Rattle.am_driver.specs.declared.EndView.{EndView}
 use Rattle.am_driver.specs.Shown.{ShowsEnd, is_line_of}
 use Rattle.am_driver.specs.Views.{line_of, lines_of, EachStateIsShown, FirstIsLeast}
-use Rattle.am_driver.proofs.Found.{both}
 
 -- the lines of some settings of the node are right, where each setting stands in the layout
 right : (layout : Layout) (past : List Entry) (node : NodeId) (settings : List EndSetting) → ((s : EndSetting) → same_node node s.node ≡ true → list_any (λ (t : EndSetting). same_end s.id t.id && same_node node t.node) settings ≡ true → is_home layout s.id node ≡ true) → AllAre (ShowsEnd layout past node) (lines_of layout past node settings)
@@ -33,7 +33,7 @@ right layout past node (s ∷ more) home = by_test (same_node node s.node) refl 
     here : same_node node s.node ≡ true → ShowsEnd layout past node (line_of s.id (state_of layout past s.id))
     here h =
         record {
-          home = home s h (first (same_end s.id s.id && same_node node s.node) (list_any (λ (u : EndSetting). same_end s.id u.id && same_node node u.node) more) (both (same_end s.id s.id) (same_node node s.node) (same_end-refl s.id) h));
+          home = home s h (first (same_end s.id s.id && same_node node s.node) (list_any (λ (u : EndSetting). same_end s.id u.id && same_node node u.node) more) (and_from (same_end s.id s.id) (same_node node s.node) (same_end-refl s.id) h));
           place = refl;
           wanted = refl;
           draining = refl;

@@ -3,6 +3,8 @@ use Rattle.std.specs.Prelude.{not, slice_get, slice_index, slice_set}
 use Rattle.std.proofs.Common.{◌≡◌, ◌≢◌, ◌⊎◌, inl, inr, ⊎_elim, ℕ, zero, suc, ◌+◌, ◌-◌, ◌<◌, ◌≤◌, ◌==◌, ◌^◌, max, Bool, true, false, ◌&&◌, List, [], ◌∷◌, ◌++◌, length, Option, Some, None, Result, Ok, Err, refl, sym, ap, ◌∙◌, subst, arith, append-nil, eq-eqb, eqb-true, true≢false, set-set}
 use lib.ListN.{get_elem?}
 use mathlib.Core.Option.{some}
+use Rattle.std.proofs.lemmas.Bool.{not-true}
+use Rattle.am_lemmas.proofs.Bools.{and_first, and_second}
 use Rattle.am_names.specs.declared.EndpointId.{EndpointId}
 use Rattle.am_names.specs.declared.NodeId.{NodeId}
 use Rattle.am_office.specs.declared.Event.{Event}
@@ -24,7 +26,6 @@ use Rattle.am_driver.specs.Shown.{event_of}
 use Rattle.am_driver.specs.declared.EndView.{EndView}
 use Rattle.am_driver.specs.declared.Move.{Move}
 use Rattle.am_driver.specs.declared.Move.TheVariants as Moves
-use Rattle.am_driver.proofs.Found.{and_left, and_right, true_not}
 use Rattle.am_moves.specs.Logs.{EndLog}
 use Rattle.am_moves.specs.Moves.{CanMove, outcome_with, swap_with}
 use Rattle.am_moves.specs.Pages.{IsBodyValid}
@@ -88,42 +89,42 @@ module _ (frames : ℕ) (node : NodeId) (view : ViewLists) (swap : Store) (v : E
   can_by : CanDrive frames node view swap v → IsFoundAt k set log v → (m : Move) → Suits shown m (line_by set (joined log)) → event_of node m ≡ Some event → end_moved event ≡ Some set.id → CanMove swap (log_of set log) event
   can_by c f (Moves.Unload e) s is end =
       let l = line_by set (joined log) in
-      let leaving = and_left (is_leaving l) (l.in_flight == 0) s.1 in
+      let leaving = and_first (is_leaving l) (l.in_flight == 0) s.1 in
       subst (CanMove swap (log_of set log)) (same_event (Events.Unload node e) event is)
       (record {
         is_node = sym (c.homes k set f.born);
         is_end = moved_id e (Events.Unload node e) event set.id is refl end;
-        framed = and_left (has_frame l) l.draining leaving;
-        draining = and_right (has_frame l) l.draining leaving;
-        none_in_flight = eqb-true l.in_flight 0 (and_right (is_leaving l) (l.in_flight == 0) s.1);
+        framed = and_first (has_frame l) l.draining leaving;
+        draining = and_second (has_frame l) l.draining leaving;
+        none_in_flight = eqb-true l.in_flight 0 (and_second (is_leaving l) (l.in_flight == 0) s.1);
       })
   can_by c f (Moves.PageIn e) s is end =
       let l = line_by set (joined log) in
-      let away = and_left (is_on_disk l.place) l.wanted s.1 in
+      let away = and_first (is_on_disk l.place) l.wanted s.1 in
       subst (CanMove swap (log_of set log)) (same_event (Events.PageIn node e) event is)
       (record { is_node = sym (c.homes k set f.born); is_end = moved_id e (Events.PageIn node e) event set.id is refl end; on_disk = away; holds = (lies_there frames node view swap v k set log c f).disk away })
   can_by c f (Moves.Load e frame) s is end =
       let l = line_by set (joined log) in
-      let unclosed = and_left (is_open_on_host l) l.wanted s.1 in
+      let unclosed = and_first (is_open_on_host l) l.wanted s.1 in
       subst (CanMove swap (log_of set log)) (same_event (Events.Load node e frame) event is)
       (record {
         is_node = sym (c.homes k set f.born);
         is_end = moved_id e (Events.Load node e frame) event set.id is refl end;
-        on_host = and_left (is_on_host l.place) (not l.closed) unclosed;
-        opened = true_not l.closed (and_right (is_on_host l.place) (not l.closed) unclosed);
+        on_host = and_first (is_on_host l.place) (not l.closed) unclosed;
+        opened = not-true l.closed (and_second (is_on_host l.place) (not l.closed) unclosed);
       })
   can_by c f (Moves.Drain e) s is end =
       subst (CanMove swap (log_of set log)) (same_event (Events.Drain node e) event is)
       (record { is_node = sym (c.homes k set f.born); is_end = moved_id e (Events.Drain node e) event set.id is refl end; framed = s.1; undrained = s.2 })
   can_by c f (Moves.PageOut e) s is end =
       let l = line_by set (joined log) in
-      let unclosed = and_left (is_open_on_host l) (not l.wanted) s.1 in
+      let unclosed = and_first (is_open_on_host l) (not l.wanted) s.1 in
       subst (CanMove swap (log_of set log)) (same_event (Events.PageOut node e) event is)
       (record {
         is_node = sym (c.homes k set f.born);
         is_end = moved_id e (Events.PageOut node e) event set.id is refl end;
-        on_host = and_left (is_on_host l.place) (not l.closed) unclosed;
-        opened = true_not l.closed (and_right (is_on_host l.place) (not l.closed) unclosed);
+        on_host = and_first (is_on_host l.place) (not l.closed) unclosed;
+        opened = not-true l.closed (and_second (is_on_host l.place) (not l.closed) unclosed);
       })
   can_by c f Moves.Nothing s is end = absurd s
 
@@ -186,7 +187,7 @@ module _ (frames : ℕ) (node : NodeId) (view : ViewLists) (swap : Store) (v : E
   settles_by : CanDrive frames node view swap v → IsFoundAt k set log v → (m : Move) → Suits shown m (line_by set (joined log)) → event_of node m ≡ Some event → CanSettle k event (frame_at (place_code state.head.place)) frames v.frames
   settles_by c f (Moves.Unload e) s is =
       let l = line_by set (joined log) in
-      let framed : is_in_a_frame state.head.place ≡ true = and_left (has_frame l) l.draining (and_left (is_leaving l) (l.in_flight == 0) s.1) in
+      let framed : is_in_a_frame state.head.place ≡ true = and_first (has_frame l) l.draining (and_first (is_leaving l) (l.in_flight == 0) s.1) in
       subst (λ (x : Event). CanSettle k x (frame_at (place_code state.head.place)) frames v.frames) (same_event (Events.Unload node e) event is) (in_place state.head.place refl framed)
     where
       in_place : (p : Place) → state.head.place ≡ p → is_in_a_frame p ≡ true → (g : ℕ) × (frame_at (place_code state.head.place) ≡ Some g) × (g < frames) × (g < length v.frames) × (slice_index v.frames g ≡ k + 1)
@@ -199,7 +200,7 @@ module _ (frames : ℕ) (node : NodeId) (view : ViewLists) (swap : Store) (v : E
       in_place Direct at h = absurd (cc)
   settles_by c f (Moves.Load e frame) s is =
       let l = line_by set (joined log) in
-      let host : is_on_host state.head.place ≡ true = and_left (is_on_host l.place) (not l.closed) (and_left (is_open_on_host l) l.wanted s.1) in
+      let host : is_on_host state.head.place ≡ true = and_first (is_on_host l.place) (not l.closed) (and_first (is_open_on_host l) l.wanted s.1) in
       let low : frame < frames = (let below = s.3 in omega (arith, below, c.framed)) in
       subst (λ (x : Event). CanSettle k x (frame_at (place_code state.head.place)) frames v.frames) (same_event (Events.Load node e frame) event is)
       (host_code state.head.place host, low, omega (arith, low, c.sized), unclaimed c f frame low s.2 host)

@@ -1,11 +1,12 @@
 -- What a driver's looks and its move come to.
-use Rattle.std.specs.Prelude.{position, slice_get, slice_set}
+use Rattle.std.specs.Prelude.{position, slice_get}
 use Rattle.std.specs.List.{position_or_len}
 use Rattle.std.proofs.Common.{◌≡◌, ◌⊎◌, ⊎_elim, ℕ, zero, suc, ◌+◌, ◌<◌, ◌≤◌, false, true, List, [], ◌∷◌, length, Option, Some, None, Ok, Err, get_or, refl, sym, ap, ◌∙◌, subst, arith, eqb-true, eq-eqb, true≢false}
 use Rattle.std.proofs.lemmas.Grind.{common_steps}
 use Rattle.std.proofs.lemmas.List.Quantifiers.{position-Some}
 use Rattle.std.proofs.lemmas.Option.{get_or_from_slice_get, slice_get-get_or, slice_get_within}
 use Rattle.std.proofs.lemmas.List.Sums.{fails_before_first}
+use Rattle.std.proofs.lemmas.List.{length-set}
 use Rattle.am_names.specs.declared.EndpointId.{EndpointId}
 use Rattle.am_names.specs.declared.NodeId.{NodeId}
 use Rattle.am_names.specs.Names.{same_end}
@@ -49,15 +50,10 @@ pub looks_works : (n : ℕ) (s : ScenarioLists) (ids : Ids) (node : NodeId) (tur
 looks_works zero s ids node turns clock view view' swap v w h l = coe 0 1 (i. DriverWorks s ids node turns clock (sym l.0 i) swap (sym l.1 i)) h
 looks_works (suc n) s ids node turns clock view view' swap v w h l = drivers_look s ids node turns n clock l.0 view' swap l.1 w (looks_works n s ids node turns clock view l.0 swap v l.1 h l.2) l.3
 
-lines_long : (xs : List EndView) (k : ℕ) (x : EndView) → length (slice_set xs k x) ≡ length xs
-lines_long [] k x = refl
-lines_long (y ∷ ys) zero x = refl
-lines_long (y ∷ ys) (suc k) x = ap suc (lines_long ys k x)
-
 pub looks_long : (n : ℕ) (view view' : ViewLists) (v w : EndPass) → LooksTo n view view' v w → length view.ends ≡ length view'.ends
 looks_long zero view view' v w l = ap (λ (z : ViewLists). length z.ends) (sym l.0)
 looks_long (suc n) view view' v w l =
-    looks_long n view l.0 v l.1 l.2 ∙ sym (ap (λ (z : ViewLists). length z.ends) l.3.shown ∙ lines_long l.0.ends n (line_by l.3.set (joined l.3.log)))
+    looks_long n view l.0 v l.1 l.2 ∙ sym (ap (λ (z : ViewLists). length z.ends) l.3.shown ∙ length-set l.0.ends n (line_by l.3.set (joined l.3.log)))
 
 pub stopped_can : (holder frames : ℕ) (node : NodeId) (view view' : ViewLists) (swap : Store) (v w : EndPass) → CanDrive frames node view swap v → IsStopped holder view view' v w → CanDrive frames node view' swap w
 stopped_can holder frames node view view' swap v w c l = can_wait frames node l.k holder view' swap l.between w (looks_can l.looked frames node view view' swap v l.between c l.looks) l.busy
@@ -138,7 +134,7 @@ has_line view node event e is end none_is =
 
 -- ---- the seat
 
-same_then : (u v w : EndPass) → SameSeat u v → SameSeat v w → SameSeat u w
+pub same_then : (u v w : EndPass) → SameSeat u v → SameSeat v w → SameSeat u w
 same_then u v w g h = record { mark = h.mark ∙ g.mark; seats = h.seats ∙ g.seats; births = h.births ∙ g.births }
 
 pub looks_same : (n : ℕ) (view view' : ViewLists) (v w : EndPass) → LooksTo n view view' v w → SameSeat v w

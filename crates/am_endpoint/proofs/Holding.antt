@@ -1,6 +1,5 @@
 -- What is kept of a state, in memory and on disk.
-use Rattle.std.proofs.Common.{◌≡◌, ℕ, Bool, true, false, [], ◌||◌, Option, Some, None, cond, refl, sym, ap, ◌∙◌, subst, true≢false, if◌then◌else◌}
-use Rattle.am_names.specs.Names.{same_end}
+use Rattle.std.proofs.Common.{◌≡◌, ℕ, Bool, true, false, [], ◌||◌, Option, Some, None, cond, refl, sym, ap, ◌∙◌, subst, true≢false}
 use Rattle.am_names.specs.declared.Cause.TheVariants as Causes
 use Rattle.am_names.specs.declared.EndpointId.{EndpointId}
 use Rattle.am_names.specs.declared.Message.{Message}
@@ -8,7 +7,6 @@ use Rattle.am_names.specs.declared.NodeId.{NodeId}
 use Rattle.am_names.specs.declared.Serial.{Serial}
 use Rattle.am_names.specs.declared.Verdict.TheVariants as Verdicts
 use Rattle.am_office.specs.declared.Call.{Call}
-use Rattle.am_office.specs.declared.Call.TheVariants as Calls
 use Rattle.am_office.specs.declared.Entry.{Entry}
 use Rattle.am_office.specs.declared.Event.{Event}
 use Rattle.am_office.specs.declared.Event.TheVariants as Events
@@ -21,9 +19,11 @@ use Rattle.am_office.specs.declared.Received.TheVariants as Got
 use Rattle.am_model.specs.declared.Flying.{Flying}
 use Rattle.am_model.specs.declared.Head.{Head}
 use Rattle.am_model.specs.Allowed.{MayArrive, MaySettle, arrival_verdict, arrived_message, is_network_of, verdict_in}
-use Rattle.am_model.specs.Changes.{after, called, carried, changed, expired, flying_of, left, put, reached, received}
+use Rattle.am_model.specs.Changes.{after, called, changed, flying_of, received}
 use Rattle.am_model.specs.Endpoint.{State, is_direct, is_in_a_frame, is_on_disk, is_on_host, verdict}
 use Rattle.am_model.specs.Order.{IsInOrder}
+use Rattle.am_model.proofs.Places.{framed_not_on_disk}
+use Rattle.am_model.proofs.Unchanged.{called_place, carried_place, received_place, expired_place}
 use Rattle.am_endpoint.specs.Events.{is_kept_out, keeps_in_memory}
 use Rattle.am_endpoint.specs.Held.{IsAway, IsHeldOf, IsHere, head_of, held_wanted, with_wanted}
 use Rattle.am_endpoint.specs.declared.fields.Fields.{Fields}
@@ -57,40 +57,6 @@ wanted_held pool s (OnDisk h) wanted holds =
 
 -- an endpoint that stays in memory
 
-left_place : (s : State) (o : Outcome) → (left s o).head.place ≡ s.head.place
-left_place s (Out.Accepted m) = refl
-left_place s (Out.Requeued m cause bounces) = refl
-left_place s (Out.Returned m cause) = refl
-left_place s o = refl
-
-reached_place : (e : EndpointId) (s : State) (o : Outcome) → (reached e s o).head.place ≡ s.head.place
-reached_place e s (Out.Accepted m) = by_test (same_end e m.dest)
-  where
-    by_test : (b : Bool) → (if b then put m s else s).head.place ≡ s.head.place
-    by_test true = refl
-    by_test false = refl
-reached_place e s o = refl
-
-carried_place : (e from : EndpointId) (s : State) (o : Outcome) → (carried e from s o).head.place ≡ s.head.place
-carried_place e from s o = by_test (same_end e from)
-  where
-    by_test : (b : Bool) → (reached e (if b then left s o else s) o).head.place ≡ s.head.place
-    by_test true = reached_place e (left s o) o ∙ left_place s o
-    by_test false = reached_place e s o
-
-received_place : (e : EndpointId) (s : State) (r : Received) → (received e s r).head.place ≡ s.head.place
-received_place e s (Got.Accepted m answer) = refl
-received_place e s (Got.Refused m Causes.NotResident answer) = refl
-received_place e s (Got.Delivered serial) = refl
-received_place e s (Got.Requeued serial cause bounces) = refl
-received_place e s (Got.Returned serial cause) = refl
-received_place e s r = refl
-
-expired_place : (s : State) (o : Outcome) → (expired s o).head.place ≡ s.head.place
-expired_place s (Out.Delivered serial) = refl
-expired_place s (Out.Unknown serial) = refl
-expired_place s o = refl
-
 bound_place : (node : NodeId) (e end : EndpointId) (s : State) (o : Outcome) → (changed e s (Events.Bind node end) o).head.place ≡ s.head.place
 bound_place node e end s (Out.Sent m peer channel seq attempt number) = refl
 bound_place node e end s o = refl
@@ -109,29 +75,10 @@ changed_here e s event o keeps here = absurd (cc)
 pub stays_here : (e : EndpointId) (s : State) (x : Entry) → keeps_in_memory x.event ≡ true → is_on_disk s.head.place ≡ false → is_on_disk (after e s x).head.place ≡ false
 stays_here e s x keeps here = changed_here e s x.event x.outcome keeps here
 
-called_place : (s : State) (c : Call) (o : Outcome) → (called s c o).head.place ≡ s.head.place
-called_place s (Calls.Request index handler words) (Out.Requested m) = refl
-called_place s Calls.Poll (Out.Zero serial why) = refl
-called_place s Calls.Poll (Out.Ran m handler None) = refl
-called_place s Calls.Poll (Out.Ran m handler (Some reply)) = refl
-called_place s (Calls.SetTag tag) Out.Done = refl
-called_place s (Calls.Map index name tag credits) Out.Done = refl
-called_place s (Calls.Unmap index) Out.Done = refl
-called_place s (Calls.SetHandler index kind) Out.Done = refl
-called_place s (Calls.GiveUp serial) Out.Done = refl
-called_place s Calls.Close Out.Done = refl
-called_place s c o = refl
-
 pub called_here : (s : State) (c : Call) (o : Outcome) → is_on_disk s.head.place ≡ false → is_on_disk (called s c o).head.place ≡ false
 called_here s c o here = ap is_on_disk (called_place s c o) ∙ here
 
 -- where an endpoint is that may be given an entry
-
-pub framed_here : (place : Place) → is_in_a_frame place ≡ true → is_on_disk place ≡ false
-framed_here (Frame frame) is = refl
-framed_here Direct is = absurd (cc)
-framed_here Host is = absurd (cc)
-framed_here Disk is = absurd (cc)
 
 pub direct_here : (place : Place) → is_direct place ≡ true → is_on_disk place ≡ false
 direct_here Direct is = refl
@@ -153,13 +100,7 @@ flies_framed false serial s f grounded flies =
 
 pub settled_here : (pool : Option ℕ) (limit : ℕ) (e : EndpointId) (s : State) (x : Entry) → IsInOrder pool e s → MaySettle limit e s x → is_on_disk s.head.place ≡ false
 settled_here pool limit e s x order may =
-    framed_here s.head.place (flies_framed (is_in_a_frame s.head.place) may.flight.message.serial s may.flight order.grounded may.in_flight)
-
-pub grounded_on_disk : (place : Place) → is_on_disk place ≡ true → is_in_a_frame place ≡ false
-grounded_on_disk Disk is = refl
-grounded_on_disk Host is = refl
-grounded_on_disk Direct is = refl
-grounded_on_disk (Frame frame) is = absurd (cc)
+    framed_not_on_disk s.head.place (flies_framed (is_in_a_frame s.head.place) may.flight.message.serial s may.flight order.grounded may.in_flight)
 
 -- a message that arrives at an endpoint on disk
 

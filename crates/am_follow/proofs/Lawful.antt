@@ -3,8 +3,9 @@ use Rattle.std.specs.Prelude.{IsSome, IfSome, IsTrue, is_some, slice_index_or, n
 use Rattle.std.specs.List.{All, AllPairs, list_any, find}
 use Rattle.std.specs.Option.{option_map}
 use Rattle.std.proofs.Common.{◌≡◌, ℕ, zero, suc, ◌+◌, ◌<◌, ◌≤◌, ◌^◌, ◌==◌, Bool, true, false, cond, ◌||◌, ◌&&◌, List, [], ◌∷◌, map, length, Option, Some, None, refl, sym, ap, ◌∙◌, subst, arith, eqb-true, lt-ltb}
-use Rattle.std.proofs.lemmas.Bool.{le-leb}
+use Rattle.std.proofs.lemmas.Bool.{le-leb, and_from}
 use Rattle.std.proofs.lemmas.List.Sums.{sum_by-cons}
+use Rattle.am_lemmas.proofs.Numbers.{eqb_less, eqb_commutes}
 use Rattle.am_names.specs.declared.EndpointId.{EndpointId}
 use Rattle.am_names.specs.declared.NodeId.{NodeId}
 use Rattle.am_names.specs.declared.Words.{Words}
@@ -26,7 +27,6 @@ use Rattle.am_scenario_types.specs.Lists.{ScenarioLists}
 use Rattle.am_scenario_types.specs.Lawful as lawful
 use Rattle.am_model.specs.Layout.{Layout, EndSetting, Fault, AllAre, AreApart, IsSettingLawful, IsFaultLawful, IsPoolLawful, IsLawful, has_id, declared}
 use Rattle.am_model.specs.History.{is_in_range, is_call_in_range, is_actor_in_range, are_words_in_range, are_credits_in_range, is_kind_in_range, is_byte, is_four_bytes, is_eight_bytes}
-use Rattle.am_model.proofs.Names.{same_end-refl}
 use Rattle.am_laws_steps.specs.Laws.{AreInRange}
 use Rattle.am_follow.specs.Layout.{is_direct, setting_of, fault_of, layout_of, events_of}
 
@@ -50,27 +50,6 @@ apart_of R same f step (x ∷ xs) h = (
 
 -- ---- tests on numbers
 
-eqb_less : (a b : ℕ) → a < b → (a == b) ≡ false
-eqb_less a b lt = by_test (a == b) refl
-  where
-    by_test : (t : Bool) → (a == b) ≡ t → t ≡ false
-    by_test true is = let same = eqb-true a b is in absurd (omega (arith, lt, same))
-    by_test false is = refl
-
-eqb_same : (a : ℕ) → (a == a) ≡ true
-eqb_same a = same_end-refl (record { 0 = a })
-
-pub eqb_turned : (a b : ℕ) → (a == b) ≡ (b == a)
-eqb_turned a b = by_test (a == b) refl
-  where
-    other : (t : Bool) → (b == a) ≡ t → (a == b) ≡ false → (b == a) ≡ false
-    other true is apart = let same : b ≡ a = eqb-true b a is in let yes' : (a == b) ≡ true = ap (λ (n : ℕ). a == n) same ∙ eqb_same a in absurd (cc)
-    other false is apart = is
-
-    by_test : (t : Bool) → (a == b) ≡ t → (a == b) ≡ (b == a)
-    by_test true is = let same : a ≡ b = eqb-true a b is in is ∙ sym (ap (λ (n : ℕ). b == n) same ∙ eqb_same b)
-    by_test false is = is ∙ sym (other (b == a) refl is)
-
 -- ---- the layout
 
 pool_lawful : (pool : Option ℕ) → IfSome pool (λ p. p ≤ 32) → IsPoolLawful pool
@@ -87,7 +66,7 @@ count_ends : (node : NodeId) (ends : List EndLine) → count_by (λ (s : EndSett
 count_ends node [] = refl
 count_ends node (end ∷ ends) =
     sum_by-cons (λ (s : EndSetting). cond (same_node node s.node) 1 0) (setting_of end) (map setting_of ends)
-    ∙ (λ i. cond (eqb_turned node.0 end.node.0 i) 1 0 + count_ends node ends i)
+    ∙ (λ i. cond (eqb_commutes node.0 end.node.0 i) 1 0 + count_ends node ends i)
     ∙ sym (sum_by-cons (λ (e : EndLine). cond (e.node.0 == node.0) 1 0) end ends)
 
 same_call : (a b : FaultLine) → ¬ lawful.IsSamePageCall a b → (same_node a.node b.node && (a.number == b.number)) ≡ false
@@ -134,8 +113,8 @@ find_declared (end ∷ ends) id h = by_test (end.id.0 == id.0) refl h (find_decl
     or_true b = refl
 
     by_test : (t : Bool) → (end.id.0 == id.0) ≡ t → is_some (option_map (λ (e : EndLine). e.node) (cond t (Some end) (find (λ (e : EndLine). e.id.0 == id.0) ends))) ≡ true → (is_some (option_map (λ (e : EndLine). e.node) (find (λ (e : EndLine). e.id.0 == id.0) ends)) ≡ true → list_any (has_id id) (map setting_of ends) ≡ true) → (same_end id end.id || list_any (has_id id) (map setting_of ends)) ≡ true
-    by_test true is k more = ap (λ (b : Bool). b || list_any (has_id id) (map setting_of ends)) (eqb_turned id.0 end.id.0 ∙ is)
-    by_test false is k more = ap (λ (b : Bool). b || list_any (has_id id) (map setting_of ends)) (eqb_turned id.0 end.id.0 ∙ is) ∙ more k
+    by_test true is k more = ap (λ (b : Bool). b || list_any (has_id id) (map setting_of ends)) (eqb_commutes id.0 end.id.0 ∙ is)
+    by_test false is k more = ap (λ (b : Bool). b || list_any (has_id id) (map setting_of ends)) (eqb_commutes id.0 end.id.0 ∙ is) ∙ more k
 
 pub is_declared : (s : ScenarioLists) (id : EndpointId) → lawful.IsDeclared s.ends id → declared (layout_of s) id ≡ true
 is_declared s id h = find_declared s.ends id h
@@ -143,19 +122,16 @@ is_declared s id h = find_declared s.ends id h
 byte : (n : ℕ) → n ≤ 255 → is_byte n ≡ true
 byte n h = lt-ltb n 256 (omega (arith, h))
 
-both : (a b : Bool) → a ≡ true → b ≡ true → (a && b) ≡ true
-both a b h k = λ i. h i && k i
-
 words_in_range : (w : Words) → lawful.AreWords w → are_words_in_range w ≡ true
 words_in_range w h = λ i. lt-ltb w.a (2 ^ 64) h.0 i && lt-ltb w.b (2 ^ 64) h.1 i && lt-ltb w.c (2 ^ 64) h.2 i && lt-ltb w.d (2 ^ 64) h.3 i
 
 kind_in_range : (k : HandlerKind) → lawful.IsLawfulKind k → is_kind_in_range k ≡ true
 kind_in_range Note h = refl
-kind_in_range (Echo to) h = both (nat_le 1 to) (nat_lt to 16) (le-leb 1 to h.0) (lt-ltb to 16 (omega (arith, h.1)))
-kind_in_range (Add to) h = both (nat_le 1 to) (nat_lt to 16) (le-leb 1 to h.0) (lt-ltb to 16 (omega (arith, h.1)))
+kind_in_range (Echo to) h = and_from (nat_le 1 to) (nat_lt to 16) (le-leb 1 to h.0) (lt-ltb to 16 (omega (arith, h.1)))
+kind_in_range (Add to) h = and_from (nat_le 1 to) (nat_lt to 16) (le-leb 1 to h.0) (lt-ltb to 16 (omega (arith, h.1)))
 
 credits_in_range : (pool : Option ℕ) (credits : ℕ) → lawful.IsWithin (lawful.least_credits pool) 8 credits → are_credits_in_range pool credits ≡ true
-credits_in_range None credits h = both (nat_le 1 credits) (nat_le credits 8) (le-leb 1 credits h.0) (le-leb credits 8 h.1)
+credits_in_range None credits h = and_from (nat_le 1 credits) (nat_le credits 8) (le-leb 1 credits h.0) (le-leb credits 8 h.1)
 credits_in_range (Some pool) credits h = le-leb credits 8 h.1
 
 call_in_range : (s : ScenarioLists) (c : Call) → lawful.IsLawfulCall s.ends (lawful.least_credits s.pool) c → is_call_in_range (layout_of s) c ≡ true

@@ -1,18 +1,21 @@
 -- A generated scenario is lawful.
 use Rattle.std.proofs.Common.{◌≡◌, ◌≢◌, ℕ, zero, suc, ◌+◌, ◌-◌, ◌*◌, ◌/◌, ◌%◌, ◌^◌, ◌<◌, ◌≤◌, Bool, true, false, List, [], ◌∷◌, ◌++◌, length, Option, Some, None, refl, sym, ap, ◌∙◌, subst, ⊎_elim, arith, length-append}
-use Rattle.std.specs.Prelude.{◌==◌, ◌&&◌, ◌||◌, nat_lt, find, count_by, if◌then◌else◌, IsSome, bit_xor}
-use Rattle.std.specs.List.{All, AllPairs, list_any}
+use Rattle.std.specs.Prelude.{◌==◌, ◌&&◌, nat_lt, find, count_by, if◌then◌else◌, IsSome, bit_xor}
+use Rattle.std.specs.List.{All, AllPairs}
 use Rattle.std.specs.Option.{option_map, option_or}
 use Rattle.std.proofs.Math.Nat.{div-le_self}
 use Rattle.std.proofs.lemmas.Nat.{or_lt}
-use Rattle.std.proofs.lemmas.Bool.{cases_lt}
+use Rattle.std.proofs.lemmas.Bool.{cases_lt, ltb-true, ltb-false, eq-eqb}
 use Rattle.std.proofs.lemmas.Bool.Decides.{nat_tests}
 use Rattle.std.proofs.lemmas.List.{length_push}
 use Rattle.std.proofs.lemmas.List.Elements.{All-nil, All-cons, All-push, All-append, All-weaker}
-use Rattle.std.proofs.lemmas.List.Quantifiers.{all_pairs_push}
 use Rattle.std.proofs.lemmas.List.Folds.{find-append}
 use Rattle.std.proofs.lemmas.List.Sums.{sum_by_push, count_by-le-length}
 use Rattle.rand_pcg.specs.Lcg.{Lcg}
+use Rattle.am_lemmas.proofs.Bools.{and_from_three}
+use Rattle.am_lemmas.proofs.Numbers.{eqb_less}
+use Rattle.am_lemmas.proofs.Lists.{none_passes, all_pairs_none, all_pairs_grow}
+use Rattle.am_lemmas.proofs.Options.{option_map-option_or}
 use Rattle.am_names.specs.declared.EndpointId.{EndpointId}
 use Rattle.am_names.specs.declared.NodeId.{NodeId}
 use Rattle.am_office.specs.declared.Call.{Call}
@@ -32,33 +35,6 @@ use Rattle.am_generator.specs.Plan.{line_of, stands, with_line, plan_after}
 use Rattle.am_generator.specs.Scenarios.{end_line, ends_below, thread_line, threads_below, generated}
 
 -- ---- tests and lists
-
-eq_yes : (a b : ℕ) → a ≡ b → (a == b) ≡ true
-eq_yes a b e = grind (arith, nat_tests)
-
-eq_no : (a b : ℕ) → a < b → (a == b) ≡ false
-eq_no a b e = grind (arith, nat_tests)
-
-neither : (a b : Bool) → (a || b) ≡ false → (a ≡ false) × (b ≡ false)
-neither false false e = (refl, refl)
-neither false true e = absurd (cc)
-neither true b e = absurd (cc)
-
-none_passes : {A : Type 0} (p : A → Bool) (xs : List A) → list_any p xs ≡ false → All (λ x. p x ≡ false) xs
-none_passes p [] e = All-nil (λ x. p x ≡ false)
-none_passes p (x ∷ xs) e = let parts = neither (p x) (list_any p xs) e in All-cons (λ x. p x ≡ false) x xs parts.0 (none_passes p xs parts.1)
-
-all_three : (a b c : Bool) → a ≡ true → b ≡ true → c ≡ true → (a && b && c) ≡ true
-all_three true true true e f g = refl
-all_three true true false e f g = absurd (cc)
-all_three true false c e f g = absurd (cc)
-all_three false b c e f g = absurd (cc)
-
-pairs_more : {A : Type 0} (R : A → A → Type 0) (xs : List A) (x : A) → AllPairs R xs → All (λ y. R y x) xs → AllPairs R (xs ++ x ∷ [])
-pairs_more R xs x pairs all = all_pairs_push R xs x pairs (λ k d below. all k d below)
-
-no_pairs : {A : Type 0} (R : A → A → Type 0) → AllPairs R []
-no_pairs R i j d below within = absurd (omega arith)
 
 -- ---- words
 
@@ -85,8 +61,8 @@ ends_keys (suc n) =
 
 ends_rising : (n : ℕ) → AllPairs (λ a b. a.id.0 < b.id.0) (ends_below n)
 unfolding ends_below
-ends_rising zero = no_pairs (λ a b. a.id.0 < b.id.0)
-ends_rising (suc n) = pairs_more (λ a b. a.id.0 < b.id.0) (ends_below n) (end_line n) (ends_rising n) (ends_keys n)
+ends_rising zero = all_pairs_none (λ a b. a.id.0 < b.id.0)
+ends_rising (suc n) = all_pairs_grow (λ a b. a.id.0 < b.id.0) (ends_below n) (end_line n) (ends_rising n) (ends_keys n)
 
 ends_length : (n : ℕ) → length (ends_below n) ≡ n
 unfolding ends_below
@@ -106,8 +82,8 @@ threads_keys (suc n) =
 
 threads_rising : (n : ℕ) → AllPairs (λ a b. a.id < b.id) (threads_below n)
 unfolding threads_below
-threads_rising zero = no_pairs (λ a b. a.id < b.id)
-threads_rising (suc n) = pairs_more (λ a b. a.id < b.id) (threads_below n) (thread_line n) (threads_rising n) (threads_keys n)
+threads_rising zero = all_pairs_none (λ a b. a.id < b.id)
+threads_rising (suc n) = all_pairs_grow (λ a b. a.id < b.id) (threads_below n) (thread_line n) (threads_rising n) (threads_keys n)
 
 -- of the threads below 4 * k each node has k
 counted : (node n : ℕ) → count_by (λ thread. thread.node.0 == node) (threads_below n ++ thread_line n ∷ []) ≡ count_by (λ thread. thread.node.0 == node) (threads_below n) + (if n % 4 == node then 1 else 0)
@@ -123,22 +99,18 @@ few_threads node =
 
 -- ---- declared
 
-option_or_some : (o other : Option EndLine) (node : NodeId) → option_map (λ end. end.node) o ≡ Some node → option_map (λ end. end.node) (option_or o other) ≡ Some node
-option_or_some (Some end) other node h = h
-option_or_some None other node h = absurd (cc)
-
 no_end : (id : EndpointId) (n : ℕ) → n ≤ id.0 → find (λ end. end.id.0 == id.0) (ends_below n) ≡ None
 unfolding ends_below
 no_end id zero le = refl
 no_end id (suc n) le =
-    let other : (n == id.0) ≡ false = eq_no n id.0 (omega arith) in
+    let other : (n == id.0) ≡ false = eqb_less n id.0 (omega arith) in
     find-append (λ end. end.id.0 == id.0) (ends_below n) (end_line n ∷ [])
     ∙ (ap (λ (o : Option EndLine). option_or o (find (λ end. end.id.0 == id.0) (end_line n ∷ []))) (no_end id n (omega arith))
     ∙ ap (λ (b : Bool). if b then Some (end_line n) else None) other)
 
 the_end : (id : EndpointId) (n : ℕ) → id.0 ≡ n → node_of (ends_below n ++ end_line n ∷ []) id ≡ Some (record { 0 = n % 4 })
 the_end id n e =
-    let same : (n == id.0) ≡ true = eq_yes n id.0 (sym e) in
+    let same : (n == id.0) ≡ true = eq-eqb n id.0 (sym e) in
     ap (λ (o : Option EndLine). option_map (λ end. end.node) o)
     (find-append (λ end. end.id.0 == id.0) (ends_below n) (end_line n ∷ [])
     ∙ (ap (λ (o : Option EndLine). option_or o (find (λ end. end.id.0 == id.0) (end_line n ∷ []))) (no_end id n (omega arith))
@@ -147,7 +119,7 @@ the_end id n e =
 end_before : (id : EndpointId) (n : ℕ) (node : NodeId) → node_of (ends_below n) id ≡ Some node → node_of (ends_below n ++ end_line n ∷ []) id ≡ Some node
 end_before id n node h =
     ap (λ (o : Option EndLine). option_map (λ end. end.node) o) (find-append (λ end. end.id.0 == id.0) (ends_below n) (end_line n ∷ []))
-    ∙ option_or_some (find (λ end. end.id.0 == id.0) (ends_below n)) (find (λ end. end.id.0 == id.0) (end_line n ∷ [])) node h
+    ∙ option_map-option_or (λ (x : EndLine). x.node) (find (λ end. end.id.0 == id.0) (ends_below n)) (find (λ end. end.id.0 == id.0) (end_line n ∷ [])) node h
 
 -- a number below the count is declared, on its node
 end_there : (id : EndpointId) (n : ℕ) → id.0 < n → node_of (ends_below n) id ≡ Some (record { 0 = id.0 % 4 })
@@ -158,22 +130,18 @@ end_there id (suc n) less =
     (λ (l : n ≤ id.0). let e : id.0 ≡ n = omega arith in subst (λ (k : ℕ). node_of (ends_below n ++ end_line n ∷ []) id ≡ Some (record { 0 = k % 4 })) (sym e) (the_end id n e))
     (cases_lt id.0 n)
 
-thread_or_some : (o other : Option ThreadLine) (node : NodeId) → option_map (λ thread. thread.node) o ≡ Some node → option_map (λ thread. thread.node) (option_or o other) ≡ Some node
-thread_or_some (Some thread) other node h = h
-thread_or_some None other node h = absurd (cc)
-
 no_thread : (id n : ℕ) → n ≤ id → find (λ thread. thread.id == id) (threads_below n) ≡ None
 unfolding threads_below
 no_thread id zero le = refl
 no_thread id (suc n) le =
-    let other : (n == id) ≡ false = eq_no n id (omega arith) in
+    let other : (n == id) ≡ false = eqb_less n id (omega arith) in
     find-append (λ thread. thread.id == id) (threads_below n) (thread_line n ∷ [])
     ∙ (ap (λ (o : Option ThreadLine). option_or o (find (λ thread. thread.id == id) (thread_line n ∷ []))) (no_thread id n (omega arith))
     ∙ ap (λ (b : Bool). if b then Some (thread_line n) else None) other)
 
 the_thread : (id n : ℕ) → id ≡ n → thread_node (threads_below n ++ thread_line n ∷ []) id ≡ Some (record { 0 = n % 4 })
 the_thread id n e =
-    let same : (n == id) ≡ true = eq_yes n id (sym e) in
+    let same : (n == id) ≡ true = eq-eqb n id (sym e) in
     ap (λ (o : Option ThreadLine). option_map (λ thread. thread.node) o)
     (find-append (λ thread. thread.id == id) (threads_below n) (thread_line n ∷ [])
     ∙ (ap (λ (o : Option ThreadLine). option_or o (find (λ thread. thread.id == id) (thread_line n ∷ []))) (no_thread id n (omega arith))
@@ -182,7 +150,7 @@ the_thread id n e =
 thread_before : (id n : ℕ) (node : NodeId) → thread_node (threads_below n) id ≡ Some node → thread_node (threads_below n ++ thread_line n ∷ []) id ≡ Some node
 thread_before id n node h =
     ap (λ (o : Option ThreadLine). option_map (λ thread. thread.node) o) (find-append (λ thread. thread.id == id) (threads_below n) (thread_line n ∷ []))
-    ∙ thread_or_some (find (λ thread. thread.id == id) (threads_below n)) (find (λ thread. thread.id == id) (thread_line n ∷ [])) node h
+    ∙ option_map-option_or (λ (x : ThreadLine). x.node) (find (λ thread. thread.id == id) (threads_below n)) (find (λ thread. thread.id == id) (thread_line n ∷ [])) node h
 
 thread_there : (id n : ℕ) → id < n → thread_node (threads_below n) id ≡ Some (record { 0 = id % 4 })
 unfolding threads_below
@@ -241,15 +209,9 @@ all_greetings thread t =
     (a_greeting thread thread (omega arith) (omega arith) refl) (a_greeting thread (thread + 4) (omega arith) (omega arith) (omega arith)))
     (a_greeting thread (thread + 8) (omega arith) (omega arith) (omega arith))
 
-lt_true : (a b : ℕ) → nat_lt a b ≡ true → a < b
-lt_true a b e = grind (arith, nat_tests)
-
-lt_false : (a b : ℕ) → nat_lt a b ≡ false → b ≤ a
-lt_false a b e = grind (arith, nat_tests)
-
 an_opening_at : (thread : ℕ) (b : Bool) → nat_lt thread 4 ≡ b → thread < 8 → All IsGenerated (if b then greetings thread else polls thread (thread - 4) 18)
-an_opening_at thread true e t = all_greetings thread (lt_true thread 4 e)
-an_opening_at thread false e t = let four : 4 ≤ thread = lt_false thread 4 e in some_polls thread (thread - 4) 18 t (omega arith) (omega arith)
+an_opening_at thread true e t = all_greetings thread (ltb-true thread 4 e)
+an_opening_at thread false e t = let four : 4 ≤ thread = ltb-false thread 4 e in some_polls thread (thread - 4) 18 t (omega arith) (omega arith)
 
 an_opening : (thread : ℕ) → thread < 8 → All IsGenerated (opening thread)
 unfolding opening
@@ -340,7 +302,7 @@ a_line w = record { from = omega arith; to = omega arith; number = (omega arith,
 
 elsewhere : (a b : PlanLine) → ((a.from.0 == b.from.0) && (a.to.0 == b.to.0) && (a.number == b.number)) ≡ false → ¬ IsSamePlace a b
 elsewhere a b e = λ same.
-    let yes_all : ((a.from.0 == b.from.0) && (a.to.0 == b.to.0) && (a.number == b.number)) ≡ true = all_three _ _ _ (eq_yes a.from.0 b.from.0 same.0) (eq_yes a.to.0 b.to.0 same.1) (eq_yes a.number b.number same.2) in
+    let yes_all : ((a.from.0 == b.from.0) && (a.to.0 == b.to.0) && (a.number == b.number)) ≡ true = and_from_three _ _ _ (eq-eqb a.from.0 b.from.0 same.0) (eq-eqb a.to.0 b.to.0 same.1) (eq-eqb a.number b.number same.2) in
     let never : true ≡ false = sym yes_all ∙ e in cc
 
 -- lawful lines, none of them twice, so many at most
@@ -353,7 +315,7 @@ line_more : (most : ℕ) (plan : List PlanLine) (line : PlanLine) (b : Bool) →
 line_more most plan line true e l h = record { each = h.each; once = h.once; lines = omega (arith, h.lines) }
 line_more most plan line false e l h = record {
   each = All-push (IsLawfulPlanLine 4) plan line h.each l;
-  once = pairs_more (λ a b. ¬ IsSamePlace a b) plan line h.once
+  once = all_pairs_grow (λ a b. ¬ IsSamePlace a b) plan line h.once
       (All-weaker (λ other. ((other.from.0 == line.from.0) && (other.to.0 == line.to.0) && (other.number == line.number)) ≡ false) (λ other. ¬ IsSamePlace other line) (λ other e. elsewhere other line e) plan
       (none_passes (λ other. (other.from.0 == line.from.0) && (other.to.0 == line.to.0) && (other.number == line.number)) plan e));
   lines = omega (arith, h.lines, length_push plan line);
@@ -361,7 +323,7 @@ line_more most plan line false e l h = record {
 
 pub a_plan : (g : Lcg) (n : ℕ) → IsPlan n (plan_after g n)
 unfolding plan_after
-a_plan g zero = record { each = All-nil (IsLawfulPlanLine 4); once = no_pairs (λ a b. ¬ IsSamePlace a b); lines = omega arith }
+a_plan g zero = record { each = All-nil (IsLawfulPlanLine 4); once = all_pairs_none (λ a b. ¬ IsSamePlace a b); lines = omega arith }
 a_plan g (suc n) =
     let more : IsPlan (n + 1) (with_line (plan_after g n) (line_of (word (steps g n)))) =
     line_more n (plan_after g n) (line_of (word (steps g n))) (stands (plan_after g n) (line_of (word (steps g n)))) refl (a_line (word (steps g n))) (a_plan g n) in
@@ -388,7 +350,7 @@ generated_lawful n =
       ends_rise = ends_rising 12;
       ends_of_a_node = λ node. omega (arith, count_by-le-length (λ end. end.node.0 == node) (ends_below 12), ends_length 12);
       bundles = All-nil (IsLawfulBundle (ends_below 12));
-      bundles_once = no_pairs (λ a b. a.id ≢ b.id);
+      bundles_once = all_pairs_none (λ a b. a.id ≢ b.id);
       threads = threads_all 8 (omega arith);
       threads_rise = threads_rising 8;
       threads_of_a_node = λ node. few_threads node;
@@ -396,7 +358,7 @@ generated_lawful n =
       plan_once = plan.once;
       plan_lines = omega (arith, plan.lines);
       faults = All-nil (IsLawfulFaultLine 4);
-      faults_once = no_pairs (λ a b. ¬ IsSamePageCall a b);
+      faults_once = all_pairs_none (λ a b. ¬ IsSamePageCall a b);
       fault_lines = omega arith;
       script = all_calls (seeded n) 8 (omega arith);
       script_calls = omega (arith, script_length (seeded n) 8);

@@ -1,6 +1,7 @@
 -- The entry of a bind.
 use Rattle.std.specs.Prelude.{is_none, not}
 use Rattle.std.proofs.Common.{◌≡◌, ◌+◌, ℕ, Bool, true, false, List, [], ◌∷◌, Option, Some, None, refl, sym, ap, ◌∙◌, subst, true≢false}
+use Rattle.std.proofs.lemmas.Bool.{not-false}
 use Rattle.am_names.specs.declared.EndpointId.{EndpointId}
 use Rattle.am_names.specs.declared.NodeId.{NodeId}
 use Rattle.am_office.specs.declared.Condition.{Condition}
@@ -15,15 +16,15 @@ use Rattle.am_model.specs.declared.Queued.{Queued}
 use Rattle.am_model.specs.Allowed.{MayBind}
 use Rattle.am_model.specs.Endpoint.{State, front, is_direct, is_on_disk, is_resident}
 use Rattle.am_model.specs.History.{bind_to, free_from, next_number}
+use Rattle.am_model.proofs.Names.{same_node-is}
 use Rattle.am_block.specs.declared.Slot.{Slot}
 use Rattle.am_channel.specs.declared.ends.Ends.{Ends}
 use Rattle.am_channel.specs.declared.sending.Sent.{Sent}
 use Rattle.am_channel_laws.specs.Calls.{Bind, after}
 use Rattle.am_channel_laws.specs.Counted.{AreCounted}
-use Rattle.am_channel_laws.proofs.Apart.{same_node-is}
 use Rattle.am_local.specs.Interface.{InterfaceLog, bind_at, channel_by_home, channel_in, channel_of_front, failing_at, home_in, is_home_in, is_node_in, outcome_at}
 use Rattle.am_local.specs.declared.work.Work.TheVariants as Works
-use Rattle.am_local.proofs.Frames.{none_holds, not_not}
+use Rattle.am_local.proofs.Frames.{none_holds}
 use Rattle.am_local.proofs.Granting.{work_granted}
 use Rattle.am_endpoint.specs.View.{EndpointView, state_after}
 use Rattle.am_iface.specs.Made.{IsMade}
@@ -49,7 +50,7 @@ ready_to_bind i s end on =
     let c = none_holds s.head.draining Needs.Draining no_message b.1 in
     let d = none_holds (is_none (front s)) Needs.NoMessage no_channel c.1 in
     let f = none_holds (is_none (channel_of_front i (front s))) Needs.NoChannel [] d.1 in
-    record { home = not_not (is_home_in i end) a.0; resident = not_not (is_resident s.head.place) b.0; message = d.0; channel = f.0 }
+    record { home = not-false (is_home_in i end) a.0; resident = not-false (is_resident s.head.place) b.0; message = d.0; channel = f.0 }
 
 -- it isn't on disk
 pub off_disk : (place : Place) → is_resident place ≡ true → is_on_disk place ≡ false

@@ -1,6 +1,6 @@
 -- How many packets an interface emitted to each peer, one call more.
 use Rattle.std.specs.List.{filter, filter_map, cons_option}
-use Rattle.std.proofs.Common.{◌≡◌, ℕ, ◌+◌, Bool, true, false, cond, ◌&&◌, List, [], ◌∷◌, ◌++◌, length, Option, Some, None, is_some, refl, ap, ◌∙◌, subst, eq-eqb, if◌then◌else◌}
+use Rattle.std.proofs.Common.{◌≡◌, ℕ, ◌+◌, Bool, true, false, cond, ◌&&◌, List, [], ◌∷◌, ◌++◌, length, Option, Some, None, is_some, refl, ap, ◌∙◌, subst, if◌then◌else◌}
 use Rattle.std.proofs.lemmas.List.{length-append}
 use Rattle.std.proofs.lemmas.List.Elements.{filter-append, filter_map-append}
 use Rattle.am_names.specs.declared.NodeId.{NodeId}
@@ -16,6 +16,7 @@ use Rattle.am_office.specs.declared.Outcome.TheVariants as Out
 use Rattle.am_office.specs.declared.Entry.{Entry}
 use Rattle.am_office.specs.Entries.{emitted_of, answer_by, answer_packet}
 use Rattle.am_model.specs.Channels.{Channel, arrival, emitted, is_on_link}
+use Rattle.am_model.proofs.Names.{same_node-refl}
 use Rattle.am_channel.specs.declared.ends.Ends.{Ends}
 use Rattle.am_channel.specs.declared.sending.Bound.{Bound}
 use Rattle.am_channel.specs.declared.sending.TimedOut.{TimedOut}
@@ -72,9 +73,6 @@ call_goes c e (Bind m slot) x tells =
 call_goes c e (TimeOut tries) x tells = expiry_goes c tries e.sending.seq e.sending.bound x tells
 call_goes c e (Answer p) x tells = receipt_goes c tells.number p.seq p.attempt (settled_as tells.limit tells.bounces (settled e.sending p)) x tells.event tells.outcome
 call_goes c e (Arrive p v) x tells = receipt_goes c tells.number p.seq p.attempt (arrived_as p.message tells.answer v (arrival e.receiving p.seq p.attempt)) x tells.event tells.outcome
-
-same_node-refl : (n : NodeId) → same_node n n ≡ true
-same_node-refl n = eq-eqb n.0 n.0 refl
 
 -- so the packets of a link are one more where it goes there, and else as many
 goes_on : (node peer to : NodeId) (p : Option Packet) → Goes node peer p → length (on_link node to p) ≡ bit (is_some p && same_node to peer)

@@ -1,8 +1,9 @@
 -- What an interface keeps, one call more.
 use Rattle.std.specs.Prelude.{slice_get, slice_set}
-use Rattle.std.proofs.Common.{◌≡◌, ◌⊎◌, inl, inr, ⊎_elim, ℕ, zero, suc, ◌+◌, ◌*◌, ◌<◌, ◌≤◌, Bool, true, false, ◌&&◌, List, [], ◌∷◌, ◌++◌, length, get_or, Some, is_some, refl, sym, ap, ◌∙◌, subst, arith, eq-eqb, eqb-true, ◌==◌}
-use Rattle.std.proofs.lemmas.List.{length_push}
+use Rattle.std.proofs.Common.{◌≡◌, ⊎_elim, ℕ, zero, suc, ◌+◌, ◌*◌, ◌<◌, ◌≤◌, Bool, true, false, ◌&&◌, List, [], ◌∷◌, ◌++◌, length, get_or, Some, is_some, refl, sym, ap, ◌∙◌, subst, arith, eq-eqb, eqb-true, ◌==◌}
+use Rattle.std.proofs.lemmas.List.{length_push, length-set}
 use Rattle.std.proofs.lemmas.Option.{slice_get_read}
+use Rattle.am_lemmas.proofs.Lists.{slice_get-set_cases}
 use Rattle.am_names.specs.declared.NodeId.{NodeId}
 use Rattle.am_names.specs.Names.{same_node}
 use Rattle.am_office.specs.declared.Entry.{Entry}
@@ -22,24 +23,10 @@ use Rattle.am_local.specs.Interface.{channel_in}
 use Rattle.am_iface.specs.Made.{IsMade, bit}
 use Rattle.am_iface.proofs.Emissions.{call_emits}
 
--- what stands in a list after a write: the new value at its place, and what was elsewhere
-got_set : {X : Type 0} (xs : List X) (k j : ℕ) (v d : X) → slice_get (slice_set xs k v) j ≡ Some d → ((j ≡ k) × (d ≡ v)) ⊎ ((j ≡ k → ⊥) × (slice_get xs j ≡ Some d))
-got_set [] k j v d h = absurd (cc)
-got_set (c ∷ xs) zero zero v d h = inl (refl, cc)
-got_set (c ∷ xs) zero (suc j) v d h = inr ((λ q. omega (arith, q)), h)
-got_set (c ∷ xs) (suc k) zero v d h = inr ((λ q. omega (arith, q)), h)
-got_set (c ∷ xs) (suc k) (suc j) v d h =
-    ⊎_elim (λ here. inl (ap suc here.0, here.1)) (λ there. inr ((λ q. there.0 (omega (arith, q))), there.1)) (got_set xs k j v d h)
-
-length-set : {X : Type 0} (xs : List X) (k : ℕ) (v : X) → length (slice_set xs k v) ≡ length xs
-length-set [] k v = refl
-length-set (c ∷ xs) zero v = refl
-length-set (c ∷ xs) (suc k) v = ap suc (length-set xs k v)
-
 -- the ends of the call's channel are new, and those of the others as they were
 ends_made : (node peer : NodeId) (channel : ℕ) (log : List Entry) (ends : List Ends) (new : Ends) (x : Entry) → channel < 4 → AreEndsOf node log ends → IsMade (channel_to node peer channel) log new x → AreEndsOf node (log ++ x ∷ []) (slice_set ends (4 * peer.0 + channel) new)
 ends_made node peer channel log ends new x below are made to k e lt got =
-    ⊎_elim here there (got_set ends (4 * peer.0 + channel) (4 * to + k) new e got)
+    ⊎_elim here there (slice_get-set_cases ends (4 * peer.0 + channel) (4 * to + k) new e got)
   where
     counted_now : AreCounted (channel_to node peer channel) (log ++ x ∷ []) new
     counted_now = subst (λ (f : Ends). AreCounted (channel_to node peer channel) (log ++ x ∷ []) f) (sym made.leaves) (call_counted (channel_to node peer channel) log made.old made.call x made.counted made.tells)
@@ -62,7 +49,7 @@ ends_made node peer channel log ends new x below are made to k e lt got =
 -- one packet more to its peer, if it emits one
 emissions_made : (node peer : NodeId) (channel : ℕ) (log : List Entry) (counts : List ℕ) (n : ℕ) (new : Ends) (x : Entry) → AreEmissionsOf node log counts → IsMade (channel_to node peer channel) log new x → slice_get counts peer.0 ≡ Some n → AreEmissionsOf node (log ++ x ∷ []) (slice_set counts peer.0 (n + bit (is_some (emitted_of x))))
 emissions_made node peer channel log counts n new x are made was to k got =
-    ⊎_elim here there (got_set counts peer.0 to (n + bit (is_some (emitted_of x))) k got)
+    ⊎_elim here there (slice_get-set_cases counts peer.0 to (n + bit (is_some (emitted_of x))) k got)
   where
     more : (q : NodeId) → length (emitted node q (log ++ x ∷ [])) ≡ length (emitted node q log) + bit (is_some (emitted_of x) && same_node q peer)
     more q = call_emits (channel_to node peer channel) log made.old made.call x q made.tells

@@ -2,11 +2,12 @@
 use Rattle.std.proofs.Common.{◌≡◌, ℕ, ◌+◌, ◌<◌, ◌≤◌, Bool, true, List, [], ◌∷◌, ◌++◌, length, drop, Option, Some, refl, sym, ap, subst, ◌∙◌, arith}
 use Rattle.std.specs.Prelude.{◌==◌, flat_map, nat_eq, count_by}
 use Rattle.std.specs.List.{list_all, starts_with}
-use Rattle.std.proofs.lemmas.Bool.{eqb-true, lt-ltb}
+use Rattle.std.proofs.lemmas.Bool.{eqb-true, lt-ltb, and_from}
 use Rattle.std.proofs.lemmas.Bool.Decides.{Decides-eqb}
 use Rattle.std.proofs.lemmas.List.{append-nil, nil_from_length}
 use Rattle.std.proofs.lemmas.List.Sums.{count_by-le-length}
 use Rattle.std.proofs.lemmas.Slice.Eq.{starts_is}
+use Rattle.am_lemmas.proofs.Bools.{and_first, and_second}
 use Rattle.am_names.specs.declared.EndpointId.{EndpointId}
 use Rattle.am_names.specs.declared.Message.{Message}
 use Rattle.am_names.specs.Names.{same_end, is_request, is_answer}
@@ -24,7 +25,7 @@ use Rattle.am_image.specs.Range.{fits_mapping, fits_record, fits_handler, fits_q
 use Rattle.am_image.specs.Valid.{IsValid}
 use Rattle.am_image.specs.Laws.{EachBodyHasItsImage, ImagesAreRead, ReadingIsOfImages}
 use Rattle.am_image.specs.Reading.{Read, long_at, short_at, mapping_at, record_at, handler_at, message_at, notice_at, received_at, many_at, counted_at, magic_at, body_of, body_at, whole_body}
-use Rattle.am_image.proofs.Fields.{IsBytes, IsBytes-drop, IsReader, then_some, step, some_is, guard_some, and_left, and_right, both, turn_parts, short_reader, long_reader}
+use Rattle.am_image.proofs.Fields.{IsBytes, IsBytes-drop, IsReader, then_some, step, some_is, guard_some, turn_parts, short_reader, long_reader}
 use Rattle.am_image.proofs.Messages.{message_reader, notice_reader, received_reader}
 use Rattle.am_image.proofs.Sizes.{split}
 use Rattle.am_image.proofs.Parts.{fits_own, mapping_reader, record_reader, handler_reader, many_takes, many_again, fits_counted, counted_reader}
@@ -91,14 +92,14 @@ whole_again e b is = step _ _ _ _ (body_again e b is) refl
 both_pass : {X : Type 0} (p q r : X → Bool) → ((x : X) → p x ≡ true → q x ≡ true → r x ≡ true) → (xs : List X) → list_all p xs ≡ true → list_all q xs ≡ true → list_all r xs ≡ true
 both_pass p q r each [] ps qs = refl
 both_pass p q r each (x ∷ xs) ps qs =
-    both (r x) (list_all r xs) (each x (and_left (p x) (list_all p xs) ps) (and_left (q x) (list_all q xs) qs))
-    (both_pass p q r each xs (and_right (p x) (list_all p xs) ps) (and_right (q x) (list_all q xs) qs))
+    and_from (r x) (list_all r xs) (each x (and_first (p x) (list_all p xs) ps) (and_first (q x) (list_all q xs) qs))
+    (both_pass p q r each xs (and_second (p x) (list_all p xs) ps) (and_second (q x) (list_all q xs) qs))
 
 few : {X : Type 0} (fits : X → Bool) (xs : List X) → length xs < 256 → list_all fits xs ≡ true → fits_counted fits xs ≡ true
-few fits xs less h = both (is_byte (length xs)) (list_all fits xs) (lt-ltb _ _ less) h
+few fits xs less h = and_from (is_byte (length xs)) (list_all fits xs) (lt-ltb _ _ less) h
 
 own_record : (e : EndpointId) (b : Body) (a : Awaited) → is_record e b.mapped a ≡ true → fits_record a ≡ true → fits_own e a ≡ true
-own_record e b a p q = both (same_end e a.serial.source) (fits_record a) (and_left (same_end e a.serial.source) _ p) q
+own_record e b a p q = and_from (same_end e a.serial.source) (fits_record a) (and_first (same_end e a.serial.source) _ p) q
 
 pub is_written : (e : EndpointId) (pool : Option ℕ) (b : Body) → IsValid e pool b → IsWritten e b
 is_written e pool b is =

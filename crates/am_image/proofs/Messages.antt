@@ -1,7 +1,8 @@
 -- Messages are read as they were written.
 use Rattle.std.proofs.Common.{◌≡◌, ℕ, true, ◌&&◌, List, [], ◌∷◌, ◌++◌, Option, Some, None, refl, sym, ap, subst, ◌∙◌}
 use Rattle.std.specs.Prelude.{◌==◌}
-use Rattle.std.proofs.lemmas.Bool.{eqb-true}
+use Rattle.std.proofs.lemmas.Bool.{eqb-true, and_from}
+use Rattle.am_lemmas.proofs.Bools.{and_first, and_second}
 use Rattle.am_names.specs.declared.Serial.{Serial}
 use Rattle.am_names.specs.declared.Words.{Words}
 use Rattle.am_names.specs.declared.MsgKind.{MsgKind}
@@ -16,7 +17,7 @@ use Rattle.am_model.specs.History.{is_byte, is_four_bytes, is_eight_bytes, are_w
 use Rattle.am_image.specs.Image.{in_turn, byte, short, long, serial_bytes, words_bytes, about_bytes, kind_number, why_number, message_bytes, queued_bytes, notice_bytes, received_bytes}
 use Rattle.am_image.specs.Range.{fits_serial, fits_about, fits_message, fits_queued, fits_notice}
 use Rattle.am_image.specs.Reading.{Read, byte_at, short_at, long_at, serial_at, words_at, some_serial_at, about_at, kind_of, why_of, made, message_at, notice_at, received_at}
-use Rattle.am_image.proofs.Fields.{IsBytes, Took, IsReader, bind_some, then_some, step, some_is, none_some, by_mark, by_number, guard_some, and_left, and_right, both, turn_again, turn_parts, byte_reader, short_reader, long_reader}
+use Rattle.am_image.proofs.Fields.{IsBytes, Took, IsReader, bind_some, then_some, step, some_is, none_some, by_mark, by_number, guard_some, turn_again, turn_parts, byte_reader, short_reader, long_reader}
 
 -- ---- serials and words
 
@@ -32,14 +33,14 @@ serial_takes bytes x rest fits e =
     (record {
       parts = turn_parts bytes (byte a.0.0) a.0.1 (short b.0.0 ∷ []) b.0.1 t0.parts (turn_parts a.0.1 (short b.0.0) b.0.1 [] b.0.1 t1.parts refl);
       rest_fits = t1.rest_fits;
-      in_range = both (is_byte a.0.0) (is_four_bytes b.0.0) t0.in_range t1.in_range;
+      in_range = and_from (is_byte a.0.0) (is_four_bytes b.0.0) t0.in_range t1.in_range;
     })
 
 serial_again : (x : Serial) (rest : List ℕ) → fits_serial x ≡ true → serial_at (serial_bytes x ++ rest) ≡ Some (x, rest)
 unfolding serial_at
 serial_again x rest h =
-    let b : is_byte x.source.0 ≡ true = and_left (is_byte x.source.0) (is_four_bytes x.count) h in
-    let s : is_four_bytes x.count ≡ true = and_right (is_byte x.source.0) (is_four_bytes x.count) h in
+    let b : is_byte x.source.0 ≡ true = and_first (is_byte x.source.0) (is_four_bytes x.count) h in
+    let s : is_four_bytes x.count ≡ true = and_second (is_byte x.source.0) (is_four_bytes x.count) h in
     step _ _ _ _ (turn_again is_byte byte byte_at byte_reader x.source.0 (short x.count ∷ []) rest b)
     (step _ _ _ _ (turn_again is_four_bytes short short_at short_reader x.count [] rest s) refl)
 
@@ -61,24 +62,24 @@ words_takes bytes x rest fits e =
     let p3 : c.0.1 ≡ in_turn (long d.0.0 ∷ []) ++ d.0.1 = turn_parts c.0.1 (long d.0.0) d.0.1 [] d.0.1 t3.parts refl in
     let p2 : b.0.1 ≡ in_turn (long c.0.0 ∷ long d.0.0 ∷ []) ++ d.0.1 = turn_parts b.0.1 (long c.0.0) c.0.1 (long d.0.0 ∷ []) d.0.1 t2.parts p3 in
     let p1 : a.0.1 ≡ in_turn (long b.0.0 ∷ long c.0.0 ∷ long d.0.0 ∷ []) ++ d.0.1 = turn_parts a.0.1 (long b.0.0) b.0.1 (long c.0.0 ∷ long d.0.0 ∷ []) d.0.1 t1.parts p2 in
-    let first_two : (is_eight_bytes a.0.0 && is_eight_bytes b.0.0) ≡ true = both (is_eight_bytes a.0.0) (is_eight_bytes b.0.0) t0.in_range t1.in_range in
-    let first_three : (is_eight_bytes a.0.0 && is_eight_bytes b.0.0 && is_eight_bytes c.0.0) ≡ true = both (is_eight_bytes a.0.0 && is_eight_bytes b.0.0) (is_eight_bytes c.0.0) first_two t2.in_range in
+    let first_two : (is_eight_bytes a.0.0 && is_eight_bytes b.0.0) ≡ true = and_from (is_eight_bytes a.0.0) (is_eight_bytes b.0.0) t0.in_range t1.in_range in
+    let first_three : (is_eight_bytes a.0.0 && is_eight_bytes b.0.0 && is_eight_bytes c.0.0) ≡ true = and_from (is_eight_bytes a.0.0 && is_eight_bytes b.0.0) (is_eight_bytes c.0.0) first_two t2.in_range in
     subst (λ (y : Words × List ℕ). Took are_words_in_range words_bytes bytes y.0 y.1) (some_is made (x, rest) d.2)
     (record {
       parts = turn_parts bytes (long a.0.0) a.0.1 (long b.0.0 ∷ long c.0.0 ∷ long d.0.0 ∷ []) d.0.1 t0.parts p1;
       rest_fits = t3.rest_fits;
-      in_range = both (is_eight_bytes a.0.0 && is_eight_bytes b.0.0 && is_eight_bytes c.0.0) (is_eight_bytes d.0.0) first_three t3.in_range;
+      in_range = and_from (is_eight_bytes a.0.0 && is_eight_bytes b.0.0 && is_eight_bytes c.0.0) (is_eight_bytes d.0.0) first_three t3.in_range;
     })
 
 words_again : (x : Words) (rest : List ℕ) → are_words_in_range x ≡ true → words_at (words_bytes x ++ rest) ≡ Some (x, rest)
 unfolding words_at
 words_again x rest h =
-    let abc : (is_eight_bytes x.a && is_eight_bytes x.b && is_eight_bytes x.c) ≡ true = and_left (is_eight_bytes x.a && is_eight_bytes x.b && is_eight_bytes x.c) (is_eight_bytes x.d) h in
-    let ab : (is_eight_bytes x.a && is_eight_bytes x.b) ≡ true = and_left (is_eight_bytes x.a && is_eight_bytes x.b) (is_eight_bytes x.c) abc in
-    step _ _ _ _ (turn_again is_eight_bytes long long_at long_reader x.a (long x.b ∷ long x.c ∷ long x.d ∷ []) rest (and_left (is_eight_bytes x.a) (is_eight_bytes x.b) ab))
-    (step _ _ _ _ (turn_again is_eight_bytes long long_at long_reader x.b (long x.c ∷ long x.d ∷ []) rest (and_right (is_eight_bytes x.a) (is_eight_bytes x.b) ab))
-    (step _ _ _ _ (turn_again is_eight_bytes long long_at long_reader x.c (long x.d ∷ []) rest (and_right (is_eight_bytes x.a && is_eight_bytes x.b) (is_eight_bytes x.c) abc))
-    (step _ _ _ _ (turn_again is_eight_bytes long long_at long_reader x.d [] rest (and_right (is_eight_bytes x.a && is_eight_bytes x.b && is_eight_bytes x.c) (is_eight_bytes x.d) h)) refl)))
+    let abc : (is_eight_bytes x.a && is_eight_bytes x.b && is_eight_bytes x.c) ≡ true = and_first (is_eight_bytes x.a && is_eight_bytes x.b && is_eight_bytes x.c) (is_eight_bytes x.d) h in
+    let ab : (is_eight_bytes x.a && is_eight_bytes x.b) ≡ true = and_first (is_eight_bytes x.a && is_eight_bytes x.b) (is_eight_bytes x.c) abc in
+    step _ _ _ _ (turn_again is_eight_bytes long long_at long_reader x.a (long x.b ∷ long x.c ∷ long x.d ∷ []) rest (and_first (is_eight_bytes x.a) (is_eight_bytes x.b) ab))
+    (step _ _ _ _ (turn_again is_eight_bytes long long_at long_reader x.b (long x.c ∷ long x.d ∷ []) rest (and_second (is_eight_bytes x.a) (is_eight_bytes x.b) ab))
+    (step _ _ _ _ (turn_again is_eight_bytes long long_at long_reader x.c (long x.d ∷ []) rest (and_second (is_eight_bytes x.a && is_eight_bytes x.b) (is_eight_bytes x.c) abc))
+    (step _ _ _ _ (turn_again is_eight_bytes long long_at long_reader x.d [] rest (and_second (is_eight_bytes x.a && is_eight_bytes x.b && is_eight_bytes x.c) (is_eight_bytes x.d) h)) refl)))
 
 pub words_reader : IsReader are_words_in_range words_bytes words_at
 words_reader = record { takes = words_takes; again = words_again }
@@ -174,7 +175,7 @@ message_parts bytes k a b d t h w r o n ea eb ed et eh ew er eo en =
 
 message_fits : (a : Serial) (k : MsgKind) (d t h : ℕ) (w : Words) (r : ℕ) (o : Option Serial) → fits_serial a ≡ true → is_byte d ≡ true → is_eight_bytes t ≡ true → is_byte h ≡ true → are_words_in_range w ≡ true → is_eight_bytes r ≡ true → fits_about o ≡ true → fits_message (made a k d t h w r o) ≡ true
 message_fits a k d t h w r o fa fd ft fh fw fr fo =
-    both (fits_serial a) _ fa (both (is_byte d) _ fd (both (is_eight_bytes t) _ ft (both (is_byte h) _ fh (both (are_words_in_range w) _ fw (both (is_eight_bytes r) (fits_about o) fr fo)))))
+    and_from (fits_serial a) _ fa (and_from (is_byte d) _ fd (and_from (is_eight_bytes t) _ ft (and_from (is_byte h) _ fh (and_from (are_words_in_range w) _ fw (and_from (is_eight_bytes r) (fits_about o) fr fo)))))
 
 message_takes : (bytes : List ℕ) (x : Queued) (rest : List ℕ) → IsBytes bytes → message_at bytes ≡ Some (x, rest) → Took fits_queued queued_bytes bytes x rest
 unfolding message_at
@@ -203,7 +204,7 @@ message_takes bytes x rest fits e =
     (record {
       parts = message_parts bytes k a b d t h w r o n at.parts (bt.parts ∙ ap (λ (i : ℕ). i ∷ b.1) (kind_takes b.0 k ek)) dt.parts tt'.parts ht.parts wt.parts rt.parts ot.parts nt.parts;
       rest_fits = nt.rest_fits;
-      in_range = both (fits_message (made a.0 k d.0 t.0 h.0 w.0 r.0 o.0)) (is_byte n.0) (message_fits a.0 k d.0 t.0 h.0 w.0 r.0 o.0 at.in_range dt.in_range tt'.in_range ht.in_range wt.in_range rt.in_range ot.in_range) nt.in_range;
+      in_range = and_from (fits_message (made a.0 k d.0 t.0 h.0 w.0 r.0 o.0)) (is_byte n.0) (message_fits a.0 k d.0 t.0 h.0 w.0 r.0 o.0 at.in_range dt.in_range tt'.in_range ht.in_range wt.in_range rt.in_range ot.in_range) nt.in_range;
     })))))))))))
 
 kind_fits : (kind : MsgKind) → is_byte (kind_number kind) ≡ true
@@ -215,23 +216,23 @@ message_again : (x : Queued) (rest : List ℕ) → fits_queued x ≡ true → me
 unfolding message_at
 message_again x rest h =
     let m : Message = x.message in
-    let g0 : fits_message m ≡ true = and_left (fits_message m) (is_byte x.bounces) h in
-    let g1 : (is_byte m.dest.0 && (is_eight_bytes m.tag.0 && (is_byte m.handler && (are_words_in_range m.words && (is_eight_bytes m.reply_tag.0 && fits_about m.about))))) ≡ true = and_right (fits_serial m.serial) (is_byte m.dest.0 && (is_eight_bytes m.tag.0 && (is_byte m.handler && (are_words_in_range m.words && (is_eight_bytes m.reply_tag.0 && fits_about m.about))))) g0 in
-    let g2 : (is_eight_bytes m.tag.0 && (is_byte m.handler && (are_words_in_range m.words && (is_eight_bytes m.reply_tag.0 && fits_about m.about)))) ≡ true = and_right (is_byte m.dest.0) (is_eight_bytes m.tag.0 && (is_byte m.handler && (are_words_in_range m.words && (is_eight_bytes m.reply_tag.0 && fits_about m.about)))) g1 in
-    let g3 : (is_byte m.handler && (are_words_in_range m.words && (is_eight_bytes m.reply_tag.0 && fits_about m.about))) ≡ true = and_right (is_eight_bytes m.tag.0) (is_byte m.handler && (are_words_in_range m.words && (is_eight_bytes m.reply_tag.0 && fits_about m.about))) g2 in
-    let g4 : (are_words_in_range m.words && (is_eight_bytes m.reply_tag.0 && fits_about m.about)) ≡ true = and_right (is_byte m.handler) (are_words_in_range m.words && (is_eight_bytes m.reply_tag.0 && fits_about m.about)) g3 in
-    let g5 : (is_eight_bytes m.reply_tag.0 && fits_about m.about) ≡ true = and_right (are_words_in_range m.words) (is_eight_bytes m.reply_tag.0 && fits_about m.about) g4 in
-    let g6 : (fits_about m.about) ≡ true = and_right (is_eight_bytes m.reply_tag.0) (fits_about m.about) g5 in
-    step _ _ _ _ (turn_again fits_serial serial_bytes serial_at serial_reader m.serial (byte (kind_number m.kind) ∷ byte m.dest.0 ∷ long m.tag.0 ∷ byte m.handler ∷ words_bytes m.words ∷ long m.reply_tag.0 ∷ about_bytes m.about ∷ byte x.bounces ∷ []) rest (and_left (fits_serial m.serial) (is_byte m.dest.0 && (is_eight_bytes m.tag.0 && (is_byte m.handler && (are_words_in_range m.words && (is_eight_bytes m.reply_tag.0 && fits_about m.about))))) g0))
+    let g0 : fits_message m ≡ true = and_first (fits_message m) (is_byte x.bounces) h in
+    let g1 : (is_byte m.dest.0 && (is_eight_bytes m.tag.0 && (is_byte m.handler && (are_words_in_range m.words && (is_eight_bytes m.reply_tag.0 && fits_about m.about))))) ≡ true = and_second (fits_serial m.serial) (is_byte m.dest.0 && (is_eight_bytes m.tag.0 && (is_byte m.handler && (are_words_in_range m.words && (is_eight_bytes m.reply_tag.0 && fits_about m.about))))) g0 in
+    let g2 : (is_eight_bytes m.tag.0 && (is_byte m.handler && (are_words_in_range m.words && (is_eight_bytes m.reply_tag.0 && fits_about m.about)))) ≡ true = and_second (is_byte m.dest.0) (is_eight_bytes m.tag.0 && (is_byte m.handler && (are_words_in_range m.words && (is_eight_bytes m.reply_tag.0 && fits_about m.about)))) g1 in
+    let g3 : (is_byte m.handler && (are_words_in_range m.words && (is_eight_bytes m.reply_tag.0 && fits_about m.about))) ≡ true = and_second (is_eight_bytes m.tag.0) (is_byte m.handler && (are_words_in_range m.words && (is_eight_bytes m.reply_tag.0 && fits_about m.about))) g2 in
+    let g4 : (are_words_in_range m.words && (is_eight_bytes m.reply_tag.0 && fits_about m.about)) ≡ true = and_second (is_byte m.handler) (are_words_in_range m.words && (is_eight_bytes m.reply_tag.0 && fits_about m.about)) g3 in
+    let g5 : (is_eight_bytes m.reply_tag.0 && fits_about m.about) ≡ true = and_second (are_words_in_range m.words) (is_eight_bytes m.reply_tag.0 && fits_about m.about) g4 in
+    let g6 : (fits_about m.about) ≡ true = and_second (is_eight_bytes m.reply_tag.0) (fits_about m.about) g5 in
+    step _ _ _ _ (turn_again fits_serial serial_bytes serial_at serial_reader m.serial (byte (kind_number m.kind) ∷ byte m.dest.0 ∷ long m.tag.0 ∷ byte m.handler ∷ words_bytes m.words ∷ long m.reply_tag.0 ∷ about_bytes m.about ∷ byte x.bounces ∷ []) rest (and_first (fits_serial m.serial) (is_byte m.dest.0 && (is_eight_bytes m.tag.0 && (is_byte m.handler && (are_words_in_range m.words && (is_eight_bytes m.reply_tag.0 && fits_about m.about))))) g0))
     (step _ _ _ _ (turn_again is_byte byte byte_at byte_reader (kind_number m.kind) (byte m.dest.0 ∷ long m.tag.0 ∷ byte m.handler ∷ words_bytes m.words ∷ long m.reply_tag.0 ∷ about_bytes m.about ∷ byte x.bounces ∷ []) rest (kind_fits m.kind))
     (step _ _ _ _ (kind_back m.kind)
-    (step _ _ _ _ (turn_again is_byte byte byte_at byte_reader m.dest.0 (long m.tag.0 ∷ byte m.handler ∷ words_bytes m.words ∷ long m.reply_tag.0 ∷ about_bytes m.about ∷ byte x.bounces ∷ []) rest (and_left (is_byte m.dest.0) (is_eight_bytes m.tag.0 && (is_byte m.handler && (are_words_in_range m.words && (is_eight_bytes m.reply_tag.0 && fits_about m.about)))) g1))
-    (step _ _ _ _ (turn_again is_eight_bytes long long_at long_reader m.tag.0 (byte m.handler ∷ words_bytes m.words ∷ long m.reply_tag.0 ∷ about_bytes m.about ∷ byte x.bounces ∷ []) rest (and_left (is_eight_bytes m.tag.0) (is_byte m.handler && (are_words_in_range m.words && (is_eight_bytes m.reply_tag.0 && fits_about m.about))) g2))
-    (step _ _ _ _ (turn_again is_byte byte byte_at byte_reader m.handler (words_bytes m.words ∷ long m.reply_tag.0 ∷ about_bytes m.about ∷ byte x.bounces ∷ []) rest (and_left (is_byte m.handler) (are_words_in_range m.words && (is_eight_bytes m.reply_tag.0 && fits_about m.about)) g3))
-    (step _ _ _ _ (turn_again are_words_in_range words_bytes words_at words_reader m.words (long m.reply_tag.0 ∷ about_bytes m.about ∷ byte x.bounces ∷ []) rest (and_left (are_words_in_range m.words) (is_eight_bytes m.reply_tag.0 && fits_about m.about) g4))
-    (step _ _ _ _ (turn_again is_eight_bytes long long_at long_reader m.reply_tag.0 (about_bytes m.about ∷ byte x.bounces ∷ []) rest (and_left (is_eight_bytes m.reply_tag.0) (fits_about m.about) g5))
+    (step _ _ _ _ (turn_again is_byte byte byte_at byte_reader m.dest.0 (long m.tag.0 ∷ byte m.handler ∷ words_bytes m.words ∷ long m.reply_tag.0 ∷ about_bytes m.about ∷ byte x.bounces ∷ []) rest (and_first (is_byte m.dest.0) (is_eight_bytes m.tag.0 && (is_byte m.handler && (are_words_in_range m.words && (is_eight_bytes m.reply_tag.0 && fits_about m.about)))) g1))
+    (step _ _ _ _ (turn_again is_eight_bytes long long_at long_reader m.tag.0 (byte m.handler ∷ words_bytes m.words ∷ long m.reply_tag.0 ∷ about_bytes m.about ∷ byte x.bounces ∷ []) rest (and_first (is_eight_bytes m.tag.0) (is_byte m.handler && (are_words_in_range m.words && (is_eight_bytes m.reply_tag.0 && fits_about m.about))) g2))
+    (step _ _ _ _ (turn_again is_byte byte byte_at byte_reader m.handler (words_bytes m.words ∷ long m.reply_tag.0 ∷ about_bytes m.about ∷ byte x.bounces ∷ []) rest (and_first (is_byte m.handler) (are_words_in_range m.words && (is_eight_bytes m.reply_tag.0 && fits_about m.about)) g3))
+    (step _ _ _ _ (turn_again are_words_in_range words_bytes words_at words_reader m.words (long m.reply_tag.0 ∷ about_bytes m.about ∷ byte x.bounces ∷ []) rest (and_first (are_words_in_range m.words) (is_eight_bytes m.reply_tag.0 && fits_about m.about) g4))
+    (step _ _ _ _ (turn_again is_eight_bytes long long_at long_reader m.reply_tag.0 (about_bytes m.about ∷ byte x.bounces ∷ []) rest (and_first (is_eight_bytes m.reply_tag.0) (fits_about m.about) g5))
     (step _ _ _ _ (turn_again fits_about about_bytes about_at about_reader m.about (byte x.bounces ∷ []) rest g6)
-    (step _ _ _ _ (turn_again is_byte byte byte_at byte_reader x.bounces [] rest (and_right (fits_message m) (is_byte x.bounces) h)) refl)))))))))
+    (step _ _ _ _ (turn_again is_byte byte byte_at byte_reader x.bounces [] rest (and_second (fits_message m) (is_byte x.bounces) h)) refl)))))))))
 
 pub message_reader : IsReader fits_queued queued_bytes message_at
 message_reader = record { takes = message_takes; again = message_again }
@@ -285,14 +286,14 @@ received_takes bytes x rest fits e =
     (record {
       parts = at.parts ∙ ap (λ (n : ℕ). message_bytes a.0.message n ++ a.1) zero_bounces;
       rest_fits = at.rest_fits;
-      in_range = and_left (fits_message a.0.message) (is_byte a.0.bounces) at.in_range;
+      in_range = and_first (fits_message a.0.message) (is_byte a.0.bounces) at.in_range;
     }))
 
 received_again : (x : Message) (rest : List ℕ) → fits_message x ≡ true → received_at (received_bytes x ++ rest) ≡ Some (x, rest)
 unfolding received_at
 received_again x rest h =
     let q : Queued = record { message = x; bounces = 0 } in
-    step _ _ _ _ (message_reader.again q rest (both (fits_message x) (is_byte 0) h refl)) refl
+    step _ _ _ _ (message_reader.again q rest (and_from (fits_message x) (is_byte 0) h refl)) refl
 
 pub received_reader : IsReader fits_message received_bytes received_at
 received_reader = record { takes = received_takes; again = received_again }

@@ -3,6 +3,8 @@ use Rattle.std.proofs.Common.{◌≡◌, ℕ, zero, suc, Bool, true, false, ◌&
 use Rattle.std.specs.Prelude.{flat_map}
 use Rattle.std.specs.List.{list_all}
 use Rattle.std.proofs.lemmas.List.Concat.{flat_map-cons}
+use Rattle.std.proofs.lemmas.Bool.{and_from}
+use Rattle.am_lemmas.proofs.Bools.{and_first, and_second}
 use Rattle.am_names.specs.declared.EndpointId.{EndpointId}
 use Rattle.am_names.specs.Names.{same_end}
 use Rattle.am_office.specs.declared.HandlerKind.{HandlerKind}
@@ -14,7 +16,7 @@ use Rattle.am_model.proofs.Names.{same_end-is, same_end-refl}
 use Rattle.am_image.specs.Image.{in_turn, byte, short, long, counted, mapping_bytes, record_bytes, state_number, handler_bytes}
 use Rattle.am_image.specs.Range.{fits_mapping, fits_record, fits_handler}
 use Rattle.am_image.specs.Reading.{Read, byte_at, short_at, long_at, some_mapping_at, mapping_at, state_of, record_at, echo_at, add_at, handler_by, handler_at, many_at, counted_at}
-use Rattle.am_image.proofs.Fields.{IsBytes, Took, IsReader, then_some, step, some_is, none_some, by_mark, by_number, and_left, and_right, both, turn_again, turn_parts, byte_reader, short_reader, long_reader}
+use Rattle.am_image.proofs.Fields.{IsBytes, Took, IsReader, then_some, step, some_is, none_some, by_mark, by_number, turn_again, turn_parts, byte_reader, short_reader, long_reader}
 
 -- a value behind a mark
 behind : {X : Type 0} (fits : X → Bool) (text : X → List ℕ) (bytes : List ℕ) (x : X) (rest : List ℕ) (n mark : ℕ) (after : List ℕ) → mark ≡ n → Took is_byte byte bytes mark after → Took fits text (n ∷ after) x rest → Took fits text bytes x rest
@@ -46,7 +48,7 @@ some_mapping_takes bytes x rest fits e =
     (record {
       parts = ap (λ (w : List ℕ). 1 ∷ w) pa;
       rest_fits = ct.rest_fits;
-      in_range = both (is_byte a.0) (is_eight_bytes b.0 && is_byte c.0) at.in_range (both (is_eight_bytes b.0) (is_byte c.0) bt.in_range ct.in_range);
+      in_range = and_from (is_byte a.0) (is_eight_bytes b.0 && is_byte c.0) at.in_range (and_from (is_eight_bytes b.0) (is_byte c.0) bt.in_range ct.in_range);
     }))))
 
 mapping_takes : (bytes : List ℕ) (x : Option Mapping) (rest : List ℕ) → IsBytes bytes → mapping_at bytes ≡ Some (x, rest) → Took fits_mapping mapping_bytes bytes x rest
@@ -61,11 +63,11 @@ mapping_again : (x : Option Mapping) (rest : List ℕ) → fits_mapping x ≡ tr
 unfolding mapping_at some_mapping_at
 mapping_again None rest h = step _ _ _ _ (byte_reader.again 0 rest refl) refl
 mapping_again (Some m) rest h =
-    let g : (is_eight_bytes m.tag.0 && is_byte m.credits) ≡ true = and_right (is_byte m.name.0) (is_eight_bytes m.tag.0 && is_byte m.credits) h in
+    let g : (is_eight_bytes m.tag.0 && is_byte m.credits) ≡ true = and_second (is_byte m.name.0) (is_eight_bytes m.tag.0 && is_byte m.credits) h in
     step _ _ _ _ (turn_again is_byte byte byte_at byte_reader 1 (byte m.name.0 ∷ long m.tag.0 ∷ byte m.credits ∷ []) rest refl)
-    (step _ _ _ _ (turn_again is_byte byte byte_at byte_reader m.name.0 (long m.tag.0 ∷ byte m.credits ∷ []) rest (and_left (is_byte m.name.0) (is_eight_bytes m.tag.0 && is_byte m.credits) h))
-    (step _ _ _ _ (turn_again is_eight_bytes long long_at long_reader m.tag.0 (byte m.credits ∷ []) rest (and_left (is_eight_bytes m.tag.0) (is_byte m.credits) g))
-    (step _ _ _ _ (turn_again is_byte byte byte_at byte_reader m.credits [] rest (and_right (is_eight_bytes m.tag.0) (is_byte m.credits) g)) refl)))
+    (step _ _ _ _ (turn_again is_byte byte byte_at byte_reader m.name.0 (long m.tag.0 ∷ byte m.credits ∷ []) rest (and_first (is_byte m.name.0) (is_eight_bytes m.tag.0 && is_byte m.credits) h))
+    (step _ _ _ _ (turn_again is_eight_bytes long long_at long_reader m.tag.0 (byte m.credits ∷ []) rest (and_first (is_eight_bytes m.tag.0) (is_byte m.credits) g))
+    (step _ _ _ _ (turn_again is_byte byte byte_at byte_reader m.credits [] rest (and_second (is_eight_bytes m.tag.0) (is_byte m.credits) g)) refl)))
 
 pub mapping_reader : IsReader fits_mapping mapping_bytes mapping_at
 mapping_reader = record { takes = mapping_takes; again = mapping_again }
@@ -108,7 +110,7 @@ record_takes own bytes x rest fits e =
     (record {
       parts = turn_parts bytes (byte a.0) a.1 (short b.0 ∷ byte (state_number s) ∷ []) c.1 at.parts pb;
       rest_fits = ct.rest_fits;
-      in_range = both (same_end own own) (fits_record made) (same_end-refl own) (both (is_byte a.0) (is_four_bytes b.0) at.in_range bt.in_range);
+      in_range = and_from (same_end own own) (fits_record made) (same_end-refl own) (and_from (is_byte a.0) (is_four_bytes b.0) at.in_range bt.in_range);
     })))))
 
 abbrev some_read : Awaited × List ℕ → Read Awaited
@@ -117,10 +119,10 @@ some_read read = Some read
 record_again : (own : EndpointId) (x : Awaited) (rest : List ℕ) → fits_own own x ≡ true → record_at own (record_bytes x ++ rest) ≡ Some (x, rest)
 unfolding record_at
 record_again own x rest h =
-    let source : own ≡ x.serial.source = same_end-is own x.serial.source (and_left (same_end own x.serial.source) (fits_record x) h) in
-    let g : fits_record x ≡ true = and_right (same_end own x.serial.source) (fits_record x) h in
-    step _ _ _ _ (turn_again is_byte byte byte_at byte_reader x.index (short x.serial.count ∷ byte (state_number x.arrived) ∷ []) rest (and_left (is_byte x.index) (is_four_bytes x.serial.count) g))
-    (step _ _ _ _ (turn_again is_four_bytes short short_at short_reader x.serial.count (byte (state_number x.arrived) ∷ []) rest (and_right (is_byte x.index) (is_four_bytes x.serial.count) g))
+    let source : own ≡ x.serial.source = same_end-is own x.serial.source (and_first (same_end own x.serial.source) (fits_record x) h) in
+    let g : fits_record x ≡ true = and_second (same_end own x.serial.source) (fits_record x) h in
+    step _ _ _ _ (turn_again is_byte byte byte_at byte_reader x.index (short x.serial.count ∷ byte (state_number x.arrived) ∷ []) rest (and_first (is_byte x.index) (is_four_bytes x.serial.count) g))
+    (step _ _ _ _ (turn_again is_four_bytes short short_at short_reader x.serial.count (byte (state_number x.arrived) ∷ []) rest (and_second (is_byte x.index) (is_four_bytes x.serial.count) g))
     (step _ _ _ _ (turn_again is_byte byte byte_at byte_reader (state_number x.arrived) [] rest (state_fits x.arrived))
     (step _ _ _ _ (state_back x.arrived) (of_source own source))))
   where
@@ -195,7 +197,7 @@ many_takes {X} fits text at reader (suc n) bytes xs rest byte_fits e =
     let joined : bytes ≡ flat_map text (a.0 ∷ b.0) ++ b.1 = t.parts ∙ (ap (λ (w : List ℕ). text a.0 ++ w) more.took.parts ∙ (sym (append_assoc (text a.0) (flat_map text b.0) b.1) ∙ ap (λ (w : List ℕ). w ++ b.1) (sym (flat_map-cons text a.0 b.0)))) in
     subst (λ (y : List X × List ℕ). TookMany fits text (suc n) bytes y.0 y.1) (some_is read found b')
     (record {
-      took = record { parts = joined; rest_fits = more.took.rest_fits; in_range = both (fits a.0) (list_all fits b.0) t.in_range more.took.in_range };
+      took = record { parts = joined; rest_fits = more.took.rest_fits; in_range = and_from (fits a.0) (list_all fits b.0) t.in_range more.took.in_range };
       len = ap suc more.len;
     })))
 
@@ -205,8 +207,8 @@ many_again {X} fits text at reader [] rest h = refl
 many_again {X} fits text at reader (x ∷ xs) rest h =
     let regrouped : flat_map text (x ∷ xs) ++ rest ≡ text x ++ (flat_map text xs ++ rest) = ap (λ (w : List ℕ). w ++ rest) (flat_map-cons text x xs) ∙ append_assoc (text x) (flat_map text xs) rest in
     ap (many_at at (suc (length xs))) regrouped
-    ∙ step _ _ _ _ (reader.again x (flat_map text xs ++ rest) (and_left (fits x) (list_all fits xs) h))
-    (step _ _ _ _ (many_again fits text at reader xs rest (and_right (fits x) (list_all fits xs) h)) refl)
+    ∙ step _ _ _ _ (reader.again x (flat_map text xs ++ rest) (and_first (fits x) (list_all fits xs) h))
+    (step _ _ _ _ (many_again fits text at reader xs rest (and_second (fits x) (list_all fits xs) h)) refl)
 
 -- whether a counted list has few enough elements, each in range
 abbrev pub fits_counted : {X : Type 0} → (X → Bool) → List X → Bool
@@ -223,14 +225,14 @@ counted_takes {X} fits text at reader bytes xs rest byte_fits e =
     record {
       parts = turn_parts bytes (byte (length xs)) a.1 (flat_map text xs ∷ []) rest head tail;
       rest_fits = many.took.rest_fits;
-      in_range = both (is_byte (length xs)) (list_all fits xs) (ap is_byte many.len ∙ t.in_range) many.took.in_range;
+      in_range = and_from (is_byte (length xs)) (list_all fits xs) (ap is_byte many.len ∙ t.in_range) many.took.in_range;
     })
 
 counted_again : {X : Type 0} (fits : X → Bool) (text : X → List ℕ) (at : List ℕ → Read X) → IsReader fits text at → (xs : List X) (rest : List ℕ) → fits_counted fits xs ≡ true → counted_at at (counted text xs ++ rest) ≡ Some (xs, rest)
 unfolding counted_at
 counted_again {X} fits text at reader xs rest h =
-    step _ _ _ _ (turn_again is_byte byte byte_at byte_reader (length xs) (flat_map text xs ∷ []) rest (and_left (is_byte (length xs)) (list_all fits xs) h))
-    (ap (many_at at (length xs)) (append_assoc (flat_map text xs) [] rest) ∙ many_again fits text at reader xs rest (and_right (is_byte (length xs)) (list_all fits xs) h))
+    step _ _ _ _ (turn_again is_byte byte byte_at byte_reader (length xs) (flat_map text xs ∷ []) rest (and_first (is_byte (length xs)) (list_all fits xs) h))
+    (ap (many_at at (length xs)) (append_assoc (flat_map text xs) [] rest) ∙ many_again fits text at reader xs rest (and_second (is_byte (length xs)) (list_all fits xs) h))
 
 pub counted_reader : {X : Type 0} (fits : X → Bool) (text : X → List ℕ) (at : List ℕ → Read X) → IsReader fits text at → IsReader (fits_counted fits) (counted text) (counted_at at)
 counted_reader fits text at reader = record { takes = counted_takes fits text at reader; again = counted_again fits text at reader }

@@ -1,12 +1,8 @@
 -- What is left of known bytes, and what is held.
-use Rattle.std.proofs.Common.{◌≡◌, ℕ, suc, Bool, true, false, eqb, subst, ◌+◌, ◌-◌, ◌<◌, ◌≤◌, List, [], ◌∷◌, ◌++◌, length, take, drop, Option, Some, None, refl, sym, ap, ◌∙◌, append_assoc, length-drop, length-append, length-take, arith}
+use Rattle.std.proofs.Common.{◌≡◌, ℕ, subst, ◌+◌, ◌<◌, ◌≤◌, List, [], ◌++◌, length, take, drop, Option, Some, None, refl, sym, ap, ◌∙◌, append_assoc, length-drop, length-append, length-take, arith}
 use Rattle.std.specs.Io.KnownBytes.{Appends, Consumes, IsAtEnd, Keeps}
-use Rattle.std.proofs.lemmas.Bool.{eqb-true}
-use Rattle.std.proofs.lemmas.List.{append-nil, take-append-drop, drop-drop, drop_all, take_all, take_at}
+use Rattle.std.proofs.lemmas.List.{append-nil, take-append-drop, drop-drop, drop_all, take_at}
 use Rattle.am_io.specs.Whole.{IsAll, IsLonger, TakesAtMost}
-
-pub rest_is : (i : ℕ) (xs : List ℕ) → take (length xs - i) (drop i xs) ≡ drop i xs
-rest_is i xs = take_all (length xs - i) (drop i xs) (omega (arith, length-drop i xs))
 
 pub front_read : (xs to : List ℕ) (at count : ℕ) → take count to ≡ take count (drop at xs) → drop at xs ≡ take count to ++ drop (at + count) xs
 front_read xs to at count e = sym (take-append-drop count (drop at xs)) ∙ rw (e, drop-drop count at xs) refl
@@ -90,14 +86,6 @@ pub gave_front : (a b c : Option (List ℕ)) (text rest : List ℕ) → Gave a b
 gave_front a b c text rest so_far some kept =
     let whole : take (length so_far.front) text ≡ so_far.front = ap (λ (l : List ℕ). take (length so_far.front) l) so_far.split ∙ take_at so_far.front rest (length so_far.front) refl in
     (length so_far.front, omega (arith, ap length so_far.split, length-append so_far.front rest), rw whole (appends_kept a b c so_far.front so_far.given kept))
-
-pub some_is : (xs : List ℕ) (b : Bool) → b ≡ eqb (length xs) 0 → b ≡ false → 0 < length xs
-some_is [] b e f = absurd (cc (e, f))
-some_is (x ∷ xs) b e f = omega arith
-
-pub none_is : (xs : List ℕ) (b : Bool) → b ≡ eqb (length xs) 0 → b ≡ true → xs ≡ []
-none_is [] b e t = refl
-none_is (x ∷ xs) b e t = let n : suc (length xs) ≡ 0 = eqb-true _ _ (sym e ∙ t) in absurd (omega arith)
 
 -- ---- reading from memory
 

@@ -4,13 +4,14 @@ use Rattle.std.specs.Prelude.{◌==◌, find, count_by, if◌then◌else◌, IsS
 use Rattle.std.specs.List.{All, AllPairs}
 use Rattle.std.specs.Option.{option_map, option_or}
 use Rattle.std.proofs.Math.Nat.{mul-le-mul_left}
-use Rattle.std.proofs.lemmas.Bool.{cases_lt}
-use Rattle.std.proofs.lemmas.Bool.Decides.{nat_tests}
+use Rattle.std.proofs.lemmas.Bool.{cases_lt, eqb-true, eq-eqb}
 use Rattle.std.proofs.lemmas.List.{length_push, length-take}
 use Rattle.std.proofs.lemmas.List.Elements.{All-nil, All-cons, All-head, All-tail, All-push, All-append, All-weaker, All-take, All-drop}
-use Rattle.std.proofs.lemmas.List.Quantifiers.{all_pairs_push}
 use Rattle.std.proofs.lemmas.List.Folds.{find-append}
 use Rattle.std.proofs.lemmas.List.Sums.{sum_by_push, count_by-le-length}
+use Rattle.am_lemmas.proofs.Numbers.{eqb_less}
+use Rattle.am_lemmas.proofs.Lists.{all_pairs_none, all_pairs_grow}
+use Rattle.am_lemmas.proofs.Options.{option_map-option_or}
 use Rattle.am_names.specs.declared.EndpointId.{EndpointId}
 use Rattle.am_names.specs.declared.NodeId.{NodeId}
 use Rattle.am_office.specs.declared.Call.{Call}
@@ -31,21 +32,6 @@ use Rattle.am_job.specs.Rounds.{end_line, ends_below, round_at, round_size, roun
 
 -- ---- tests and lists
 
-eq_yes : (a b : ℕ) → a ≡ b → (a == b) ≡ true
-eq_yes a b e = grind (arith, nat_tests)
-
-eq_no : (a b : ℕ) → a < b → (a == b) ≡ false
-eq_no a b e = grind (arith, nat_tests)
-
-is_same : (a b : ℕ) → (a == b) ≡ true → a ≡ b
-is_same a b e = grind (arith, nat_tests)
-
-pairs_more : {A : Type 0} (R : A → A → Type 0) (xs : List A) (x : A) → AllPairs R xs → All (λ y. R y x) xs → AllPairs R (xs ++ x ∷ [])
-pairs_more R xs x pairs all = all_pairs_push R xs x pairs (λ k d below. all k d below)
-
-no_pairs : {A : Type 0} (R : A → A → Type 0) → AllPairs R []
-no_pairs R i j d below within = absurd (omega arith)
-
 -- ---- endpoints and threads
 
 ends_all : (w n : ℕ) → w ≤ 8 → n ≤ 2 * w → All (IsLawfulEnd Packet w) (ends_below n)
@@ -63,8 +49,8 @@ ends_keys (suc n) =
 
 ends_rising : (n : ℕ) → AllPairs (λ a b. a.id.0 < b.id.0) (ends_below n)
 unfolding ends_below
-ends_rising zero = no_pairs (λ a b. a.id.0 < b.id.0)
-ends_rising (suc n) = pairs_more (λ a b. a.id.0 < b.id.0) (ends_below n) (end_line n) (ends_rising n) (ends_keys n)
+ends_rising zero = all_pairs_none (λ a b. a.id.0 < b.id.0)
+ends_rising (suc n) = all_pairs_grow (λ a b. a.id.0 < b.id.0) (ends_below n) (end_line n) (ends_rising n) (ends_keys n)
 
 ends_length : (n : ℕ) → length (ends_below n) ≡ n
 unfolding ends_below
@@ -84,8 +70,8 @@ threads_keys (suc n) =
 
 threads_rising : (n : ℕ) → AllPairs (λ a b. a.id < b.id) (threads_below n)
 unfolding threads_below
-threads_rising zero = no_pairs (λ a b. a.id < b.id)
-threads_rising (suc n) = pairs_more (λ a b. a.id < b.id) (threads_below n) (thread_line n) (threads_rising n) (threads_keys n)
+threads_rising zero = all_pairs_none (λ a b. a.id < b.id)
+threads_rising (suc n) = all_pairs_grow (λ a b. a.id < b.id) (threads_below n) (thread_line n) (threads_rising n) (threads_keys n)
 
 -- each node has one thread
 counted : (node n : ℕ) → count_by (λ thread. thread.node.0 == node) (threads_below n ++ thread_line n ∷ []) ≡ count_by (λ thread. thread.node.0 == node) (threads_below n) + (if n == node then 1 else 0)
@@ -95,11 +81,11 @@ none_yet : (node n : ℕ) → n ≤ node → count_by (λ thread. thread.node.0 
 unfolding threads_below
 none_yet node zero before = refl
 none_yet node (suc n) before =
-    let other : (n == node) ≡ false = eq_no n node (omega arith) in
+    let other : (n == node) ≡ false = eqb_less n node (omega arith) in
     counted node n ∙ rw other (omega (arith, none_yet node n (omega arith)))
 
 one_more : (node n : ℕ) (b : Bool) → (n == node) ≡ b → count_by (λ thread. thread.node.0 == node) (threads_below n) ≤ 1 → count_by (λ thread. thread.node.0 == node) (threads_below n) + (if b then 1 else 0) ≤ 1
-one_more node n true e most = let at : n ≡ node = is_same n node e in omega (arith, none_yet node n (omega arith))
+one_more node n true e most = let at : n ≡ node = eqb-true n node e in omega (arith, none_yet node n (omega arith))
 one_more node n false e most = omega arith
 
 one_thread : (node n : ℕ) → count_by (λ thread. thread.node.0 == node) (threads_below n) ≤ 1
@@ -109,22 +95,18 @@ one_thread node (suc n) = omega (arith, counted node n, one_more node n (n == no
 
 -- ---- declared
 
-option_or_some : (o other : Option EndLine) (node : NodeId) → option_map (λ end. end.node) o ≡ Some node → option_map (λ end. end.node) (option_or o other) ≡ Some node
-option_or_some (Some end) other node h = h
-option_or_some None other node h = absurd (cc)
-
 no_end : (id : EndpointId) (n : ℕ) → n ≤ id.0 → find (λ end. end.id.0 == id.0) (ends_below n) ≡ None
 unfolding ends_below
 no_end id zero le = refl
 no_end id (suc n) le =
-    let other : (n == id.0) ≡ false = eq_no n id.0 (omega arith) in
+    let other : (n == id.0) ≡ false = eqb_less n id.0 (omega arith) in
     find-append (λ end. end.id.0 == id.0) (ends_below n) (end_line n ∷ [])
     ∙ (ap (λ (o : Option EndLine). option_or o (find (λ end. end.id.0 == id.0) (end_line n ∷ []))) (no_end id n (omega arith))
     ∙ ap (λ (b : Bool). if b then Some (end_line n) else None) other)
 
 the_end : (id : EndpointId) (n : ℕ) → id.0 ≡ n → node_of (ends_below n ++ end_line n ∷ []) id ≡ Some (record { 0 = n / 2 })
 the_end id n e =
-    let same : (n == id.0) ≡ true = eq_yes n id.0 (sym e) in
+    let same : (n == id.0) ≡ true = eq-eqb n id.0 (sym e) in
     ap (λ (o : Option EndLine). option_map (λ end. end.node) o)
     (find-append (λ end. end.id.0 == id.0) (ends_below n) (end_line n ∷ [])
     ∙ (ap (λ (o : Option EndLine). option_or o (find (λ end. end.id.0 == id.0) (end_line n ∷ []))) (no_end id n (omega arith))
@@ -133,7 +115,7 @@ the_end id n e =
 end_before : (id : EndpointId) (n : ℕ) (node : NodeId) → node_of (ends_below n) id ≡ Some node → node_of (ends_below n ++ end_line n ∷ []) id ≡ Some node
 end_before id n node h =
     ap (λ (o : Option EndLine). option_map (λ end. end.node) o) (find-append (λ end. end.id.0 == id.0) (ends_below n) (end_line n ∷ []))
-    ∙ option_or_some (find (λ end. end.id.0 == id.0) (ends_below n)) (find (λ end. end.id.0 == id.0) (end_line n ∷ [])) node h
+    ∙ option_map-option_or (λ (x : EndLine). x.node) (find (λ end. end.id.0 == id.0) (ends_below n)) (find (λ end. end.id.0 == id.0) (end_line n ∷ [])) node h
 
 -- a number below the count is declared, on its node
 end_there : (id : EndpointId) (n : ℕ) → id.0 < n → node_of (ends_below n) id ≡ Some (record { 0 = id.0 / 2 })
@@ -144,22 +126,18 @@ end_there id (suc n) less =
     (λ (l : n ≤ id.0). let e : id.0 ≡ n = omega arith in subst (λ (k : ℕ). node_of (ends_below n ++ end_line n ∷ []) id ≡ Some (record { 0 = k / 2 })) (sym e) (the_end id n e))
     (cases_lt id.0 n)
 
-thread_or_some : (o other : Option ThreadLine) (node : NodeId) → option_map (λ thread. thread.node) o ≡ Some node → option_map (λ thread. thread.node) (option_or o other) ≡ Some node
-thread_or_some (Some thread) other node h = h
-thread_or_some None other node h = absurd (cc)
-
 no_thread : (id n : ℕ) → n ≤ id → find (λ thread. thread.id == id) (threads_below n) ≡ None
 unfolding threads_below
 no_thread id zero le = refl
 no_thread id (suc n) le =
-    let other : (n == id) ≡ false = eq_no n id (omega arith) in
+    let other : (n == id) ≡ false = eqb_less n id (omega arith) in
     find-append (λ thread. thread.id == id) (threads_below n) (thread_line n ∷ [])
     ∙ (ap (λ (o : Option ThreadLine). option_or o (find (λ thread. thread.id == id) (thread_line n ∷ []))) (no_thread id n (omega arith))
     ∙ ap (λ (b : Bool). if b then Some (thread_line n) else None) other)
 
 the_thread : (id n : ℕ) → id ≡ n → thread_node (threads_below n ++ thread_line n ∷ []) id ≡ Some (record { 0 = n })
 the_thread id n e =
-    let same : (n == id) ≡ true = eq_yes n id (sym e) in
+    let same : (n == id) ≡ true = eq-eqb n id (sym e) in
     ap (λ (o : Option ThreadLine). option_map (λ thread. thread.node) o)
     (find-append (λ thread. thread.id == id) (threads_below n) (thread_line n ∷ [])
     ∙ (ap (λ (o : Option ThreadLine). option_or o (find (λ thread. thread.id == id) (thread_line n ∷ []))) (no_thread id n (omega arith))
@@ -168,7 +146,7 @@ the_thread id n e =
 thread_before : (id n : ℕ) (node : NodeId) → thread_node (threads_below n) id ≡ Some node → thread_node (threads_below n ++ thread_line n ∷ []) id ≡ Some node
 thread_before id n node h =
     ap (λ (o : Option ThreadLine). option_map (λ thread. thread.node) o) (find-append (λ thread. thread.id == id) (threads_below n) (thread_line n ∷ []))
-    ∙ thread_or_some (find (λ thread. thread.id == id) (threads_below n)) (find (λ thread. thread.id == id) (thread_line n ∷ [])) node h
+    ∙ option_map-option_or (λ (x : ThreadLine). x.node) (find (λ thread. thread.id == id) (threads_below n)) (find (λ thread. thread.id == id) (thread_line n ∷ [])) node h
 
 thread_there : (id n : ℕ) → id < n → thread_node (threads_below n) id ≡ Some (record { 0 = id })
 unfolding threads_below
@@ -326,15 +304,15 @@ scenario_lawful w turns words some few most size fits = record {
   ends_rise = ends_rising (2 * w);
   ends_of_a_node = λ node. omega (arith, count_by-le-length (λ end. end.node.0 == node) (ends_below (2 * w)), ends_length (2 * w));
   bundles = All-nil (IsLawfulBundle (ends_below (2 * w)));
-  bundles_once = no_pairs (λ a b. a.id ≢ b.id);
+  bundles_once = all_pairs_none (λ a b. a.id ≢ b.id);
   threads = threads_all w w few (omega arith);
   threads_rise = threads_rising w;
   threads_of_a_node = λ node. omega (arith, one_thread node w);
   plan = All-nil (IsLawfulPlanLine w);
-  plan_once = no_pairs (λ (a b : PlanLine). ¬ IsSamePlace a b);
+  plan_once = all_pairs_none (λ (a b : PlanLine). ¬ IsSamePlace a b);
   plan_lines = omega arith;
   faults = All-nil (IsLawfulFaultLine w);
-  faults_once = no_pairs (λ (a b : FaultLine). ¬ IsSamePageCall a b);
+  faults_once = all_pairs_none (λ (a b : FaultLine). ¬ IsSamePageCall a b);
   fault_lines = omega arith;
   script = all_calls w words some few fits;
   script_calls = few_calls w words few size;

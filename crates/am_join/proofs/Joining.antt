@@ -300,10 +300,6 @@ popped_head logs heads rest out h r p = r.heads' h (Contains-permutation (h ∷ 
 pub head_within : (logs : List (List Entry)) (h : Head) → IsHead logs h → (x : Entry) × (slice_get (log_at logs h.log) h.place ≡ Some x)
 head_within logs h is = let s = shows logs h.log h.place h is.is in (s.entry, s.is)
 
-pub none_left : {X : Type 0} (xs : List X) → length xs ≡ 0 → xs ≡ []
-none_left [] e = refl
-none_left (x ∷ xs) e = absurd (omega (arith, e))
-
 -- ---- the beginning and the end
 
 pub begins : (logs : List (List Entry)) (heads : List (Reverse Head)) → AreFirst logs heads → IsReached logs heads []

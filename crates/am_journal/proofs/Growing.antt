@@ -2,10 +2,12 @@
 use Rattle.std.specs.Prelude.{max, nat_lt, slice_get, slice_set, slice_index_or, replicate, IfSome}
 use Rattle.std.specs.List.{filter, cons_option, All}
 use Rattle.std.proofs.Common.{◌≡◌, ⊎_elim, ℕ, zero, suc, ◌+◌, ◌*◌, ◌<◌, ◌^◌, ◌==◌, Bool, true, false, cond, ◌&&◌, List, [], ◌∷◌, ◌++◌, map, length, Option, Some, None, true≢false, refl, sym, ap, ◌∙◌, arith, eq-eqb, eqb-true, ltb-true, ltb-false, if◌then◌else◌}
-use Rattle.std.proofs.lemmas.List.{append-nil}
+use Rattle.std.proofs.lemmas.List.{append-nil, length-set}
 use Rattle.std.proofs.lemmas.List.Sums.{fold-append, sum_by_push, count_by-le-length}
 use Rattle.std.proofs.lemmas.Option.{slice_get_within}
 use Rattle.std.specs.Global.{Vec}
+use mathlib.Core.Bool.{and_comm}
+use Rattle.am_lemmas.proofs.Lists.{slice_get-set_cases, Some-slice_get_map}
 use Rattle.am_names.specs.declared.NodeId.{NodeId}
 use Rattle.am_names.specs.declared.Packet.{Packet}
 use Rattle.am_names.specs.declared.Packet.TheVariants as Packets
@@ -24,7 +26,7 @@ use Rattle.am_drain.specs.Made.{later_stamp}
 use Rattle.am_journal.specs.Kept.{items_of}
 use Rattle.am_journal.specs.Places.{link, link_of, page_place, receipt_place, counted, delivered}
 use Rattle.am_journal.specs.View.{AreNodes, AreRead, CanCount, HasRoomFor, IndexView, IsIndexOf, Readings, greatest_stamp, is_receipt, received_in, receipts}
-use Rattle.am_journal.proofs.Lists.{got_set, index_got, got_mapped, got_all, set_length}
+use Rattle.am_journal.proofs.Lists.{index_got, got_all}
 
 -- the greatest stamp, one entry more
 pub greatest_push : (xs : List Entry) (x : Entry) → greatest_stamp (xs ++ x ∷ []) ≡ max (greatest_stamp xs) x.stamp
@@ -48,10 +50,10 @@ same_number k j apart = by_test (k == j) refl
 
 counted_got : (place : Option ℕ) (ns : List ℕ) (k n : ℕ) → slice_get (counted place ns) k ≡ Some n → (m : ℕ) × (slice_get ns k ≡ Some m) × (n ≡ m + one_if (is_there place k))
 counted_got None ns k n h = (n, h, omega arith)
-counted_got (Some j) ns k n h = ⊎_elim here there (got_set ns j k (slice_index_or ns j 0 + 1) n h)
+counted_got (Some j) ns k n h = ⊎_elim here there (slice_get-set_cases ns j k (slice_index_or ns j 0 + 1) n h)
   where
     within : k < length ns
-    within = let lt = slice_get_within (slice_set ns j (slice_index_or ns j 0 + 1)) k n h in let same = set_length ns j (slice_index_or ns j 0 + 1) in omega (arith, lt, same)
+    within = let lt = slice_get_within (slice_set ns j (slice_index_or ns j 0 + 1)) k n h in let same = length-set ns j (slice_index_or ns j 0 + 1) in omega (arith, lt, same)
 
     here : (k ≡ j) × (n ≡ slice_index_or ns j 0 + 1) → (m : ℕ) × (slice_get ns k ≡ Some m) × (n ≡ m + one_if (k == j))
     here both =
@@ -101,12 +103,12 @@ put_on (Some p) k = cond (k == link_of p) (p ∷ []) []
 
 delivered_got : (p : Option Packet) (ls : List (List Packet)) (k : ℕ) (ps : List Packet) → slice_get (delivered p ls) k ≡ Some ps → (qs : List Packet) × (slice_get ls k ≡ Some qs) × (ps ≡ qs ++ put_on p k)
 delivered_got None ls k ps h = (ps, h, sym (append-nil ps))
-delivered_got (Some p) ls k ps h = ⊎_elim here there (got_set ls (link_of p) k (slice_index_or ls (link_of p) [] ++ p ∷ []) ps h)
+delivered_got (Some p) ls k ps h = ⊎_elim here there (slice_get-set_cases ls (link_of p) k (slice_index_or ls (link_of p) [] ++ p ∷ []) ps h)
   where
     within : k < length ls
     within =
         let lt = slice_get_within (slice_set ls (link_of p) (slice_index_or ls (link_of p) [] ++ p ∷ [])) k ps h in
-        let same = set_length ls (link_of p) (slice_index_or ls (link_of p) [] ++ p ∷ []) in
+        let same = length-set ls (link_of p) (slice_index_or ls (link_of p) [] ++ p ∷ []) in
         omega (arith, lt, same)
 
     here : (k ≡ link_of p) × (ps ≡ slice_index_or ls (link_of p) [] ++ p ∷ []) → (qs : List Packet) × (slice_get ls k ≡ Some qs) × (ps ≡ qs ++ cond (k == link_of p) (p ∷ []) [])
@@ -121,12 +123,6 @@ delivered_got (Some p) ls k ps h = ⊎_elim here there (got_set ls (link_of p) k
     there : (k ≡ link_of p → ⊥) × (slice_get ls k ≡ Some ps) → (qs : List Packet) × (slice_get ls k ≡ Some qs) × (ps ≡ qs ++ cond (k == link_of p) (p ∷ []) [])
     there both = (ps, both.1, sym (append-nil ps) ∙ ap (λ (b : Bool). ps ++ cond b (p ∷ []) []) (sym (same_number k (link_of p) both.0)))
 
-and_commutes : (a b : Bool) → (a && b) ≡ (b && a)
-and_commutes true true = refl
-and_commutes true false = refl
-and_commutes false true = refl
-and_commutes false false = refl
-
 -- the nodes of a packet, if there is one
 abbrev pub IsWithin : Option Packet → Type 0
 IsWithin None = Unit {0}
@@ -135,19 +131,19 @@ IsWithin (Some p) = ((from_of p).0 < 16) × ((receiver_of p).0 < 16)
 put_same : (from to : ℕ) (p : Option Packet) → to < 16 → IsWithin p → put_on p (16 * from + to) ≡ on_link (node_at from) (node_at to) p
 put_same from to None lt nodes = refl
 put_same from to (Some (Packets.Parcel p)) lt nodes =
-    ap (λ (b : Bool). cond b (Packets.Parcel p ∷ []) []) (same_link from to p.from.0 p.to.0 lt nodes.1 ∙ and_commutes (to == p.to.0) (from == p.from.0))
+    ap (λ (b : Bool). cond b (Packets.Parcel p ∷ []) []) (same_link from to p.from.0 p.to.0 lt nodes.1 ∙ and_comm (to == p.to.0) (from == p.from.0))
 put_same from to (Some (Packets.Answer p)) lt nodes =
-    ap (λ (b : Bool). cond b (Packets.Answer p ∷ []) []) (same_link from to p.from.0 p.to.0 lt nodes.1 ∙ and_commutes (to == p.to.0) (from == p.from.0))
+    ap (λ (b : Bool). cond b (Packets.Answer p ∷ []) []) (same_link from to p.from.0 p.to.0 lt nodes.1 ∙ and_comm (to == p.to.0) (from == p.from.0))
 
 -- ---- one entry more
 
 pub counted_length : (place : Option ℕ) (ns : List ℕ) → length (counted place ns) ≡ length ns
 counted_length None ns = refl
-counted_length (Some k) ns = set_length ns k (slice_index_or ns k 0 + 1)
+counted_length (Some k) ns = length-set ns k (slice_index_or ns k 0 + 1)
 
 pub delivered_length : (p : Option Packet) (ls : List (List Packet)) → length (delivered p ls) ≡ length ls
 delivered_length None ls = refl
-delivered_length (Some p) ls = set_length ls (link_of p) (slice_index_or ls (link_of p) [] ++ p ∷ [])
+delivered_length (Some p) ls = length-set ls (link_of p) (slice_index_or ls (link_of p) [] ++ p ∷ [])
 
 pub read_more : (entries : List Entry) (pages received : List ℕ) (links : List (List Packet)) (x : Entry) (packet : Option Packet) → AreRead entries pages received links → packet ≡ emitted_of x → IsWithin packet → AreNodes x.event → AreRead (entries ++ x ∷ []) (counted (page_place x.event) pages) (counted (receipt_place x.event) received) (delivered packet links)
 read_more entries pages received links x packet are is nodes at =
@@ -186,7 +182,7 @@ read_none links many none =
       pages = λ node n h. replicated 16 node n h;
       received = λ from to n lt h. replicated 256 (16 * from + to) n h;
       emitted = λ from to ps lt h.
-          (let g = got_mapped items_of links (16 * from + to) ps h in
+          (let g = Some-slice_get_map items_of links (16 * from + to) ps h in
           sym g.2 ∙ got_all (λ (v : Vec Packet). v.items ≡ []) links (16 * from + to) g.0 none g.1);
       all_pages = refl;
       all_received = refl;

@@ -3,6 +3,7 @@ use Rattle.std.specs.Prelude.{MatchOption, slice_get, count_by}
 use Rattle.std.proofs.Common.{◌≡◌, ℕ, zero, suc, ◌+◌, ◌≤◌, Bool, true, false, ◌||◌, List, [], ◌∷◌, length, Option, Some, None, refl, sym, ap, ◌∙◌, subst, arith, true≢false, if◌then◌else◌}
 use Rattle.std.proofs.lemmas.List.Sums.{sum_by-cons}
 use Rattle.std.specs.List.{list_any, filter_map, cons_option}
+use Rattle.am_lemmas.proofs.Lists.{count_by-none}
 use Rattle.am_names.specs.declared.Serial.{Serial}
 use Rattle.am_names.specs.declared.Cause.{Cause}
 use Rattle.am_office.specs.declared.Event.{Event}
@@ -38,14 +39,6 @@ any_there {X = X} p (x ∷ xs) h = by_test (p x) refl h (λ e. any_there p xs e)
     by_test : (b : Bool) → p x ≡ b → (b || list_any p xs) ≡ true → (list_any p xs ≡ true → 1 ≤ count_by p xs) → 1 ≤ count_by p (x ∷ xs)
     by_test true is e more = omega (arith, sum_by-cons (λ y. bit (p y)) x xs, ap bit is)
     by_test false is e more = omega (arith, sum_by-cons (λ y. bit (p y)) x xs, more e)
-
-none_there : {X : Type 0} (p : X → Bool) (xs : List X) → list_any p xs ≡ false → count_by p xs ≡ 0
-none_there p [] h = refl
-none_there {X = X} p (x ∷ xs) h = by_test (p x) refl h (λ e. none_there p xs e)
-  where
-    by_test : (b : Bool) → p x ≡ b → (b || list_any p xs) ≡ false → (list_any p xs ≡ false → count_by p xs ≡ 0) → count_by p (x ∷ xs) ≡ 0
-    by_test true is e more = absurd (true≢false e)
-    by_test false is e more = omega (arith, sum_by-cons (λ y. bit (p y)) x xs, more e, ap bit is)
 
 -- an entry has a cause for the serial just where it returns it for that cause
 abbrev IsCauseOf : Serial → Option Cause → Option (Serial × Cause) → Option Serial → Type 0
@@ -191,11 +184,11 @@ fated layout journal s k (cause ∷ more) is u r hu hr =
 fated layout journal s k [] is true true hu hr =
     record { comes_back = omega (arith, causes_count s journal, ap (λ (ys : List Cause). length ys) is); is_unknown = omega (arith, k.unknown, any_there (λ (x : Entry). is_serial s (unknown_of x)) journal hu); runs_so = omega (arith, k.run, any_there (λ (x : Entry). passes (has_serial s) (run_of x)) journal hr) }
 fated layout journal s k [] is true false hu hr =
-    record { comes_back = omega (arith, causes_count s journal, ap (λ (ys : List Cause). length ys) is); is_unknown = omega (arith, k.unknown, any_there (λ (x : Entry). is_serial s (unknown_of x)) journal hu); runs_so = none_there (λ (x : Entry). passes (has_serial s) (run_of x)) journal hr }
+    record { comes_back = omega (arith, causes_count s journal, ap (λ (ys : List Cause). length ys) is); is_unknown = omega (arith, k.unknown, any_there (λ (x : Entry). is_serial s (unknown_of x)) journal hu); runs_so = count_by-none (λ (x : Entry). passes (has_serial s) (run_of x)) journal hr }
 fated layout journal s k [] is false true hu hr =
-    record { comes_back = omega (arith, causes_count s journal, ap (λ (ys : List Cause). length ys) is); is_unknown = none_there (λ (x : Entry). is_serial s (unknown_of x)) journal hu; runs_so = omega (arith, k.run, any_there (λ (x : Entry). passes (has_serial s) (run_of x)) journal hr) }
+    record { comes_back = omega (arith, causes_count s journal, ap (λ (ys : List Cause). length ys) is); is_unknown = count_by-none (λ (x : Entry). is_serial s (unknown_of x)) journal hu; runs_so = omega (arith, k.run, any_there (λ (x : Entry). passes (has_serial s) (run_of x)) journal hr) }
 fated layout journal s k [] is false false hu hr =
-    record { comes_back = omega (arith, causes_count s journal, ap (λ (ys : List Cause). length ys) is); is_unknown = none_there (λ (x : Entry). is_serial s (unknown_of x)) journal hu; runs_so = none_there (λ (x : Entry). passes (has_serial s) (run_of x)) journal hr }
+    record { comes_back = omega (arith, causes_count s journal, ap (λ (ys : List Cause). length ys) is); is_unknown = count_by-none (λ (x : Entry). is_serial s (unknown_of x)) journal hu; runs_so = count_by-none (λ (x : Entry). passes (has_serial s) (run_of x)) journal hr }
 
 pub one_fate : (layout : Layout) (journal : List Entry) → IsHistory layout journal → (s : Serial) → HasOneFate journal s
 one_fate layout journal h s = by_accepted (list_any (λ (x : Entry). passes (has_serial s) (accepted_of x)) journal) refl
@@ -204,7 +197,7 @@ one_fate layout journal h s = by_accepted (list_any (λ (x : Entry). passes (has
     k = known layout journal h s
 
     by_accepted : (b : Bool) → list_any (λ (x : Entry). passes (has_serial s) (accepted_of x)) journal ≡ b → MatchOption (if b then Some (fate_by (causes s journal) (list_any (λ (x : Entry). is_serial s (unknown_of x)) journal) (list_any (λ (x : Entry). passes (has_serial s) (run_of x)) journal)) else None) (times accepted_of (has_serial s) journal ≡ 0) (IsFated journal s)
-    by_accepted false is = none_there (λ (x : Entry). passes (has_serial s) (accepted_of x)) journal is
+    by_accepted false is = count_by-none (λ (x : Entry). passes (has_serial s) (accepted_of x)) journal is
     by_accepted true is =
         let f = fated layout journal s k (causes s journal) refl (list_any (λ (x : Entry). is_serial s (unknown_of x)) journal) (list_any (λ (x : Entry). passes (has_serial s) (run_of x)) journal) refl refl in
         record { accepted = omega (arith, k.accepted, any_there (λ (x : Entry). passes (has_serial s) (accepted_of x)) journal is); says = f; only = λ g p. one_only journal s _ g f p }

@@ -33,12 +33,13 @@ use Rattle.am_model.specs.Channels.{Mark, same_channel, frees, frees_by, binds}
 use Rattle.am_model.specs.Cluster.{has_put, puts_in, put_on, HasComeTo, AnswerSays, AnswersAreTrue, comes_back, comes_back_by, EndedSequencePutNothing}
 use Rattle.am_model.proofs.Ends.{EmittedIn, emitted_more, was_emitted, bound_push, sequence_push}
 use Rattle.am_laws_order.proofs.Senders.{SenderMoves, sender, sender_moves, same_channel-is}
-use Rattle.am_laws_order.proofs.Parcels.{IsOf, IsCurrent, channel_of, new_parcel, same_channel-refl}
+use Rattle.am_laws_order.proofs.Parcels.{IsOf, IsCurrent, channel_of, new_parcel}
 use Rattle.am_laws_order.proofs.Marks.{IsPast, mark_moves, mark_after, back, end_of, link_of, again_at, Agrees, IsAnswered, ChannelsKept, refusal_marks, no_answer, settle_answers, parcel_no_answer}
 use Rattle.am_laws_order.proofs.Effects.{IsRefusal, link_of_answer}
 use Rattle.am_laws_channels.proofs.Sent.{gave_emitted, emitted_gave, emitted_later, sendings}
 use Rattle.am_laws_channels.proofs.Taken.{takes_is, took_push, took_later, mark_then, Takings, takings, come_past, come_on}
 use Rattle.am_model.specs.PostOffice.{Gave}
+use Rattle.am_model.proofs.Names.{same_channel-refl}
 
 -- an answer as it is sent
 record IsAnswerTo (node peer : NodeId) (channel seq attempt : ℕ) (q : AnswerPacket) : Type 0 where

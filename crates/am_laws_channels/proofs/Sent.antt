@@ -31,11 +31,7 @@ use Rattle.am_model.proofs.Ends.{EmittedIn, emitted_more}
 use Rattle.am_laws_order.proofs.Senders.{SenderMoves, sender, sender_moves}
 use Rattle.am_laws_order.proofs.Parcels.{IsOf, IsCurrent, ParcelsAreOf, channel_of, new_parcel, receive_no_parcel}
 use Rattle.am_laws_order.proofs.Marks.{Decides, mark_moves, back, ChannelsKept, channels_more, channels_begin}
-
--- what was emitted was given, and the other way
-cons_gave : {A : Type 0} (w : Option A) (xs : List A) (a : A) → (k : ℕ) × (slice_get xs k ≡ Some a) → (k : ℕ) × (slice_get (cons_option w xs) k ≡ Some a)
-cons_gave None xs a r = r
-cons_gave (Some b) xs a r = (suc r.0, r.1)
+use Rattle.am_laws_credits.proofs.Given.{cons_gave}
 
 pub gave_emitted : (p : Packet) (xs : List Entry) → Gave emitted_of xs p → EmittedIn p xs
 gave_emitted p [] h = absurd (cc)

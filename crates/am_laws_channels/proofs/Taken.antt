@@ -31,6 +31,7 @@ use Rattle.am_model.proofs.Names.{same_serial-refl}
 use Rattle.am_model.proofs.Received.{bit}
 use Rattle.am_model.proofs.Books.{role_push}
 use Rattle.std.proofs.Common.{le-leb}
+use mathlib.Core.Bool.{or-false}
 use Rattle.am_model.specs.Channels.{Mark, same_channel, decides_by}
 use Rattle.am_model.specs.Cluster.{has_put, puts_in, puts_by, HasComeTo, put_on, put_on_in}
 use Rattle.am_model.proofs.Ends.{EmittedIn, was_emitted, mark_push}
@@ -101,13 +102,9 @@ takes_is layout past x may d k most h =
     subst (λ (o : Outcome). IsTaking past d k most x.event o) (sym may.outcome)
     (event_takes layout past d k most x.event (ap (puts_in d k most x.event) (sym may.outcome) ∙ h))
 
-or_false : (b : Bool) → (b || false) ≡ b
-or_false true = refl
-or_false false = refl
-
 pub took_push : (d : Channel) (k most : ℕ) (past : List Entry) (x : Entry) → has_put d k most (past ++ x ∷ []) ≡ (has_put d k most past || puts_in d k most x.event x.outcome)
 took_push d k most past x =
-    list_any-append (λ (y : Entry). puts_in d k most y.event y.outcome) past (x ∷ []) ∙ ap (λ (b : Bool). has_put d k most past || b) (or_false (puts_in d k most x.event x.outcome))
+    list_any-append (λ (y : Entry). puts_in d k most y.event y.outcome) past (x ∷ []) ∙ ap (λ (b : Bool). has_put d k most past || b) (or-false (puts_in d k most x.event x.outcome))
 
 pub took_later : (d : Channel) (k most : ℕ) (past : List Entry) (x : Entry) → has_put d k most past ≡ true → has_put d k most (past ++ x ∷ []) ≡ true
 took_later d k most past x h = took_push d k most past x ∙ ap (λ (b : Bool). b || puts_in d k most x.event x.outcome) h

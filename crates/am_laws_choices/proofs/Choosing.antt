@@ -1,8 +1,8 @@
 -- The lowest free channel, and the least endpoint that passes.
-use Rattle.std.proofs.Common.{◌≡◌, ℕ, zero, suc, ◌+◌, ◌≤◌, Bool, true, false, ◌||◌, List, [], ◌∷◌, Option, Some, None, refl, sym, ◌∙◌, subst, arith, true≢false, if◌then◌else◌}
+use Rattle.std.proofs.Common.{◌≡◌, ℕ, zero, suc, ◌+◌, ◌≤◌, Bool, true, false, List, [], ◌∷◌, Option, Some, None, refl, sym, ◌∙◌, subst, arith, true≢false, if◌then◌else◌}
 use Rattle.std.specs.Prelude.{nat_lt}
 use Rattle.std.specs.List.{list_any}
-use Rattle.std.proofs.lemmas.Bool.{ltb-true, ltb-false}
+use Rattle.std.proofs.lemmas.Bool.{ltb-true, ltb-false, or_right, or_left}
 use Rattle.am_names.specs.declared.EndpointId.{EndpointId}
 use Rattle.am_names.specs.declared.NodeId.{NodeId}
 use Rattle.am_names.specs.Names.{same_end}
@@ -36,14 +36,6 @@ pub lowest_free : (layout : Layout) (node peer : NodeId) (past : List Entry) →
 lowest_free layout node peer past = subst (λ (to : ℕ). IsLowestFrom node peer past 0 to (free_channel layout node peer past)) (let same : 0 + layout.channels ≡ layout.channels = omega arith in same) (lowest node peer past 0 layout.channels)
 
 -- ---- endpoints
-
-or_right : (a b : Bool) → b ≡ true → (a || b) ≡ true
-or_right true b is = refl
-or_right false b is = is
-
-or_left : (a b : Bool) → a ≡ true → (a || b) ≡ true
-or_left true b is = refl
-or_left false b is = absurd (cc)
 
 all_more : (P R : EndpointId → Type 0) (es : List EndpointId) → ((e : EndpointId) → P e → R e) → AllAre P es → AllAre R es
 all_more P R [] f all = tt

@@ -3,6 +3,7 @@ use Rattle.std.specs.Prelude.{not}
 use Rattle.std.proofs.Common.{◌≡◌, ◌≢◌, ◌⊎◌, inl, inr, ⊎_elim, ◌+◌, ◌≤◌, Bool, true, false, cond, ◌&&◌, ◌||◌, List, [], ◌∷◌, ◌++◌, Option, Some, None, refl, sym, ap, ◌∙◌, subst, arith, true≢false, if◌then◌else◌}
 use Rattle.std.proofs.lemmas.List.Sums.{sum_by-cons}
 use Rattle.std.specs.List.{list_any, find}
+use Rattle.std.proofs.lemmas.Bool.{not-false}
 use Rattle.am_names.specs.declared.EndpointId.{EndpointId}
 use Rattle.am_names.specs.declared.NodeId.{NodeId}
 use Rattle.am_names.specs.declared.Serial.{Serial}
@@ -26,9 +27,9 @@ use Rattle.am_model.specs.Channels.{Channel, bound_message, attempt, sent_messag
 use Rattle.am_model.specs.History.{state_of, MayFollow, IsHistory}
 use Rattle.am_model.specs.PostOffice.{WasAccepted}
 use Rattle.am_model.proofs.Each.{over_each, each_push, state_of_push}
-use Rattle.am_model.proofs.Names.{same_serial-refl, same_end-refl}
+use Rattle.am_model.proofs.Names.{same_serial-refl, same_end-refl, same_end-is, same_node-is}
 use Rattle.am_model.proofs.Received.{bit}
-use Rattle.am_model.proofs.Books.{same_end-is, fits_direct}
+use Rattle.am_model.proofs.Books.{fits_direct}
 use Rattle.am_model.proofs.Queues.{FitsDirect}
 use Rattle.am_laws_order.proofs.Waiting.{bound_at, IsFront}
 use Rattle.am_laws_order.proofs.Everywhere.{each_once}
@@ -42,7 +43,8 @@ use Rattle.am_model.specs.Channels.{binds, frees}
 use Rattle.am_model.specs.History.{failing, is_home}
 use Rattle.am_model.specs.Cluster.{InFlightIsBound, IsHeldOnce, IsFlying}
 use Rattle.am_model.proofs.Ends.{bound_push}
-use Rattle.am_laws_order.proofs.Senders.{sender, same_channel-is, same_node-is}
+use Rattle.am_model.proofs.Channels.{freeing_sends_nothing}
+use Rattle.am_laws_order.proofs.Senders.{sender, same_channel-is}
 use Rattle.am_laws_order.proofs.Effects.{Effect, Keeps, Binds, Refuses, Ends, IsSame, IsFreedAt, landed_in, effect}
 use Rattle.am_laws_messages.proofs.Sent.{front_are}
 use Rattle.am_laws_fates.proofs.Aloft.{flight_weight}
@@ -53,7 +55,7 @@ use Rattle.am_laws_credits.proofs.Tables.{flights_kept}
 use Rattle.am_laws_credits.proofs.Marked.{all_both, every, flights_own}
 use Rattle.am_laws_replies.proofs.Gave.{accepted_one}
 use Rattle.am_laws_homes.proofs.Places.{fits_network}
-use Rattle.am_laws_cluster.proofs.Flights.{any_message, flights_of, all_aloft, open_aloft, third_none, not_false}
+use Rattle.am_laws_cluster.proofs.Flights.{any_message, flights_of, all_aloft, open_aloft, third_none}
 
 -- the node that an endpoint is said to be of is its home
 none_same : (e : EndpointId) (s : EndSetting) (node : NodeId) (xs : List EndSetting) → same_end e s.id ≡ true → list_any (λ (t : EndSetting). same_end s.id t.id) xs ≡ false → list_any (λ (t : EndSetting). same_end e t.id && same_node node t.node) xs ≡ true → ⊥
@@ -83,14 +85,6 @@ binds_at c (Events.Bind node end) (Out.Sent m peer channel seq attempt number) h
 binds_at c (Events.Bind node end) o h = absurd (true≢false (sym h))
 binds_at c event o h = absurd (true≢false (sym h))
 
-frees_none : (c : Channel) (event : Event) (o : Outcome) → frees c event o ≡ true → sent_message o ≡ None
-frees_none c (Events.Expire node peer channel) (Out.Delivered t) h = refl
-frees_none c (Events.Expire node peer channel) (Out.Unknown t) h = refl
-frees_none c (Events.Expire node peer channel) o h = absurd (true≢false (sym h))
-frees_none c (Events.Receive node peer number) (Out.Received channel seq attempt r) h = refl
-frees_none c (Events.Receive node peer number) o h = absurd (true≢false (sym h))
-frees_none c event o h = absurd (true≢false (sym h))
-
 -- a message that is bound to a channel is of an endpoint of the channel's node
 abbrev BoundAtHome : Layout → List Entry → Type 0
 BoundAtHome layout past = (c : Channel) (m : Message) → bound_message c past ≡ Some m → home layout m.serial.source ≡ Some c.node
@@ -105,7 +99,7 @@ newly_home layout past x lawful h may c m on is = subst (λ (w : EndpointId). ho
     enabled = subst (λ (v : Event). failing layout past v ≡ None) at.1 may.enabled
 
     home' : is_home layout at.0 c.node ≡ true
-    home' = not_false (is_home layout at.0 c.node) (third_none layout.direct (not (is_home layout at.0 c.node)) (not (is_resident (state_of layout past at.0).head.place)) Needs.NotPacket Needs.OtherNode Needs.NotResident _ enabled).0
+    home' = not-false (is_home layout at.0 c.node) (third_none layout.direct (not (is_home layout at.0 c.node)) (not (is_resident (state_of layout past at.0).head.place)) Needs.NotPacket Needs.OtherNode Needs.NotResident _ enabled).0
 
     touched : touches at.0 x ≡ true
     touched = subst (λ (v : Event). list_any (same_end at.0) (ends_touched v x.outcome) ≡ true) (sym at.1) (ap (λ (b : Bool). b || false) (same_end-refl at.0))
@@ -124,7 +118,7 @@ home_more layout past x lawful h known may c m is = by_tests (binds c x.event x.
   where
     by_tests : (a b : Bool) → binds c x.event x.outcome ≡ a → frees c x.event x.outcome ≡ b → (if a || b then sent_message x.outcome else bound_message c past) ≡ Some m → home layout m.serial.source ≡ Some c.node
     by_tests true b ha hb e = newly_home layout past x lawful h may c m ha e
-    by_tests false true ha hb e = let both : ◌≡◌ {A = Option Message} None (Some m) = sym (frees_none c x.event x.outcome hb) ∙ e in absurd (cc)
+    by_tests false true ha hb e = let both : ◌≡◌ {A = Option Message} None (Some m) = sym (freeing_sends_nothing c x.event x.outcome hb) ∙ e in absurd (cc)
     by_tests false false ha hb e = known c m e
 
 -- a message in flight is held by a channel of its endpoint's node

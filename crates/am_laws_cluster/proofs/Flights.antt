@@ -1,7 +1,7 @@
 -- An endpoint with a message in flight is in a frame and open.
 use Rattle.std.specs.Prelude.{not, count_by}
 use Rattle.std.proofs.Common.{◌≡◌, ◌⊎◌, inl, inr, ⊎_elim, ◌==◌, ℕ, ◌+◌, ◌≤◌, Bool, true, false, cond, ◌&&◌, List, [], ◌∷◌, ◌++◌, drop, length, Option, Some, None, refl, sym, ap, ◌∙◌, subst, arith, eqb-true, true≢false, if◌then◌else◌}
-use Rattle.std.proofs.lemmas.Bool.{and_parts}
+use Rattle.std.proofs.lemmas.Bool.{and_parts, not-false}
 use Rattle.std.proofs.lemmas.List.Sums.{sum_by-cons}
 use Rattle.std.specs.List.{list_any, find}
 use Rattle.am_names.specs.declared.EndpointId.{EndpointId}
@@ -32,7 +32,7 @@ use Rattle.am_model.specs.History.{state_of, MayFollow, IsHistory}
 use Rattle.am_model.specs.PostOffice.{times, times_serial, Gave, WasAccepted, is_from, own_tag, mapping_of, is_about, ends_hold, ends_wait, SendsOne, SendsOneReply, IsRequestOf, IsAcceptedBy, asked_in, is_held, held_by, held_at, over_share, held_over, shares_below, IsWithinCredits, HasItsShare, RefusesAboveShare, CreditsHold}
 use Rattle.am_model.proofs.Each.{over_each, each_push, state_of_push}
 use Rattle.am_model.proofs.Received.{one_touched, FitsCall}
-use Rattle.am_model.proofs.Books.{fits_call, same_end-is}
+use Rattle.am_model.proofs.Books.{fits_call}
 use Rattle.am_laws_messages.proofs.Delivered.{delivers, put_facts}
 use Rattle.am_laws_messages.proofs.Sent.{fits_send}
 use Rattle.am_office.specs.declared.Place.{Place}
@@ -43,6 +43,8 @@ use Rattle.am_model.specs.Endpoint.{is_on_host, is_on_disk}
 use Rattle.am_model.specs.History.{failing, is_home}
 use Rattle.am_model.proofs.Own.{is_call}
 use Rattle.am_model.proofs.Received.{weight, run_at, put_at, changed_received}
+use Rattle.am_model.proofs.Unchanged.{called_place, reached_place, received_place, expired_place, bound_place, paged_out_closed, paged_in_closed}
+use Rattle.am_model.proofs.Names.{same_end-is}
 use Rattle.am_laws_messages.proofs.Held.{unless_busy, IsWelcome}
 use Rattle.am_laws_replies.proofs.Credited.{made}
 use Rattle.am_laws_fates.proofs.Aloft.{queue_weight, flight_weight, one_weight, newly, entry_moves, marked_weighs, landed_weighs}
@@ -126,14 +128,6 @@ bound_closed : (s : State) (o : Outcome) → (bound s o).head.closed ≡ s.head.
 bound_closed s (Out.Sent m peer channel seq attempt number) = refl
 bound_closed s o = refl
 
-out_closed : (s : State) (o : Outcome) → (paged_out s o).head.closed ≡ s.head.closed
-out_closed s Out.Done = refl
-out_closed s o = refl
-
-in_closed : (s : State) (o : Outcome) → (paged_in s o).head.closed ≡ s.head.closed
-in_closed s Out.Done = refl
-in_closed s o = refl
-
 other_closed : (e : EndpointId) (s : State) (event : Event) (o : Outcome) → is_call event ≡ false → (changed e s event o).head.closed ≡ s.head.closed
 other_closed e s (Events.Call actor end call) o h = absurd (true≢false h)
 other_closed e s (Events.Want actor end) o h = refl
@@ -145,8 +139,8 @@ other_closed e s (Events.Receive node peer number) o h = refl
 other_closed e s (Events.Drain node end) o h = refl
 other_closed e s (Events.Unload node end) o h = refl
 other_closed e s (Events.Load node end frame) o h = refl
-other_closed e s (Events.PageOut node end) o h = out_closed s o
-other_closed e s (Events.PageIn node end) o h = in_closed s o
+other_closed e s (Events.PageOut node end) o h = paged_out_closed s o
+other_closed e s (Events.PageIn node end) o h = paged_in_closed s o
 
 -- a call leaves no more notices
 called_notices : (s : State) (c : Call) (o : Outcome) → back_of any_message (called s c o).body.notices ≤ back_of any_message s.body.notices
@@ -268,50 +262,12 @@ expired_fewer s (Out.Delivered t) = landed_fewer t s.body
 expired_fewer s (Out.Unknown t) = landed_fewer t s.body
 expired_fewer s o = omega arith
 
-called_place : (s : State) (c : Call) (o : Outcome) → (called s c o).head.place ≡ s.head.place
-called_place s (Calls.Request index handler words) (Out.Requested m) = refl
-called_place s Calls.Poll (Out.Zero serial why) = refl
-called_place s Calls.Poll (Out.Ran m handler None) = refl
-called_place s Calls.Poll (Out.Ran m handler (Some reply)) = refl
-called_place s (Calls.SetTag tag) Out.Done = refl
-called_place s (Calls.Map index name tag credits) Out.Done = refl
-called_place s (Calls.Unmap index) Out.Done = refl
-called_place s (Calls.SetHandler index kind) Out.Done = refl
-called_place s (Calls.GiveUp serial) Out.Done = refl
-called_place s Calls.Close Out.Done = refl
-called_place s c o = refl
-
 left_place : (s : State) (o : Outcome) (t : Bool) → (if t then left s o else s).head.place ≡ s.head.place
 left_place s (Out.Accepted m) true = refl
 left_place s (Out.Requeued m cause bounces) true = refl
 left_place s (Out.Returned m cause) true = refl
 left_place s o true = refl
 left_place s o false = refl
-
-reached_place : (e : EndpointId) (s : State) (o : Outcome) → (reached e s o).head.place ≡ s.head.place
-reached_place e s (Out.Accepted m) = by_test (same_end e m.dest)
-  where
-    by_test : (b : Bool) → (if b then put m s else s).head.place ≡ s.head.place
-    by_test true = refl
-    by_test false = refl
-reached_place e s o = refl
-
-received_place : (e : EndpointId) (s : State) (r : Received) → (received e s r).head.place ≡ s.head.place
-received_place e s (Got.Accepted m answer) = refl
-received_place e s (Got.Refused m NotResident answer) = refl
-received_place e s (Got.Delivered t) = refl
-received_place e s (Got.Requeued t cause bounces) = refl
-received_place e s (Got.Returned t cause) = refl
-received_place e s r = refl
-
-expired_place : (s : State) (o : Outcome) → (expired s o).head.place ≡ s.head.place
-expired_place s (Out.Delivered t) = refl
-expired_place s (Out.Unknown t) = refl
-expired_place s o = refl
-
-bound_place : (s : State) (o : Outcome) → (bound s o).head.place ≡ s.head.place
-bound_place s (Out.Sent m peer channel seq attempt number) = refl
-bound_place s o = refl
 
 -- what a list of conditions says where none of them holds
 pub third_none : (a b c : Bool) (u v w : Condition) (rest : Option Condition) → cond a (Some u) (cond b (Some v) (cond c (Some w) rest)) ≡ None → (b ≡ false) × (c ≡ false) × (rest ≡ None)
@@ -320,14 +276,10 @@ third_none false true c u v w rest h = absurd (cc)
 third_none false false true u v w rest h = absurd (cc)
 third_none false false false u v w rest h = (refl, refl, h)
 
-second_none : (a b : Bool) (u v : Condition) → cond a (Some u) (cond b (Some v) None) ≡ None → b ≡ false
+pub second_none : (a b : Bool) (u v : Condition) → cond a (Some u) (cond b (Some v) None) ≡ None → b ≡ false
 second_none true b u v h = absurd (cc)
 second_none false true u v h = absurd (cc)
 second_none false false u v h = refl
-
-pub not_false : (b : Bool) → not b ≡ false → b ≡ true
-not_false true h = refl
-not_false false h = absurd (true≢false h)
 
 not_both : (p : Place) → is_resident p ≡ true → is_on_host p ≡ true → ⊥
 not_both (Frame frame) h k = true≢false (sym k)
@@ -375,7 +327,7 @@ touched_aloft layout past x may e at k = by_event x.event x.outcome may.enabled 
         (omega (arith, reached_flown (passing any_message) e (if same_end e end then left (state_of layout past e) o else state_of layout past e) o, left_flown (passing any_message) (state_of layout past e) o (same_end e end))) k
     by_event (Events.Bind node end) o on t = λ low.
         let c = third_none layout.direct (not (is_home layout end node)) (not (is_resident (state_of layout past end).head.place)) Needs.NotPacket Needs.OtherNode Needs.NotResident _ on in
-        ap is_resident (bound_place (state_of layout past e) o) ∙ subst (λ (w : EndpointId). is_resident (state_of layout past w).head.place ≡ true) (there end t) (not_false (is_resident (state_of layout past end).head.place) c.1)
+        ap is_resident (bound_place (state_of layout past e) o) ∙ subst (λ (w : EndpointId). is_resident (state_of layout past w).head.place ≡ true) (there end t) (not-false (is_resident (state_of layout past end).head.place) c.1)
     by_event (Events.Expire node peer channel) o on t = stays_aloft (state_of layout past e) (expired (state_of layout past e) o) (expired_place (state_of layout past e) o) (expired_fewer (state_of layout past e) o) k
     by_event (Events.Receive node peer number) (Out.Received channel seq attempt r) on t = stays_aloft (state_of layout past e) (received e (state_of layout past e) r) (received_place e (state_of layout past e) r) (received_fewer e (state_of layout past e) r) k
     by_event (Events.Receive node peer number) o on t = k
@@ -383,16 +335,16 @@ touched_aloft layout past x may e at k = by_event x.event x.outcome may.enabled 
     by_event (Events.Unload node end) o on t = λ low.
         let c = third_none layout.direct (not (is_home layout end node)) (not (is_resident (state_of layout past end).head.place)) Needs.NotPacket Needs.OtherNode Needs.NotResident _ on in
         let f : not (length (state_of layout past end).body.in_flight == 0) ≡ false = second_none (not (state_of layout past end).head.draining) (not (length (state_of layout past end).body.in_flight == 0)) Needs.NotDraining Needs.InFlight c.2 in
-        let none : length (state_of layout past end).body.in_flight ≡ 0 = eqb-true (length (state_of layout past end).body.in_flight) 0 (not_false (length (state_of layout past end).body.in_flight == 0) f) in
+        let none : length (state_of layout past end).body.in_flight ≡ 0 = eqb-true (length (state_of layout past end).body.in_flight) 0 (not-false (length (state_of layout past end).body.in_flight == 0) f) in
         let here : length (state_of layout past e).body.in_flight ≡ 0 = subst (λ (w : EndpointId). length (state_of layout past w).body.in_flight ≡ 0) (there end t) none in
         absurd (omega (arith, low, here, ones_flights (state_of layout past e).body.in_flight))
     by_event (Events.Load node end frame) o on t = λ low. refl
     by_event (Events.PageOut node end) o on t =
         let c = third_none layout.direct (not (is_home layout end node)) (not (is_on_host (state_of layout past end).head.place)) Needs.NotPacket Needs.OtherNode Needs.NotOnHost _ on in
-        out_aloft end o (there end t) (not_false (is_on_host (state_of layout past end).head.place) c.1)
+        out_aloft end o (there end t) (not-false (is_on_host (state_of layout past end).head.place) c.1)
     by_event (Events.PageIn node end) o on t =
         let c = third_none layout.direct (not (is_home layout end node)) (not (is_on_disk (state_of layout past end).head.place)) Needs.NotPacket Needs.OtherNode Needs.NotOnDisk _ on in
-        in_aloft end o (there end t) (not_false (is_on_disk (state_of layout past end).head.place) c.1)
+        in_aloft end o (there end t) (not-false (is_on_disk (state_of layout past end).head.place) c.1)
 
 pub all_aloft : (layout : Layout) (past : List Entry) → IsHistory layout past → (e : EndpointId) → IsAloft (state_of layout past e)
 all_aloft layout past h =

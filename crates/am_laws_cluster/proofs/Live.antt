@@ -31,9 +31,9 @@ use Rattle.am_model.specs.Channels.{Channel, Arrival, Stale, Again, Fresh, bound
 use Rattle.am_model.specs.History.{state_of, MayFollow, IsHistory, outcome_of, receive, arrive, decided, settle, settle_by, counts, bounced, channel_to, next_number, expire, is_answered}
 use Rattle.am_model.specs.PostOffice.{times, times_serial, Gave, WasAccepted}
 use Rattle.am_model.proofs.Each.{over_each, each_push}
-use Rattle.am_model.proofs.Names.{same_serial-is, same_serial-refl, same_end-refl}
+use Rattle.am_model.proofs.Names.{same_serial-is, same_serial-refl, same_end-refl, same_end-is}
 use Rattle.am_model.proofs.Received.{bit}
-use Rattle.am_model.proofs.Books.{role_push, same_end-is}
+use Rattle.am_model.proofs.Books.{role_push}
 use Rattle.am_laws_order.proofs.Everywhere.{each_once}
 use Rattle.am_laws_messages.proofs.Alls.{all_found}
 use Rattle.std.proofs.lemmas.List.Sums.{sum_by-le-sum_by}

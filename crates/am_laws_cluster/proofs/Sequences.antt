@@ -33,14 +33,13 @@ use Rattle.am_model.specs.History.{state_of, MayFollow, IsHistory, outcome_of, b
 use Rattle.am_model.specs.PostOffice.{times}
 use Rattle.am_model.specs.Cluster.{OnlyLastMayLive, sequence_bound_in, sequence_requeued_by, sequence_requeued_in, sequences_bound, sequences_requeued}
 use Rattle.am_model.proofs.Each.{over_each, each_push}
-use Rattle.am_model.proofs.Names.{same_serial-is, same_serial-refl}
+use Rattle.am_model.proofs.Names.{same_serial-is, same_serial-refl, same_channel-refl}
 use Rattle.am_model.proofs.Received.{bit}
 use Rattle.am_model.proofs.Books.{role_push, fits_direct}
 use Rattle.am_model.proofs.Queues.{FitsDirect}
 use Rattle.am_model.proofs.Ends.{bound_push, sequence_push}
 use Rattle.am_laws_order.proofs.Everywhere.{each_once}
 use Rattle.am_laws_order.proofs.Packets.{kept_packets, waiting, waiting_more}
-use Rattle.am_laws_order.proofs.Parcels.{same_channel-refl}
 use Rattle.am_laws_order.proofs.Senders.{SenderMoves, sender, sender_moves, same_channel-is}
 use Rattle.am_laws_order.proofs.Waiting.{bound_at, requeued_in, weight_serial}
 

@@ -10,7 +10,7 @@ use Rattle.am_model.specs.PostOffice.{times, Gave}
 use Rattle.am_model.proofs.Received.{bit}
 
 -- what is counted was given
-cons_gave : {A : Type 0} (w : Option A) (xs : List A) (a : A) → (k : ℕ) × (slice_get xs k ≡ Some a) → (k : ℕ) × (slice_get (cons_option w xs) k ≡ Some a)
+pub cons_gave : {A : Type 0} (w : Option A) (xs : List A) (a : A) → (k : ℕ) × (slice_get xs k ≡ Some a) → (k : ℕ) × (slice_get (cons_option w xs) k ≡ Some a)
 cons_gave None xs a r = r
 cons_gave (Some b) xs a r = (suc r.0, r.1)
 

@@ -35,15 +35,16 @@ use Rattle.am_model.specs.Channels.{bound_message, sequence, attempt}
 use Rattle.am_model.specs.History.{state_of, MayFollow, IsHistory, outcome_of, judged, channel_to, next_number, expire, is_answered}
 use Rattle.am_model.specs.PostOffice.{times, times_serial, Gave, WasAccepted, is_from, own_tag, mapping_of, is_about, ends_hold, ends_wait, SendsOne, SendsOneReply, IsRequestOf, IsAcceptedBy, asked_in, is_held, held_by, held_at, over_share, held_over, shares_below, IsWithinCredits, HasItsShare, RefusesAboveShare, CreditsHold}
 use Rattle.am_model.proofs.Each.{over_each, each_push, state_of_push}
-use Rattle.am_model.proofs.Names.{same_serial-is, same_serial-refl, same_end-refl}
+use Rattle.am_model.proofs.Names.{same_serial-is, same_serial-refl, same_end-refl, same_end-is}
 use Rattle.am_model.proofs.Received.{bit, one_touched}
-use Rattle.am_model.proofs.Books.{role_push, same_end-is, not_touched}
+use Rattle.am_model.proofs.Books.{role_push, not_touched}
 use Rattle.am_laws_order.proofs.Everywhere.{each_once}
 use Rattle.am_laws_messages.proofs.Alls.{all_map, all_found}
 use Rattle.am_laws_messages.proofs.Delivered.{delivers, run_facts}
 use Rattle.am_laws_messages.proofs.Replies.{event_one}
 use Rattle.am_laws_messages.proofs.Sent.{FitsSend, fits_send}
 use Rattle.std.proofs.lemmas.List.Sums.{sum_by-le-sum_by}
+use mathlib.Core.Bool.{or-false, or-true}
 use Rattle.am_laws_replies.proofs.Credited.{credits, two_fail}
 use Rattle.am_laws_fates.proofs.Numbers.{own_are}
 use Rattle.am_laws_fates.proofs.Flown.{lands_found}
@@ -70,25 +71,17 @@ held_in seen e p xs = count_by (λ (x : Entry). is_held seen (asked_where e p x.
 abbrev pub held_where : List Entry → EndpointId → (ℕ → Serial → Bool) → ℕ
 held_where past e p = held_in past e p past
 
-or_true : (b : Bool) → (b || true) ≡ true
-or_true true = refl
-or_true false = refl
-
-or_false : (b : Bool) → (b || false) ≡ b
-or_false true = refl
-or_false false = refl
-
 ends_push : (s : Serial) (past : List Entry) (x : Entry) → list_any (ends_hold s) (past ++ x ∷ []) ≡ (list_any (ends_hold s) past || is_serial s (ended x.event x.outcome))
 ends_push s past x =
-    list_any-append (ends_hold s) past (x ∷ []) ∙ ap (λ (b : Bool). list_any (ends_hold s) past || b) (or_false (ends_hold s x) ∙ ends_is s x.event x.outcome)
+    list_any-append (ends_hold s) past (x ∷ []) ∙ ap (λ (b : Bool). list_any (ends_hold s) past || b) (or-false (ends_hold s x) ∙ ends_is s x.event x.outcome)
 
 -- what is held after one entry more is what was held and does not end there
 held_then : (past : List Entry) (x : Entry) (e : EndpointId) (p : ℕ → Serial → Bool) (event : Event) (o : Outcome) → is_held (past ++ x ∷ []) (asked_where e p event o) ≡ is_held past (asked_where e (but p (ended x.event x.outcome)) event o)
 held_then past x e p (Events.Call actor end (Calls.Request index handler words)) (Out.Requested m) = by_tests (same_end e end) (p index m.serial) (is_serial m.serial (ended x.event x.outcome)) refl
   where
     by_tests : (a b c : Bool) → is_serial m.serial (ended x.event x.outcome) ≡ c → is_held (past ++ x ∷ []) (if a && b then Some m.serial else None) ≡ is_held past (if a && (b && not c) then Some m.serial else None)
-    by_tests true true true is = ap not (ends_push m.serial past x ∙ ap (λ (w : Bool). list_any (ends_hold m.serial) past || w) is ∙ or_true (list_any (ends_hold m.serial) past))
-    by_tests true true false is = ap not (ends_push m.serial past x ∙ ap (λ (w : Bool). list_any (ends_hold m.serial) past || w) is ∙ or_false (list_any (ends_hold m.serial) past))
+    by_tests true true true is = ap not (ends_push m.serial past x ∙ ap (λ (w : Bool). list_any (ends_hold m.serial) past || w) is ∙ or-true (list_any (ends_hold m.serial) past))
+    by_tests true true false is = ap not (ends_push m.serial past x ∙ ap (λ (w : Bool). list_any (ends_hold m.serial) past || w) is ∙ or-false (list_any (ends_hold m.serial) past))
     by_tests true false c is = refl
     by_tests false b c is = refl
 held_then past x e p event o = refl
@@ -349,7 +342,7 @@ untouched_where layout past x h may e p off = by_ended (ended x.event x.outcome)
 
 -- a request that is accepted here is held from then on
 new_held : (layout : Layout) (past : List Entry) (x : Entry) → Holds layout past → MayFollow layout past x → (m : Message) → accepted_of x ≡ Some m → ended x.event x.outcome ≡ None → is_held (past ++ x ∷ []) (Some m.serial) ≡ true
-new_held layout past x k may m is none = ap not (ends_push m.serial past x ∙ ap (λ (w : Option Serial). list_any (ends_hold m.serial) past || is_serial m.serial w) none ∙ or_false (list_any (ends_hold m.serial) past) ∙ by_test (list_any (ends_hold m.serial) past) refl)
+new_held layout past x k may m is none = ap not (ends_push m.serial past x ∙ ap (λ (w : Option Serial). list_any (ends_hold m.serial) past || is_serial m.serial w) none ∙ or-false (list_any (ends_hold m.serial) past) ∙ by_test (list_any (ends_hold m.serial) past) refl)
   where
     by_test : (b : Bool) → list_any (ends_hold m.serial) past ≡ b → b ≡ false
     by_test false at = refl

@@ -1,9 +1,10 @@
 -- The law of credits.
 use Rattle.std.specs.Prelude.{MatchOption, nat_le, is_none, count_by}
-use Rattle.std.proofs.Common.{◌≡◌, ◌⊎◌, inl, inr, ⊎_elim, ◌==◌, ℕ, zero, suc, ◌+◌, ◌-◌, ◌≤◌, ◌<◌, Bool, true, false, ◌||◌, List, [], ◌∷◌, ◌++◌, length, Option, Some, None, refl, sym, ap, ◌∙◌, subst, arith, eqb-true, eq-eqb, leb-true, leb-false, true≢false}
+use Rattle.std.proofs.Common.{◌≡◌, ◌⊎◌, inl, inr, ⊎_elim, ◌==◌, ℕ, zero, suc, ◌+◌, ◌-◌, ◌≤◌, ◌<◌, Bool, true, false, ◌||◌, List, [], ◌∷◌, ◌++◌, length, Option, Some, None, refl, sym, ap, ◌∙◌, subst, arith, eq-eqb, leb-true, leb-false}
 use Rattle.std.proofs.lemmas.Bool.{and_parts}
 use Rattle.std.proofs.lemmas.List.Sums.{sum_by-cons}
 use Rattle.std.specs.List.{list_any}
+use Rattle.am_lemmas.proofs.Numbers.{eqb_commutes}
 use Rattle.am_names.specs.declared.EndpointId.{EndpointId}
 use Rattle.am_names.specs.declared.Words.{Words}
 use Rattle.am_office.specs.declared.Call.TheVariants as Calls
@@ -38,19 +39,10 @@ use Rattle.am_laws_credits.proofs.Held.{held_is}
 use Rattle.am_laws_credits.proofs.Shares.{over_at, share_at, excess_is, shares_is, UnmappedIsEmpty, IsPooled, IsPooledBy, Shares, shares_kept, all_count, table_holds, entry_in}
 use Rattle.am_laws_credits.specs.Pool.{IsWithinPool}
 
-eqb_sym : (a b : ℕ) → (a == b) ≡ (b == a)
-eqb_sym a b = by_tests (a == b) (b == a) refl refl
-  where
-    by_tests : (s t : Bool) → (a == b) ≡ s → (b == a) ≡ t → s ≡ t
-    by_tests true true h k = refl
-    by_tests false false h k = refl
-    by_tests true false h k = absurd (true≢false (sym (eq-eqb b a (sym (eqb-true a b h))) ∙ k))
-    by_tests false true h k = absurd (true≢false (sym (eq-eqb a b (sym (eqb-true b a k))) ∙ h))
-
 -- the held requests of an index are its records
 pub held_records : (layout : Layout) (past : List Entry) → IsHistory layout past → (e : EndpointId) (index : ℕ) → held_at past e index ≡ records_at (state_of layout past e).body index
 held_records layout past h e index =
-    held_is layout past h e (λ at. index == at) ∙ (λ i. count_by (λ (a : Awaited). eqb_sym index a.index i) (state_of layout past e).body.awaited)
+    held_is layout past h e (λ at. index == at) ∙ (λ i. count_by (λ (a : Awaited). eqb_commutes index a.index i) (state_of layout past e).body.awaited)
 
 -- the same sums over the entries and over the state
 over_same : (layout : Layout) (past : List Entry) → IsHistory layout past → IsMapped layout past → (e : EndpointId) (i : ℕ) → over_share (mapping_of past e i) (held_at past e i) ≡ over_at (state_of layout past e).body i

@@ -1,6 +1,7 @@
 -- Records and flights are flagged just where a reply to them was put.
 use Rattle.std.proofs.Common.{◌≡◌, ℕ, zero, suc, ◌+◌, ◌≤◌, Bool, true, false, ◌||◌, List, [], ◌∷◌, ◌++◌, Option, Some, None, refl, sym, ap, ◌∙◌, subst, arith, true≢false}
 use Rattle.std.specs.List.{list_any, find}
+use Rattle.am_lemmas.proofs.Bools.{or_first_fails}
 use Rattle.am_names.specs.declared.EndpointId.{EndpointId}
 use Rattle.am_names.specs.declared.Serial.{Serial}
 use Rattle.am_names.specs.declared.Message.{Message}
@@ -23,9 +24,9 @@ use Rattle.am_model.specs.Channels.{attempt}
 use Rattle.am_model.specs.History.{state_of, MayFollow, IsHistory}
 use Rattle.am_model.specs.PostOffice.{times, is_about}
 use Rattle.am_model.proofs.Each.{over_each, each_push, state_of_push}
-use Rattle.am_model.proofs.Names.{same_serial-is, same_serial-refl, same_end-refl}
+use Rattle.am_model.proofs.Names.{same_serial-is, same_serial-refl, same_end-refl, same_end-is}
 use Rattle.am_model.proofs.Received.{bit, one_touched}
-use Rattle.am_model.proofs.Books.{role_push, same_end-is, fits_direct}
+use Rattle.am_model.proofs.Books.{role_push, fits_direct}
 use Rattle.am_model.proofs.Counts.{Accepts, accepts_next, HasSerial}
 use Rattle.am_model.proofs.Queues.{FitsDirect}
 use Rattle.am_laws_order.proofs.Waiting.{bound_at}
@@ -110,10 +111,6 @@ flagged past x m t s false is about k h =
     let same : t ≡ s = same_serial-is t s h in
     let one' : bit (passes (is_about s) (put_of x)) ≡ 1 = ap (λ (o : Option Message). bit (passes (is_about s) o)) is ∙ ap bit (about_itself s m (about ∙ ap (λ (w : Serial). Some w) same)) in
     omega (arith, replied_push s past x, one')
-
-not_flagged : (a b : Bool) → (a || b) ≡ false → a ≡ false
-not_flagged true b h = h
-not_flagged false b h = refl
 
 arrived_there : (t : Serial) (xs : List Awaited) → AllAre (λ (a : Awaited). same_serial t a.serial ≡ true → a.arrived ≡ true) (with_arrived (Some t) xs)
 arrived_there t [] = tt
@@ -205,13 +202,13 @@ touched_flags layout past x h may e k at =
     record {
       own = own;
       waiting = unflagged (λ (a : Awaited). a.serial) (λ (a : Awaited). a.arrived) layout past x h may e (changed e (state_of layout past e) x.event x.outcome).body.awaited own
-          (awaited_kept (λ (a : Awaited). a.arrived ≡ false → replied a.serial past ≡ 0) e (state_of layout past e) x.event x.outcome (λ m t is about a r f. r (not_flagged a.arrived (same_serial t a.serial) f)) k.waiting (λ index m is f. none_about layout past h m.serial (was_new layout past x h may m is)))
+          (awaited_kept (λ (a : Awaited). a.arrived ≡ false → replied a.serial past ≡ 0) e (state_of layout past e) x.event x.outcome (λ m t is about a r f. r (or_first_fails a.arrived (same_serial t a.serial) f)) k.waiting (λ index m is f. none_about layout past h m.serial (was_new layout past x h may m is)))
           (λ m t is about here. subst (AllAre (λ (a : Awaited). same_serial t a.serial ≡ true → a.arrived ≡ true)) (sym ((put_awaited e (state_of layout past e) x.event x.outcome m is here).0 ∙ ap (λ (w : Option Serial). with_arrived w (state_of layout past e).body.awaited) about)) (arrived_there t (state_of layout past e).body.awaited));
       came = awaited_kept (λ (a : Awaited). a.arrived ≡ true → 1 ≤ replied a.serial (past ++ x ∷ [])) e (state_of layout past e) x.event x.outcome (λ m t is about a r f. flagged past x m t a.serial a.arrived is about r f)
           (all_map (λ (a : Awaited). a.arrived ≡ true → 1 ≤ replied a.serial past) (λ (a : Awaited). a.arrived ≡ true → 1 ≤ replied a.serial (past ++ x ∷ [])) (state_of layout past e).body.awaited (λ a r f. omega (arith, r f, replied_push a.serial past x)) k.came)
           (λ index m is f. absurd (true≢false (sym f)));
       unmarked = unflagged (λ (f : Flying). f.message.serial) (λ (f : Flying). f.answered) layout past x h may e (changed e (state_of layout past e) x.event x.outcome).body.in_flight flying
-          (flights_kept (λ (f : Flying). f.answered ≡ false → replied f.message.serial past ≡ 0) e (state_of layout past e) x.event x.outcome (λ m t is about a r f. r (not_flagged a.answered (same_serial t a.message.serial) f)) k.unmarked (λ m is f. not_replied layout past h m.serial (not_yet_put layout past e x h may at m is)))
+          (flights_kept (λ (f : Flying). f.answered ≡ false → replied f.message.serial past ≡ 0) e (state_of layout past e) x.event x.outcome (λ m t is about a r f. r (or_first_fails a.answered (same_serial t a.message.serial) f)) k.unmarked (λ m is f. not_replied layout past h m.serial (not_yet_put layout past e x h may at m is)))
           (λ m t is about here. subst (AllAre (λ (f : Flying). same_serial t f.message.serial ≡ true → f.answered ≡ true)) (sym ((put_awaited e (state_of layout past e) x.event x.outcome m is here).1 ∙ ap (λ (w : Option Serial). with_marked w (state_of layout past e).body.in_flight) about)) (marked_there t (state_of layout past e).body.in_flight));
       marked = flights_kept (λ (f : Flying). f.answered ≡ true → 1 ≤ replied f.message.serial (past ++ x ∷ [])) e (state_of layout past e) x.event x.outcome (λ m t is about a r f. flagged past x m t a.message.serial a.answered is about r f)
           (all_map (λ (f : Flying). f.answered ≡ true → 1 ≤ replied f.message.serial past) (λ (f : Flying). f.answered ≡ true → 1 ≤ replied f.message.serial (past ++ x ∷ [])) (state_of layout past e).body.in_flight (λ a r f. omega (arith, r f, replied_push a.message.serial past x)) k.marked)

@@ -3,6 +3,7 @@ use Rattle.std.specs.Prelude.{not, count_by}
 use Rattle.std.proofs.Common.{◌≡◌, ℕ, ◌+◌, ◌≤◌, Bool, true, false, cond, ◌&&◌, ◌||◌, List, [], ◌∷◌, Option, Some, None, refl, sym, ap, ◌∙◌, subst, arith, true≢false, if◌then◌else◌}
 use Rattle.std.proofs.lemmas.Bool.{and_parts}
 use Rattle.std.proofs.lemmas.List.Sums.{sum_by_push, sum_by-cons}
+use mathlib.Core.Bool.{or-false}
 use Rattle.am_names.specs.declared.EndpointId.{EndpointId}
 use Rattle.am_names.specs.declared.NodeId.{NodeId}
 use Rattle.am_names.specs.declared.Serial.{Serial}
@@ -143,18 +144,14 @@ ended (Events.Receive node peer number) (Out.Received channel seq attempt r) = r
 ended (Events.Expire node peer channel) (Out.Unknown serial) = Some serial
 ended event o = None
 
-or_false : (b : Bool) → (b || false) ≡ b
-or_false true = refl
-or_false false = refl
-
 pub ends_is : (s : Serial) (event : Event) (o : Outcome) → (passes (is_about s) (run_in event o) || is_serial s (returned_in event o) || is_serial s (unknown_in event o) || is_serial s (given_up_in event o)) ≡ is_serial s (ended event o)
-ends_is s (Events.Call actor end Calls.Poll) (Out.Ran m handler sends) = or_false _ ∙ or_false _ ∙ or_false (is_about s m)
+ends_is s (Events.Call actor end Calls.Poll) (Out.Ran m handler sends) = or-false _ ∙ or-false _ ∙ or-false (is_about s m)
 ends_is s (Events.Call actor end call) o = refl
-ends_is s (Events.Carry end) (Out.Returned m cause) = or_false _ ∙ or_false (same_serial s m.serial)
+ends_is s (Events.Carry end) (Out.Returned m cause) = or-false _ ∙ or-false (same_serial s m.serial)
 ends_is s (Events.Carry end) o = refl
-ends_is s (Events.Receive node peer number) (Out.Received channel seq attempt (Got.Returned t cause)) = or_false _ ∙ or_false (same_serial s t)
+ends_is s (Events.Receive node peer number) (Out.Received channel seq attempt (Got.Returned t cause)) = or-false _ ∙ or-false (same_serial s t)
 ends_is s (Events.Receive node peer number) o = refl
-ends_is s (Events.Expire node peer channel) (Out.Unknown t) = or_false (same_serial s t)
+ends_is s (Events.Expire node peer channel) (Out.Unknown t) = or-false (same_serial s t)
 ends_is s (Events.Expire node peer channel) o = refl
 ends_is s event o = refl
 

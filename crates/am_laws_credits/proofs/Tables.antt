@@ -22,8 +22,9 @@ use Rattle.am_model.specs.Changes.{called, left, reached, paged_out, paged_in, c
 use Rattle.am_office.specs.Entries.{accepted_in, put_in}
 use Rattle.am_model.specs.Layout.{AllAre}
 use Rattle.am_model.specs.Channels.{attempt, sent_message}
+use Rattle.am_model.proofs.Alls.{all_push}
 use Rattle.am_laws_order.proofs.Waiting.{bound_at}
-use Rattle.am_laws_messages.proofs.Alls.{all_push, all_without}
+use Rattle.am_laws_messages.proofs.Alls.{all_without}
 use Rattle.am_laws_replies.proofs.Credited.{called_records, left_records, expired_records, bound_records, out_records, in_records}
 
 -- the records, as arrived where their reply is put

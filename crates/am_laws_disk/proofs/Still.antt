@@ -2,6 +2,7 @@
 use Rattle.std.specs.Prelude.{is_none, not, nat_lt, slice_get, ◌-◌}
 use Rattle.std.proofs.Common.{◌≡◌, ℕ, ◌+◌, ◌==◌, Bool, true, false, ◌&&◌, List, [], ◌∷◌, ◌++◌, Option, Some, None, refl, sym, ap, ◌∙◌, subst, true≢false, if◌then◌else◌}
 use Rattle.std.specs.List.{list_any}
+use Rattle.std.proofs.lemmas.Bool.{not-false}
 use Rattle.am_names.specs.Rules.{is_transient}
 use Rattle.am_names.specs.declared.AnswerPacket.{AnswerPacket}
 use Rattle.am_names.specs.declared.Cause.TheVariants.{NotResident}
@@ -24,7 +25,7 @@ use Rattle.am_office.specs.declared.Received.{Received}
 use Rattle.am_office.specs.declared.Received.TheVariants as Got
 use Rattle.am_office.specs.declared.Entry.{Entry}
 use Rattle.am_office.specs.Entries.{ends_touched, put_in, touched_by_expiry, touched_by_result, touches}
-use Rattle.am_model.specs.Changes.{changed, flying_of, paged_in, paged_out, received}
+use Rattle.am_model.specs.Changes.{changed, flying_of, received}
 use Rattle.am_model.specs.Channels.{Again, Arrival, Channel, Fresh, Stale, arrival, attempt, bound_message, emitted, mark, sequence}
 use Rattle.am_model.specs.Endpoint.{State, front, is_in_a_frame, is_on_disk, is_resident}
 use Rattle.am_model.specs.History.{IsHistory, MayFollow, arrive, bounced, channel_to, counts, decided, expire, failing, is_answered, is_home, next_number, outcome_of, receive, sent, settle, settle_by, state_of}
@@ -32,7 +33,9 @@ use Rattle.am_model.specs.Layout.{IsLawful, Layout}
 use Rattle.am_model.proofs.Each.{state_of_push}
 use Rattle.am_model.proofs.Names.{same_end-is}
 use Rattle.am_model.proofs.Received.{one_touched}
-use Rattle.am_local.proofs.Frames.{changed_place, none_holds, not_not, place_by, place_given}
+use Rattle.am_model.proofs.Places.{resident_not_on_disk}
+use Rattle.am_model.proofs.Unchanged.{paged_out_body, paged_in_body}
+use Rattle.am_local.proofs.Frames.{changed_place, none_holds, place_by, place_given}
 use Rattle.am_laws_messages.proofs.Delivered.{delivers, put_facts}
 use Rattle.am_laws_cluster.proofs.Bound.{in_flight_bound}
 use Rattle.am_laws_cluster.proofs.Flights.{third_none}
@@ -45,12 +48,6 @@ frame_off_disk (Frame frame) h = refl
 frame_off_disk Direct h = refl
 frame_off_disk Host h = refl
 frame_off_disk Disk h = sym h
-
-resident_off_disk : (p : Place) → is_resident p ≡ true → is_on_disk p ≡ false
-resident_off_disk (Frame frame) h = refl
-resident_off_disk Direct h = refl
-resident_off_disk Host h = refl
-resident_off_disk Disk h = sym h
 
 -- what an event that doesn't page out puts on disk was there
 there_before : (e : EndpointId) (event : Event) (o : Outcome) (p : Place) → list_any (same_end e) (ends_touched event o) ≡ true → pages_out e event ≡ false → is_on_disk (place_by (place_given event o) p) ≡ true → is_on_disk p ≡ true
@@ -141,25 +138,17 @@ on_disk layout past e = is_on_disk (state_of layout past e).head.place
 put_off_disk : (layout : Layout) (past : List Entry) (x : Entry) (e : EndpointId) (m : Message) → IsHistory layout past → MayFollow layout past x → put_in x.event x.outcome ≡ Some m → list_any (same_end e) (m.dest ∷ []) ≡ true → on_disk layout past e ≡ false
 put_off_disk layout past x e m history may puts t =
     one_off_disk layout past e m.dest t
-    (resident_off_disk (state_of layout past m.dest).head.place (put_facts layout past x (delivers layout past history) may m puts).welcome.resident)
+    (resident_not_on_disk (state_of layout past m.dest).head.place (put_facts layout past x (delivers layout past history) may m puts).welcome.resident)
 
 -- what is bound lies in memory
 bind_resident : (layout : Layout) (past : List Entry) (node : NodeId) (end : EndpointId) → failing layout past (Events.Bind node end) ≡ None → is_resident (state_of layout past end).head.place ≡ true
 bind_resident layout past node end on =
     let c = third_none layout.direct (not (is_home layout end node)) (not (is_resident (state_of layout past end).head.place)) Needs.NotPacket Needs.OtherNode Needs.NotResident _ on in
-    not_not (is_resident (state_of layout past end).head.place) c.1
+    not-false (is_resident (state_of layout past end).head.place) c.1
 
 -- where the endpoint isn't on disk nothing is said
 off : {X : Type 0} (b : Bool) → b ≡ false → b ≡ true → X
 off b h k = absurd (true≢false (sym k ∙ h))
-
-paged_out_body : (s : State) (o : Outcome) → (paged_out s o).body ≡ s.body
-paged_out_body s Out.Done = refl
-paged_out_body s o = refl
-
-paged_in_body : (s : State) (o : Outcome) → (paged_in s o).body ≡ s.body
-paged_in_body s Out.Done = refl
-paged_in_body s o = refl
 
 -- nor is the endpoint whose flight a receipt ends
 flight_off_disk : (layout : Layout) (past : List Entry) (x : Entry) (e : EndpointId) → IsLawful layout → IsHistory layout past → MayFollow layout past x → (node peer : NodeId) (number : ℕ) → x.event ≡ Events.Receive node peer number → lands_in x.outcome ≡ true → touches e x ≡ true → on_disk layout past e ≡ false
@@ -196,10 +185,10 @@ body_stays layout past x e packet lawful history may at on = by_event x.event x.
     by_event (Events.Want actor end) o ev is t = refl
     by_event (Events.Carry end) o ev is t =
         let f = none_holds (not layout.direct) Needs.NotDirect ((is_none (front (state_of layout past end)), Needs.NoMessage) ∷ []) (ap (failing layout past) (sym ev) ∙ may.enabled) in
-        absurd (true≢false (sym (not_not layout.direct f.0) ∙ packet))
+        absurd (true≢false (sym (not-false layout.direct f.0) ∙ packet))
     by_event (Events.Bind node end) o ev is t =
         off (on_disk layout past end)
-        (resident_off_disk (state_of layout past end).head.place (bind_resident layout past node end (ap (failing layout past) (sym ev) ∙ may.enabled)))
+        (resident_not_on_disk (state_of layout past end).head.place (bind_resident layout past node end (ap (failing layout past) (sym ev) ∙ may.enabled)))
         (there end t)
     by_event (Events.Expire node peer channel) o ev is t =
         let told : o ≡ expire layout node peer channel past (bound_message (channel_to node peer channel) past) = sym is ∙ may.outcome ∙ ap (outcome_of layout past) ev in

@@ -32,10 +32,10 @@ use Rattle.am_model.specs.Channels.{attempt}
 use Rattle.am_model.specs.History.{state_of, MayFollow, IsHistory}
 use Rattle.am_model.specs.PostOffice.{times, times_serial, Gave, WasAccepted, is_from, own_tag, mapping_of, is_about, ends_hold, ends_wait, SendsOne, SendsOneReply, IsRequestOf, IsAcceptedBy, asked_in, is_held, held_by, held_at, over_share, held_over, shares_below, IsWithinCredits, HasItsShare, RefusesAboveShare, CreditsHold}
 use Rattle.am_model.proofs.Each.{over_each, each_push, state_of_push}
-use Rattle.am_model.proofs.Names.{same_serial-is, same_serial-refl}
+use Rattle.am_model.proofs.Names.{same_serial-is, same_serial-refl, same_end-is}
 use Rattle.am_model.specs.Valid.{has_arrived}
 use Rattle.am_model.proofs.Received.{bit, one_touched}
-use Rattle.am_model.proofs.Books.{fits_call, same_end-is}
+use Rattle.am_model.proofs.Books.{fits_call}
 use Rattle.am_laws_messages.proofs.Alls.{all_map}
 use Rattle.am_laws_messages.proofs.Delivered.{delivers, put_facts}
 use Rattle.am_model.specs.Cluster.{ArrivedMatchesReceived, ReceivedTagMatches}

@@ -23,18 +23,18 @@ use Rattle.am_model.specs.Channels.{attempt}
 use Rattle.am_model.specs.History.{state_of, MayFollow, IsHistory}
 use Rattle.am_model.specs.PostOffice.{times_serial}
 use Rattle.am_model.proofs.Each.{over_each, each_push, state_of_push}
-use Rattle.am_model.proofs.Names.{same_serial-refl}
+use Rattle.am_model.proofs.Names.{same_serial-refl, same_end-is}
 use Rattle.am_model.proofs.Received.{bit}
-use Rattle.am_model.proofs.Books.{same_end-is}
 use Rattle.am_laws_messages.proofs.Alls.{all_map, all_found}
 use Rattle.am_office.specs.Entries.{requeue_in}
 use Rattle.am_model.specs.Cluster.{BouncesAreRequeues, HasBounced}
+use Rattle.am_model.proofs.Valid.{front_bounces}
 use Rattle.am_laws_order.proofs.Waiting.{weight_serial}
-use Rattle.am_laws_fates.proofs.Aloft.{Weight, aloft, queue_weight, flight_weight, front_bounces}
+use Rattle.am_laws_fates.proofs.Aloft.{Weight, aloft, queue_weight, flight_weight}
 use Rattle.am_laws_fates.proofs.Flown.{one}
 use Rattle.am_laws_fates.proofs.Numbers.{often, own_are, Tells, entry_tells}
 use Rattle.am_laws_fates.proofs.Ledger.{serial_moves}
-use Rattle.am_laws_fates.proofs.Balance.{balanced, serial_push, queue_never, flights_never}
+use Rattle.am_laws_fates.proofs.Balance.{balanced, serial_push, queue_never, flights_never, cond-bit_zero}
 use Rattle.am_laws_fates.proofs.Notices.{NewAre, notices_kept, IsNoticed, Zeroed, zeroed, in_notices}
 use Rattle.am_laws_credits.proofs.Marked.{all_both}
 
@@ -42,16 +42,12 @@ use Rattle.am_laws_credits.proofs.Marked.{all_both}
 abbrev weighed : {X : Type 0} → (X → Message) → (X → ℕ) → Weight → List X → ℕ
 weighed message bounces v xs = sum_by (λ x. v (message x) (bounces x)) xs
 
-no_bounces : (b : Bool) (n : ℕ) → bit b ≡ 0 → cond b n 0 ≡ 0
-no_bounces true n h = absurd (omega (arith, h))
-no_bounces false n h = refl
-
 none_weighed : {X : Type 0} (message : X → Message) (bounces : X → ℕ) (s : Serial) (xs : List X) → weighed message bounces (one s) xs ≡ 0 → weighed message bounces (often s) xs ≡ 0
 none_weighed message bounces s [] h = refl
 none_weighed message bounces s (x ∷ xs) h =
     let c = sum_by-cons (λ y. one s (message y) (bounces y)) x xs in
     let d = sum_by-cons (λ y. often s (message y) (bounces y)) x xs in
-    let e : cond (has_serial s (message x)) (bounces x) 0 ≡ 0 = no_bounces (has_serial s (message x)) (bounces x) (omega (arith, h, c)) in
+    let e : cond (has_serial s (message x)) (bounces x) 0 ≡ 0 = cond-bit_zero (has_serial s (message x)) (bounces x) (omega (arith, h, c)) in
     omega (arith, d, e, none_weighed message bounces s xs (omega (arith, h, c)))
 
 -- where a list has one message of a serial, all bounces there are its own
@@ -86,7 +82,7 @@ each_alone {X = X} message bounces (x ∷ xs) = (here, all_map (IsAlone message 
     later y a = (
       omega (arith, a.0, ones (message y).serial),
       λ low.
-          let off : cond (has_serial (message y).serial (message x)) (bounces x) 0 ≡ 0 = no_bounces (has_serial (message y).serial (message x)) (bounces x) (omega (arith, low, a.0, ones (message y).serial)) in
+          let off : cond (has_serial (message y).serial (message x)) (bounces x) 0 ≡ 0 = cond-bit_zero (has_serial (message y).serial (message x)) (bounces x) (omega (arith, low, a.0, ones (message y).serial)) in
           omega (arith, off, often' (message y).serial, a.1 (omega (arith, low, ones (message y).serial))),
     )
 

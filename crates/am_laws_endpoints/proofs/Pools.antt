@@ -30,7 +30,7 @@ use Rattle.am_model.specs.declared.Flying.{Flying}
 use Rattle.am_model.specs.declared.Notice.{Notice}
 use Rattle.am_model.specs.Endpoint.{State, Body, waits_for, is_waited_for, front, is_arrived, requests_held, replies_held, IsWithin}
 use Rattle.am_model.specs.Calls.{outcome_of_call, answer}
-use Rattle.am_model.specs.Changes.{called, left, reached, paged_out, paged_in, changed, put, received, expired, bound, without_waiting, arrived, with_arrived, flying_of, without_flight, bounces_of}
+use Rattle.am_model.specs.Changes.{called, left, reached, paged_out, paged_in, changed, put, received, expired, bound, arrived, with_arrived, flying_of, without_flight, bounces_of}
 use Rattle.am_office.specs.Entries.{put_of, ends_touched, touched_by_result, touches}
 use Rattle.am_model.specs.Layout.{Layout, AllAre, EndSetting, has_id, opening_by}
 use Rattle.am_model.specs.Channels.{attempt}
@@ -38,17 +38,18 @@ use Rattle.am_model.specs.History.{state_of, MayFollow, IsHistory, judged}
 use Rattle.am_model.specs.PostOffice.{times, times_serial, Gave, WasAccepted, is_from, own_tag, mapping_of, is_about, ends_hold, ends_wait, SendsOne, SendsOneReply, IsRequestOf, IsAcceptedBy, asked_in, is_held, held_by, held_at, over_share, held_over, shares_below, IsWithinCredits, HasItsShare, RefusesAboveShare, CreditsHold}
 use Rattle.am_model.proofs.Each.{over_each, each_push, state_of_push}
 use Rattle.am_model.proofs.Received.{bit, one_touched, FitsCall}
-use Rattle.am_model.proofs.Books.{fits_call, same_end-is}
-use Rattle.am_laws_messages.proofs.Alls.{all_push}
+use Rattle.am_model.proofs.Books.{fits_call}
 use Rattle.am_laws_messages.proofs.Delivered.{delivers, put_facts}
 use Rattle.am_laws_messages.proofs.Sent.{FitsSend, fits_send}
 use Rattle.std.proofs.Common.{append-nil}
 use Rattle.am_model.specs.Changes.{queued, appended, requests_left, without_front, notice_of, requeued_flight}
 use Rattle.am_model.specs.Cluster.{PoolsAreBounded}
 use Rattle.am_model.proofs.Own.{is_call}
-use Rattle.am_model.proofs.Sizes.{within_called}
+use Rattle.am_model.proofs.Sizes.{within_called, waiting_kept}
 use Rattle.am_model.proofs.Queues.{Judged}
 use Rattle.am_model.proofs.Received.{weight, run_at, put_at, changed_received}
+use Rattle.am_model.proofs.Alls.{all_push}
+use Rattle.am_model.proofs.Names.{same_end-is}
 use Rattle.am_laws_messages.proofs.Alls.{all_tail}
 use Rattle.am_laws_fates.proofs.Aloft.{Weight, aloft, queue_weight, flight_weight, one_weight, as_queued, rebounced, Moves, parts, comes, entry_moves, carry_parts, carry_comes}
 use Rattle.am_laws_credits.proofs.Shares.{table_holds}
@@ -265,15 +266,6 @@ no_more p e s event o fits h =
 
 -- the arrived records
 
-waiting_stay : (s : Serial) (xs : List Awaited) → count_by is_arrived (without_waiting s xs) ≡ count_by is_arrived xs
-waiting_stay s [] = refl
-waiting_stay s (a ∷ xs) = by_tests (same_serial s a.serial) a.arrived refl (waiting_stay s xs)
-  where
-    by_tests : (b c : Bool) → a.arrived ≡ c → count_by is_arrived (without_waiting s xs) ≡ count_by is_arrived xs → count_by is_arrived (cond (b && not c) xs (a ∷ without_waiting s xs)) ≡ count_by is_arrived (a ∷ xs)
-    by_tests true false is more = omega (arith, sum_by-cons (λ (y : Awaited). cond y.arrived 1 0) a xs, ap bit is)
-    by_tests true true is more = omega (arith, more, sum_by-cons (λ (y : Awaited). cond y.arrived 1 0) a xs, sum_by-cons (λ (y : Awaited). cond y.arrived 1 0) a (without_waiting s xs))
-    by_tests false c is more = omega (arith, more, sum_by-cons (λ (y : Awaited). cond y.arrived 1 0) a xs, sum_by-cons (λ (y : Awaited). cond y.arrived 1 0) a (without_waiting s xs))
-
 more_arrive : (t : Serial) (xs : List Awaited) → count_by is_arrived xs + bit (list_any (waits_for t) xs) ≤ count_by is_arrived (with_arrived (Some t) xs)
 more_arrive t [] = omega arith
 more_arrive t (a ∷ xs) = omega (arith, more_arrive t xs, sum_by-cons (λ (y : Awaited). cond y.arrived 1 0) a xs, sum_by-cons (λ (y : Awaited). cond y.arrived 1 0) (arrived t a) (with_arrived (Some t) xs), one' a.arrived (same_serial t a.serial) (list_any (waits_for t) xs))
@@ -306,7 +298,7 @@ Welcomes e s event o = (m : Message) → put_at e event o ≡ Some m → (is_ans
 left_arrives : (s : State) (o : Outcome) (t : Bool) → count_by is_arrived (if t then left s o else s).body.awaited ≡ count_by is_arrived s.body.awaited
 left_arrives s (Out.Accepted m) true = refl
 left_arrives s (Out.Requeued m cause bounces) true = refl
-left_arrives s (Out.Returned m cause) true = waiting_stay m.serial s.body.awaited
+left_arrives s (Out.Returned m cause) true = waiting_kept m.serial s.body.awaited
 left_arrives s o true = refl
 left_arrives s o false = refl
 
@@ -333,12 +325,12 @@ result_arrives e s node peer number channel seq attempt (Got.Accepted m answer) 
 result_arrives e s node peer number channel seq attempt (Got.Refused m NotResident answer) t w = omega arith
 result_arrives e s node peer number channel seq attempt (Got.Delivered u) t w = omega arith
 result_arrives e s node peer number channel seq attempt (Got.Requeued u cause bounces) t w = omega arith
-result_arrives e s node peer number channel seq attempt (Got.Returned u cause) t w = omega (arith, waiting_stay u s.body.awaited)
+result_arrives e s node peer number channel seq attempt (Got.Returned u cause) t w = omega (arith, waiting_kept u s.body.awaited)
 result_arrives e s node peer number channel seq attempt r t w = omega arith
 
 expired_arrives : (s : State) (o : Outcome) → count_by is_arrived (expired s o).body.awaited ≡ count_by is_arrived s.body.awaited
 expired_arrives s (Out.Delivered t) = refl
-expired_arrives s (Out.Unknown t) = waiting_stay t s.body.awaited
+expired_arrives s (Out.Unknown t) = waiting_kept t s.body.awaited
 expired_arrives s o = refl
 
 bound_arrives : (s : State) (o : Outcome) → count_by is_arrived (bound s o).body.awaited ≡ count_by is_arrived s.body.awaited

@@ -27,6 +27,7 @@ use Rattle.am_model.specs.Changes.{called, left, reached, queued, appended, requ
 use Rattle.am_office.specs.Entries.{accepted_by}
 use Rattle.am_model.specs.History.{judged}
 use Rattle.am_model.proofs.Queues.{Judged}
+use Rattle.am_model.proofs.Valid.{front_bounces}
 use Rattle.am_laws_order.proofs.Waiting.{IsFront}
 use Rattle.am_laws_messages.proofs.Sent.{FitsSend}
 
@@ -134,11 +135,6 @@ front_weighs v [] [] q e = absurd (cc)
 
 front_leaves : (v : Weight) (s : State) (q : Queued) → front s ≡ Some q → aloft v (without_front s.body) + v q.message q.bounces ≡ aloft v s.body
 front_leaves v s q e = omega (arith, front_weighs v s.body.replies s.body.requests q e)
-
-pub front_bounces : (replies requests : List Queued) (q : Queued) → front_of replies requests ≡ Some q → bounces_of replies requests ≡ q.bounces
-front_bounces (r ∷ replies) requests q e = let same : r ≡ q = cc in ap (λ (w : Queued). w.bounces) same
-front_bounces [] (r ∷ requests) q e = let same : r ≡ q = cc in ap (λ (w : Queued). w.bounces) same
-front_bounces [] [] q e = absurd (cc)
 
 pub marked_weighs : (v : Weight) (about : Option Serial) (flying : List Flying) → flight_weight v (with_marked about flying) ≡ flight_weight v flying
 marked_weighs v None flying = refl

@@ -40,16 +40,16 @@ pub serial_push : (role : Entry → Option Serial) (s : Serial) (past : List Ent
 serial_push role s past x = omega (arith, sum_by_push (λ (y : Entry). bit (is_serial s (role y))) past x, serial_weight s (role x))
 
 -- nothing of the serial bounced where nothing of it is there
-never : (b : Bool) (n : ℕ) → bit b ≡ 0 → cond b n 0 ≡ 0
-never true n h = absurd (omega (arith, h))
-never false n h = refl
+pub cond-bit_zero : (b : Bool) (n : ℕ) → bit b ≡ 0 → cond b n 0 ≡ 0
+cond-bit_zero true n h = absurd (omega (arith, h))
+cond-bit_zero false n h = refl
 
 pub queue_never : (s : Serial) (queue : List Queued) → queue_weight (one s) queue ≡ 0 → queue_weight (often s) queue ≡ 0
 queue_never s [] h = refl
 queue_never s (q ∷ queue) h =
     let c : queue_weight (one s) (q ∷ queue) ≡ bit (has_serial s q.message) + queue_weight (one s) queue = sum_by-cons (λ (y : Queued). one s y.message y.bounces) q queue in
     let d : queue_weight (often s) (q ∷ queue) ≡ cond (has_serial s q.message) q.bounces 0 + queue_weight (often s) queue = sum_by-cons (λ (y : Queued). often s y.message y.bounces) q queue in
-    let e : cond (has_serial s q.message) q.bounces 0 ≡ 0 = never (has_serial s q.message) q.bounces (omega (arith, h, c)) in
+    let e : cond (has_serial s q.message) q.bounces 0 ≡ 0 = cond-bit_zero (has_serial s q.message) q.bounces (omega (arith, h, c)) in
     omega (arith, d, e, queue_never s queue (omega (arith, h, c)))
 
 pub flights_never : (s : Serial) (flying : List Flying) → flight_weight (one s) flying ≡ 0 → flight_weight (often s) flying ≡ 0
@@ -57,7 +57,7 @@ flights_never s [] h = refl
 flights_never s (f ∷ flying) h =
     let c : flight_weight (one s) (f ∷ flying) ≡ bit (has_serial s f.message) + flight_weight (one s) flying = sum_by-cons (λ (y : Flying). one s y.message y.bounces) f flying in
     let d : flight_weight (often s) (f ∷ flying) ≡ cond (has_serial s f.message) f.bounces 0 + flight_weight (often s) flying = sum_by-cons (λ (y : Flying). often s y.message y.bounces) f flying in
-    let e : cond (has_serial s f.message) f.bounces 0 ≡ 0 = never (has_serial s f.message) f.bounces (omega (arith, h, c)) in
+    let e : cond (has_serial s f.message) f.bounces 0 ≡ 0 = cond-bit_zero (has_serial s f.message) f.bounces (omega (arith, h, c)) in
     omega (arith, d, e, flights_never s flying (omega (arith, h, c)))
 
 pub never_aloft : (s : Serial) (b : Body) → aloft (one s) b ≡ 0 → aloft (often s) b ≡ 0
@@ -65,7 +65,7 @@ never_aloft s b h = omega (arith, queue_never s b.requests (omega (arith, h)), q
 
 pub never_gone : (s : Serial) (g : Option Queued) → one_weight (one s) g ≡ 0 → one_weight (often s) g ≡ 0
 never_gone s None h = refl
-never_gone s (Some q) h = never (has_serial s q.message) q.bounces h
+never_gone s (Some q) h = cond-bit_zero (has_serial s q.message) q.bounces h
 
 pub weight_one : (s : Serial) (t : Option Serial) → weight_serial s t ≤ 1
 weight_one s None = omega arith

@@ -28,8 +28,9 @@ use Rattle.am_model.proofs.Names.{same_serial-is, same_serial-refl}
 use Rattle.am_model.proofs.Received.{bit}
 use Rattle.am_model.proofs.Books.{fits_direct}
 use Rattle.am_model.proofs.Queues.{FitsDirect}
+use Rattle.am_model.proofs.Chosen.{flying_of-has_serial}
 use Rattle.am_laws_order.proofs.Senders.{sender}
-use Rattle.am_laws_order.proofs.Waiting.{weight_serial, bound_at, found_has}
+use Rattle.am_laws_order.proofs.Waiting.{weight_serial, bound_at}
 use Rattle.am_laws_order.proofs.Effects.{Effect, Keeps, Binds, Refuses, Ends, IsSame, IsFreedAt, landed_by, landed_in, effect}
 use Rattle.am_laws_order.proofs.Situations.{Situation, Waits, Flies, Ended}
 use Rattle.am_laws_order.proofs.Packets.{KeptPackets, packets_more, packets_begin, bound_own}
@@ -44,7 +45,7 @@ flown layout past s = flight_weight (one s) (state_of layout past s.source).body
 
 pub found_one : (s t : Serial) (flying : List Flying) (f : Flying) → flying_of t flying ≡ Some f → bit (has_serial s f.message) ≡ bit (same_serial s t)
 found_one s t flying f is =
-    let same : t ≡ f.message.serial = same_serial-is t f.message.serial (found_has t flying f is) in ap (λ (w : Serial). bit (same_serial s w)) (sym same)
+    let same : t ≡ f.message.serial = same_serial-is t f.message.serial (flying_of-has_serial t flying f is) in ap (λ (w : Serial). bit (same_serial s w)) (sym same)
 
 found_le : (s t : Serial) (flying : List Flying) → one_weight (one s) (as_queued (flying_of t flying)) ≤ bit (same_serial s t)
 found_le s t flying = by_flight (flying_of t flying) refl

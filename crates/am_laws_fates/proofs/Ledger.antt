@@ -1,6 +1,7 @@
 -- What is kept of each serial: where it is, and how often it bounced.
 use Rattle.std.proofs.Common.{◌≡◌, ℕ, ◌+◌, ◌≤◌, Bool, true, false, ◌||◌, List, [], ◌∷◌, ◌++◌, Option, Some, None, refl, sym, ap, ◌∙◌, subst, arith, true≢false, if◌then◌else◌}
 use Rattle.std.specs.List.{list_any}
+use Rattle.am_lemmas.proofs.Bools.{or_first_fails}
 use Rattle.am_names.specs.declared.EndpointId.{EndpointId}
 use Rattle.am_names.specs.declared.NodeId.{NodeId}
 use Rattle.am_names.specs.declared.Serial.{Serial}
@@ -22,12 +23,12 @@ use Rattle.am_office.specs.Entries.{accepted_by, ends_touched, touches, touched_
 use Rattle.am_model.specs.Layout.{Layout}
 use Rattle.am_model.specs.History.{state_of, MayFollow, IsHistory, bounced}
 use Rattle.am_model.proofs.Each.{state_of_push}
-use Rattle.am_model.proofs.Names.{same_serial-is, same_serial-refl, same_end-refl}
+use Rattle.am_model.proofs.Names.{same_serial-is, same_serial-refl, same_end-refl, same_end-is}
 use Rattle.am_model.proofs.Received.{bit, one_touched}
-use Rattle.am_model.proofs.Books.{same_end-is, not_touched, left_part}
+use Rattle.am_model.proofs.Books.{not_touched}
 use Rattle.am_model.proofs.Counts.{Accepts, accepts_next, HasSerial}
 use Rattle.am_model.specs.Calls.{new_serial}
-use Rattle.am_laws_order.proofs.Waiting.{found_has}
+use Rattle.am_model.proofs.Chosen.{flying_of-has_serial}
 use Rattle.am_laws_order.proofs.Effects.{landed_in}
 use Rattle.am_laws_messages.proofs.Sent.{fits_send}
 use Rattle.am_laws_fates.proofs.Aloft.{as_queued, rebounced, carry_parts, carry_comes, parts, comes, Moves, stays, entry_moves}
@@ -42,7 +43,7 @@ pub record SerialMoves (layout : Layout) (past : List Entry) (x : Entry) (s : Se
   pub numbers : NumbersOf layout.bounces s x.event x.outcome gone come
 
 pub found_serial : (t : Serial) (flying : List Flying) (f : Flying) → flying_of t flying ≡ Some f → f.message.serial ≡ t
-found_serial t flying f is = sym (same_serial-is t f.message.serial (found_has t flying f is))
+found_serial t flying f is = sym (same_serial-is t f.message.serial (flying_of-has_serial t flying f is))
 
 -- a flight that lands, by its result
 result_numbers : (limit : ℕ) (s : Serial) (st : State) (node peer : NodeId) (number channel seq attempt : ℕ) (r : Received) (flights : Serial → Option Flying) → ((t : Serial) → list_any (same_end s.source) (touched_by_result r) ≡ true → landed_in (Events.Receive node peer number) (Out.Received channel seq attempt r) ≡ Some t → flights t ≡ flying_of t st.body.in_flight) → list_any (same_end s.source) (touched_by_result r) ≡ true → ((t : Serial) → landed_in (Events.Receive node peer number) (Out.Received channel seq attempt r) ≡ Some t → (f : Flying) × (flights t ≡ Some f)) → TellsResult limit flights r → NumbersOf limit s (Events.Receive node peer number) (Out.Received channel seq attempt r) (parts s.source st (Events.Receive node peer number) (Out.Received channel seq attempt r)) (comes s.source st (Events.Receive node peer number) (Out.Received channel seq attempt r))
@@ -157,7 +158,7 @@ serial_moves layout past x h may s = by_test (touches s.source x) refl
     untouched : (event : Event) (o : Outcome) → list_any (same_end s.source) (ends_touched event o) ≡ false → Accepts layout past event o → Tells layout past event o → NumbersOf layout.bounces s event o None None
     untouched (Events.Call actor end call) o off next tells =
         quiet_by layout.bounces s (bit (passes (has_serial s) (accepted_by call o))) 0 0 None (untouched_call layout.bounces s (state_of layout past end) end (accepted_by call o) (not_touched (same_end s.source end) off) next) refl (λ cause is. cc)
-    untouched (Events.Carry end) o off next tells = carry_away layout.bounces s end (state_of layout past end) o (left_part (same_end s.source end) _ off) (own end) tells
+    untouched (Events.Carry end) o off next tells = carry_away layout.bounces s end (state_of layout past end) o (or_first_fails (same_end s.source end) _ off) (own end) tells
     untouched (Events.Receive node peer number) (Out.Received channel seq attempt r) off next tells = untouched_result layout.bounces s node peer number channel seq attempt r off
     untouched (Events.Receive node peer number) o off next tells = quiet layout.bounces s
     untouched (Events.Expire node peer channel) o off next tells = untouched_expiry layout.bounces s node peer channel o off

@@ -33,11 +33,12 @@ use Rattle.am_model.specs.Layout.{Layout, EndSetting, AllAre, has_id, opening_by
 use Rattle.am_model.specs.History.{state_of, MayFollow, IsHistory, outcome_of}
 use Rattle.am_model.specs.PostOffice.{Gave, times_serial, CameBack, IsFirstZero, ZeroesOnce, OneZero}
 use Rattle.am_model.proofs.Each.{over_each, each_push, state_of_push}
-use Rattle.am_model.proofs.Names.{same_serial-is, same_serial-refl, same_end-refl}
+use Rattle.am_model.proofs.Names.{same_serial-is, same_serial-refl, same_end-refl, same_end-is}
 use Rattle.am_model.proofs.Received.{bit, FitsCall}
-use Rattle.am_model.proofs.Books.{same_end-is, fits_call}
+use Rattle.am_model.proofs.Books.{fits_call}
+use Rattle.am_model.proofs.Alls.{all_push}
 use Rattle.am_laws_order.proofs.Waiting.{weight_serial}
-use Rattle.am_laws_messages.proofs.Alls.{all_map, all_push, all_tail, gave_more, gave_now}
+use Rattle.am_laws_messages.proofs.Alls.{all_map, all_tail, gave_more, gave_now}
 use Rattle.am_laws_messages.proofs.Sent.{front_are, found_is}
 use Rattle.am_laws_messages.proofs.Delivered.{each_law}
 use Rattle.am_laws_fates.proofs.Numbers.{Tells, entry_tells, own_are}

@@ -30,9 +30,8 @@ use Rattle.am_model.specs.Layout.{Layout, EndSetting, has_id, opening_by}
 use Rattle.am_model.specs.Channels.{Arrival, Stale, Again, Fresh, Channel, bound_message, emitted, arrival, mark, sequence, attempt}
 use Rattle.am_model.specs.History.{state_of, MayFollow, IsHistory, outcome_of, carry, judged, receive, arrive, decided, settle, settle_by, counts, bounced, channel_to, next_number}
 use Rattle.am_model.proofs.Each.{over_each, state_of_push}
-use Rattle.am_model.proofs.Names.{same_serial-is, same_serial-refl, same_end-refl}
+use Rattle.am_model.proofs.Names.{same_serial-is, same_serial-refl, same_end-refl, same_end-is}
 use Rattle.am_model.proofs.Received.{bit, one_touched}
-use Rattle.am_model.proofs.Books.{same_end-is}
 use Rattle.am_model.proofs.Counts.{Accepts, accepts_next, HasSerial}
 use Rattle.am_model.specs.Calls.{new_serial}
 use Rattle.am_laws_order.proofs.Waiting.{weight_serial}

@@ -1,13 +1,15 @@
 -- Every accepted message comes from a declared endpoint and goes to one.
 use Rattle.std.specs.Prelude.{MatchOption, unwrap_or}
-use Rattle.std.proofs.Common.{◌≡◌, ◌⊎◌, ⊎_elim, ℕ, ◌==◌, ◌&&◌, ◌+◌, Bool, true, false, List, [], ◌∷◌, ◌++◌, Option, Some, None, refl, sym, ap, ◌∙◌, subst, if◌then◌else◌}
+use Rattle.std.proofs.Common.{◌≡◌, ◌⊎◌, ⊎_elim, ℕ, ◌==◌, ◌&&◌, ◌+◌, Bool, true, false, List, [], ◌∷◌, ◌++◌, Option, Some, None, refl, sym, ap, ◌∙◌, subst, if◌then◌else◌, ◌<◌}
 use Rattle.std.proofs.lemmas.Bool.{and_parts}
+use Rattle.std.specs.List.{find}
 use Rattle.am_names.specs.declared.EndpointId.{EndpointId}
 use Rattle.am_names.specs.declared.Serial.{Serial}
 use Rattle.am_names.specs.declared.Message.{Message}
 use Rattle.am_names.specs.declared.MsgKind.TheVariants as Kind
 use Rattle.am_names.specs.declared.Words.{Words}
 use Rattle.am_names.specs.Names.{same_end}
+use Rattle.am_names.specs.declared.NodeId.{NodeId}
 use Rattle.am_office.specs.declared.Actor.{Actor}
 use Rattle.am_office.specs.declared.Call.{Call}
 use Rattle.am_office.specs.declared.Call.TheVariants as Calls
@@ -20,7 +22,7 @@ use Rattle.am_office.specs.Entries.{accepted_of, accepted_in, run_in, run_of}
 use Rattle.am_model.specs.declared.Mapping.{Mapping}
 use Rattle.am_model.specs.declared.Queued.{Queued}
 use Rattle.am_model.specs.Endpoint.{front}
-use Rattle.am_model.specs.Layout.{Layout, declared}
+use Rattle.am_model.specs.Layout.{Layout, declared, EndSetting, IsLawful, IsSettingLawful, has_id, home, home_by}
 use Rattle.am_model.specs.History.{MayFollow, IsHistory, state_of, is_in_range, is_actor_in_range, is_call_in_range, is_byte, is_eight_bytes, are_credits_in_range}
 use Rattle.am_model.specs.PostOffice.{WasAccepted, IsAcceptedBy, times, is_from, own_tag, mapping_of, mapping_set}
 use Rattle.am_model.proofs.Each.{over_each, each_push}
@@ -28,6 +30,7 @@ use Rattle.am_model.proofs.Own.{last_given_push}
 use Rattle.am_laws_messages.proofs.Asked.{is_asked, knows}
 use Rattle.am_laws_messages.proofs.Delivered.{delivers, run_facts}
 use Rattle.am_laws_messages.proofs.Sent.{front_are}
+use Rattle.am_laws_messages.proofs.Alls.{all_found}
 use Rattle.am_laws_replies.proofs.Gave.{gave_back}
 use Rattle.am_laws_homes.specs.Homes.{IsAddressed}
 
@@ -126,3 +129,13 @@ messages_addressed layout past h m is = (addresses layout past h).messages m is
 
 pub front_addressed : (layout : Layout) (past : List Entry) → IsHistory layout past → (e : EndpointId) (q : Queued) → front (state_of layout past e) ≡ Some q → IsAddressed layout q.message
 front_addressed layout past h e q is = messages_addressed layout past h q.message (front_are (WasAccepted past) (state_of layout past e) q is ((delivers layout past h).sent e))
+
+pub home_found : (layout : Layout) → IsLawful layout → (o : Option EndSetting) (e : EndpointId) (node : NodeId) → find (has_id e) layout.ends ≡ o → home_by o ≡ Some node → node.0 < layout.nodes
+home_found layout lawful None e node is h = absurd (cc)
+home_found layout lawful (Some setting) e node is h =
+    let same : setting.node ≡ node = cc in
+    let at : setting.node.0 < layout.nodes = (all_found (IsSettingLawful layout) (has_id e) layout.ends setting is lawful.ends).node in
+    subst (λ (n : NodeId). n.0 < layout.nodes) same at
+
+pub home_below : (layout : Layout) → IsLawful layout → (e : EndpointId) (node : NodeId) → home layout e ≡ Some node → node.0 < layout.nodes
+home_below layout lawful e node h = home_found layout lawful (find (has_id e) layout.ends) e node refl h

@@ -85,23 +85,23 @@ paged_in_stays : (s : State) (o : Outcome) → at_direct s ≡ false → at_dire
 paged_in_stays s Out.Done h = refl
 paged_in_stays s o h = h
 
-not_packet : (c : Condition) (rest : Option Condition) (b : Bool) → b ≡ true → cond b (Some c) rest ≡ None → ⊥
-not_packet c rest true is k = cc
-not_packet c rest false is k = cc
+pub condition_holds : (c : Condition) (rest : Option Condition) (b : Bool) → b ≡ true → cond b (Some c) rest ≡ None → ⊥
+condition_holds c rest true is k = cc
+condition_holds c rest false is k = cc
 
 -- in the direct network no event that may happen changes a place
 direct_stays : (layout : Layout) (past : List Entry) (e : EndpointId) (s : State) (event : Event) (o : Outcome) → layout.direct ≡ true → failing layout past event ≡ None → at_direct (changed e s event o) ≡ at_direct s
 direct_stays layout past e s (Events.Call actor end call) o direct may = called_stays s call o
 direct_stays layout past e s (Events.Want actor end) o direct may = refl
 direct_stays layout past e s (Events.Carry end) o direct may = carried_stays e end s o
-direct_stays layout past e s (Events.Bind node end) o direct may = absurd (not_packet _ _ layout.direct direct may)
-direct_stays layout past e s (Events.Expire node peer channel) o direct may = absurd (not_packet _ _ layout.direct direct may)
-direct_stays layout past e s (Events.Receive node peer number) o direct may = absurd (not_packet _ _ layout.direct direct may)
-direct_stays layout past e s (Events.Drain node end) o direct may = absurd (not_packet _ _ layout.direct direct may)
-direct_stays layout past e s (Events.Unload node end) o direct may = absurd (not_packet _ _ layout.direct direct may)
-direct_stays layout past e s (Events.Load node end frame) o direct may = absurd (not_packet _ _ layout.direct direct may)
-direct_stays layout past e s (Events.PageOut node end) o direct may = absurd (not_packet _ _ layout.direct direct may)
-direct_stays layout past e s (Events.PageIn node end) o direct may = absurd (not_packet _ _ layout.direct direct may)
+direct_stays layout past e s (Events.Bind node end) o direct may = absurd (condition_holds _ _ layout.direct direct may)
+direct_stays layout past e s (Events.Expire node peer channel) o direct may = absurd (condition_holds _ _ layout.direct direct may)
+direct_stays layout past e s (Events.Receive node peer number) o direct may = absurd (condition_holds _ _ layout.direct direct may)
+direct_stays layout past e s (Events.Drain node end) o direct may = absurd (condition_holds _ _ layout.direct direct may)
+direct_stays layout past e s (Events.Unload node end) o direct may = absurd (condition_holds _ _ layout.direct direct may)
+direct_stays layout past e s (Events.Load node end frame) o direct may = absurd (condition_holds _ _ layout.direct direct may)
+direct_stays layout past e s (Events.PageOut node end) o direct may = absurd (condition_holds _ _ layout.direct direct may)
+direct_stays layout past e s (Events.PageIn node end) o direct may = absurd (condition_holds _ _ layout.direct direct may)
 
 -- no event brings an endpoint into the direct network
 packet_stays : (e : EndpointId) (s : State) (event : Event) (o : Outcome) → at_direct s ≡ false → at_direct (changed e s event o) ≡ false

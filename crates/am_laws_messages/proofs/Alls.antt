@@ -12,10 +12,6 @@ pub all_map : {X : Type 0} (P Q : X → Type 0) (xs : List X) → ((x : X) → P
 all_map P Q [] f h = tt
 all_map P Q (x ∷ xs) f h = (f x h.0, all_map P Q xs f h.1)
 
-pub all_push : {X : Type 0} (P : X → Type 0) (xs : List X) (x : X) → AllAre P xs → P x → AllAre P (xs ++ x ∷ [])
-all_push P [] x h p = (p, tt)
-all_push P (y ∷ xs) x h p = (h.0, all_push P xs x h.1 p)
-
 pub all_tail : {X : Type 0} (P : X → Type 0) (xs : List X) → AllAre P xs → AllAre P (drop 1 xs)
 all_tail P [] h = tt
 all_tail P (x ∷ xs) h = h.1

@@ -29,10 +29,10 @@ use Rattle.am_model.specs.Channels.{Channel, Arrival, Stale, Again, Fresh, same_
 use Rattle.am_model.specs.History.{state_of, MayFollow, IsHistory, EachAfter, outcome_of, bind, bind_to, carry, judged, receive, arrive, decided, channel_to, channel_for, next_number}
 use Rattle.am_model.specs.PostOffice.{WasAccepted, IsAt, IsFirstPut, IsFirstRun, IsPutAndRunFirst, PutAndRunOnce, IsTagged, TagMatches, TagsMatch, EachOnce}
 use Rattle.am_model.proofs.Each.{over_each, each_has, each_push, state_of_push}
-use Rattle.am_model.proofs.Names.{same_serial-refl, same_end-refl}
+use Rattle.am_model.proofs.Names.{same_serial-refl, same_end-refl, same_end-is}
 use Rattle.am_model.proofs.Own.{TagKept, tag_more}
 use Rattle.am_model.proofs.Received.{bit}
-use Rattle.am_model.proofs.Books.{role_push, fits_call, same_end-is}
+use Rattle.am_model.proofs.Books.{role_push, fits_call}
 use Rattle.am_model.proofs.Ends.{EmittedIn, emitted_more, was_emitted, bound_push}
 use Rattle.am_laws_order.proofs.Senders.{same_channel-is}
 use Rattle.am_laws_order.proofs.Parcels.{channel_of, new_parcel}
@@ -86,16 +86,16 @@ bind_front_binds : (layout : Layout) (past : List Entry) (c : Channel) (m : Mess
 bind_front_binds layout past c m node end None at h = inl h
 bind_front_binds layout past c m node end (Some q) at h = bind_binds layout past c m node end q at (home layout q.message.dest) (channel_for layout node past (Some q)) refl h
 
-none_if : (t : Bool) (b : Option Message) (m : Message) → (if t then None else b) ≡ Some m → b ≡ Some m
+pub none_if : (t : Bool) (b : Option Message) (m : Message) → (if t then None else b) ≡ Some m → b ≡ Some m
 none_if true b m h = absurd (cc)
 none_if false b m h = h
 
-expire_binds : (c : Channel) (node peer : NodeId) (channel : ℕ) (o : Outcome) (b : Option Message) (m : Message) → bound_then c (Events.Expire node peer channel) o b ≡ Some m → b ≡ Some m
+pub expire_binds : (c : Channel) (node peer : NodeId) (channel : ℕ) (o : Outcome) (b : Option Message) (m : Message) → bound_then c (Events.Expire node peer channel) o b ≡ Some m → b ≡ Some m
 expire_binds c node peer channel (Out.Delivered serial) b m h = none_if (same_channel c node peer channel) b m h
 expire_binds c node peer channel (Out.Unknown serial) b m h = none_if (same_channel c node peer channel) b m h
 expire_binds c node peer channel o b m h = h
 
-receive_binds : (c : Channel) (node peer : NodeId) (number : ℕ) (o : Outcome) (b : Option Message) (m : Message) → bound_then c (Events.Receive node peer number) o b ≡ Some m → b ≡ Some m
+pub receive_binds : (c : Channel) (node peer : NodeId) (number : ℕ) (o : Outcome) (b : Option Message) (m : Message) → bound_then c (Events.Receive node peer number) o b ≡ Some m → b ≡ Some m
 receive_binds c node peer number (Out.Received channel seq attempt r) b m h = none_if (frees_by r && same_channel c node peer channel) b m h
 receive_binds c node peer number o b m h = h
 

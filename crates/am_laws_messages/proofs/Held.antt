@@ -1,8 +1,9 @@
 -- What is received by an endpoint: what was put there, under the own tag.
 use Rattle.std.specs.Prelude.{is_some, is_none, not, nat_le, count_by}
-use Rattle.std.proofs.Common.{◌≡◌, ◌⊎◌, inl, inr, ◌==◌, ◌&&◌, ℕ, Bool, true, false, cond, List, [], ◌∷◌, length, Option, Some, None, refl, sym, ap, ◌∙◌, subst, arith, eqb-true, if◌then◌else◌}
+use Rattle.std.proofs.Common.{◌≡◌, ◌⊎◌, inl, inr, ◌==◌, ◌&&◌, ℕ, Bool, true, false, cond, List, [], ◌∷◌, length, Option, Some, None, refl, sym, ap, ◌∙◌, subst, eqb-true, if◌then◌else◌}
 use Rattle.std.proofs.lemmas.Bool.{and_parts}
 use Rattle.std.specs.List.{list_any, find}
+use Rattle.std.proofs.lemmas.List.{nil_from_length}
 use Rattle.am_names.specs.Rules.{matches}
 use Rattle.am_names.specs.declared.EndpointId.{EndpointId}
 use Rattle.am_names.specs.declared.Cause.TheVariants.{NoEndpoint, NotResident, BadTag, BadHandler, QueueFull, NoRequest}
@@ -28,7 +29,8 @@ use Rattle.am_model.specs.Layout.{AllAre}
 use Rattle.am_model.specs.PostOffice.{RunsOwnHandler}
 use Rattle.am_model.proofs.Received.{one_touched, FitsCall}
 use Rattle.am_model.proofs.Own.{Own, own_kept}
-use Rattle.am_laws_messages.proofs.Alls.{all_push, all_tail, all_found, all_without}
+use Rattle.am_model.proofs.Alls.{all_push}
+use Rattle.am_laws_messages.proofs.Alls.{all_tail, all_found, all_without}
 
 -- what a verdict that accepts tells
 pub record IsWelcome (s : State) (m : Message) : Type 0 where
@@ -51,10 +53,6 @@ welcome s m h = by_tests s.head.closed (is_resident s.head.place) (matches s.bod
     by_tests false true true false false true h1 h2 h3 h4 h5 h6 h = absurd (cc)
     by_tests false true true false false false h1 h2 h3 h4 h5 h6 h = record { open' = h1; resident = h2; tag = h3; handler = h4; room = h5; awaited = h6 }
 
-pub empty_list : {X : Type 0} (xs : List X) → length xs ≡ 0 → xs ≡ []
-empty_list [] h = refl
-empty_list (x ∷ xs) h = absurd (omega arith)
-
 -- the own tag stays, or nothing is received
 pub record IsTagSteady (s t : State) : Type 0 where
   pub steady : (t.body.tag ≡ s.body.tag) ⊎ (t.body.received ≡ [])
@@ -68,7 +66,7 @@ idle_received : (s : State) → is_idle s.body ≡ true → s.body.received ≡ 
 idle_received s h =
     let outer = and_parts ((length s.body.received == 0) && (messages_held s.body == 0)) (length s.body.awaited == 0) h in
     let inner = and_parts (length s.body.received == 0) (messages_held s.body == 0) outer.0 in
-    empty_list s.body.received (eqb-true (length s.body.received) 0 inner.0)
+    nil_from_length s.body.received (eqb-true (length s.body.received) 0 inner.0)
 
 called_steady : (pool : Option ℕ) (end : EndpointId) (s : State) (c : Call) (o : Outcome) → o ≡ outcome_of_call pool end s c → (called s c o).body.tag ≡ s.body.tag ⊎ ((called s c o).body.received ≡ [])
 called_steady pool end s (Calls.Request at handler words) (Out.Requested m) fits = inl refl

@@ -28,11 +28,13 @@ use Rattle.am_office.specs.Entries.{accepted_by, accepted_in, ends_touched, touc
 use Rattle.am_model.specs.Layout.{Layout, AllAre}
 use Rattle.am_model.specs.History.{state_of, judged, MayFollow, failing, outcome_of, is_home, channel_for}
 use Rattle.am_model.proofs.Received.{one_touched}
-use Rattle.am_model.proofs.Books.{same_end-is, carry_judged, second_fails}
+use Rattle.am_model.proofs.Books.{carry_judged, second_fails}
 use Rattle.am_model.proofs.Queues.{Judged}
+use Rattle.am_model.proofs.Alls.{all_push}
+use Rattle.am_model.proofs.Names.{same_end-is}
 use Rattle.am_laws_order.proofs.Waiting.{IsFront}
 use Rattle.am_laws_order.proofs.Packets.{bind_front, last_fails}
-use Rattle.am_laws_messages.proofs.Alls.{all_push, all_tail, all_found, all_without}
+use Rattle.am_laws_messages.proofs.Alls.{all_tail, all_found, all_without}
 
 -- a carry judges the front message of its source, and a bind sends it
 abbrev pub FitsSend : EndpointId → State → Event → Outcome → Type 0

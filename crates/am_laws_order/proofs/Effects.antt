@@ -24,8 +24,7 @@ use Rattle.am_model.specs.Layout.{Layout, home}
 use Rattle.am_model.specs.Channels.{Channel, same_channel, sequence, bound_message, attempt, mark, emitted, is_on_link, Arrival, Stale, Again, Fresh, arrival}
 use Rattle.am_model.specs.History.{bounced, state_of, MayFollow, outcome_of, receive, settle, settle_by, counts, arrive, decided, channel_to, next_number, bind, bind_to, expire, sent, channel_for, is_answered, free_from, channel_by}
 use Rattle.am_model.proofs.Ends.{EmittedIn, was_emitted}
-use Rattle.am_laws_order.proofs.Senders.{Sender, sender, same_channel-is, same_node-is, sender_after, sender_push}
-use Rattle.am_laws_order.proofs.Parcels.{same_channel-refl}
+use Rattle.am_laws_order.proofs.Senders.{Sender, sender, same_channel-is, sender_after, sender_push}
 use Rattle.am_names.specs.declared.EndpointId.{EndpointId}
 use Rattle.am_names.specs.declared.Serial.{Serial}
 use Rattle.am_office.specs.declared.Received.{Received}
@@ -33,6 +32,7 @@ use Rattle.am_model.specs.Changes.{flying_of}
 use Rattle.am_model.specs.declared.Queued.{Queued}
 use Rattle.am_model.proofs.Received.{bit}
 use Rattle.am_office.specs.Entries.{put_in, returned_in}
+use Rattle.am_model.proofs.Names.{same_node-is, same_channel-refl}
 use Rattle.am_laws_order.proofs.Marks.{back, end_of}
 use Rattle.am_laws_order.proofs.Waiting.{requeued_in, bound_at}
 

@@ -27,8 +27,9 @@ use Rattle.am_office.specs.Entries.{emitted_of, emitted_in, parcel, answer_by, a
 use Rattle.am_model.specs.Changes.{flying_of}
 use Rattle.am_model.specs.History.{bounced, state_of, MayFollow, outcome_of, receive, settle, settle_by, counts, arrive, decided, channel_to, next_number}
 use Rattle.am_model.proofs.Ends.{EmittedIn, emitted_more, was_emitted, mark_push}
-use Rattle.am_laws_order.proofs.Senders.{Sender, SenderMoves, sender, sender_moves, same_channel-is, same_node-is}
-use Rattle.am_laws_order.proofs.Parcels.{IsOf, ParcelsAreOf, channel_of, same_channel-refl, parcels_more}
+use Rattle.am_model.proofs.Names.{same_node-is, same_channel-refl}
+use Rattle.am_laws_order.proofs.Senders.{Sender, SenderMoves, sender, sender_moves, same_channel-is}
+use Rattle.am_laws_order.proofs.Parcels.{IsOf, ParcelsAreOf, channel_of, parcels_more}
 
 -- what a fresh packet is, against the mark
 abbrev pub IsPast : Mark → ℕ → ℕ → Type 0

@@ -1,7 +1,6 @@
 -- Each serial is accepted once, and put once, and run once, in that order.
 use Rattle.std.specs.Prelude.{nat_lt, not}
-use Rattle.std.proofs.Common.{◌≡◌, ◌⊎◌, inl, inr, ⊎_elim, ◌==◌, ℕ, zero, suc, ◌+◌, ◌≤◌, ◌<◌, Bool, true, false, cond, ◌&&◌, List, [], ◌∷◌, ◌++◌, Option, Some, None, refl, sym, ap, ◌∙◌, subst, arith, eqb-true, eq-eqb, true≢false, if◌then◌else◌}
-use Rattle.std.proofs.lemmas.Bool.{and_parts}
+use Rattle.std.proofs.Common.{◌≡◌, ◌⊎◌, inl, inr, ⊎_elim, ℕ, zero, suc, ◌+◌, ◌≤◌, ◌<◌, Bool, true, false, cond, ◌&&◌, List, [], ◌∷◌, ◌++◌, Option, Some, None, refl, sym, ap, ◌∙◌, subst, arith, true≢false, if◌then◌else◌}
 use Rattle.std.specs.List.{find}
 use Rattle.std.proofs.lemmas.List.Sums.{sum_by-cons, sum_by-le-sum_by}
 use Rattle.am_names.specs.declared.EndpointId.{EndpointId}
@@ -25,19 +24,9 @@ use Rattle.am_model.specs.PostOffice.{times, is_from, only_if, HasNextCount, Eac
 use Rattle.am_model.proofs.Each.{over_each, each_has}
 use Rattle.am_model.proofs.Received.{bit, weight, held, run_at, put_at, called_received}
 use Rattle.am_model.proofs.Queues.{to_send, accepted_at, left_at, Judged, FitsDirect, front_leaves}
-use Rattle.am_model.proofs.Books.{count_role, role_push, same_end-is, Balance, balance_more, fits_direct, ReceivedBalance}
+use Rattle.am_model.proofs.Books.{count_role, role_push, Balance, balance_more, fits_direct, ReceivedBalance}
 use Rattle.am_model.proofs.Counts.{Counted, counted_more, count_more, from_source, HasSerial, Accepts, accepts_next, has_next_count}
-
--- a test on names, and what it tells
-pub same_end-refl : (e : EndpointId) → same_end e e ≡ true
-same_end-refl e = eq-eqb e.0 e.0 refl
-
-same_serial-is : (s t : Serial) → same_serial s t ≡ true → s ≡ t
-same_serial-is s t h =
-    let parts = and_parts (same_end s.source t.source) (s.count == t.count) h in
-    let e : s.source ≡ t.source = same_end-is s.source t.source parts.0 in
-    let c : s.count ≡ t.count = eqb-true s.count t.count parts.1 in
-    λ i. record { source = e i; count = c i }
+use Rattle.am_model.proofs.Names.{same_end-refl, same_end-is, same_serial-is}
 
 -- what one entry has in a role, against what it has in another
 pub role_le : (r q : Event → Outcome → Option Message) (p : Message → Bool) (xs : List Entry) → ((event : Event) (o : Outcome) → weight p (r event o) ≤ weight p (q event o)) → count_role r p xs ≤ count_role q p xs

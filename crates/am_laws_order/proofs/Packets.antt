@@ -1,12 +1,12 @@
 -- On the packet network each serial is put at most once, and only when accepted.
-use Rattle.am_model.proofs.Books.{role_push, same_end-is, not_touched}
+use Rattle.am_model.proofs.Books.{role_push, not_touched}
 use Rattle.am_laws_order.proofs.Effects.{Effect, Keeps, Binds, Refuses, Ends, IsBoundTo, IsFreedAt, IsRefusal, effect}
 use Rattle.am_laws_order.proofs.Marks.{ChannelsKept, channels_more, channels_begin}
-use Rattle.am_model.proofs.Names.{same_serial-is, same_serial-refl, same_end-refl}
+use Rattle.am_model.proofs.Names.{same_serial-is, same_serial-refl, same_end-refl, same_end-is}
 use Rattle.am_model.proofs.Queues.{to_send, called_sends, front_leaves, paged_out_sends, paged_in_sends}
 use Rattle.am_model.proofs.Received.{bit, one_touched}
 use Rattle.am_laws_order.proofs.Senders.{sender}
-use Rattle.am_laws_order.proofs.Waiting.{requeued_in, bound_at, FitsPacket, IsFront, packet_sends, weight_serial, flight_sends, flight_weight, found_has, bound_sends, expired_sends}
+use Rattle.am_laws_order.proofs.Waiting.{requeued_in, bound_at, FitsPacket, IsFront, packet_sends, weight_serial, flight_sends, flight_weight, bound_sends, expired_sends}
 use Rattle.am_model.specs.Changes.{changed, flying_of, received, without_flight}
 use Rattle.am_model.specs.Channels.{Channel, bound_message, attempt, sent_message}
 use Rattle.am_model.specs.Endpoint.{State, front, is_resident}
@@ -41,6 +41,7 @@ use Rattle.am_office.specs.declared.Event.TheVariants as Events
 use Rattle.am_office.specs.declared.Outcome.TheVariants as Out
 use Rattle.am_office.specs.declared.Received.TheVariants as Got
 use Rattle.am_office.specs.declared.Condition.TheVariants as Needs
+use Rattle.am_model.proofs.Chosen.{flying_of-has_serial}
 
 -- whether a message is of another source
 abbrev pub is_foreign : EndpointId → Message → Bool
@@ -109,7 +110,7 @@ foreign_received e s (Got.Requeued serial cause used) t =
     by_flight : (f : Option Flying) → flying_of serial s.body.in_flight ≡ f → flight_weight (is_foreign e) f ≡ 0
     by_flight None is = refl
     by_flight (Some g) is =
-        let same : serial ≡ g.message.serial = same_serial-is serial g.message.serial (found_has serial s.body.in_flight g is) in
+        let same : serial ≡ g.message.serial = same_serial-is serial g.message.serial (flying_of-has_serial serial s.body.in_flight g is) in
         ap (λ (w : Serial). bit (not (same_end e w.source))) (sym same) ∙ ap (λ (b : Bool). bit (not b)) (one_touched (same_end e serial.source) t)
 foreign_received e s (Got.Returned serial cause) t = refl
 foreign_received e s r t = refl

@@ -1,7 +1,6 @@
 -- What is known of every packet that a channel ever carried.
 use Rattle.std.specs.Prelude.{nat_lt, slice_get}
-use Rattle.std.proofs.Common.{◌≡◌, ⊎_elim, ℕ, ◌+◌, ◌-◌, ◌≤◌, Bool, true, false, ◌||◌, List, [], ◌∷◌, ◌++◌, Option, Some, None, refl, sym, ap, ◌∙◌, subst, arith, eq-eqb, true≢false, if◌then◌else◌}
-use Rattle.std.proofs.lemmas.Bool.{and_from}
+use Rattle.std.proofs.Common.{◌≡◌, ⊎_elim, ℕ, ◌+◌, ◌-◌, ◌≤◌, Bool, true, false, ◌||◌, List, [], ◌∷◌, ◌++◌, Option, Some, None, refl, sym, ap, ◌∙◌, subst, arith, true≢false, if◌then◌else◌}
 use Rattle.am_names.specs.declared.EndpointId.{EndpointId}
 use Rattle.am_names.specs.declared.NodeId.{NodeId}
 use Rattle.am_names.specs.declared.Message.{Message}
@@ -15,7 +14,6 @@ use Rattle.am_office.specs.declared.Outcome.{Outcome}
 use Rattle.am_office.specs.declared.Outcome.TheVariants as Out
 use Rattle.am_office.specs.declared.Entry.{Entry}
 use Rattle.am_model.specs.declared.Queued.{Queued}
-use Rattle.am_names.specs.Names.{same_node}
 use Rattle.am_model.specs.Endpoint.{front}
 use Rattle.am_model.specs.Changes.{flying_of}
 use Rattle.am_model.specs.Layout.{Layout, home}
@@ -24,13 +22,8 @@ use Rattle.am_office.specs.Entries.{emitted_of, emitted_in, answer_by, answer_pa
 use Rattle.am_model.specs.History.{state_of, MayFollow, outcome_of, bind, bind_to, expire, receive, settle, arrive, sent, channel_to, channel_for, is_answered, next_number}
 use Rattle.am_model.proofs.Received.{bit}
 use Rattle.am_model.proofs.Ends.{EmittedIn, emitted_more}
+use Rattle.am_model.proofs.Names.{same_channel-refl}
 use Rattle.am_laws_order.proofs.Senders.{Sender, SenderMoves, sender, sender_after, sender_push, sender_moves}
-
-same_node-refl : (a : NodeId) → same_node a a ≡ true
-same_node-refl a = eq-eqb a.0 a.0 refl
-
-pub same_channel-refl : (c : Channel) → same_channel c c.node c.peer c.number ≡ true
-same_channel-refl c = and_from _ _ (and_from _ _ (same_node-refl c.node) (same_node-refl c.peer)) (eq-eqb c.number c.number refl)
 
 -- the channel of a parcel, as its sender has it
 abbrev pub channel_of : Parcel → Channel

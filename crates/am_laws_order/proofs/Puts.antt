@@ -25,13 +25,13 @@ use Rattle.am_model.specs.Channels.{Channel, Mark, same_channel, sequence, bound
 use Rattle.am_model.specs.Changes.{flying_of}
 use Rattle.am_model.specs.History.{bounced, state_of, MayFollow, outcome_of, receive, settle, settle_by, counts, arrive, decided, channel_to, next_number}
 use Rattle.am_model.proofs.Ends.{EmittedIn, was_emitted, mark_push}
-use Rattle.am_laws_order.proofs.Senders.{same_node-is}
-use Rattle.am_laws_order.proofs.Parcels.{channel_of, same_channel-refl}
+use Rattle.am_laws_order.proofs.Parcels.{channel_of}
 use Rattle.am_names.specs.declared.EndpointId.{EndpointId}
 use Rattle.am_office.specs.Entries.{put_in, put_of}
 use Rattle.am_laws_order.proofs.Marks.{back}
 use Rattle.am_laws_order.proofs.Marks.{IsPast, fresh_means, Decides, MarkMoves, mark_moves, mark_after}
 use Rattle.am_model.proofs.Ends.{mark_push}
+use Rattle.am_model.proofs.Names.{same_node-is, same_channel-refl}
 use Rattle.am_laws_order.proofs.Parcels.{channel_of}
 
 -- a parcel that its receiving end would take for fresh
@@ -108,7 +108,7 @@ settle_puts layout past node peer number a (Some m) = by_test ((a.seq == sequenc
     by_test true = by_verdict a.verdict (bounced (flying_of m.serial (state_of layout past m.serial.source).body.in_flight))
     by_test false = refl
 
-link_of_parcel : (peer node : NodeId) (p : Parcel) → is_on_link peer node (Packets.Parcel p) ≡ true → back (channel_of p) ≡ channel_to node peer p.channel
+pub link_of_parcel : (peer node : NodeId) (p : Parcel) → is_on_link peer node (Packets.Parcel p) ≡ true → back (channel_of p) ≡ channel_to node peer p.channel
 link_of_parcel peer node p h =
     let parts = and_parts (same_node peer p.from) (same_node node p.to) h in
     let from : p.from ≡ peer = sym (same_node-is peer p.from parts.0) in

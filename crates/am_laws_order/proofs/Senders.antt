@@ -23,6 +23,7 @@ use Rattle.am_model.specs.History.{state_of, MayFollow, outcome_of, bind, bind_t
 use Rattle.am_model.specs.Changes.{flying_of}
 use Rattle.am_model.proofs.Received.{bit}
 use Rattle.am_model.proofs.Ends.{sequence_push, attempt_push, bound_push}
+use Rattle.am_model.proofs.Names.{same_node-is}
 
 -- a sending end
 pub record Sender : Type 0 where
@@ -57,9 +58,6 @@ stays old = record { up = inl refl; same_message = λ m e b. b; later_attempt = 
 -- freed
 freed : (old new : Sender) → new.seq ≡ old.seq → new.bound ≡ None → new.attempt ≡ old.attempt → SenderMoves old new
 freed old new seq none same = record { up = inl seq; same_message = λ m e b. absurd (cc); later_attempt = λ e. omega (arith, same) }
-
-pub same_node-is : (a b : NodeId) → same_node a b ≡ true → a ≡ b
-same_node-is a b h = let e : a.0 ≡ b.0 = eqb-true a.0 b.0 h in λ i. record { 0 = e i }
 
 pub same_channel-is : (c : Channel) (node peer : NodeId) (number : ℕ) → same_channel c node peer number ≡ true → c ≡ channel_to node peer number
 same_channel-is c node peer number h =

@@ -1,5 +1,5 @@
 -- What an entry of either network does to the messages that an endpoint is to send.
-use Rattle.std.proofs.Common.{◌≡◌, ℕ, ◌+◌, Bool, true, false, cond, List, [], ◌∷◌, Option, Some, None, refl, arith, ◌≤◌, subst}
+use Rattle.std.proofs.Common.{◌≡◌, ℕ, ◌+◌, Bool, true, Option, Some, None, refl, arith, ◌≤◌, subst}
 use Rattle.std.specs.List.{list_any}
 use Rattle.am_names.specs.declared.EndpointId.{EndpointId}
 use Rattle.am_names.specs.declared.Message.{Message}
@@ -21,6 +21,7 @@ use Rattle.am_model.specs.Channels.{sent_message}
 use Rattle.am_model.proofs.Received.{bit}
 use Rattle.am_model.proofs.Names.{same_serial-is}
 use Rattle.am_model.proofs.Queues.{to_send, called_sends, front_leaves, both_appended, paged_out_sends, paged_in_sends}
+use Rattle.am_model.proofs.Chosen.{flying_of-has_serial}
 
 -- the serial that an outcome puts back into its queue
 abbrev pub requeued_by : Received → Option Serial
@@ -30,15 +31,6 @@ requeued_by result = None
 abbrev pub weight_serial : Serial → Option Serial → ℕ
 weight_serial s None = 0
 weight_serial s (Some t) = bit (same_serial s t)
-
--- what is found in flight has the serial that is looked for
-pub found_has : (serial : Serial) (flying : List Flying) (f : Flying) → flying_of serial flying ≡ Some f → has_serial serial f.message ≡ true
-found_has serial [] f e = absurd (cc)
-found_has serial (g ∷ flying) f e = by_test (has_serial serial g.message) refl e (found_has serial flying f)
-  where
-    by_test : (b : Bool) → has_serial serial g.message ≡ b → cond b (Some g) (flying_of serial flying) ≡ Some f → (flying_of serial flying ≡ Some f → has_serial serial f.message ≡ true) → has_serial serial f.message ≡ true
-    by_test true is h more = let same : g ≡ f = cc in subst (λ (w : Flying). has_serial serial w.message ≡ true) same is
-    by_test false is h more = more h
 
 abbrev pub flight_weight : (Message → Bool) → Option Flying → ℕ
 flight_weight p None = 0
@@ -93,7 +85,7 @@ received_sends t e s (Got.Requeued serial cause used) =
     by_flight : (f : Option Flying) → flying_of serial s.body.in_flight ≡ f → flight_weight (has_serial t) f ≤ bit (same_serial t serial)
     by_flight None is = omega arith
     by_flight (Some g) is =
-        let same : serial ≡ g.message.serial = same_serial-is serial g.message.serial (found_has serial s.body.in_flight g is) in
+        let same : serial ≡ g.message.serial = same_serial-is serial g.message.serial (flying_of-has_serial serial s.body.in_flight g is) in
         subst (λ (w : Serial). bit (same_serial t w) ≤ bit (same_serial t serial)) same (omega arith)
 received_sends t e s (Got.Returned serial cause) = omega arith
 received_sends t e s r = omega arith

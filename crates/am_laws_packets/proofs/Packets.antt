@@ -1,6 +1,6 @@
 -- Packets go over the channels that there are, in sequences from 1, with well formed messages.
 use Rattle.std.specs.Prelude.{slice_get, nat_lt, is_some}
-use Rattle.std.proofs.Common.{◌≡◌, ⊎_elim, ℕ, zero, suc, ◌+◌, ◌-◌, ◌<◌, ◌≤◌, Bool, true, false, cond, ◌||◌, ◌&&◌, List, [], ◌∷◌, ◌++◌, Option, Some, None, refl, sym, ap, ◌∙◌, subst, arith, ltb-true, if◌then◌else◌}
+use Rattle.std.proofs.Common.{◌≡◌, ⊎_elim, ℕ, ◌+◌, ◌-◌, ◌<◌, ◌≤◌, Bool, true, false, cond, ◌||◌, ◌&&◌, List, [], ◌∷◌, ◌++◌, Option, Some, None, refl, sym, ap, ◌∙◌, subst, arith, ltb-true, if◌then◌else◌}
 use Rattle.std.proofs.lemmas.Bool.{and_parts}
 use Rattle.std.proofs.lemmas.List.Sums.{sum_by-cons}
 use Rattle.am_names.specs.declared.NodeId.{NodeId}
@@ -18,7 +18,6 @@ use Rattle.am_office.specs.declared.Call.TheVariants as Calls
 use Rattle.am_office.specs.declared.Refusal.{Refusal}
 use Rattle.am_office.specs.declared.Event.{Event}
 use Rattle.am_office.specs.declared.Event.TheVariants as Events
-use Rattle.am_office.specs.declared.Outcome.{Outcome}
 use Rattle.am_office.specs.declared.Outcome.TheVariants as Out
 use Rattle.am_office.specs.declared.Entry.{Entry}
 use Rattle.am_office.specs.Entries.{accepted_by, accepted_in, accepted_of, answer_by, answer_packet, emitted_in, emitted_of, parcel}
@@ -29,15 +28,16 @@ use Rattle.am_model.specs.declared.Queued.{Queued}
 use Rattle.am_model.specs.Allowed.{is_well_formed}
 use Rattle.am_model.specs.Calls.{answer, new_request, outcome_of_call, poll, poll_received, poll_requests, request_refusal, unless}
 use Rattle.am_model.specs.Changes.{flying_of}
-use Rattle.am_model.specs.Channels.{Channel, arrival, attempt, binds, bound_message, emitted, frees, mark, sent_message, sequence}
+use Rattle.am_model.specs.Channels.{Channel, arrival, attempt, binds, bound_message, emitted, frees, mark, sequence}
 use Rattle.am_model.specs.Endpoint.{State, entry_at, front}
 use Rattle.am_model.specs.Layout.{Layout, home}
-use Rattle.am_model.specs.History.{IsHistory, MayFollow, arrive, bind, bind_to, channel_by, channel_for, channel_to, expire, free_from, is_bound, is_in_range, next_number, outcome_of, receive, sent, settle, state_of}
+use Rattle.am_model.specs.History.{IsHistory, MayFollow, arrive, bind, bind_to, channel_by, channel_for, channel_to, expire, is_in_range, next_number, outcome_of, receive, sent, settle, state_of}
 use Rattle.am_model.specs.PostOffice.{WasAccepted}
 use Rattle.am_model.proofs.Each.{over_each, each_push}
 use Rattle.am_model.proofs.Ends.{EmittedIn, bound_push, emitted_more, sequence_push, was_emitted}
 use Rattle.am_model.proofs.Received.{bit}
 use Rattle.am_model.proofs.Sound.{answer_formed}
+use Rattle.am_model.proofs.Channels.{free_below, freeing_sends_nothing}
 use Rattle.am_laws_order.proofs.Parcels.{channel_of, new_parcel}
 use Rattle.am_laws_messages.proofs.Delivered.{delivers}
 use Rattle.am_laws_replies.proofs.Gave.{gave_back}
@@ -102,13 +102,6 @@ accepted_formed layout past h =
 abbrev AreCounted : List Entry → Type 0
 AreCounted past = (c : Channel) (m : Message) → bound_message c past ≡ Some m → 1 ≤ sequence c past
 
--- what frees a channel sends nothing
-freed_silent : (c : Channel) (event : Event) (o : Outcome) → frees c event o ≡ true → sent_message o ≡ None
-freed_silent c (Events.Expire node peer channel) (Out.Sent m to number seq attempt place) h = absurd (cc)
-freed_silent c (Events.Receive node peer number) (Out.Received channel seq attempt result) h = refl
-freed_silent c event (Out.Sent m to number seq attempt place) h = absurd (cc)
-freed_silent c event o h = refl
-
 counted_more : (past : List Entry) (x : Entry) → AreCounted past → AreCounted (past ++ x ∷ [])
 counted_more past x counted c m h = by_tests (binds c x.event x.outcome) (frees c x.event x.outcome) refl refl
   where
@@ -119,7 +112,7 @@ counted_more past x counted c m h = by_tests (binds c x.event x.outcome) (frees 
     by_tests true f on off = omega (arith, count, ap bit on)
     by_tests false true on off =
         let tests : (binds c x.event x.outcome || frees c x.event x.outcome) ≡ true = λ i. on i || off i in
-        let none : None ≡ Some m = sym (freed_silent c x.event x.outcome off) ∙ sym (bound_push c past x true tests) ∙ h in
+        let none : None ≡ Some m = sym (freeing_sends_nothing c x.event x.outcome off) ∙ sym (bound_push c past x true tests) ∙ h in
         absurd (cc)
     by_tests false false on off =
         let tests : (binds c x.event x.outcome || frees c x.event x.outcome) ≡ false = λ i. on i || off i in
@@ -140,14 +133,6 @@ channel_in (Packets.Answer a) = a.channel
 abbrev IsBelow : ℕ → Option Packet → Type 0
 IsBelow channels None = Unit {0}
 IsBelow channels (Some p) = channel_in p < channels
-
-free_below : (node peer : NodeId) (past : List Entry) (number more k : ℕ) → free_from node peer past number more ≡ Some k → k < number + more
-free_below node peer past number zero k h = absurd (cc)
-free_below node peer past number (suc more) k h = by_test (is_bound (channel_to node peer number) past) h (λ g. free_below node peer past (number + 1) more k g)
-  where
-    by_test : (b : Bool) → (if b then free_from node peer past (number + 1) more else Some number) ≡ Some k → (free_from node peer past (number + 1) more ≡ Some k → k < number + 1 + more) → k < number + suc more
-    by_test true g rest = let less = rest g in omega (arith, less)
-    by_test false g rest = let same : number ≡ k = cc in omega (arith, same)
 
 bind_below : (layout : Layout) (past : List Entry) (stamp : ℕ) (node : NodeId) (q : Queued) (peer : Option NodeId) (channel : Option ℕ) → channel ≡ channel_by layout node past peer → IsBelow layout.channels (parcel node stamp (bind_to node past q peer channel))
 bind_below layout past stamp node q (Some peer) (Some k) is = let less = free_below node peer past 0 layout.channels k (sym is) in omega (arith, less)

@@ -3,6 +3,7 @@ use Rattle.std.specs.Prelude.{MatchOption, not, nat_le, nat_lt, is_none, slice_g
 use Rattle.std.proofs.Common.{◌≡◌, ◌⊎◌, inl, inr, ⊎_elim, ◌==◌, ℕ, ◌+◌, ◌-◌, Bool, true, false, cond, ◌&&◌, ◌||◌, List, [], ◌∷◌, ◌++◌, length, Option, Some, None, refl, sym, ap, ◌∙◌, subst, eqb-true, eq-eqb, true≢false, if◌then◌else◌}
 use Rattle.std.proofs.lemmas.Bool.{and_parts}
 use Rattle.std.specs.List.{find}
+use Rattle.std.proofs.lemmas.List.{nil_from_length}
 use Rattle.am_names.specs.Rules.{matches, is_transient}
 use Rattle.am_names.specs.declared.EndpointId.{EndpointId}
 use Rattle.am_names.specs.declared.NodeId.{NodeId}
@@ -47,10 +48,11 @@ use Rattle.am_model.proofs.Names.{same_serial-is}
 use Rattle.am_model.proofs.Received.{FitsCall}
 use Rattle.am_model.proofs.Books.{fits_call}
 use Rattle.am_model.proofs.Ends.{was_emitted}
-use Rattle.am_laws_messages.proofs.Alls.{all_map, all_push, all_without, gave_more, gave_now}
+use Rattle.am_model.proofs.Alls.{all_push}
+use Rattle.am_laws_messages.proofs.Alls.{all_map, all_without, gave_more, gave_now}
 use Rattle.am_laws_messages.proofs.Asked.{is_asked, knows}
 use Rattle.am_laws_messages.proofs.Sent.{front_are}
-use Rattle.am_laws_messages.proofs.Held.{empty_list, unless_busy}
+use Rattle.am_laws_messages.proofs.Held.{unless_busy}
 use Rattle.am_laws_messages.proofs.Delivered.{Delivers, delivers, run_facts, each_law, match_option}
 use Rattle.am_laws_messages.proofs.Replies.{sends_one}
 use Rattle.am_laws_order.proofs.Everywhere.{each_once}
@@ -293,7 +295,7 @@ records_kept pool R f e st (Events.PageOut node end) o fits h new = out_records 
 records_kept pool R f e st (Events.PageIn node end) o fits h new = in_records R st o h
 
 idle_awaited : (st : State) → is_idle st.body ≡ true → st.body.awaited ≡ []
-idle_awaited st h = empty_list st.body.awaited (eqb-true (length st.body.awaited) 0 (and_parts ((length st.body.received == 0) && (messages_held st.body == 0)) (length st.body.awaited == 0) h).1)
+idle_awaited st h = nil_from_length st.body.awaited (eqb-true (length st.body.awaited) 0 (and_parts ((length st.body.received == 0) && (messages_held st.body == 0)) (length st.body.awaited == 0) h).1)
 
 -- the own tag and the closed flag stay, or nothing is awaited
 called_held : (pool : Option ℕ) (end : EndpointId) (st : State) (c : Call) (o : Outcome) → o ≡ outcome_of_call pool end st c → (((called st c o).body.tag ≡ st.body.tag) × ((called st c o).head.closed ≡ st.head.closed)) ⊎ ((called st c o).body.awaited ≡ [])

@@ -1,8 +1,9 @@
 -- What some entry gave: once, and to whom it passes.
 use Rattle.std.specs.Prelude.{slice_get}
-use Rattle.std.proofs.Common.{◌≡◌, ◌⊎◌, inl, inr, ⊎_elim, ℕ, zero, suc, ◌+◌, ◌≤◌, Bool, true, false, ◌||◌, List, [], ◌∷◌, ◌++◌, Option, Some, None, refl, sym, ap, ◌∙◌, arith}
+use Rattle.std.proofs.Common.{◌≡◌, ◌⊎◌, inl, inr, ⊎_elim, ℕ, zero, suc, ◌+◌, ◌≤◌, Bool, true, ◌||◌, List, [], ◌∷◌, ◌++◌, Option, Some, None, refl, sym, ap, ◌∙◌, arith}
 use Rattle.std.specs.List.{filter_map, cons_option, list_any}
 use Rattle.std.proofs.lemmas.List.Sums.{sum_by-cons}
+use mathlib.Core.Bool.{or-true}
 use Rattle.am_names.specs.declared.Serial.{Serial}
 use Rattle.am_names.specs.declared.Message.{Message}
 use Rattle.am_office.specs.declared.Entry.{Entry}
@@ -27,19 +28,15 @@ gave_back given (y ∷ past) x a h = by_given (given y) (filter_map given (past 
     by_given (Some b) long short P a more zero e = inl (zero, e)
     by_given (Some b) long short P a more (suc k) e = ⊎_elim (λ (r : (j : ℕ) × (slice_get short j ≡ Some a)). inl (suc r.0, r.1)) (λ (p : P). inr p) (more k e)
 
-or_true : (b : Bool) → (b || true) ≡ true
-or_true true = refl
-or_true false = refl
-
 -- an entry that gives it passes
 pub gave_any : {A : Type 0} (given : Entry → Option A) (past : List Entry) (a : A) (t : Entry → Bool) → ((y : Entry) → given y ≡ Some a → t y ≡ true) → Gave given past a → list_any t past ≡ true
 gave_any given [] a t f h = absurd (cc)
 gave_any {A = A} given (y ∷ past) a t f h = by_given (λ k e. gave_any given past a t f (k, e)) (given y) refl h.0 h.1
   where
     by_given : ((k : ℕ) → slice_get (filter_map given past) k ≡ Some a → list_any t past ≡ true) → (w : Option A) → given y ≡ w → (k : ℕ) → slice_get (cons_option w (filter_map given past)) k ≡ Some a → (t y || list_any t past) ≡ true
-    by_given more None is k e = rw (more k e) (or_true (t y))
+    by_given more None is k e = rw (more k e) (or-true (t y))
     by_given more (Some b) is zero e = rw (f y (is ∙ e)) refl
-    by_given more (Some b) is (suc k) e = rw (more k e) (or_true (t y))
+    by_given more (Some b) is (suc k) e = rw (more k e) (or-true (t y))
 
 gave_count : (past : List Entry) (s : Serial) (m : Message) (k : ℕ) → slice_get (filter_map accepted_of past) k ≡ Some m → m.serial ≡ s → 1 ≤ times accepted_of (has_serial s) past
 gave_count [] s m k e is = absurd (cc)

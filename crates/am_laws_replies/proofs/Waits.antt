@@ -1,9 +1,10 @@
 -- An outstanding request has a waiting record.
 use Rattle.std.specs.Prelude.{not}
 use Rattle.std.proofs.Common.{◌≡◌, ℕ, Bool, true, false, cond, ◌&&◌, ◌||◌, List, [], ◌∷◌, ◌++◌, Option, Some, None, refl, sym, ap, ◌∙◌, subst, true≢false, if◌then◌else◌}
-use Rattle.std.proofs.lemmas.Bool.{and_parts}
+use Rattle.std.proofs.lemmas.Bool.{and_parts, or_right}
 use Rattle.std.proofs.lemmas.List.Folds.{list_any-append}
 use Rattle.std.specs.List.{list_any, find}
+use Rattle.am_lemmas.proofs.Bools.{or_first_fails}
 use Rattle.am_names.specs.declared.EndpointId.{EndpointId}
 use Rattle.am_names.specs.declared.NodeId.{NodeId}
 use Rattle.am_names.specs.declared.Serial.{Serial}
@@ -40,14 +41,6 @@ use Rattle.am_laws_replies.proofs.Gave.{gave_any}
 
 abbrev pub waits : Serial → List Awaited → Bool
 waits s awaited = list_any (waits_for s) awaited
-
-or_right : (a b : Bool) → b ≡ true → (a || b) ≡ true
-or_right true b h = refl
-or_right false b h = h
-
-no_left : (a b : Bool) → (a || b) ≡ false → a ≡ false
-no_left true b h = h
-no_left false b h = refl
 
 no_right : (a b : Bool) → (a || b) ≡ false → b ≡ false
 no_right true b h = absurd (true≢false h)
@@ -257,10 +250,10 @@ records_more layout past x k may = record { puts = put_more layout past x k.puts
         ended = sym (list_any-append (ends_wait s) past (x ∷ [])) ∙ not_false (list_any (ends_wait s) (past ++ x ∷ [])) both.1
 
         before : list_any (ends_wait s) past ≡ false
-        before = no_left (list_any (ends_wait s) past) (ends_wait s x || false) ended
+        before = or_first_fails (list_any (ends_wait s) past) (ends_wait s x || false) ended
 
         now : ends_wait s x ≡ false
-        now = no_left (ends_wait s x) false (no_right (list_any (ends_wait s) past) (ends_wait s x || false) ended)
+        now = or_first_fails (ends_wait s x) false (no_right (list_any (ends_wait s) past) (ends_wait s x || false) ended)
 
         runs : (m : Message) → run_of x ≡ Some m → is_about s m ≡ false
         runs m is = by_about (is_about s m) refl

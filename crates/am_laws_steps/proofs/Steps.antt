@@ -1,8 +1,10 @@
 -- The entries that steps make.
 use Rattle.std.specs.Prelude.{slice_get, nat_lt, not}
-use Rattle.std.proofs.Common.{◌≡◌, ◌⊎◌, ⊎_elim, ℕ, zero, suc, ◌+◌, ◌-◌, ◌<◌, ◌≤◌, Bool, true, false, ◌||◌, ◌&&◌, List, [], ◌∷◌, ◌++◌, map, length, take, Option, Some, None, refl, sym, ap, ◌∙◌, subst, arith, append_assoc, length-append, lt-ltb}
+use Rattle.std.proofs.Common.{◌≡◌, ◌⊎◌, ⊎_elim, ℕ, suc, ◌+◌, ◌-◌, ◌<◌, ◌≤◌, true, ◌||◌, ◌&&◌, List, [], ◌∷◌, ◌++◌, map, length, take, Option, Some, None, refl, sym, ap, ◌∙◌, subst, arith, append_assoc, length-append, lt-ltb}
 use Rattle.std.specs.List.{list_all, range_with_len}
 use Rattle.std.proofs.lemmas.List.{append-nil}
+use Rattle.std.proofs.lemmas.Bool.{or_right}
+use Rattle.am_lemmas.proofs.Lists.{range_push}
 use Rattle.am_names.specs.declared.NodeId.{NodeId}
 use Rattle.am_names.specs.declared.Packet.{Packet}
 use Rattle.am_names.specs.declared.Packet.TheVariants as Packets
@@ -33,13 +35,9 @@ below_push : (n : ℕ) (xs : List Entry) (x : Entry) → AreBelow n xs → x.sta
 below_push n [] x h lt = (lt, tt)
 below_push n (y ∷ xs) x h lt = (h.0, below_push n xs x h.1 lt)
 
-either : (a b : Bool) → b ≡ true → (a || b) ≡ true
-either true b is = refl
-either false b is = is
-
 later_than_all : (x : Entry) (past : List Entry) → AreBelow x.stamp past → list_all (λ (y : Entry). not (share_part x y) || nat_lt y.stamp x.stamp) past ≡ true
 later_than_all x [] h = refl
-later_than_all x (y ∷ ys) h = λ i. either (not (share_part x y)) (nat_lt y.stamp x.stamp) (lt-ltb y.stamp x.stamp h.0) i && later_than_all x ys h.1 i
+later_than_all x (y ∷ ys) h = λ i. or_right (not (share_part x y)) (nat_lt y.stamp x.stamp) (lt-ltb y.stamp x.stamp h.0) i && later_than_all x ys h.1 i
 
 -- ---- the stamp of a packet is that of the entry that emitted it
 
@@ -88,12 +86,6 @@ may_step layout past event w range enabled =
       later = λ i. later_than_all (step_entry layout past event) past w.below i && taken_before (length past + 1) past event w.below i;
     }
 
-range_push : (a n : ℕ) → range_with_len a (suc n) ≡ range_with_len a n ++ (a + n) ∷ []
-range_push a zero = let same : a ≡ a + 0 = omega arith in ap (λ (k : ℕ). k ∷ []) same
-range_push a (suc n) =
-    let same : a + 1 + n ≡ a + suc n = omega arith in
-    ap (λ (ks : List ℕ). a ∷ ks) (range_push (a + 1) n ∙ ap (λ (k : ℕ). range_with_len (a + 1) n ++ k ∷ []) same)
-
 map_push : {X : Type 0} (f : Entry → X) (xs : List Entry) (x : Entry) → map f (xs ++ x ∷ []) ≡ map f xs ++ f x ∷ []
 map_push f [] x = refl
 map_push f (y ∷ xs) x = ap (λ l. f y ∷ l) (map_push f xs x)
@@ -118,7 +110,7 @@ walked_more layout past event w range enabled =
           below_push (length (past ++ x ∷ []) + 1) past x (below_more (length past + 1) (length (past ++ x ∷ []) + 1) past (omega (arith, longer)) w.below) (omega (arith, longer));
     }
 
-no_condition : (f : Option Condition) (g : Option Part) → stop_by f g ≡ None → f ≡ None
+pub no_condition : (f : Option Condition) (g : Option Part) → stop_by f g ≡ None → f ≡ None
 no_condition None g h = refl
 no_condition (Some c) g h = absurd (cc)
 

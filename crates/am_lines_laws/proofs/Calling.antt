@@ -5,6 +5,7 @@ use Rattle.std.specs.List.{All}
 use Rattle.std.specs.Option.{option_map}
 use Rattle.std.specs.Str.{bytes_eq}
 use Rattle.std.proofs.lemmas.List.Elements.{All-nil, All-cons, All-tail}
+use Rattle.std.proofs.lemmas.Bool.{ltb-true, eqb-true}
 use Rattle.am_lexer.specs.declared.what.What.TheVariants.{UnknownWord, OutOfRange, Undeclared, TooMany}
 use Rattle.am_lexer.specs.Fields.{or_else, word_at, number_at, within, ended}
 use Rattle.am_names.specs.declared.EndpointId.{EndpointId}
@@ -36,8 +37,8 @@ use Rattle.am_lines.specs.Settings.{setting_line}
 use Rattle.am_lines.specs.Lines.{words_say}
 use Rattle.am_lines_laws.specs.LineLaws.{section_said, fits_form, Kind, OfSetting, OfScript, OfStep, kind_said, kind_of, section_of_kind, is_kind_of_form, LinesAreLawful}
 use Rattle.am_lines_laws.proofs.Meets.{Meets, refuses, gives, bind, test, anything, found}
-use Rattle.am_lines_laws.proofs.Words.{a_number, is_within, is_below, a_node, a_tag, a_serial, an_end, a_bundle, eq_true, find_passes, IsEndFor}
-use Rattle.am_lines_laws.proofs.Declaring.{Says, is_less, is_at_most, a_version, a_setting, an_endpoint, a_bundle_line, a_thread, a_plan_line, a_swap_fault}
+use Rattle.am_lines_laws.proofs.Words.{a_number, is_within, is_below, a_node, a_tag, a_serial, an_end, a_bundle, find_passes, IsEndFor}
+use Rattle.am_lines_laws.proofs.Declaring.{Says, is_at_most, a_version, a_setting, an_endpoint, a_bundle_line, a_thread, a_plan_line, a_swap_fault}
 
 -- ---- calls
 
@@ -145,7 +146,7 @@ a_call said wanted verb words =
 
 thread_is_there : (said : Said) (number : ℕ) (thread : ThreadLine) → thread_of said number ≡ Some thread → thread_node said.threads thread.id ≡ Some thread.node
 thread_is_there said number thread e =
-    let same : thread.id ≡ number = eq_true thread.id number (find_passes (λ thread. thread.id == number) said.threads thread e) in
+    let same : thread.id ≡ number = eqb-true thread.id number (find_passes (λ thread. thread.id == number) said.threads thread e) in
     let again : thread_of said thread.id ≡ Some thread = ap (λ (n : ℕ). thread_of said n) same ∙ e in
     ap (λ (o : Option ThreadLine). option_map (λ thread. thread.node) o) again
 
@@ -192,7 +193,7 @@ a_thread_call form said thread verb words there =
     bind (ended call.1) _ (anything (ended call.1)) (λ _ _.
     test (nat_lt (length said.script) 16_384) _ _
     (λ room. gives (Says form said OfScript) (line.Call (record { thread = thread.id; endpoint = call.0.0; call = call.0.1 }))
-    (refl, (record { placed = (thread.node, (there, h.0)); call = h.1 }, is_less _ _ room)))
+    (refl, (record { placed = (thread.node, (there, h.0)); call = h.1 }, ltb-true _ _ room)))
     (λ full. refuses (Says form said OfScript) TooMany)))
 
 a_script_line : (form : Form) (said : Said) (number : ℕ) (words : List (List ℕ)) → Meets (Says form said OfScript) (script_line said number words)
@@ -215,7 +216,7 @@ unfolding step
 a_step form said e words h =
     bind (ended words) _ (anything (ended words)) (λ _ _.
     test (nat_lt (length said.steps) 65_536) _ _
-    (λ room. gives (Says form said OfStep) (line.Step e) (refl, (h, is_less _ _ room)))
+    (λ room. gives (Says form said OfStep) (line.Step e) (refl, (h, ltb-true _ _ room)))
     (λ full. refuses (Says form said OfStep) TooMany))
 
 an_outside_line : (form : Form) (said : Said) (words : List (List ℕ)) → Meets (Says form said OfStep) (outside_line said words)
@@ -232,7 +233,7 @@ a_head_node : (said : Said) (number : ℕ) → Meets (λ (node : NodeId). node.0
 unfolding head_node
 a_head_node said number =
     test (nat_lt number (node_count said.settings)) _ _
-    (λ e. gives (λ (node : NodeId). node.0 < node_count said.settings) (record { 0 = number }) (is_less _ _ e))
+    (λ e. gives (λ (node : NodeId). node.0 < node_count said.settings) (record { 0 = number }) (ltb-true _ _ e))
     (λ e. refuses (λ (node : NodeId). node.0 < node_count said.settings) OutOfRange)
 
 a_bind : (form : Form) (said : Said) (node : NodeId) (words : List (List ℕ)) → node.0 < node_count said.settings → Meets (Says form said OfStep) (bind_line said node words)

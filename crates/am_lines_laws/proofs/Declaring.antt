@@ -1,5 +1,5 @@
 -- Each kind of line says something lawful: sections 1 to 3.
-use Rattle.std.proofs.Common.{◌≡◌, ◌≢◌, ℕ, ◌<◌, ◌≤◌, Bool, true, false, List, [], ◌∷◌, length, Option, Some, None, Ok, Err, refl, arith}
+use Rattle.std.proofs.Common.{◌≡◌, ◌≢◌, ℕ, ◌≤◌, Bool, true, false, List, [], ◌∷◌, length, Option, Some, None, Ok, Err, refl, arith}
 use Rattle.std.specs.Prelude.{◌==◌, ◌||◌, nat_lt, nat_le, is_some, IsTrue, codes, count_by}
 use Rattle.std.specs.List.{All, AllPairs, list_any}
 use Rattle.std.specs.Option.{unwrap_or}
@@ -7,6 +7,8 @@ use Rattle.std.specs.Str.{bytes_eq}
 use Rattle.std.proofs.lemmas.Bool.Decides.{nat_tests}
 use Rattle.std.proofs.lemmas.List.Elements.{All-nil, All-cons, All-weaker}
 use Rattle.std.proofs.lemmas.List.Kept.{AllPairs-cons}
+use Rattle.std.proofs.lemmas.Bool.{or_parts, ltb-true}
+use Rattle.am_lemmas.proofs.Lists.{none_passes}
 use Rattle.am_lexer.specs.declared.what.What.TheVariants.{UnknownWord, OutOfRange, Twice, TooMany}
 use Rattle.am_lexer.specs.Fields.{word_at, within, ended}
 use Rattle.am_names.specs.declared.EndpointId.{EndpointId}
@@ -38,24 +40,12 @@ Says form said kind says = (kind_said says ≡ kind) × IsLawfulLine form said s
 
 -- ---- tests
 
-pub is_less : (a b : ℕ) → nat_lt a b ≡ true → a < b
-is_less a b e = grind (arith, nat_tests)
-
 pub is_at_most : (a b : ℕ) → nat_le a b ≡ true → a ≤ b
 is_at_most a b e = grind (arith, nat_tests)
 
 pub is_none : {A : Type 0} (o : Option A) → is_some o ≡ false → o ≡ None
 is_none None e = refl
 is_none (Some x) e = absurd (cc)
-
-pub neither : (a b : Bool) → (a || b) ≡ false → (a ≡ false) × (b ≡ false)
-neither false false e = (refl, refl)
-neither false true e = absurd (cc)
-neither true b e = absurd (cc)
-
-pub none_passes : {A : Type 0} (p : A → Bool) (xs : List A) → list_any p xs ≡ false → All (λ x. p x ≡ false) xs
-none_passes p [] e = All-nil (λ x. p x ≡ false)
-none_passes p (x ∷ xs) e = let parts = neither (p x) (list_any p xs) e in All-cons (λ x. p x ≡ false) x xs parts.0 (none_passes p xs parts.1)
 
 pub differ : (a b : ℕ) → (a == b) ≡ false → b ≢ a
 differ a b e = grind (arith, nat_tests)
@@ -129,7 +119,7 @@ an_endpoint form said words =
     test (is_some (end_of said id.0)) _ _ (λ e. refuses (Says form said OfDeclaration) Twice) (λ new.
     test (nat_lt (count_by (λ end. end.node.0 == node.0.0) said.ends) 64) _ _
     (λ room. gives (Says form said OfDeclaration) (line.End (record { id = record { 0 = id.0 }; node = node.0; tag = tag.0; disk = disk.0 }))
-    (refl, (record { id = id_in.1; node = node_in; tag = tag_in; disk = disk_in }, is_none (end_of said id.0) new, is_less _ _ room)))
+    (refl, (record { id = id_in.1; node = node_in; tag = tag_in; disk = disk_in }, is_none (end_of said id.0) new, ltb-true _ _ room)))
     (λ full. refuses (Says form said OfDeclaration) TooMany)))))))
 
 pub a_thread : (form : Form) (said : Said) (words : List (List ℕ)) → Meets (Says form said OfDeclaration) (thread_line said words)
@@ -141,7 +131,7 @@ a_thread form said words =
     test (is_some (thread_of said id.0)) _ _ (λ e. refuses (Says form said OfDeclaration) Twice) (λ new.
     test (nat_lt (count_by (λ thread. thread.node.0 == node.0.0) said.threads) 4) _ _
     (λ room. gives (Says form said OfDeclaration) (line.Thread (record { id = id.0; node = node.0 }))
-    (refl, (record { id = id_in.1; node = node_in }, is_none (thread_of said id.0) new, is_less _ _ room)))
+    (refl, (record { id = id_in.1; node = node_in }, is_none (thread_of said id.0) new, ltb-true _ _ room)))
     (λ full. refuses (Says form said OfDeclaration) TooMany)))))
 
 a_link_fault : (words : List (List ℕ)) → Meets (λ (fault : LinkFault × List (List ℕ)). IsLawfulFault fault.0) (link_fault_at words)
@@ -165,7 +155,7 @@ a_plan_line form said words =
     test (is_planned said.plan from.0 to.0 number.0) _ _ (λ e. refuses (Says form said OfPlan) Twice) (λ new.
     test (nat_lt (length said.plan) 4096) _ _
     (λ room. gives (Says form said OfPlan) (line.Plan (record { from = from.0; to = to.0; number = number.0; fault = fault.0 }))
-    (refl, (record { from = from_in; to = to_in; number = number_in; fault = fault_in }, new, is_less _ _ room)))
+    (refl, (record { from = from_in; to = to_in; number = number_in; fault = fault_in }, new, ltb-true _ _ room)))
     (λ full. refuses (Says form said OfPlan) TooMany)))))))
 
 pub a_swap_fault : (form : Form) (said : Said) (words : List (List ℕ)) → Meets (Says form said OfDeclaration) (swap_fault_line said words)
@@ -177,7 +167,7 @@ a_swap_fault form said words =
     test (is_faulty said.faults node.0 number.0) _ _ (λ e. refuses (Says form said OfDeclaration) Twice) (λ new.
     test (nat_lt (length said.faults) 64) _ _
     (λ room. gives (Says form said OfDeclaration) (line.Fault (record { node = node.0; number = number.0 }))
-    (refl, (record { node = node_in; number = number_in }, new, is_less _ _ room)))
+    (refl, (record { node = node_in; number = number_in }, new, ltb-true _ _ room)))
     (λ full. refuses (Says form said OfDeclaration) TooMany)))))
 
 -- ---- bundles
@@ -194,7 +184,7 @@ all_once : (ids : List EndpointId) → has_twice ids ≡ false → AllPairs (λ 
 unfolding has_twice
 all_once [] e = λ i j d below within. absurd (omega arith)
 all_once (id ∷ ids) e =
-    let parts = neither (list_any (λ other. other.0 == id.0) ids) (has_twice ids) e in
+    let parts = or_parts (list_any (λ other. other.0 == id.0) ids) (has_twice ids) e in
     AllPairs-cons (λ a b. a.0 ≢ b.0) id ids
     (All-weaker (λ other. (other.0 == id.0) ≡ false) (λ other. id.0 ≢ other.0) (λ other h. differ other.0 id.0 h) ids (none_passes (λ other. other.0 == id.0) ids parts.0))
     (all_once ids parts.1)
@@ -208,7 +198,7 @@ a_bundle_line form said words =
     bind (end_word said None word.0) _ (an_end_word said None word.0) (λ first first_in.
     bind (members said first.node word.1) _ (all_members said first.node word.1) (λ others others_in.
     test (is_some (bundle_of said id.0) || has_twice (first.id ∷ others)) _ _ (λ e. refuses (Says form said OfDeclaration) Twice) (λ new.
-    let parts = neither (is_some (bundle_of said id.0)) (has_twice (first.id ∷ others)) new in
+    let parts = or_parts (is_some (bundle_of said id.0)) (has_twice (first.id ∷ others)) new in
     gives (Says form said OfDeclaration) (line.Bundle (record { id = id.0; mask = mask.0; members = first.id ∷ others })) (
       refl,
       (

@@ -1,14 +1,17 @@
 -- With a lawful line what was said stays sound.
 use Rattle.std.proofs.Common.{◌≡◌, ◌≢◌, ℕ, ◌+◌, ◌<◌, ◌≤◌, Bool, true, false, List, [], ◌∷◌, ◌++◌, length, Option, Some, None, refl, sym, ap, ◌∙◌, subst, arith, length-append}
 use Rattle.std.specs.Prelude.{◌==◌, ◌&&◌, map, find, count_by, if◌then◌else◌}
-use Rattle.std.specs.List.{All, AllPairs}
-use Rattle.std.specs.Option.{option_map, option_or}
+use Rattle.std.specs.List.{All}
+use Rattle.std.specs.Option.{option_map}
 use Rattle.std.proofs.lemmas.Bool.Decides.{nat_tests}
 use Rattle.std.proofs.lemmas.List.{length_push, length-map}
 use Rattle.std.proofs.lemmas.List.Elements.{All-nil, All-cons, All-push, All-append, All-weaker}
 use Rattle.std.proofs.lemmas.List.Sums.{sum_by_push}
-use Rattle.std.proofs.lemmas.List.Quantifiers.{all_pairs_push}
 use Rattle.std.proofs.lemmas.List.Folds.{find-append}
+use Rattle.std.proofs.lemmas.Bool.{and_from, eqb-true, eq-eqb}
+use Rattle.am_lemmas.proofs.Bools.{and_from_three}
+use Rattle.am_lemmas.proofs.Lists.{none_passes, all_pairs_none, all_pairs_grow}
+use Rattle.am_lemmas.proofs.Options.{option_map-option_or}
 use Rattle.am_names.specs.declared.EndpointId.{EndpointId}
 use Rattle.am_names.specs.declared.NodeId.{NodeId}
 use Rattle.am_bundle.specs.Lists.{BundleLists}
@@ -31,32 +34,28 @@ use Rattle.am_lines.specs.Calls.{least_share}
 use Rattle.am_lines_laws.specs.LineLaws.{network_of, fits_form, IsLawfulSetting}
 use Rattle.am_lines_laws.specs.Sound.{SettingsAreSound, EndsAreSound, BundlesAreSound, ThreadsAreSound, PlanIsSound, FaultsAreSound, ScriptIsSound, StepsAreSound, DeclaresNothing, DoesNothing, HasForm, IsSound}
 use Rattle.am_lines_laws.specs.Growth.{StaysSound, BeginsSound}
-use Rattle.am_lines_laws.proofs.Declaring.{none_passes}
 
 -- ---- nothing
 
-no_pairs : {A : Type 0} (R : A → A → Type 0) → AllPairs R []
-no_pairs R i j d below within = absurd (omega arith)
-
 no_ends : (network : Network) (nodes : ℕ) (ends : List EndLine) → ends ≡ [] → EndsAreSound network nodes ends
 no_ends network nodes ends e = subst (λ (l : List EndLine). EndsAreSound network nodes l) (sym e)
-    (record { each = All-nil (IsLawfulEnd network nodes); once = no_pairs (λ a b. a.id.0 ≢ b.id.0); of_a_node = λ node. omega arith })
+    (record { each = All-nil (IsLawfulEnd network nodes); once = all_pairs_none (λ a b. a.id.0 ≢ b.id.0); of_a_node = λ node. omega arith })
 
 no_bundles : (ends : List EndLine) (bundles : List BundleLists) → bundles ≡ [] → BundlesAreSound ends bundles
 no_bundles ends bundles e = subst (λ (l : List BundleLists). BundlesAreSound ends l) (sym e)
-    (record { each = All-nil (IsLawfulBundle ends); once = no_pairs (λ a b. a.id ≢ b.id) })
+    (record { each = All-nil (IsLawfulBundle ends); once = all_pairs_none (λ a b. a.id ≢ b.id) })
 
 no_threads : (nodes : ℕ) (threads : List ThreadLine) → threads ≡ [] → ThreadsAreSound nodes threads
 no_threads nodes threads e = subst (λ (l : List ThreadLine). ThreadsAreSound nodes l) (sym e)
-    (record { each = All-nil (IsLawfulThread nodes); once = no_pairs (λ a b. a.id ≢ b.id); of_a_node = λ node. omega arith })
+    (record { each = All-nil (IsLawfulThread nodes); once = all_pairs_none (λ a b. a.id ≢ b.id); of_a_node = λ node. omega arith })
 
 no_plan : (nodes : ℕ) (plan : List PlanLine) → plan ≡ [] → PlanIsSound nodes plan
 no_plan nodes plan e = subst (λ (l : List PlanLine). PlanIsSound nodes l) (sym e)
-    (record { each = All-nil (IsLawfulPlanLine nodes); once = no_pairs (λ a b. ¬ IsSamePlace a b); lines = omega arith })
+    (record { each = All-nil (IsLawfulPlanLine nodes); once = all_pairs_none (λ a b. ¬ IsSamePlace a b); lines = omega arith })
 
 no_faults : (nodes : ℕ) (faults : List FaultLine) → faults ≡ [] → FaultsAreSound nodes faults
 no_faults nodes faults e = subst (λ (l : List FaultLine). FaultsAreSound nodes l) (sym e)
-    (record { each = All-nil (IsLawfulFaultLine nodes); once = no_pairs (λ a b. ¬ IsSamePageCall a b); lines = omega arith })
+    (record { each = All-nil (IsLawfulFaultLine nodes); once = all_pairs_none (λ a b. ¬ IsSamePageCall a b); lines = omega arith })
 
 no_script : (ends : List EndLine) (threads : List ThreadLine) (least : ℕ) (script : List ScriptCall) → script ≡ [] → ScriptIsSound ends threads least script
 no_script ends threads least script e = subst (λ (l : List ScriptCall). ScriptIsSound ends threads least l) (sym e)
@@ -82,12 +81,6 @@ setting_kept form settings (setting.Turns value) h l = record { network = h.netw
 
 -- ---- one element more
 
-pub eq_yes : (a b : ℕ) → a ≡ b → (a == b) ≡ true
-eq_yes a b e = grind (arith, nat_tests)
-
-equal_if : (a b : ℕ) → (a == b) ≡ true → a ≡ b
-equal_if a b e = grind (arith, nat_tests)
-
 pub apart : (a b : ℕ) → (a == b) ≡ false → a ≢ b
 apart a b e = grind (arith, nat_tests)
 
@@ -99,17 +92,6 @@ at_most_one : (b : Bool) → (if b then 1 else 0) ≤ 1
 at_most_one true = omega arith
 at_most_one false = omega arith
 
-all_three : (a b c : Bool) → a ≡ true → b ≡ true → c ≡ true → (a && b && c) ≡ true
-all_three true true true e f g = refl
-all_three true true false e f g = absurd (cc)
-all_three true false c e f g = absurd (cc)
-all_three false b c e f g = absurd (cc)
-
-all_two : (a b : Bool) → a ≡ true → b ≡ true → (a && b) ≡ true
-all_two true true e f = refl
-all_two true false e f = absurd (cc)
-all_two false b e f = absurd (cc)
-
 counted : {A : Type 0} (p : A → Bool) (xs : List A) (x : A) → count_by p (xs ++ x ∷ []) ≡ count_by p xs + (if p x then 1 else 0)
 counted p xs x = sum_by_push (λ a. if p a then 1 else 0) xs x
 
@@ -120,7 +102,7 @@ still_few key most xs x few fewer k = few_at (key x == k) refl
   where
     few_at : (b : Bool) → (key x == k) ≡ b → count_by (λ a. key a == k) (xs ++ x ∷ []) ≤ most
     few_at true e =
-        let same : key x ≡ k = equal_if (key x) k e in
+        let same : key x ≡ k = eqb-true (key x) k e in
         let here : count_by (λ a. key a == k) xs < most = subst (λ (n : ℕ). count_by (λ a. key a == n) xs < most) same fewer in
         let one : (if key x == k then 1 else 0) ≤ 1 = at_most_one (key x == k) in
         omega (arith, counted (λ a. key a == k) xs x, one)
@@ -137,20 +119,13 @@ not_found : {A : Type 0} (p : A → Bool) (xs : List A) → find p xs ≡ None �
 not_found p [] e = All-nil (λ x. p x ≡ false)
 not_found p (x ∷ xs) e = not_found_at p x xs (p x) refl (not_found p xs) e
 
-pub pairs_more : {A : Type 0} (R : A → A → Type 0) (xs : List A) (x : A) → AllPairs R xs → All (λ y. R y x) xs → AllPairs R (xs ++ x ∷ [])
-pairs_more R xs x pairs all = all_pairs_push R xs x pairs (λ k d below. all k d below)
-
 -- ---- one endpoint more
-
-option_or_some : (o other : Option EndLine) (node : NodeId) → option_map (λ end. end.node) o ≡ Some node → option_map (λ end. end.node) (option_or o other) ≡ Some node
-option_or_some (Some end) other node h = h
-option_or_some None other node h = absurd (cc)
 
 -- what was declared stays declared
 pub stays_on : (ends : List EndLine) (end : EndLine) (node : NodeId) (id : EndpointId) → IsOn ends node id → IsOn (ends ++ end ∷ []) node id
 stays_on ends end node id h =
     ap (λ (o : Option EndLine). option_map (λ end. end.node) o) (find-append (λ end. end.id.0 == id.0) ends (end ∷ []))
-    ∙ option_or_some (find (λ end. end.id.0 == id.0) ends) (find (λ end. end.id.0 == id.0) (end ∷ [])) node h
+    ∙ option_map-option_or (λ (x : EndLine). x.node) (find (λ end. end.id.0 == id.0) ends) (find (λ end. end.id.0 == id.0) (end ∷ [])) node h
 
 bundle_stays : (ends : List EndLine) (end : EndLine) (bundle : BundleLists) → IsLawfulBundle ends bundle → IsLawfulBundle (ends ++ end ∷ []) bundle
 bundle_stays ends end bundle h = record {
@@ -164,7 +139,7 @@ ends_more : (said : Said) (end : EndLine) (network : Network) (nodes : ℕ) → 
     → count_by (λ other. other.node.0 == end.node.0) said.ends < 64 → EndsAreSound network nodes (said.ends ++ end ∷ [])
 ends_more said end network nodes h lawful new room = record {
   each = All-push (IsLawfulEnd network nodes) said.ends end h.each lawful;
-  once = pairs_more (λ a b. a.id.0 ≢ b.id.0) said.ends end h.once
+  once = all_pairs_grow (λ a b. a.id.0 ≢ b.id.0) said.ends end h.once
       (All-weaker (λ other. (other.id.0 == end.id.0) ≡ false) (λ other. other.id.0 ≢ end.id.0) (λ other e. apart other.id.0 end.id.0 e) said.ends (not_found (λ other. other.id.0 == end.id.0) said.ends new));
   of_a_node = still_few (λ other. other.node.0) 64 said.ends end h.of_a_node room;
 }
@@ -178,7 +153,7 @@ bundles_stay ends end bundles h = record {
 bundles_more : (said : Said) (bundle : BundleLists) → BundlesAreSound said.ends said.bundles → IsLawfulBundle said.ends bundle → bundle_of said bundle.id ≡ None → BundlesAreSound said.ends (said.bundles ++ bundle ∷ [])
 bundles_more said bundle h lawful new = record {
   each = All-push (IsLawfulBundle said.ends) said.bundles bundle h.each lawful;
-  once = pairs_more (λ a b. a.id ≢ b.id) said.bundles bundle h.once
+  once = all_pairs_grow (λ a b. a.id ≢ b.id) said.bundles bundle h.once
       (All-weaker (λ other. (other.id == bundle.id) ≡ false) (λ other. other.id ≢ bundle.id) (λ other e. apart other.id bundle.id e) said.bundles (not_found (λ other. other.id == bundle.id) said.bundles new));
 }
 
@@ -186,21 +161,21 @@ threads_more : (said : Said) (thread : ThreadLine) (nodes : ℕ) → ThreadsAreS
     → count_by (λ other. other.node.0 == thread.node.0) said.threads < 4 → ThreadsAreSound nodes (said.threads ++ thread ∷ [])
 threads_more said thread nodes h lawful new room = record {
   each = All-push (IsLawfulThread nodes) said.threads thread h.each lawful;
-  once = pairs_more (λ a b. a.id ≢ b.id) said.threads thread h.once
+  once = all_pairs_grow (λ a b. a.id ≢ b.id) said.threads thread h.once
       (All-weaker (λ other. (other.id == thread.id) ≡ false) (λ other. other.id ≢ thread.id) (λ other e. apart other.id thread.id e) said.threads (not_found (λ other. other.id == thread.id) said.threads new));
   of_a_node = still_few (λ other. other.node.0) 4 said.threads thread h.of_a_node room;
 }
 
 elsewhere : (a b : PlanLine) → ((a.from.0 == b.from.0) && (a.to.0 == b.to.0) && (a.number == b.number)) ≡ false → ¬ IsSamePlace a b
 elsewhere a b e = λ same.
-    let yes_all : ((a.from.0 == b.from.0) && (a.to.0 == b.to.0) && (a.number == b.number)) ≡ true = all_three _ _ _ (eq_yes a.from.0 b.from.0 same.0) (eq_yes a.to.0 b.to.0 same.1) (eq_yes a.number b.number same.2) in
+    let yes_all : ((a.from.0 == b.from.0) && (a.to.0 == b.to.0) && (a.number == b.number)) ≡ true = and_from_three _ _ _ (eq-eqb a.from.0 b.from.0 same.0) (eq-eqb a.to.0 b.to.0 same.1) (eq-eqb a.number b.number same.2) in
     let never : true ≡ false = sym yes_all ∙ e in cc
 
 plan_more : (said : Said) (planned : PlanLine) (nodes : ℕ) → PlanIsSound nodes said.plan → IsLawfulPlanLine nodes planned → is_planned said.plan planned.from planned.to planned.number ≡ false
     → length said.plan < 4096 → PlanIsSound nodes (said.plan ++ planned ∷ [])
 plan_more said planned nodes h lawful new room = record {
   each = All-push (IsLawfulPlanLine nodes) said.plan planned h.each lawful;
-  once = pairs_more (λ a b. ¬ IsSamePlace a b) said.plan planned h.once
+  once = all_pairs_grow (λ a b. ¬ IsSamePlace a b) said.plan planned h.once
       (All-weaker (λ other. ((other.from.0 == planned.from.0) && (other.to.0 == planned.to.0) && (other.number == planned.number)) ≡ false) (λ other. ¬ IsSamePlace other planned) (λ other e. elsewhere other planned e) said.plan
       (none_passes (λ other. (other.from.0 == planned.from.0) && (other.to.0 == planned.to.0) && (other.number == planned.number)) said.plan new));
   lines = omega (arith, length_push said.plan planned);
@@ -208,14 +183,14 @@ plan_more said planned nodes h lawful new room = record {
 
 another_call : (a b : FaultLine) → ((a.node.0 == b.node.0) && (a.number == b.number)) ≡ false → ¬ IsSamePageCall a b
 another_call a b e = λ same.
-    let yes_all : ((a.node.0 == b.node.0) && (a.number == b.number)) ≡ true = all_two _ _ (eq_yes a.node.0 b.node.0 same.0) (eq_yes a.number b.number same.1) in
+    let yes_all : ((a.node.0 == b.node.0) && (a.number == b.number)) ≡ true = and_from _ _ (eq-eqb a.node.0 b.node.0 same.0) (eq-eqb a.number b.number same.1) in
     let never : true ≡ false = sym yes_all ∙ e in cc
 
 faults_more : (said : Said) (fault : FaultLine) (nodes : ℕ) → FaultsAreSound nodes said.faults → IsLawfulFaultLine nodes fault → is_faulty said.faults fault.node fault.number ≡ false
     → length said.faults < 64 → FaultsAreSound nodes (said.faults ++ fault ∷ [])
 faults_more said fault nodes h lawful new room = record {
   each = All-push (IsLawfulFaultLine nodes) said.faults fault h.each lawful;
-  once = pairs_more (λ a b. ¬ IsSamePageCall a b) said.faults fault h.once
+  once = all_pairs_grow (λ a b. ¬ IsSamePageCall a b) said.faults fault h.once
       (All-weaker (λ other. ((other.node.0 == fault.node.0) && (other.number == fault.number)) ≡ false) (λ other. ¬ IsSamePageCall other fault) (λ other e. another_call other fault e) said.faults
       (none_passes (λ other. (other.node.0 == fault.node.0) && (other.number == fault.number)) said.faults new));
   lines = omega (arith, length_push said.faults fault);

@@ -6,6 +6,7 @@ use Rattle.std.specs.Option.{option_map}
 use Rattle.std.specs.Str.{bytes_eq}
 use Rattle.std.proofs.lemmas.Bool.Decides.{nat_tests}
 use Rattle.std.proofs.lemmas.List.Elements.{All-nil, All-cons}
+use Rattle.std.proofs.lemmas.Bool.{and_parts, ltb-true, eqb-true}
 use Rattle.am_lexer.specs.declared.what.What.TheVariants.{BadNumber, OutOfRange, Undeclared}
 use Rattle.am_lexer.specs.Text.{number_of, value_after}
 use Rattle.am_lexer.specs.Fields.{or_else, word_at, number_at, within}
@@ -23,19 +24,8 @@ use Rattle.am_lines_laws.proofs.Meets.{Meets, refuses, gives, bind, test, anythi
 
 -- ---- numbers
 
-both : (a b : Bool) → (a && b) ≡ true → (a ≡ true) × (b ≡ true)
-both true true e = (refl, refl)
-both true false e = absurd (cc)
-both false b e = absurd (cc)
-
-lt_true : (a b : ℕ) → nat_lt a b ≡ true → a < b
-lt_true a b e = grind (arith, nat_tests)
-
 le_true : (a b : ℕ) → nat_le a b ≡ true → a ≤ b
 le_true a b e = grind (arith, nat_tests)
-
-pub eq_true : (a b : ℕ) → (a == b) ≡ true → a ≡ b
-eq_true a b e = grind (arith, nat_tests)
 
 if_some : {A : Type 0} (b : Bool) (x y : A) → (if b then Some x else None) ≡ Some y → (b ≡ true) × (x ≡ y)
 if_some true x y e = (refl, cc)
@@ -45,8 +35,8 @@ pub number_is_small : (word : List ℕ) (n : ℕ) → number_of word ≡ Some n 
 unfolding number_of
 number_is_small word n e =
     let fits = if_some _ _ _ e in
-    let small : nat_lt (value_after 0 word) (2 ^ 64) ≡ true = (both _ _ fits.0).1 in
-    subst (λ (m : ℕ). m < 2 ^ 64) fits.1 (lt_true _ _ small)
+    let small : nat_lt (value_after 0 word) (2 ^ 64) ≡ true = (and_parts _ _ fits.0).1 in
+    subst (λ (m : ℕ). m < 2 ^ 64) fits.1 (ltb-true _ _ small)
 
 pub a_number : (words : List (List ℕ)) → Meets (λ (n : ℕ × List (List ℕ)). n.0 < 2 ^ 64) (number_at words)
 unfolding number_at
@@ -60,7 +50,7 @@ unfolding within
 is_within low high words =
     bind (number_at words) _ (anything (number_at words)) (λ n _.
     test (nat_le low n.0 && nat_le n.0 high) _ _
-    (λ e. let ranges = both (nat_le low n.0) (nat_le n.0 high) e in gives (λ (n : ℕ × List (List ℕ)). IsWithin low high n.0) n (le_true low n.0 ranges.0, le_true n.0 high ranges.1))
+    (λ e. let ranges = and_parts (nat_le low n.0) (nat_le n.0 high) e in gives (λ (n : ℕ × List (List ℕ)). IsWithin low high n.0) n (le_true low n.0 ranges.0, le_true n.0 high ranges.1))
     (λ e. refuses (λ (n : ℕ × List (List ℕ)). IsWithin low high n.0) OutOfRange))
 
 pub is_below : (limit : ℕ) (words : List (List ℕ)) → Meets (λ (n : ℕ × List (List ℕ)). n.0 < limit) (below limit words)
@@ -68,7 +58,7 @@ unfolding below
 is_below limit words =
     bind (number_at words) _ (anything (number_at words)) (λ n _.
     test (nat_lt n.0 limit) _ _
-    (λ e. gives (λ (n : ℕ × List (List ℕ)). n.0 < limit) n (lt_true n.0 limit e))
+    (λ e. gives (λ (n : ℕ × List (List ℕ)). n.0 < limit) n (ltb-true n.0 limit e))
     (λ e. refuses (λ (n : ℕ × List (List ℕ)). n.0 < limit) OutOfRange))
 
 pub a_node : (settings : Settings) (words : List (List ℕ)) → Meets (λ (n : NodeId × List (List ℕ)). n.0.0 < node_count settings) (node_at settings words)
@@ -100,7 +90,7 @@ serial_is_small word serial e =
     let source = and_then_some (number_of (take dot.0 word)) _ serial dot.1 in
     let count = and_then_some (number_of (drop (dot.0 + 1) word)) _ serial source.1 in
     let fits = if_some (nat_le source.0 255 && nat_le count.0 0xffff_ffff) _ serial count.1 in
-    let ranges = both (nat_le source.0 255) (nat_le count.0 0xffff_ffff) fits.0 in
+    let ranges = and_parts (nat_le source.0 255) (nat_le count.0 0xffff_ffff) fits.0 in
     let first : source.0 ≤ 255 = le_true _ _ ranges.0 in
     let second : count.0 ≤ 0xffff_ffff = le_true _ _ ranges.1 in
     subst (λ (s : Serial). IsLawfulSerial s) fits.1 (first, omega arith)
@@ -125,7 +115,7 @@ find_passes p (y ∷ ys) x e = find_passes_at p y x (p y) (find p ys) refl (find
 -- the endpoint that was found is declared under its own number, on its node
 pub found_is_on : (said : Said) (id : ℕ) (end : EndLine) → end_of said id ≡ Some end → IsOn said.ends end.node end.id
 found_is_on said id end e =
-    let same : end.id.0 ≡ id = eq_true end.id.0 id (find_passes (λ end. end.id.0 == id) said.ends end e) in
+    let same : end.id.0 ≡ id = eqb-true end.id.0 id (find_passes (λ end. end.id.0 == id) said.ends end e) in
     let again : end_of said end.id.0 ≡ Some end = ap (λ (n : ℕ). end_of said n) same ∙ e in
     ap (λ (o : Option EndLine). option_map (λ end. end.node) o) again
 
@@ -140,7 +130,7 @@ on_is_declared ends node id h = subst (λ (o : Option NodeId). IsSome o) (sym h)
 wanted_is_end : (said : Said) (wanted : Option NodeId) (end : EndLine) → is_wanted wanted end.node ≡ true → IsOn said.ends end.node end.id → IsEndFor said wanted end.id
 wanted_is_end said None end same on = on_is_declared said.ends end.node end.id on
 wanted_is_end said (Some node) end same on =
-    let equal : end.node.0 ≡ node.0 = eq_true end.node.0 node.0 same in
+    let equal : end.node.0 ≡ node.0 = eqb-true end.node.0 node.0 same in
     let nodes : end.node ≡ node = ap (λ (n : ℕ). let r : NodeId = record { 0 = n } in r) equal in
     on ∙ ap (λ (n : NodeId). Some n) nodes
 
@@ -165,14 +155,14 @@ an_end said wanted words =
 
 there_is_on : (node : NodeId) (o : Option EndLine) → is_there node o ≡ true → option_map (λ end. end.node) o ≡ Some node
 there_is_on node (Some end) e =
-    let equal : end.node.0 ≡ node.0 = eq_true end.node.0 node.0 e in
+    let equal : end.node.0 ≡ node.0 = eqb-true end.node.0 node.0 e in
     ap (λ (n : ℕ). let r : Option NodeId = Some (record { 0 = n }) in r) equal
 there_is_on node None e = absurd (cc)
 
 pub all_are_on : (said : Said) (node : NodeId) (members : List EndpointId) → are_on said node members ≡ true → All (IsOn said.ends node) members
 all_are_on said node [] e = All-nil (IsOn said.ends node)
 all_are_on said node (member ∷ members) e =
-    let parts = both (is_on said node member) (are_on said node members) e in
+    let parts = and_parts (is_on said node member) (are_on said node members) e in
     All-cons (IsOn said.ends node) member members (there_is_on node (end_of said member.0) parts.0) (all_are_on said node members parts.1)
 
 pub a_bundle : (said : Said) (node : NodeId) (words : List (List ℕ)) → Meets (λ (bundle : BundleLists × List (List ℕ)). All (IsOn said.ends node) bundle.0.members) (bundle_at said node words)

@@ -1,38 +1,39 @@
 -- The frames of a node are held as its driver's own log says.
 use Rattle.std.specs.Prelude.{not, length}
-use Rattle.std.proofs.Common.{◌≡◌, ℕ, ◌==◌, Bool, true, false, cond, ◌||◌, ◌&&◌, List, [], ◌∷◌, ◌++◌, Option, Some, None, refl, sym, ap, ◌∙◌, true≢false, eqb-true, eq-eqb, if◌then◌else◌}
+use Rattle.std.proofs.Common.{◌≡◌, ℕ, ◌==◌, Bool, true, false, cond, ◌||◌, ◌&&◌, List, [], ◌∷◌, ◌++◌, Option, Some, None, refl, sym, ap, ◌∙◌, eq-eqb, if◌then◌else◌}
 use Rattle.std.specs.List.{filter, find, list_any}
 use Rattle.std.proofs.lemmas.List.{append-nil}
 use Rattle.std.proofs.lemmas.List.Elements.{filter-append}
+use Rattle.std.proofs.lemmas.Bool.{not-false}
 use Rattle.am_names.specs.declared.EndpointId.{EndpointId}
 use Rattle.am_names.specs.declared.NodeId.{NodeId}
 use Rattle.am_names.specs.declared.Cause.TheVariants.{NotResident}
 use Rattle.am_names.specs.Names.{same_end, same_node}
 use Rattle.am_office.specs.declared.Place.{Place}
-use Rattle.am_office.specs.declared.Place.TheVariants.{Host, Disk, Frame, Direct}
+use Rattle.am_office.specs.declared.Place.TheVariants.{Host, Disk, Frame}
 use Rattle.am_office.specs.declared.Call.{Call}
-use Rattle.am_office.specs.declared.Call.TheVariants as Calls
 use Rattle.am_office.specs.declared.Condition.{Condition}
 use Rattle.am_office.specs.declared.Condition.TheVariants as Needs
 use Rattle.am_office.specs.declared.Event.{Event}
 use Rattle.am_office.specs.declared.Event.TheVariants as Events
 use Rattle.am_office.specs.declared.Received.{Received}
-use Rattle.am_office.specs.declared.Received.TheVariants as Got
 use Rattle.am_office.specs.declared.Outcome.{Outcome}
 use Rattle.am_office.specs.declared.Outcome.TheVariants as Out
 use Rattle.am_office.specs.declared.Entry.{Entry}
 use Rattle.am_office.specs.Entries.{touches, ends_touched, is_node}
 use Rattle.am_model.specs.Choice.{first_holding}
 use Rattle.am_model.specs.Endpoint.{State, is_on_host, is_on_disk, is_resident}
-use Rattle.am_model.specs.Changes.{changed, called, left, reached, carried, received, expired, bound, put, paged_out, paged_in}
+use Rattle.am_model.specs.Changes.{changed, paged_out, paged_in}
 use Rattle.am_model.specs.Layout.{Layout, EndSetting, AllAre, opening, opening_by, opening_place, has_id}
 use Rattle.am_model.specs.Channels.{last_such}
 use Rattle.am_model.specs.History.{state_of, MayFollow, IsHistory, failing, is_home, is_in_frame, is_frame_held}
 use Rattle.am_model.proofs.Each.{over_each, state_of_push}
 use Rattle.am_model.proofs.Ends.{last_such_push}
-use Rattle.am_model.proofs.Names.{same_end-is}
+use Rattle.am_model.proofs.Names.{same_end-is, same_node-is}
 use Rattle.am_local.specs.Driver.{changes_frame, is_load_into, is_loaded_by, lies_in}
 use Rattle.am_model.specs.Parts.{driver_of, is_by_driver}
+use Rattle.am_model.proofs.Places.{on_host_in_no_frame, on_disk_in_no_frame}
+use Rattle.am_model.proofs.Unchanged.{called_place, carried_place, received_place, expired_place, bound_place}
 use Rattle.am_local.specs.Together.{AreDeclaredOnce, ends_of}
 use Rattle.am_local.proofs.Homes.{IsAmong, all_among, any_mapped, one_home}
 
@@ -42,10 +43,6 @@ use Rattle.am_local.proofs.Homes.{IsAmong, all_among, any_mapped, one_home}
 pub none_holds : {X : Type 0} (b : Bool) (w : X) (cs : List (Bool × X)) → first_holding ((b, w) ∷ cs) ≡ None → (b ≡ false) × (first_holding cs ≡ None)
 none_holds true w cs h = absurd (cc)
 none_holds false w cs h = (refl, h)
-
-pub not_not : (b : Bool) → not b ≡ false → b ≡ true
-not_not true h = refl
-not_not false h = absurd (true≢false h)
 
 -- ---- where an endpoint lies
 
@@ -60,54 +57,6 @@ place_given event o = None
 abbrev pub place_by : Option Place → Place → Place
 place_by None place = place
 place_by (Some other) place = other
-
-called_place : (s : State) (c : Call) (o : Outcome) → (called s c o).head.place ≡ s.head.place
-called_place s (Calls.Request index handler words) (Out.Requested m) = refl
-called_place s Calls.Poll (Out.Zero serial why) = refl
-called_place s Calls.Poll (Out.Ran m handler None) = refl
-called_place s Calls.Poll (Out.Ran m handler (Some reply)) = refl
-called_place s (Calls.SetTag tag) Out.Done = refl
-called_place s (Calls.Map index name tag credits) Out.Done = refl
-called_place s (Calls.Unmap index) Out.Done = refl
-called_place s (Calls.SetHandler index kind) Out.Done = refl
-called_place s (Calls.GiveUp serial) Out.Done = refl
-called_place s Calls.Close Out.Done = refl
-called_place s c o = refl
-
-left_place : (s : State) (o : Outcome) → (left s o).head.place ≡ s.head.place
-left_place s (Out.Accepted n) = refl
-left_place s (Out.Requeued n cause used) = refl
-left_place s (Out.Returned n cause) = refl
-left_place s o = refl
-
-if_place : (b : Bool) (s t u : State) → t.head.place ≡ s.head.place → u.head.place ≡ s.head.place → (if b then t else u).head.place ≡ s.head.place
-if_place true s t u h k = h
-if_place false s t u h k = k
-
-reached_place : (e : EndpointId) (s : State) (o : Outcome) → (reached e s o).head.place ≡ s.head.place
-reached_place e s (Out.Accepted n) = if_place (same_end e n.dest) s (put n s) s refl refl
-reached_place e s o = refl
-
-carried_place : (e from : EndpointId) (s : State) (o : Outcome) → (carried e from s o).head.place ≡ s.head.place
-carried_place e from s o =
-    reached_place e (if same_end e from then left s o else s) o ∙ if_place (same_end e from) s (left s o) s (left_place s o) refl
-
-received_place : (e : EndpointId) (s : State) (r : Received) → (received e s r).head.place ≡ s.head.place
-received_place e s (Got.Accepted m answer) = refl
-received_place e s (Got.Refused m NotResident answer) = refl
-received_place e s (Got.Delivered serial) = refl
-received_place e s (Got.Requeued serial cause used) = refl
-received_place e s (Got.Returned serial cause) = refl
-received_place e s r = refl
-
-expired_place : (s : State) (o : Outcome) → (expired s o).head.place ≡ s.head.place
-expired_place s (Out.Delivered serial) = refl
-expired_place s (Out.Unknown serial) = refl
-expired_place s o = refl
-
-bound_place : (s : State) (o : Outcome) → (bound s o).head.place ≡ s.head.place
-bound_place s (Out.Sent m peer channel seq attempt number) = refl
-bound_place s o = refl
 
 -- an event puts an endpoint where it says, and else leaves it where it lies
 pub changed_place : (e : EndpointId) (s : State) (event : Event) (o : Outcome) → (changed e s event o).head.place ≡ place_by (place_given event o) s.head.place
@@ -147,18 +96,6 @@ lies_push node past x frame e = ap (λ (xs : List Entry). lies_in xs frame e) (f
     by_driver true = ap (is_loaded_by frame) (last_such_push (λ (y : Entry). changes_frame e y.event) log x) ∙ by_change (changes_frame e x.event)
     by_driver false = ap (λ (xs : List Entry). lies_in xs frame e) (append-nil log)
 
-on_host_no_frame : (frame : ℕ) (place : Place) → is_on_host place ≡ true → is_in_frame frame place ≡ false
-on_host_no_frame frame Host h = refl
-on_host_no_frame frame Disk h = refl
-on_host_no_frame frame Direct h = refl
-on_host_no_frame frame (Frame other) h = absurd (true≢false (sym h))
-
-on_disk_no_frame : (frame : ℕ) (place : Place) → is_on_disk place ≡ true → is_in_frame frame place ≡ false
-on_disk_no_frame frame Host h = refl
-on_disk_no_frame frame Disk h = refl
-on_disk_no_frame frame Direct h = refl
-on_disk_no_frame frame (Frame other) h = absurd (true≢false (sym h))
-
 -- an event leaves an endpoint in its frame or puts it into another one
 abbrev pub FrameMoves : NodeId → EndpointId → ℕ → State → Bool → Event → Outcome → Type 0
 FrameMoves node e frame s t event o =
@@ -173,9 +110,6 @@ same_place e frame s false event o none = refl
 no_change : (frame : ℕ) (b c : Bool) (event : Event) (before : Bool) → c ≡ false → lies_after frame (b && c) event before ≡ before
 no_change frame true c event before h = ap (λ (t : Bool). lies_after frame t event before) h
 no_change frame false c event before h = refl
-
-same_node-is : (a b : NodeId) → same_node a b ≡ true → a ≡ b
-same_node-is a b h = let e : a.0 ≡ b.0 = eqb-true a.0 b.0 h in λ i. record { 0 = e i }
 
 -- a load or an unload, which is made at the home of the endpoint alone
 moved : (layout : Layout) → AreDeclaredOnce layout → (node at : NodeId) (e end : EndpointId) (frame : ℕ) (s : State) (event : Event) (o : Outcome) → is_home layout e node ≡ true → is_home layout end at ≡ true → driver_of event ≡ Some at → changes_frame e event ≡ same_end e end → list_any (same_end e) (ends_touched event o) ≡ (same_end e end || false) → is_in_frame frame (changed e s event o).head.place ≡ is_load_into frame event → FrameMoves node e frame s (list_any (same_end e) (ends_touched event o)) event o
@@ -215,7 +149,7 @@ at_home : (layout : Layout) (e : EndpointId) (node : NodeId) (rest : List (Bool 
 at_home layout e node rest on =
     let packet = none_holds layout.direct Needs.NotPacket ((not (is_home layout e node), Needs.OtherNode) ∷ rest) on in
     let there = none_holds (not (is_home layout e node)) Needs.OtherNode rest packet.1 in
-    (not_not (is_home layout e node) there.0, there.1)
+    (not-false (is_home layout e node) there.0, there.1)
 
 frame_moves : (layout : Layout) → AreDeclaredOnce layout → (past : List Entry) (node : NodeId) (e : EndpointId) (frame : ℕ) → is_home layout e node ≡ true → (event : Event) (o : Outcome) → failing layout past event ≡ None → FrameMoves node e frame (state_of layout past e) (list_any (same_end e) (ends_touched event o)) event o
 frame_moves layout once past node e frame home (Events.Load at end into) o on =
@@ -236,15 +170,15 @@ frame_moves layout once past node e frame home (Events.Unload at end) o on =
     refl refl refl refl
 frame_moves layout once past node e frame home (Events.PageOut at end) o on =
     let rest = (at_home layout end at ((not (is_on_host (state_of layout past end).head.place), Needs.NotOnHost) ∷ ((state_of layout past end).head.closed, Needs.Closed) ∷ []) on).1 in
-    let host = not_not (is_on_host (state_of layout past end).head.place) (none_holds (not (is_on_host (state_of layout past end).head.place)) Needs.NotOnHost (((state_of layout past end).head.closed, Needs.Closed) ∷ []) rest).0 in
+    let host = not-false (is_on_host (state_of layout past end).head.place) (none_holds (not (is_on_host (state_of layout past end).head.place)) Needs.NotOnHost (((state_of layout past end).head.closed, Needs.Closed) ∷ []) rest).0 in
     paged node at e end frame (state_of layout past e) (Events.PageOut at end) o refl
-    (λ is. ap (λ (d : EndpointId). is_in_frame frame (state_of layout past d).head.place) (same_end-is e end is) ∙ on_host_no_frame frame (state_of layout past end).head.place host)
+    (λ is. ap (λ (d : EndpointId). is_in_frame frame (state_of layout past d).head.place) (same_end-is e end is) ∙ on_host_in_no_frame frame (state_of layout past end).head.place host)
     refl (paged_out_stays frame (state_of layout past e) o)
 frame_moves layout once past node e frame home (Events.PageIn at end) o on =
     let rest = (at_home layout end at ((not (is_on_disk (state_of layout past end).head.place), Needs.NotOnDisk) ∷ []) on).1 in
-    let disk = not_not (is_on_disk (state_of layout past end).head.place) (none_holds (not (is_on_disk (state_of layout past end).head.place)) Needs.NotOnDisk [] rest).0 in
+    let disk = not-false (is_on_disk (state_of layout past end).head.place) (none_holds (not (is_on_disk (state_of layout past end).head.place)) Needs.NotOnDisk [] rest).0 in
     paged node at e end frame (state_of layout past e) (Events.PageIn at end) o refl
-    (λ is. ap (λ (d : EndpointId). is_in_frame frame (state_of layout past d).head.place) (same_end-is e end is) ∙ on_disk_no_frame frame (state_of layout past end).head.place disk)
+    (λ is. ap (λ (d : EndpointId). is_in_frame frame (state_of layout past d).head.place) (same_end-is e end is) ∙ on_disk_in_no_frame frame (state_of layout past end).head.place disk)
     refl (paged_in_stays frame (state_of layout past e) o)
 frame_moves layout once past node e frame home event o on =
     same_place e frame (state_of layout past e) (list_any (same_end e) (ends_touched event o)) event o refl

@@ -2,8 +2,9 @@
 use Rattle.std.specs.Prelude.{not, nat_lt, is_some, is_none, length}
 use Rattle.std.proofs.Common.{◌≡◌, ◌⊎◌, inl, inr, ℕ, ◌+◌, ◌==◌, Bool, true, false, ◌&&◌, List, [], ◌∷◌, Option, Some, None, refl, sym, ap, ◌∙◌, subst, true≢false, eqb-true, if◌then◌else◌}
 use Rattle.std.specs.List.{list_any}
+use Rattle.std.proofs.lemmas.Bool.{not-false}
 use Rattle.am_names.specs.Rules.{is_transient}
-use Rattle.am_names.specs.Names.{has_serial, same_end}
+use Rattle.am_names.specs.Names.{same_end}
 use Rattle.am_names.specs.declared.EndpointId.{EndpointId}
 use Rattle.am_names.specs.declared.NodeId.{NodeId}
 use Rattle.am_names.specs.declared.Serial.{Serial}
@@ -34,13 +35,14 @@ use Rattle.am_model.specs.History.{bind_to, bounced, decided, is_answered, next_
 use Rattle.am_model.specs.Order.{KeepsOrder}
 use Rattle.am_model.proofs.Names.{same_end-refl, same_serial-is}
 use Rattle.am_model.proofs.Order.{order_arrived, order_bound, order_drained, order_loaded, order_paged_in, order_paged_out, order_settled, order_unloaded}
+use Rattle.am_model.proofs.Chosen.{flying_of-has_serial}
 use Rattle.am_local.specs.declared.work.Work.{Work}
 use Rattle.am_local.specs.declared.work.Work.TheVariants as Works
 use Rattle.am_local.specs.Driver.{DriverLog, end_moved, failing_move, is_end_of, is_frame_held_by, outcome_move, page_at, page_number}
 use Rattle.am_model.specs.Parts.{driver_of}
 use Rattle.am_local.specs.Granted.{IsInFlight, IsMoveOf, IsWorkAt, MayDo, MayMove}
 use Rattle.am_local.specs.Interface.{InterfaceLog, arrival_in, arrive_at, bind_at, channel_by_home, channel_in, channel_of_front, event_of, expire_at, failing_at, has_try_left, home_in, home_of_front, is_home_in, needs_arrival, needs_bound, outcome_at, receiver, settle_at, settles}
-use Rattle.am_local.proofs.Frames.{none_holds, not_not}
+use Rattle.am_local.proofs.Frames.{none_holds}
 
 -- what is resident on the packet network lies in a frame
 in_a_frame : (place : Place) → is_resident place ≡ true → is_direct place ≡ false → is_in_a_frame place ≡ true
@@ -85,17 +87,9 @@ arrives i e s p x w = by_arrival (arrival_in i p.from p.channel p.seq p.attempt)
 
 -- ---- flights that end
 
-found : (serial : Serial) (flying : List Flying) (f : Flying) → flying_of serial flying ≡ Some f → has_serial serial f.message ≡ true
-found serial [] f is = absurd (cc)
-found serial (g ∷ flying) f is = by_test (has_serial serial g.message) refl is (found serial flying f)
-  where
-    by_test : (b : Bool) → has_serial serial g.message ≡ b → (if b then Some g else flying_of serial flying) ≡ Some f → (flying_of serial flying ≡ Some f → has_serial serial f.message ≡ true) → has_serial serial f.message ≡ true
-    by_test true here at more = let same : g ≡ f = cc in ap (λ (h : Flying). has_serial serial h.message) (sym same) ∙ here
-    by_test false here at more = more at
-
 -- a flight of the message
 pub record IsFlightOf (s : State) (m : Message) (f : Flying) : Type 0 where
-  pub found : flying_of m.serial s.body.in_flight ≡ Some f
+  pub flying_of-has_serial : flying_of m.serial s.body.in_flight ≡ Some f
   pub same : m.serial ≡ f.message.serial
 
 flight : (s : State) (m : Message) → is_some (flying_of m.serial s.body.in_flight) ≡ true → (f : Flying) × IsFlightOf s m f
@@ -103,7 +97,7 @@ flight s m there = by_flight (flying_of m.serial s.body.in_flight) refl there
   where
     by_flight : (g : Option Flying) → flying_of m.serial s.body.in_flight ≡ g → is_some g ≡ true → (f : Flying) × IsFlightOf s m f
     by_flight None is there = absurd (true≢false (sym there))
-    by_flight (Some f) is there = (f, record { found = is; same = same_serial-is m.serial f.message.serial (found m.serial s.body.in_flight f is) })
+    by_flight (Some f) is there = (f, record { flying_of-has_serial = is; same = same_serial-is m.serial f.message.serial (flying_of-has_serial m.serial s.body.in_flight f is) })
 
 settled_serial : (limit : ℕ) (m n : Message) (bounces : ℕ) (v : Verdict) → m.serial ≡ n.serial → settle_by limit m bounces v ≡ settle_by limit n bounces v
 settled_serial limit m n bounces Verdicts.Accepted same = ap Got.Delivered same
@@ -213,7 +207,7 @@ ready_to_bind i s e on =
     let c = none_holds s.head.draining Needs.Draining no_message b.1 in
     let d = none_holds (is_none (front s)) Needs.NoMessage no_channel c.1 in
     let f = none_holds (is_none (channel_of_front i (front s))) Needs.NoChannel [] d.1 in
-    record { resident = not_not (is_resident s.head.place) b.0; undrained = c.0; message = d.0; channel = f.0 }
+    record { resident = not-false (is_resident s.head.place) b.0; undrained = c.0; message = d.0; channel = f.0 }
 
 binds_front : (i : InterfaceLog) (e end : EndpointId) (s : State) (x : Entry) → IsWorkAt i e s (Works.Bind end) x → MayBind i.settings.node e s x
 binds_front i e end s x w = by_front (front s) refl (ready_to_bind i s end w.enabled).message (ready_to_bind i s end w.enabled).channel w.outcome
@@ -276,7 +270,7 @@ move_granted d e s x m = by_event x.event refl m.driver m.end m.enabled m.outcom
         let a = none_holds (not (is_end_of d end)) Needs.OtherNode ((not (is_resident s.head.place), Needs.NotResident) ∷ rest) on in
         let b = none_holds (not (is_resident s.head.place)) Needs.NotResident rest a.1 in
         let c = none_holds s.head.draining Needs.Draining [] b.1 in
-        record { event = is ∙ λ k. Events.Drain (by k) (of k); outcome = o; framed = in_a_frame s.head.place (not_not (is_resident s.head.place) b.0) m.packet; undrained = c.0 }
+        record { event = is ∙ λ k. Events.Drain (by k) (of k); outcome = o; framed = in_a_frame s.head.place (not-false (is_resident s.head.place) b.0) m.packet; undrained = c.0 }
 
     unloads : (at : NodeId) (end : EndpointId) → x.event ≡ Events.Unload at end → at ≡ node → end ≡ e → failing_move d s (Events.Unload at end) ≡ None → x.outcome ≡ Out.Silent → MayUnload node e s x
     unloads at end is by of on o =
@@ -289,9 +283,9 @@ move_granted d e s x m = by_event x.event refl m.driver m.end m.enabled m.outcom
         record {
           event = is ∙ λ k. Events.Unload (by k) (of k);
           outcome = o;
-          framed = in_a_frame s.head.place (not_not (is_resident s.head.place) b.0) m.packet;
-          draining = not_not s.head.draining c.0;
-          none_in_flight = eqb-true (length s.body.in_flight) 0 (not_not (length s.body.in_flight == 0) f.0);
+          framed = in_a_frame s.head.place (not-false (is_resident s.head.place) b.0) m.packet;
+          draining = not-false s.head.draining c.0;
+          none_in_flight = eqb-true (length s.body.in_flight) 0 (not-false (length s.body.in_flight == 0) f.0);
         }
 
     loads : (at : NodeId) (end : EndpointId) (frame : ℕ) → x.event ≡ Events.Load at end frame → at ≡ node → end ≡ e → failing_move d s (Events.Load at end frame) ≡ None → x.outcome ≡ Out.Silent → MayLoad node e s x
@@ -301,7 +295,7 @@ move_granted d e s x m = by_event x.event refl m.driver m.end m.enabled m.outcom
         let a = none_holds (not (is_end_of d end)) Needs.OtherNode ((not (is_on_host s.head.place), Needs.NotOnHost) ∷ closed) on in
         let b = none_holds (not (is_on_host s.head.place)) Needs.NotOnHost closed a.1 in
         let c = none_holds s.head.closed Needs.Closed held b.1 in
-        record { frame = frame; event = is ∙ λ k. Events.Load (by k) (of k) frame; outcome = o; on_host = not_not (is_on_host s.head.place) b.0; unclosed = c.0 }
+        record { frame = frame; event = is ∙ λ k. Events.Load (by k) (of k) frame; outcome = o; on_host = not-false (is_on_host s.head.place) b.0; unclosed = c.0 }
 
     pages_out : (at : NodeId) (end : EndpointId) → x.event ≡ Events.PageOut at end → at ≡ node → end ≡ e → failing_move d s (Events.PageOut at end) ≡ None → x.outcome ≡ page_at d → MayPageOut node e s x
     pages_out at end is by of on o =
@@ -312,7 +306,7 @@ move_granted d e s x m = by_event x.event refl m.driver m.end m.enabled m.outcom
         record {
           event = is ∙ λ k. Events.PageOut (by k) (of k);
           outcome = subst (λ (v : Outcome). (v ≡ Out.Done) ⊎ (v ≡ Out.Failed)) (sym o) (page_ends d);
-          on_host = not_not (is_on_host s.head.place) b.0;
+          on_host = not-false (is_on_host s.head.place) b.0;
           unclosed = c.0;
         }
 
@@ -320,7 +314,7 @@ move_granted d e s x m = by_event x.event refl m.driver m.end m.enabled m.outcom
     pages_in at end is by of on =
         let a = none_holds (not (is_end_of d end)) Needs.OtherNode ((not (is_on_disk s.head.place), Needs.NotOnDisk) ∷ []) on in
         let b = none_holds (not (is_on_disk s.head.place)) Needs.NotOnDisk [] a.1 in
-        record { event = is ∙ λ k. Events.PageIn (by k) (of k); is_outcome = refl; on_disk = not_not (is_on_disk s.head.place) b.0 }
+        record { event = is ∙ λ k. Events.PageIn (by k) (of k); is_outcome = refl; on_disk = not-false (is_on_disk s.head.place) b.0 }
 
     node_is : (at : NodeId) → Some at ≡ Some node → at ≡ node
     node_is at is = cc

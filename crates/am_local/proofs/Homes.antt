@@ -1,7 +1,8 @@
 -- Where an endpoint is declared once, one node is its home.
 use Rattle.std.proofs.Common.{◌≡◌, Bool, true, false, cond, ◌||◌, ◌&&◌, List, [], ◌∷◌, map, Option, Some, None, refl, sym, ap, ◌∙◌, true≢false, eqb-true, eq-eqb}
 use Rattle.std.specs.List.{filter, find, list_any}
-use Rattle.std.proofs.lemmas.Bool.{and_parts, and_from}
+use Rattle.std.proofs.lemmas.Bool.{and_parts, and_from, or_right}
+use mathlib.Core.Bool.{and_comm}
 use Rattle.am_names.specs.declared.EndpointId.{EndpointId}
 use Rattle.am_names.specs.declared.NodeId.{NodeId}
 use Rattle.am_names.specs.Names.{same_end, same_node}
@@ -59,12 +60,6 @@ one_home layout once e n m here there =
     by_home None a b = absurd (true≢false (sym a))
     by_home (Some k) a b = let e : n.0 ≡ k.0 = eqb-true n.0 k.0 a in let f : m.0 ≡ k.0 = eqb-true m.0 k.0 b in λ j. record { 0 = (e ∙ sym f) j }
 
-and_commutes : (a b : Bool) → (a && b) ≡ (b && a)
-and_commutes true true = refl
-and_commutes true false = refl
-and_commutes false true = refl
-and_commutes false false = refl
-
 -- whether something passes that is read off some of the elements
 pub any_mapped : {X Y : Type 0} (g : X → Y) (q : X → Bool) (p : Y → Bool) (xs : List X) → list_any p (map g (filter q xs)) ≡ list_any (λ x. q x && p (g x)) xs
 any_mapped g q p [] = refl
@@ -82,7 +77,7 @@ any_same p q same (x ∷ xs) = λ i. same x i || any_same p q same xs i
 pub ends_home : (layout : Layout) (node : NodeId) (e : EndpointId) → list_any (same_end e) (ends_of layout node) ≡ is_home layout e node
 ends_home layout node e =
     any_mapped (λ (s : EndSetting). s.id) (λ (s : EndSetting). same_node node s.node) (same_end e) layout.ends
-    ∙ any_same (λ (s : EndSetting). same_node node s.node && same_end e s.id) (is_home_by e node) (λ s. and_commutes (same_node node s.node) (same_end e s.id)) layout.ends
+    ∙ any_same (λ (s : EndSetting). same_node node s.node && same_end e s.id) (is_home_by e node) (λ s. and_comm (same_node node s.node) (same_end e s.id)) layout.ends
 
 all_imply : {X : Type 0} (P Q : X → Type 0) → ((x : X) → P x → Q x) → (xs : List X) → AllAre P xs → AllAre Q xs
 all_imply P Q imply [] h = tt
@@ -92,13 +87,9 @@ all_imply P Q imply (x ∷ xs) h = (imply x h.0, all_imply P Q imply xs h.1)
 abbrev pub IsAmong : List EndSetting → EndSetting → Type 0
 IsAmong ss s = list_any (is_home_by s.id s.node) ss ≡ true
 
-or_true : (a b : Bool) → b ≡ true → (a || b) ≡ true
-or_true true b h = refl
-or_true false b h = h
-
 pub all_among : (ss : List EndSetting) → AllAre (IsAmong ss) ss
 all_among [] = tt
 all_among (s ∷ ss) = (
   (λ i. and_from (same_end s.id s.id) (same_node s.node s.node) (same_end-refl s.id) (eq-eqb s.node.0 s.node.0 refl) i || list_any (is_home_by s.id s.node) ss),
-  all_imply (IsAmong ss) (IsAmong (s ∷ ss)) (λ t h. or_true (is_home_by t.id t.node s) (list_any (is_home_by t.id t.node) ss) h) ss (all_among ss),
+  all_imply (IsAmong ss) (IsAmong (s ∷ ss)) (λ t h. or_right (is_home_by t.id t.node s) (list_any (is_home_by t.id t.node) ss) h) ss (all_among ss),
 )

@@ -7,6 +7,7 @@ use Rattle.am_names.specs.declared.Message.{Message}
 use Rattle.am_names.specs.declared.AnswerPacket.{AnswerPacket}
 use Rattle.am_names.specs.declared.Packet.{Packet}
 use Rattle.am_names.specs.declared.Packet.TheVariants as Packets
+use Rattle.am_office.specs.declared.Event.TheVariants as Events
 use Rattle.am_office.specs.declared.Received.{Received}
 use Rattle.am_office.specs.declared.Received.TheVariants as Got
 use Rattle.am_office.specs.declared.Outcome.{Outcome}
@@ -23,7 +24,7 @@ use Rattle.am_model.specs.History.{state_of, is_home, channel_to, free_from, cha
 use Rattle.am_local.specs.declared.work.Work.{Work}
 use Rattle.am_local.specs.declared.work.Work.TheVariants as Works
 use Rattle.am_local.specs.Interface.{InterfaceLog, home_in, is_node_in, is_home_in, channel_in, channel_by_home, channel_of_front, arrival_in, arrive_at, settles, settle_at, bind_at, has_try_left, expire_at, needs_arrival, needs_bound, event_of, outcome_at, failing_at}
-use Rattle.am_local.specs.Together.{IsPart, IsState, IsAt, SaysTheSame}
+use Rattle.am_local.specs.Together.{IsPart, IsState, IsAt, SaysTheSame, from_of, number_of}
 use Rattle.am_local.proofs.Parts.{sequence_own, bound_own, attempt_own, mark_own, number_own, free_own}
 use Rattle.am_local.proofs.Homes.{is_at, home_is}
 
@@ -186,3 +187,7 @@ failing_same layout past i s (Works.Expire peer channel) part on =
 -- an interface's work is local
 pub work_local : (layout : Layout) (past : List Entry) (i : InterfaceLog) (s : State) (w : Work) → IsPart layout past i → IsAt layout past i s w → SaysTheSame layout past i s w
 work_local layout past i s w part on = record { outcome = outcome_same layout past i s w part on; failing = failing_same layout past i s w part on }
+
+pub received_event : (node : NodeId) (p : Packet) → event_of node (Works.Receive p) ≡ Events.Receive node (from_of p) (number_of p)
+received_event node (Packets.Parcel p) = refl
+received_event node (Packets.Answer p) = refl

@@ -1,9 +1,10 @@
 -- What a cluster is after an event was applied or refused.
 use Rattle.std.specs.Prelude.{fold, slice_get, slice_index_or, slice_set, max, nat_le, not}
 use Rattle.std.specs.List.{list_any, filter, position}
-use Rattle.std.proofs.Common.{◌≡◌, ℕ, zero, suc, ◌+◌, ◌-◌, ◌<◌, ◌≤◌, Bool, true, false, cond, ◌||◌, List, [], ◌∷◌, ◌++◌, map, length, Option, Some, None, refl, sym, ap, ◌∙◌, subst, arith, leb-false, true≢false, if◌then◌else◌}
+use Rattle.std.proofs.Common.{◌≡◌, ℕ, zero, suc, ◌+◌, ◌-◌, ◌<◌, ◌≤◌, Bool, true, false, cond, List, [], ◌∷◌, ◌++◌, map, length, Option, Some, None, refl, sym, ap, ◌∙◌, subst, arith, leb-false, if◌then◌else◌}
 use Rattle.std.proofs.lemmas.Bool.{and_parts}
 use Rattle.std.proofs.lemmas.List.{length_push}
+use mathlib.Core.Bool.{or-false}
 use Rattle.am_names.specs.declared.EndpointId.{EndpointId}
 use Rattle.am_names.specs.Names.{same_end}
 use Rattle.am_office.specs.declared.Actor.{Actor}
@@ -28,6 +29,7 @@ use Rattle.am_model.specs.Choice.{first_holding}
 use Rattle.am_office.specs.declared.Condition.TheVariants as Needs
 use Rattle.am_office.specs.declared.Part.TheVariants as Parts
 use Rattle.am_model.proofs.Names.{same_end-is, same_end-refl}
+use Rattle.am_model.proofs.Chosen.{least_such-None}
 use Rattle.am_scenario_types.specs.declared.parts.FaultLine.{FaultLine}
 use Rattle.am_endpoint.specs.View.{EndpointView, last_stamp, stamp_by, state_after}
 use Rattle.am_laws_steps.specs.Laws.{AreBelow}
@@ -73,16 +75,6 @@ pub record IsNext (s : Settings) (faults : List FaultLine) (es : List EndLog) (j
   pub ends : new ≡ map (grown x) es
   pub journal' : grown_journal ≡ journal ++ x ∷ []
 
--- where nothing stops an event, no log that its entry goes into is full
-none_full : (p : EndpointId → Bool) (es : List EndpointId) (e : EndpointId) → least_such p es ≡ None → list_any (same_end e) es ≡ true → p e ≡ false
-none_full p [] e none among = absurd (true≢false (sym among))
-none_full p (d ∷ es) e none among = by_tests (p d) (same_end e d) refl refl none among (none_full p es e)
-  where
-    by_tests : (t s : Bool) → p d ≡ t → same_end e d ≡ s → (if t then Some (lesser d (least_such p es)) else least_such p es) ≡ None → (s || list_any (same_end e) es) ≡ true → (least_such p es ≡ None → list_any (same_end e) es ≡ true → p e ≡ false) → p e ≡ false
-    by_tests true s is same n a more = absurd (cc)
-    by_tests false true is same n a more = ap p (same_end-is e d same) ∙ is
-    by_tests false false is same n a more = more n a
-
 no_end_full : (layout : Layout) (past : List Entry) (event : Event) → stop layout past event ≡ None → least_such (is_end_full layout past) (ends_touched event (outcome_of layout past event)) ≡ None
 no_end_full layout past event h = by_parts (failing layout past event) (least_such (is_end_full layout past) (ends_touched event (outcome_of layout past event))) h
   where
@@ -108,7 +100,7 @@ grown_short layout journal x (e ∷ es) own short room = (by_test (touches e.set
 short_next : (layout : Layout) (es : List EndLog) (journal : List Entry) (event : Event) → IsTied layout es journal → stop layout journal event ≡ None → AllAre IsShort (map (grown (next_entry layout journal event)) es)
 short_next layout es journal event tied runs =
     grown_short layout journal (next_entry layout journal event) es tied.own tied.short
-    (λ e is. none_full (is_end_full layout journal) (ends_touched event (outcome_of layout journal event)) e (no_end_full layout journal event runs) is)
+    (λ e is. least_such-None (is_end_full layout journal) (ends_touched event (outcome_of layout journal event)) e (no_end_full layout journal event runs) is)
 
 pub tied_next : (s : Settings) (faults : List FaultLine) (es : List EndLog) (journal : List Entry) (event : Event) (x : Entry) (new : List EndLog) (longer : List Entry) → IsNext s faults es journal event x new longer → IsTied (layout_in s faults new) new longer
 tied_next s faults es journal event x new longer n =
@@ -308,16 +300,12 @@ call_entry layout vs journal actor end c k one x tied here event outcome stamp =
     let came : x.outcome ≡ outcome_of_call layout.pool end (state_of layout journal end) c = outcome ∙ (λ i. outcome_of_call (own.pool i) (here.id i) (state i) c) in
     λ i. record { stamp = stamp i; event = at i; outcome = came i }
 
-pub or_false : (b : Bool) → (b || false) ≡ b
-or_false true = refl
-or_false false = refl
-
 -- an entry that touches one endpoint alone stands in its log
 pub single_grows : (layout : Layout) (vs : List EndpointView) (journal : List Entry) (end : EndpointId) (k : ℕ) (one : EndpointView) (x : Entry) → IsTied layout (map kept vs) journal → IsHere vs end k one → ends_touched x.event x.outcome ≡ end ∷ [] → logged_at k x (map kept vs) ≡ map (grown x) (map kept vs)
 single_grows layout vs journal end k one x tied here touched =
     sym (one_grown x (map kept vs) k (λ j d at.
     ap (λ (es : List EndpointId). list_any (same_end d.settings.id) es) touched
-    ∙ or_false (same_end d.settings.id end)
+    ∙ or-false (same_end d.settings.id end)
     ∙ only_here layout vs journal end k one tied here j d at))
 
 -- a step that touches one endpoint alone, and no interface

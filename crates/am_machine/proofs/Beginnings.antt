@@ -1,12 +1,14 @@
 -- A cluster as it begins.
-use Rattle.std.specs.Prelude.{slice_get, slice_index_or, IfSome, IsTrue}
+use Rattle.std.specs.Prelude.{slice_get, IfSome, IsTrue}
 use Rattle.std.specs.List.{AllPairs, All, find}
 use Rattle.std.proofs.Common.{Option, None, ◌≤◌, ◌≡◌, ℕ, zero, suc, ◌<◌, Bool, true, false, cond, List, [], ◌∷◌, map, length, Some, refl, sym, ap, ◌∙◌, subst, arith, eqb-true}
+use Rattle.std.proofs.lemmas.Option.{slice_get_within, get_or_from_slice_get}
 use Rattle.am_names.specs.declared.EndpointId.{EndpointId}
 use Rattle.am_names.specs.Names.{same_end}
 use Rattle.am_model.specs.Endpoint.{is_on_disk}
 use Rattle.am_model.specs.Layout.{Layout, EndSetting, AllAre, IsLawful, IsPoolLawful, has_id, home_by, opening_by, opening_place}
 use Rattle.am_model.proofs.Names.{same_end-refl}
+use Rattle.am_model.proofs.Alls.{all_by_place}
 use Rattle.am_scenario_types.specs.declared.parts.EndLine.{EndLine}
 use Rattle.am_scenario_types.specs.declared.parts.FaultLine.{FaultLine}
 use Rattle.am_scenario_types.specs.declared.parts.Network.{Network}
@@ -30,21 +32,11 @@ Rise lines = AllPairs (λ (a b : EndLine). a.id.0 < b.id.0) lines
 pub rise_rest : (x : EndLine) (xs : List EndLine) → Rise (x ∷ xs) → Rise xs
 rise_rest x xs h i j d lt le = h (suc i) (suc j) d (omega (arith, lt)) (omega (arith, le))
 
-got_index : {X : Type 0} (xs : List X) (k : ℕ) (x d : X) → slice_get xs k ≡ Some x → slice_index_or xs k d ≡ x
-got_index [] k x d h = absurd (cc)
-got_index (y ∷ xs) zero x d h = cc
-got_index (y ∷ xs) (suc k) x d h = got_index xs k x d h
-
-got_within : {X : Type 0} (xs : List X) (k : ℕ) (x : X) → slice_get xs k ≡ Some x → k < length xs
-got_within [] k x h = absurd (cc)
-got_within (y ∷ xs) zero x h = omega arith
-got_within (y ∷ xs) (suc k) x h = let more = got_within xs k x h in omega (arith, more)
-
 pub first_below : (x : EndLine) (xs : List EndLine) (k : ℕ) (y : EndLine) → Rise (x ∷ xs) → slice_get xs k ≡ Some y → x.id.0 < y.id.0
 first_below x xs k y h at =
-    let within = got_within xs k y at in
+    let within = slice_get_within xs k y at in
     let less = h zero (suc k) y (omega arith) (omega (arith, within)) in
-    subst (λ (z : EndLine). x.id.0 < z.id.0) (got_index xs k y y at) less
+    subst (λ (z : EndLine). x.id.0 < z.id.0) (get_or_from_slice_get xs k y y at) less
 
 apart_test : (a b : EndpointId) → b.0 < a.0 → same_end a b ≡ false
 apart_test a b lt = by_test (same_end a b) refl
@@ -104,10 +96,6 @@ rise_apart (x ∷ xs) (suc j) zero a b h p q same =
     let one : a.id.0 ≡ x.id.0 = ap (λ (e : EndpointId). e.0) same ∙ sym (ap (λ (z : EndLine). z.id.0) is) in
     absurd (omega (arith, less, one))
 rise_apart (x ∷ xs) (suc j) (suc k) a b h p q same = ap suc (rise_apart xs j k a b (rise_rest x xs h) p q same)
-
-pub all_by_place : {X : Type 0} (P : X → Type 0) (xs : List X) → ((k : ℕ) (x : X) → slice_get xs k ≡ Some x → P x) → AllAre P xs
-all_by_place P [] h = tt
-all_by_place P (x ∷ xs) h = (h zero x refl, all_by_place P xs (λ k y at. h (suc k) y at))
 
 -- a cluster that begins so keeps what it is to keep
 pub begins : (s : Settings) (faults : List FaultLine) (nodes : ℕ) (lines : List EndLine) (es : List EndLog) → es ≡ map (opened s) lines → All (IsLawfulEnd s.network nodes) lines → Rise lines → IsLawful (layout_in s faults es) → IsTied (layout_in s faults es) es []

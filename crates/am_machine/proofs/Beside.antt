@@ -12,8 +12,6 @@ use Rattle.am_office.specs.declared.Condition.{Condition}
 use Rattle.am_office.specs.declared.Condition.TheVariants as Needs
 use Rattle.am_office.specs.declared.Part.{Part}
 use Rattle.am_office.specs.declared.Part.TheVariants as Parts
-use Rattle.am_office.specs.declared.Place.{Place}
-use Rattle.am_office.specs.declared.Place.TheVariants.{Host, Disk, Direct, Frame}
 use Rattle.am_office.specs.declared.Entry.{Entry}
 use Rattle.am_office.specs.Entries.{ends_touched}
 use Rattle.am_model.specs.declared.Queued.{Queued}
@@ -24,6 +22,7 @@ use Rattle.am_model.specs.Endpoint.{State, front, is_direct, is_on_disk, is_resi
 use Rattle.am_model.specs.Layout.{AllAre, EndSetting, IsSettingLawful, Layout, declared, has_id, home, home_by}
 use Rattle.am_model.specs.History.{outcome_of, state_of}
 use Rattle.am_model.specs.Steps.{LogFull, full_by, full_log, is_end_full, least_such, lesser, stop, stop_by}
+use Rattle.am_model.proofs.Places.{resident_not_on_disk}
 use Rattle.am_local.specs.declared.work.Work.{Work}
 use Rattle.am_local.specs.declared.work.Work.TheVariants as Works
 use Rattle.am_local.specs.Granted.{FitsEndpoint, IsInFlight}
@@ -174,12 +173,6 @@ beside_can j b r index =
 
 -- ---- where its packet goes
 
-resident_off : (p : Place) → is_resident p ≡ true → is_on_disk p ≡ false
-resident_off Host h = absurd (cc)
-resident_off Disk h = absurd (cc)
-resident_off Direct h = refl
-resident_off (Frame f) h = refl
-
 resident_by : (home' resident : Bool) (rest : List (Bool × Condition)) → first_holding ((not home', Needs.OtherNode) ∷ (not resident, Needs.NotResident) ∷ rest) ≡ None → resident ≡ true
 resident_by false resident rest h = absurd (cc)
 resident_by true false rest h = absurd (cc)
@@ -190,7 +183,7 @@ bind_off_disk : (i : InterfaceView) (s : State) (end : EndpointId) → failing_a
 bind_off_disk i s end on =
     let free : List (Bool × Condition) = (is_none (channel_of_front (own i) (front s)), Needs.NoChannel) ∷ [] in
     let rest : List (Bool × Condition) = (s.head.draining, Needs.Draining) ∷ (is_none (front s), Needs.NoMessage) ∷ free in
-    resident_off s.head.place (resident_by (is_home_in (own i) end) (is_resident s.head.place) rest on)
+    resident_not_on_disk s.head.place (resident_by (is_home_in (own i) end) (is_resident s.head.place) rest on)
 
 dest_told : (j : Joint) (q : Option Queued) → dest_node j.ends q ≡ home_of_front (own j.one) q
 dest_told j None = refl

@@ -1,9 +1,7 @@
 -- Packets go between nodes of the layout.
 use Rattle.std.specs.Prelude.{if◌then◌else◌, nat_lt}
-use Rattle.std.specs.List.{find}
 use Rattle.std.proofs.Common.{◌≡◌, ℕ, ◌+◌, ◌<◌, Bool, true, false, ◌&&◌, List, length, Option, Some, None, refl, subst, ltb-true}
 use Rattle.std.proofs.lemmas.Bool.{and_parts}
-use Rattle.am_names.specs.declared.EndpointId.{EndpointId}
 use Rattle.am_names.specs.declared.NodeId.{NodeId}
 use Rattle.am_names.specs.declared.Message.{Message}
 use Rattle.am_names.specs.declared.Packet.{Packet}
@@ -20,20 +18,9 @@ use Rattle.am_model.specs.Channels.{attempt, bound_message, emitted, sequence}
 use Rattle.am_model.specs.Endpoint.{front}
 use Rattle.am_model.specs.History.{bind, bind_to, channel_for, channel_to, expire, is_answered, is_in_range, outcome_of, sent, state_of}
 use Rattle.am_model.specs.Changes.{flying_of}
-use Rattle.am_model.specs.Layout.{EndSetting, IsLawful, IsSettingLawful, Layout, declared, has_id, home, home_by}
-use Rattle.am_laws_messages.proofs.Alls.{all_found}
+use Rattle.am_model.specs.Layout.{IsLawful, Layout, declared, home}
 use Rattle.am_model.specs.Packets.{receiver_of, from_of}
-
--- the node of an endpoint is one of the layout's
-home_found : (layout : Layout) → IsLawful layout → (o : Option EndSetting) (e : EndpointId) (node : NodeId) → find (has_id e) layout.ends ≡ o → home_by o ≡ Some node → node.0 < layout.nodes
-home_found layout lawful None e node is h = absurd (cc)
-home_found layout lawful (Some setting) e node is h =
-    let same : setting.node ≡ node = cc in
-    let at : setting.node.0 < layout.nodes = (all_found (IsSettingLawful layout) (has_id e) layout.ends setting is lawful.ends).node in
-    subst (λ (n : NodeId). n.0 < layout.nodes) same at
-
-home_below : (layout : Layout) → IsLawful layout → (e : EndpointId) (node : NodeId) → home layout e ≡ Some node → node.0 < layout.nodes
-home_below layout lawful e node h = home_found layout lawful (find (has_id e) layout.ends) e node refl h
+use Rattle.am_laws_homes.proofs.Homes.{home_below}
 
 pub record IsBetween (layout : Layout) (p : Packet) : Type 0 where
   pub from : (from_of p).0 < layout.nodes

@@ -3,6 +3,7 @@ use Rattle.std.specs.Prelude.{slice_get, nat_le}
 use Rattle.std.specs.List.{list_any}
 use Rattle.std.proofs.Common.{◌≡◌, ℕ, ◌+◌, ◌<◌, Bool, true, false, ◌||◌, ◌&&◌, List, [], ◌∷◌, ◌++◌, map, length, Option, Some, None, refl, sym, ap, ◌∙◌, subst, arith, ltb, if◌then◌else◌}
 use Rattle.std.proofs.lemmas.Bool.{leb-false}
+use mathlib.Core.Bool.{or-false}
 use Rattle.am_names.specs.declared.EndpointId.{EndpointId}
 use Rattle.am_names.specs.declared.Message.{Message}
 use Rattle.am_names.specs.declared.Verdict.{Verdict}
@@ -32,7 +33,7 @@ use Rattle.am_machine.specs.Carries.{At, IsReady, CarriesFrom, ArrivesAt, carrie
 use Rattle.am_moves.specs.Logs.{EndLog, kept}
 use Rattle.am_machine.specs.Ends.{grown, logged_at}
 use Rattle.am_machine.specs.Kept.{IsTied, layout_in}
-use Rattle.am_machine.proofs.Applied.{IsHere, IsNext, full_here, only_here, or_false, own_here, state_here}
+use Rattle.am_machine.proofs.Applied.{IsHere, IsNext, full_here, only_here, own_here, state_here}
 use Rattle.am_machine.proofs.Events.{carry_stop, judged_touches}
 use Rattle.am_machine.proofs.Places.{place_is, place_same}
 use Rattle.am_machine.proofs.Tied.{kept_at, one_grown, two_grown}
@@ -114,7 +115,7 @@ places : (c : Carriage) (x : Entry) → IsEntryOf c x → (j : ℕ) (d : EndLog)
 places c x is j d at =
     touched c x is d.settings.id
     ∙ (λ i. only_here (layout_of c) c.ends c.journal c.end c.from c.one c.tied c.source j d at i
-    || or_false (same_end d.settings.id c.queued.message.dest) i)
+    || or-false (same_end d.settings.id c.queued.message.dest) i)
     ∙ ap (λ (b : Bool). is_place c.from j || b) (only_here (layout_of c) c.ends c.journal c.queued.message.dest c.to c.two c.tied c.dest j d at)
 
 or_twice : (b : Bool) → (b || b) ≡ b

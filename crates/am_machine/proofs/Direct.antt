@@ -1,11 +1,10 @@
 -- In the direct network no endpoint is ever on disk.
-use Rattle.std.proofs.Common.{◌≡◌, Bool, true, false, cond, List, [], ◌∷◌, ◌++◌, Option, Some, None, refl, ap, ◌∙◌, if◌then◌else◌}
+use Rattle.std.proofs.Common.{◌≡◌, Bool, true, false, List, [], ◌∷◌, ◌++◌, Option, Some, None, refl, ap, ◌∙◌, if◌then◌else◌}
 use Rattle.std.specs.List.{find}
 use Rattle.am_names.specs.declared.EndpointId.{EndpointId}
 use Rattle.am_names.specs.Names.{same_end}
 use Rattle.am_office.specs.declared.Call.{Call}
 use Rattle.am_office.specs.declared.Call.TheVariants as Calls
-use Rattle.am_office.specs.declared.Condition.{Condition}
 use Rattle.am_office.specs.declared.Event.{Event}
 use Rattle.am_office.specs.declared.Event.TheVariants as Events
 use Rattle.am_office.specs.declared.Outcome.{Outcome}
@@ -17,6 +16,7 @@ use Rattle.am_model.specs.Changes.{called, left, reached, put, changed}
 use Rattle.am_model.specs.Layout.{Layout, EndSetting, has_id, opening_by, opening_place}
 use Rattle.am_model.specs.History.{MayFollow, IsHistory, state_of, failing}
 use Rattle.am_model.proofs.Each.{over_each, state_of_push}
+use Rattle.am_laws_homes.proofs.Places.{condition_holds}
 
 abbrev pub on_disk : State → Bool
 on_disk s = is_on_disk s.head.place
@@ -48,22 +48,18 @@ reached_stays : (e : EndpointId) (s : State) (o : Outcome) → on_disk s ≡ fal
 reached_stays e s (Out.Accepted m) h = if_stays (same_end e m.dest) s (put m s) h h
 reached_stays e s o h = h
 
-pub not_packet : (c : Condition) (rest : Option Condition) (b : Bool) → b ≡ true → cond b (Some c) rest ≡ None → ⊥
-not_packet c rest true is k = cc
-not_packet c rest false is k = cc
-
 changed_stays : (layout : Layout) (past : List Entry) (e : EndpointId) (s : State) (event : Event) (o : Outcome) → layout.direct ≡ true → failing layout past event ≡ None → on_disk s ≡ false → on_disk (changed e s event o) ≡ false
 changed_stays layout past e s (Events.Call actor end call) o direct may h = called_stays s call o h
 changed_stays layout past e s (Events.Want actor end) o direct may h = h
 changed_stays layout past e s (Events.Carry end) o direct may h = reached_stays e (if same_end e end then left s o else s) o (if_stays (same_end e end) s (left s o) h (left_stays s o h))
-changed_stays layout past e s (Events.Bind node end) o direct may h = absurd (not_packet _ _ layout.direct direct may)
-changed_stays layout past e s (Events.Expire node peer channel) o direct may h = absurd (not_packet _ _ layout.direct direct may)
-changed_stays layout past e s (Events.Receive node peer number) o direct may h = absurd (not_packet _ _ layout.direct direct may)
-changed_stays layout past e s (Events.Drain node end) o direct may h = absurd (not_packet _ _ layout.direct direct may)
-changed_stays layout past e s (Events.Unload node end) o direct may h = absurd (not_packet _ _ layout.direct direct may)
-changed_stays layout past e s (Events.Load node end frame) o direct may h = absurd (not_packet _ _ layout.direct direct may)
-changed_stays layout past e s (Events.PageOut node end) o direct may h = absurd (not_packet _ _ layout.direct direct may)
-changed_stays layout past e s (Events.PageIn node end) o direct may h = absurd (not_packet _ _ layout.direct direct may)
+changed_stays layout past e s (Events.Bind node end) o direct may h = absurd (condition_holds _ _ layout.direct direct may)
+changed_stays layout past e s (Events.Expire node peer channel) o direct may h = absurd (condition_holds _ _ layout.direct direct may)
+changed_stays layout past e s (Events.Receive node peer number) o direct may h = absurd (condition_holds _ _ layout.direct direct may)
+changed_stays layout past e s (Events.Drain node end) o direct may h = absurd (condition_holds _ _ layout.direct direct may)
+changed_stays layout past e s (Events.Unload node end) o direct may h = absurd (condition_holds _ _ layout.direct direct may)
+changed_stays layout past e s (Events.Load node end frame) o direct may h = absurd (condition_holds _ _ layout.direct direct may)
+changed_stays layout past e s (Events.PageOut node end) o direct may h = absurd (condition_holds _ _ layout.direct direct may)
+changed_stays layout past e s (Events.PageIn node end) o direct may h = absurd (condition_holds _ _ layout.direct direct may)
 
 -- no endpoint is on disk
 abbrev pub NoneOnDisk : Layout → List Entry → Type 0

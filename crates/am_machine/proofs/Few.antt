@@ -9,6 +9,7 @@ use Rattle.am_office.specs.declared.Entry.{Entry}
 use Rattle.am_model.specs.Layout.{AllAre, EndSetting, IsLawful, IsSettingLawful, Layout, node_at}
 use Rattle.am_model.specs.Merge.{is_before}
 use Rattle.am_model.proofs.Received.{bit}
+use Rattle.am_model.proofs.Alls.{all_by_place, all_append}
 use Rattle.am_merge.specs.Merged.{entries_of, inserted, is_same, sorted}
 use Rattle.am_iface.specs.View.{InterfaceView}
 use Rattle.am_device.specs.Memory.{Store}
@@ -17,9 +18,7 @@ use Rattle.am_journal.proofs.Growing.{can_count}
 use Rattle.am_moves.specs.Logs.{EndLog}
 use Rattle.am_machine.specs.Ends.{setting_in}
 use Rattle.am_machine.specs.Kept.{IsKept, IsOwn, IsShort, end_logs, interface_logs, logs_in}
-use Rattle.am_machine.proofs.Beginnings.{all_by_place}
 use Rattle.am_machine.proofs.Merging.{kept_merges}
-use Rattle.am_machine.proofs.PartLogs.{all_append}
 
 -- ---- how many endpoints there are
 

@@ -1,8 +1,9 @@
 -- What the interface of a node may be given in a cluster.
 use Rattle.std.specs.Prelude.{nat_le, nat_lt, not, slice_get, slice_index_or}
 use Rattle.std.specs.List.{filter}
-use Rattle.std.proofs.Common.{◌≡◌, ℕ, zero, suc, Bool, [], ◌∷◌, lt-ltb, ◌+◌, ◌-◌, ◌<◌, ◌≤◌, true, false, ◌&&◌, List, map, length, Option, Some, None, refl, sym, ap, ◌∙◌, subst, arith, ltb-true, leb-true}
+use Rattle.std.proofs.Common.{◌≡◌, ℕ, Bool, [], ◌∷◌, lt-ltb, ◌+◌, ◌-◌, ◌<◌, ◌≤◌, true, false, ◌&&◌, List, map, length, Option, Some, None, refl, sym, ap, ◌∙◌, subst, arith, ltb-true, leb-true}
 use Rattle.std.proofs.lemmas.Bool.{and_parts}
+use Rattle.am_lemmas.proofs.Lists.{slice_get-None}
 use Rattle.am_names.specs.declared.EndpointId.{EndpointId}
 use Rattle.am_names.specs.declared.NodeId.{NodeId}
 use Rattle.am_names.specs.declared.Packet.{Packet}
@@ -24,7 +25,7 @@ use Rattle.am_local.specs.declared.work.Work.TheVariants as Works
 use Rattle.am_local.specs.Interface.{arrival_in, channel_in, event_of, failing_at, has_try_left, needs, needs_arrival, needs_bound, settles}
 use Rattle.am_local.specs.Together.{IsState}
 use Rattle.am_model.specs.Packets.{from_of, number_of}
-use Rattle.am_local.proofs.Outcomes.{same_ends}
+use Rattle.am_local.proofs.Outcomes.{same_ends, received_event}
 use Rattle.am_local.proofs.Numbering.{history_numbered, numbered_place}
 use Rattle.am_laws_packets.proofs.Packets.{bound_aloft, packets_fit}
 use Rattle.am_drain.proofs.Entries.{entry_may_follow}
@@ -184,10 +185,6 @@ joint_can j r index =
 
 -- ---- the packet of a receipt
 
-received_event : (node : NodeId) (p : Packet) → event_of node (Works.Receive p) ≡ Events.Receive node (from_of p) (number_of p)
-received_event node (Packets.Parcel p) = refl
-received_event node (Packets.Answer p) = refl
-
 -- the packet with this number on the link
 pub picked : (layout : Layout) (journal : List Entry) (node peer : NodeId) (number : ℕ) (p : Packet) → IsHistory layout journal → 1 ≤ number → slice_get (emitted peer node journal) (number - 1) ≡ Some p → IsTaken journal node (Works.Receive p) × (event_of node (Works.Receive p) ≡ Events.Receive node peer number)
 picked layout journal node peer number p history least at =
@@ -197,14 +194,9 @@ picked layout journal node peer number p history least at =
     let place : number_of p ≡ number = placed.number ∙ next in
     ((λ i. slice_get (emitted (from i) node journal) (place i - 1)) ∙ at, received_event node p ∙ λ i. Events.Receive node (from i) (place i))
 
-pub got_none : {X : Type 0} (xs : List X) (k : ℕ) → slice_get xs k ≡ None → length xs ≤ k
-got_none [] k h = omega arith
-got_none (x ∷ xs) zero h = absurd (cc)
-got_none (x ∷ xs) (suc k) h = let more = got_none xs k h in omega (arith, more)
-
 pub no_packet : (layout : Layout) (journal : List Entry) (node peer : NodeId) (number : ℕ) → layout.direct ≡ false → 1 ≤ number → slice_get (emitted peer node journal) (number - 1) ≡ None → stop layout journal (Events.Receive node peer number) ≡ Some (NotEnabled Needs.NoPacket)
 no_packet layout journal node peer number packet least none =
-    let past = got_none (emitted peer node journal) (number - 1) none in
+    let past = slice_get-None (emitted peer node journal) (number - 1) none in
     let far : nat_lt (length (emitted peer node journal)) number ≡ true = lt-ltb (length (emitted peer node journal)) number (omega (arith, past, least)) in
     λ i. stop_by (first_holding ((packet i, Needs.NotPacket) ∷ (far i, Needs.NoPacket) ∷ [])) (full_log layout journal (Events.Receive node peer number))
 

@@ -1,15 +1,15 @@
 -- The swaps of a cluster, one entry more.
 use Rattle.std.specs.Prelude.{slice_get, slice_set}
 use Rattle.std.specs.List.{list_any}
-use Rattle.std.proofs.Common.{◌≡◌, ⊎_elim, ℕ, zero, suc, ◌+◌, ◌-◌, ◌<◌, ◌≤◌, ◌^◌, Bool, true, false, ◌||◌, List, [], ◌∷◌, ◌++◌, length, Option, Some, refl, sym, ap, ◌∙◌, subst, arith, true≢false, eqb-true, eq-eqb, if◌then◌else◌}
-use Rattle.std.proofs.Math.Nat.{min-eq_left}
-use Rattle.std.proofs.lemmas.Bool.{and_from}
+use Rattle.std.proofs.Common.{◌≡◌, ⊎_elim, ℕ, zero, suc, ◌+◌, ◌<◌, ◌^◌, Bool, true, false, ◌||◌, List, [], ◌∷◌, ◌++◌, length, Option, Some, refl, sym, ap, ◌∙◌, subst, arith, true≢false, eqb-true, eq-eqb, if◌then◌else◌}
+use Rattle.std.proofs.lemmas.Bool.{and_from, or_left}
+use Rattle.std.proofs.lemmas.List.{length-set}
+use Rattle.am_lemmas.proofs.Lists.{slice_get-set_cases}
 use Rattle.am_names.specs.declared.EndpointId.{EndpointId}
 use Rattle.am_names.specs.declared.NodeId.{NodeId}
 use Rattle.am_names.specs.Names.{same_end, same_node}
 use Rattle.am_office.specs.declared.Event.{Event}
 use Rattle.am_office.specs.declared.Event.TheVariants as Events
-use Rattle.am_office.specs.declared.Outcome.{Outcome}
 use Rattle.am_office.specs.declared.Outcome.TheVariants as Out
 use Rattle.am_office.specs.declared.Entry.{Entry}
 use Rattle.am_office.specs.Entries.{ends_touched, touches}
@@ -19,6 +19,8 @@ use Rattle.am_model.specs.History.{IsHistory, MayFollow, is_home, is_page_call, 
 use Rattle.am_model.specs.Layout.{EndSetting, IsLawful, Layout, node_at}
 use Rattle.am_model.proofs.Each.{state_of_push}
 use Rattle.am_model.proofs.Names.{same_end-is, same_end-refl}
+use Rattle.am_model.proofs.Unchanged.{paged_out_body}
+use Rattle.am_model.proofs.Places.{on_host_not_on_disk}
 use Rattle.am_local.specs.Readings.{page_calls}
 use Rattle.am_local.proofs.Growing.{readings_push}
 use Rattle.am_local.proofs.Homes.{is_home_by, one_home}
@@ -29,11 +31,10 @@ use Rattle.am_device.specs.Memory.{Store, counted, faulted, held_for, with_held}
 use Rattle.am_device.proofs.Held.{holds_instead}
 use Rattle.am_image.specs.Image.{image}
 use Rattle.am_image.specs.Valid.{IsValid}
-use Rattle.am_journal.proofs.Lists.{got_set, set_length}
 use Rattle.am_moves.specs.Logs.{EndLog, state_in}
-use Rattle.am_moves.proofs.Paged.{host_no_disk}
 use Rattle.am_moves.specs.Pages.{CanPage, CanPageOut, HoldsBody, IsBodyValid, after_call, after_page, is_page, page_outcome}
 use Rattle.am_machine.specs.Swaps.{AreSwaps, IsSwap}
+use Rattle.am_moves.proofs.Stores.{call_fails, one_more_is, call_calls, held_other, held_still}
 
 -- ---- an entry that is no call of the swap
 
@@ -85,23 +86,6 @@ swaps_same layout journal x ss lawful history may unpaged are = record { each = 
 
 -- ---- a page call
 
-call_fails : (s done : Store) → done.fails ≡ s.fails → (after_call s done).fails ≡ s.fails
-call_fails s done same = by_test (fails_after s.fails s.calls)
-  where
-    by_test : (b : Bool) → (if b then faulted s else counted done).fails ≡ s.fails
-    by_test true = refl
-    by_test false = same
-
-pub one_more_is : (n : ℕ) → n + 1 < 2 ^ 64 → one_more n ≡ n + 1
-one_more_is n few = let le : n + 1 ≤ 2 ^ 64 - 1 = omega (arith, few) in min-eq_left le
-
-call_calls : (s done : Store) → done.calls ≡ s.calls → (after_call s done).calls ≡ one_more s.calls
-call_calls s done same = by_test (fails_after s.fails s.calls)
-  where
-    by_test : (b : Bool) → (if b then faulted s else counted done).calls ≡ one_more s.calls
-    by_test true = refl
-    by_test false = ap one_more same
-
 page_fails : (s : Store) (e : EndLog) (event : Event) → (after_page s e event).fails ≡ s.fails
 page_fails s e (Events.PageOut node end) = call_fails s (with_held s e.settings.id (image (state_in e).body)) refl
 page_fails s e event = call_fails s s refl
@@ -109,21 +93,6 @@ page_fails s e event = call_fails s s refl
 page_calls_more : (s : Store) (e : EndLog) (event : Event) → (after_page s e event).calls ≡ one_more s.calls
 page_calls_more s e (Events.PageOut node end) = call_calls s (with_held s e.settings.id (image (state_in e).body)) refl
 page_calls_more s e event = call_calls s s refl
-
--- what is held for another endpoint
-held_other : (s : Store) (key : EndpointId) (bytes : List ℕ) (f : EndpointId) → same_end f key ≡ false → held_for (after_call s (with_held s key bytes)).held f ≡ held_for s.held f
-held_other s key bytes f other = by_test (fails_after s.fails s.calls)
-  where
-    by_test : (b : Bool) → held_for (if b then faulted s else counted (with_held s key bytes)).held f ≡ held_for s.held f
-    by_test true = refl
-    by_test false = holds_instead key bytes s.held f ∙ ap (λ (b : Bool). if b then Some bytes else held_for s.held f) other
-
-held_still : (s : Store) (f : EndpointId) → held_for (after_call s s).held f ≡ held_for s.held f
-held_still s f = by_test (fails_after s.fails s.calls)
-  where
-    by_test : (b : Bool) → held_for (if b then faulted s else counted s).held f ≡ held_for s.held f
-    by_test true = refl
-    by_test false = refl
 
 page_held : (s : Store) (e : EndLog) (event : Event) (f : EndpointId) → CanPage s e event → pages_out f event ≡ false → held_for (after_page s e event).held f ≡ held_for s.held f
 page_held s e (Events.PageOut node end) f can out =
@@ -166,14 +135,6 @@ still_of p = stays p.layout p.journal p.x p.packet p.lawful p.history p.may
 was_swap : (p : Paging) → IsSwap p.layout p.journal p.node p.s
 was_swap p = p.are.each p.node.0 p.s p.at
 
-paged_out_body : (s : State) (o : Outcome) → (paged_out s o).body ≡ s.body
-paged_out_body s Out.Done = refl
-paged_out_body s o = refl
-
-or_none : (b : Bool) → b ≡ true → (b || false) ≡ true
-or_none true h = refl
-or_none false h = absurd (true≢false (sym h))
-
 -- the body that was paged out is held
 out_held : (p : Paging) (f : EndpointId) (node : NodeId) (end : EndpointId) → p.x.event ≡ Events.PageOut node end → same_end f end ≡ true → is_on_disk (state_of p.layout (p.journal ++ p.x ∷ []) f).head.place ≡ true → HoldsBody p.t p.layout.pool f (state_of p.layout (p.journal ++ p.x ∷ []) f).body
 out_held p f node end ev same on = by_fails (fails_after p.s.fails p.s.calls) refl
@@ -188,7 +149,7 @@ out_held p f node end ev same on = by_fails (fails_after p.s.fails p.s.calls) re
     id = same_end-is f end same ∙ can.is_end
 
     touch : touches f p.x ≡ true
-    touch = ap (λ (v : Event). list_any (same_end f) (ends_touched v p.x.outcome)) ev ∙ or_none (same_end f end) same
+    touch = ap (λ (v : Event). list_any (same_end f) (ends_touched v p.x.outcome)) ev ∙ or_left (same_end f end) false same
 
     now : state_of p.layout (p.journal ++ p.x ∷ []) f ≡ paged_out (state_of p.layout p.journal f) p.x.outcome
     now = state_of_push p.layout p.journal p.x f true touch ∙ ap (λ (v : Event). changed f (state_of p.layout p.journal f) v p.x.outcome) ev
@@ -209,7 +170,7 @@ out_held p f node end ev same on = by_fails (fails_after p.s.fails p.s.calls) re
     by_fails true is =
         let failed : p.x.outcome ≡ Out.Failed = p.outcome ∙ ap (λ (b : Bool). if b then Out.Failed else Out.Done) is in
         let stayed : state_of p.layout (p.journal ++ p.x ∷ []) f ≡ state_in p.e = now ∙ ap (paged_out (state_of p.layout p.journal f)) failed ∙ before in
-        absurd (host_no_disk (state_in p.e).head.place can.on_host (ap (λ (s : State). is_on_disk s.head.place) (sym stayed) ∙ on))
+        absurd (on_host_not_on_disk (state_in p.e).head.place can.on_host (ap (λ (s : State). is_on_disk s.head.place) (sym stayed) ∙ on))
     by_fails false is =
         let holds : p.t ≡ counted (with_held p.s p.e.settings.id image') = told ∙ ap (λ (b : Bool). if b then faulted p.s else counted (with_held p.s p.e.settings.id image')) is in
         record {
@@ -285,8 +246,8 @@ swap_beside p k s apart at =
 pub swaps_paged : (p : Paging) → AreSwaps p.layout (p.journal ++ p.x ∷ []) (slice_set p.swaps p.node.0 p.t)
 swaps_paged p =
     record {
-      each = λ k d got. ⊎_elim (here k d) (there k d) (got_set p.swaps p.node.0 k p.t d got);
-      all = set_length p.swaps p.node.0 p.t ∙ p.are.all;
+      each = λ k d got. ⊎_elim (here k d) (there k d) (slice_get-set_cases p.swaps p.node.0 k p.t d got);
+      all = length-set p.swaps p.node.0 p.t ∙ p.are.all;
     }
   where
     here : (k : ℕ) (d : Store) → (k ≡ p.node.0) × (d ≡ p.t) → IsSwap p.layout (p.journal ++ p.x ∷ []) (node_at k) d

@@ -2,8 +2,10 @@
 use Rattle.std.specs.Prelude.{slice_get, slice_index_or, IfSome}
 use Rattle.std.specs.List.{All, find}
 use Rattle.std.specs.Option.{option_map}
-use Rattle.std.proofs.Common.{◌≡◌, ◌⊎◌, inl, inr, ⊎_elim, ℕ, zero, suc, ◌+◌, ◌<◌, ◌≤◌, ◌==◌, Bool, true, false, cond, List, [], ◌∷◌, ◌++◌, map, length, Option, Some, None, refl, sym, ap, ◌∙◌, subst, arith, eqb-true}
+use Rattle.std.proofs.Common.{◌≡◌, ⊎_elim, ℕ, zero, suc, ◌+◌, ◌<◌, ◌≤◌, ◌==◌, Bool, true, false, cond, List, [], ◌∷◌, ◌++◌, map, length, Option, Some, None, refl, sym, ap, ◌∙◌, subst, arith, eqb-true}
 use Rattle.std.proofs.lemmas.List.{length_push}
+use Rattle.std.proofs.lemmas.Option.{get_or_from_slice_get}
+use Rattle.am_lemmas.proofs.Lists.{slice_get-push_cases}
 use Rattle.am_names.specs.declared.EndpointId.{EndpointId}
 use Rattle.am_names.specs.declared.NodeId.{NodeId}
 use Rattle.am_model.specs.Endpoint.{entry_at}
@@ -13,16 +15,9 @@ use Rattle.am_scenario_types.specs.declared.parts.Network.{Network}
 use Rattle.am_scenario_types.specs.Lawful.{IsLawfulEnd}
 use Rattle.am_follow.specs.Layout.{setting_of}
 use Rattle.am_iface.specs.View.{InterfaceView}
-use Rattle.am_journal.proofs.Lists.{got_index, index_got}
+use Rattle.am_journal.proofs.Lists.{index_got}
 use Rattle.am_machine.specs.declared.settings.Settings.{Settings}
 use Rattle.am_machine.specs.Homes.{AreFreshUpTo, AreHomes, IsFresh, home_line}
-
--- what stands in a list with one more
-pub got_push : {X : Type 0} (xs : List X) (y : X) (k : ℕ) (x : X) → slice_get (xs ++ y ∷ []) k ≡ Some x → (slice_get xs k ≡ Some x) ⊎ ((k ≡ length xs) × (x ≡ y))
-got_push [] y zero x h = inr (refl, cc)
-got_push [] y (suc k) x h = absurd (cc)
-got_push (z ∷ xs) y zero x h = inl h
-got_push (z ∷ xs) y (suc k) x h = ⊎_elim (λ here. inl here) (λ (last : (k ≡ length xs) × (x ≡ y)). inr (ap suc last.0, last.1)) (got_push xs y k x h)
 
 -- the homes so far
 pub record AreHomesUpTo (lines : List EndLine) (count : ℕ) (homes : List (Option NodeId)) : Type 0 where
@@ -39,7 +34,7 @@ homes_more lines count homes next are is =
       each = λ k home h.
           ⊎_elim (are.each k home)
           (λ (last : (k ≡ length homes) × (home ≡ next)). last.1 ∙ is ∙ ap (home_line lines) (sym (last.0 ∙ are.all)))
-          (got_push homes next k home h);
+          (slice_get-push_cases homes next k home h);
     }
 
 pub fresh_begin : (s : Settings) (lines : List EndLine) → AreFreshUpTo s lines 0 []
@@ -53,7 +48,7 @@ fresh_more s lines count is i are fresh =
           ⊎_elim (are.each k d)
           (λ (last : (k ≡ length is) × (d ≡ i)).
           subst (λ (n : ℕ). IsFresh s lines (record { 0 = n }) d) (sym (last.0 ∙ are.all)) (subst (IsFresh s lines (record { 0 = count })) (sym last.1) fresh))
-          (got_push is i k d h);
+          (slice_get-push_cases is i k d h);
     }
 
 -- ---- what the homes say
@@ -111,7 +106,7 @@ home_told network nodes lines homes e all are = by_place (slice_get homes e.0) r
         past (x ∷ xs) (suc k) h = let more = past xs k h in omega (arith, more)
 
     by_place : (o : Option (Option NodeId)) → slice_get homes e.0 ≡ o → entry_at homes e.0 ≡ home_by (find (has_id e) (map setting_of lines))
-    by_place (Some home) at = got_index homes e.0 home None at ∙ are.each e.0 home at ∙ line_home lines e
+    by_place (Some home) at = get_or_from_slice_get homes e.0 home None at ∙ are.each e.0 home at ∙ line_home lines e
     by_place None at =
         let far = far_of at in
         let all_there = are.all in

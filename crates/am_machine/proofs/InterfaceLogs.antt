@@ -2,15 +2,15 @@
 use Rattle.std.specs.Prelude.{slice_get, slice_set}
 use Rattle.std.specs.List.{filter}
 use Rattle.std.proofs.Common.{◌≡◌, ⊎_elim, ℕ, ◌<◌, Bool, true, false, cond, List, [], ◌∷◌, ◌++◌, length, Some, None, refl, sym, ap, ◌∙◌, subst, arith, eqb-true, eq-eqb, if◌then◌else◌}
-use Rattle.std.proofs.lemmas.List.{append-nil, length_push}
+use Rattle.std.proofs.lemmas.List.{append-nil, length_push, length-set}
 use Rattle.std.proofs.lemmas.List.Elements.{filter-append}
+use Rattle.am_lemmas.proofs.Lists.{slice_get-set_cases}
 use Rattle.am_names.specs.declared.NodeId.{NodeId}
 use Rattle.am_names.specs.Names.{same_node}
 use Rattle.am_office.specs.declared.Entry.{Entry}
 use Rattle.am_office.specs.Entries.{is_node, node_touched, touches_node}
 use Rattle.am_model.specs.Layout.{Layout, node_at}
 use Rattle.am_iface.specs.View.{InterfaceView}
-use Rattle.am_journal.proofs.Lists.{got_set, set_length}
 use Rattle.am_machine.specs.Interfaces.{AreInterfaces, IsInterface}
 
 part_push : (node : NodeId) (journal : List Entry) (x : Entry) (t : Bool) → touches_node node x ≡ t → filter (touches_node node) (journal ++ x ∷ []) ≡ (if t then filter (touches_node node) journal ++ x ∷ [] else filter (touches_node node) journal)
@@ -54,8 +54,8 @@ nodes_differ k node apart = by_test (same_node (node_at k) node) refl
 pub interfaces_more : (layout : Layout) (journal : List Entry) (x : Entry) (is : List InterfaceView) (node : NodeId) (i j : InterfaceView) → node_touched x.event ≡ Some node → slice_get is node.0 ≡ Some i → length i.log < layout.log → j ≡ record i { log = i.log ++ x ∷ [] } → AreInterfaces layout journal is → AreInterfaces layout (journal ++ x ∷ []) (slice_set is node.0 j)
 interfaces_more layout journal x is node i j touched at room more are =
     record {
-      each = λ k d got. ⊎_elim (here k d) (there k d) (got_set is node.0 k j d got);
-      all = set_length is node.0 j ∙ are.all;
+      each = λ k d got. ⊎_elim (here k d) (there k d) (slice_get-set_cases is node.0 k j d got);
+      all = length-set is node.0 j ∙ are.all;
     }
   where
     old : IsInterface layout journal (node_at node.0) i

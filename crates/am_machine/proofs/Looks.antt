@@ -4,6 +4,7 @@ use Rattle.std.specs.List.{filter, find, list_any, position}
 use Rattle.std.proofs.Common.{◌≡◌, ℕ, zero, suc, ◌+◌, ◌<◌, ◌≤◌, Bool, true, false, cond, ◌||◌, List, [], ◌∷◌, map, length, Option, Some, None, refl, sym, ap, ◌∙◌, arith}
 use Rattle.std.proofs.lemmas.Bool.{and_parts}
 use Rattle.std.proofs.lemmas.List.Sums.{sum_by-cons}
+use Rattle.am_lemmas.proofs.Lists.{slice_get-None}
 use Rattle.am_names.specs.declared.EndpointId.{EndpointId}
 use Rattle.am_names.specs.declared.NodeId.{NodeId}
 use Rattle.am_names.specs.Names.{same_end}
@@ -23,7 +24,6 @@ use Rattle.am_machine.specs.Ends.{is_of, setting_in}
 use Rattle.am_machine.specs.Interfaces.{AreInterfaces, IsInterface}
 use Rattle.am_machine.specs.Kept.{IsTied}
 use Rattle.am_machine.proofs.Applied.{found_here, own_here, state_here}
-use Rattle.am_machine.proofs.Fitting.{got_none}
 use Rattle.am_machine.proofs.Joint.{interface_there}
 use Rattle.am_machine.proofs.Moving.{setting_found}
 use Rattle.am_machine.proofs.Places.{not_found, position_at}
@@ -99,7 +99,7 @@ receipts_bounded layout journal is from to are packet lt =
     by_interface (slice_get is to.0) refl there
   where
     by_interface : (o : Option InterfaceView) → slice_get is to.0 ≡ o → to.0 < length is → receipts from to journal ≤ layout.log
-    by_interface None at there = absurd (omega (arith, got_none is to.0 at, there))
+    by_interface None at there = absurd (omega (arith, slice_get-None is to.0 at, there))
     by_interface (Some i) at there =
         let one = are.each to.0 i at in
         let few = receipts_few from to journal in

@@ -2,6 +2,7 @@
 use Rattle.std.specs.Prelude.{slice_get, Some, None}
 use Rattle.std.specs.List.{list_any}
 use Rattle.std.proofs.Common.{◌≡◌, ⊎_elim, ℕ, zero, suc, ◌<◌, Bool, true, false, List, [], ◌∷◌, ◌++◌, length, map, refl, sym, ap, ◌∙◌, subst, true≢false, arith, if◌then◌else◌}
+use Rattle.am_lemmas.proofs.Lists.{slice_get-Some}
 use Rattle.am_names.specs.declared.EndpointId.{EndpointId}
 use Rattle.am_names.specs.declared.NodeId.{NodeId}
 use Rattle.am_names.specs.Names.{same_end}
@@ -12,11 +13,14 @@ use Rattle.am_office.specs.declared.Entry.{Entry}
 use Rattle.am_office.specs.Entries.{ends_touched, is_node, node_touched, touches, touches_node}
 use Rattle.am_model.specs.History.{EachAfter, MayFollow, failing}
 use Rattle.am_model.specs.Layout.{AllAre, EndSetting, Layout, declared, node_at}
+use Rattle.am_model.proofs.Alls.{all_by_place, all_append}
+use Rattle.am_model.proofs.Names.{same_end-is}
 use Rattle.am_iface.specs.View.{InterfaceView}
 use Rattle.am_device.specs.Memory.{Store}
 use Rattle.am_merge.specs.Logs.{IsRising}
 use Rattle.am_merge.specs.Merged.{entries_of}
 use Rattle.am_merge.proofs.Sorted.{Has, contains_has, filter_has, has_contains}
+use Rattle.am_laws_homes.proofs.Places.{condition_holds}
 use Rattle.am_join.specs.Joined.{AreOne, HaveJust}
 use Rattle.am_join.proofs.OneJournal.{are_one, merged_is}
 use Rattle.am_join.proofs.Standing.{has_left, has_right}
@@ -26,9 +30,7 @@ use Rattle.am_moves.specs.Logs.{EndLog, kept}
 use Rattle.am_machine.specs.Ends.{setting_in}
 use Rattle.am_machine.specs.Interfaces.{IsInterface}
 use Rattle.am_machine.specs.Kept.{IsKept, IsOwn, end_logs, interface_logs, journal_by, logs_in}
-use Rattle.am_machine.proofs.Beginnings.{all_by_place}
-use Rattle.am_machine.proofs.Direct.{not_packet}
-use Rattle.am_machine.proofs.PartLogs.{IsPartOf, OfEnd, OfNode, all_append, all_rise, are_among, entries_left, entries_right, got_mapped, same_id, setting_there, some_within, touched}
+use Rattle.am_machine.proofs.PartLogs.{IsPartOf, OfEnd, OfNode, all_rise, are_among, entries_left, entries_right, got_mapped, setting_there, touched}
 use Rattle.am_machine.proofs.Tied.{own_at}
 
 -- ---- each log is a part of the journal
@@ -56,9 +58,9 @@ follows layout past (y ∷ xs) x each h =
 
 -- in the direct network no interface is touched
 no_interface : (layout : Layout) (past : List Entry) (event : Event) (n : NodeId) → layout.direct ≡ true → failing layout past event ≡ None → is_node n (node_touched event) ≡ true → ⊥
-no_interface layout past (Events.Bind node end) n direct may h = not_packet _ _ layout.direct direct may
-no_interface layout past (Events.Expire node peer channel) n direct may h = not_packet _ _ layout.direct direct may
-no_interface layout past (Events.Receive node peer number) n direct may h = not_packet _ _ layout.direct direct may
+no_interface layout past (Events.Bind node end) n direct may h = condition_holds _ _ layout.direct direct may
+no_interface layout past (Events.Expire node peer channel) n direct may h = condition_holds _ _ layout.direct direct may
+no_interface layout past (Events.Receive node peer number) n direct may h = condition_holds _ _ layout.direct direct may
 no_interface layout past event n direct may h = true≢false (sym h)
 
 end_there : (es : List EndLog) (k : ℕ) (e : EndLog) (x : Entry) → slice_get es k ≡ Some e → Has e.log x → Has (entries_of (end_logs es)) x
@@ -77,7 +79,7 @@ module _ (layout : Layout) (es : List EndLog) (journal : List Entry) (is : List 
       let s = setting_there e layout.ends known in
       let d = got_mapped setting_in es s.0 s.1.0 (ap (λ (l : List EndSetting). slice_get l s.0) (sym ends) ∙ s.1.1.0) in
       let own = own_at layout es journal s.0 d.0 k.tied.own d.1.0 in
-      let id : d.0.settings.id ≡ e = ap (λ (t : EndSetting). t.id) d.1.1 ∙ sym (same_id e s.1.0.id s.1.1.1) in
+      let id : d.0.settings.id ≡ e = ap (λ (t : EndSetting). t.id) d.1.1 ∙ sym (same_end-is e s.1.0.id s.1.1.1) in
       entries_left (end_logs es) (interface_logs is) x
       (end_there es s.0 d.0 x d.1.0
       (subst (λ (l : List Entry). Has l x) (sym own.log) (filter_has (touches d.0.settings.id) journal x h (ap (λ (f : EndpointId). touches f x) id ∙ on))))
@@ -85,7 +87,7 @@ module _ (layout : Layout) (es : List EndLog) (journal : List Entry) (is : List 
   in_node : (x : Entry) (n : NodeId) → Has journal x → layout.direct ≡ false → n.0 < layout.nodes → touches_node n x ≡ true → Has (entries_of (logs_in es is)) x
   in_node x n h packet lt on =
       let all : length is ≡ layout.nodes = k.interfaces'.all ∙ ap (λ (b : Bool). if b then 0 else layout.nodes) packet in
-      let i = some_within is n.0 (omega (arith, lt, all)) in
+      let i = slice_get-Some is n.0 (omega (arith, lt, all)) in
       let own = k.interfaces'.each n.0 i.0 i.1 in
       entries_right (end_logs es) (interface_logs is) x
       (interface_there is n.0 i.0 x i.1 (subst (λ (l : List Entry). Has l x) (sym own.part) (filter_has (touches_node (node_at n.0)) journal x h on)))

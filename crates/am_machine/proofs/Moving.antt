@@ -3,6 +3,7 @@ use Rattle.std.specs.Prelude.{not, nat_le, nat_lt, slice_index_or, slice_set}
 use Rattle.std.specs.List.{list_any, find, position, position_or_len, filter}
 use Rattle.std.proofs.Common.{◌≡◌, ℕ, suc, ◌+◌, ◌<◌, ◌≤◌, Bool, true, false, cond, ◌||◌, ◌&&◌, List, [], ◌∷◌, ◌++◌, map, length, slice_get, Option, Some, None, refl, sym, ap, ◌∙◌, subst, arith, true≢false, ltb-true, eqb-true}
 use Rattle.std.proofs.lemmas.Bool.{and_parts}
+use Rattle.am_lemmas.proofs.Options.{some_is}
 use Rattle.am_names.specs.declared.EndpointId.{EndpointId}
 use Rattle.am_names.specs.declared.NodeId.{NodeId}
 use Rattle.am_names.specs.Names.{same_node}
@@ -68,26 +69,20 @@ moved_silent stamp (Events.PageOut node e) o end is = refl
 moved_silent stamp (Events.PageIn node e) o end is = refl
 moved_silent stamp event o end is = absurd (cc)
 
-some_node : (a b : NodeId) → Some a ≡ Some b → a ≡ b
-some_node a b h = cc
-
-some_end : (a b : EndpointId) → Some a ≡ Some b → a ≡ b
-some_end a b h = cc
-
 pub node_below : (layout : Layout) (event : Event) (node : NodeId) → is_in_range layout event ≡ true → driver_of event ≡ Some node → node.0 < layout.nodes
-node_below layout (Events.Drain at e) node range is = subst (λ (n : NodeId). n.0 < layout.nodes) (some_node at node is) (ltb-true _ _ (and_parts (declared layout e) _ range).1)
-node_below layout (Events.Unload at e) node range is = subst (λ (n : NodeId). n.0 < layout.nodes) (some_node at node is) (ltb-true _ _ (and_parts (declared layout e) _ range).1)
-node_below layout (Events.Load at e frame) node range is = subst (λ (n : NodeId). n.0 < layout.nodes) (some_node at node is) (ltb-true _ _ (and_parts (declared layout e) (nat_lt at.0 layout.nodes) (and_parts (declared layout e && nat_lt at.0 layout.nodes) (nat_lt frame layout.frames) range).0).1)
-node_below layout (Events.PageOut at e) node range is = subst (λ (n : NodeId). n.0 < layout.nodes) (some_node at node is) (ltb-true _ _ (and_parts (declared layout e) _ range).1)
-node_below layout (Events.PageIn at e) node range is = subst (λ (n : NodeId). n.0 < layout.nodes) (some_node at node is) (ltb-true _ _ (and_parts (declared layout e) _ range).1)
+node_below layout (Events.Drain at e) node range is = subst (λ (n : NodeId). n.0 < layout.nodes) (some_is at node is) (ltb-true _ _ (and_parts (declared layout e) _ range).1)
+node_below layout (Events.Unload at e) node range is = subst (λ (n : NodeId). n.0 < layout.nodes) (some_is at node is) (ltb-true _ _ (and_parts (declared layout e) _ range).1)
+node_below layout (Events.Load at e frame) node range is = subst (λ (n : NodeId). n.0 < layout.nodes) (some_is at node is) (ltb-true _ _ (and_parts (declared layout e) (nat_lt at.0 layout.nodes) (and_parts (declared layout e && nat_lt at.0 layout.nodes) (nat_lt frame layout.frames) range).0).1)
+node_below layout (Events.PageOut at e) node range is = subst (λ (n : NodeId). n.0 < layout.nodes) (some_is at node is) (ltb-true _ _ (and_parts (declared layout e) _ range).1)
+node_below layout (Events.PageIn at e) node range is = subst (λ (n : NodeId). n.0 < layout.nodes) (some_is at node is) (ltb-true _ _ (and_parts (declared layout e) _ range).1)
 node_below layout event node range is = absurd (cc)
 
 pub end_known : (layout : Layout) (event : Event) (end : EndpointId) → is_in_range layout event ≡ true → end_moved event ≡ Some end → declared layout end ≡ true
-end_known layout (Events.Drain at e) end range is = ap (declared layout) (sym (some_end e end is)) ∙ (and_parts (declared layout e) _ range).0
-end_known layout (Events.Unload at e) end range is = ap (declared layout) (sym (some_end e end is)) ∙ (and_parts (declared layout e) _ range).0
-end_known layout (Events.Load at e frame) end range is = ap (declared layout) (sym (some_end e end is)) ∙ (and_parts (declared layout e) (nat_lt at.0 layout.nodes) (and_parts (declared layout e && nat_lt at.0 layout.nodes) (nat_lt frame layout.frames) range).0).0
-end_known layout (Events.PageOut at e) end range is = ap (declared layout) (sym (some_end e end is)) ∙ (and_parts (declared layout e) _ range).0
-end_known layout (Events.PageIn at e) end range is = ap (declared layout) (sym (some_end e end is)) ∙ (and_parts (declared layout e) _ range).0
+end_known layout (Events.Drain at e) end range is = ap (declared layout) (sym (some_is e end is)) ∙ (and_parts (declared layout e) _ range).0
+end_known layout (Events.Unload at e) end range is = ap (declared layout) (sym (some_is e end is)) ∙ (and_parts (declared layout e) _ range).0
+end_known layout (Events.Load at e frame) end range is = ap (declared layout) (sym (some_is e end is)) ∙ (and_parts (declared layout e) (nat_lt at.0 layout.nodes) (and_parts (declared layout e && nat_lt at.0 layout.nodes) (nat_lt frame layout.frames) range).0).0
+end_known layout (Events.PageOut at e) end range is = ap (declared layout) (sym (some_is e end is)) ∙ (and_parts (declared layout e) _ range).0
+end_known layout (Events.PageIn at e) end range is = ap (declared layout) (sym (some_is e end is)) ∙ (and_parts (declared layout e) _ range).0
 end_known layout event end range is = absurd (cc)
 
 pub moved_nodes : (layout : Layout) (event : Event) (end : EndpointId) → layout.nodes ≤ 16 → is_in_range layout event ≡ true → end_moved event ≡ Some end → AreNodes event
@@ -123,11 +118,11 @@ failing_direct layout past (Events.PageIn at e) end direct is = first layout.dir
 failing_direct layout past event end direct is = absurd (cc)
 
 pub failing_other : (layout : Layout) (past : List Entry) (event : Event) (node : NodeId) (end : EndpointId) → layout.direct ≡ false → driver_of event ≡ Some node → end_moved event ≡ Some end → is_home layout end node ≡ false → failing layout past event ≡ Some Needs.OtherNode
-failing_other layout past (Events.Drain at e) node end packet by is home = second layout.direct (is_home layout e at) _ _ _ packet ((λ i. is_home layout (some_end e end is i) (some_node at node by i)) ∙ home)
-failing_other layout past (Events.Unload at e) node end packet by is home = second layout.direct (is_home layout e at) _ _ _ packet ((λ i. is_home layout (some_end e end is i) (some_node at node by i)) ∙ home)
-failing_other layout past (Events.Load at e frame) node end packet by is home = second layout.direct (is_home layout e at) _ _ _ packet ((λ i. is_home layout (some_end e end is i) (some_node at node by i)) ∙ home)
-failing_other layout past (Events.PageOut at e) node end packet by is home = second layout.direct (is_home layout e at) _ _ _ packet ((λ i. is_home layout (some_end e end is i) (some_node at node by i)) ∙ home)
-failing_other layout past (Events.PageIn at e) node end packet by is home = second layout.direct (is_home layout e at) _ _ _ packet ((λ i. is_home layout (some_end e end is i) (some_node at node by i)) ∙ home)
+failing_other layout past (Events.Drain at e) node end packet by is home = second layout.direct (is_home layout e at) _ _ _ packet ((λ i. is_home layout (some_is e end is i) (some_is at node by i)) ∙ home)
+failing_other layout past (Events.Unload at e) node end packet by is home = second layout.direct (is_home layout e at) _ _ _ packet ((λ i. is_home layout (some_is e end is i) (some_is at node by i)) ∙ home)
+failing_other layout past (Events.Load at e frame) node end packet by is home = second layout.direct (is_home layout e at) _ _ _ packet ((λ i. is_home layout (some_is e end is i) (some_is at node by i)) ∙ home)
+failing_other layout past (Events.PageOut at e) node end packet by is home = second layout.direct (is_home layout e at) _ _ _ packet ((λ i. is_home layout (some_is e end is i) (some_is at node by i)) ∙ home)
+failing_other layout past (Events.PageIn at e) node end packet by is home = second layout.direct (is_home layout e at) _ _ _ packet ((λ i. is_home layout (some_is e end is i) (some_is at node by i)) ∙ home)
 failing_other layout past event node end packet by is home = absurd (cc)
 
 -- whether the event loads into a frame that is held
@@ -137,20 +132,20 @@ is_taken_by layout past event = false
 
 pub failing_here : (layout : Layout) (past : List Entry) (event : Event) (node : NodeId) (end : EndpointId) (s : State) (taken : Bool) → layout.direct ≡ false → driver_of event ≡ Some node → end_moved event ≡ Some end → is_home layout end node ≡ true → state_of layout past end ≡ s → is_taken_by layout past event ≡ taken → failing layout past event ≡ failing_on s event taken
 failing_here layout past (Events.Drain at e) node end s taken packet by is home st held =
-    third layout.direct (is_home layout e at) _ _ _ packet ((λ i. is_home layout (some_end e end is i) (some_node at node by i)) ∙ home)
-    ∙ ap (λ (t : State). failing_on t (Events.Drain at e) taken) (ap (state_of layout past) (some_end e end is) ∙ st)
+    third layout.direct (is_home layout e at) _ _ _ packet ((λ i. is_home layout (some_is e end is i) (some_is at node by i)) ∙ home)
+    ∙ ap (λ (t : State). failing_on t (Events.Drain at e) taken) (ap (state_of layout past) (some_is e end is) ∙ st)
 failing_here layout past (Events.Unload at e) node end s taken packet by is home st held =
-    third layout.direct (is_home layout e at) _ _ _ packet ((λ i. is_home layout (some_end e end is i) (some_node at node by i)) ∙ home)
-    ∙ ap (λ (t : State). failing_on t (Events.Unload at e) taken) (ap (state_of layout past) (some_end e end is) ∙ st)
+    third layout.direct (is_home layout e at) _ _ _ packet ((λ i. is_home layout (some_is e end is i) (some_is at node by i)) ∙ home)
+    ∙ ap (λ (t : State). failing_on t (Events.Unload at e) taken) (ap (state_of layout past) (some_is e end is) ∙ st)
 failing_here layout past (Events.Load at e frame) node end s taken packet by is home st held =
-    third layout.direct (is_home layout e at) _ _ _ packet ((λ i. is_home layout (some_end e end is i) (some_node at node by i)) ∙ home)
-    ∙ (λ i. failing_on ((ap (state_of layout past) (some_end e end is) ∙ st) i) (Events.Load at e frame) (held i))
+    third layout.direct (is_home layout e at) _ _ _ packet ((λ i. is_home layout (some_is e end is i) (some_is at node by i)) ∙ home)
+    ∙ (λ i. failing_on ((ap (state_of layout past) (some_is e end is) ∙ st) i) (Events.Load at e frame) (held i))
 failing_here layout past (Events.PageOut at e) node end s taken packet by is home st held =
-    third layout.direct (is_home layout e at) _ _ _ packet ((λ i. is_home layout (some_end e end is i) (some_node at node by i)) ∙ home)
-    ∙ ap (λ (t : State). failing_on t (Events.PageOut at e) taken) (ap (state_of layout past) (some_end e end is) ∙ st)
+    third layout.direct (is_home layout e at) _ _ _ packet ((λ i. is_home layout (some_is e end is i) (some_is at node by i)) ∙ home)
+    ∙ ap (λ (t : State). failing_on t (Events.PageOut at e) taken) (ap (state_of layout past) (some_is e end is) ∙ st)
 failing_here layout past (Events.PageIn at e) node end s taken packet by is home st held =
-    third layout.direct (is_home layout e at) _ _ _ packet ((λ i. is_home layout (some_end e end is i) (some_node at node by i)) ∙ home)
-    ∙ ap (λ (t : State). failing_on t (Events.PageIn at e) taken) (ap (state_of layout past) (some_end e end is) ∙ st)
+    third layout.direct (is_home layout e at) _ _ _ packet ((λ i. is_home layout (some_is e end is i) (some_is at node by i)) ∙ home)
+    ∙ ap (λ (t : State). failing_on t (Events.PageIn at e) taken) (ap (state_of layout past) (some_is e end is) ∙ st)
 failing_here layout past event node end s taken packet by is home st held = absurd (cc)
 
 -- the frames that are held, told by the endpoints

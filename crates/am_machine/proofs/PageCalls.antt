@@ -3,6 +3,7 @@ use Rattle.std.specs.Prelude.{nat_le, slice_index_or, slice_set}
 use Rattle.std.specs.List.{filter, list_any}
 use Rattle.std.proofs.Common.{◌≡◌, ℕ, zero, suc, ◌+◌, ◌<◌, ◌==◌, ◌^◌, Bool, true, false, cond, ◌||◌, ◌&&◌, List, [], ◌∷◌, ◌++◌, map, length, slice_get, Some, refl, sym, ap, ◌∙◌, subst, arith, true≢false, if◌then◌else◌}
 use Rattle.std.proofs.lemmas.List.Sums.{count_by-le-length}
+use Rattle.am_lemmas.proofs.Options.{some_is}
 use Rattle.am_names.specs.declared.EndpointId.{EndpointId}
 use Rattle.am_names.specs.declared.NodeId.{NodeId}
 use Rattle.am_names.specs.Names.{same_node}
@@ -26,13 +27,14 @@ use Rattle.am_device.specs.Memory.{Store}
 use Rattle.am_endpoint.specs.View.{EndpointView, state_after}
 use Rattle.am_moves.specs.Logs.{EndLog, kept}
 use Rattle.am_machine.specs.Ends.{setting_in}
+use Rattle.am_moves.proofs.Stores.{one_more_is}
 use Rattle.am_machine.specs.Kept.{IsOwn}
 use Rattle.am_moves.specs.Pages.{CanPage, HoldsBody, IsBodyValid, IsPagedBy, after_page, is_page, page_outcome}
 use Rattle.am_machine.specs.Swaps.{AreSwaps, IsSwap}
 use Rattle.am_machine.proofs.Applied.{IsNext, own_here, state_here}
 use Rattle.am_machine.proofs.Moving as moving
 use Rattle.am_machine.proofs.Moving.{Move}
-use Rattle.am_machine.proofs.Holding.{Paging, one_more_is, swaps_paged}
+use Rattle.am_machine.proofs.Holding.{Paging, swaps_paged}
 use Rattle.am_machine.proofs.Places.{index_got}
 use Rattle.am_machine.proofs.Tied.{kept_at}
 
@@ -59,24 +61,18 @@ page_told layout journal node s is few =
 
 -- ---- which events are page calls
 
-some_node : (a b : NodeId) → Some a ≡ Some b → a ≡ b
-some_node a b h = cc
-
-some_end : (a b : EndpointId) → Some a ≡ Some b → a ≡ b
-some_end a b h = cc
-
 page_outcome_is : (layout : Layout) (journal : List Entry) (event : Event) (node : NodeId) → driver_of event ≡ Some node → is_page event ≡ true → outcome_of layout journal event ≡ page layout node journal
-page_outcome_is layout journal (Events.PageOut at e) node by paged = ap (λ (n : NodeId). page layout n journal) (some_node at node by)
-page_outcome_is layout journal (Events.PageIn at e) node by paged = ap (λ (n : NodeId). page layout n journal) (some_node at node by)
+page_outcome_is layout journal (Events.PageOut at e) node by paged = ap (λ (n : NodeId). page layout n journal) (some_is at node by)
+page_outcome_is layout journal (Events.PageIn at e) node by paged = ap (λ (n : NodeId). page layout n journal) (some_is at node by)
 page_outcome_is layout journal event node by paged = absurd (true≢false (sym paged))
 
 page_called : (event : Event) (node other : NodeId) → driver_of event ≡ Some node → is_page event ≡ true → is_page_call other event ≡ same_node other node
-page_called (Events.PageOut at e) node other by paged = ap (same_node other) (some_node at node by)
-page_called (Events.PageIn at e) node other by paged = ap (same_node other) (some_node at node by)
+page_called (Events.PageOut at e) node other by paged = ap (same_node other) (some_is at node by)
+page_called (Events.PageIn at e) node other by paged = ap (same_node other) (some_is at node by)
 page_called event node other by paged = absurd (true≢false (sym paged))
 
 page_moved : (event : Event) (end f : EndpointId) → end_moved event ≡ Some end → pages_out f event ≡ true → f ≡ end
-page_moved (Events.PageOut at e) end f is out = same_end-is f e out ∙ some_end e end is
+page_moved (Events.PageOut at e) end f is out = same_end-is f e out ∙ some_is e end is
 page_moved event end f is out = absurd (true≢false (sym out))
 
 -- ---- the call

@@ -1,8 +1,9 @@
 -- The logs of the nodes' parts, and the journal that they are parts of.
 use Rattle.std.specs.Prelude.{nat_lt, not, slice_get}
 use Rattle.std.specs.List.{filter, list_all, list_any}
-use Rattle.std.proofs.Common.{◌≡◌, ◌⊎◌, inl, inr, ⊎_elim, ℕ, zero, suc, ◌<◌, Bool, true, false, cond, ◌||◌, ◌&&◌, Option, Some, None, List, [], ◌∷◌, ◌++◌, length, map, refl, sym, ap, ◌∙◌, subst, arith, eqb-true, eq-eqb, ltb-true, true≢false}
-use Rattle.std.proofs.lemmas.Bool.{and_parts}
+use Rattle.std.proofs.Common.{◌≡◌, ◌⊎◌, inl, inr, ⊎_elim, ℕ, zero, suc, ◌<◌, Bool, true, false, cond, ◌||◌, ◌&&◌, Option, Some, None, List, [], ◌∷◌, ◌++◌, map, refl, sym, ap, ◌∙◌, subst, arith, eqb-true, eq-eqb, ltb-true, true≢false}
+use Rattle.std.proofs.lemmas.Bool.{and_parts, or_right, or_left}
+use Rattle.am_lemmas.proofs.Lists.{slice_get-Some}
 use Rattle.am_names.specs.declared.EndpointId.{EndpointId}
 use Rattle.am_names.specs.declared.NodeId.{NodeId}
 use Rattle.am_names.specs.Names.{same_end}
@@ -13,7 +14,8 @@ use Rattle.am_office.specs.declared.Entry.{Entry}
 use Rattle.am_office.specs.Entries.{ends_touched, is_node, node_touched, share_part, shares_node, touches, touches_node}
 use Rattle.am_model.specs.History.{EachAfter, IsHistory, MayFollow, is_in_range, is_later, is_taken_before}
 use Rattle.am_model.specs.Layout.{AllAre, EndSetting, IsLawful, IsSettingLawful, Layout, declared, has_id, node_at}
-use Rattle.am_model.proofs.Names.{same_end-refl}
+use Rattle.am_model.proofs.Names.{same_end-is, same_end-first}
+use Rattle.am_model.proofs.Alls.{all_at, all_by_place, all_append}
 use Rattle.am_endpoint.specs.View.{EndpointView}
 use Rattle.am_merge.specs.Logs.{IsRising}
 use Rattle.am_merge.specs.Merged.{entries_of}
@@ -26,17 +28,12 @@ use Rattle.am_moves.specs.Logs.{kept}
 use Rattle.am_machine.specs.Ends.{setting_in}
 use Rattle.am_machine.specs.Kept.{IsOwn}
 use Rattle.am_machine.specs.Parts.{AreNodeParts, IsNodePart, is_declared_at}
-use Rattle.am_machine.proofs.Beginnings.{all_by_place}
 
 -- ---- each log is a part of the journal
 
 pub data IsPartOf (journal : List Entry) (log : List Entry) : Type 0 where
   OfEnd : (e : EndpointId) → log ≡ filter (touches e) journal → IsPartOf journal log
   OfNode : (node : NodeId) → log ≡ filter (touches_node node) journal → IsPartOf journal log
-
-pub all_append : {X : Type 0} (P : X → Type 0) (xs ys : List X) → AllAre P xs → AllAre P ys → AllAre P (xs ++ ys)
-all_append P [] ys h k = k
-all_append P (x ∷ xs) ys h k = (h.0, all_append P xs ys h.1 k)
 
 ends_of : (layout : Layout) (journal : List Entry) (vs : List EndpointView) → AllAre (λ (e : EndpointView). IsOwn layout journal (kept e)) vs → AllAre (IsPartOf journal) (map log_of vs)
 ends_of layout journal [] h = tt
@@ -66,27 +63,17 @@ are_among journal logs all x c = has_contains journal x (among journal logs all 
 
 -- ---- stamps rise in each part of a history
 
-pub same_id : (a b : EndpointId) → same_end a b ≡ true → a ≡ b
-same_id a b h = let number = eqb-true a.0 b.0 h in λ i. record { 0 = number i }
-
 any_touches : (e : EndpointId) (z : Entry) (es : List EndpointId) → touches e z ≡ true → list_any (same_end e) es ≡ true → list_any (λ (d : EndpointId). touches d z) es ≡ true
 any_touches e z [] is h = absurd (true≢false (sym h))
 any_touches e z (d ∷ es) is h = by_test (same_end e d) refl h (any_touches e z es is)
   where
     by_test : (b : Bool) → same_end e d ≡ b → (b || list_any (same_end e) es) ≡ true → (list_any (same_end e) es ≡ true → list_any (λ (f : EndpointId). touches f z) es ≡ true) → (touches d z || list_any (λ (f : EndpointId). touches f z) es) ≡ true
-    by_test true same g more = ap (λ (b : Bool). b || list_any (λ (f : EndpointId). touches f z) es) (ap (λ (f : EndpointId). touches f z) (sym (same_id e d same)) ∙ is)
+    by_test true same g more = ap (λ (b : Bool). b || list_any (λ (f : EndpointId). touches f z) es) (ap (λ (f : EndpointId). touches f z) (sym (same_end-is e d same)) ∙ is)
     by_test false other g more = or_true (touches d z) (list_any (λ (f : EndpointId). touches f z) es) (more g)
       where
         or_true : (a b : Bool) → b ≡ true → (a || b) ≡ true
         or_true true b h = refl
         or_true false b h = h
-
-or_left : (a b : Bool) → a ≡ true → (a || b) ≡ true
-or_left a b h = ap (λ (t : Bool). t || b) h
-
-or_right : (a b : Bool) → b ≡ true → (a || b) ≡ true
-or_right true b h = refl
-or_right false b h = h
 
 share_end : (e : EndpointId) (y z : Entry) → touches e y ≡ true → touches e z ≡ true → share_part y z ≡ true
 share_end e y z a b = or_left (list_any (λ (d : EndpointId). touches d z) (ends_touched y.event y.outcome)) (shares_node (node_touched y.event) z) (any_touches e z (ends_touched y.event y.outcome) b a)
@@ -138,23 +125,20 @@ all_rise layout journal (log ∷ logs) history all = (part_rises layout journal 
 abbrev pub Touched : Layout → Event → Type 0
 Touched layout event = ((e : EndpointId) × ((declared layout e ≡ true) × ((o : Outcome) → list_any (same_end e) (ends_touched event o) ≡ true))) ⊎ ((n : NodeId) × ((n.0 < layout.nodes) × (is_node n (node_touched event) ≡ true)))
 
-first_end : (e : EndpointId) (es : List EndpointId) → list_any (same_end e) (e ∷ es) ≡ true
-first_end e es = ap (λ (b : Bool). b || list_any (same_end e) es) (same_end-refl e)
-
 pub touched : (layout : Layout) (event : Event) → is_in_range layout event ≡ true → Touched layout event
-touched layout (Events.Call actor end call) h = inl (end, ((and_parts _ (declared layout end) (and_parts _ _ h).0).1, λ o. first_end end []))
-touched layout (Events.Want actor end) h = inl (end, ((and_parts _ (declared layout end) h).1, λ o. first_end end []))
-touched layout (Events.Carry end) h = inl (end, (h, λ o. first_end end _))
-touched layout (Events.Bind node end) h = inl (end, ((and_parts (declared layout end) _ h).0, λ o. first_end end []))
+touched layout (Events.Call actor end call) h = inl (end, ((and_parts _ (declared layout end) (and_parts _ _ h).0).1, λ o. same_end-first end []))
+touched layout (Events.Want actor end) h = inl (end, ((and_parts _ (declared layout end) h).1, λ o. same_end-first end []))
+touched layout (Events.Carry end) h = inl (end, (h, λ o. same_end-first end _))
+touched layout (Events.Bind node end) h = inl (end, ((and_parts (declared layout end) _ h).0, λ o. same_end-first end []))
 touched layout (Events.Expire node peer channel) h =
     inr (node, (ltb-true node.0 layout.nodes (and_parts (nat_lt node.0 layout.nodes) _ (and_parts (nat_lt node.0 layout.nodes && nat_lt peer.0 layout.nodes) _ h).0).0, eq-eqb node.0 node.0 refl))
 touched layout (Events.Receive node peer number) h =
     inr (node, (ltb-true node.0 layout.nodes (and_parts (nat_lt node.0 layout.nodes) _ (and_parts (nat_lt node.0 layout.nodes && nat_lt peer.0 layout.nodes) _ (and_parts _ _ h).0).0).0, eq-eqb node.0 node.0 refl))
-touched layout (Events.Drain node end) h = inl (end, ((and_parts (declared layout end) _ h).0, λ o. first_end end []))
-touched layout (Events.Unload node end) h = inl (end, ((and_parts (declared layout end) _ h).0, λ o. first_end end []))
-touched layout (Events.Load node end frame) h = inl (end, ((and_parts (declared layout end) _ (and_parts _ _ h).0).0, λ o. first_end end []))
-touched layout (Events.PageOut node end) h = inl (end, ((and_parts (declared layout end) _ h).0, λ o. first_end end []))
-touched layout (Events.PageIn node end) h = inl (end, ((and_parts (declared layout end) _ h).0, λ o. first_end end []))
+touched layout (Events.Drain node end) h = inl (end, ((and_parts (declared layout end) _ h).0, λ o. same_end-first end []))
+touched layout (Events.Unload node end) h = inl (end, ((and_parts (declared layout end) _ h).0, λ o. same_end-first end []))
+touched layout (Events.Load node end frame) h = inl (end, ((and_parts (declared layout end) _ (and_parts _ _ h).0).0, λ o. same_end-first end []))
+touched layout (Events.PageOut node end) h = inl (end, ((and_parts (declared layout end) _ h).0, λ o. same_end-first end []))
+touched layout (Events.PageIn node end) h = inl (end, ((and_parts (declared layout end) _ h).0, λ o. same_end-first end []))
 
 ranged : (layout : Layout) (past xs : List Entry) (x : Entry) → EachAfter (MayFollow layout) past xs → Has xs x → is_in_range layout x.event ≡ true
 ranged layout past [] x each h = absurd h
@@ -170,11 +154,6 @@ setting_there e (s ∷ ss) h = by_test (same_end e s.id) refl h (setting_there e
     by_test true is g more = (0, (s, (refl, is)))
     by_test false is g more = let r = more g in (suc r.0, (r.1.0, r.1.1))
 
-pub got_all : {X : Type 0} (P : X → Type 0) (xs : List X) (k : ℕ) (x : X) → AllAre P xs → slice_get xs k ≡ Some x → P x
-got_all P [] k x h at = absurd (cc)
-got_all P (y ∷ xs) zero x h at = let same : y ≡ x = cc in subst P same h.0
-got_all P (y ∷ xs) (suc k) x h at = got_all P xs k x h.1 at
-
 got_filter : {X : Type 0} (p : X → Bool) (xs : List X) (k : ℕ) (x : X) → slice_get xs k ≡ Some x → p x ≡ true → (j : ℕ) × (slice_get (filter p xs) j ≡ Some x)
 got_filter p [] k x at is = absurd (cc)
 got_filter {X} p (y ∷ xs) zero x at is = let same : y ≡ x = cc in (0, ap (λ (b : Bool). slice_get (cond b (y ∷ filter p xs) (filter p xs)) 0) (ap p same ∙ is) ∙ ap (λ (z : X). Some z) same)
@@ -188,11 +167,6 @@ pub got_mapped : {X Y : Type 0} (f : X → Y) (xs : List X) (k : ℕ) (y : Y) �
 got_mapped f [] k y at = absurd (cc)
 got_mapped f (x ∷ xs) zero y at = (x, (refl, (let same : f x ≡ y = cc in same)))
 got_mapped f (x ∷ xs) (suc k) y at = got_mapped f xs k y at
-
-pub some_within : {X : Type 0} (xs : List X) (k : ℕ) → k < length xs → (x : X) × (slice_get xs k ≡ Some x)
-some_within [] k lt = absurd (omega (arith, lt))
-some_within (x ∷ xs) zero lt = (x, refl)
-some_within (x ∷ xs) (suc k) lt = some_within xs k (omega (arith, lt))
 
 -- the log of an endpoint or of an interface is among those of the node
 log_there : (vs : List EndpointView) (k : ℕ) (v : EndpointView) (x : Entry) → slice_get vs k ≡ Some v → Has v.log x → Has (entries_of (map log_of vs)) x
@@ -219,7 +193,7 @@ part_there (q ∷ parts) (suc k) p x at h = entries_right (logs_of_part q) (all_
 module _ (layout : Layout) (journal : List Entry) (parts : List NodePart) (lawful : IsLawful layout) (history : IsHistory layout journal) (a : AreNodeParts layout journal parts) where
   in_node : (x : Entry) (n : NodeId) → Has journal x → n.0 < layout.nodes → touches_node n x ≡ true → Has (entries_of (all_logs parts)) x
   in_node x n h lt is =
-      let p = some_within parts n.0 (let all = a.all in omega (arith, lt, all)) in
+      let p = slice_get-Some parts n.0 (let all = a.all in omega (arith, lt, all)) in
       let part = a.each n.0 p.0 p.1 in
       part_there parts n.0 p.0 x p.1
       (entries_right (map log_of p.0.ends.items) (p.0.iface.log ∷ []) x
@@ -229,13 +203,13 @@ module _ (layout : Layout) (journal : List Entry) (parts : List NodePart) (lawfu
   in_end x e h known is =
       let s = setting_there e layout.ends known in
       let node = s.1.0.node in
-      let lt = (got_all (IsSettingLawful layout) layout.ends s.0 s.1.0 lawful.ends s.1.1.0).node in
-      let p = some_within parts node.0 (let all = a.all in omega (arith, lt, all)) in
+      let lt = (all_at (IsSettingLawful layout) layout.ends s.0 s.1.0 lawful.ends s.1.1.0).node in
+      let p = slice_get-Some parts node.0 (let all = a.all in omega (arith, lt, all)) in
       let part = a.each node.0 p.0 p.1 in
       let there = got_filter (is_declared_at (node_at node.0)) layout.ends s.0 s.1.0 s.1.1.0 (eq-eqb node.0 node.0 refl) in
       let v = got_mapped (λ (w : EndpointView). setting_in (kept w)) p.0.ends.items there.0 s.1.0 (ap (λ (l : List EndSetting). slice_get l there.0) part.ends' ∙ there.1) in
-      let id : v.0.settings.id ≡ e = ap (λ (t : EndSetting). t.id) v.1.1 ∙ sym (same_id e s.1.0.id s.1.1.1) in
-      let own = got_all (λ (w : EndpointView). IsOwn layout journal (kept w)) p.0.ends.items there.0 v.0 part.own v.1.0 in
+      let id : v.0.settings.id ≡ e = ap (λ (t : EndSetting). t.id) v.1.1 ∙ sym (same_end-is e s.1.0.id s.1.1.1) in
+      let own = all_at (λ (w : EndpointView). IsOwn layout journal (kept w)) p.0.ends.items there.0 v.0 part.own v.1.0 in
       part_there parts node.0 p.0 x p.1
       (entries_left (map log_of p.0.ends.items) (p.0.iface.log ∷ []) x
       (log_there p.0.ends.items there.0 v.0 x v.1.0

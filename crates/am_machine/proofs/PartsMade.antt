@@ -4,6 +4,7 @@ use Rattle.std.specs.List.{filter}
 use Rattle.std.specs.Global.{Vec}
 use Rattle.std.proofs.Common.{◌≡◌, ℕ, zero, suc, ◌<◌, Bool, true, false, cond, Some, List, [], ◌∷◌, ◌++◌, length, map, refl, sym, ap, ◌∙◌, subst, arith}
 use Rattle.std.proofs.lemmas.Option.{slice_get_within}
+use Rattle.am_lemmas.proofs.Lists.{slice_get-Some}
 use Rattle.am_names.specs.declared.Packet.{Packet}
 use Rattle.am_office.specs.declared.Entry.{Entry}
 use Rattle.am_model.specs.Layout.{AllAre, EndSetting, IsLawful, IsSettingLawful, Layout, node_at}
@@ -21,7 +22,6 @@ use Rattle.am_machine.specs.Interfaces.{AreInterfaces}
 use Rattle.am_machine.specs.Kept.{IsOwn}
 use Rattle.am_machine.specs.Parts.{AreNodeParts, IsNodePart, is_declared_at}
 use Rattle.am_machine.specs.Swaps.{AreSwaps}
-use Rattle.am_machine.proofs.PartLogs.{some_within}
 
 -- ---- there is room for all endpoints
 
@@ -91,7 +91,7 @@ module _ (layout : Layout) (journal : List Entry) (vs : List EndpointView) (shel
   module _ (t : IsTakenApart) where
     is_part : (k : ℕ) (s : Shell) (i : InterfaceView) (w : Store) → slice_get dealt k ≡ Some s → slice_get is k ≡ Some i → slice_get ws k ≡ Some w → k < length shells → IsNodePart layout journal (node_at k) (part_of s i w)
     is_part k s i w at_s at_i at_w lt =
-        let r = some_within shells k lt in
+        let r = slice_get-Some shells k lt in
         let o = t.opened.each k r.0 r.1 in
         let f = t.dealt'.each k r.0 s r.1 at_s in
         let ends : s.ends.items ≡ filter (is_at (node_at k)) vs = f.ends' ∙ ap (λ (l : List EndpointView). l ++ filter (is_at (node_at k)) vs) o.none in

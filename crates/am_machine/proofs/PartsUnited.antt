@@ -16,6 +16,7 @@ use Rattle.am_office.specs.Entries.{emitted_in, emitted_of}
 use Rattle.am_model.specs.History.{EachAfter, MayFollow, is_in_range}
 use Rattle.am_model.specs.Layout.{AllAre, EndSetting, IsLawful, IsSettingLawful, Layout, declared, node_at}
 use Rattle.am_model.specs.Merge.{is_ordered}
+use Rattle.am_model.proofs.Alls.{all_at, all_by_place}
 use Rattle.am_drain.specs.Made.{later_stamp}
 use Rattle.am_endpoint.specs.View.{EndpointView}
 use Rattle.am_iface.specs.View.{InterfaceView}
@@ -45,9 +46,9 @@ use Rattle.am_machine.specs.Kept.{IsKept, IsOwn, IsShort, IsTied, layout_in}
 use Rattle.am_machine.specs.Parting.{settings_from}
 use Rattle.am_machine.specs.Parts.{AreNodeParts, CanUnite}
 use Rattle.am_machine.specs.Swaps.{AreSwaps, IsSwap}
-use Rattle.am_machine.proofs.Beginnings.{all_by_place, rise_apart}
+use Rattle.am_machine.proofs.Beginnings.{rise_apart}
 use Rattle.am_machine.proofs.Between.{emits_between}
-use Rattle.am_machine.proofs.PartLogs.{all_parts, all_rise, are_among, got_all, got_mapped}
+use Rattle.am_machine.proofs.PartLogs.{all_parts, all_rise, are_among, got_mapped}
 
 -- ---- what the merge asks for
 
@@ -178,7 +179,7 @@ module _ (s : ScenarioLists) (faults : List FaultLine) (parts : List NodePart) (
         let p = groups_at groups parts r.0 r.1.0 u.groups' r.1.1.0 in
         let there = contains_reversed p.0.ends.items v (subst (λ (l : List EndpointView). Contains l v) p.1.1 r.1.1.1) in
         let at = got_contains p.0.ends.items v there in
-        got_all (λ (w : EndpointView). IsOwn (layout_of s) (journal_of parts) (kept w)) p.0.ends.items at.0 v (u.can.apart.each r.0 p.0 p.1.0).own at.1
+        all_at (λ (w : EndpointView). IsOwn (layout_of s) (journal_of parts) (kept w)) p.0.ends.items at.0 v (u.can.apart.each r.0 p.0 p.1.0).own at.1
 
     all_own : AllAre (IsOwn (layout_of s) (journal_of parts)) (map kept vs)
     all_own = kept_all (IsOwn (layout_of s) (journal_of parts)) vs (all_by_place (λ (v : EndpointView). IsOwn (layout_of s) (journal_of parts) (kept v)) vs (λ k v at. own_end v (contains_got vs k v at)))

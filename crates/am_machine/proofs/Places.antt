@@ -3,6 +3,7 @@ use Rattle.std.specs.Prelude.{slice_get, slice_set, slice_index_or, not, OnOk, R
 use Rattle.std.specs.List.{list_any, position, position_or_len}
 use Rattle.std.proofs.lemmas.List.{take_at}
 use Rattle.std.proofs.Common.{take, drop, ◌≡◌, ℕ, zero, suc, ◌+◌, ◌<◌, Bool, true, false, cond, ◌||◌, List, [], ◌∷◌, ◌++◌, map, length, Some, None, refl, sym, ap, ◌∙◌, subst, arith, eqb-true, ltb-true, ltb, lt-ltb, if◌then◌else◌}
+use Rattle.std.proofs.lemmas.Option.{slice_get_within}
 use Rattle.am_names.specs.declared.EndpointId.{EndpointId}
 use Rattle.am_office.specs.declared.Entry.{Entry}
 use Rattle.am_model.specs.Layout.{has_id}
@@ -31,11 +32,6 @@ pub set_here : {X : Type 0} (xs : List X) (k : ℕ) (w : X) → k < length xs �
 set_here [] k w h = absurd (omega (arith, h))
 set_here (x ∷ xs) zero w h = refl
 set_here (x ∷ xs) (suc k) w h = set_here xs k w (omega (arith, h))
-
-pub set_length : {X : Type 0} (xs : List X) (k : ℕ) (w : X) → length (slice_set xs k w) ≡ length xs
-set_length [] k w = refl
-set_length (x ∷ xs) zero w = refl
-set_length (x ∷ xs) (suc k) w = ap suc (set_length xs k w)
 
 pub place_apart : (k j : ℕ) → (k ≡ j → ⊥) → is_place k j ≡ false
 place_apart zero zero h = absurd (h refl)
@@ -94,17 +90,12 @@ pub record IsFound (vs : List EndpointView) (e : EndpointId) (k : ℕ) : Type 0 
   pub id : view.settings.id ≡ e
   pub within : k < length vs
 
-got_within : {X : Type 0} (xs : List X) (k : ℕ) (x : X) → slice_get xs k ≡ Some x → k < length xs
-got_within [] k x h = absurd (cc)
-got_within (y ∷ xs) zero x h = omega arith
-got_within (y ∷ xs) (suc k) x h = let more = got_within xs k x h in omega (arith, more)
-
 pub found : (vs : List EndpointView) (e : EndpointId) (k : ℕ) → position (is_of e) vs ≡ Some k → IsFound vs e k
 found vs e k h =
     let at = position_is (ltb (position_or_len (is_of e) vs) (length vs)) (position_or_len (is_of e) vs) k h in
     let r = at_place vs e (ltb-true (position_or_len (is_of e) vs) (length vs) at.0) in
     let got : slice_get vs k ≡ Some r.0 = ap (slice_get vs) (sym at.1) ∙ r.1.0 in
-    record { view = r.0; at = got; id = r.1.1; within = got_within vs k r.0 got }
+    record { view = r.0; at = got; id = r.1.1; within = slice_get_within vs k r.0 got }
 
 below_of_any : (vs : List EndpointView) (e : EndpointId) → list_any (has_id e) (map setting_in (map kept vs)) ≡ true → position_or_len (is_of e) vs < length vs
 below_of_any [] e h = absurd (cc)

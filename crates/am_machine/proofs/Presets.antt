@@ -4,6 +4,7 @@ use Rattle.std.specs.List.{filter, find}
 use Rattle.std.proofs.Common.{◌≡◌, ⊎_elim, ℕ, zero, suc, ◌+◌, ◌<◌, ◌^◌, Bool, true, false, cond, List, [], ◌∷◌, ◌++◌, map, length, Option, Some, refl, sym, ap, ◌∙◌, subst, arith, true≢false, eqb-true, eq-eqb, if◌then◌else◌}
 use Rattle.std.proofs.lemmas.Bool.{and_from}
 use Rattle.std.proofs.lemmas.List.{length_push}
+use Rattle.am_lemmas.proofs.Lists.{slice_get-push_cases}
 use Rattle.am_names.specs.declared.EndpointId.{EndpointId}
 use Rattle.am_names.specs.declared.NodeId.{NodeId}
 use Rattle.am_names.specs.declared.NoMemory.{NoMemory}
@@ -14,6 +15,7 @@ use Rattle.am_model.specs.History.{state_of}
 use Rattle.am_model.specs.Layout.{AllAre, EndSetting, Fault, IsLawful, IsPoolLawful, IsSettingLawful, Layout, has_id, opening, opening_by, opening_place, node_at}
 use Rattle.am_model.proofs.Names.{same_end-refl}
 use Rattle.am_model.proofs.Order.{order_fresh}
+use Rattle.am_model.proofs.Alls.{all_at, all_by_place}
 use Rattle.am_scenario_types.specs.declared.parts.EndLine.{EndLine}
 use Rattle.am_scenario_types.specs.declared.parts.FaultLine.{FaultLine}
 use Rattle.am_follow.specs.Layout.{fault_of, setting_of}
@@ -28,8 +30,7 @@ use Rattle.am_machine.specs.Kept.{layout_in}
 use Rattle.am_machine.specs.Presets.{AreOpened, AreOpenedUpTo, begins_on, fails_of, is_of_node, opened_swap, opening_body, preset_all, preset_if}
 use Rattle.am_moves.specs.Pages.{HoldsBody}
 use Rattle.am_machine.specs.Swaps.{AreSwaps, IsSwap}
-use Rattle.am_machine.proofs.Beginnings.{Rise, all_by_place, first_below, found_line, rise_rest}
-use Rattle.am_machine.proofs.Homes.{got_push}
+use Rattle.am_machine.proofs.Beginnings.{Rise, first_below, found_line, rise_rest}
 
 -- ---- one line more
 
@@ -82,7 +83,7 @@ opened_more faults lines count ss s are is =
       each = λ k d h.
           ⊎_elim (are.each k d)
           (λ (last : (k ≡ length ss) × (d ≡ s)). last.1 ∙ is ∙ ap (λ (n : ℕ). opened_swap faults lines (node_at n)) (sym (last.0 ∙ are.all)))
-          (got_push ss s k d h);
+          (slice_get-push_cases ss s k d h);
     }
 
 -- ---- what is held
@@ -149,11 +150,6 @@ got_mapped : (lines : List EndLine) (k : ℕ) (end : EndSetting) → slice_get (
 got_mapped [] k end h = absurd (cc)
 got_mapped (x ∷ xs) zero end h = let same : setting_of x ≡ end = cc in (x, (refl, sym same))
 got_mapped (x ∷ xs) (suc k) end h = got_mapped xs k end h
-
-all_at : {X : Type 0} (P : X → Type 0) (xs : List X) (k : ℕ) (x : X) → AllAre P xs → slice_get xs k ≡ Some x → P x
-all_at P [] k x all at = absurd (cc)
-all_at P (y ∷ xs) zero x all at = let same : y ≡ x = cc in subst P same all.0
-all_at P (y ∷ xs) (suc k) x all at = all_at P xs k x all.1 at
 
 opening_valid : (e : EndpointId) (pool : Option ℕ) (line : EndLine) → IsPoolLawful pool → line.tag.0 < 2 ^ 64 → IsValid e pool (opening_body line)
 opening_valid e pool line lawful tag =

@@ -20,6 +20,7 @@ use Rattle.am_model.specs.History.{is_in_range}
 use Rattle.am_model.specs.Layout.{Layout}
 use Rattle.am_model.specs.Steps.{FollowsSteps, Made, Stop, NotEnabled, LogFull, stop, step_entry, made, made_by, made_from}
 use Rattle.std.specs.Global.{Vec}
+use Rattle.std.proofs.lemmas.List.{drop_all}
 use Rattle.am_scenario_types.specs.declared.faults.ScenarioFault.{ScenarioFault}
 use Rattle.am_model.specs.declared.EntryFault.{EntryFault}
 use Rattle.am_model.specs.declared.EntryFault.TheVariants as EntryFaults
@@ -102,14 +103,8 @@ walks_stop layout now steps i journal step why w at is =
     ∙ ap (λ (l : List StepLine). made_from layout journal (events_of l)) (from_step steps i step at)
     ∙ step_stopped layout journal step (drop (i + 1) steps) why (ap (λ (l : Layout). stop l journal step.event) (sym w.same) ∙ is)
 
-drop_none : {X : Type 0} (xs : List X) (i : ℕ) → length xs ≤ i → drop i xs ≡ []
-drop_none [] zero h = refl
-drop_none [] (suc i) h = refl
-drop_none (x ∷ xs) zero h = absurd (omega (arith, h))
-drop_none (x ∷ xs) (suc i) h = drop_none xs i (omega (arith, h))
-
 pub walks_end : (layout now : Layout) (steps : List StepLine) (i : ℕ) (journal : List Entry) → Walks layout now steps i journal → length steps ≤ i → made layout (events_of steps) ≡ record { journal = journal; stopped = None }
-walks_end layout now steps i journal w h = w.rest ∙ ap (λ (l : List StepLine). made_from layout journal (events_of l)) (drop_none steps i h)
+walks_end layout now steps i journal w h = w.rest ∙ ap (λ (l : List StepLine). made_from layout journal (events_of l)) (drop_all i steps h)
 
 -- ---- what the answers mean
 

@@ -1,15 +1,14 @@
 -- What a whole drain says of the run of a scenario with segments.
-use Rattle.std.proofs.Common.{◌≡◌, ℕ, zero, suc, ◌+◌, ◌<◌, ◌≤◌, Bool, true, false, List, [], ◌∷◌, ◌++◌, length, Option, Some, None, Result, Ok, Err, inl, inr, refl, sym, ◌∙◌, subst, arith, zero-add, slice_index}
+use Rattle.std.proofs.Common.{◌≡◌, ℕ, zero, suc, ◌+◌, ◌<◌, ◌≤◌, true, false, List, [], ◌∷◌, ◌++◌, length, Option, Some, None, Result, Ok, Err, inl, inr, refl, sym, ◌∙◌, subst, arith, zero-add, slice_index}
 use Rattle.std.specs.Prelude.{slice_get, ◌||◌, ◌≢◌, filter_map}
 use Rattle.std.specs.List.{All, cons_option}
-use Rattle.std.proofs.lemmas.Bool.{eq-eqb}
 use Rattle.std.proofs.lemmas.List.Elements.{All-head, All-tail}
 use Rattle.std.proofs.lemmas.List.FromFn.{get_or-map-range_with_len}
-use Rattle.am_names.specs.Names.{has_serial, same_serial}
+use mathlib.Core.Bool.{or-true}
+use Rattle.am_names.specs.Names.{has_serial}
 use Rattle.am_names.specs.Rules.{is_transient}
 use Rattle.am_names.specs.declared.Cause.{Cause}
 use Rattle.am_names.specs.declared.Message.{Message}
-use Rattle.am_names.specs.declared.Serial.{Serial}
 use Rattle.am_office.specs.declared.Entry.{Entry}
 use Rattle.am_office.specs.declared.Part.{Part}
 use Rattle.am_office.specs.declared.endings.Fate.{Fate}
@@ -22,6 +21,7 @@ use Rattle.am_scenario.specs.Grammar.{grammar}
 use Rattle.am_scenario_types.specs.declared.parts.Form.TheVariants as Forms
 use Rattle.am_scenario_types.specs.Lists.{ScenarioLists}
 use Rattle.am_model.specs.PostOffice.{WasAccepted}
+use Rattle.am_model.proofs.Names.{same_serial-refl}
 use Rattle.am_drain_steps.specs.Endings.{WithholdsNothing}
 use Rattle.am_drain_steps.specs.Runs.{IsWholeRun}
 use Rattle.am_cluster.specs.Runs.{IsRunCutOff, IsRunDone, ObeysRunLaws}
@@ -63,19 +63,12 @@ blocks_arrived e journal placed i t s at is all undisturbed k below =
 
 -- ---- the fate of an accepted message
 
-or_true : (b : Bool) → (b || true) ≡ true
-or_true true = refl
-or_true false = refl
-
-own_serial : (s : Serial) → same_serial s s ≡ true
-own_serial s = rw (eq-eqb s.source.0 s.source.0 refl, eq-eqb s.count s.count refl) refl
-
 accepted_step : (m : Message) (o : Option Message) (rest : List Entry) (k : ℕ) → slice_get (cons_option o (filter_map accepted_of rest)) k ≡ Some m → ((j : ℕ) → slice_get (filter_map accepted_of rest) j ≡ Some m → is_accepted rest m.serial ≡ true) → (passes (has_serial m.serial) o || is_accepted rest m.serial) ≡ true
 accepted_step m None rest k at h = h k at
 accepted_step m (Some n) rest zero at h =
     let same : m ≡ n = cc in
-    subst (λ (q : Message). (has_serial m.serial q || is_accepted rest m.serial) ≡ true) same (rw (own_serial m.serial) refl)
-accepted_step m (Some n) rest (suc j) at h = rw (h j at) (or_true (has_serial m.serial n))
+    subst (λ (q : Message). (has_serial m.serial q || is_accepted rest m.serial) ≡ true) same (rw (same_serial-refl m.serial) refl)
+accepted_step m (Some n) rest (suc j) at h = rw (h j at) (or-true (has_serial m.serial n))
 
 accepted_counts : (journal : List Entry) (m : Message) (k : ℕ) → slice_get (filter_map accepted_of journal) k ≡ Some m → is_accepted journal m.serial ≡ true
 accepted_counts [] m k at = absurd (cc)

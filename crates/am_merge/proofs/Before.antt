@@ -3,6 +3,7 @@ use Rattle.std.specs.Prelude.{nat_lt, not}
 use Rattle.std.specs.List.{filter, list_any, list_all}
 use Rattle.std.proofs.Common.{◌≡◌, ℕ, ◌<◌, Bool, true, false, cond, ◌||◌, ◌&&◌, List, [], ◌∷◌, ◌++◌, refl, sym, ap, ◌∙◌, subst, arith, lt-ltb, le-ltb}
 use Rattle.std.proofs.lemmas.List.Elements.{filter-append}
+use Rattle.std.proofs.lemmas.Bool.{or_right}
 use Rattle.am_names.specs.declared.EndpointId.{EndpointId}
 use Rattle.am_office.specs.declared.Entry.{Entry}
 use Rattle.am_names.specs.Names.{same_end}
@@ -58,14 +59,10 @@ abbrev pub AreTouched : Entry → List EndpointId → Type 0
 AreTouched x [] = Unit {0}
 AreTouched x (e ∷ es) = (touches e x ≡ true) × AreTouched x es
 
-any_or : (a b : Bool) → b ≡ true → (a || b) ≡ true
-any_or true b h = refl
-any_or false b h = h
-
 are_touched : (x : Entry) (es : List EndpointId) → ((e : EndpointId) → list_any (same_end e) es ≡ true → touches e x ≡ true) → AreTouched x es
 are_touched x [] all = tt
 are_touched x (e ∷ es) all =
-    (all e (ap (λ (b : Bool). b || list_any (same_end e) es) (same_end-refl e)), are_touched x es (λ d h. all d (any_or (same_end d e) (list_any (same_end d) es) h)))
+    (all e (ap (λ (b : Bool). b || list_any (same_end e) es) (same_end-refl e)), are_touched x es (λ d h. all d (or_right (same_end d e) (list_any (same_end d) es) h)))
 
 pub touched_all : (x : Entry) → AreTouched x (ends_touched x.event x.outcome)
 touched_all x = are_touched x (ends_touched x.event x.outcome) (λ e h. h)
@@ -85,7 +82,7 @@ none_below t (y ∷ ys) = ((λ h. absurd (cc)), none_below t ys)
 ends_below : (t : ℕ) (past : List Entry) (es : List EndpointId) → ((e : EndpointId) → list_any (same_end e) es ≡ true → AreBelow (touches e) t past) → AreBelow (λ y. list_any (λ e. touches e y) es) t past
 ends_below t past [] all = none_below t past
 ends_below t past (e ∷ es) all =
-    either_below (touches e) (λ y. list_any (λ d. touches d y) es) t past (all e (ap (λ (b : Bool). b || list_any (same_end e) es) (same_end-refl e))) (ends_below t past es (λ d h. all d (any_or (same_end d e) (list_any (same_end d) es) h)))
+    either_below (touches e) (λ y. list_any (λ d. touches d y) es) t past (all e (ap (λ (b : Bool). b || list_any (same_end e) es) (same_end-refl e))) (ends_below t past es (λ d h. all d (or_right (same_end d e) (list_any (same_end d) es) h)))
 
 -- all that share a part with an entry are stamped below it
 pub later_than_shared : (x : Entry) (past : List Entry) → ((e : EndpointId) → touches e x ≡ true → AreBelow (touches e) x.stamp past) → AreBelow (shares_node (node_touched x.event)) x.stamp past → list_all (λ (y : Entry). not (share_part x y) || nat_lt y.stamp x.stamp) past ≡ true

@@ -1,8 +1,8 @@
 -- A journal that the logs of all parts merge into is a history, where each entry is right by its own logs.
 use Rattle.std.specs.Prelude.{slice_get, nat_lt, option_to_list, ◌+◌}
 use Rattle.std.specs.List.{filter, list_any, list_all}
-use Rattle.std.proofs.Common.{◌≡◌, ⊎_elim, ℕ, ◌-◌, ◌<◌, Bool, true, false, ◌||◌, ◌&&◌, List, [], ◌∷◌, ◌++◌, Option, Some, None, refl, sym, ap, ◌∙◌, subst, arith, append_assoc, lt-ltb, eq-eqb, if◌then◌else◌}
-use Rattle.std.proofs.lemmas.Bool.{and_parts}
+use Rattle.std.proofs.Common.{◌≡◌, ⊎_elim, ℕ, ◌-◌, ◌<◌, Bool, true, false, ◌&&◌, List, [], ◌∷◌, ◌++◌, Option, Some, None, refl, sym, ap, ◌∙◌, subst, arith, append_assoc, lt-ltb, eq-eqb, if◌then◌else◌}
+use Rattle.std.proofs.lemmas.Bool.{and_parts, or_right}
 use Rattle.am_names.specs.Rules.{is_transient}
 use Rattle.am_names.specs.Names.{same_end}
 use Rattle.am_names.specs.declared.EndpointId.{EndpointId}
@@ -26,7 +26,7 @@ use Rattle.am_model.specs.Merge.{is_before, is_ordered, rank}
 use Rattle.am_model.specs.History.{state_of, MayFollow, EachAfter, IsHistory, is_in_range, failing, outcome_of, is_later, is_taken_before, is_packet_before, judged}
 use Rattle.am_model.specs.Packets.{stamp_of, from_of, number_of, restamped}
 use Rattle.am_model.proofs.Each.{each_push}
-use Rattle.am_model.proofs.Names.{same_end-refl}
+use Rattle.am_model.proofs.Names.{same_end-first}
 use Rattle.am_local.specs.declared.work.Work.{Work}
 use Rattle.am_local.specs.declared.work.Work.TheVariants as Works
 use Rattle.am_local.specs.Asked.{carry_at, IsThere}
@@ -85,9 +85,6 @@ later_here layout logs past x rest h taken =
     later_than_shared x past (λ e is. below_before (touches e) past x rest (logs.end e) is (h.of_ends e) (h.rising.ends e)) (shares_below layout logs past x rest h (node_touched x.event) refl) k
     && taken k
 
-pub first_touched : (e : EndpointId) (es : List EndpointId) → list_any (same_end e) (e ∷ es) ≡ true
-first_touched e es = ap (λ (b : Bool). b || list_any (same_end e) es) (same_end-refl e)
-
 -- an entry whose event touches the endpoint, whatever comes of it
 touches_by : (x : Entry) (e : EndpointId) (event : Event) → x.event ≡ event → ((o : Outcome) → list_any (same_end e) (ends_touched event o) ≡ true) → touches e x ≡ true
 touches_by x e event is h = ap (λ (v : Event). list_any (same_end e) (ends_touched v x.outcome)) is ∙ h x.outcome
@@ -104,7 +101,7 @@ call_follows layout logs past x rest h range r =
     }
   where
     state : state_before layout logs x.stamp r.end ≡ state_of layout past r.end
-    state = state_here layout logs past x rest h r.end (touches_by x r.end (Events.Call r.actor r.end r.call) r.event (λ o. first_touched r.end []))
+    state = state_here layout logs past x rest h r.end (touches_by x r.end (Events.Call r.actor r.end r.call) r.event (λ o. same_end-first r.end []))
 
     same : SaysTheSameOfCall layout past r.actor r.end r.call (state_before layout logs x.stamp r.end)
     same = call_local layout past r.actor r.end r.call (state_before layout logs x.stamp r.end) state
@@ -119,27 +116,23 @@ want_follows layout logs past x rest h range r =
     }
   where
     state : state_before layout logs x.stamp r.end ≡ state_of layout past r.end
-    state = state_here layout logs past x rest h r.end (touches_by x r.end (Events.Want r.actor r.end) r.event (λ o. first_touched r.end []))
+    state = state_here layout logs past x rest h r.end (touches_by x r.end (Events.Want r.actor r.end) r.event (λ o. same_end-first r.end []))
 
     same : SaysTheSameOfWant layout past r.actor r.end (state_before layout logs x.stamp r.end)
     same = want_local layout past r.actor r.end (state_before layout logs x.stamp r.end) state
 
-or_true : (a b : Bool) → b ≡ true → (a || b) ≡ true
-or_true true b h = refl
-or_true false b h = h
-
 -- a carry touches the destination of the message
 pub reaches : (limit : ℕ) (end : EndpointId) (q : Queued) (there : State) → list_any (same_end q.message.dest) (ends_touched (Events.Carry end) (carry_at limit (Some q) there)) ≡ true
-reaches limit end q there = or_true (same_end q.message.dest end) _ (by_verdict (verdict there q.message))
+reaches limit end q there = or_right (same_end q.message.dest end) _ (by_verdict (verdict there q.message))
   where
     by_test : (b : Bool) (o p : Outcome) → list_any (same_end q.message.dest) (reached_by o) ≡ true → list_any (same_end q.message.dest) (reached_by p) ≡ true → list_any (same_end q.message.dest) (reached_by (if b then o else p)) ≡ true
     by_test true o p one other = one
     by_test false o p one other = other
 
     by_verdict : (v : Verdict) → list_any (same_end q.message.dest) (reached_by (judged limit q.message q.bounces v)) ≡ true
-    by_verdict Verdicts.Accepted = first_touched q.message.dest []
+    by_verdict Verdicts.Accepted = same_end-first q.message.dest []
     by_verdict (Verdicts.Refused cause) =
-        by_test (is_transient cause && nat_lt q.bounces limit) (Out.Requeued q.message cause (q.bounces + 1)) (Out.Returned q.message cause) (first_touched q.message.dest []) (first_touched q.message.dest [])
+        by_test (is_transient cause && nat_lt q.bounces limit) (Out.Requeued q.message cause (q.bounces + 1)) (Out.Returned q.message cause) (same_end-first q.message.dest []) (same_end-first q.message.dest [])
 
 carry_follows : (layout : Layout) (logs : Logs) (past : List Entry) (x : Entry) (rest : List Entry) → Here layout logs past x rest → is_in_range layout x.event ≡ true → IsRightCarry layout logs x → MayFollow layout past x
 carry_follows layout logs past x rest h range r =
@@ -154,7 +147,7 @@ carry_follows layout logs past x rest h range r =
     s = state_before layout logs x.stamp r.end
 
     state : s ≡ state_of layout past r.end
-    state = state_here layout logs past x rest h r.end (touches_by x r.end (Events.Carry r.end) r.event (λ o. first_touched r.end (reached_by o)))
+    state = state_here layout logs past x rest h r.end (touches_by x r.end (Events.Carry r.end) r.event (λ o. same_end-first r.end (reached_by o)))
 
     by_front : (q : Option Queued) → x.outcome ≡ carry_at layout.bounces q r.there → IsStateBefore layout logs x.stamp r.there (dest_of q) → IsThere layout past q r.there
     by_front None is dest = tt
@@ -176,7 +169,7 @@ work_node node (Works.Expire peer channel) = eq-eqb node.0 node.0 refl
 
 pub just_has : (es : List EndpointId) (e : Option EndpointId) → es ≡ option_to_list e → HasEnd es e
 just_has es None h = tt
-just_has es (Some e) h = ap (list_any (same_end e)) h ∙ first_touched e []
+just_has es (Some e) h = ap (list_any (same_end e)) h ∙ same_end-first e []
 
 was_emitted_here : (layout : Layout) (logs : Logs) (past : List Entry) (x : Entry) (rest : List Entry) → Here layout logs past x rest → (node : NodeId) (p : Packet) → WasSent logs node p x.stamp → WasEmitted past node p
 was_emitted_here layout logs past x rest h node p sent =
@@ -240,11 +233,11 @@ work_follows layout logs past x rest h range r =
 
 -- a move touches the endpoint that it is about
 pub moved_has : (event : Event) (o : Outcome) → HasEnd (ends_touched event o) (end_moved event)
-moved_has (Events.Drain node end) o = first_touched end []
-moved_has (Events.Unload node end) o = first_touched end []
-moved_has (Events.Load node end frame) o = first_touched end []
-moved_has (Events.PageOut node end) o = first_touched end []
-moved_has (Events.PageIn node end) o = first_touched end []
+moved_has (Events.Drain node end) o = same_end-first end []
+moved_has (Events.Unload node end) o = same_end-first end []
+moved_has (Events.Load node end frame) o = same_end-first end []
+moved_has (Events.PageOut node end) o = same_end-first end []
+moved_has (Events.PageIn node end) o = same_end-first end []
 moved_has event o = tt
 
 -- a move receives no packet

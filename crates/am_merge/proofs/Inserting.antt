@@ -10,10 +10,11 @@ use Rattle.am_office.specs.declared.Entry.{Entry}
 use Rattle.am_office.specs.Entries.{touches, touches_node, ends_touched, node_touched, is_node}
 use Rattle.am_model.specs.Merge.{rank, rank_by, is_before, is_ordered}
 use Rattle.am_model.specs.Parts.{is_by_driver}
+use Rattle.am_model.proofs.Names.{same_end-first}
 use Rattle.am_merge.specs.Logs.{AreRising, Logs, MergesInto, StandWhereTheyTouch}
 use Rattle.am_merge.specs.Merged.{entries_of, inserted, is_same, merged, sorted}
 use Rattle.am_merge.proofs.Sorted.{Has, before_from, before_then, contains_has, filter_has, has_contains, has_filter, one_stamp, ordered_filter, rising_ordered, same_list}
-use Rattle.am_merge.proofs.Unique.{first_touched, touches_some}
+use Rattle.am_merge.proofs.Unique.{touches_some}
 
 -- ---- one entry more in its place
 
@@ -134,7 +135,7 @@ listed x = by_parts (ends_touched x.event x.outcome) refl (node_touched x.event)
     rank_is es at ends nodes = λ i. rank_by (ends i) (nodes i)
 
     by_parts : (es : List EndpointId) → ends_touched x.event x.outcome ≡ es → (at : Option NodeId) → node_touched x.event ≡ at → ((e : EndpointId) × (touches e x ≡ true)) ⊎ ((node : NodeId) × (touches_node node x ≡ true)) → Listed x
-    by_parts (e ∷ es) ends at nodes some = UnderEnd e (ap (list_any (same_end e)) ends ∙ first_touched e es) (rank_is (e ∷ es) at ends nodes)
+    by_parts (e ∷ es) ends at nodes some = UnderEnd e (ap (list_any (same_end e)) ends ∙ same_end-first e es) (rank_is (e ∷ es) at ends nodes)
     by_parts [] ends (Some node) nodes some = UnderNode node (ap (is_node node) nodes ∙ eq-eqb node.0 node.0 refl) (rank_is [] (Some node) ends nodes)
     by_parts [] ends None nodes some =
         ⊎_elim

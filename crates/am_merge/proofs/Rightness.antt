@@ -3,6 +3,7 @@ use Rattle.std.specs.Prelude.{nat_le, nat_lt, not, slice_get, ◌↔◌}
 use Rattle.std.specs.List.{filter, list_any, list_all}
 use Rattle.std.proofs.Common.{◌≡◌, ℕ, zero, suc, ◌-◌, ◌<◌, ◌≤◌, Bool, true, false, cond, ◌||◌, ◌&&◌, List, [], ◌∷◌, ◌++◌, length, Option, Some, None, refl, sym, ap, ◌∙◌, subst, arith, append_assoc, ltb-true, ltb-false, leb-true, eq-eqb}
 use Rattle.std.proofs.lemmas.Bool.{and_parts}
+use Rattle.am_lemmas.proofs.Lists.{slice_get-None}
 use Rattle.am_names.specs.Names.{same_end}
 use Rattle.am_names.specs.declared.EndpointId.{EndpointId}
 use Rattle.am_names.specs.declared.NodeId.{NodeId}
@@ -26,6 +27,7 @@ use Rattle.am_model.specs.Merge.{is_ordered}
 use Rattle.am_model.specs.History.{EachAfter, IsHistory, MayFollow, failing, is_in_range, is_packet_before, is_taken_before, outcome_of, state_of}
 use Rattle.am_model.specs.Packets.{stamp_of, from_of, number_of, restamped}
 use Rattle.am_model.proofs.Each.{each_push}
+use Rattle.am_model.proofs.Names.{same_end-first}
 use Rattle.am_local.specs.declared.work.Work.{Work}
 use Rattle.am_local.specs.declared.work.Work.TheVariants as Works
 use Rattle.am_local.specs.Asked.{IsThere, carry_at}
@@ -45,7 +47,7 @@ use Rattle.am_local.proofs.Touched.{needs_touched}
 use Rattle.am_merge.specs.Logs.{AreRising, MergesInto, logs_of}
 use Rattle.am_merge.specs.Right.{ByCall, ByCarry, ByDriver, ByInterface, ByWant, IsMadeRight, IsRight, IsSentBefore, IsStateBefore, dest_of, state_before}
 use Rattle.am_merge.proofs.Before.{part_before}
-use Rattle.am_merge.proofs.History.{HasEnd, first_touched, just_has, made_history, moved_has, reaches, work_node}
+use Rattle.am_merge.proofs.History.{HasEnd, just_has, made_history, moved_has, reaches, work_node}
 
 pub merges_own : (journal : List Entry) → is_ordered journal ≡ true → MergesInto (logs_of journal) journal
 merges_own journal ordered =
@@ -105,7 +107,7 @@ call_right layout journal past x rest t actor end call is =
     same : SaysTheSameOfCall layout past actor end call s
     same =
         call_local layout past actor end call s
-        (state_there layout journal past x rest t end (ap (λ (v : Event). list_any (same_end end) (ends_touched v x.outcome)) is ∙ first_touched end []))
+        (state_there layout journal past x rest t end (ap (λ (v : Event). list_any (same_end end) (ends_touched v x.outcome)) is ∙ same_end-first end []))
 
 want_right : (layout : Layout) (journal past : List Entry) (x : Entry) (rest : List Entry) → There layout journal past x rest → (actor : Actor) (end : EndpointId) → x.event ≡ Events.Want actor end → IsMadeRight layout (logs_of journal) x
 want_right layout journal past x rest t actor end is =
@@ -124,7 +126,7 @@ want_right layout journal past x rest t actor end is =
     same : SaysTheSameOfWant layout past actor end s
     same =
         want_local layout past actor end s
-        (state_there layout journal past x rest t end (ap (λ (v : Event). list_any (same_end end) (ends_touched v x.outcome)) is ∙ first_touched end []))
+        (state_there layout journal past x rest t end (ap (λ (v : Event). list_any (same_end end) (ends_touched v x.outcome)) is ∙ same_end-first end []))
 
 carry_right : (layout : Layout) (journal past : List Entry) (x : Entry) (rest : List Entry) → There layout journal past x rest → (end : EndpointId) → x.event ≡ Events.Carry end → IsMadeRight layout (logs_of journal) x
 carry_right layout journal past x rest t end is =
@@ -143,7 +145,7 @@ carry_right layout journal past x rest t end is =
     s = state_before layout (logs_of journal) x.stamp end
 
     state : s ≡ state_of layout past end
-    state = state_there layout journal past x rest t end (ap (λ (v : Event). list_any (same_end end) (ends_touched v x.outcome)) is ∙ first_touched end _)
+    state = state_there layout journal past x rest t end (ap (λ (v : Event). list_any (same_end end) (ends_touched v x.outcome)) is ∙ same_end-first end _)
 
     there : State
     there = state_if layout past (dest_of (front s))
@@ -208,11 +210,6 @@ work_right layout journal past x rest t node w packet is emitted sent =
     has =
         subst (λ (v : Event). HasEnd (ends_touched v x.outcome) (needs i w)) (sym is)
         (subst (λ (o : Outcome). HasEnd (ends_touched (event_of node w) o) (needs i w)) (sym outcome) (just_has (ends_touched (event_of node w) (outcome_at i s w)) (needs i w) (needs_touched i s w)))
-
-no_more : {X : Type 0} (xs : List X) (k : ℕ) → slice_get xs k ≡ None → length xs ≤ k
-no_more [] k h = omega arith
-no_more (x ∷ xs) zero h = absurd (cc)
-no_more (x ∷ xs) (suc k) h = omega (arith, no_more xs k h)
 
 got_left : {X : Type 0} (xs ys : List X) (k : ℕ) (p : X) → slice_get xs k ≡ Some p → slice_get (xs ++ ys) k ≡ Some p
 got_left [] ys k p h = absurd (cc)
@@ -280,7 +277,7 @@ receive_right layout journal past x rest t node peer number is = by_packet (slic
             ∙ (and_parts (list_all (λ (y : Entry). not (share_part x y) || nat_lt y.stamp x.stamp) past) (is_taken_before x.stamp past x.event) t.may.later).1)
 
     by_packet : (p : Option Packet) → slice_get (emitted peer node past) (number - 1) ≡ p → IsMadeRight layout (logs_of journal) x
-    by_packet None got = absurd (omega (arith, counted, no_more (emitted peer node past) (number - 1) got, ltb-false (length (emitted peer node past)) number enough))
+    by_packet None got = absurd (omega (arith, counted, slice_get-None (emitted peer node past) (number - 1) got, ltb-false (length (emitted peer node past)) number enough))
     by_packet (Some p) got = in_hand p got
 
 -- ---- drivers

@@ -1,8 +1,8 @@
 -- Lists of entries in order: one list for the same entries.
 use Rattle.std.specs.Prelude.{nat_lt, Contains, slice_index_or}
 use Rattle.std.specs.List.{filter, list_all}
-use Rattle.std.proofs.Common.{◌≡◌, ◌⊎◌, inl, inr, ⊎_elim, ℕ, zero, suc, ◌<◌, ◌==◌, Bool, true, false, cond, ◌||◌, ◌&&◌, List, [], ◌∷◌, length, refl, sym, ap, ◌∙◌, subst, arith, ltb-true, lt-ltb, eqb-true, eq-eqb, true≢false}
-use Rattle.std.proofs.lemmas.Bool.{and_parts, and_from}
+use Rattle.std.proofs.Common.{◌≡◌, ◌⊎◌, inl, inr, ⊎_elim, ℕ, zero, suc, ◌<◌, ◌==◌, Bool, true, false, cond, ◌||◌, ◌&&◌, List, [], ◌∷◌, length, refl, sym, ap, ◌∙◌, subst, arith, ltb-true, lt-ltb, eqb-true, eq-eqb, true≢false, ◌++◌}
+use Rattle.std.proofs.lemmas.Bool.{and_parts, and_from, or_right}
 use Rattle.am_office.specs.declared.Entry.{Entry}
 use Rattle.am_model.specs.Layout.{AllAre}
 use Rattle.am_model.specs.Merge.{rank, is_before, is_ordered}
@@ -22,16 +22,12 @@ earlier x y h = by_tests (nat_lt x.stamp y.stamp) refl (x.stamp == y.stamp) refl
     by_tests false is true same g = inr (eqb-true x.stamp y.stamp same, ltb-true (rank x) (rank y) g)
     by_tests false is false same g = absurd (true≢false (sym g))
 
-or_true : (a b : Bool) → b ≡ true → (a || b) ≡ true
-or_true true b h = refl
-or_true false b h = h
-
 pub before_from : (x y : Entry) → IsEarlier x y → is_before x y ≡ true
 before_from x y e =
     ⊎_elim
     (λ (less : x.stamp < y.stamp). ap (λ (b : Bool). b || ((x.stamp == y.stamp) && nat_lt (rank x) (rank y))) (lt-ltb x.stamp y.stamp less))
     (λ (same : (x.stamp ≡ y.stamp) × (rank x < rank y)).
-    or_true (nat_lt x.stamp y.stamp) ((x.stamp == y.stamp) && nat_lt (rank x) (rank y)) (and_from (x.stamp == y.stamp) (nat_lt (rank x) (rank y)) (eq-eqb x.stamp y.stamp same.0) (lt-ltb (rank x) (rank y) same.1)))
+    or_right (nat_lt x.stamp y.stamp) ((x.stamp == y.stamp) && nat_lt (rank x) (rank y)) (and_from (x.stamp == y.stamp) (nat_lt (rank x) (rank y)) (eq-eqb x.stamp y.stamp same.0) (lt-ltb (rank x) (rank y) same.1)))
     e
 
 pub earlier_than : (x y z : Entry) → IsEarlier x y → IsEarlier y z → IsEarlier x z
@@ -168,3 +164,15 @@ one_stamp (x ∷ xs) y z rising a b same =
     above [] w all h is = absurd h
     above (v ∷ ys) w all h is =
         ⊎_elim (λ (here : v ≡ w). absurd (let e : v.stamp ≡ w.stamp = ap (λ (u : Entry). u.stamp) here in omega (arith, all.0, e, is))) (λ (there : Has ys w). above ys w all.1 there is) h
+
+pub has_append : (xs ys : List Entry) (x : Entry) → Has (xs ++ ys) x → Has xs x ⊎ Has ys x
+has_append [] ys x h = inr h
+has_append (y ∷ xs) ys x h = ⊎_elim (λ (here : y ≡ x). inl (inl here)) (λ (there : Has (xs ++ ys) x). ⊎_elim (λ (a : Has xs x). inl (inr a)) (λ (b : Has ys x). inr b) (has_append xs ys x there)) h
+
+pub has_first : (xs ys : List Entry) (x : Entry) → Has xs x → Has (xs ++ ys) x
+has_first [] ys x h = absurd h
+has_first (y ∷ xs) ys x h = ⊎_elim (λ (here : y ≡ x). inl here) (λ (there : Has xs x). inr (has_first xs ys x there)) h
+
+pub has_last : (xs ys : List Entry) (x : Entry) → Has ys x → Has (xs ++ ys) x
+has_last [] ys x h = h
+has_last (y ∷ xs) ys x h = inr (has_last xs ys x h)

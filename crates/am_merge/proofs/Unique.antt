@@ -1,6 +1,6 @@
 -- Logs merge into one journal only.
 use Rattle.std.specs.List.{list_any}
-use Rattle.std.proofs.Common.{◌≡◌, ◌⊎◌, inl, inr, ⊎_elim, Bool, true, ◌||◌, List, [], ◌∷◌, refl, sym, ap, ◌∙◌, subst, eq-eqb}
+use Rattle.std.proofs.Common.{◌≡◌, ◌⊎◌, inl, inr, ⊎_elim, true, List, [], refl, sym, ◌∙◌, subst, eq-eqb}
 use Rattle.am_names.specs.declared.EndpointId.{EndpointId}
 use Rattle.am_names.specs.declared.NodeId.{NodeId}
 use Rattle.am_names.specs.Names.{same_end}
@@ -10,29 +10,26 @@ use Rattle.am_office.specs.declared.Outcome.{Outcome}
 use Rattle.am_office.specs.declared.Entry.{Entry}
 use Rattle.am_office.specs.Entries.{touches, touches_node, ends_touched, node_touched, is_node}
 use Rattle.am_model.specs.Merge.{IsMerged}
-use Rattle.am_model.proofs.Names.{same_end-refl}
+use Rattle.am_model.proofs.Names.{same_end-first}
 use Rattle.am_merge.proofs.Sorted.{Has, has_filter, filter_has, same_list}
 
 -- the entry touches an endpoint or an interface
 abbrev pub TouchesSome : Event → Outcome → Type 0
 TouchesSome event o = ((e : EndpointId) × (list_any (same_end e) (ends_touched event o) ≡ true)) ⊎ ((node : NodeId) × (is_node node (node_touched event) ≡ true))
 
-pub first_touched : (e : EndpointId) (es : List EndpointId) → list_any (same_end e) (e ∷ es) ≡ true
-first_touched e es = ap (λ (b : Bool). b || list_any (same_end e) es) (same_end-refl e)
-
 -- each entry does
 pub touches_some : (event : Event) (o : Outcome) → TouchesSome event o
-touches_some (Events.Call actor end call) o = inl (end, first_touched end [])
-touches_some (Events.Want actor end) o = inl (end, first_touched end [])
-touches_some (Events.Carry end) o = inl (end, first_touched end _)
+touches_some (Events.Call actor end call) o = inl (end, same_end-first end [])
+touches_some (Events.Want actor end) o = inl (end, same_end-first end [])
+touches_some (Events.Carry end) o = inl (end, same_end-first end _)
 touches_some (Events.Bind node end) o = inr (node, eq-eqb node.0 node.0 refl)
 touches_some (Events.Expire node peer channel) o = inr (node, eq-eqb node.0 node.0 refl)
 touches_some (Events.Receive node peer number) o = inr (node, eq-eqb node.0 node.0 refl)
-touches_some (Events.Drain node end) o = inl (end, first_touched end [])
-touches_some (Events.Unload node end) o = inl (end, first_touched end [])
-touches_some (Events.Load node end frame) o = inl (end, first_touched end [])
-touches_some (Events.PageOut node end) o = inl (end, first_touched end [])
-touches_some (Events.PageIn node end) o = inl (end, first_touched end [])
+touches_some (Events.Drain node end) o = inl (end, same_end-first end [])
+touches_some (Events.Unload node end) o = inl (end, same_end-first end [])
+touches_some (Events.Load node end frame) o = inl (end, same_end-first end [])
+touches_some (Events.PageOut node end) o = inl (end, same_end-first end [])
+touches_some (Events.PageIn node end) o = inl (end, same_end-first end [])
 
 among : (end_log : EndpointId → List Entry) (node_log : NodeId → List Entry) (one other : List Entry) → IsMerged end_log node_log one → IsMerged end_log node_log other → (z : Entry) → Has one z → Has other z
 among end_log node_log one other a b z h =

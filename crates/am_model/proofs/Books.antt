@@ -1,8 +1,9 @@
 -- The books of each endpoint balance, over whole histories of the direct network.
 use Rattle.std.specs.Prelude.{not, is_none}
-use Rattle.std.proofs.Common.{◌≡◌, ℕ, ◌+◌, Bool, true, false, cond, ◌||◌, List, [], ◌∷◌, ◌++◌, Option, Some, None, refl, sym, ap, ◌∙◌, arith, eqb-true, true≢false}
+use Rattle.std.proofs.Common.{◌≡◌, ℕ, ◌+◌, Bool, true, false, cond, ◌||◌, List, [], ◌∷◌, ◌++◌, Option, Some, None, refl, sym, ap, ◌∙◌, arith, true≢false}
 use Rattle.std.specs.List.{count_by, list_any}
 use Rattle.std.proofs.lemmas.List.Sums.{sum_by_push}
+use Rattle.am_lemmas.proofs.Bools.{or_first_fails}
 use Rattle.am_names.specs.declared.EndpointId.{EndpointId}
 use Rattle.am_names.specs.declared.NodeId.{NodeId}
 use Rattle.am_names.specs.declared.Message.{Message}
@@ -26,6 +27,7 @@ use Rattle.am_model.specs.History.{state_of, MayFollow, failing, outcome_of, car
 use Rattle.am_model.proofs.Each.{state_of_push}
 use Rattle.am_model.proofs.Received.{weight, held, run_at, put_at, FitsCall, changed_received, one_touched}
 use Rattle.am_model.proofs.Queues.{to_send, accepted_at, left_at, Judged, FitsDirect, changed_sends}
+use Rattle.am_model.proofs.Names.{same_end-is}
 
 -- how many entries have, in this role, a message that passes
 abbrev pub count_role : (Event → Outcome → Option Message) → (Message → Bool) → List Entry → ℕ
@@ -33,9 +35,6 @@ count_role role p xs = count_by (λ (x : Entry). passes p (role x.event x.outcom
 
 pub role_push : (role : Event → Outcome → Option Message) (p : Message → Bool) (xs : List Entry) (x : Entry) → count_role role p (xs ++ x ∷ []) ≡ count_role role p xs + weight p (role x.event x.outcome)
 role_push role p xs x = sum_by_push (λ (y : Entry). cond (passes p (role y.event y.outcome)) 1 0) xs x
-
-pub same_end-is : (a b : EndpointId) → same_end a b ≡ true → a ≡ b
-same_end-is a b h = let e : a.0 ≡ b.0 = eqb-true a.0 b.0 h in λ i. record { 0 = e i }
 
 -- the outcome of a call is the one of the endpoint's state
 pub fits_call : (layout : Layout) (past : List Entry) (e : EndpointId) (x : Entry) → MayFollow layout past x → touches e x ≡ true → FitsCall layout.pool (state_of layout past e) x.event x.outcome
@@ -99,10 +98,6 @@ pub not_touched : (b : Bool) → (b || false) ≡ false → b ≡ false
 not_touched true h = h
 not_touched false h = refl
 
-pub left_part : (a b : Bool) → (a || b) ≡ false → a ≡ false
-left_part true b h = h
-left_part false b h = refl
-
 pub right_part : (a b : Bool) → (a || (b || false)) ≡ false → b ≡ false
 right_part true true h = h
 right_part true false h = refl
@@ -127,7 +122,7 @@ nothing_accepted p e (Events.Call actor end call) o t = let off : same_end e end
 nothing_accepted p e event o t = refl
 
 nothing_left : (p : Message → Bool) (e : EndpointId) (event : Event) (o : Outcome) → list_any (same_end e) (ends_touched event o) ≡ false → weight p (left_at e event o) ≡ 0
-nothing_left p e (Events.Carry end) o t = let off : same_end e end ≡ false = left_part (same_end e end) _ t in rw off refl
+nothing_left p e (Events.Carry end) o t = let off : same_end e end ≡ false = or_first_fails (same_end e end) _ t in rw off refl
 nothing_left p e event o t = refl
 
 -- of each endpoint and each test: what was put is what is received and what ran

@@ -50,3 +50,8 @@ each_at May past (z ∷ xs) x ys h = subst (λ (zs : List Entry). May zs x) (app
 pub each_front : (May : List Entry → Entry → Type 0) (past xs ys : List Entry) → EachAfter May past (xs ++ ys) → EachAfter May past xs
 each_front May past [] ys h = tt
 each_front May past (x ∷ xs) ys h = (h.0, each_front May (past ++ x ∷ []) xs ys h.1)
+
+pub each_append : (May : List Entry → Entry → Type 0) (past xs ys : List Entry) → EachAfter May past xs → EachAfter May (past ++ xs) ys → EachAfter May past (xs ++ ys)
+each_append May past [] ys h k = subst (λ (zs : List Entry). EachAfter May zs ys) (append-nil past) k
+each_append May past (x ∷ xs) ys h k =
+    (h.0, each_append May (past ++ x ∷ []) xs ys h.1 (subst (λ (zs : List Entry). EachAfter May zs ys) (sym (append_assoc past (x ∷ []) xs)) k))

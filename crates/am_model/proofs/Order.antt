@@ -1,6 +1,7 @@
 -- An endpoint stays in order.
 use Rattle.std.proofs.lemmas.Bool.{and_parts, and_from}
-use Rattle.std.proofs.Common.{◌≡◌, ℕ, Bool, true, false, List, [], ◌∷◌, length, Option, Some, None, ◌⊎◌, refl, sym, ap, ◌∙◌, subst, true≢false, if◌then◌else◌}
+use Rattle.std.proofs.Common.{◌≡◌, ℕ, Bool, true, false, List, [], Option, Some, None, ◌⊎◌, refl, sym, ap, ◌∙◌, subst, true≢false, if◌then◌else◌}
+use Rattle.std.proofs.lemmas.List.{nil_from_length}
 use Rattle.am_names.specs.Names.{is_answer, is_request, same_end}
 use Rattle.am_names.specs.declared.Cause.TheVariants as Causes
 use Rattle.am_names.specs.declared.EndpointId.{EndpointId}
@@ -21,7 +22,7 @@ use Rattle.am_office.specs.declared.Received.TheVariants as Got
 use Rattle.am_office.specs.declared.Entry.{Entry}
 use Rattle.am_model.specs.declared.Flying.{Flying}
 use Rattle.am_model.specs.declared.Queued.{Queued}
-use Rattle.am_model.specs.Endpoint.{State, fresh, front, is_on_disk, is_on_host, is_in_a_frame}
+use Rattle.am_model.specs.Endpoint.{State, fresh, front, is_on_host, is_in_a_frame}
 use Rattle.am_model.specs.Calls.{outcome_of_call}
 use Rattle.am_model.specs.Changes.{after, bound, called, carried, changed, expired, left, paged_in, paged_out, put, reached, received, with_marked}
 use Rattle.am_model.specs.Allowed.{EndsFlight, MayArrive, MayBind, MayCarry, MayDrain, MayLoad, MayPageIn, MayPageOut, MaySettle, MayUnload, are_numbers_in_range, arrived_message, is_well_formed}
@@ -31,6 +32,7 @@ use Rattle.am_model.specs.Valid.{is_own, is_own_answer, is_own_flight, is_own_re
 use Rattle.am_model.proofs.Valid.{Parts, arrived_parts, bound_parts, called_parts, carried_parts, flight_parts, fresh_parts}
 use Rattle.am_model.proofs.Validity.{all_weaker, own_formed, own_front}
 use Rattle.am_model.proofs.Sound.{IsSound, is_flight_formed, is_queued_answer, is_queued_request, flight_sound, sound_arrived, sound_bound, sound_called, sound_carried, sound_fresh}
+use Rattle.am_model.proofs.Places.{on_disk_unframed}
 
 -- a change where the endpoint stays put and nothing takes off
 pub record StaysPut (s t : State) : Type 0 where
@@ -202,12 +204,8 @@ order_wanted pool e s order = record { within = order.within; valid = order.vali
 pub order_drained : (limit : ℕ) (pool : Option ℕ) (node : NodeId) (e : EndpointId) (s : State) (x : Entry) → MayDrain node e s x → KeepsOrder limit pool e s x
 order_drained limit pool node e s x may le order = rw may.event (record { within = order.within; valid = order.valid; grounded = order.grounded })
 
-empty_list : {X : Type 0} (xs : List X) → length xs ≡ 0 → xs ≡ []
-empty_list [] is = refl
-empty_list (x ∷ xs) is = absurd (cc)
-
 pub order_unloaded : (limit : ℕ) (pool : Option ℕ) (node : NodeId) (e : EndpointId) (s : State) (x : Entry) → MayUnload node e s x → KeepsOrder limit pool e s x
-order_unloaded limit pool node e s x may le order = rw may.event (record { within = order.within; valid = order.valid; grounded = λ there. empty_list s.body.in_flight may.none_in_flight })
+order_unloaded limit pool node e s x may le order = rw may.event (record { within = order.within; valid = order.valid; grounded = λ there. nil_from_length s.body.in_flight may.none_in_flight })
 
 pub order_loaded : (limit : ℕ) (pool : Option ℕ) (node : NodeId) (e : EndpointId) (s : State) (x : Entry) → MayLoad node e s x → KeepsOrder limit pool e s x
 order_loaded limit pool node e s x may le order = rw may.event (record { within = order.within; valid = order.valid; grounded = λ there. absurd (resident_only true refl there) })
@@ -217,12 +215,6 @@ host_grounded Host is = refl
 host_grounded Disk is = refl
 host_grounded (Frame frame) is = absurd (cc)
 host_grounded Direct is = absurd (cc)
-
-disk_grounded : (place : Place) → is_on_disk place ≡ true → is_in_a_frame place ≡ false
-disk_grounded Host is = refl
-disk_grounded Disk is = refl
-disk_grounded (Frame frame) is = absurd (cc)
-disk_grounded Direct is = absurd (cc)
 
 pub order_paged_out : (limit : ℕ) (pool : Option ℕ) (node : NodeId) (e : EndpointId) (s : State) (x : Entry) → MayPageOut node e s x → KeepsOrder limit pool e s x
 order_paged_out limit pool node e s x may le order = rw may.event (by_outcome x.outcome may.outcome)
@@ -235,7 +227,7 @@ pub order_paged_in : (limit : ℕ) (pool : Option ℕ) (outcome : Outcome) (node
 order_paged_in limit pool outcome node e s x may le order = rw may.event (by_outcome x.outcome)
   where
     by_outcome : (o : Outcome) → IsInOrder pool e (paged_in s o)
-    by_outcome Out.Done = record { within = order.within; valid = order.valid; grounded = λ there. order.grounded (disk_grounded s.head.place may.on_disk) }
+    by_outcome Out.Done = record { within = order.within; valid = order.valid; grounded = λ there. order.grounded (on_disk_unframed s.head.place may.on_disk) }
     by_outcome o = order
 
 -- the front message has the form of its kind

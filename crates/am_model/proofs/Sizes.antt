@@ -191,3 +191,12 @@ pub within_called : (pool : Option ℕ) (e : EndpointId) (s : State) (c : Call) 
 within_called pool e s (Calls.Request index handler words) w = within_requested pool e s index handler words (request_refusal pool s index) (entry_at s.body.mapped index) refl w
 within_called pool e s Calls.Poll w = within_polled e s w s.body.notices
 within_called pool e s c w = within_other s c (outcome_of_call pool e s c) refl refl w
+
+-- requests and answers are all there is
+pub requests_and_answers : {X : Type 0} (m : X → Message) (xs : List X) → count_by (λ x. is_request (m x)) xs + count_by (λ x. is_answer (m x)) xs ≡ length xs
+requests_and_answers m [] = refl
+requests_and_answers m (x ∷ xs) = omega (arith, requests_and_answers m xs, sum_by-cons (λ y. cond (is_request (m y)) 1 0) x xs, sum_by-cons (λ y. cond (is_answer (m y)) 1 0) x xs, one (is_request (m x)))
+  where
+    one : (b : Bool) → cond b 1 0 + cond (if b then false else true) 1 0 ≡ 1
+    one true = refl
+    one false = refl

@@ -368,7 +368,7 @@ arrived_parts pool e s x may p = arrival_parts pool e s may.message x.event x.ou
 
 -- the front message leaves
 
-front_bounces : (replies requests : List Queued) (q : Queued) → front_of replies requests ≡ Some q → bounces_of replies requests ≡ q.bounces
+pub front_bounces : (replies requests : List Queued) (q : Queued) → front_of replies requests ≡ Some q → bounces_of replies requests ≡ q.bounces
 front_bounces (r ∷ replies) requests q is = let same : r ≡ q = cc in ap (λ (w : Queued). w.bounces) same
 front_bounces [] (r ∷ requests) q is = let same : r ≡ q = cc in ap (λ (w : Queued). w.bounces) same
 front_bounces [] [] q is = absurd (cc)

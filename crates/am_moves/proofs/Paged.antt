@@ -10,7 +10,7 @@ use Rattle.am_office.specs.declared.Place.{Place}
 use Rattle.am_office.specs.declared.Place.TheVariants.{Host, Disk, Frame, Direct}
 use Rattle.am_office.specs.declared.Entry.{Entry}
 use Rattle.am_model.specs.Allowed.{MayPageIn, MayPageOut}
-use Rattle.am_model.specs.Endpoint.{Body, State, is_in_a_frame, is_on_disk, is_on_host}
+use Rattle.am_model.specs.Endpoint.{Body, State, is_in_a_frame, is_on_host}
 use Rattle.am_model.specs.Order.{IsInOrder}
 use Rattle.am_body.specs.Views.{View}
 use Rattle.am_device.specs.Causes.{fails_after}
@@ -28,12 +28,6 @@ host_no_frame (Frame frame) h = absurd (true≢false (sym h))
 host_no_frame Direct h = absurd (true≢false (sym h))
 host_no_frame Host h = refl
 host_no_frame Disk h = absurd (true≢false (sym h))
-
-pub host_no_disk : (p : Place) → is_on_host p ≡ true → is_on_disk p ≡ true → ⊥
-host_no_disk (Frame frame) h k = true≢false (sym h)
-host_no_disk Direct h k = true≢false (sym h)
-host_no_disk Host h k = true≢false (sym k)
-host_no_disk Disk h k = true≢false (sym h)
 
 -- on the host nothing is in flight
 pub none_flying : (pool : Option ℕ) (e : EndpointId) (s : State) → IsInOrder pool e s → is_on_host s.head.place ≡ true → s.body.in_flight ≡ []

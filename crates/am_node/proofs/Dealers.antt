@@ -2,11 +2,12 @@
 use Rattle.std.specs.Prelude.{slice_get, slice_set, slice_index_or, count_by, vec_len, vec_capacity}
 use Rattle.std.specs.List.{filter}
 use Rattle.std.proofs.Common.{◌≡◌, ⊎_elim, ℕ, ◌+◌, ◌<◌, ◌≤◌, Bool, true, false, cond, Some, List, [], ◌∷◌, ◌++◌, reverse, length, refl, sym, ap, ◌∙◌, subst, arith, append_assoc, eq-eqb, eqb-true}
-use Rattle.std.proofs.lemmas.List.{append-nil, reverse-append, reverse-reverse}
+use Rattle.std.proofs.lemmas.List.{append-nil, reverse-append, reverse-reverse, length-set}
 use Rattle.std.proofs.lemmas.List.Sums.{sum_by-cons, sum_by_push}
 use Rattle.am_model.specs.Layout.{AllAre, node_at}
+use Rattle.am_lemmas.proofs.Lists.{slice_get-set_cases}
 use Rattle.am_endpoint.specs.View.{EndpointView}
-use Rattle.am_journal.proofs.Lists.{got_set, index_got, set_length}
+use Rattle.am_journal.proofs.Lists.{index_got}
 use Rattle.am_node.specs.declared.shells.Shell.{Shell}
 use Rattle.am_node.specs.Shells.{is_at}
 use Rattle.am_node.specs.Dealt.{AreDealt, HasRoom, IsFilled, IsPut}
@@ -150,11 +151,11 @@ module _ (whole rest : List EndpointView) (old now : List Shell) (x : EndpointVi
       record {
         room =
             record {
-              nodes = subst (λ (n : ℕ). AllAre (λ (v : EndpointView). v.settings.node.0 < n) rest) (sym (set_length now x.settings.node.0 u)) (all_front (λ (v : EndpointView). v.settings.node.0 < length now) rest x a.room.nodes);
-              room = λ k t at. ⊎_elim (λ (here : (k ≡ x.settings.node.0) × (t ≡ u)). room_here k t here) (λ (there : (k ≡ x.settings.node.0 → ⊥) × (slice_get now k ≡ Some t)). room_there k t there.1) (got_set now x.settings.node.0 k u t at);
+              nodes = subst (λ (n : ℕ). AllAre (λ (v : EndpointView). v.settings.node.0 < n) rest) (sym (length-set now x.settings.node.0 u)) (all_front (λ (v : EndpointView). v.settings.node.0 < length now) rest x a.room.nodes);
+              room = λ k t at. ⊎_elim (λ (here : (k ≡ x.settings.node.0) × (t ≡ u)). room_here k t here) (λ (there : (k ≡ x.settings.node.0 → ⊥) × (slice_get now k ≡ Some t)). room_there k t there.1) (slice_get-set_cases now x.settings.node.0 k u t at);
             };
-        all = set_length now x.settings.node.0 u ∙ a.all;
-        each = λ k s t before at. ⊎_elim (λ (here : (k ≡ x.settings.node.0) × (t ≡ u)). got_here k s t before here) (λ (there : (k ≡ x.settings.node.0 → ⊥) × (slice_get now k ≡ Some t)). got_there k s t before there) (got_set now x.settings.node.0 k u t at);
+        all = length-set now x.settings.node.0 u ∙ a.all;
+        each = λ k s t before at. ⊎_elim (λ (here : (k ≡ x.settings.node.0) × (t ≡ u)). got_here k s t before here) (λ (there : (k ≡ x.settings.node.0 → ⊥) × (slice_get now k ≡ Some t)). got_there k s t before there) (slice_get-set_cases now x.settings.node.0 k u t at);
       }
 
 pub ends : (whole : List EndpointView) (old now : List Shell) → AreDealing whole [] old now → AreDealt whole old now

@@ -3,14 +3,15 @@ use Rattle.std.specs.Prelude.{Contains, slice_get, slice_set, slice_index_or, if
 use Rattle.std.specs.List.{filter}
 use Rattle.std.specs.Global.{Vec}
 use Rattle.std.proofs.Common.{◌≡◌, ◌⊎◌, inl, inr, ⊎_elim, ℕ, zero, suc, ◌+◌, ◌<◌, ◌==◌, Bool, true, false, cond, Some, List, [], ◌∷◌, ◌++◌, map, reverse, length, take, drop, get_or, refl, sym, ap, ◌∙◌, subst, arith, eq-eqb, eqb-true}
-use Rattle.std.proofs.lemmas.List.{append-nil, reverse-append, map-append}
+use Rattle.std.proofs.lemmas.List.{append-nil, reverse-append, map-append, length-set}
 use Rattle.std.proofs.lemmas.Option.{slice_get_within}
+use Rattle.am_lemmas.proofs.Lists.{slice_get-set_cases}
 use Rattle.am_names.specs.declared.NodeId.{NodeId}
 use Rattle.am_model.specs.Layout.{AllAre, EndSetting, node_at}
 use Rattle.am_endpoint.specs.View.{EndpointView}
 use Rattle.am_follow.specs.Layout.{setting_of}
 use Rattle.am_scenario_types.specs.declared.parts.EndLine.{EndLine}
-use Rattle.am_journal.proofs.Lists.{got_set, index_got, set_length}
+use Rattle.am_journal.proofs.Lists.{index_got}
 use Rattle.am_join.proofs.Standing.{behind, first_or_behind, in_front}
 use Rattle.am_node.specs.Gathered.{AreDeclared, AreOfGroups, HasOne, IsLastOf, is_of_node, setting_in}
 
@@ -190,8 +191,8 @@ no_line = record { id = record { 0 = 0 }; node = record { 0 = 0 }; tag = record 
 pub last_taken : (old : List (Vec EndpointView)) (node : NodeId) (x : EndpointView) (d h : Vec EndpointView) → node.0 < length old → (slice_index_or old node.0 d).items ≡ h.items ++ x ∷ [] → IsLastOf old node x (slice_set old node.0 h)
 last_taken old node x d h within items =
     record {
-      all = set_length old node.0 h;
-      each = λ k g t before at. ⊎_elim (λ (here : (k ≡ node.0) × (t ≡ h)). at_node k g t before here) (λ (there : (k ≡ node.0 → ⊥) × (slice_get old k ≡ Some t)). elsewhere k g t before there) (got_set old node.0 k h t at);
+      all = length-set old node.0 h;
+      each = λ k g t before at. ⊎_elim (λ (here : (k ≡ node.0) × (t ≡ h)). at_node k g t before here) (λ (there : (k ≡ node.0 → ⊥) × (slice_get old k ≡ Some t)). elsewhere k g t before there) (slice_get-set_cases old node.0 k h t at);
     }
   where
     at_node : (k : ℕ) (g t : Vec EndpointView) → slice_get old k ≡ Some g → (k ≡ node.0) × (t ≡ h) → g.items ≡ t.items ++ (if k == node.0 then x ∷ [] else [])

@@ -2,6 +2,8 @@
 use Rattle.std.specs.Prelude.{slice_get, filter, find, count_by}
 use Rattle.std.proofs.Common.{◌≡◌, ℕ, ◌+◌, ◌<◌, ◌≤◌, ◌==◌, Bool, true, false, cond, Option, Some, None, List, [], ◌∷◌, length, map, refl, sym, ap, ◌∙◌, subst, arith, eqb-true}
 use Rattle.std.proofs.lemmas.List.Sums.{length-filter, sum_by-cons}
+use Rattle.am_lemmas.proofs.Numbers.{eqb_commutes}
+use Rattle.am_lemmas.proofs.Lists.{map_twice}
 use Rattle.am_names.specs.declared.NodeId.{NodeId}
 use Rattle.am_names.specs.Names.{same_node}
 use Rattle.am_office.specs.declared.Entry.{Entry}
@@ -24,10 +26,9 @@ use Rattle.am_places.specs.Codes.{place_code}
 use Rattle.am_scenario_types.specs.declared.parts.ThreadLine.{ThreadLine}
 use Rattle.am_scenario_types.specs.Lawful as lawful
 use Rattle.am_scenario_types.specs.Lists.{ScenarioLists}
-use Rattle.am_follow.proofs.Lawful.{eqb_turned}
 use Rattle.am_works.specs.Seats.{IsBorn}
 use Rattle.am_opening.specs.Openings.{IsFreshDisk, IsOpenIn, births_of, thread_ids}
-use Rattle.am_opening.proofs.Lists.{all_got, got_all, got_kept, got_map, length_map, map_all, map_twice}
+use Rattle.am_opening.proofs.Lists.{all_got, got_all, got_kept, got_map, length_map, map_all}
 
 -- ---- an endpoint
 
@@ -134,7 +135,7 @@ count_threads : (node : NodeId) (xs : List ThreadLine) → count_by (λ (t : Thr
 count_threads node [] = refl
 count_threads node (x ∷ xs) =
     sum_by-cons (λ (t : ThreadLine). cond (same_node node t.node) 1 0) x xs
-    ∙ (λ i. cond (eqb_turned node.0 x.node.0 i) 1 0 + count_threads node xs i)
+    ∙ (λ i. cond (eqb_commutes node.0 x.node.0 i) 1 0 + count_threads node xs i)
     ∙ sym (sum_by-cons (λ (t : ThreadLine). cond (t.node.0 == node.0) 1 0) x xs)
 
 pub few_threads : (s : ScenarioLists) (node : NodeId) → lawful.IsLawful s → length (thread_ids s.threads node) ≤ 4

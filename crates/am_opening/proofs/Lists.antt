@@ -129,7 +129,3 @@ module _ {X Y : Type 0} (f : X → Y) where
   pub map_push : (xs : List X) (x : X) → map f (xs ++ x ∷ []) ≡ map f xs ++ f x ∷ []
   map_push [] x = refl
   map_push (y ∷ xs) x = ap (λ (l : List Y). f y ∷ l) (map_push xs x)
-
-pub map_twice : {X Y Z : Type 0} (f : X → Y) (g : Y → Z) (xs : List X) → map g (map f xs) ≡ map (λ (x : X). g (f x)) xs
-map_twice f g [] = refl
-map_twice f g (x ∷ xs) = ap (λ l. g (f x) ∷ l) (map_twice f g xs)

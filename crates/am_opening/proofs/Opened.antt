@@ -5,6 +5,7 @@ use Rattle.std.proofs.lemmas.List.{length_push}
 use lib.ListN.{get_elem?}
 use mathlib.Core.Option.{some}
 use Rattle.atomic_table.specs.Seated.{TableId}
+use Rattle.am_lemmas.proofs.Lists.{map_twice}
 use Rattle.am_names.specs.declared.EndpointId.{EndpointId}
 use Rattle.am_names.specs.declared.NodeId.{NodeId}
 use Rattle.am_names.specs.Names.{same_end}
@@ -34,7 +35,7 @@ use Rattle.am_crew_laws.proofs.Homes.{ends_apart}
 use Rattle.am_opening.specs.Openings.{AreDeclared, AreOpenings, EndSeat, IsFreshDisk, IsOpening, births_of, lines_of, thread_ids}
 use Rattle.am_opening.specs.declared.opening.Opening.{Opening}
 use Rattle.am_opening.proofs.Fresh.{is_born, is_homely, no_log, part_at, part_books, part_disk, part_few, part_home, part_ids}
-use Rattle.am_opening.proofs.Lists.{AreTaking, all_got, each_more, elem_got, got_elem, got_map, length_map, map_all, map_twice, taking_begins, taking_ends, taking_more, taking_next}
+use Rattle.am_opening.proofs.Lists.{AreTaking, all_got, each_more, elem_got, got_elem, got_map, length_map, map_all, taking_begins, taking_ends, taking_more, taking_next}
 
 abbrev end_of : EndBook → EndpointView
 end_of b = b.end.value

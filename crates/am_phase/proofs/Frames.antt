@@ -1,5 +1,6 @@
 -- The driver's own moves tell where an endpoint lies.
 use Rattle.std.proofs.Common.{◌≡◌, ℕ, Bool, true, false, not, List, [], ◌∷◌, ◌++◌, Some, None, refl, sym, ap, ◌∙◌, if◌then◌else◌}
+use Rattle.std.proofs.lemmas.Bool.{not-false}
 use Rattle.am_names.specs.declared.EndpointId.{EndpointId}
 use Rattle.am_names.specs.Names.{same_end}
 use Rattle.am_office.specs.declared.Condition.TheVariants as Needs
@@ -7,30 +8,17 @@ use Rattle.am_office.specs.declared.Event.{Event}
 use Rattle.am_office.specs.declared.Event.TheVariants as Events
 use Rattle.am_office.specs.declared.Outcome.{Outcome}
 use Rattle.am_office.specs.declared.Outcome.TheVariants as Out
-use Rattle.am_office.specs.declared.Place.{Place}
-use Rattle.am_office.specs.declared.Place.TheVariants.{Host, Disk, Frame, Direct}
 use Rattle.am_office.specs.declared.Entry.{Entry}
 use Rattle.am_model.specs.Changes.{after, changed}
 use Rattle.am_model.specs.Endpoint.{State, is_on_disk, is_on_host}
 use Rattle.am_model.specs.History.{is_in_frame}
 use Rattle.am_model.proofs.Names.{same_end-refl}
+use Rattle.am_model.proofs.Places.{on_host_in_no_frame, on_disk_in_no_frame}
 use Rattle.am_local.specs.Driver.{DriverLog, changes_frame, end_moved, failing_move, is_end_of, is_load_into, lies_in}
-use Rattle.am_local.proofs.Frames.{none_holds, not_not}
+use Rattle.am_local.proofs.Frames.{none_holds}
 use Rattle.am_local.proofs.Growing.{readings_push}
 use Rattle.am_phase.specs.Frames.{FramesAreKnown, LiesAsMoved}
 use Rattle.am_phase.proofs.Lying.{still}
-
-host_no_frame : (frame : ℕ) (place : Place) → is_on_host place ≡ true → is_in_frame frame place ≡ false
-host_no_frame frame (Frame other) h = absurd (cc)
-host_no_frame frame Host h = refl
-host_no_frame frame Disk h = refl
-host_no_frame frame Direct h = refl
-
-disk_no_frame : (frame : ℕ) (place : Place) → is_on_disk place ≡ true → is_in_frame frame place ≡ false
-disk_no_frame frame (Frame other) h = absurd (cc)
-disk_no_frame frame Host h = refl
-disk_no_frame frame Disk h = refl
-disk_no_frame frame Direct h = refl
 
 -- one entry more, which changes the frame of the endpoint or not
 push : (made : List Entry) (x : Entry) (frame : ℕ) (e : EndpointId) (b : Bool) → changes_frame e x.event ≡ b → lies_in (made ++ x ∷ []) frame e ≡ (if b then is_load_into frame x.event else lies_in made frame e)
@@ -79,12 +67,12 @@ own d e s x lies of on frame = by_event x.event refl of on
         ap (λ (v : Event). is_in_frame frame (changed e s v x.outcome).head.place) is ∙ lies frame ∙ sym (push d.log x frame e false (ap (changes_frame e) is))
     by_event (Events.PageOut node end) is at free =
         let rest = (none_holds (not (is_end_of d end)) Needs.OtherNode ((not (is_on_host s.head.place), Needs.NotOnHost) ∷ (s.head.closed, Needs.Closed) ∷ []) free).1 in
-        let host = not_not (is_on_host s.head.place) (none_holds (not (is_on_host s.head.place)) Needs.NotOnHost ((s.head.closed, Needs.Closed) ∷ []) rest).0 in
-        paged (Events.PageOut node end) is refl (host_no_frame frame s.head.place host) out_stays
+        let host = not-false (is_on_host s.head.place) (none_holds (not (is_on_host s.head.place)) Needs.NotOnHost ((s.head.closed, Needs.Closed) ∷ []) rest).0 in
+        paged (Events.PageOut node end) is refl (on_host_in_no_frame frame s.head.place host) out_stays
     by_event (Events.PageIn node end) is at free =
         let rest = (none_holds (not (is_end_of d end)) Needs.OtherNode ((not (is_on_disk s.head.place), Needs.NotOnDisk) ∷ []) free).1 in
-        let disk = not_not (is_on_disk s.head.place) (none_holds (not (is_on_disk s.head.place)) Needs.NotOnDisk [] rest).0 in
-        paged (Events.PageIn node end) is refl (disk_no_frame frame s.head.place disk) in_stays
+        let disk = not-false (is_on_disk s.head.place) (none_holds (not (is_on_disk s.head.place)) Needs.NotOnDisk [] rest).0 in
+        paged (Events.PageIn node end) is refl (on_disk_in_no_frame frame s.head.place disk) in_stays
     by_event event is at free = absurd (cc)
 
 pub frames_are_known : FramesAreKnown

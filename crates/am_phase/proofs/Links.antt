@@ -1,7 +1,7 @@
 -- A received packet is the one that is due on its link.
 use Rattle.std.specs.Prelude.{slice_get, is_some}
 use Rattle.std.specs.List.{filter, filter_map, cons_option}
-use Rattle.std.proofs.Common.{◌≡◌, ℕ, zero, suc, ◌+◌, ◌<◌, ◌≤◌, Bool, true, false, cond, ◌&&◌, List, [], ◌∷◌, ◌++◌, map, length, Option, Some, None, refl, sym, ap, ◌∙◌, subst, arith, eq-eqb, if◌then◌else◌}
+use Rattle.std.proofs.Common.{◌≡◌, ℕ, zero, suc, ◌+◌, ◌<◌, ◌≤◌, Bool, true, false, cond, ◌&&◌, List, [], ◌∷◌, ◌++◌, map, length, Option, Some, None, refl, sym, ap, ◌∙◌, subst, arith, if◌then◌else◌}
 use Rattle.std.proofs.lemmas.List.Elements.{filter-append}
 use Rattle.am_names.specs.declared.NodeId.{NodeId}
 use Rattle.am_names.specs.declared.Packet.{Packet}
@@ -15,6 +15,7 @@ use Rattle.am_model.specs.Layout.{AllAre}
 use Rattle.am_model.specs.Channels.{emitted, is_on_link}
 use Rattle.am_model.specs.Merge.{is_ordered}
 use Rattle.am_model.specs.History as model
+use Rattle.am_model.proofs.Names.{same_node-refl}
 use Rattle.am_local.proofs.Following.{emitted_stamp, stamp_in}
 use Rattle.am_local.proofs.Growing.{emitted_append}
 use Rattle.am_local.proofs.Parts.{emitted_own}
@@ -136,9 +137,6 @@ receipt_touches from to x h = by_event x.event h
     by_event : (e : Event) → is_some (number_received from to e) ≡ true → is_node to (node_touched e) ≡ true
     by_event (Events.Receive node peer number) g = by_test (same_node from peer) (same_node to node) number g
     by_event e g = absurd (cc)
-
-same_node-refl : (n : NodeId) → same_node n n ≡ true
-same_node-refl n = eq-eqb n.0 n.0 refl
 
 number_here : (peer node : NodeId) (number : ℕ) → number_received peer node (Events.Receive node peer number) ≡ Some number
 number_here peer node number = λ i. if same_node-refl peer i && same_node-refl node i then Some number else None

@@ -1,7 +1,7 @@
 -- What moves an endpoint, and where to.
 use Rattle.std.specs.Prelude.{not}
-use Rattle.std.proofs.Common.{◌≡◌, ℕ, Bool, true, false, ◌||◌, ◌&&◌, List, [], ◌∷◌, ◌++◌, Option, None, refl, ap, ◌∙◌}
-use Rattle.std.proofs.lemmas.Bool.{and_parts}
+use Rattle.std.proofs.Common.{◌≡◌, ℕ, Bool, true, false, ◌||◌, List, [], ◌∷◌, ◌++◌, Option, None, refl, ap, ◌∙◌}
+use Rattle.std.proofs.lemmas.Bool.{and_parts, and_from}
 use Rattle.am_names.specs.declared.Cause.{Cause}
 use Rattle.am_names.specs.declared.Cause.TheVariants.{NotResident}
 use Rattle.am_names.specs.declared.Message.{Message}
@@ -13,9 +13,10 @@ use Rattle.am_office.specs.declared.Outcome.TheVariants as Out
 use Rattle.am_office.specs.declared.Received.TheVariants as Got
 use Rattle.am_office.specs.declared.Place.{Place}
 use Rattle.am_office.specs.declared.Entry.{Entry}
-use Rattle.am_model.specs.Changes.{after, changed, paged_in, paged_out, received, replay}
+use Rattle.am_model.specs.Changes.{after, changed, received, replay}
 use Rattle.am_model.specs.Endpoint.{State, is_direct, is_on_disk}
 use Rattle.am_model.specs.Layout.{AllAre}
+use Rattle.am_model.proofs.Unchanged.{paged_out_body, paged_in_body}
 use Rattle.am_local.proofs.Frames.{changed_place, place_by, place_given}
 use Rattle.am_phase.specs.Lying.{PlacesAreKept, keeps_body, keeps_on_disk, moves_by, rests}
 
@@ -46,14 +47,6 @@ packet e s (x ∷ xs) h = packet e (after e s x) xs (ap is_direct (changed_place
 
 -- ---- bodies on disk
 
-out_body : (s : State) (o : Outcome) → (paged_out s o).body ≡ s.body
-out_body s Out.Done = refl
-out_body s o = refl
-
-in_body : (s : State) (o : Outcome) → (paged_in s o).body ≡ s.body
-in_body s Out.Done = refl
-in_body s o = refl
-
 refused_body : (e : EndpointId) (s : State) (m : Message) (cause : Cause) (answer : ℕ) → (received e s (Got.Refused m cause answer)).body ≡ s.body
 refused_body e s m NotResident answer = refl
 refused_body e s m cause answer = refl
@@ -64,17 +57,13 @@ body_kept e s (Events.Receive node peer number) (Out.Received channel seq attemp
 body_kept e s (Events.Drain node end) o h = refl
 body_kept e s (Events.Unload node end) o h = refl
 body_kept e s (Events.Load node end frame) o h = refl
-body_kept e s (Events.PageOut node end) o h = out_body s o
-body_kept e s (Events.PageIn node end) o h = in_body s o
+body_kept e s (Events.PageOut node end) o h = paged_out_body s o
+body_kept e s (Events.PageIn node end) o h = paged_in_body s o
 body_kept e s event o h = absurd (cc)
 
 or_kept : (d k : Bool) → d ≡ true → (not d || k) ≡ true → k ≡ true
 or_kept true k on h = h
 or_kept false k on h = absurd (cc)
-
-both : (a b : Bool) → a ≡ true → b ≡ true → (a && b) ≡ true
-both true b h k = k
-both false b h k = h
 
 bodies : (e : EndpointId) (s : State) (xs : List Entry) → rests e s xs ≡ true → is_on_disk s.head.place ≡ true → AllAre (λ (x : Entry). moves_by x.event ≡ false) xs → (replay e s xs).body ≡ s.body
 bodies e s [] r on h = refl
@@ -86,10 +75,10 @@ bodies e s (x ∷ xs) r on h =
 
 -- one entry more
 pub rests_push : (e : EndpointId) (s : State) (xs : List Entry) (x : Entry) → rests e s xs ≡ true → keeps_on_disk (replay e s xs) x ≡ true → rests e s (xs ++ x ∷ []) ≡ true
-rests_push e s [] x r h = both (keeps_on_disk s x) true h refl
+rests_push e s [] x r h = and_from (keeps_on_disk s x) true h refl
 rests_push e s (y ∷ ys) x r h =
     let parts = and_parts (keeps_on_disk s y) (rests e (after e s y) ys) r in
-    both (keeps_on_disk s y) (rests e (after e s y) (ys ++ x ∷ [])) parts.0 (rests_push e (after e s y) ys x parts.1 h)
+    and_from (keeps_on_disk s y) (rests e (after e s y) (ys ++ x ∷ [])) parts.0 (rests_push e (after e s y) ys x parts.1 h)
 
 -- what comes after some of them
 pub rests_then : (e : EndpointId) (s : State) (xs ys : List Entry) → rests e s (xs ++ ys) ≡ true → rests e (replay e s xs) ys ≡ true

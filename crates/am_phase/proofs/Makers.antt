@@ -1,15 +1,15 @@
 -- The lists of all makers merge into a good phase.
 use Rattle.std.specs.List.{list_any}
-use Rattle.std.proofs.Common.{◌≡◌, ℕ, ◌≤◌, Bool, true, false, ◌||◌, List, length, Option, Some, None, refl, sym, ap, ◌∙◌, subst, eqb-true, true≢false, Contains}
+use Rattle.std.proofs.Common.{◌≡◌, ℕ, ◌≤◌, Bool, true, false, ◌||◌, List, length, Option, Some, None, refl, sym, ap, ◌∙◌, subst, true≢false, Contains}
 use Rattle.am_names.specs.declared.EndpointId.{EndpointId}
 use Rattle.am_names.specs.declared.NodeId.{NodeId}
-use Rattle.am_names.specs.Names.{same_end, same_node}
+use Rattle.am_names.specs.Names.{same_end}
 use Rattle.am_office.specs.declared.Event.{Event}
 use Rattle.am_office.specs.declared.Event.TheVariants as Events
 use Rattle.am_office.specs.declared.Outcome.{Outcome}
 use Rattle.am_office.specs.declared.Entry.{Entry}
 use Rattle.am_office.specs.Entries.{ends_touched, is_node, node_touched, touches, touches_node}
-use Rattle.am_model.proofs.Names.{same_end-refl}
+use Rattle.am_model.proofs.Names.{same_end-refl, same_node-is}
 use Rattle.am_model.specs.Parts.{driver_of, is_by_driver}
 use Rattle.am_follow.specs.Layout.{layout_of}
 use Rattle.am_merge.specs.Logs.{AreRising, IsRising, Logs, MergesInto, StandWhereTheyTouch}
@@ -27,9 +27,6 @@ use Rattle.am_phase.proofs.Splits.{all_at, all_from}
 use Rattle.am_phase.proofs.Then.{was_right}
 
 -- ---- which maker it was
-
-pub same_node-is : (a b : NodeId) → same_node a b ≡ true → a ≡ b
-same_node-is a b h = let e : a.0 ≡ b.0 = eqb-true a.0 b.0 h in λ i. record { 0 = e i }
 
 pub one_node : (a b : NodeId) (o : Option NodeId) → is_node a o ≡ true → is_node b o ≡ true → a ≡ b
 one_node a b None h k = absurd (cc)

@@ -1,6 +1,7 @@
 -- The journal that the workers' lists merge into is a good phase.
-use Rattle.std.specs.List.{filter, count_by, AllByRecursion}
+use Rattle.std.specs.List.{filter, count_by}
 use Rattle.std.proofs.Common.{◌≡◌, ℕ, ◌≤◌, false, cond, List, [], ◌∷◌, ◌++◌, take, length, refl, sym, ap, ◌∙◌, subst}
+use Rattle.am_lemmas.proofs.Lists.{each_of}
 use Rattle.am_names.specs.declared.NodeId.{NodeId}
 use Rattle.am_office.specs.declared.Event.{Event}
 use Rattle.am_office.specs.declared.Event.TheVariants as Events
@@ -23,10 +24,6 @@ use Rattle.am_phase.proofs.LastTries.{none_last}
 use Rattle.am_phase.proofs.Links.{in_order_at}
 use Rattle.am_phase.proofs.Splits.{all_at, each_split, has_middle}
 use Rattle.am_phase.proofs.Threads.{IsOfRun, all_of_run, calls_within, few_of, is_by, none_outside, of_run, of_thread}
-
-each_of : {X : Type 0} (P : X → Type 0) (xs : List X) → ((x : X) → P x) → AllByRecursion P xs
-each_of P [] h = tt
-each_of P (x ∷ xs) h = (h x, each_of P xs h)
 
 pub phase_is_good : (s : ScenarioLists) (logs : Logs) (made : ℕ → List Entry) (journal : List Entry) → MergesInto logs journal → AreRising logs → IsCrew s logs made journal → IsGoodPhase s journal
 phase_is_good s logs made journal merges rising crew =

@@ -7,15 +7,12 @@ use Rattle.am_model.specs.Layout.{AllAre}
 use Rattle.am_plan.specs.declared.plan.LinkFault.{LinkFault}
 use Rattle.am_plan.specs.declared.plan.LinkFault.TheVariants.{Lose, Repeat, Late}
 use Rattle.am_plan.specs.Shape.{at_once, fault_at, is_late_until, late_from, released_by, shape_after, stamp_of, stamped}
+use Rattle.am_release.proofs.Releasing.{stamped_again}
 use Rattle.am_phase.specs.Released.{AreInTime, ReleasedWasSent, WasReleased}
 
 both : (P : Packet → Type 0) (ps qs : List Packet) → AllAre P ps → AllAre P qs → AllAre P (ps ++ qs)
 both P [] qs a b = b
 both P (p ∷ ps) qs a b = (a.0, both P ps qs a.1 b)
-
-itself : (p : Packet) → stamped (stamp_of p) p ≡ p
-itself (Packets.Parcel p) = refl
-itself (Packets.Answer p) = refl
 
 again : (s t : ℕ) (p : Packet) → stamped s (stamped t p) ≡ stamped s p
 again s t (Packets.Parcel p) = refl
@@ -31,7 +28,7 @@ middle (q ∷ before) p ps = middle before p ps
 
 -- the packet as it was emitted
 as_sent : (sent : List Packet) (k : ℕ) (p : Packet) → slice_get sent k ≡ Some p → WasReleased sent p
-as_sent sent k p at = record { place = k; stamp = stamp_of p; at = at ∙ ap Some (sym (itself p)); earlier = omega arith }
+as_sent sent k p at = record { place = k; stamp = stamp_of p; at = at ∙ ap Some (sym (stamped_again p)); earlier = omega arith }
 
 once : (sent : List Packet) (k : ℕ) (fault : Option LinkFault) (p : Packet) → slice_get sent k ≡ Some p → AllAre (WasReleased sent) (at_once fault p)
 once sent k None p at = (as_sent sent k p at, tt)
@@ -55,7 +52,7 @@ late fault sent now t place at front (q ∷ ps) rest is long below =
         record {
           place = length front;
           stamp = stamp_of q;
-          at = here ∙ ap Some (sym (again (stamp_of q) t q ∙ itself q));
+          at = here ∙ ap Some (sym (again (stamp_of q) t q ∙ stamped_again q));
           earlier = let s : stamp_of (stamped t q) ≡ t = stamp_is t q in let le : stamp_of q ≤ t = below (length front) q (omega arith) here in omega (arith, s, le);
         }
 

@@ -1,12 +1,13 @@
 -- The log of an endpoint whose seats are gathered.
-use Rattle.std.proofs.Common.{◌≡◌, ◌⊎◌, inl, inr, ⊎_elim, ℕ, ◌<◌, ◌==◌, Bool, true, false, cond, List, [], ◌∷◌, ◌++◌, length, refl, sym, ap, ◌∙◌, subst, arith, append_assoc, append-nil, length-append, eq-eqb, true≢false, Contains}
+use Rattle.std.proofs.Common.{◌≡◌, ◌⊎◌, ⊎_elim, ℕ, ◌<◌, ◌==◌, Bool, true, false, cond, List, [], ◌∷◌, ◌++◌, length, refl, sym, ap, ◌∙◌, subst, arith, append_assoc, append-nil, length-append, eq-eqb, true≢false, Contains}
 use Rattle.am_names.specs.declared.EndpointId.{EndpointId}
 use Rattle.am_office.specs.declared.Entry.{Entry}
 use Rattle.am_office.specs.Entries.{touches}
 use Rattle.am_model.specs.Layout.{AllAre}
 use Rattle.am_model.specs.History.{EachAfter}
+use Rattle.am_model.proofs.Each.{each_append}
 use Rattle.am_merge.specs.Logs.{IsRising}
-use Rattle.am_merge.proofs.Sorted.{Has, contains_has, filter_has, has_contains, has_filter}
+use Rattle.am_merge.proofs.Sorted.{Has, contains_has, filter_has, has_contains, has_filter, has_append, has_first, has_last}
 use Rattle.am_places.specs.Rule.{joined}
 use Rattle.am_places.specs.declared.board.Tenure.{Tenure}
 use Rattle.am_phase.specs.Tenures.{IsAboveAll, IsEndOf, IsLogOf, IsSeat, RisesFor, own}
@@ -47,11 +48,6 @@ rises_more m past (t ∷ ts) us h none = (h.0, rises_more m (past ++ t.items) ts
 
 -- ---- the stamps of the log rise
 
-each_append : (May : List Entry → Entry → Type 0) (past xs ys : List Entry) → EachAfter May past xs → EachAfter May (past ++ xs) ys → EachAfter May past (xs ++ ys)
-each_append May past [] ys h k = subst (λ (zs : List Entry). EachAfter May zs ys) (append-nil past) k
-each_append May past (x ∷ xs) ys h k =
-    (h.0, each_append May (past ++ x ∷ []) xs ys h.1 (subst (λ (zs : List Entry). EachAfter May zs ys) (sym (append_assoc past (x ∷ []) xs)) k))
-
 all_above : (seats : ℕ) (past : List Entry) (ts : List (Tenure Entry)) → AllAre (λ (t : Tenure Entry). (t.items ≡ []) ⊎ IsSeat seats t.by) ts → ((m : ℕ) → IsSeat seats m → RisesFor m past ts) → EachAfter IsAboveAll past (joined ts)
 all_above seats past [] each rises = tt
 all_above seats past (t ∷ ts) each rises =
@@ -73,18 +69,6 @@ rising_from past (x ∷ xs) h each = subst IsRising (append_assoc past (x ∷ []
 
 -- ---- its entries
 
-has_append : (xs ys : List Entry) (x : Entry) → Has (xs ++ ys) x → Has xs x ⊎ Has ys x
-has_append [] ys x h = inr h
-has_append (y ∷ xs) ys x h = ⊎_elim (λ (here : y ≡ x). inl (inl here)) (λ (there : Has (xs ++ ys) x). ⊎_elim (λ (a : Has xs x). inl (inr a)) (λ (b : Has ys x). inr b) (has_append xs ys x there)) h
-
-has_first : (xs ys : List Entry) (x : Entry) → Has xs x → Has (xs ++ ys) x
-has_first [] ys x h = absurd h
-has_first (y ∷ xs) ys x h = ⊎_elim (λ (here : y ≡ x). inl here) (λ (there : Has xs x). inr (has_first xs ys x there)) h
-
-has_last : (xs ys : List Entry) (x : Entry) → Has ys x → Has (xs ++ ys) x
-has_last [] ys x h = h
-has_last (y ∷ xs) ys x h = inr (has_last xs ys x h)
-
 own_here : (m : ℕ) (t : Tenure Entry) (ts : List (Tenure Entry)) (x : Entry) → t.by ≡ m → Has t.items x → Has (own m (t ∷ ts)) x
 own_here m t ts x same h = subst (λ (b : Bool). Has (cond b (t.items ++ own m ts) (own m ts)) x) (sym (eq-eqb t.by m same)) (has_first t.items (own m ts) x h)
 
@@ -95,7 +79,7 @@ own_there m t ts x h = by_test (t.by == m)
     by_test true = has_last t.items (own m ts) x h
     by_test false = h
 
-own_in : (m : ℕ) (ts : List (Tenure Entry)) (x : Entry) → Has (own m ts) x → Has (joined ts) x
+pub own_in : (m : ℕ) (ts : List (Tenure Entry)) (x : Entry) → Has (own m ts) x → Has (joined ts) x
 own_in m [] x h = absurd h
 own_in m (t ∷ ts) x h = by_test (t.by == m) h (own_in m ts x)
   where

@@ -1,8 +1,8 @@
 -- What a stage releases and holds back, after emissions and after one more, is what the shape of a link says.
-use Rattle.std.proofs.Common.{◌≡◌, ℕ, suc, ◌+◌, List, [], ◌∷◌, ◌++◌, length, refl, sym, ◌∙◌, ap, append_assoc, append-nil, true, false, Bool, arith, eqb-true, ltb-true, lt-ltb}
+use Rattle.std.proofs.Common.{◌≡◌, ℕ, ◌+◌, List, [], ◌∷◌, ◌++◌, length, refl, sym, ◌∙◌, ap, append_assoc, append-nil, true, false, Bool, arith, eqb-true, ltb-true, lt-ltb}
 use Rattle.std.specs.Prelude.{Option, Some, None, map, ◌==◌, if◌then◌else◌}
 use Rattle.std.specs.List.{filter, flat_map}
-use Rattle.std.proofs.lemmas.List.{length_push}
+use Rattle.std.proofs.lemmas.List.{length_push, length-map}
 use Rattle.std.proofs.lemmas.List.Elements.{filter-append}
 use Rattle.am_names.specs.declared.Packet.{Packet}
 use Rattle.am_names.specs.declared.Packet.TheVariants as Packets
@@ -16,10 +16,6 @@ use Rattle.am_release.specs.Stages.{all_held, copies, falls_due, freed, held_aft
 pub map_append : {X Y : Type 0} (f : X → Y) (xs ys : List X) → map f (xs ++ ys) ≡ map f xs ++ map f ys
 map_append f [] ys = refl
 map_append f (x ∷ xs) ys = ap (λ l. f x ∷ l) (map_append f xs ys)
-
-map_length : {X Y : Type 0} (f : X → Y) (xs : List X) → length (map f xs) ≡ length xs
-map_length f [] = refl
-map_length f (x ∷ xs) = ap suc (map_length f xs)
 
 map_same : {X : Type 0} (xs : List X) → map (λ (x : X). x) xs ≡ xs
 map_same [] = refl
@@ -113,12 +109,12 @@ module _ {X : Type 0} (of : Packet → X) where
   pub leaves : (faults : ℕ → Option LinkFault) (sent : List Packet) (x : X)
       → freed (length sent + 1) (faults (length sent + 1)) x (held_after faults (map of sent)) ≡ copies (faults (length sent + 1)) x ++ map of (late_from faults (length sent + 1) 1 sent)
   leaves faults sent x =
-      ap (λ (n : ℕ). copies (faults (length sent + 1)) x ++ flat_map (falls_due (length sent + 1)) (filter (is_later n) (all_held faults 1 (map of sent)))) (map_length of sent)
+      ap (λ (n : ℕ). copies (faults (length sent + 1)) x ++ flat_map (falls_due (length sent + 1)) (filter (is_later n) (all_held faults 1 (map of sent)))) (length-map sent of)
       ∙ ap (λ (l : List X). copies (faults (length sent + 1)) x ++ l) (due_later (length sent) (all_held faults 1 (map of sent)) ∙ sym (late_is_due faults (length sent + 1) 1 sent))
 
 -- ---- the packets themselves
 
-stamped_again : (p : Packet) → stamped (stamp_of p) p ≡ p
+pub stamped_again : (p : Packet) → stamped (stamp_of p) p ≡ p
 stamped_again (Packets.Parcel p) = refl
 stamped_again (Packets.Answer p) = refl
 

@@ -1,16 +1,15 @@
 -- What is known of a message after one entry more.
-use Rattle.std.proofs.Common.{◌≡◌, ℕ, ◌<◌, ◌+◌, Bool, true, false, ◌||◌, ◌&&◌, ◌==◌, cond, Option, Some, None, List, [], ◌∷◌, ◌++◌, refl, sym, ap, ◌∙◌, inl, inr, length, take, get_or, slice_get, arith, add-one}
+use Rattle.std.proofs.Common.{◌≡◌, ℕ, ◌<◌, ◌+◌, Bool, true, false, ◌||◌, cond, Option, Some, None, List, [], ◌∷◌, ◌++◌, refl, sym, ap, ◌∙◌, length, take, get_or, slice_get, add-one}
 use Rattle.std.specs.Option.{option_or}
-use Rattle.std.specs.List.{cons_option, list_any}
+use Rattle.std.specs.List.{cons_option}
 use Rattle.std.specs.Ordering.{is_eq, nat_cmp}
-use Rattle.std.specs.declared.cmp.Ordering.TheVariants.{Equal, Greater}
 use Rattle.std.specs.Cmp.{tied_then}
 use Rattle.std.specs.BTreeMap.{BTreeMap, get, Updates}
-use Rattle.std.proofs.lemmas.Bool.{cases_lt, lt-ltb, le-ltb, eqb-true}
-use Rattle.std.proofs.lemmas.Bool.Decides.{eqb_tells}
 use Rattle.std.proofs.lemmas.List.Elements.{filter_map-append}
-use Rattle.std.proofs.lemmas.List.Folds.{list_any-append}
 use Rattle.std.proofs.Math.Seq.{take-suc}
+use mathlib.Core.Bool.{or-false, or-true}
+use Rattle.am_lemmas.proofs.Numbers.{nat_cmp-is_eq}
+use Rattle.am_lemmas.proofs.Lists.{list_any-push}
 use Rattle.am_names.specs.declared.Serial.{Serial}
 use Rattle.am_names.specs.declared.Cause.{Cause}
 use Rattle.am_names.specs.Names.{same_serial, has_serial, serial_order}
@@ -28,42 +27,15 @@ use Rattle.am_report.specs.declared.known.News.TheVariants as Latest
 use Rattle.am_office.specs.Entries.{passes, is_serial, run_in, unknown_in, run_of, unknown_of}
 use Rattle.am_office.specs.Fates.{cause_of, cause_by, cause_if, causes_of, is_unknown, is_run}
 use Rattle.am_report.specs.Tables.{news_in, news_by, known_with, known_in, known_of, known_after, nothing_known, AreKnown}
-
-eq_or_greater : (b : Bool) → is_eq (cond b Equal Greater) ≡ b
-eq_or_greater true = refl
-eq_or_greater false = refl
-
-eqb_turned : (x y : ℕ) → (x == y) ≡ (y == x)
-eqb_turned x y = elim (eqb_tells x y) [
-  | inl (found, same) ↦ elim (eqb_tells y x) [ inl (f, s) ↦ rw (found, f) refl | inr (m, other) ↦ absurd (other (sym same)) ]
-  | inr (missed, other) ↦ elim (eqb_tells y x) [ inl (f, s) ↦ absurd (other (sym s)) | inr (m, o) ↦ rw (missed, m) refl ]
-]
-
-nat_cmp_same : (x y : ℕ) → is_eq (nat_cmp x y) ≡ (y == x)
-nat_cmp_same x y = elim (cases_lt x y) [
-  | inl less ↦ rw (lt-ltb x y less) (elim (eqb_tells y x) [ inl (f, s) ↦ absurd (omega arith) | inr (m, o) ↦ rw m refl ])
-  | inr more ↦ rw (le-ltb x y more) (eq_or_greater (x == y) ∙ eqb_turned x y)
-]
+use Rattle.am_model.proofs.Names.{same_serial-is}
 
 pub order_same : (about s : Serial) → is_eq (serial_order about s) ≡ same_serial s about
 order_same about s =
     sym (tied_then (nat_cmp about.source.0 s.source.0) (nat_cmp about.count s.count))
-    ∙ rw (nat_cmp_same about.source.0 s.source.0, nat_cmp_same about.count s.count) refl
-
-and_true : (a b : Bool) → (a && b) ≡ true → (a ≡ true) × (b ≡ true)
-and_true true true e = (refl, refl)
-and_true true false e = absurd cc
-and_true false b e = absurd cc
-
-pub same_serial_is : (s t : Serial) → same_serial s t ≡ true → s ≡ t
-same_serial_is s t e =
-    let both : ((s.source.0 == t.source.0) ≡ true) × ((s.count == t.count) ≡ true) = and_true _ _ e in
-    let sources : s ≡ record { source = t.source; count = s.count } = ap (λ (n : ℕ). record { source = record { 0 = n }; count = s.count }) (eqb-true s.source.0 t.source.0 both.0) in
-    let counts : record { source = t.source; count = s.count } ≡ t = ap (λ (n : ℕ). record { source = t.source; count = n }) (eqb-true s.count t.count both.1) in
-    sources ∙ counts
+    ∙ rw (nat_cmp-is_eq about.source.0 s.source.0, nat_cmp-is_eq about.count s.count) refl
 
 learned_if : (b : Bool) (m n : BTreeMap Serial Known) (k s : Serial) (news : News) → b ≡ same_serial s k → get serial_order n s ≡ cond b (Some (known_with (known_in m k) news)) (get serial_order m s) → known_in n s ≡ cond b (known_with (known_in m s) news) (known_in m s)
-learned_if true m n k s news is got = rw (got, same_serial_is s k (sym is)) refl
+learned_if true m n k s news is got = rw (got, same_serial-is s k (sym is)) refl
 learned_if false m n k s news is got = rw got refl
 
 pub learned : (m n : BTreeMap Serial Known) (k : Serial) (news : News) → Updates serial_order m n k (Some (known_with (known_in m k) news)) → (s : Serial) → known_in n s ≡ known_after s (known_in m s) (Some (k, news))
@@ -73,14 +45,6 @@ learned m n k news updates s =
 or_none : {X : Type 0} (o : Option X) → option_or o None ≡ o
 or_none None = refl
 or_none (Some x) = refl
-
-or_false : (b : Bool) → (b || false) ≡ b
-or_false true = refl
-or_false false = refl
-
-or_true : (b : Bool) → (b || true) ≡ true
-or_true true = refl
-or_true false = refl
 
 -- what is known after an entry that says these
 grown : Known → Option Cause → Bool → Bool → Known
@@ -92,21 +56,21 @@ grown_parts k cause more unknown left ran run e1 e2 e3 = rw (e1, e2, e3) refl
 
 grown_none : (k : Known) → grown k None false false ≡ k
 unfolding grown
-grown_none k = rw (or_none k.cause, or_false k.unknown, or_false k.ran) refl
+grown_none k = rw (or_none k.cause, or-false k.unknown, or-false k.ran) refl
 
 grown_ran : (b : Bool) (k : Known) → grown k None false b ≡ cond b (known_with k Latest.Ran) k
 unfolding grown
-grown_ran true k = rw (or_none k.cause, or_false k.unknown, or_true k.ran) refl
+grown_ran true k = rw (or_none k.cause, or-false k.unknown, or-true k.ran) refl
 grown_ran false k = grown_none k
 
 grown_unknown : (b : Bool) (k : Known) → grown k None b false ≡ cond b (known_with k Latest.Unknown) k
 unfolding grown
-grown_unknown true k = rw (or_none k.cause, or_true k.unknown, or_false k.ran) refl
+grown_unknown true k = rw (or_none k.cause, or-true k.unknown, or-false k.ran) refl
 grown_unknown false k = grown_none k
 
 grown_returned : (b : Bool) (k : Known) (c : Cause) → grown k (cause_if b c) false false ≡ cond b (known_with k (Latest.Returned c)) k
 unfolding grown
-grown_returned true k c = rw (or_false k.unknown, or_false k.ran) refl
+grown_returned true k c = rw (or-false k.unknown, or-false k.ran) refl
 grown_returned false k c = grown_none k
 
 grown_by_result : (s : Serial) (k : Known) (r : Received) → grown k (cause_by s r) false false ≡ known_after s k (news_by r)
@@ -125,17 +89,14 @@ first_append [] None = refl
 first_append [] (Some y) = refl
 first_append (y ∷ ys) o = refl
 
-any_append : {X : Type 0} (p : X → Bool) (xs : List X) (x : X) → list_any p (xs ++ x ∷ []) ≡ (list_any p xs || p x)
-any_append p xs x = list_any-append p xs (x ∷ []) ∙ ap (λ (b : Bool). list_any p xs || b) (or_false (p x))
-
 known_append : (s : Serial) (past : List Entry) (x : Entry) → known_of (past ++ x ∷ []) s ≡ known_after s (known_of past s) (news_in x.event x.outcome)
 known_append s past x =
     let cause : slice_get (causes_of (past ++ x ∷ []) s) 0 ≡ option_or (slice_get (causes_of past s) 0) (cause_of s x.event x.outcome) =
     ap (λ (causes : List Cause). slice_get causes 0) (filter_map-append (λ (y : Entry). cause_of s y.event y.outcome) past (x ∷ []))
     ∙ first_append (causes_of past s) (cause_of s x.event x.outcome)
     in
-    let unknown : is_unknown (past ++ x ∷ []) s ≡ (is_unknown past s || is_serial s (unknown_of x)) = any_append (λ (y : Entry). is_serial s (unknown_of y)) past x in
-    let ran : is_run (past ++ x ∷ []) s ≡ (is_run past s || passes (has_serial s) (run_of x)) = any_append (λ (y : Entry). passes (has_serial s) (run_of y)) past x in
+    let unknown : is_unknown (past ++ x ∷ []) s ≡ (is_unknown past s || is_serial s (unknown_of x)) = list_any-push (λ (y : Entry). is_serial s (unknown_of y)) past x in
+    let ran : is_run (past ++ x ∷ []) s ≡ (is_run past s || passes (has_serial s) (run_of x)) = list_any-push (λ (y : Entry). passes (has_serial s) (run_of y)) past x in
     let all : known_of (past ++ x ∷ []) s ≡ grown (known_of past s) (cause_of s x.event x.outcome) (is_serial s (unknown_of x)) (passes (has_serial s) (run_of x)) = grown_parts _ _ _ _ _ _ _ cause unknown ran in
     all ∙ grown_by s (known_of past s) x.event x.outcome
 

@@ -18,7 +18,8 @@ use Rattle.am_office.specs.declared.Entry.{Entry}
 use Rattle.am_office.specs.Entries.{accepted_of, passes}
 use Rattle.am_office.specs.Fates.{is_accepted}
 use Rattle.am_report.specs.Report.{listed, listed_with}
-use Rattle.am_report.proofs.Knowing.{order_same, same_serial_is}
+use Rattle.am_report.proofs.Knowing.{order_same}
+use Rattle.am_model.proofs.Names.{same_serial-is}
 
 abbrev Listed : Type 0
 Listed = List (Serial × MsgKind)
@@ -85,7 +86,7 @@ any_match : (o : Ordering) (s : Serial) (e : Serial × MsgKind) (es : Listed) (k
 any_match Less s e es k v is behind = or_move (same_serial s k) (same_serial s e.0) (list_any (same_serial s) (keys_of es))
 any_match Equal s e es k v is behind =
     let equal : same_serial e.0 k ≡ true = sym (order_same k e.0) ∙ ap is_eq (sym is) in
-    let same : e.0 ≡ k = same_serial_is e.0 k equal in
+    let same : e.0 ≡ k = same_serial-is e.0 k equal in
     rw (← same) (or_again (same_serial s e.0) (list_any (same_serial s) (keys_of es)))
 any_match Greater s e es k v is behind = rw behind (or_right (same_serial s e.0) (list_any (same_serial s) (keys_of es)) (same_serial s k))
 

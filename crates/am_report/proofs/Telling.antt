@@ -3,6 +3,7 @@ use Rattle.std.proofs.Common.{◌≡◌, ℕ, ◌+◌, ◌<◌, List, [], ◌∷
 use Rattle.std.specs.List.{fold}
 use Rattle.std.specs.BTreeMap.{BTreeMap}
 use Rattle.std.proofs.Math.Seq.{take-suc}
+use Rattle.am_lemmas.proofs.Lists.{map_alike}
 use Rattle.am_names.specs.declared.Serial.{Serial}
 use Rattle.am_names.specs.declared.MsgKind.{MsgKind}
 use Rattle.am_office.specs.declared.Entry.{Entry}
@@ -28,10 +29,6 @@ fate_from journal s k is = rw is (fate_by_first (causes_of journal s) (is_unknow
 
 one_told : (table : BTreeMap Serial Known) (journal : List Entry) → AreKnown table journal → (m : Serial × MsgKind) → told_by table m ≡ record { serial = m.0; kind = m.1; fate = fate_of_accepted journal m.0 }
 one_told table journal are m = rw (fate_from journal m.0 (known_in table m.0) (are.each m.0)) refl
-
-map_alike : {X Y : Type 0} (f g : X → Y) → ((x : X) → f x ≡ g x) → (xs : List X) → map f xs ≡ map g xs
-map_alike f g same [] = refl
-map_alike f g same (x ∷ xs) = rw (same x, map_alike f g same xs) refl
 
 pub told_as_known : (table : BTreeMap Serial Known) (journal : List Entry) → AreKnown table journal → map (told_by table) (listed journal) ≡ told journal
 told_as_known table journal are = map_alike (told_by table) _ (one_told table journal are) (listed journal)

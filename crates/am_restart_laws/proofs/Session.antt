@@ -17,7 +17,7 @@ use Rattle.am_restart_laws.proofs.Parts.{Holds, Dead, is_taken}
 use Rattle.am_restart_laws.proofs.Steps.{After, step}
 
 -- one entry more
-replayed_push : (s : SessionState) (xs : List SessionEntry) (x : SessionEntry) → replayed s (xs ++ x ∷ []) ≡ after (replayed s xs) x.event
+pub replayed_push : (s : SessionState) (xs : List SessionEntry) (x : SessionEntry) → replayed s (xs ++ x ∷ []) ≡ after (replayed s xs) x.event
 replayed_push s [] x = refl
 replayed_push s (y ∷ xs) x = replayed_push (after s y.event) xs x
 

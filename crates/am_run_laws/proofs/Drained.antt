@@ -2,7 +2,7 @@
 use Rattle.std.specs.Prelude.{count_by, take}
 use Rattle.std.proofs.Common.{◌≡◌, ℕ, zero, suc, ◌+◌, ◌*◌, ◌≤◌, ◌<◌, ◌^◌, List, [], ◌∷◌, ◌++◌, length, Some, None, refl, sym, ap, ◌∙◌, subst, arith, append_assoc, append-nil, length-append}
 use Rattle.std.proofs.lemmas.List.Sums.{length-filter}
-use Rattle.std.specs.List.{AllByRecursion}
+use Rattle.am_lemmas.proofs.Lists.{each_of}
 use Rattle.am_names.specs.declared.NodeId.{NodeId}
 use Rattle.am_office.specs.declared.Entry.{Entry}
 use Rattle.am_office.specs.declared.Part.TheVariants as Parts
@@ -112,10 +112,6 @@ none_is_refused s past journal condition run logs r =
 
 -- ---- the empty phase
 
-all_of : {X : Type 0} (P : X → Type 0) (xs : List X) → ((x : X) → P x) → AllByRecursion P xs
-all_of P [] each = tt
-all_of P (x ∷ xs) each = (each x, all_of P xs each)
-
 pub empty_is_good_phase : EmptyIsGoodPhase
 empty_is_good_phase s =
     record {
@@ -123,12 +119,12 @@ empty_is_good_phase s =
       is_phase =
           record {
             inside = refl;
-            threads = all_of (λ (t : ThreadLine). 0 ≤ s.turns) s.threads (λ t. omega arith);
-            interfaces = all_of (λ (node : NodeId). 0 ≤ s.turns) (nodes_of s) (λ node. omega arith);
-            drivers = all_of (λ (node : NodeId). 0 ≤ s.turns) (nodes_of s) (λ node. omega arith);
+            threads = each_of (λ (t : ThreadLine). 0 ≤ s.turns) s.threads (λ t. omega arith);
+            interfaces = each_of (λ (node : NodeId). 0 ≤ s.turns) (nodes_of s) (λ node. omega arith);
+            drivers = each_of (λ (node : NodeId). 0 ≤ s.turns) (nodes_of s) (λ node. omega arith);
             no_last = tt;
           };
-      scripts = all_of (λ (t : ThreadLine). calls_of t.id [] ≡ take (length (calls_of t.id [])) (script_of s t.id)) s.threads (λ t. refl);
+      scripts = each_of (λ (t : ThreadLine). calls_of t.id [] ≡ take (length (calls_of t.id [])) (script_of s t.id)) s.threads (λ t. refl);
       in_order = tt;
       events = refl;
     }

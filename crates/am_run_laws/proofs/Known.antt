@@ -29,14 +29,13 @@ use Rattle.am_model.specs.History.{MayFollow, arrive, bounced, channel_to, count
 use Rattle.am_model.specs.Layout.{Layout, IsLawful, declared}
 use Rattle.am_model.proofs.Each.{over_each, each_push}
 use Rattle.am_model.proofs.Ends.{was_emitted}
-use Rattle.am_model.proofs.Names.{same_end-is}
+use Rattle.am_model.proofs.Names.{same_end-is, same_node-is}
 use Rattle.am_laws_cluster.proofs.Bound.{in_flight_bound}
 use Rattle.am_laws_messages.proofs.Delivered.{delivers}
 use Rattle.am_laws_order.proofs.Packets.{not_carry}
 use Rattle.am_scenario_types.specs.Lists.{ScenarioLists}
 use Rattle.am_follow.specs.Layout.{layout_of}
 use Rattle.am_follow.proofs.Lawful.{lawful_layout}
-use Rattle.am_scripts.proofs.Links.{same_node-is}
 use Rattle.am_drain_steps.specs.Enabled.{IsOfRun}
 use Rattle.am_drain_steps.proofs.Calls.{home_seated}
 use Rattle.am_drain_steps.proofs.Enabled.{of_packets}

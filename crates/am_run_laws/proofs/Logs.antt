@@ -1,37 +1,22 @@
 -- Entries that meet no full log leave each log as short as it is to be.
 use Rattle.std.specs.Prelude.{nat_le, filter, count_by, if◌then◌else◌}
-use Rattle.std.proofs.Common.{◌≡◌, ⊎_elim, ℕ, ◌+◌, ◌≤◌, ◌<◌, Bool, true, false, cond, List, [], ◌∷◌, ◌++◌, length, Option, Some, None, refl, sym, ap, ◌∙◌, subst, arith, append_assoc, append-nil, true≢false}
-use Rattle.std.proofs.lemmas.Bool.{leb-false, or_cases}
+use Rattle.std.proofs.Common.{◌≡◌, ℕ, ◌+◌, ◌≤◌, ◌<◌, Bool, true, false, cond, List, [], ◌∷◌, ◌++◌, length, Option, Some, None, refl, sym, subst, arith, append_assoc, append-nil, true≢false}
+use Rattle.std.proofs.lemmas.Bool.{leb-false}
 use Rattle.std.proofs.lemmas.List.Sums.{length-filter, sum_by_push}
-use Rattle.std.specs.List.{list_any}
 use Rattle.am_names.specs.declared.EndpointId.{EndpointId}
 use Rattle.am_names.specs.declared.NodeId.{NodeId}
-use Rattle.am_names.specs.Names.{same_end}
 use Rattle.am_office.specs.declared.Entry.{Entry}
 use Rattle.am_office.specs.declared.Part.{Part}
 use Rattle.am_office.specs.declared.Part.TheVariants as Parts
 use Rattle.am_office.specs.Entries.{ends_touched, node_touched, is_node, touches, touches_node}
-use Rattle.am_model.specs.Steps.{is_end_full, is_node_full, least_such, full_by, lesser}
-use Rattle.am_model.proofs.Names.{same_end-is}
+use Rattle.am_model.specs.Steps.{is_end_full, is_node_full, least_such, full_by}
+use Rattle.am_model.proofs.Names.{same_node-is}
+use Rattle.am_model.proofs.Chosen.{least_such-None}
 use Rattle.am_scenario_types.specs.Lists.{ScenarioLists}
 use Rattle.am_follow.specs.Layout.{layout_of}
 use Rattle.am_model.specs.Parts.{touches_part}
-use Rattle.am_scripts.proofs.Links.{same_node-is}
 use Rattle.am_drain.specs.Cut.{full_for}
 use Rattle.am_run_laws.specs.Drained.{HasShortLogs, RoomKeepsLogs}
-
--- where none that passes is the least, none passes
-none_such : (p : EndpointId → Bool) (es : List EndpointId) (e : EndpointId) → least_such p es ≡ None → list_any (same_end e) es ≡ true → p e ≡ false
-none_such p [] e none is = absurd (true≢false (sym is))
-none_such p (x ∷ xs) e none is = by_test (p x) refl none (λ h later. none_such p xs e h later)
-  where
-    by_test : (b : Bool) → p x ≡ b → (if b then Some (lesser x (least_such p xs)) else least_such p xs) ≡ None → (least_such p xs ≡ None → list_any (same_end e) xs ≡ true → p e ≡ false) → p e ≡ false
-    by_test true passes h more = absurd (cc)
-    by_test false fails h more =
-        ⊎_elim
-        (λ (here : same_end e x ≡ true). ap p (same_end-is e x here) ∙ fails)
-        (λ (later : list_any (same_end e) xs ≡ true). more h later)
-        (or_cases (same_end e x) (list_any (same_end e) xs) is)
 
 -- ---- where an entry meets no full log the log of each part that it touches has room
 
@@ -42,7 +27,7 @@ count_low p log past h =
 
 end_has_room : (s : ScenarioLists) (past : List Entry) (x : Entry) (e : EndpointId) (o : Option EndpointId) → least_such (is_end_full (layout_of s) past) (ends_touched x.event x.outcome) ≡ o → full_by (layout_of s) past o (node_touched x.event) ≡ None → touches e x ≡ true → count_by (touches e) past < s.log
 end_has_room s past x e None is none at =
-    count_low (touches e) s.log past (none_such (is_end_full (layout_of s) past) (ends_touched x.event x.outcome) e is at)
+    count_low (touches e) s.log past (least_such-None (is_end_full (layout_of s) past) (ends_touched x.event x.outcome) e is at)
 end_has_room s past x e (Some f) is none at = absurd (cc)
 
 node_has_room : (s : ScenarioLists) (past : List Entry) (node : NodeId) (o : Option EndpointId) (n : Option NodeId) → full_by (layout_of s) past o n ≡ None → is_node node n ≡ true → count_by (touches_node node) past < s.log

@@ -1,6 +1,7 @@
 -- In what some turns of a drain make of a good phase each packet is received in its turn, and the last tries come last.
-use Rattle.std.specs.Prelude.{not, is_none, is_some}
+use Rattle.std.specs.Prelude.{not, is_none}
 use Rattle.std.proofs.Common.{◌≡◌, ℕ, Bool, true, false, ◌||◌, List, [], ◌∷◌, ◌++◌, Option, Some, None, refl, sym, ap, ◌∙◌, subst}
+use mathlib.Core.Bool.{or-true}
 use Rattle.am_office.specs.declared.Event.{Event}
 use Rattle.am_office.specs.declared.Event.TheVariants as Events
 use Rattle.am_office.specs.declared.Entry.{Entry}
@@ -18,6 +19,7 @@ use Rattle.am_drain.specs.Made.{next_entry}
 use Rattle.am_drain.proofs.LastTries.{receipt_same}
 use Rattle.am_drain.proofs.TurnKinds.{IsDueReceipt, IsNoReceipt, Kind, Receipt, Plain, Call, kind_of}
 use Rattle.am_drain.proofs.Turns.{Grows, event_of, over_turns, ready_keeps, turn_grows}
+use Rattle.am_drain.proofs.Receipts.{driven_receipt}
 
 abbrev ComesLast : ScenarioLists → List Entry → Entry → Type 0
 ComesLast s past x = (not (is_last s past x) || is_all_received s past) ≡ true
@@ -43,23 +45,15 @@ receives_none : (s : ScenarioLists) (past : List Entry) (event : Event) → IsNo
 receives_none s past (Events.Receive node peer number) none = absurd none
 receives_none s past event none = tt
 
-or_last : (b : Bool) → (b || true) ≡ true
-or_last true = refl
-or_last false = refl
-
 calm_more : (s : ScenarioLists) (past : List Entry) (x : Entry) → IsCalm s past → IsNoReceipt x.event → IsKept s (past ++ x ∷ [])
 calm_more s past x c none =
     kept_more s past x c.kept (receives_none s past x.event none)
-    (ap (λ (o : Option Event). not (is_last s past x) || is_none o) c.none ∙ or_last (not (is_last s past x)))
-
-driven_receives_none : (event : Event) → is_some (driver_of event) ≡ true → IsNoReceipt event
-driven_receives_none (Events.Receive node peer number) e = absurd (cc)
-driven_receives_none event e = tt
+    (ap (λ (o : Option Event). not (is_last s past x) || is_none o) c.none ∙ or-true (not (is_last s past x)))
 
 calm_grows : (s : ScenarioLists) (past next : List Entry) (event : Event) → Grows (layout_of s) past event next → IsCalm s past → IsNoReceipt event → IsKept s next
 calm_grows s past next event g c none =
     let ready : IsCalm s g.ready = ready_keeps (IsCalm s) (λ (before : List Entry) (x : Entry) driven k. record {
-      kept = calm_more s before x k (driven_receives_none x.event driven);
+      kept = calm_more s before x k (driven_receipt x.event driven);
       none = receipt_same s before x driven ∙ k.none;
     }) past g.ready g.is_ready c in
     subst (λ (xs : List Entry). IsKept s xs) (sym g.grows) (calm_more s g.ready (next_entry (layout_of s) g.ready event) ready none)

@@ -25,7 +25,8 @@ use Rattle.am_model.specs.Endpoint.{Body, State}
 use Rattle.am_model.specs.History.{MayFollow, IsHistory, state_of}
 use Rattle.am_model.specs.Layout.{Layout, EndSetting, AllAre, has_id, opening_by}
 use Rattle.am_model.proofs.Each.{over_each, state_of_push}
-use Rattle.am_laws_messages.proofs.Alls.{all_push, all_tail, all_without}
+use Rattle.am_model.proofs.Alls.{all_push}
+use Rattle.am_laws_messages.proofs.Alls.{all_tail, all_without}
 use Rattle.am_laws_order.proofs.Packets.{not_carry}
 
 abbrev pub Answers : Queued → Type 0

@@ -22,7 +22,7 @@ use Rattle.am_office.specs.declared.Outcome.TheVariants as Out
 use Rattle.am_office.specs.declared.Received.TheVariants as Got
 use Rattle.am_office.specs.Entries.{emitted_in, emitted_of, answer_by, answer_packet}
 use Rattle.am_office.specs.Fates.{cause_by, cause_of, cause_if}
-use Rattle.am_model.specs.Channels.{Channel, Mark, Arrival, Stale, Again, Fresh, arrival, arrival_at, sequence, attempt, bound_message, mark, emitted, is_on_link}
+use Rattle.am_model.specs.Channels.{Channel, Mark, Arrival, Stale, Again, Fresh, arrival, arrival_at, sequence, attempt, bound_message, mark, emitted}
 use Rattle.am_model.specs.Changes.{flying_of}
 use Rattle.am_model.specs.Endpoint.{verdict}
 use Rattle.am_model.specs.History.{state_of, is_in_range, is_four_bytes, receive, arrive, decided, settle, settle_by, counts, bounced, next_number, channel_to}
@@ -30,7 +30,7 @@ use Rattle.am_model.specs.Layout.{Layout}
 use Rattle.am_model.proofs.Ends.{was_emitted}
 use Rattle.am_laws_order.proofs.Effects.{link_of_answer}
 use Rattle.am_laws_order.proofs.Marks.{IsPast, back, end_of, fresh_means, link_of, no_answer, settle_answers, settle_decides}
-use Rattle.am_laws_order.proofs.Parcels.{channel_of}
+use Rattle.am_laws_order.proofs.Puts.{link_of_parcel}
 use Rattle.am_run_laws.proofs.Fits.{IsForGood, fits_for_good}
 use Rattle.am_run_laws.proofs.Zone.{FitsOf, Zone, Receives, Comes, undeciding, undecided_more, decided_more}
 
@@ -140,11 +140,6 @@ nodes_within layout past x node peer number r =
     let both = and_parts (nat_lt node.0 layout.nodes) (nat_lt peer.0 layout.nodes) two.0 in
     (ltb-true node.0 layout.nodes both.0, ltb-true peer.0 layout.nodes both.1)
 
-on_link : (peer node : NodeId) (p : Parcel) → is_on_link peer node (Packets.Parcel p) ≡ true → back (channel_of p) ≡ channel_to node peer p.channel
-on_link peer node p link =
-    let ends = link_of peer node p link in
-    λ i. channel_to (ends.1 i) (ends.0 i) p.channel
-
 room_of : (layout : Layout) (past : List Entry) (o : Option Parcel) (p : Parcel) → o ≡ Some p → FitsOf layout past o → FitsOf layout past (Some p)
 room_of layout past o p same room = subst (λ (r : Option Parcel). FitsOf layout past r) same room
 
@@ -190,8 +185,8 @@ parcel_stays layout from past x node peer number o p r is z = by_arrival (arriva
         record {
           there = was.0;
           within = record { from' = subst (λ (i : NodeId). i.0 < layout.nodes) (sym ends.0) low.1; to' = subst (λ (i : NodeId). i.0 < layout.nodes) (sym ends.1) low.0 };
-          on = on_link peer node p was.1;
-          fresh = subst (λ (c : Channel). IsPast (mark c past) p.seq p.attempt) (sym (on_link peer node p was.1)) (fresh_means (mark (channel_to node peer p.channel) past) p.seq p.attempt at);
+          on = link_of_parcel peer node p was.1;
+          fresh = subst (λ (c : Channel). IsPast (mark c past) p.seq p.attempt) (sym (link_of_parcel peer node p was.1)) (fresh_means (mark (channel_to node peer p.channel) past) p.seq p.attempt at);
         } in
         let mine : o ≡ Some p = z.fresh.only p comes.within comes.there comes.fresh in
         record {

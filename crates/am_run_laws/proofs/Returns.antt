@@ -1,5 +1,5 @@
 -- What a drain returns it returns for good, where the plan withholds nothing.
-use Rattle.std.specs.Prelude.{◌&&◌, filter_map, find, fold, is_some, if◌then◌else◌}
+use Rattle.std.specs.Prelude.{◌&&◌, filter_map, find, fold, is_some}
 use Rattle.std.specs.List.{cons_option}
 use Rattle.std.proofs.Common.{◌≡◌, ℕ, Bool, true, false, List, [], ◌∷◌, ◌++◌, Option, Some, None, refl, sym, ap, ◌∙◌, subst, append_assoc, append-nil, true≢false}
 use Rattle.std.proofs.lemmas.List.Elements.{filter_map-append}
@@ -14,14 +14,13 @@ use Rattle.am_office.specs.declared.Entry.{Entry}
 use Rattle.am_office.specs.declared.Event.{Event}
 use Rattle.am_office.specs.declared.Event.TheVariants as Events
 use Rattle.am_office.specs.declared.Outcome.{Outcome}
-use Rattle.am_office.specs.declared.endings.Fate.{Fate}
 use Rattle.am_office.specs.declared.endings.Fate.TheVariants as Fates
 use Rattle.am_office.specs.Entries.{emitted_in, emitted_of}
 use Rattle.am_office.specs.Fates.{cause_of, causes_of, fate, fate_by, fate_of_accepted, is_accepted, is_run, is_unknown}
 use Rattle.am_model.specs.History.{MayFollow, EachAfter, IsHistory, outcome_of}
 use Rattle.am_model.specs.Layout.{Layout, AllAre}
 use Rattle.am_model.proofs.Each.{each_at, each_front, over_each, each_push}
-use Rattle.am_laws_messages.proofs.Alls.{all_push}
+use Rattle.am_model.proofs.Alls.{all_push}
 use Rattle.am_laws_order.proofs.Packets.{not_carry}
 use Rattle.am_scenario_types.specs.Lists.{ScenarioLists}
 use Rattle.am_follow.specs.Layout.{layout_of}
@@ -41,6 +40,7 @@ use Rattle.am_drain_laws.proofs.Soundness.{drains_follow}
 use Rattle.am_drain_steps.specs.Enabled.{IsOfRun}
 use Rattle.am_drain_steps.specs.Endings.{WithholdsNothing, ReturnsAreForGood}
 use Rattle.am_drain_steps.proofs.Enabled.{of_packets}
+use Rattle.am_drain_steps.proofs.Nothing.{accepted_fate}
 use Rattle.am_run_laws.specs.Returns.{NoneTimesOut, DrainedReturnsAreForGood}
 use Rattle.am_run_laws.proofs.Drained.{empty_is_good_phase}
 use Rattle.am_run_laws.proofs.Low.{MayBounce, low_more, bound_low}
@@ -336,10 +336,6 @@ returned_first [] true true cause e all = absurd (cc)
 returned_first [] true false cause e all = absurd (cc)
 returned_first [] false true cause e all = absurd (cc)
 returned_first [] false false cause e all = absurd (cc)
-
-accepted_fate : (b : Bool) (f g : Fate) → (if b then Some f else None) ≡ Some g → f ≡ g
-accepted_fate true f g h = cc
-accepted_fate false f g h = absurd (cc)
 
 pub turns_return_for_good : (n : ℕ) (s : ScenarioLists) (phase journal : List Entry) → IsWhole s journal → EachAfter (λ (past : List Entry) (x : Entry). is_last s past x ≡ false) [] phase → after_turns n s phase ≡ Some journal → ReturnsForGood journal
 turns_return_for_good n s phase journal w no_last made =

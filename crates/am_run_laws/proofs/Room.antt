@@ -2,7 +2,7 @@
 use Rattle.std.specs.Prelude.{◌&&◌, ◌||◌, ◌==◌, not, nat_le, nat_lt, count_by, find, slice_get}
 use Rattle.std.specs.List.{list_all}
 use Rattle.std.proofs.Common.{◌≡◌, ⊎_elim, ℕ, Bool, true, false, cond, List, [], ◌∷◌, ◌++◌, length, Option, Some, None, refl, sym, ap, ◌∙◌, subst, arith, true≢false, eqb-true, ltb-true}
-use Rattle.std.proofs.lemmas.Bool.{and_parts, and_from, and_right, or_cases, lt-leb}
+use Rattle.std.proofs.lemmas.Bool.{and_parts, and_from, and_right, or_cases, lt-leb, not-true}
 use Rattle.am_names.specs.Names.{same_end, is_request, is_answer}
 use Rattle.am_names.specs.declared.EndpointId.{EndpointId}
 use Rattle.am_names.specs.declared.Message.{Message}
@@ -35,11 +35,11 @@ use Rattle.am_drain.specs.Rules.{has_reply, has_room, finds_room, has_request, n
 use Rattle.am_drain.proofs.Quiet.{Quiet, then, ready-quiet, ready_dest-quiet}
 use Rattle.am_drain_steps.specs.Enabled.{IsOfRun}
 use Rattle.am_drain_steps.proofs.Calls.{home_seated, declared_home}
-use Rattle.am_drain_steps.proofs.Emptying.{AsSource, AsDest, IsGrounded, framed_resident, not_true}
+use Rattle.am_drain_steps.proofs.Emptying.{AsSource, AsDest, IsGrounded, framed_resident}
 use Rattle.am_drain_steps.proofs.Enabled.{IsStanding, is_standing, of_packets}
 use Rattle.am_drain_steps.proofs.Moves.{spares_then}
 use Rattle.am_drain_steps.proofs.Readying.{IsReady, readies, spared_ground}
-use Rattle.am_drain_steps.proofs.Sends.{grounded}
+use Rattle.am_drain_steps.proofs.Sends.{grounded, sender_stands}
 use Rattle.am_run_laws.proofs.Fits.{fits, bound_fits}
 use Rattle.am_run_laws.proofs.Queues.{Answers, replies_answer}
 
@@ -149,7 +149,7 @@ dest_stands s past one e dest peer run ground at r = by_test (not (same_end e de
         let ok : IsLawful layout = lawful_layout s run.lawful in
         let both = and_parts (not (same_end e dest)) (not (state_of layout one dest).head.closed) is in
         let next : List Entry = ready layout s.keep peer dest e dest one in
-        let d : IsReady layout e dest dest one next = readies layout one s.keep peer e dest dest (of_packets s run.packet) ok r.history (home_seated layout dest peer ok at) (AsDest refl) (spared_ground layout past one r.spares' ground) (not_true (state_of layout one dest).head.closed both.1) in
+        let d : IsReady layout e dest dest one next = readies layout one s.keep peer e dest dest (of_packets s run.packet) ok r.history (home_seated layout dest peer ok at) (AsDest refl) (spared_ground layout past one r.spares' ground) (not-true (state_of layout one dest).head.closed both.1) in
         let all = spares_then layout past one next r.spares' d.spares' in
         subst (λ (o : Option NodeId). Stands layout past (ready_at o layout s.keep e dest one) dest) (sym at)
         (record { body' = all.body' dest; closed' = all.closed' dest; resident = λ opened. framed_resident (state_of layout next dest).head.place d.framed })
@@ -165,7 +165,7 @@ source_body s past one e dest peer run ground at r = by_test (not (same_end e de
         let ok : IsLawful layout = lawful_layout s run.lawful in
         let both = and_parts (not (same_end e dest)) (not (state_of layout one dest).head.closed) is in
         let next : List Entry = ready layout s.keep peer dest e dest one in
-        let d : IsReady layout e dest dest one next = readies layout one s.keep peer e dest dest (of_packets s run.packet) ok r.history (home_seated layout dest peer ok at) (AsDest refl) (spared_ground layout past one r.spares' ground) (not_true (state_of layout one dest).head.closed both.1) in
+        let d : IsReady layout e dest dest one next = readies layout one s.keep peer e dest dest (of_packets s run.packet) ok r.history (home_seated layout dest peer ok at) (AsDest refl) (spared_ground layout past one r.spares' ground) (not-true (state_of layout one dest).head.closed both.1) in
         subst (λ (o : Option NodeId). (state_of layout (ready_at o layout s.keep e dest one) e).body ≡ (state_of layout past e).body) (sym at)
         ((spares_then layout past one next r.spares' d.spares').body' e)
 
@@ -248,22 +248,6 @@ send_room s past st q run none k has room = by_home (home (layout_of s) q.messag
               subst (λ (m : Message). fits (state_of layout (two ++ next_entry layout two (Events.Bind node e) ∷ []) m.dest) m ≡ true) same
               (after_bind layout two node e q.message there);
         }
-
--- the endpoint that the rule finds is one of the layout
-sender_stands : (layout : Layout) (past : List Entry) (st : Standing) → IsLawful layout → next_sender (standings layout past) ≡ Some st → IsStanding layout past st
-sender_stands layout past st ok h = by_reply (find has_reply (standings layout past)) refl h
-  where
-    by_request : (o : Option Standing) → find (has_request (standings layout past)) (standings layout past) ≡ o → first_some (o ∷ []) ≡ Some st → IsStanding layout past st
-    by_request None is e = absurd (cc)
-    by_request (Some x) is e =
-        let same : x ≡ st = cc in
-        is_standing layout past (has_request (standings layout past)) st ok (is ∙ ap (λ (z : Standing). Some z) same)
-
-    by_reply : (o : Option Standing) → find has_reply (standings layout past) ≡ o → first_some (o ∷ find (has_request (standings layout past)) (standings layout past) ∷ []) ≡ Some st → IsStanding layout past st
-    by_reply None is e = by_request (find (has_request (standings layout past)) (standings layout past)) refl e
-    by_reply (Some x) is e =
-        let same : x ≡ st = cc in
-        is_standing layout past has_reply st ok (is ∙ ap (λ (z : Standing). Some z) same)
 
 -- the send that the drain names
 pub sends_with_room : (s : ScenarioLists) (past : List Entry) (t : Turn) → IsOfRun s past → next_time_out s past ≡ None → next_send (standings (layout_of s) past) ≡ Some t → SendsWithRoom s past t

@@ -1,7 +1,7 @@
 -- Where nothing is to be received and the plan withholds nothing, nothing is on its way and no channel is bound.
-use Rattle.std.specs.Prelude.{slice_get, find, is_some, if◌then◌else◌}
-use Rattle.std.specs.List.{All, AllByRecursion, range_with_len}
-use Rattle.std.proofs.Common.{◌≡◌, ◌⊎◌, inl, inr, ⊎_elim, ℕ, zero, suc, ◌+◌, ◌-◌, ◌<◌, Bool, true, false, cond, List, [], ◌∷◌, ◌++◌, map, length, Option, Some, None, refl, sym, ap, ◌∙◌, subst, arith, true≢false}
+use Rattle.std.specs.Prelude.{is_some, if◌then◌else◌}
+use Rattle.std.specs.List.{range_with_len}
+use Rattle.std.proofs.Common.{◌≡◌, ℕ, ◌<◌, Bool, true, false, List, [], ◌∷◌, map, Option, Some, None, refl, sym, ap, ◌∙◌, subst, arith, true≢false}
 use Rattle.am_names.specs.declared.Message.{Message}
 use Rattle.am_names.specs.declared.NodeId.{NodeId}
 use Rattle.am_names.specs.declared.Packet.{Packet}
@@ -9,7 +9,7 @@ use Rattle.am_names.specs.declared.Packet.TheVariants as Packets
 use Rattle.am_names.specs.declared.Parcel.{Parcel}
 use Rattle.am_office.specs.declared.Entry.{Entry}
 use Rattle.am_office.specs.declared.Event.TheVariants as Events
-use Rattle.am_model.specs.Channels.{Channel, sequence, attempt, bound_message, emitted}
+use Rattle.am_model.specs.Channels.{Channel, sequence, attempt, bound_message}
 use Rattle.am_model.specs.History.{MayFollow, IsHistory, channel_to}
 use Rattle.am_model.specs.Layout.{Layout, IsLawful}
 use Rattle.am_model.proofs.Each.{over_each}
@@ -18,63 +18,26 @@ use Rattle.am_laws_cluster.proofs.Bound.{in_flight_bound}
 use Rattle.am_laws_messages.proofs.Delivered.{delivers}
 use Rattle.am_laws_order.proofs.Puts.{IsFresh}
 use Rattle.am_laws_order.proofs.Marks.{ChannelsKept, channels_more, channels_begin, end_of}
-use Rattle.am_plan.specs.declared.plan.LinkFault.{LinkFault}
-use Rattle.am_plan.specs.declared.plan.LinkFault.TheVariants.{Repeat}
-use Rattle.am_plan.specs.declared.plan.PlanLine.{PlanLine}
-use Rattle.am_plan.specs.Shape.{is_line_of, fault_in, fault_at, at_once, late_from, stamped, stamp_of, number_of, released_by, shape_after}
+use Rattle.am_laws_homes.proofs.Homes.{home_below}
+use Rattle.am_plan.specs.Shape.{number_of}
 use Rattle.am_scenario_types.specs.Lists.{ScenarioLists}
 use Rattle.am_follow.specs.Layout.{layout_of}
 use Rattle.am_follow.proofs.Lawful.{lawful_layout}
-use Rattle.am_scripts.specs.Links.{KeepsLinks, ReceivesInOrder, first_some, next_receipt, nodes_of, numbers_released, received}
+use Rattle.am_scripts.specs.Links.{ReceivesInOrder, first_some, next_receipt, nodes_of, received}
 use Rattle.am_scripts.proofs.Links.{all_is_received}
 use Rattle.am_drain.specs.declared.Turn.TheVariants.{Once}
 use Rattle.am_drain.specs.Rules.{time_out, time_out_to, time_out_at, next_time_out}
-use Rattle.am_drain_laws.proofs.Channels.{home_below}
-use Rattle.am_drain_laws.proofs.Soundness.{node_holds}
 use Rattle.am_drain_steps.specs.Enabled.{IsOfRun}
 use Rattle.am_drain_steps.specs.Endings.{WithholdsNothing, is_among}
 use Rattle.am_drain_steps.proofs.Answered.{LastSent, last_are_sent, HasAnswer, last_are_answered}
-use Rattle.am_drain_steps.proofs.Counted.{counted}
 use Rattle.am_drain_steps.proofs.Receipts.{from_of, to_of}
 use Rattle.am_drain_steps.proofs.Unheard.{asked, unheard}
-use Rattle.am_drain_steps.proofs.Withheld.{among_left, among_right, among_first}
+use Rattle.am_drain_steps.proofs.Nothing.{is_released}
+use Rattle.am_drain_steps.proofs.Unknown.{link_is_received}
 use Rattle.am_run_laws.proofs.Heard.{are_heard}
 use Rattle.am_run_laws.proofs.Zone.{IsWithin, Zone}
 
 -- ---- each packet is released
-
--- no packet is lost or late
-abbrev Passes : Option LinkFault → Type 0
-Passes o = (o ≡ None) ⊎ (o ≡ Some Repeat)
-
-fault_found : (plan : List PlanLine) (p : PlanLine → Bool) → All (λ (line : PlanLine). line.fault ≡ Repeat) plan → Passes (fault_in (find p plan))
-fault_found [] p all = inl refl
-fault_found (l ∷ ls) p all = by_test (p l) (fault_found ls p (λ i d lt. all (suc i) d (omega (arith, lt))))
-  where
-    by_test : (b : Bool) → Passes (fault_in (find p ls)) → Passes (fault_in (cond b (Some l) (find p ls)))
-    by_test true later = inr (ap (λ (f : LinkFault). Some f) (all zero l (omega arith)))
-    by_test false later = later
-
-at_once_has : (o : Option LinkFault) (p : Packet) → Passes o → is_among (number_of p) (map number_of (at_once o p)) ≡ true
-at_once_has o p h =
-    ⊎_elim
-    (λ (none : o ≡ None). ap (λ (l : Option LinkFault). is_among (number_of p) (map number_of (at_once l p))) none ∙ among_first (number_of p) p [] refl)
-    (λ (twice : o ≡ Some Repeat). ap (λ (l : Option LinkFault). is_among (number_of p) (map number_of (at_once l p))) twice ∙ among_first (number_of p) p (p ∷ []) refl)
-    h
-
-all_come : (fault : ℕ → Option LinkFault) → ((k : ℕ) → Passes (fault k)) → (before ps : List Packet) (i : ℕ) (p : Packet) → slice_get ps i ≡ Some p → is_among (number_of p) (map number_of (shape_after fault before ps)) ≡ true
-all_come fault passes before [] i p h = absurd (cc)
-all_come fault passes before (q ∷ qs) zero p h =
-    let same : q ≡ p = cc in
-    among_left (number_of p) (released_by fault before q) (shape_after fault (before ++ q ∷ []) qs)
-    (among_left (number_of p) (at_once (fault (length before + 1)) q) (map (stamped (stamp_of q)) (late_from fault (length before + 1) 1 before))
-    (subst (λ (r : Packet). is_among (number_of r) (map number_of (at_once (fault (length before + 1)) q)) ≡ true) same (at_once_has (fault (length before + 1)) q (passes (length before + 1)))))
-all_come fault passes before (q ∷ qs) (suc i) p h =
-    among_right (number_of p) (released_by fault before q) (shape_after fault (before ++ q ∷ []) qs) (all_come fault passes (before ++ q ∷ []) qs i p h)
-
-is_released : (s : ScenarioLists) (past : List Entry) → WithholdsNothing s → IsHistory (layout_of s) past → (p : Packet) → EmittedIn p past → is_among (number_of p) (numbers_released s (from_of p) (to_of p) past) ≡ true
-is_released s past nothing h p there =
-    all_come (fault_at s.plan (from_of p) (to_of p)) (λ (k : ℕ). fault_found s.plan (is_line_of (from_of p) (to_of p) k) nothing) [] (emitted (from_of p) (to_of p) past) (number_of p - 1) p ((counted (layout_of s) past h).placed p there)
 
 -- ---- nothing is to be received
 
@@ -84,12 +47,6 @@ pub record IsStill (s : ScenarioLists) (past : List Entry) : Type 0 where
   pub order : ReceivesInOrder s past
   pub nothing : WithholdsNothing s
   pub none : next_receipt s past ≡ None
-
-link_is_received : (s : ScenarioLists) (past : List Entry) (from to : NodeId) → KeepsLinks s past → from.0 < s.nodes → to.0 < s.nodes → received from to past ≡ numbers_released s from to past
-link_is_received s past from to k f t =
-    node_holds (λ (n : NodeId). received n to past ≡ numbers_released s n to past) 0 s.nodes from.0
-    (node_holds (λ (n : NodeId). AllByRecursion (λ (m : NodeId). received m n past ≡ numbers_released s m n past) (nodes_of s)) 0 s.nodes to.0 k.all (omega arith) (omega (arith, t)))
-    (omega arith) (omega (arith, f))
 
 -- each packet that went out was received
 all_got : (s : ScenarioLists) (past : List Entry) → IsStill s past → (p : Packet) → EmittedIn p past → (from_of p).0 < s.nodes → (to_of p).0 < s.nodes → is_among (number_of p) (received (from_of p) (to_of p) past) ≡ true

@@ -2,6 +2,7 @@
 -- most is on its way, and there is room for it.
 use Rattle.std.specs.Prelude.{slice_get, ◌&&◌, not}
 use Rattle.std.proofs.Common.{◌≡◌, ◌≢◌, ⊎_elim, ℕ, ◌+◌, ◌-◌, ◌<◌, ◌≤◌, Bool, true, false, List, [], ◌∷◌, ◌++◌, Option, Some, None, refl, sym, ap, ◌∙◌, subst, arith, true≢false}
+use Rattle.std.proofs.lemmas.Bool.{not-true}
 use Rattle.am_names.specs.declared.AnswerPacket.{AnswerPacket}
 use Rattle.am_names.specs.declared.EndpointId.{EndpointId}
 use Rattle.am_names.specs.declared.Message.{Message}
@@ -23,8 +24,9 @@ use Rattle.am_model.specs.History.{MayFollow, state_of, receive, decided, channe
 use Rattle.am_model.specs.Layout.{Layout}
 use Rattle.am_model.proofs.Each.{state_of_push}
 use Rattle.am_model.proofs.Ends.{EmittedIn, emitted_more, mark_push}
+use Rattle.am_model.proofs.Names.{same_channel-refl}
 use Rattle.am_laws_order.proofs.Marks.{IsPast, back, end_of, parcel_no_answer}
-use Rattle.am_laws_order.proofs.Parcels.{channel_of, receive_no_parcel, same_channel-refl}
+use Rattle.am_laws_order.proofs.Parcels.{channel_of, receive_no_parcel}
 use Rattle.am_laws_order.proofs.Puts.{IsFresh, fresh_before}
 use Rattle.am_laws_order.proofs.Senders.{SenderMoves, sender, sender_moves}
 use Rattle.am_run_laws.proofs.Fits.{fits, IsForGood, received_fits}
@@ -153,12 +155,8 @@ not_decided : (d : Channel) (node peer : NodeId) (number : ℕ) (o : Outcome) �
 not_decided d node peer number (Out.Received channel seq attempt r) h = not_so (decides_by r) (same_channel d node peer channel) h
 not_decided d node peer number o h = refl
 
-is_not : (b : Bool) → not b ≡ true → b ≡ false
-is_not true h = absurd (true≢false (sym h))
-is_not false h = refl
-
 changed_fits : (e : EndpointId) (s : State) (node peer : NodeId) (number : ℕ) (o : Outcome) (m : Message) → undeciding o ≡ true → fits (changed e s (Events.Receive node peer number) o) m ≡ fits s m
-changed_fits e s node peer number (Out.Received channel seq attempt r) m h = received_fits e s r m (is_not (decides_by r) h)
+changed_fits e s node peer number (Out.Received channel seq attempt r) m h = received_fits e s r m (not-true (decides_by r) h)
 changed_fits e s node peer number o m h = refl
 
 -- a receipt, in a history

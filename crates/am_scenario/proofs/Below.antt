@@ -7,8 +7,10 @@ use Rattle.std.proofs.lemmas.List.{append-nil}
 use Rattle.std.proofs.lemmas.List.Elements.{All-nil, All-cons, All-append, All-weaker, All-head, All-tail}
 use Rattle.std.proofs.lemmas.List.Folds.{find-append}
 use Rattle.std.proofs.lemmas.List.Sums.{sum_by-append, sum_by-cons}
-use Rattle.am_lines_laws.proofs.Words.{eq_true, find_passes}
-use Rattle.am_lines_laws.proofs.Growing.{pairs_more, eq_yes, apart}
+use Rattle.std.proofs.lemmas.Bool.{eqb-true, eq-eqb}
+use Rattle.am_lemmas.proofs.Lists.{all_pairs_grow}
+use Rattle.am_lines_laws.proofs.Words.{find_passes}
+use Rattle.am_lines_laws.proofs.Growing.{apart}
 
 abbrev pub has_key : {A : Type 0} → (A → ℕ) → ℕ → A → Bool
 has_key key n a = key a == n
@@ -40,7 +42,7 @@ all_below P key xs (suc n) all =
 -- ---- ascending
 
 key_of_found : {A : Type 0} (key : A → ℕ) (xs : List A) (n : ℕ) (x : A) → find (has_key key n) xs ≡ Some x → key x ≡ n
-key_of_found key xs n x e = eq_true (key x) n (find_passes (has_key key n) xs x e)
+key_of_found key xs n x e = eqb-true (key x) n (find_passes (has_key key n) xs x e)
 
 keys_below : {A : Type 0} (key : A → ℕ) (xs : List A) (n : ℕ) → All (λ a. key a < n) (below key xs n)
 keys_below key xs zero = All-nil (λ a. key a < 0)
@@ -53,7 +55,7 @@ rising_more : {A : Type 0} (key : A → ℕ) (n : ℕ) (xs : List A) (o : Option
     → AllPairs (λ a b. key a < key b) (xs ++ option_to_list o)
 rising_more key n xs None rise less at = subst (λ l. AllPairs (λ a b. key a < key b) l) (sym (append-nil xs)) rise
 rising_more key n xs (Some x) rise less at =
-    pairs_more (λ a b. key a < key b) xs x rise (All-weaker (λ a. key a < n) (λ a. key a < key x) (λ a l. omega (arith, at x refl)) xs less)
+    all_pairs_grow (λ a b. key a < key b) xs x rise (All-weaker (λ a. key a < n) (λ a. key a < key x) (λ a l. omega (arith, at x refl)) xs less)
 
 pub rising : {A : Type 0} (key : A → ℕ) (xs : List A) (n : ℕ) → AllPairs (λ a b. key a < key b) (below key xs n)
 rising key xs zero = λ i j d first second. absurd (omega arith)
@@ -70,12 +72,12 @@ find_other key k n None at differ = refl
 find_other key k n (Some x) at differ = find_other_at (key x == k) refl
   where
     find_other_at : (b : Bool) → (key x == k) ≡ b → (if b then Some x else None) ≡ None
-    find_other_at true e = absurd (differ (sym (eq_true (key x) k e) ∙ at x refl))
+    find_other_at true e = absurd (differ (sym (eqb-true (key x) k e) ∙ at x refl))
     find_other_at false e = refl
 
 find_same : {A : Type 0} (key : A → ℕ) (n : ℕ) (o : Option A) → ((x : A) → o ≡ Some x → key x ≡ n) → find (has_key key n) (option_to_list o) ≡ o
 find_same key n None at = refl
-find_same key n (Some x) at = ap (λ (b : Bool). if b then Some x else None) (eq_yes (key x) n (at x refl))
+find_same key n (Some x) at = ap (λ (b : Bool). if b then Some x else None) (eq-eqb (key x) n (at x refl))
 
 not_below : {A : Type 0} (key : A → ℕ) (xs : List A) (k n : ℕ) → n ≤ k → find (has_key key k) (below key xs n) ≡ None
 not_below key xs k zero le = refl
@@ -102,7 +104,7 @@ found_before key xs k n differ before =
 
 found_by : {A : Type 0} (key : A → ℕ) (xs : List A) (k n : ℕ) (b : Bool) → (k == n) ≡ b → k < suc n → (k < n → find (has_key key k) (below key xs n) ≡ find (has_key key k) xs)
     → find (has_key key k) (below key xs n ++ option_to_list (find (has_key key n) xs)) ≡ find (has_key key k) xs
-found_by key xs k n true e less before = found_here key xs k n (eq_true k n e)
+found_by key xs k n true e less before = found_here key xs k n (eqb-true k n e)
 found_by key xs k n false e less before = found_before key xs k n (apart k n e) (before (let differ : k ≢ n = apart k n e in omega arith))
 
 pub found_below : {A : Type 0} (key : A → ℕ) (xs : List A) (k n : ℕ) → k < n → find (has_key key k) (below key xs n) ≡ find (has_key key k) xs
@@ -124,7 +126,7 @@ skips key x xs (suc n) le =
     ∙ ap (λ (o : Option _). below key xs n ++ option_to_list o) found
   where
     skips_at : (b : Bool) → (key x == n) ≡ b → (key x == n) ≡ false
-    skips_at true e = let same : key x ≡ n = eq_true (key x) n e in absurd (omega arith)
+    skips_at true e = let same : key x ≡ n = eqb-true (key x) n e in absurd (omega arith)
     skips_at false e = e
 
 count_one : {A : Type 0} (p : A → Bool) (x : A) → count_by p (x ∷ []) ≡ (if p x then 1 else 0)
@@ -134,7 +136,7 @@ count_step_at : {A : Type 0} (p : A → Bool) (key : A → ℕ) (x : A) (xs : Li
     → count_by p (below key (x ∷ xs) n) ≤ count_by p (below key xs n) + (if p x then 1 else 0)
     → count_by p (below key (x ∷ xs) n ++ option_to_list (if b then Some x else find (has_key key n) xs)) ≤ count_by p (below key xs n ++ option_to_list (find (has_key key n) xs)) + (if p x then 1 else 0)
 count_step_at p key x xs n true e before =
-    let same : key x ≡ n = eq_true (key x) n e in
+    let same : key x ≡ n = eqb-true (key x) n e in
     let skipped : count_by p (below key (x ∷ xs) n) ≡ count_by p (below key xs n) = ap (λ (l : List _). count_by p l) (skips key x xs n (omega arith)) in
     omega (arith, skipped, count_one p x, count_optional p (below key (x ∷ xs) n) (Some x), count_optional p (below key xs n) (find (has_key key n) xs))
 count_step_at p key x xs n false e before =

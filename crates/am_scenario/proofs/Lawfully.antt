@@ -1,10 +1,10 @@
 -- A spelled scenario is lawful.
-use Rattle.std.proofs.Common.{◌≡◌, ℕ, zero, suc, ◌+◌, ◌-◌, ◌<◌, ◌≤◌, Bool, true, false, List, [], ◌∷◌, ◌++◌, length, Option, Some, None, Result, Ok, Err, refl, sym, ap, ◌∙◌, subst, inl, inr, ◌⊎◌, arith}
+use Rattle.std.proofs.Common.{◌≡◌, ℕ, zero, suc, ◌+◌, ◌-◌, ◌<◌, ◌≤◌, true, List, [], ◌∷◌, ◌++◌, length, Option, Some, None, Result, Ok, Err, refl, sym, ap, ◌∙◌, subst, inl, inr, ◌⊎◌, arith}
 use Rattle.std.specs.Prelude.{◌==◌, ◌&&◌, ◌||◌, not, nat_lt, find, count_by, IfSome, IsSome, is_some}
 use Rattle.std.specs.List.{All, AllPairs, slice_index}
 use Rattle.std.specs.Option.{option_to_list, option_map, unwrap_or}
-use Rattle.std.proofs.lemmas.Bool.Decides.{nat_tests}
 use Rattle.std.proofs.lemmas.List.Elements.{All-weaker}
+use Rattle.std.proofs.lemmas.Bool.{not-false, or_parts, ltb-false, eqb-true}
 use Rattle.am_lexer.specs.declared.what.What.{What}
 use Rattle.am_lexer.specs.declared.what.What.TheVariants.{UnknownWord, Missing, NotText, OutOfPlace}
 use Rattle.am_lexer.specs.Text.{lines_of, words_of, is_text_line}
@@ -38,8 +38,7 @@ use Rattle.am_lines_laws.specs.LineLaws.{network_of, section_said, fits_form, Is
 use Rattle.am_lines_laws.specs.Sound.{SettingsAreSound, EndsAreSound, ThreadsAreSound, IsSound, HasForm}
 use Rattle.am_lines_laws.proofs.Meets.{Meets, refuses, gives, bind, test, anything, found}
 use Rattle.am_lines_laws.proofs.Calling.{lines_are_lawful}
-use Rattle.am_lines_laws.proofs.Declaring.{neither}
-use Rattle.am_lines_laws.proofs.Words.{eq_true, find_passes, on_is_declared}
+use Rattle.am_lines_laws.proofs.Words.{find_passes, on_is_declared}
 use Rattle.am_lines_laws.proofs.Growing.{stays_sound, begins_sound}
 use Rattle.am_scenario.specs.Order.{placed, after_words, after_line}
 use Rattle.am_scenario.specs.Grammar.{ends_below, threads_below, tries_of, bounces_of, pool_of, whole, on_line, line_after, read_from, grammar}
@@ -47,13 +46,6 @@ use Rattle.am_scenario.specs.Laws.{SpellsLawful, ExactlyOne}
 use Rattle.am_scenario.proofs.Below.{below, found_holds, all_below, rising, found_below, count_below}
 
 -- ---- one line more
-
-not_less : (a b : ℕ) → nat_lt a b ≡ false → b ≤ a
-not_less a b e = grind (arith, nat_tests)
-
-not_false : (b : Bool) → not b ≡ false → b ≡ true
-not_false true e = refl
-not_false false e = absurd (cc)
 
 -- in its section, and of the form
 abbrev pub IsPlaced : Form → Said → Head → Type 0
@@ -64,9 +56,9 @@ unfolding placed
 is_placed form said first =
     test (said.section == 0 && not (section_of first == 1)) _ _ (λ e. refuses (IsPlaced form said) Missing) (λ e1.
     test (nat_lt (section_of first) said.section || not (is_of_form form first)) _ _ (λ e. refuses (IsPlaced form said) OutOfPlace) (λ in_place.
-    let parts = neither (nat_lt (section_of first) said.section) (not (is_of_form form first)) in_place in
+    let parts = or_parts (nat_lt (section_of first) said.section) (not (is_of_form form first)) in_place in
     test (nat_lt 2 (section_of first) && not (is_some said.settings.network && is_some said.settings.nodes)) _ _ (λ e. refuses (IsPlaced form said) Missing) (λ e3.
-    gives (IsPlaced form said) first (not_less (section_of first) said.section parts.0, not_false (is_of_form form first) parts.1))))
+    gives (IsPlaced form said) first (ltb-false (section_of first) said.section parts.0, not-false (is_of_form form first) parts.1))))
 
 says_lawful : (form : Form) (said : Said) (first : Head) (words : List (List ℕ))
     → Meets (λ says. (section_said says ≡ section_of first) × (fits_form form says ≡ is_of_form form first) × IsLawfulLine form said says) (words_say form said first words)
@@ -105,7 +97,7 @@ found_small : (network : Network) (nodes : ℕ) (ends : List EndLine) (node : No
     → find (λ end. end.id.0 == id.0) ends ≡ o → option_map (λ end. end.node) o ≡ Some node → id.0 < 256
 found_small network nodes ends node id None all e h = absurd (cc)
 found_small network nodes ends node id (Some end) all e h =
-    let same : end.id.0 ≡ id.0 = eq_true end.id.0 id.0 (find_passes (λ end. end.id.0 == id.0) ends end e) in
+    let same : end.id.0 ≡ id.0 = eqb-true end.id.0 id.0 (find_passes (λ end. end.id.0 == id.0) ends end e) in
     let small : IsLawfulEnd network nodes end = found_holds (IsLawfulEnd network nodes) (λ end. end.id.0 == id.0) ends end all e in
     omega (arith, small.id)
 
@@ -152,7 +144,7 @@ thread_small : (nodes : ℕ) (threads : List ThreadLine) (node : NodeId) (id : �
     → find (λ thread. thread.id == id) threads ≡ o → option_map (λ thread. thread.node) o ≡ Some node → id < 64
 thread_small nodes threads node id None all e h = absurd (cc)
 thread_small nodes threads node id (Some thread) all e h =
-    let same : thread.id ≡ id = eq_true thread.id id (find_passes (λ thread. thread.id == id) threads thread e) in
+    let same : thread.id ≡ id = eqb-true thread.id id (find_passes (λ thread. thread.id == id) threads thread e) in
     let small : IsLawfulThread nodes thread = found_holds (IsLawfulThread nodes) (λ thread. thread.id == id) threads thread all e in
     omega (arith, small.id)
 

@@ -43,10 +43,6 @@ stop_full None None p h = absurd (cc)
 stop_full None (Some q) p h = cc
 stop_full (Some c) l p h = absurd (cc)
 
--- nothing stops the event
-pub enabled : (layout : Layout) (past : List Entry) (event : Event) → stop layout past event ≡ None → failing layout past event ≡ None
-enabled layout past event h = (stop_none (failing layout past event) (full_log layout past event) h).0
-
 pub has_room : (s : ScenarioLists) (past : List Entry) (event : Event) (x : Entry) → stop (layout_of s) past event ≡ None → x ≡ next_entry (layout_of s) past event → HasRoom s past (x ∷ [])
 has_room s past event x h is =
     (ap (full_for s past) is ∙ (stop_none (failing (layout_of s) past event) (full_log (layout_of s) past event) h).1, tt)

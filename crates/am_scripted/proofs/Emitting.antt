@@ -3,7 +3,8 @@ use Rattle.std.proofs.Common.{◌≡◌, ⊎_elim, ℕ, ◌+◌, ◌*◌, ◌<�
 use Rattle.std.specs.Prelude.{slice_get, slice_index_or}
 use Rattle.std.specs.List.{filter, cons_option}
 use Rattle.std.proofs.lemmas.Bool.{and_parts}
-use Rattle.std.proofs.lemmas.List.{append-nil}
+use Rattle.std.proofs.lemmas.List.{append-nil, length-set}
+use Rattle.am_lemmas.proofs.Lists.{slice_get-set_cases}
 use Rattle.am_names.specs.declared.NodeId.{NodeId}
 use Rattle.am_names.specs.declared.Packet.{Packet}
 use Rattle.am_names.specs.declared.Packet.TheVariants as Packets
@@ -13,7 +14,7 @@ use Rattle.am_model.specs.Channels.{emitted, is_on_link}
 use Rattle.am_model.specs.Packets.{receiver_of, from_of}
 use Rattle.am_model.specs.Layout.{node_at}
 use Rattle.am_local.proofs.Growing.{emitted_append}
-use Rattle.am_journal.proofs.Lists.{got_set, set_length, index_got}
+use Rattle.am_journal.proofs.Lists.{index_got}
 use Rattle.am_plan.specs.declared.plan.PlanLine.{PlanLine}
 use Rattle.am_plan.specs.Shape.{fault_at, number_of}
 use Rattle.am_scripted.specs.Links.{AreFed, Released, fed, fed_at, nothing, released_of}
@@ -53,8 +54,8 @@ pub fed_packet : (plan : List PlanLine) (past : List Entry) (rs : List Released)
     (fed_at (16 * (from_of p).0 + (receiver_of p).0) (length (emitted (from_of p) (receiver_of p) past) + 1) (fault_at plan (from_of p) (receiver_of p) (length (emitted (from_of p) (receiver_of p) past) + 1)) (number_of p) rs)
 fed_packet plan past rs x p are is low lower =
     record {
-      all = set_length rs k new ∙ are.all;
-      each = λ f t r lt h. ⊎_elim (here f t r lt) (there f t r lt) (got_set rs k (16 * f + t) new r h);
+      all = length-set rs k new ∙ are.all;
+      each = λ f t r lt h. ⊎_elim (here f t r lt) (there f t r lt) (slice_get-set_cases rs k (16 * f + t) new r h);
     }
   where
     from : NodeId

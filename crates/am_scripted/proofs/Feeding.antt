@@ -1,13 +1,13 @@
 -- What a link has after one emission more.
 use Rattle.std.proofs.Common.{◌≡◌, ℕ, ◌+◌, List, [], ◌∷◌, ◌++◌, length, sym, ◌∙◌, ap}
 use Rattle.std.specs.Prelude.{Option, map}
+use Rattle.std.proofs.lemmas.List.{length-map}
 use Rattle.am_names.specs.declared.NodeId.{NodeId}
 use Rattle.am_names.specs.declared.Packet.{Packet}
 use Rattle.am_plan.specs.declared.plan.PlanLine.{PlanLine}
 use Rattle.am_plan.specs.declared.plan.LinkFault.{LinkFault}
 use Rattle.am_plan.specs.Shape.{fault_at, number_of, released_by, shape}
 use Rattle.am_plan.proofs.Shapes.{one_packet_more}
-use Rattle.am_journal.proofs.Lists.{map_length}
 use Rattle.am_release.specs.Stages.{freed, held_after, held_then}
 use Rattle.am_release.proofs.Releasing.{held_more, map_append, numbers_leave}
 use Rattle.am_scripted.specs.Links.{fed, released_of}
@@ -27,6 +27,6 @@ fed_more plan from to sent p = λ i. record { numbers = numbers i; held = held i
 
     held : held_then (length sent + 1) (faults (length sent + 1)) (number_of p) (held_after faults (map number_of sent)) ≡ held_after faults (map number_of (sent ++ p ∷ []))
     held =
-        ap (λ (n : ℕ). held_then (n + 1) (faults (n + 1)) (number_of p) (held_after faults (map number_of sent))) (sym (map_length number_of sent))
+        ap (λ (n : ℕ). held_then (n + 1) (faults (n + 1)) (number_of p) (held_after faults (map number_of sent))) (sym (length-map sent number_of))
         ∙ (held_more faults (map number_of sent) (number_of p)
         ∙ ap (held_after faults) (sym (map_append number_of sent (p ∷ []))))

@@ -2,6 +2,7 @@
 use Rattle.std.specs.Prelude.{slice_get, IfSome, MatchOption}
 use Rattle.std.specs.List.{filter, filter_map, cons_option}
 use Rattle.std.proofs.Common.{◌≡◌, ℕ, ◌+◌, ◌*◌, ◌<◌, ◌≤◌, Bool, true, false, cond, List, [], ◌∷◌, ◌++◌, map, length, Option, Some, None, refl, sym, ap, ◌∙◌, subst, arith}
+use Rattle.am_lemmas.proofs.Lists.{Some-slice_get_map}
 use Rattle.am_names.specs.declared.Packet.{Packet}
 use Rattle.am_names.specs.declared.Packet.TheVariants as Packets
 use Rattle.am_office.specs.declared.Event.{Event}
@@ -16,7 +17,7 @@ use Rattle.am_model.specs.Packets.{receiver_of, from_of}
 use Rattle.am_model.specs.Packets as numbers
 use Rattle.am_local.specs.Numbered.{HasNextNumber}
 use Rattle.am_local.proofs.Numbering.{history_numbered}
-use Rattle.am_journal.proofs.Lists.{got_mapped}
+use Rattle.am_laws_homes.proofs.Homes.{home_below}
 use Rattle.am_plan.specs.declared.plan.PlanLine.{PlanLine}
 use Rattle.am_plan.specs.Shape.{number_of}
 use Rattle.am_scenario_types.specs.declared.parts.ScriptCall.{ScriptCall}
@@ -123,7 +124,7 @@ calls_few thread (x ∷ past) =
 
 pub made_small : (s : ScenarioLists) (past : List Entry) (all : List Scripted) → all ≡ map (scripted_of s past) s.threads → length past ≤ 272 * s.log → s.log ≤ 65536 → AreSmall all
 made_small s past all is short low k t at =
-    let found = got_mapped (scripted_of s past) s.threads k t (ap (λ (ts : List Scripted). slice_get ts k) (sym is) ∙ at) in
+    let found = Some-slice_get_map (scripted_of s past) s.threads k t (ap (λ (ts : List Scripted). slice_get ts k) (sym is) ∙ at) in
     let made : length (calls_of found.0.id past) ≡ t.made = ap (λ (x : Scripted). x.made) found.2 in
     let few = calls_few found.0.id past in
     omega (arith, made, few, short, low)

@@ -1,9 +1,9 @@
 -- What is said of the links, one line more.
 use Rattle.std.specs.Prelude.{slice_get, slice_index_or, slice_set}
 use Rattle.std.proofs.Common.{◌≡◌, ◌⊎◌, inl, inr, ⊎_elim, ℕ, zero, suc, ◌+◌, ◌*◌, ◌<◌, ◌==◌, cond, List, [], ◌∷◌, ◌++◌, length, Some, None, sym, ap, ◌∙◌, arith, ◌-◌, drop, subst}
-use Rattle.std.proofs.lemmas.List.{drop_more}
+use Rattle.std.proofs.lemmas.List.{drop_more, length-set}
 use Rattle.am_model.specs.Layout.{node_at}
-use Rattle.am_journal.proofs.Lists.{got_set, set_length}
+use Rattle.am_lemmas.proofs.Lists.{slice_get-set_cases}
 use Rattle.am_plan.specs.declared.plan.LinkFault.{LinkFault}
 use Rattle.am_plan.specs.declared.plan.PlanLine.{PlanLine}
 use Rattle.am_release.specs.Faults.{SaysOf, said}
@@ -30,8 +30,8 @@ no_lines links all empty = record { all = all; each = λ from to m lt got place.
 pub line_more : (lines : List PlanLine) (links : List (List (ℕ × LinkFault))) (line : PlanLine) (k : ℕ) (old new : List (ℕ × LinkFault)) → HasFaults lines links → line.to.0 < 16 → k ≡ 16 * line.from.0 + line.to.0 → slice_get links k ≡ Some old → ((other : ℕ) → said new other ≡ cond (other == line.number) (Some line.fault) (said old other)) → HasFaults (line ∷ lines) (slice_set links k new)
 line_more lines links line k old new has low at was more =
     record {
-      all = set_length links k new ∙ has.all;
-      each = λ from to m lt got. ⊎_elim (here from to m lt) (there from to m lt) (got_set links k (16 * from + to) new m got);
+      all = length-set links k new ∙ has.all;
+      each = λ from to m lt got. ⊎_elim (here from to m lt) (there from to m lt) (slice_get-set_cases links k (16 * from + to) new m got);
     }
   where
     here : (from to : ℕ) (m : List (ℕ × LinkFault)) → to < 16 → (16 * from + to ≡ k) × (m ≡ new) → SaysOf (line ∷ lines) (node_at from) (node_at to) m

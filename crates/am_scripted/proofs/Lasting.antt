@@ -1,7 +1,7 @@
 -- Which entries are left to the end, told from what stands before them.
 use Rattle.std.specs.Prelude.{not, is_none, is_some, nat_le, nat_lt, if◌then◌else◌, ◌||◌, ◌==◌}
 use Rattle.std.proofs.Common.{◌≡◌, ℕ, ◌+◌, ◌<◌, Bool, true, false, Option, Some, None, List, [], ◌∷◌, refl, ◌∙◌, arith, ltb-true, eqb-true}
-use Rattle.std.proofs.lemmas.Bool.{eqb-false, le-leb, lt-leb, ltb-false}
+use Rattle.std.proofs.lemmas.Bool.{eqb-false, le-leb, lt-leb, ltb-false, not-false}
 use Rattle.am_names.specs.declared.EndpointId.{EndpointId}
 use Rattle.am_names.specs.declared.NodeId.{NodeId}
 use Rattle.am_names.specs.declared.Message.{Message}
@@ -86,17 +86,13 @@ time_out_lasts s past node peer channel (Some m) h =
     by_tries false true is = none_left s.tries (attempt c past) is
     by_tries false false is = none_left s.tries (attempt c past) is
 
-twice : (b : Bool) → not b ≡ false → b ≡ true
-twice true h = refl
-twice false h = absurd (cc)
-
 -- a time-out that may happen
 pub last_time_out : (s : ScenarioLists) (past : List Entry) (node peer : NodeId) (channel : ℕ) (test : Bool) → (is_bound (channel_to node peer channel) past ≡ true → test ≡ nat_le s.tries (attempt (channel_to node peer channel) past + 2)) → IsLastIfMade s past (Events.Expire node peer channel) test
 last_time_out s past node peer channel test told free =
     let layout = layout_of s in
     let c = channel_to node peer channel in
     let none = fails ((layout.direct, Needs.NotPacket) ∷ (not (is_bound c past), Needs.Idle) ∷ []) free in
-    let bound = twice (is_bound c past) none.1.0 in
+    let bound = not-false (is_bound c past) none.1.0 in
     told bound ∙ time_out_lasts s past node peer channel (bound_message c past) bound
 
 -- the attempt that an interface tells is the one of the journal

@@ -2,7 +2,8 @@
 use Rattle.std.specs.Prelude.{slice_get, option_map, not, ◌==◌, is_some, count_by, if◌then◌else◌}
 use Rattle.std.specs.List.{list_all, list_any, find}
 use Rattle.std.proofs.Common.{◌≡◌, ℕ, zero, suc, ◌+◌, Bool, true, false, cond, ◌&&◌, ◌||◌, List, [], ◌∷◌, map, take, length, Option, Some, None, refl, sym, ap, ◌∙◌, subst, arith, eqb-true}
-use Rattle.std.proofs.lemmas.Bool.{and_parts}
+use Rattle.std.proofs.lemmas.Bool.{and_parts, or_parts}
+use Rattle.am_lemmas.proofs.Lists.{slice_get-map_Some}
 use Rattle.am_names.specs.declared.EndpointId.{EndpointId}
 use Rattle.am_names.specs.declared.NodeId.{NodeId}
 use Rattle.am_names.specs.declared.Message.{Message}
@@ -16,7 +17,7 @@ use Rattle.am_model.specs.Changes.{has_arrivals, has_queued}
 use Rattle.am_model.specs.Channels.{bound_message}
 use Rattle.am_model.specs.Endpoint.{Body, State, front, front_of, is_on_disk}
 use Rattle.am_model.specs.History.{IsHistory, channel_to, is_bound, is_in_frame, state_of}
-use Rattle.am_model.specs.Layout.{AllAre, EndSetting, IsLawful, Layout, declared, has_id, home, home_by}
+use Rattle.am_model.specs.Layout.{EndSetting, IsLawful, Layout, declared, has_id, home, home_by}
 use Rattle.am_channel.specs.declared.sending.Bound.{Bound}
 use Rattle.am_local.specs.Interface.{channel_in}
 use Rattle.am_local.proofs.Parts.{bound_own}
@@ -31,7 +32,8 @@ use Rattle.am_machine.specs.View.{ClusterView}
 use Rattle.am_scenario_types.specs.declared.parts.Network.TheVariants.{Packet}
 use Rattle.am_scenario_types.specs.Lists.{ScenarioLists}
 use Rattle.am_follow.specs.Layout.{layout_of}
-use Rattle.am_model.proofs.Books.{same_end-is}
+use Rattle.am_model.proofs.Alls.{all_at}
+use Rattle.am_model.proofs.Names.{same_end-is}
 use Rattle.am_scripts.specs.Standings.{Standing, is_missed, standings}
 use Rattle.am_scripts.proofs.Lists.{found_in, found_true, none_all, none_mapped}
 use Rattle.am_drain.specs.Rules.{next_page_in, page_in_of}
@@ -39,16 +41,8 @@ use Rattle.am_drain_loop.specs.Reads.{head_of, is_seat, mail_of}
 use Rattle.am_drain_steps.specs.Away.{AwayIsSettled, is_settled, is_settled_at}
 use Rattle.am_drain_steps.proofs.Enabled.{IsSeatedSetting, all_seated, of_packets, seat_in_range}
 use Rattle.am_drain_steps.proofs.Calls.{home_seated}
-use Rattle.am_scripted.proofs.Leaving.{got_map}
 
 -- ---- lists
-
-all_are_got : {X : Type 0} (P : X → Type 0) (xs : List X) (k : ℕ) (x : X) → AllAre P xs → slice_get xs k ≡ Some x → P x
-all_are_got P [] k x all h = absurd (cc)
-all_are_got P (y ∷ xs) zero x all h =
-    let same : y ≡ x = cc in
-    subst P same all.0
-all_are_got P (y ∷ xs) (suc k) x all h = all_are_got P xs k x all.1 h
 
 all_got : {X : Type 0} (p : X → Bool) (xs : List X) (k : ℕ) (x : X) → list_all p xs ≡ true → slice_get xs k ≡ Some x → p x ≡ true
 all_got p [] k x all h = absurd (cc)
@@ -93,7 +87,7 @@ abbrev pub standing_in : Layout → List Entry → EndSetting → Standing
 standing_in layout past s = record { setting = s; state = state_of layout past s.id }
 
 standing_at : (layout : Layout) (past : List Entry) (k : ℕ) (one : EndpointView) → IsSeen layout past k one → slice_get (standings layout past) k ≡ Some (standing_in layout past (setting_in (kept one)))
-standing_at layout past k one seen = got_map (standing_in layout past) layout.ends k (setting_in (kept one)) seen.setting
+standing_at layout past k one seen = slice_get-map_Some (standing_in layout past) layout.ends k (setting_in (kept one)) seen.setting
 
 -- what the cluster of a scenario tells of an endpoint at a place
 pub seen_in : (s : ScenarioLists) (v : ClusterView) (k : ℕ) (one : EndpointView) → v.layout ≡ layout_of s → slice_get v.layout.ends k ≡ Some (setting_in (kept one)) → state_after one ≡ state_of v.layout v.journal one.settings.id → IsSeen (layout_of s) v.journal k one
@@ -103,11 +97,11 @@ seen_in s v k one same setting state =
 pub seat_at : (layout : Layout) (past : List Entry) (k : ℕ) (one : EndpointView) (node : NodeId) (id : EndpointId) → IsLawful layout → IsSeen layout past k one → node ≡ one.settings.node → id ≡ one.settings.id → is_seat layout node id ≡ true
 seat_at layout past k one node id ok seen at of =
     (λ i. is_seat layout (at i) (of i))
-    ∙ seat_in_range layout one.settings.id one.settings.node (all_are_got (IsSeatedSetting layout) layout.ends k (setting_in (kept one)) (all_seated layout ok) seen.setting)
+    ∙ seat_in_range layout one.settings.id one.settings.node (all_at (IsSeatedSetting layout) layout.ends k (setting_in (kept one)) (all_seated layout ok) seen.setting)
 
 pub head_read : (layout : Layout) (past : List Entry) (k : ℕ) (one : EndpointView) (id : EndpointId) (node : NodeId) (h : Head) → IsSeen layout past k one → id ≡ one.settings.id → node ≡ one.settings.node → h ≡ (state_after one).head → slice_get (map head_of (standings layout past)) k ≡ Some (record { id = id; node = node; head = h })
 head_read layout past k one id node h seen of at is =
-    got_map head_of (standings layout past) k (standing_in layout past (setting_in (kept one))) (standing_at layout past k one seen)
+    slice_get-map_Some head_of (standings layout past) k (standing_in layout past (setting_in (kept one))) (standing_at layout past k one seen)
     ∙ sym same
   where
     heads : h ≡ (state_of layout past one.settings.id).head
@@ -135,10 +129,6 @@ long x xs = by_test (length (x ∷ xs) == 0) refl
 none_held : {X : Type 0} (xs : List X) → not (length xs == 0) ≡ false → xs ≡ []
 none_held [] h = refl
 none_held (x ∷ xs) h = absurd (let both : true ≡ false = ap not (sym (long x xs)) ∙ h in cc)
-
-or_parts : (a b : Bool) → (a || b) ≡ false → (a ≡ false) × (b ≡ false)
-or_parts true b h = absurd (cc)
-or_parts false b h = (refl, h)
 
 not_true : (a : Bool) → not a ≡ true → a ≡ false
 not_true true h = absurd (cc)
@@ -213,7 +203,7 @@ pub record ReadsMail (one : EndpointView) (front' : Option Queued) (reply arriva
 
 pub mail_read : (layout : Layout) (past : List Entry) (k : ℕ) (one : EndpointView) (id : EndpointId) (node : NodeId) (f : Option Queued) (r a : Bool) → IsSeen layout past k one → IsQuietOnDisk (state_of layout past one.settings.id) → id ≡ one.settings.id → node ≡ one.settings.node → ReadsMail one f r a → slice_get (map mail_of (standings layout past)) k ≡ Some (record { id = id; node = node; front = f; has_reply = r; has_arrivals = a })
 mail_read layout past k one id node f r a seen still of at read =
-    got_map mail_of (standings layout past) k (standing_in layout past (setting_in (kept one))) (standing_at layout past k one seen)
+    slice_get-map_Some mail_of (standings layout past) k (standing_in layout past (setting_in (kept one))) (standing_at layout past k one seen)
     ∙ sym same
   where
     s : State

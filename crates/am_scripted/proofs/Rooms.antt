@@ -1,7 +1,7 @@
 -- Room on each link.
 use Rattle.std.proofs.Common.{◌≡◌, ⊎_elim, ℕ, zero, suc, Bool, true, false, List, [], ◌∷◌, refl, sym, ap, ◌∙◌, subst, ◌++◌, ◌==◌, eqb-true, eq-eqb, true≢false}
 use Rattle.std.specs.Prelude.{slice_get, slice_set, OnOk, Result, Ok, Err}
-use Rattle.am_journal.proofs.Lists.{got_set}
+use Rattle.am_lemmas.proofs.Lists.{slice_get-set_cases}
 use Rattle.am_release.specs.Staged.{Staged}
 use Rattle.am_scripted.specs.Links.{HasAllRoom, HasRoom, HasRoomAt}
 use Rattle.am_scripted.proofs.Indexing.{got_push}
@@ -21,7 +21,7 @@ got_elsewhere (x ∷ xs) (suc i) (suc k) v apart = got_elsewhere xs i k v (λ e.
 -- the link that was written has room where it had before
 pub room_written : (links : List (Staged ℕ)) (k : ℕ) (new : Staged ℕ) → HasRoom new → HasRoomAt (slice_set links k new) k
 room_written links k new room l h =
-    ⊎_elim (λ here. subst HasRoom (sym here.1) room) (λ there. absurd (there.0 refl)) (got_set links k k new l h)
+    ⊎_elim (λ here. subst HasRoom (sym here.1) room) (λ there. absurd (there.0 refl)) (slice_get-set_cases links k k new l h)
 
 -- and then each has
 pub room_again : (old new : List (Staged ℕ)) (last : ℕ) → ((k : ℕ) → (k ≡ last → ⊥) → HasRoomAt old k) → HasRoomAt new last → ((k : ℕ) → (k ≡ last → ⊥) → slice_get new k ≡ slice_get old k) → HasAllRoom new

@@ -1,3 +1,4 @@
 pub mod Lists
 pub mod Done
 pub mod Links
+pub mod Declared

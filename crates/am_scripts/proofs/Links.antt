@@ -1,5 +1,5 @@
 -- Where no receipt is due, all that was released was received.
-use Rattle.std.proofs.Common.{◌≡◌, ℕ, List, [], ◌∷◌, ◌++◌, length, map, drop, Option, Some, None, Bool, true, false, refl, sym, ◌∙◌, ap, subst, append_assoc, append-nil, eqb-true}
+use Rattle.std.proofs.Common.{◌≡◌, ℕ, List, [], ◌∷◌, ◌++◌, length, map, drop, Option, Some, None, Bool, true, false, refl, sym, ◌∙◌, ap, subst, append_assoc, append-nil}
 use Rattle.std.specs.Prelude.{◌&&◌, filter, filter_map, if◌then◌else◌}
 use Rattle.std.specs.List.{AllByRecursion, cons_option}
 use Rattle.std.proofs.lemmas.Bool.{and_parts}
@@ -14,6 +14,7 @@ use Rattle.am_names.specs.Names.{same_node}
 use Rattle.am_office.specs.Entries.{emitted_of}
 use Rattle.am_model.specs.Channels.{emitted, is_on_link}
 use Rattle.am_model.specs.History.{EachAfter}
+use Rattle.am_model.proofs.Names.{same_node-is}
 use Rattle.am_scenario_types.specs.Lists.{ScenarioLists}
 use Rattle.am_plan.specs.Shape.{fault_at, shape, shape_after, number_of}
 use Rattle.am_plan.proofs.Shapes.{begins_alike}
@@ -40,9 +41,6 @@ released_push scenario from to past x =
 
 pub received_push : (from to : NodeId) (past : List Entry) (x : Entry) → received from to (past ++ x ∷ []) ≡ received from to past ++ cons_option (number_received from to x.event) []
 received_push from to past x = filter_map-append (λ (y : Entry). number_received from to y.event) past (x ∷ [])
-
-pub same_node-is : (a b : NodeId) → same_node a b ≡ true → a ≡ b
-same_node-is a b h = let e : a.0 ≡ b.0 = eqb-true a.0 b.0 h in λ i. record { 0 = e i }
 
 -- what a receipt in order says of the link
 abbrev pub NumberIsDue : ScenarioLists → NodeId → NodeId → List Entry → Option ℕ → Type 0

@@ -2,7 +2,7 @@
 use Rattle.std.proofs.Common.{◌≡◌, ℕ, ◌+◌, ◌-◌, ◌*◌, ◌<◌, ◌≤◌, Bool, true, false, List, [], ◌∷◌, ◌++◌, length, Option, Some, None, Result, Ok, Err, refl, sym, ap, ◌∙◌, subst, arith, get_or, inl, inr, ◌⊎◌, zero, suc, lit<, if◌then◌else◌}
 use Rattle.std.specs.Prelude.{◌==◌, ◌&&◌, nat_lt, nat_le, find, is_some}
 use Rattle.std.specs.List.{All}
-use Rattle.std.proofs.lemmas.Bool.{leb-true}
+use Rattle.std.proofs.lemmas.Bool.{leb-true, and_parts, eqb-true}
 use Rattle.std.proofs.lemmas.Bool.Decides.{nat_tests}
 use Rattle.std.proofs.lemmas.List.Elements.{All-weaker, All-push, All-nil}
 use Rattle.am_lexer.specs.declared.what.What.{What}
@@ -12,7 +12,7 @@ use Rattle.am_lexer.specs.Fields.{or_else, word_at, number_at, within, ended}
 use Rattle.am_scenario_types.specs.declared.faults.ScenarioFault.{ScenarioFault}
 use Rattle.am_scenario.specs.Grammar.{line_after, on_line}
 use Rattle.am_lines_laws.proofs.Meets.{Meets, refuses, gives, bind, test, anything, found}
-use Rattle.am_lines_laws.proofs.Words.{eq_true, find_passes, is_within}
+use Rattle.am_lines_laws.proofs.Words.{find_passes, is_within}
 use Rattle.am_scenario.proofs.Below.{found_holds}
 use Rattle.am_names.specs.declared.EndpointId.{EndpointId}
 use Rattle.am_pieces.specs.declared.segment.SegmentLine.{SegmentLine}
@@ -44,19 +44,15 @@ if_either : (b : Bool) (x y : ℕ) (other : Option ℕ) → (if b then Some x el
 if_either true x y other e = inl (refl, cc)
 if_either false x y other e = inr e
 
-and_both : (a b : Bool) → (a && b) ≡ true → (a ≡ true) × (b ≡ true)
-and_both true b e = (refl, e)
-and_both false b e = absurd (cc)
-
 small_digit : (byte value : ℕ) → is_digit byte ≡ true → byte - 48 ≡ value → value < 16
 small_digit byte value digit is =
-    let both = and_both (nat_le 48 byte) (nat_le byte 57) digit in
+    let both = and_parts (nat_le 48 byte) (nat_le byte 57) digit in
     let high : byte ≤ 57 = leb-true byte 57 both.1 in
     omega arith
 
 small_letter : (byte value : ℕ) → (nat_le 97 byte && nat_le byte 102) ≡ true → byte - 87 ≡ value → value < 16
 small_letter byte value letter is =
-    let both = and_both (nat_le 97 byte) (nat_le byte 102) letter in
+    let both = and_parts (nat_le 97 byte) (nat_le byte 102) letter in
     let high : byte ≤ 102 = leb-true byte 102 both.1 in
     omega arith
 
@@ -135,7 +131,7 @@ IsSized s = s.size ≤ 65_536
 
 has_segment : (segments : List SegmentLine) (s : SegmentLine) (t : TransferLists) → All IsSized segments → IsAmong segments s → IsBlockOf s t → HasSegment segments t
 has_segment segments s t sized among block =
-    let same : s.end.0 ≡ among.number = eq_true s.end.0 among.number (find_passes (λ (u : SegmentLine). u.end.0 == among.number) segments s among.is) in
+    let same : s.end.0 ≡ among.number = eqb-true s.end.0 among.number (find_passes (λ (u : SegmentLine). u.end.0 == among.number) segments s among.is) in
     let dest : among.number ≡ t.dest.0 = sym same ∙ ap (λ (end : EndpointId). end.0) (sym block.dest) in
     record {
       segment = s;

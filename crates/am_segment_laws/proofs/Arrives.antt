@@ -1,5 +1,5 @@
 -- Where all pieces of a transfer ran and none of its places was written over later, the segment holds the block.
-use Rattle.std.proofs.Common.{◌≡◌, ℕ, zero, suc, ◌+◌, ◌*◌, ◌/◌, ◌-◌, ◌<◌, ◌≤◌, Bool, true, false, ◌&&◌, ◌||◌, cond, Option, Some, None, List, [], ◌∷◌, ◌++◌, refl, sym, ap, ◌∙◌, length, take, drop, map, count_by, get_or, slice_index, replicate, nat_le, nat_lt, nat_eq, if◌then◌else◌, arith, add-one, zero-add, min, inl, inr, lit<}
+use Rattle.std.proofs.Common.{◌≡◌, ℕ, zero, suc, ◌+◌, ◌*◌, ◌/◌, ◌-◌, ◌<◌, ◌≤◌, Bool, true, false, ◌&&◌, ◌||◌, cond, Option, Some, None, List, [], ◌∷◌, ◌++◌, refl, sym, ap, ◌∙◌, length, drop, map, count_by, get_or, slice_index, replicate, nat_le, nat_lt, nat_eq, if◌then◌else◌, arith, add-one, zero-add, min, inl, inr}
 use Rattle.std.specs.List.{list_any, range_with_len}
 use Rattle.std.specs.Option.{option_and_then}
 use Rattle.std.proofs.lemmas.Bool.{le-leb, lt-ltb, leb-true, ltb-true, eqb-true}
@@ -8,6 +8,8 @@ use Rattle.std.proofs.lemmas.List.{get_or-drop, get_or-take, get_or_past, get_or
 use Rattle.std.proofs.lemmas.List.Folds.{list_any-append}
 use Rattle.std.proofs.lemmas.List.FromFn.{sum_by-map-range_with_len_more, length-map-range_with_len}
 use Rattle.std.proofs.lemmas.List.Sums.{count_by-le-length}
+use Rattle.am_lemmas.proofs.Bytes.{bytes-padded, bytes-take}
+use Rattle.am_lemmas.proofs.Bools.{and_first, and_second}
 use Rattle.am_names.specs.declared.Words.{Words}
 use Rattle.am_office.specs.declared.Entry.{Entry}
 use Rattle.am_pieces.specs.declared.parts.Piece.{Piece}
@@ -19,14 +21,6 @@ use Rattle.am_pieces.specs.Segments.{after_write, byte_after, byte_at, covers, h
 use Rattle.am_pieces.proofs.Written.{byte_at_next}
 use Rattle.am_segment_laws.specs.Laws.{BlocksArrive, HasBegun, IsFor, IsOwnPiece, IsPiece, IsUndisturbed}
 use Rattle.am_segment_laws.proofs.RoundTrip.{pieces_are_words}
-
-and_left : (a b : Bool) → (a && b) ≡ true → a ≡ true
-and_left true b e = refl
-and_left false b e = e
-
-and_right : (a b : Bool) → (a && b) ≡ true → b ≡ true
-and_right true b e = e
-and_right false b e = absurd (cc)
 
 -- ---- the bytes of a piece
 
@@ -44,8 +38,8 @@ byte_in block k j below =
 own_byte : (number : ℕ) (t : TransferLists) (k i : ℕ) → covers (t.offset + i) (piece_at number t k) ≡ true → slice_index (piece_at number t k).bytes ((t.offset + i) - (piece_at number t k).offset) ≡ slice_index t.bytes i
 unfolding piece_at
 own_byte number t k i covered =
-    let low : t.offset + 24 * k ≤ t.offset + i = leb-true (t.offset + 24 * k) (t.offset + i) (and_left _ _ covered) in
-    let high : t.offset + i < t.offset + 24 * k + length (bytes_at t.bytes k) = ltb-true (t.offset + i) (t.offset + 24 * k + length (bytes_at t.bytes k)) (and_right _ _ covered) in
+    let low : t.offset + 24 * k ≤ t.offset + i = leb-true (t.offset + 24 * k) (t.offset + i) (and_first _ _ covered) in
+    let high : t.offset + i < t.offset + 24 * k + length (bytes_at t.bytes k) = ltb-true (t.offset + i) (t.offset + 24 * k + length (bytes_at t.bytes k)) (and_second _ _ covered) in
     let j : ℕ = (t.offset + i) - (t.offset + 24 * k) in
     byte_in t.bytes k j (omega arith) ∙ ap (λ (n : ℕ). get_or t.bytes n 0) (omega arith)
 
@@ -57,25 +51,12 @@ own_covers number t i below =
     let high : t.offset + i < t.offset + 24 * (i / 24) + length (bytes_at t.bytes (i / 24)) = omega (arith, length-bytes_at t.bytes (i / 24)) in
     rw (le-leb (t.offset + 24 * (i / 24)) (t.offset + i) low, lt-ltb (t.offset + i) (t.offset + 24 * (i / 24) + length (bytes_at t.bytes (i / 24))) high) refl
 
-padded_small : (bytes : List ℕ) (n : ℕ) → ((i : ℕ) → get_or bytes i 0 < 256) → (i : ℕ) → get_or (bytes ++ replicate n 0) i 0 < 256
-padded_small [] zero small i = lit< tt
-padded_small [] (suc n) small zero = lit< tt
-padded_small [] (suc n) small (suc i) = padded_small [] n small i
-padded_small (b ∷ bytes) n small zero = small zero
-padded_small (b ∷ bytes) n small (suc i) = padded_small bytes n (λ (j : ℕ). small (suc j)) i
-
 padded_zero : (bytes : List ℕ) (n : ℕ) (i : ℕ) → length bytes ≤ i → get_or (bytes ++ replicate n 0) i 0 ≡ 0
 padded_zero [] zero i past = refl
 padded_zero [] (suc n) zero past = refl
 padded_zero [] (suc n) (suc i) past = padded_zero [] n i (omega arith)
 padded_zero (b ∷ bytes) n zero past = absurd (omega arith)
 padded_zero (b ∷ bytes) n (suc i) past = padded_zero bytes n i (omega arith)
-
-taken_small : (n : ℕ) (bytes : List ℕ) → ((i : ℕ) → get_or bytes i 0 < 256) → (i : ℕ) → get_or (take n bytes) i 0 < 256
-taken_small zero bytes small i = lit< tt
-taken_small (suc n) [] small i = lit< tt
-taken_small (suc n) (b ∷ bytes) small zero = small zero
-taken_small (suc n) (b ∷ bytes) small (suc i) = taken_small n bytes (λ (j : ℕ). small (suc j)) i
 
 -- each piece is one
 is_piece : (s : SegmentLine) (number : ℕ) (t : TransferLists) (k : ℕ) → IsFor s t → k < piece_count t → IsPiece (piece_at number t k)
@@ -93,7 +74,7 @@ is_piece s number t k for below =
           length-append (bytes_at t.bytes k) (replicate (24 - length (bytes_at t.bytes k)) 0)
           ∙ ap (λ (n : ℕ). length (bytes_at t.bytes k) + n) (length-replicate (24 - length (bytes_at t.bytes k)) 0)
           ∙ omega arith;
-      bytes = padded_small (bytes_at t.bytes k) (24 - length (bytes_at t.bytes k)) (taken_small 24 (drop (24 * k) t.bytes) (λ (i : ℕ). rw (get_or-drop (24 * k) t.bytes i 0) (for.bytes (24 * k + i))));
+      bytes = bytes-padded (bytes_at t.bytes k) (24 - length (bytes_at t.bytes k)) (bytes-take 24 (drop (24 * k) t.bytes) (λ (i : ℕ). rw (get_or-drop (24 * k) t.bytes i 0) (for.bytes (24 * k + i))));
       zeros = padded_zero (bytes_at t.bytes k) (24 - length (bytes_at t.bytes k));
     }
 
@@ -132,12 +113,12 @@ rewritten a a' b b' c c' d d' ea eb ec ed = rw (ea, eb, ec, ed) refl
 
 same_words_are : (v w : Words) → same_words v w ≡ true → v ≡ w
 same_words_are v w same =
-    let a : v.a ≡ w.a = eqb-true v.a w.a (and_left _ _ same) in
-    let rest : (nat_eq v.b w.b && (nat_eq v.c w.c && nat_eq v.d w.d)) ≡ true = and_right _ _ same in
-    let b : v.b ≡ w.b = eqb-true v.b w.b (and_left _ _ rest) in
-    let last : (nat_eq v.c w.c && nat_eq v.d w.d) ≡ true = and_right _ _ rest in
-    let c : v.c ≡ w.c = eqb-true v.c w.c (and_left _ _ last) in
-    let d : v.d ≡ w.d = eqb-true v.d w.d (and_right _ _ last) in
+    let a : v.a ≡ w.a = eqb-true v.a w.a (and_first _ _ same) in
+    let rest : (nat_eq v.b w.b && (nat_eq v.c w.c && nat_eq v.d w.d)) ≡ true = and_second _ _ same in
+    let b : v.b ≡ w.b = eqb-true v.b w.b (and_first _ _ rest) in
+    let last : (nat_eq v.c w.c && nat_eq v.d w.d) ≡ true = and_second _ _ rest in
+    let c : v.c ≡ w.c = eqb-true v.c w.c (and_first _ _ last) in
+    let d : v.d ≡ w.d = eqb-true v.d w.d (and_second _ _ last) in
     rewritten v.a w.a v.b w.b v.c w.c v.d w.d a b c d
 
 words_are : (words : Words) (o : Option Words) → has_words words o ≡ true → o ≡ Some words

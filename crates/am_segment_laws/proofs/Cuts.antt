@@ -1,9 +1,10 @@
 -- Put together in order, the pieces of a block are the block.
-use Rattle.std.proofs.Common.{◌≡◌, ℕ, zero, suc, ◌+◌, ◌*◌, ◌/◌, ◌-◌, ◌<◌, ◌≤◌, List, [], ◌∷◌, ◌++◌, refl, sym, ap, ◌∙◌, length, take, drop, map, arith, zero-add, add-zero}
+use Rattle.std.proofs.Common.{◌≡◌, ℕ, zero, suc, ◌+◌, ◌*◌, ◌/◌, ◌-◌, ◌<◌, ◌≤◌, List, [], ◌∷◌, ◌++◌, refl, sym, ap, ◌∙◌, length, take, drop, map, arith, zero-add}
 use Rattle.std.specs.List.{flat_map, range_with_len}
 use Rattle.std.proofs.lemmas.List.{take_all, append-nil}
 use Rattle.std.proofs.lemmas.Grind.{flat_map-append}
 use Rattle.std.proofs.Math.Seq.{take-add}
+use Rattle.am_lemmas.proofs.Lists.{range_push}
 use Rattle.am_pieces.specs.Blocks.{bytes_at}
 use Rattle.am_segment_laws.specs.Laws.{PiecesAreBlock}
 
@@ -11,15 +12,10 @@ use Rattle.am_segment_laws.specs.Laws.{PiecesAreBlock}
 more : (n : ℕ) → 24 * n + 24 ≡ 24 * suc n
 more n = omega arith
 
--- one number more
-range_with_len_more : (a n : ℕ) → range_with_len a (suc n) ≡ range_with_len a n ++ (a + n) ∷ []
-range_with_len_more a zero = ap (λ (k : ℕ). k ∷ []) (sym (add-zero a))
-range_with_len_more a (suc n) = ap (λ (rest : List ℕ). a ∷ rest) (range_with_len_more (a + 1) n ∙ ap (λ (k : ℕ). range_with_len (a + 1) n ++ k ∷ []) (omega arith))
-
 front : (block : List ℕ) (n : ℕ) → flat_map (bytes_at block) (range_with_len 0 n) ≡ take (24 * n) block
 front block zero = refl
 front block (suc n) =
-    ap (flat_map (bytes_at block)) (range_with_len_more 0 n ∙ ap (λ (k : ℕ). range_with_len 0 n ++ k ∷ []) (zero-add n))
+    ap (flat_map (bytes_at block)) (range_push 0 n ∙ ap (λ (k : ℕ). range_with_len 0 n ++ k ∷ []) (zero-add n))
     ∙ flat_map-append (bytes_at block) (range_with_len 0 n) (n ∷ [])
     ∙ ap (λ (p : List ℕ). p ++ (bytes_at block n ++ [])) (front block n)
     ∙ ap (λ (q : List ℕ). take (24 * n) block ++ q) (append-nil (bytes_at block n))

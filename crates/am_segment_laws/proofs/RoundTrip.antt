@@ -1,13 +1,12 @@
 -- The words that carry a piece are that piece.
-use Rattle.std.proofs.Common.{◌≡◌, ℕ, zero, suc, lit<, ◌+◌, ◌*◌, ◌/◌, ◌%◌, ◌^◌, ◌<◌, ◌≤◌, ◌-◌, Bool, true, false, ◌&&◌, ◌==◌, Option, Some, None, List, [], ◌∷◌, ◌++◌, refl, sym, ap, ◌∙◌, length, take, drop, get_or, slice_index, nat_le, if◌then◌else◌, arith}
+use Rattle.std.proofs.Common.{◌≡◌, ℕ, zero, suc, ◌+◌, ◌*◌, ◌/◌, ◌%◌, ◌^◌, ◌<◌, ◌≤◌, ◌-◌, Bool, true, false, ◌&&◌, ◌==◌, Option, Some, None, List, [], ◌∷◌, refl, drop, get_or, slice_index, nat_le, if◌then◌else◌, arith}
 use Rattle.std.specs.List.{list_all}
-use Rattle.std.specs.Int.{w64, to_be_bytes, from_be_bytes}
 use Rattle.std.proofs.lemmas.Bool.{le-leb, eq-eqb}
-use Rattle.std.proofs.lemmas.Nat.{be_bytes_8}
-use Rattle.std.proofs.lemmas.List.{get_or-drop, get_or-take, get_or_past, length-take, length-drop, take-append-drop, append_assoc, drop-drop, take_all}
+use Rattle.std.proofs.lemmas.List.{get_or-drop, get_or-take, get_or_past}
+use Rattle.am_lemmas.proofs.Bytes.{three_words_back}
 use Rattle.am_names.specs.declared.Words.{Words}
 use Rattle.am_pieces.specs.declared.parts.Piece.{Piece}
-use Rattle.am_pieces.specs.Pieces.{piece_of, words_of, word_at, are_zero, offset_in, length_in, transfer_in, bytes_in}
+use Rattle.am_pieces.specs.Pieces.{piece_of, words_of, are_zero, offset_in, length_in, transfer_in, bytes_in}
 use Rattle.am_segment_laws.specs.Laws.{IsPiece, PiecesAreWords}
 
 -- ---- the first word
@@ -22,48 +21,6 @@ pub transfer_part : (o l t : ℕ) → o < 65_536 → l ≤ 24 → (o + 65_536 * 
 transfer_part o l t small few = omega arith
 
 -- ---- the other words
-
-front : (bytes : List ℕ) → from_be_bytes w64 bytes ≡ from_be_bytes w64 (take 8 bytes)
-front [] = refl
-front (a ∷ []) = refl
-front (a ∷ b ∷ []) = refl
-front (a ∷ b ∷ c ∷ []) = refl
-front (a ∷ b ∷ c ∷ d ∷ []) = refl
-front (a ∷ b ∷ c ∷ d ∷ e ∷ []) = refl
-front (a ∷ b ∷ c ∷ d ∷ e ∷ f ∷ []) = refl
-front (a ∷ b ∷ c ∷ d ∷ e ∷ f ∷ g ∷ []) = refl
-front (a ∷ b ∷ c ∷ d ∷ e ∷ f ∷ g ∷ h ∷ rest) = refl
-
-taken_small : (n : ℕ) (bytes : List ℕ) → ((i : ℕ) → get_or bytes i 0 < 256) → (i : ℕ) → get_or (take n bytes) i 0 < 256
-taken_small zero bytes small i = lit< tt
-taken_small (suc n) [] small i = lit< tt
-taken_small (suc n) (b ∷ bytes) small zero = small zero
-taken_small (suc n) (b ∷ bytes) small (suc i) = taken_small n bytes (λ (j : ℕ). small (suc j)) i
-
-dropped_small : (n : ℕ) (bytes : List ℕ) → ((i : ℕ) → get_or bytes i 0 < 256) → (i : ℕ) → get_or (drop n bytes) i 0 < 256
-dropped_small n bytes small i = rw (get_or-drop n bytes i 0) (small (n + i))
-
--- eight bytes as a word, and back
-eight : (bytes : List ℕ) → 8 ≤ length bytes → ((i : ℕ) → get_or bytes i 0 < 256) → to_be_bytes w64 (from_be_bytes w64 bytes) ≡ take 8 bytes
-eight bytes enough small = be_bytes_8 (take 8 bytes) (from_be_bytes w64 bytes) (rw (length-take 8 bytes) (omega arith)) (taken_small 8 bytes small) (front bytes)
-
-thirds : (bytes : List ℕ) → length bytes ≡ 24 → (take 8 bytes ++ take 8 (drop 8 bytes)) ++ take 8 (drop 16 bytes) ≡ bytes
-thirds bytes size =
-    let last : take 8 (drop 16 bytes) ≡ drop 8 (drop 8 bytes) = take_all 8 (drop 16 bytes) (rw (length-drop 16 bytes) (omega arith)) ∙ sym (drop-drop 8 8 bytes) in
-    append_assoc (take 8 bytes) (take 8 (drop 8 bytes)) (take 8 (drop 16 bytes))
-    ∙ ap (λ (rest : List ℕ). take 8 bytes ++ rest) (ap (λ (rest : List ℕ). take 8 (drop 8 bytes) ++ rest) last ∙ take-append-drop 8 (drop 8 bytes))
-    ∙ take-append-drop 8 bytes
-
-joined : (a a' b b' c c' : List ℕ) → a ≡ a' → b ≡ b' → c ≡ c' → (a ++ b) ++ c ≡ (a' ++ b') ++ c'
-joined a a' b b' c c' p q r = cc
-
-bytes_back : (bytes : List ℕ) → length bytes ≡ 24 → ((i : ℕ) → get_or bytes i 0 < 256) → (to_be_bytes w64 (word_at bytes 0) ++ to_be_bytes w64 (word_at bytes 8)) ++ to_be_bytes w64 (word_at bytes 16) ≡ bytes
-bytes_back bytes size small =
-    joined _ _ _ _ _ _
-    (eight bytes (omega arith) small)
-    (eight (drop 8 bytes) (rw (length-drop 8 bytes) (omega arith)) (dropped_small 8 bytes small))
-    (eight (drop 16 bytes) (rw (length-drop 16 bytes) (omega arith)) (dropped_small 16 bytes small))
-    ∙ thirds bytes size
 
 zeros_behind : (bytes : List ℕ) → ((i : ℕ) → get_or bytes i 0 ≡ 0) → are_zero bytes ≡ true
 zeros_behind [] zeros = refl
@@ -84,7 +41,7 @@ pieces_are_words p is =
     (offset_part p.offset p.len p.transfer is.offset is.few)
     (length_part p.offset p.len p.transfer is.offset is.few)
     (transfer_part p.offset p.len p.transfer is.offset is.few)
-    (bytes_back p.bytes is.size is.bytes)
+    (three_words_back p.bytes is.size is.bytes)
     (le-leb 1 p.len is.some)
     (le-leb p.len 24 is.few)
     (zeros_behind (drop p.len p.bytes) (λ (i : ℕ). rw (get_or-drop p.len p.bytes i 0) (is.zeros (p.len + i) (omega arith))))

@@ -1,21 +1,16 @@
 -- The fates of one message more.
-use Rattle.std.proofs.Common.{◌≡◌, ℕ, zero, suc, ◌+◌, ◌≤◌, List, [], ◌∷◌, ◌++◌, refl, sym, ap, ◌∙◌, subst, append_assoc, add-one, arith}
+use Rattle.std.proofs.Common.{◌≡◌, ℕ, suc, ◌+◌, ◌≤◌, List, [], ◌∷◌, ◌++◌, refl, sym, ap, ◌∙◌, subst, append_assoc, add-one, arith}
 use Rattle.std.specs.List.{flat_map, range_with_len}
 use Rattle.std.proofs.lemmas.Grind.{flat_map-append}
 use Rattle.std.proofs.lemmas.List.{append-nil}
+use Rattle.am_lemmas.proofs.Lists.{range_push}
 use Rattle.am_restart.specs.declared.events.SessionEntry.{SessionEntry}
 use Rattle.am_session.specs.Report.{fate_line, fate_lines}
-
-range_more : (a n : ℕ) → range_with_len a (suc n) ≡ range_with_len a n ++ (a + n) ∷ []
-range_more a zero = ap (λ (k : ℕ). k ∷ []) (let e : a ≡ a + 0 = omega arith in e)
-range_more a (suc n) =
-    ap (λ (l : List ℕ). a ∷ l) (range_more (a + 1) n)
-    ∙ ap (λ (k : ℕ). a ∷ range_with_len (a + 1) n ++ k ∷ []) (let e : a + 1 + n ≡ a + suc n = omega arith in e)
 
 lines_more : (entries : List SessionEntry) (n : ℕ) → fate_lines entries (n + 1) ≡ fate_lines entries n ++ fate_line entries (n + 1)
 lines_more entries n =
     let counted : range_with_len 1 (n + 1) ≡ range_with_len 1 n ++ (n + 1) ∷ [] =
-    ap (range_with_len 1) (let e : n + 1 ≡ suc n = omega arith in e) ∙ range_more 1 n ∙ ap (λ (k : ℕ). range_with_len 1 n ++ k ∷ []) (let e : 1 + n ≡ n + 1 = omega arith in e)
+    ap (range_with_len 1) (let e : n + 1 ≡ suc n = omega arith in e) ∙ range_push 1 n ∙ ap (λ (k : ℕ). range_with_len 1 n ++ k ∷ []) (let e : 1 + n ≡ n + 1 = omega arith in e)
     in
     ap (flat_map (fate_line entries)) counted
     ∙ flat_map-append (fate_line entries) (range_with_len 1 n) ((n + 1) ∷ [])

@@ -1,13 +1,12 @@
 -- What is known of a message after one entry more.
-use Rattle.std.proofs.Common.{◌≡◌, ℕ, ◌<◌, ◌+◌, Bool, true, false, ◌||◌, ◌==◌, cond, Option, Some, None, List, [], ◌∷◌, ◌++◌, refl, sym, ap, ◌∙◌, inl, inr, length, take, get_or, arith, add-one}
-use Rattle.std.specs.List.{list_any}
+use Rattle.std.proofs.Common.{◌≡◌, ℕ, ◌<◌, ◌+◌, Bool, true, false, ◌||◌, ◌==◌, cond, Option, Some, None, List, [], ◌∷◌, ◌++◌, refl, sym, ap, ◌∙◌, length, take, get_or, add-one}
 use Rattle.std.specs.Ordering.{is_eq, nat_cmp}
-use Rattle.std.specs.declared.cmp.Ordering.TheVariants.{Equal, Greater}
 use Rattle.std.specs.BTreeMap.{BTreeMap, get, Updates}
-use Rattle.std.proofs.lemmas.Bool.{cases_lt, lt-ltb, le-ltb, eqb-true}
-use Rattle.std.proofs.lemmas.Bool.Decides.{eqb_tells}
-use Rattle.std.proofs.lemmas.List.Folds.{list_any-append}
+use Rattle.std.proofs.lemmas.Bool.{eqb-true}
 use Rattle.std.proofs.Math.Seq.{take-suc}
+use mathlib.Core.Bool.{or-false, or-true}
+use Rattle.am_lemmas.proofs.Numbers.{nat_cmp-is_eq}
+use Rattle.am_lemmas.proofs.Lists.{list_any-push}
 use Rattle.am_restart.specs.declared.events.SessionEntry.{SessionEntry}
 use Rattle.am_restart.specs.declared.events.SessionOutcome.{SessionOutcome}
 use Rattle.am_restart.specs.declared.events.SessionOutcome.TheVariants as Out
@@ -17,55 +16,31 @@ use Rattle.am_session.specs.declared.fates.News.{News}
 use Rattle.am_session.specs.declared.fates.News.TheVariants as Latest
 use Rattle.am_session.specs.Tables.{news_in, unknown_news, known_with, known_in, known_of, known_after, nothing_known, AreKnown}
 
-eq_or_greater : (b : Bool) → is_eq (cond b Equal Greater) ≡ b
-eq_or_greater true = refl
-eq_or_greater false = refl
-
-eqb_turned : (x y : ℕ) → (x == y) ≡ (y == x)
-eqb_turned x y = elim (eqb_tells x y) [
-  | inl (found, same) ↦ elim (eqb_tells y x) [ inl (f, s) ↦ rw (found, f) refl | inr (m, other) ↦ absurd (other (sym same)) ]
-  | inr (missed, other) ↦ elim (eqb_tells y x) [ inl (f, s) ↦ absurd (other (sym s)) | inr (m, o) ↦ rw (missed, m) refl ]
-]
-
-pub nat_cmp_same : (x y : ℕ) → is_eq (nat_cmp x y) ≡ (y == x)
-nat_cmp_same x y = elim (cases_lt x y) [
-  | inl less ↦ rw (lt-ltb x y less) (elim (eqb_tells y x) [ inl (f, s) ↦ absurd (omega arith) | inr (m, o) ↦ rw m refl ])
-  | inr more ↦ rw (le-ltb x y more) (eq_or_greater (x == y) ∙ eqb_turned x y)
-]
-
 learned_if : (b : Bool) (m n : BTreeMap ℕ Known) (k s : ℕ) (news : News) → b ≡ (s == k) → get nat_cmp n s ≡ cond b (Some (known_with (known_in m k) news)) (get nat_cmp m s) → known_in n s ≡ cond b (known_with (known_in m s) news) (known_in m s)
 learned_if true m n k s news is got = rw (got, eqb-true s k (sym is)) refl
 learned_if false m n k s news is got = rw got refl
 
 pub learned : (m n : BTreeMap ℕ Known) (k : ℕ) (news : News) → Updates nat_cmp m n k (Some (known_with (known_in m k) news)) → (s : ℕ) → known_in n s ≡ known_after s (known_in m s) (Some (k, news))
 learned m n k news updates s =
-    rw (← nat_cmp_same k s) (learned_if (is_eq (nat_cmp k s)) m n k s news (nat_cmp_same k s) (updates.0 s))
-
-or_false : (b : Bool) → (b || false) ≡ b
-or_false true = refl
-or_false false = refl
-
-or_true : (b : Bool) → (b || true) ≡ true
-or_true true = refl
-or_true false = refl
+    rw (← nat_cmp-is_eq k s) (learned_if (is_eq (nat_cmp k s)) m n k s news (nat_cmp-is_eq k s) (updates.0 s))
 
 -- what is known after an entry that says these
 abbrev grown : Known → Bool → Bool → Bool → Known
 grown k put returned unknown = record { put = k.put || put; returned = k.returned || returned; unknown = k.unknown || unknown }
 
 grown_none : (k : Known) → grown k false false false ≡ k
-grown_none k = rw (or_false k.put, or_false k.returned, or_false k.unknown) refl
+grown_none k = rw (or-false k.put, or-false k.returned, or-false k.unknown) refl
 
 grown_put : (b : Bool) (k : Known) → grown k b false false ≡ cond b (known_with k Latest.Put) k
-grown_put true k = rw (or_true k.put, or_false k.returned, or_false k.unknown) refl
+grown_put true k = rw (or-true k.put, or-false k.returned, or-false k.unknown) refl
 grown_put false k = grown_none k
 
 grown_returned : (b : Bool) (k : Known) → grown k false b false ≡ cond b (known_with k Latest.Returned) k
-grown_returned true k = rw (or_false k.put, or_true k.returned, or_false k.unknown) refl
+grown_returned true k = rw (or-false k.put, or-true k.returned, or-false k.unknown) refl
 grown_returned false k = grown_none k
 
 grown_unknown : (b : Bool) (k : Known) → grown k false false b ≡ cond b (known_with k Latest.Unknown) k
-grown_unknown true k = rw (or_false k.put, or_false k.returned, or_true k.unknown) refl
+grown_unknown true k = rw (or-false k.put, or-false k.returned, or-true k.unknown) refl
 grown_unknown false k = grown_none k
 
 grown_peer : (s : ℕ) (k : Known) (unknown : Option ℕ) → grown k false false (is_of s unknown) ≡ known_after s k (unknown_news unknown)
@@ -79,13 +54,10 @@ grown_by s k (Out.Unknown m) = grown_unknown (s == m) k
 grown_by s k (Out.Peer incarnation unknown) = grown_peer s k unknown
 grown_by s k outcome = grown_none k
 
-any_append : {X : Type 0} (p : X → Bool) (xs : List X) (x : X) → list_any p (xs ++ x ∷ []) ≡ (list_any p xs || p x)
-any_append p xs x = list_any-append p xs (x ∷ []) ∙ ap (λ (b : Bool). list_any p xs || b) (or_false (p x))
-
 known_append : (s : ℕ) (past : List SessionEntry) (x : SessionEntry) → known_of (past ++ x ∷ []) s ≡ known_after s (known_of past s) (news_in x.outcome)
 known_append s past x =
     let all : known_of (past ++ x ∷ []) s ≡ grown (known_of past s) (puts s x) (returns s x) (leaves_unknown s x) =
-    rw (any_append (puts s) past x, any_append (returns s) past x, any_append (leaves_unknown s) past x) refl
+    rw (list_any-push (puts s) past x, list_any-push (returns s) past x, list_any-push (leaves_unknown s) past x) refl
     in
     all ∙ grown_by s (known_of past s) x.outcome
 

@@ -9,11 +9,11 @@ use Rattle.am_restart.specs.declared.events.SessionCondition.{SessionCondition}
 use Rattle.am_restart.specs.declared.events.SessionEntry.{SessionEntry}
 use Rattle.am_restart.specs.declared.events.SessionEvent.{SessionEvent}
 use Rattle.am_restart.specs.declared.events.SessionOutcome.{SessionOutcome}
-use Rattle.am_restart.specs.History.{IsSession, IsOfEvents, EachAfter, MayFollow, after, entry_of, replayed, state_of}
+use Rattle.am_restart.specs.History.{IsSession, IsOfEvents, EachAfter, MayFollow, after, entry_of, state_of}
 use Rattle.am_restart.specs.Moves.{failing, move_of}
 use Rattle.am_restart.specs.State.{SessionState, opening}
 use Rattle.am_restart_laws.specs.Laws.{SessionLaws}
-use Rattle.am_restart_laws.proofs.Session.{laws}
+use Rattle.am_restart_laws.proofs.Session.{laws, replayed_push}
 use Rattle.am_session.specs.declared.script.SessionStep.{SessionStep}
 use Rattle.am_session.specs.declared.script.SessionTextFault.{SessionTextFault}
 use Rattle.am_session.specs.declared.stops.Stop.{Stop}
@@ -22,10 +22,6 @@ use Rattle.am_session.specs.Meaning.{PrintsSession, StopsSession, SessionMeans, 
 use Rattle.am_session.specs.Plays.{Played, played, played_by, played_from}
 use Rattle.am_session.specs.Report.{report}
 use Rattle.am_session.specs.Scripts.{Script, events_of}
-
-replayed_push : (s : SessionState) (xs : List SessionEntry) (x : SessionEntry) → replayed s (xs ++ x ∷ []) ≡ after (replayed s xs) x.event
-replayed_push s [] x = refl
-replayed_push s (y ∷ xs) x = replayed_push (after s y.event) xs x
 
 each_push : (May : List SessionEntry → SessionEntry → Type 0) (past xs : List SessionEntry) (x : SessionEntry) → EachAfter May past xs → May (past ++ xs) x → EachAfter May past (xs ++ x ∷ [])
 each_push May past [] x h more = (subst (λ (ys : List SessionEntry). May ys x) (append-nil past) more, tt)

@@ -4,6 +4,7 @@ use Rattle.am_names.specs.declared.NoMemory.{NoMemory}
 use Rattle.am_restart.specs.declared.events.SessionFault.{SessionFault}
 use Rattle.am_restart.specs.declared.events.SessionFault.TheVariants as Faults
 use Rattle.std.proofs.Common.{◌≡◌, ℕ, zero, suc, ◌+◌, ◌<◌, ◌≤◌, List, [], ◌∷◌, ◌++◌, length, take, drop, map, Option, Some, None, refl, sym, ap, ◌∙◌, subst, arith, length-append}
+use Rattle.std.proofs.lemmas.List.{drop_all}
 use Rattle.am_restart.specs.declared.events.SessionCondition.{SessionCondition}
 use Rattle.am_restart.specs.declared.events.SessionEntry.{SessionEntry}
 use Rattle.am_restart.specs.History.{after, entry_of}
@@ -20,12 +21,6 @@ from_step (s ∷ steps) zero d h = refl
 from_step (s ∷ steps) (suc i) d h =
     let next : drop (suc i + 1) (s ∷ steps) ≡ drop (i + 1) steps = ap (λ (n : ℕ). drop n (s ∷ steps)) (let n : suc i + 1 ≡ suc (i + 1) = omega arith in n) in
     from_step steps i d (omega (arith, h)) ∙ ap (λ (l : List SessionStep). slice_index_or steps i d ∷ l) (sym next)
-
-drop_none : {X : Type 0} (xs : List X) (i : ℕ) → length xs ≤ i → drop i xs ≡ []
-drop_none [] zero h = refl
-drop_none [] (suc i) h = refl
-drop_none (x ∷ xs) zero h = absurd (omega (arith, h))
-drop_none (x ∷ xs) (suc i) h = drop_none xs i (omega (arith, h))
 
 -- what the loop over the steps keeps
 pub record Walks (script : Script) (i : ℕ) (s : SessionState) (entries : List SessionEntry) : Type 0 where
@@ -55,7 +50,7 @@ walks_stop script i s entries d condition w below fails =
     ∙ w.rest
 
 pub walks_end : (script : Script) (i : ℕ) (s : SessionState) (entries : List SessionEntry) → Walks script i s entries → length script.steps ≤ i → record { entries = entries; stopped = None } ≡ played script
-walks_end script i s entries w h = sym (ap (λ (l : List SessionStep). played_from s entries l) (drop_none script.steps i h)) ∙ w.rest
+walks_end script i s entries w h = sym (ap (λ (l : List SessionStep). played_from s entries l) (drop_all i script.steps h)) ∙ w.rest
 
 stopped_by : (script : Script) (i : ℕ) (s : SessionState) (entries : List SessionEntry) (d : SessionStep) (fault : SessionFault) (made : Played) → Walks script i s entries → i < length script.steps → ((condition : SessionCondition) → fault ≡ Faults.NotEnabled condition → failing s (slice_index_or script.steps i d).event ≡ Some condition) → IsStoppedBy fault (slice_index_or script.steps i d).line entries made → made ≡ played script
 stopped_by script i s entries d (Faults.NotEnabled condition) made w below tells is = is ∙ walks_stop script i s entries d condition w below (tells condition refl)

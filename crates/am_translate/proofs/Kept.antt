@@ -1,10 +1,10 @@
 -- What each change leaves of a table.
-use Rattle.std.specs.Prelude.{◌*◌, sum_by, nat_le, is_none}
-use Rattle.std.proofs.Common.{◌≡◌, ℕ, ◌+◌, ◌<◌, ◌≤◌, Bool, true, false, cond, ◌&&◌, List, [], ◌∷◌, length, map, Option, Some, None, refl, sym, ap, ◌∙◌, subst, arith, leb-true, leb-false, length-append, ◌||◌}
-use Rattle.std.specs.List.{count_by, list_all, list_any}
-use Rattle.std.proofs.lemmas.Bool.{and_parts}
+use Rattle.std.specs.Prelude.{sum_by, nat_le, is_none}
+use Rattle.std.proofs.Common.{◌≡◌, ℕ, ◌+◌, ◌<◌, ◌≤◌, Bool, true, false, cond, ◌&&◌, List, [], ◌∷◌, length, map, Option, Some, None, refl, sym, ap, ◌∙◌, subst, arith, leb-false, length-append, ◌||◌}
+use Rattle.std.specs.List.{count_by, list_any}
 use Rattle.std.proofs.lemmas.List.{length-set, length-map}
 use Rattle.std.proofs.lemmas.List.Sums.{sum_by-cons, sum_by_push}
+use Rattle.am_lemmas.proofs.Lists.{count_by-none}
 use Rattle.am_names.specs.Names.{same_serial}
 use Rattle.am_names.specs.declared.Serial.{Serial}
 use Rattle.am_model.specs.declared.Awaited.{Awaited}
@@ -18,9 +18,10 @@ use Rattle.am_model.proofs.Names.{same_serial-is}
 use Rattle.am_model.proofs.Records.{any_counts, arrives_or_waits}
 use Rattle.am_model.proofs.Sizes.{count_le}
 use Rattle.am_model.proofs.Sound.{all_set}
+use Rattle.am_model.proofs.Shares.{shares_le}
 use Rattle.am_translate.specs.declared.CreditFault.TheVariants as CreditFaults
 use Rattle.am_translate.specs.Tables.{IsTable, Table, body_with, credit_fault, is_known, with_awaited, with_mapping, with_record}
-use Rattle.am_translate.proofs.Lists.{length-without, none_counts}
+use Rattle.am_translate.proofs.Lists.{length-without}
 
 pub table_mapped : (t : Table) (index : ℕ) (x : Option Mapping) → is_mapping_in_range t.pool x ≡ true → IsTable t → IsTable (with_mapping t index x)
 table_mapped t index x range ok =
@@ -45,7 +46,7 @@ table_recorded t index serial room new ok =
 
     by_test : (r : Serial) (b : Bool) → same_serial r serial ≡ b → count_by (is_of r) (with_record t index serial).awaited ≤ 1
     by_test r true is =
-        let none : count_by (is_of r) t.awaited ≡ 0 = ap (λ (w : Serial). count_by (is_of w) t.awaited) (same_serial-is r serial is) ∙ none_counts (is_of serial) t.awaited new in
+        let none : count_by (is_of r) t.awaited ≡ 0 = ap (λ (w : Serial). count_by (is_of w) t.awaited) (same_serial-is r serial is) ∙ count_by-none (is_of serial) t.awaited new in
         omega (arith, pushed r, none, ap {B = ℕ} (λ b. cond b 1 0) is)
     by_test r false is = omega (arith, pushed r, ok.once r, ap {B = ℕ} (λ b. cond b 1 0) is)
 
@@ -101,18 +102,6 @@ taken_settled r (a ∷ xs) one there = by_test (same_serial r a.serial) a.arrive
     by_test true false le some more =
         let least = any_counts (has_arrived r) xs some in absurd (omega (arith, le, least, arrives_or_waits r xs))
     by_test false c le some more = ap (λ ys. a ∷ ys) (more (omega (arith, le)) some)
-
--- each share is 8 at most
-share_le : (pool : Option ℕ) (mapping : Option Mapping) → is_mapping_in_range pool mapping ≡ true → share_of mapping ≤ 8
-share_le pool None h = omega arith
-share_le None (Some mapping) h = leb-true mapping.credits 8 (and_parts (nat_le 1 mapping.credits) (nat_le mapping.credits 8) h).1
-share_le (Some pool) (Some mapping) h = leb-true mapping.credits 8 h
-
-shares_le : (pool : Option ℕ) (xs : List (Option Mapping)) → list_all (is_mapping_in_range pool) xs ≡ true → sum_by share_of xs ≤ 8 * length xs
-shares_le pool [] h = omega arith
-shares_le pool (x ∷ xs) h =
-    let parts = and_parts (is_mapping_in_range pool x) (list_all (is_mapping_in_range pool) xs) h in
-    omega (arith, share_le pool x parts.0, shares_le pool xs parts.1, sum_by-cons share_of x xs)
 
 pub shares_few : (t : Table) → IsTable t → sum_by share_of t.mapped ≤ 128
 shares_few t ok = omega (arith, shares_le t.pool t.mapped ok.credits, ok.indexes)

@@ -1,11 +1,10 @@
 -- Lists and their places.
 use Rattle.std.specs.Prelude.{not}
 use Rattle.std.proofs.Common.{◌≡◌, ℕ, zero, suc, ◌+◌, ◌<◌, ◌≤◌, Bool, true, false, cond, ◌||◌, List, [], ◌∷◌, ◌++◌, length, take, Option, Some, None, refl, sym, ap, ◌∙◌, arith, ltb, ltb-true}
-use Rattle.std.specs.List.{count_by, list_any, position, position_or_len, remove}
+use Rattle.std.specs.List.{list_any, position, position_or_len, remove}
 use Rattle.std.proofs.lemmas.Bool.{lt-ltb}
 use Rattle.std.proofs.lemmas.Grind.{common_steps}
 use Rattle.std.proofs.lemmas.List.{take-append-le}
-use Rattle.std.proofs.lemmas.List.Sums.{sum_by-cons}
 use Rattle.am_model.specs.Choice.{without_first}
 use Rattle.am_model.proofs.Lists.{without_first-position}
 
@@ -15,15 +14,6 @@ take-removed [] n a y le lt = absurd (omega (arith, lt))
 take-removed (x ∷ xs) n zero y le lt = take-append-le n xs (y ∷ []) (omega (arith, lt))
 take-removed (x ∷ xs) zero (suc a) y le lt = absurd (omega (arith, le))
 take-removed (x ∷ xs) (suc n) (suc a) y le lt = ap (λ ys. x ∷ ys) (take-removed xs n a y (omega (arith, le)) (omega (arith, lt)))
-
--- where no element passes none is counted
-pub none_counts : {X : Type 0} (p : X → Bool) (xs : List X) → list_any p xs ≡ false → count_by p xs ≡ 0
-none_counts p [] h = refl
-none_counts p (x ∷ xs) h = by_test p x xs (p x) refl h (none_counts p xs)
-  where
-    by_test : {X : Type 0} (p : X → Bool) (x : X) (xs : List X) (b : Bool) → p x ≡ b → (b || list_any p xs) ≡ false → (list_any p xs ≡ false → count_by p xs ≡ 0) → count_by p (x ∷ xs) ≡ 0
-    by_test p x xs true is h more = absurd (cc)
-    by_test p x xs false is h more = omega (arith, more h, sum_by-cons (λ y. cond (p y) 1 0) x xs, ap {B = ℕ} (λ b. cond b 1 0) is)
 
 -- whether an element passes, by the place of the first that does
 pub any-place : {X : Type 0} (p : X → Bool) (xs : List X) → list_any p xs ≡ ltb (position_or_len p xs) (length xs)

@@ -3,7 +3,7 @@ use Rattle.std.specs.Prelude.{IsSome}
 use Rattle.std.proofs.Common.{◌≡◌, ℕ, ◌<◌, ◌≤◌, ◌^◌, Bool, true, false, ◌&&◌, ◌||◌, cond, List, [], ◌∷◌, Some, refl, sym, subst, lt-ltb, true≢false}
 use Rattle.std.specs.Prelude.{find, nat_le, nat_lt}
 use Rattle.std.specs.List.{list_any}
-use Rattle.std.proofs.lemmas.Bool.{le-leb}
+use Rattle.std.proofs.lemmas.Bool.{le-leb, and_from}
 use Rattle.am_names.specs.declared.EndpointId.{EndpointId}
 use Rattle.am_names.specs.declared.NodeId.{NodeId}
 use Rattle.am_names.specs.declared.Packet.TheVariants as Packets
@@ -28,11 +28,6 @@ pub record IsServer (s : ScenarioLists) (i : InterfaceView) (w : Work) : Type 0 
   pub tries : 2 ≤ s.tries
   pub ranged : is_in_range (layout_of s) (event_of i.settings.node w) ≡ true
 
-both : (a b : Bool) → a ≡ true → b ≡ true → (a && b) ≡ true
-both true true h k = refl
-both true false h k = k
-both false b h k = h
-
 -- an endpoint that has a home is declared
 declared_among : (e : EndpointId) (ss : List EndSetting) → IsSome (home_by (find (has_id e) ss)) → list_any (has_id e) ss ≡ true
 declared_among e [] h = absurd (true≢false (sym h))
@@ -47,9 +42,9 @@ node_in s i n of lt = lt-ltb n s.nodes (subst (λ (m : ℕ). n < m) of.nodes lt)
 
 numbered : (s : ScenarioLists) (i : InterfaceView) (from : NodeId) (number : ℕ) → IsInterfaceOf s i → AreLawful i.settings → IsNumbered i.settings from number → is_in_range (layout_of s) (Events.Receive i.settings.node from number) ≡ true
 numbered s i from number of lawful h =
-    both (nat_lt i.settings.node.0 s.nodes && nat_lt from.0 s.nodes && nat_le 1 number) (is_four_bytes number)
-    (both (nat_lt i.settings.node.0 s.nodes && nat_lt from.0 s.nodes) (nat_le 1 number)
-    (both (nat_lt i.settings.node.0 s.nodes) (nat_lt from.0 s.nodes) (node_in s i i.settings.node.0 of lawful.node) (node_in s i from.0 of h.from_node))
+    and_from (nat_lt i.settings.node.0 s.nodes && nat_lt from.0 s.nodes && nat_le 1 number) (is_four_bytes number)
+    (and_from (nat_lt i.settings.node.0 s.nodes && nat_lt from.0 s.nodes) (nat_le 1 number)
+    (and_from (nat_lt i.settings.node.0 s.nodes) (nat_lt from.0 s.nodes) (node_in s i i.settings.node.0 of lawful.node) (node_in s i from.0 of h.from_node))
     (le-leb 1 number h.first))
     (lt-ltb number (2 ^ 32) h.last)
 
@@ -57,12 +52,12 @@ pub ranged_by : (s : ScenarioLists) (i : InterfaceView) (w : Work) → IsInterfa
 ranged_by s i (Works.Receive (Packets.Parcel p)) of lawful h = numbered s i p.from p.number of lawful h
 ranged_by s i (Works.Receive (Packets.Answer p)) of lawful h = numbered s i p.from p.number of lawful h
 ranged_by s i (Works.Bind end) of lawful h =
-    both (declared (layout_of s) end) (nat_lt i.settings.node.0 s.nodes)
+    and_from (declared (layout_of s) end) (nat_lt i.settings.node.0 s.nodes)
     (declared_among end (layout_of s).ends (subst IsSome (of.set.homes end) h))
     (node_in s i i.settings.node.0 of lawful.node)
 ranged_by s i (Works.Expire peer channel) of lawful h =
-    both (nat_lt i.settings.node.0 s.nodes && nat_lt peer.0 s.nodes) (nat_lt channel s.channels)
-    (both (nat_lt i.settings.node.0 s.nodes) (nat_lt peer.0 s.nodes) (node_in s i i.settings.node.0 of lawful.node) (node_in s i peer.0 of h.peer))
+    and_from (nat_lt i.settings.node.0 s.nodes && nat_lt peer.0 s.nodes) (nat_lt channel s.channels)
+    (and_from (nat_lt i.settings.node.0 s.nodes) (nat_lt peer.0 s.nodes) (node_in s i i.settings.node.0 of lawful.node) (node_in s i peer.0 of h.peer))
     (lt-ltb channel s.channels (subst (λ (m : ℕ). channel < m) of.set.channels h.channel))
 
 pub serves : (s : ScenarioLists) (i : InterfaceView) (w : Work) (turn : InterfaceTurn) → IsInterfaceOf s i → AreLawful i.settings → IfMade turn (IsRanged i.settings w) → IfMade turn (IsServer s i w)

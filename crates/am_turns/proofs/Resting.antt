@@ -22,7 +22,8 @@ use Rattle.am_office.specs.declared.Entry.{Entry}
 use Rattle.am_endpoint.specs.View.{EndpointView, state_after}
 use Rattle.am_model.specs.Allowed.{MayArrive, MayBind, arrival_verdict}
 use Rattle.am_model.specs.Choice.{first_holding}
-use Rattle.am_model.specs.Endpoint.{State, entry_at, is_direct, is_in_a_frame, is_on_disk, is_resident, is_waited_for, verdict, verdict_of}
+use Rattle.am_model.specs.Endpoint.{State, entry_at, is_direct, is_on_disk, is_resident, is_waited_for, verdict, verdict_of}
+use Rattle.am_model.proofs.Places.{framed_not_on_disk}
 use Rattle.am_local.specs.Granted.{FitsEndpoint, IsWorkAt}
 use Rattle.am_local.specs.Interface.{event_of, failing_at, needs, outcome_at}
 use Rattle.am_local.specs.declared.work.Work.{Work}
@@ -35,12 +36,6 @@ use Rattle.am_phase.specs.Lying.{keeps_body, keeps_on_disk}
 use Rattle.am_turns.specs.Turns.{MayBounce, SettlesHere}
 use Rattle.am_works.proofs.Books.{here_keeps, kept_keeps}
 use Rattle.am_turns.proofs.Books.{TellsDisabled, enabled_done}
-
-framed_here : (place : Place) → is_in_a_frame place ≡ true → is_on_disk place ≡ false
-framed_here (Frame frame) h = refl
-framed_here Host h = absurd (cc)
-framed_here Disk h = absurd (cc)
-framed_here Direct h = absurd (cc)
 
 disk_away : (place : Place) → is_on_disk place ≡ true → not (is_resident place) ≡ true
 disk_away (Frame frame) h = absurd (cc)
@@ -91,7 +86,7 @@ work_keeps i e s (Works.Receive (Packets.Parcel p)) x at here bounces = arrival_
 work_keeps i e s (Works.Receive (Packets.Answer p)) x at here bounces = here_keeps s x here
 work_keeps i e s (Works.Bind end) x at here bounces =
     let may : MayBind i.settings.node e s x = work_granted (own i) e s (Works.Bind end) x at in
-    here_keeps s x (framed_here s.head.place may.framed)
+    here_keeps s x (framed_not_on_disk s.head.place may.framed)
 work_keeps i e s (Works.Expire peer channel) x at here bounces = absurd bounces
 
 -- whatever the turn answers

@@ -3,8 +3,8 @@ use Rattle.std.specs.Prelude.{slice_get}
 use Rattle.std.specs.List.{filter, list_any}
 use lib.ListN.{get_elem?}
 use mathlib.Core.Option.{some}
-use Rattle.std.proofs.lemmas.Option.{same_Some}
-use Rattle.std.proofs.Common.{◌≡◌, ◌⊎◌, inl, inr, ⊎_elim, ℕ, ◌<◌, Bool, true, false, cond, ◌==◌, ◌||◌, List, [], ◌∷◌, ◌++◌, Some, refl, sym, ap, ◌∙◌, subst, arith, append_assoc, append-nil, Contains, Option}
+use Rattle.std.proofs.lemmas.Option.{same_Some, slice_get_within}
+use Rattle.std.proofs.Common.{◌≡◌, ⊎_elim, ℕ, ◌<◌, Bool, true, false, cond, ◌||◌, List, [], ◌∷◌, ◌++◌, Some, refl, sym, ap, ◌∙◌, subst, arith, append_assoc, append-nil, Contains, Option}
 use Rattle.am_names.specs.declared.EndpointId.{EndpointId}
 use Rattle.am_names.specs.declared.NodeId.{NodeId}
 use Rattle.am_names.specs.Names.{same_end}
@@ -22,7 +22,7 @@ use Rattle.am_laws_disk.specs.Disk.{pages_out}
 use Rattle.am_laws_disk.proofs.Still.{stays}
 use Rattle.am_local.specs.Together.{ends_of}
 use Rattle.am_merge.specs.Logs.{IsRising}
-use Rattle.am_merge.proofs.Sorted.{Has, contains_has, has_contains, filter_has}
+use Rattle.am_merge.proofs.Sorted.{Has, contains_has, has_contains, filter_has, has_last}
 use Rattle.am_scenario_types.specs.Lists.{ScenarioLists}
 use Rattle.am_scenario_types.specs.declared.parts.Network.TheVariants as Networks
 use Rattle.am_follow.specs.Layout.{is_direct, layout_of}
@@ -31,17 +31,17 @@ use Rattle.am_body.specs.declared.settings.EndSettings.{EndSettings}
 use Rattle.am_driver.specs.declared.EndView.{EndView}
 use Rattle.am_endpoint.specs.View.{state_by}
 use Rattle.am_moves.specs.Pages.{HoldsBody}
-use Rattle.am_places.specs.Rule.{Begins, joined, known_at}
-use Rattle.am_places.specs.declared.board.Tenure.{Tenure}
+use Rattle.am_places.specs.Rule.{Begins, known_at}
 use Rattle.am_phase.specs.Makers.{Driver, Interface, IsOfMaker, Maker, Thread}
 use Rattle.am_phase.specs.Tenures.{own}
 use Rattle.am_phase.proofs.Splits.{all_at, all_from}
+use Rattle.am_phase.proofs.Tenures.{own_in}
 use Rattle.am_works.specs.Drives.{KnowsPlace}
 use Rattle.am_works.specs.Seats.{IsBorn, seen_log}
 use Rattle.am_works.proofs.Driving.{IsBornAt, born_at, born_low, line_at}
 use Rattle.am_crew_laws.specs.Ended.{IsEnded, Keeps, KeepsAs, RunEnd, Worker, log_at, workers}
 use Rattle.am_crew_laws.proofs.Passes.{IsIn, all_in}
-use Rattle.am_crew_laws.proofs.Homes.{IsPlaced, got_low, placed}
+use Rattle.am_crew_laws.proofs.Homes.{IsPlaced, placed}
 use Rattle.am_crew_laws.proofs.Books.{IsWholeBook}
 use Rattle.am_crew_laws.proofs.Done.{IsDriverAt, book_of, log_is, part}
 
@@ -86,22 +86,10 @@ still_over layout e before (x ∷ xs) packet lawful history none on =
 
 -- ---- what pages an endpoint out, its driver has seen
 
-append_has : (xs ys : List Entry) (x : Entry) → Has (xs ++ ys) x → Has xs x ⊎ Has ys x
-append_has [] ys x h = inr h
-append_has (y ∷ xs) ys x h = ⊎_elim (λ (here : y ≡ x). inl (inl here)) (λ (more : Has (xs ++ ys) x). ⊎_elim (λ (a : Has xs x). inl (inr a)) (λ (b : Has ys x). inr b) (append_has xs ys x more)) h
-
-first_has : (xs ys : List Entry) (x : Entry) → Has xs x → Has (xs ++ ys) x
-first_has [] ys x h = absurd h
-first_has (y ∷ xs) ys x h = ⊎_elim (λ (here : y ≡ x). inl here) (λ (more : Has xs x). inr (first_has xs ys x more)) h
-
-last_has : (xs ys : List Entry) (x : Entry) → Has ys x → Has (xs ++ ys) x
-last_has [] ys x h = h
-last_has (y ∷ xs) ys x h = inr (last_has xs ys x h)
-
 rising_apart : (xs ys : List Entry) (x : Entry) → IsRising (xs ++ ys) → Has xs x → Has ys x → ⊥
 rising_apart [] ys x rising h g = absurd h
 rising_apart (a ∷ more) ys x rising h g =
-    ⊎_elim (λ (here : a ≡ x). (let less = all_at (λ (y : Entry). a.stamp < y.stamp) (more ++ ys) x rising.0 (last_has more ys x g) in let same = ap (λ (y : Entry). y.stamp) here in absurd (omega (arith, less, same))))
+    ⊎_elim (λ (here : a ≡ x). (let less = all_at (λ (y : Entry). a.stamp < y.stamp) (more ++ ys) x rising.0 (has_last more ys x g) in let same = ap (λ (y : Entry). y.stamp) here in absurd (omega (arith, less, same))))
     (λ (later : Has more x). rising_apart more ys x rising.1 later g) h
 
 pages_touches : (e : EndpointId) (event : Event) (o : Outcome) → pages_out e event ≡ true → list_any (same_end e) (ends_touched event o) ≡ true
@@ -120,18 +108,10 @@ driver_pages e (Interface n) x (Events.PageOut node end) is h of = absurd (cc)
 driver_pages e (Thread t) x event is h of = absurd (cc)
 driver_pages e (Interface n) x event is h of = absurd (cc)
 
-own_joined : (m : ℕ) (ts : List (Tenure Entry)) (x : Entry) → Has (own m ts) x → Has (joined ts) x
-own_joined m [] x h = absurd h
-own_joined m (t ∷ ts) x h = by_test (t.by == m) h (own_joined m ts x)
-  where
-    by_test : (b : Bool) → Has (cond b (t.items ++ own m ts) (own m ts)) x → (Has (own m ts) x → Has (joined ts) x) → Has (t.items ++ joined ts) x
-    by_test true g more = ⊎_elim (λ (a : Has t.items x). first_has t.items (joined ts) x a) (λ (b : Has (own m ts) x). last_has t.items (joined ts) x (more b)) (append_has t.items (own m ts) x g)
-    by_test false g more = last_has t.items (joined ts) x (more g)
-
 -- the driver has seen each entry of its own
 driver_saw : (s : ScenarioLists) (r : RunEnd) (node : NodeId) (f : IsDriverAt s r node) (k : ℕ) (e : EndpointId) (x : Entry) → slice_get (ends_of (layout_of s) node) k ≡ Some e → Contains (r.made (Driver node)) x → touches e x ≡ true → Has (seen_log k f.worker.pass) x
 driver_saw s r node f k e x at has is =
-    own_joined f.worker.pass.mark (known_at k f.worker.pass).seen x
+    own_in f.worker.pass.mark (known_at k f.worker.pass).seen x
     (subst (λ (xs : List Entry). Has xs x) (sym (f.end.works.knows.own k e at).added)
     (filter_has (touches e) f.end.works.made x (contains_has f.end.works.made x (subst (λ (xs : List Entry). Contains xs x) (sym f.end.same) has)) is))
 
@@ -144,7 +124,7 @@ not_paged s r end node f k e log rest at book is x has pages =
     rising_apart (seen_log k f.worker.pass) rest x (subst IsRising is book.rising) saw has
   where
     there : Has log x
-    there = subst (λ (xs : List Entry). Has xs x) (sym is) (last_has (seen_log k f.worker.pass) rest x has)
+    there = subst (λ (xs : List Entry). Has xs x) (sym is) (has_last (seen_log k f.worker.pass) rest x has)
 
     saw : Has (seen_log k f.worker.pass) x
     saw =
@@ -180,7 +160,7 @@ on_disk_since layout e journal seen rest packet lawful history is none on = (
 -- ---- what the driver's disk holds
 
 told : (s : ScenarioLists) (r : RunEnd) (node : NodeId) (f : IsDriverAt s r node) (k : ℕ) (e : EndpointId) → slice_get (ends_of (layout_of s) node) k ≡ Some e → IsBornAt f.worker.pass.births k
-told s r node f k e at = born_at f.worker.pass.births k (let less = got_low (ends_of (layout_of s) node) k e at in let all = f.end.works.knows.all in omega (arith, less, all))
+told s r node f k e at = born_at f.worker.pass.births k (let less = slice_get_within (ends_of (layout_of s) node) k e at in let all = f.end.works.knows.all in omega (arith, less, all))
 
 -- it holds the body of an endpoint that lay on disk when its driver saw it last
 held_there : (s : ScenarioLists) (r : RunEnd) (node : NodeId) (f : IsDriverAt s r node) (k : ℕ) (e : EndpointId) → slice_get (ends_of (layout_of s) node) k ≡ Some e → is_on_disk (replay e (opening (layout_of s) e) (seen_log k f.worker.pass)).head.place ≡ true → HoldsBody (r.nodes node).disk s.pool e (replay e (opening (layout_of s) e) (seen_log k f.worker.pass)).body

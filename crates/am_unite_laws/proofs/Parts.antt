@@ -5,6 +5,7 @@ use Rattle.std.proofs.Common.{◌≡◌, inl, inr, ℕ, zero, suc, ◌+◌, ◌<
 use Rattle.std.proofs.lemmas.Bool.{and_parts}
 use lib.ListN.{get_elem?}
 use mathlib.Core.Option.{some}
+use Rattle.am_lemmas.proofs.Lists.{map_twice}
 use Rattle.am_names.specs.declared.NodeId.{NodeId}
 use Rattle.am_names.specs.Names.{same_node}
 use Rattle.am_office.specs.declared.Entry.{Entry}
@@ -47,10 +48,6 @@ use Rattle.am_unite_laws.proofs.Disk.{held_at_end}
 
 -- ---- words on lists
 
-map_both : {X Y Z : Type 0} (f : X → Y) (g : Y → Z) (xs : List X) → map g (map f xs) ≡ map (λ (x : X). g (f x)) xs
-map_both f g [] = refl
-map_both {X} {Y} {Z} f g (x ∷ xs) = ap (λ (zs : List Z). g (f x) ∷ zs) (map_both f g xs)
-
 all_mapped : {X Y : Type 0} (f : X → Y) (P : Y → Type 0) (xs : List X) → AllAre (λ (x : X). P (f x)) xs → AllAre P (map f xs)
 all_mapped f P [] h = tt
 all_mapped f P (x ∷ xs) h = (h.0, all_mapped f P xs h.1)
@@ -75,7 +72,7 @@ births_are s r end node d k b at =
 
 same_logs : (s : ScenarioLists) (r : RunEnd) (node : NodeId) (p : NodePart) → IsPartEnd s r node p → logs_of_part p ≡ node_lists r node
 same_logs s r node p e =
-    λ i. (ap (map log_of) e.ends' ∙ map_both end_of log_of (r.nodes node).books) i ++ e.log i ∷ []
+    λ i. (ap (map log_of) e.ends' ∙ map_twice end_of log_of (r.nodes node).books) i ++ e.log i ∷ []
 
 pub same_lists : (s : ScenarioLists) (r : RunEnd) (ps : List NodePart) (a n : ℕ) → length ps ≡ n → ((k : ℕ) (p : NodePart) → slice_get ps k ≡ Some p → (m : ℕ) → m ≡ a + k → IsPartEnd s r (node_at m) p) → all_logs ps ≡ lists_of r (map node_at (range_with_len a n))
 same_lists s r [] a zero all each = refl
@@ -165,8 +162,8 @@ module _ (s : ScenarioLists) (r : RunEnd) (end : IsEnded s r) (node : NodeId) (d
         is_node = e.is_node;
         ends' =
             ap (map (λ (v : EndpointView). setting_in (kept v))) e.ends'
-            ∙ map_both end_of (λ (v : EndpointView). setting_in (kept v)) (r.nodes node).books
-            ∙ sym (map_both (λ (b : EndBook). b.end.value.settings) setting_by (r.nodes node).books)
+            ∙ map_twice end_of (λ (v : EndpointView). setting_in (kept v)) (r.nodes node).books
+            ∙ sym (map_twice (λ (b : EndBook). b.end.value.settings) setting_by (r.nodes node).books)
             ∙ ap (map setting_by) settings
             ∙ e.declared;
         own =

@@ -1,13 +1,15 @@
 -- The workers of all nodes end a run, and what their nodes have can be united.
 use Rattle.std.specs.Prelude.{drop, slice_get}
 use Rattle.std.specs.List.{filter}
-use Rattle.std.proofs.Common.{◌≡◌, ◌⊎◌, inl, inr, ⊎_elim, ℕ, zero, suc, ◌<◌, ◌≤◌, List, [], ◌∷◌, ◌++◌, map, length, Option, Some, None, refl, sym, ap, ◌∙◌, subst, arith, Contains}
+use Rattle.std.proofs.Common.{◌≡◌, ◌⊎◌, inl, inr, ⊎_elim, ℕ, ◌<◌, ◌≤◌, List, [], ◌∷◌, ◌++◌, map, length, Option, Some, None, refl, sym, ap, ◌∙◌, subst, arith, Contains}
 use Rattle.std.proofs.lemmas.Option.{slice_get_within}
 use Rattle.std.proofs.Math.Seq.{drop-append_seam}
+use Rattle.am_lemmas.proofs.Lists.{slice_get-Some}
 use Rattle.am_names.specs.declared.NodeId.{NodeId}
 use Rattle.am_office.specs.declared.Entry.{Entry}
 use Rattle.am_join.proofs.Standing.{behind}
 use Rattle.am_model.specs.Layout.{AllAre, node_at}
+use Rattle.am_model.proofs.Alls.{all_push}
 use Rattle.am_local.specs.Together.{ends_of}
 use Rattle.am_journal.specs.View.{receipts}
 use Rattle.am_machine.specs.Parts.{is_declared_at}
@@ -23,12 +25,12 @@ use Rattle.am_phase.specs.Tenures.{IsSeat}
 use Rattle.am_crew_laws.specs.Ended.{DriverEnd, HaveSeats, InterfaceEnd, IsAtWork, IsClosed, IsEnded, IsNodeEnd, IsTakenOut, Keeps, NodeEnd, ThreadEnd, Worker, whole_pass, workers}
 use Rattle.am_crew_laws.proofs.Passes.{IsIn}
 use Rattle.am_crew_laws.proofs.Homes.{got_in}
-use Rattle.am_crew_laws.proofs.Ends.{in_got, in_map}
+use Rattle.am_crew_laws.proofs.Ends.{in_got, in_map, in_first, in_last}
 use Rattle.am_works.specs.Seats.{setting_by}
 use Rattle.am_unite_laws.specs.Ended.{ArePartEnds, IsPartEnd, end_of}
 use Rattle.am_unite_laws.specs.Teams.{ArePartsOfTeams, AreTeams, IsPartOfTeam, IsTeam, Team, TeamThread, TeamsEnd, TeamsUnite, all_threads, driven_in, gathered_in, keeper_in, log_in, node_end, node_in, run_of, sent_in, taken_in, worker_of_thread}
 use Rattle.am_unite_laws.proofs.Seated.{IsSeatedTeam, seated_team, teams_gather}
-use Rattle.am_unite_laws.proofs.Threads.{IsFirst, IsNone, first_of, in_first, in_last, in_team, made_is}
+use Rattle.am_unite_laws.proofs.Threads.{IsFirst, IsNone, first_of, in_team, made_is}
 use Rattle.am_unite_laws.proofs.Unite.{are_a_phase, ends_unite, keep_calls, no_journal}
 
 -- ---- words on lists
@@ -37,15 +39,6 @@ in_contains : {X : Type 0} (xs : List X) (z : X) → IsIn xs z → Contains xs z
 in_contains [] z h = absurd h
 in_contains {X} (y ∷ ys) z h =
     ⊎_elim (λ (here : y ≡ z). subst (λ (x : X). Contains (y ∷ ys) x) here (0, omega arith, refl)) (λ (more : IsIn ys z). behind y ys z (in_contains ys z more)) h
-
-there_is : {X : Type 0} (xs : List X) (k : ℕ) → k < length xs → (x : X) × (slice_get xs k ≡ Some x)
-there_is [] k less = absurd (omega (arith, less))
-there_is (x ∷ xs) zero less = (x, refl)
-there_is (x ∷ xs) (suc k) less = there_is xs k (omega (arith, less))
-
-all_pushed : {X : Type 0} (P : X → Type 0) (xs : List X) (x : X) → AllAre P xs → P x → AllAre P (xs ++ x ∷ [])
-all_pushed P [] x h p = (p, tt)
-all_pushed P (y ∷ ys) x h p = (h.0, all_pushed P ys x h.1 p)
 
 all_of_map : {X Y : Type 0} (f : X → Y) (P : Y → Type 0) (xs : List X) → AllAre (λ (x : X). P (f x)) xs → AllAre P (map f xs)
 all_of_map f P [] h = tt
@@ -77,7 +70,7 @@ module _ (s : ScenarioLists) (teams : List Team) (a : AreTeams s teams) where
       }
 
   team_of : (node : NodeId) → node.0 < s.nodes → (t : Team) × IsTeamAt node t
-  team_of node d = let t = there_is teams node.0 (let all = a.all in omega (arith, d, all)) in (t.0, at_place node t.0 t.1)
+  team_of node d = let t = slice_get-Some teams node.0 (let all = a.all in omega (arith, d, all)) in (t.0, at_place node t.0 t.1)
 
   module _ (node : NodeId) (t : Team) (h : IsTeamAt node t) where
     node_is : (run_of s teams).nodes node ≡ node_end node t
@@ -129,7 +122,7 @@ module _ (s : ScenarioLists) (teams : List Team) (a : AreTeams s teams) where
     all_keep : AllAre (Keeps s (run_of s teams) node) (keeper_in node t ∷ gathered_in node t)
     all_keep = (
       driver_keeps,
-      all_pushed (Keeps s (run_of s teams) node) (map worker_of_thread t.threads) (record { maker = Interface node; pass = t.interface })
+      all_push (Keeps s (run_of s teams) node) (map worker_of_thread t.threads) (record { maker = Interface node; pass = t.interface })
           (all_of_map worker_of_thread (Keeps s (run_of s teams) node) t.threads
           (all_with (λ (w : TeamThread). ThreadEnd s (ends_of (layout_of s) node) w.thread w.made w.pass) (λ (w : TeamThread). Keeps s (run_of s teams) node (worker_of_thread w)) t.threads
           h.team.threads' thread_keeps))
@@ -233,7 +226,7 @@ part_ends s teams parts a ps =
       drivers = λ node d. (let t = team_of s teams a node d in driver_at_work s teams a node t.0 t.1);
       all = ps.all;
       each = λ k p at.
-          (let t = there_is teams k (let less = slice_get_within parts k p at in let all = ps.all in let long = a.all in omega (arith, less, all, long)) in
+          (let t = slice_get-Some teams k (let less = slice_get_within parts k p at in let all = ps.all in let long = a.all in omega (arith, less, all, long)) in
           part_end s teams parts ps k t.0 p t.1 at);
     }
 

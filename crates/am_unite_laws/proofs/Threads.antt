@@ -2,14 +2,14 @@
 use Rattle.std.specs.Prelude.{slice_get, slice_index_or}
 use Rattle.std.specs.List.{AllPairs, filter}
 use Rattle.std.specs.Option.{option_map}
-use Rattle.std.proofs.Common.{◌≡◌, ◌≢◌, ◌⊎◌, inl, inr, ⊎_elim, ℕ, zero, suc, ◌<◌, ◌==◌, Bool, true, false, cond, List, [], ◌∷◌, ◌++◌, length, Some, refl, sym, ap, ◌∙◌, subst, arith, eqb-true, eq-eqb, true≢false}
+use Rattle.std.proofs.Common.{◌≡◌, ◌≢◌, ◌⊎◌, inl, inr, ⊎_elim, ℕ, zero, suc, ◌<◌, ◌==◌, Bool, true, false, cond, List, [], ◌∷◌, length, Some, refl, sym, ap, ◌∙◌, subst, arith, eqb-true, eq-eqb, true≢false}
 use Rattle.std.proofs.lemmas.Option.{same_Some, slice_get-map}
 use Rattle.am_model.specs.Layout.{AllAre, node_at}
 use Rattle.am_machine.proofs.PartLogs.{got_mapped}
 use Rattle.am_scenario_types.specs.declared.parts.ThreadLine.{ThreadLine}
 use Rattle.am_scenario_types.specs.Lists.{ScenarioLists}
 use Rattle.am_crew_laws.proofs.Passes.{IsIn, all_in}
-use Rattle.am_crew_laws.proofs.Ends.{in_got}
+use Rattle.am_crew_laws.proofs.Ends.{in_got, in_parts, in_first, in_last}
 use Rattle.am_crew_laws.proofs.Homes.{got_in}
 use Rattle.am_unite_laws.specs.Teams.{AreTeams, Team, TeamThread, all_threads, is_on, made_among, number_of_line, thread_of}
 
@@ -79,18 +79,6 @@ pub record IsInTeam (teams : List Team) (w : TeamThread) : Type 0 where
   pub seat : ℕ
   pub at : slice_get teams place ≡ Some team
   pub there : slice_get team.threads seat ≡ Some w
-
-in_parts : {X : Type 0} (xs ys : List X) (z : X) → IsIn (xs ++ ys) z → IsIn xs z ⊎ IsIn ys z
-in_parts [] ys z h = inr h
-in_parts (x ∷ xs) ys z h = ⊎_elim (λ (here : x ≡ z). inl (inl here)) (λ (more : IsIn (xs ++ ys) z). ⊎_elim (λ (a : IsIn xs z). inl (inr a)) (λ (b : IsIn ys z). inr b) (in_parts xs ys z more)) h
-
-pub in_first : {X : Type 0} (xs ys : List X) (z : X) → IsIn xs z → IsIn (xs ++ ys) z
-in_first [] ys z h = absurd h
-in_first (x ∷ xs) ys z h = ⊎_elim (λ (here : x ≡ z). inl here) (λ (more : IsIn xs z). inr (in_first xs ys z more)) h
-
-pub in_last : {X : Type 0} (xs ys : List X) (z : X) → IsIn ys z → IsIn (xs ++ ys) z
-in_last [] ys z h = h
-in_last (x ∷ xs) ys z h = inr (in_last xs ys z h)
 
 pub in_team : (teams : List Team) (w : TeamThread) → IsIn (all_threads teams) w → IsInTeam teams w
 in_team [] w h = absurd h

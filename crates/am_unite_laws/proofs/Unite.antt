@@ -1,5 +1,6 @@
 -- The parts of a run's nodes can be united, and have the journal of the phase.
 use Rattle.std.proofs.Common.{◌≡◌, ℕ, ◌^◌, ◌<◌, ◌≤◌, List, sym, ap, ◌∙◌, subst, arith, Contains}
+use Rattle.std.proofs.lemmas.Option.{slice_get_within}
 use Rattle.am_office.specs.declared.Entry.{Entry}
 use Rattle.am_office.specs.Entries.{touches}
 use Rattle.am_model.specs.Layout.{AllAre, node_at}
@@ -20,7 +21,6 @@ use Rattle.am_phase.proofs.Splits.{all_at, all_from}
 use Rattle.am_phase.proofs.Threads.{calls_within, of_thread}
 use Rattle.am_crew_laws.specs.Ended.{IsEnded, RunEnd, all_lists, logs_at}
 use Rattle.am_crew_laws.specs.Laws.{IsPhaseAtEnd}
-use Rattle.am_crew_laws.proofs.Homes.{got_low}
 use Rattle.am_crew_laws.proofs.Done.{driver_at, part, workers_are_done}
 use Rattle.am_crew_laws.proofs.Ends.{ends_are_a_phase, have_all, no_turns_no_phase}
 use Rattle.am_unite_laws.specs.Ended.{ArePartEnds, EndsUnite, IsPartEnd, NoTurnsNoJournal, PartsAreAPhase, PartsHaveAll, PartsKeepCalls}
@@ -60,7 +60,7 @@ module _ (s : ScenarioLists) (r : RunEnd) (end : IsEnded s r) where
       record {
         all = ps.all;
         each = λ k p at.
-            (let less = got_low parts k p at in
+            (let less = slice_get_within parts k p at in
             let all = ps.all in
             let low : k < s.nodes = omega (arith, less, all) in
             node_part s r end (node_at k) low p ps.packet (driver_at s r end (node_at k) (ps.drivers (node_at k) low)) (ps.each k p at));

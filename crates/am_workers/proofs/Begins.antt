@@ -1,6 +1,6 @@
 -- Each worker at a seat that was just made is at work, with no turn made.
 use Rattle.std.specs.Prelude.{replicate, slice_get, slice_index, slice_index_or}
-use Rattle.std.proofs.Common.{◌≡◌, ◌⊎◌, inl, inr, ⊎_elim, ℕ, zero, suc, ◌+◌, ◌==◌, ◌<◌, Bool, true, false, cond, List, [], ◌∷◌, map, length, Option, Some, None, refl, sym, ap, ◌∙◌, subst, arith, eq-eqb, eqb-true}
+use Rattle.std.proofs.Common.{◌≡◌, ◌⊎◌, inl, inr, ⊎_elim, ℕ, zero, suc, ◌+◌, ◌<◌, Bool, true, false, cond, List, [], ◌∷◌, map, Option, Some, None, refl, sym, ap, ◌∙◌, subst, arith, eq-eqb}
 use Rattle.std.proofs.lemmas.List.{length-replicate}
 use lib.ListN.{get_elem?}
 use mathlib.Core.Option.{some}
@@ -24,6 +24,8 @@ use Rattle.am_model.specs.Endpoint.{State, fresh, is_direct}
 use Rattle.am_model.specs.History.{is_in_frame}
 use Rattle.am_model.specs.Layout.{AllAre, EndSetting, Layout, has_id, opening, opening_by, opening_place}
 use Rattle.std.specs.List.{find}
+use Rattle.am_lemmas.proofs.Numbers.{zero_eqb_suc}
+use Rattle.am_lemmas.proofs.Lists.{maps_as_long}
 use Rattle.am_phase.specs.Frames.{LiesAsMoved}
 use Rattle.am_places.specs.Codes.{place_code}
 use Rattle.am_places.specs.Rule.{FrameFits, IsOutside, joined, known_at, nothing, tenure}
@@ -111,10 +113,6 @@ all_of_both : {X : Type 0} (P Q : X → Type 0) (xs : List X) → AllAre P xs �
 all_of_both P Q [] p q = tt
 all_of_both P Q (x ∷ xs) p q = ((p.0, q.0), all_of_both P Q xs p.1 q.1)
 
-map_length : {X Y Z : Type 0} (f : X → Y) (g : X → Z) (xs : List X) → length (map f xs) ≡ length (map g xs)
-map_length f g [] = refl
-map_length f g (x ∷ xs) = ap suc (map_length f g xs)
-
 nothing_seen : (books : List EndBook) (k : ℕ) → AllAre (λ (b : EndBook). b.end.value.log ≡ []) books → joined (slice_index_or (map known_of books) k nothing).seen ≡ []
 nothing_seen [] k none = refl
 nothing_seen (b ∷ bs) zero none = ap (λ (xs : List Entry). joined (tenure 0 xs ∷ [])) none.0
@@ -129,13 +127,6 @@ nobody_inside (b ∷ bs) (suc k) = nobody_inside bs k
 new_idle : (table : TableId) (books : List EndBook) (named : List EndpointId) (k seats frames : ℕ) (token : Seat (Option EndBook) EndPass) → IsNewSeat table books named k seats frames token → IsIdle table token
 new_idle table books named k seats frames token n =
     record { table = n.table_is; hand = ap (λ z. z.1) n.pass; outside = subst IsOutside (sym (ap (λ z. z.0) n.pass)) (λ j near. nobody_inside books j) }
-
-never : (k : ℕ) → (0 == k + 1) ≡ false
-never k = by_test (0 == k + 1) refl
-  where
-    by_test : (b : Bool) → (0 == k + 1) ≡ b → b ≡ false
-    by_test false is = refl
-    by_test true is = absurd (let same : 0 ≡ k + 1 = eqb-true 0 (k + 1) is in omega (arith, same))
 
 -- ---- a driver
 
@@ -159,7 +150,7 @@ module _ (s : ScenarioLists) (node : NodeId) (books : List EndBook) (swap : Stor
       (record {
         shows = ap (line_by b.end.value.settings) (sym (whole));
         lies = subst (λ (xs : List Entry). LiesSo (replicate frames 0) swap j b.end.value.settings (state_by b.end.value.settings xs)) (sym none) (lies_fresh b.end.value.settings j packet opens.1.0 opens.1.1);
-        own = ap (λ (t : Bool). cond t (b.end.value.log ∷ []) []) (never k);
+        own = ap (λ (t : Bool). cond t (b.end.value.log ∷ []) []) (zero_eqb_suc k);
         once = refl;
       })
     where
@@ -179,8 +170,8 @@ can_begin s books named node k seats keep swap a last disk =
       last = last;
       marked = omega (arith);
       drives = eq-eqb (k + 1) seats last;
-      all = map_length line_now (λ (b : EndBook). b.end.value.settings) books;
-      wide = map_length known_of (λ (b : EndBook). b.end.value.settings) books;
+      all = maps_as_long line_now (λ (b : EndBook). b.end.value.settings) books;
+      wide = maps_as_long known_of (λ (b : EndBook). b.end.value.settings) books;
       framed = refl;
       sized = length-replicate s.frames 0;
       owned = λ frame near. (let none = no_claim s.frames frame in omega (arith, none));

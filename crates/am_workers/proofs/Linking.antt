@@ -1,7 +1,8 @@
 -- The links of a node, when one of them changed.
-use Rattle.std.specs.Prelude.{is_some, slice_get, slice_index_or, slice_set, OnOk, Result, Ok, Err}
+use Rattle.std.specs.Prelude.{is_some, slice_get, slice_index_or, slice_set}
 use Rattle.std.proofs.Common.{◌≡◌, ◌≢◌, ◌⊎◌, inl, inr, ⊎_elim, ℕ, zero, suc, ◌<◌, ◌≤◌, ◌==◌, Bool, true, false, cond, List, [], ◌∷◌, ◌++◌, length, get_or, Option, Some, None, refl, sym, ap, ◌∙◌, subst, arith, append-nil, eqb-true, eq-eqb, true≢false}
 use Rattle.std.proofs.lemmas.Option.{slice_get-get_or, slice_get_within}
+use Rattle.std.proofs.lemmas.List.{length-set}
 use Rattle.am_names.specs.declared.NodeId.{NodeId}
 use Rattle.am_names.specs.declared.Packet.{Packet}
 use Rattle.am_model.specs.Packets.{receiver_of}
@@ -27,11 +28,6 @@ got_set (y ∷ xs) zero zero v x h = inl (refl, cc)
 got_set (y ∷ xs) zero (suc k) v x h = inr ((λ q. omega (arith, q)), h)
 got_set (y ∷ xs) (suc i) zero v x h = inr ((λ q. omega (arith, q)), h)
 got_set (y ∷ xs) (suc i) (suc k) v x h = ⊎_elim (λ here. inl (ap suc here.0, here.1)) (λ there. inr ((λ q. there.0 (omega (arith, q))), there.1)) (got_set xs i k v x h)
-
-pub set_length : {X : Type 0} (xs : List X) (k : ℕ) (w : X) → length (slice_set xs k w) ≡ length xs
-set_length [] k w = refl
-set_length (x ∷ xs) zero w = refl
-set_length (x ∷ xs) (suc k) w = ap suc (set_length xs k w)
 
 -- a list as long has an element where the other has one
 pub as_there : {X : Type 0} (xs ys : List X) (k : ℕ) (y : X) → length ys ≡ length xs → slice_get ys k ≡ Some y → (x : X) × (slice_get xs k ≡ Some x)
@@ -82,7 +78,7 @@ set_link a k o p here same j x y at there = ⊎_elim written elsewhere (got_set 
     elsewhere e = subst (λ (z : LinkOut). SameLink x z) (same_got (slice_get a j) x y at e.1) (link_itself x)
 
 pub outs_set : (a : List LinkOut) (k : ℕ) (o p : LinkOut) → slice_get a k ≡ Some o → SameLink o p → SameOuts a (slice_set a k p)
-outs_set a k o p here same = record { all = set_length a k p; each = set_link a k o p here same }
+outs_set a k o p here same = record { all = length-set a k p; each = set_link a k o p here same }
 
 pub ins_itself : (a : List LinkIn) → SameIns a a
 ins_itself a = record { all = refl; each = λ k o p at there. subst (λ (z : LinkIn). SameEnd o z) (same_got (slice_get a k) o p at there) (end_itself o) }
@@ -104,7 +100,7 @@ set_end a k o p here same j x y at there = ⊎_elim written elsewhere (got_set a
     elsewhere e = subst (λ (z : LinkIn). SameEnd x z) (same_got (slice_get a j) x y at e.1) (end_itself x)
 
 pub ins_set : (a : List LinkIn) (k : ℕ) (o p : LinkIn) → slice_get a k ≡ Some o → SameEnd o p → SameIns a (slice_set a k p)
-ins_set a k o p here same = record { all = set_length a k p; each = set_end a k o p here same }
+ins_set a k o p here same = record { all = length-set a k p; each = set_end a k o p here same }
 
 -- ---- what was emitted and taken
 
@@ -223,7 +219,3 @@ room_past a k past room j x at = room j x at (λ e. (let lt : j < length a = sli
 
 pub room_but_any : (a : List LinkOut) (k : ℕ) → HaveRoom a → HaveRoomBut k a
 room_but_any a k room j x at apart = room j x at
-
-pub on_ok : {A E P Q : Type 0} (r : Result A E) → OnOk r P → (P → Q) → OnOk r Q
-on_ok (Ok a) p f = f p
-on_ok (Err e) p f = p

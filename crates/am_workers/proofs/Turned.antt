@@ -18,7 +18,7 @@ use Rattle.am_follow.specs.Layout.{layout_of}
 use Rattle.am_wire.specs.Links.{SameLink}
 use Rattle.am_wire.specs.declared.sending.LinkOut.{LinkOut}
 use Rattle.am_books.specs.declared.EndBook.{EndBook}
-use Rattle.am_works.specs.Seats.{EndPass, Ids, IsIdle, SameSeat}
+use Rattle.am_works.specs.Seats.{EndPass, Ids, IsIdle}
 use Rattle.am_works.specs.Works.{Hand, InterfaceWorks, held_from}
 use Rattle.am_turns.specs.Servers.{sent_to}
 use Rattle.am_workers.specs.AtWork.{AreOuts, IsInterfaceAtWork, IsWay, SameOuts, sent_by, taken_by}
@@ -111,9 +111,6 @@ module _ (s : ScenarioLists) (table : TableId) (ids : Ids) (node : NodeId) where
       }
 
 -- ---- the same seat
-
-pub seat_then : (u v w : EndPass) → SameSeat u v → SameSeat v w → SameSeat u w
-seat_then u v w h g = record { mark = g.mark ∙ h.mark; seats = g.seats ∙ h.seats; births = g.births ∙ h.births }
 
 -- ---- what is emitted
 

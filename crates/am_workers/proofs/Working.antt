@@ -1,9 +1,9 @@
 -- What a thread and a driver keep from turn to turn.
 use Rattle.std.proofs.Common.{◌≡◌, ℕ, ◌+◌, ◌<◌, ◌^◌, true, ◌&&◌, List, Some, sym, ap, subst}
 use Rattle.atomic_table.specs.Seated.{TableId}
+use Rattle.am_lemmas.proofs.Bools.{and_second}
 use Rattle.am_names.specs.declared.NodeId.{NodeId}
 use Rattle.am_office.specs.declared.Actor.TheVariants.{Thread}
-use Rattle.am_driver.proofs.Found.{and_right}
 use Rattle.am_follow.specs.Layout.{is_direct, layout_of}
 use Rattle.am_follow.proofs.Lawful.{lawful_layout}
 use Rattle.am_local.specs.Together.{ends_of}
@@ -29,7 +29,7 @@ use Rattle.am_workers.specs.declared.workers.ThreadWorker.{ThreadWorker}
 pub have_range : (s : ScenarioLists) (thread : ℕ) (calls : List ScriptCall) (v : EndPass) → AreBorn (layout_of s) v → IsScript s thread calls → HaveRange v calls
 have_range s thread calls v born script j k set c at call =
     subst (λ pool. are_numbers_in_range pool c.call ≡ true) (sym (born j set at).pool)
-    (numbers_in_range (layout_of s) c.call (and_right (is_actor_in_range (Thread thread) && declared (layout_of s) c.endpoint) (is_call_in_range (layout_of s) c.call) (script.called k c call)))
+    (numbers_in_range (layout_of s) c.call (and_second (is_actor_in_range (Thread thread) && declared (layout_of s) c.endpoint) (is_call_in_range (layout_of s) c.call) (script.called k c call)))
 
 -- the same worker's, from turn to turn
 pub record IsSameThread (s : ScenarioLists) (table : TableId) (ids : Ids) (turns : ℕ) (w w' : ThreadWorker) : Type 0 where

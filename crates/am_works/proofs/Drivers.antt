@@ -1,37 +1,38 @@
 -- A look and a move keep what a driver's worker keeps.
 use Rattle.std.specs.Prelude.{nat_lt, not, slice_get}
 use Rattle.std.specs.List.{filter, list_any}
-use Rattle.std.proofs.Common.{◌≡◌, ◌≢◌, ◌⊎◌, inl, inr, ⊎_elim, ℕ, zero, suc, ◌+◌, ◌-◌, ◌<◌, ◌≤◌, ◌^◌, ◌==◌, max, Bool, true, false, cond, ◌||◌, ◌&&◌, List, [], ◌∷◌, ◌++◌, map, length, Option, Some, None, refl, sym, ap, ◌∙◌, subst, arith, append_assoc, append-nil, eq-eqb, lt-ltb, true≢false, if◌then◌else◌}
-use Rattle.std.proofs.Math.Nat.{min-eq_left}
+use Rattle.std.proofs.Common.{◌≡◌, ◌≢◌, ◌⊎◌, inl, inr, ⊎_elim, ℕ, zero, suc, ◌+◌, ◌<◌, ◌≤◌, ◌^◌, ◌==◌, max, Bool, true, false, cond, ◌||◌, ◌&&◌, List, [], ◌∷◌, ◌++◌, map, length, Option, Some, None, refl, sym, ap, ◌∙◌, subst, arith, append_assoc, append-nil, eq-eqb, lt-ltb, true≢false, if◌then◌else◌}
 use Rattle.std.proofs.lemmas.List.{length_push}
 use Rattle.std.proofs.lemmas.List.Sums.{count_by-le-length}
 use lib.ListN.{get_elem?}
 use mathlib.Core.Option.{some}
+use mathlib.Core.Bool.{or-false}
+use Rattle.std.proofs.lemmas.Bool.{and_from, not-true}
+use Rattle.am_lemmas.proofs.Bools.{and_first, and_second}
+use Rattle.am_lemmas.proofs.Options.{some_is}
 use Rattle.am_names.specs.declared.EndpointId.{EndpointId}
 use Rattle.am_names.specs.declared.NodeId.{NodeId}
 use Rattle.am_names.specs.Names.{same_end, same_node}
-use Rattle.am_office.specs.declared.Condition.{Condition}
 use Rattle.am_office.specs.declared.Condition.TheVariants as Needs
 use Rattle.am_office.specs.declared.Event.{Event}
 use Rattle.am_office.specs.declared.Event.TheVariants as Events
 use Rattle.am_office.specs.declared.Outcome.{Outcome}
 use Rattle.am_office.specs.declared.Outcome.TheVariants as Out
-use Rattle.am_office.specs.declared.Place.{Place}
-use Rattle.am_office.specs.declared.Place.TheVariants.{Host, Disk, Frame, Direct}
 use Rattle.am_office.specs.declared.Entry.{Entry}
 use Rattle.am_office.specs.Entries.{ends_touched, is_node, touches}
 use Rattle.am_body.specs.declared.settings.EndSettings.{EndSettings}
-use Rattle.am_device.specs.Causes.{fails_after, one_more}
-use Rattle.am_device.specs.Memory.{Store, counted, faulted, with_held}
+use Rattle.am_device.specs.Causes.{one_more}
+use Rattle.am_device.specs.Memory.{Store, with_held}
 use Rattle.am_endpoint.specs.View.{last_stamp, state_by}
 use Rattle.am_image.specs.Image.{image}
 use Rattle.am_model.specs.Changes.{after, replay}
-use Rattle.am_model.specs.Endpoint.{State, fresh, is_in_a_frame, is_on_disk, is_on_host, is_resident}
+use Rattle.am_model.specs.Endpoint.{State, fresh, is_on_disk, is_on_host}
 use Rattle.am_model.specs.History.{is_in_frame, is_in_range, is_page_call}
 use Rattle.am_model.specs.Layout.{AllAre, EndSetting, Layout, declared, has_id, opening}
 use Rattle.am_model.proofs.Names.{same_end-is, same_end-refl}
 use Rattle.am_local.specs.Driver.{DriverLog, changes_frame, end_moved, failing_move, is_frame_held_by, lies_in, outcome_move, page_at, page_number}
 use Rattle.am_model.specs.Parts.{driver_of, is_by_driver}
+use Rattle.am_model.proofs.Places.{on_host_in_no_frame, framed_is_resident}
 use Rattle.am_local.specs.Readings.{page_calls}
 use Rattle.am_local.specs.Together.{ends_of, faults_of}
 use Rattle.am_local.proofs.Growing.{readings_push}
@@ -42,9 +43,9 @@ use Rattle.am_driver.specs.Shown.{event_of}
 use Rattle.am_driver.specs.declared.EndView.{EndView}
 use Rattle.am_driver.specs.declared.Move.{Move}
 use Rattle.am_driver.specs.declared.Move.TheVariants as Moves
-use Rattle.am_driver.proofs.Found.{and_left, and_right, both, not_true, true_not}
+use Rattle.am_driver.proofs.Found.{not_true}
 use Rattle.am_moves.specs.Logs.{EndLog, state_in}
-use Rattle.am_moves.specs.Pages.{after_call, after_page, page_outcome}
+use Rattle.am_moves.specs.Pages.{after_page, page_outcome}
 use Rattle.am_phase.specs.Frames.{LiesAsMoved}
 use Rattle.am_phase.specs.Then.{IsFound, StandsAfter}
 use Rattle.am_phase.proofs.Frames.{frames_are_known}
@@ -52,6 +53,8 @@ use Rattle.am_places.specs.Rule.{Begins, holder_word, joined, known_at, read}
 use Rattle.am_places.specs.declared.board.Known.{Known}
 use Rattle.am_places.specs.declared.board.Tenure.{Tenure}
 use Rattle.am_scenario_types.specs.Lists.{ScenarioLists}
+use Rattle.am_driver.proofs.Enabled.{skip}
+use Rattle.am_moves.proofs.Stores.{call_fails, one_more_is, call_calls}
 use Rattle.am_follow.specs.Layout.{layout_of}
 use Rattle.am_works.specs.Drivers.{DriversGoOn, DriversLook, DriversRest, DriversWait, IsDriverOf}
 use Rattle.am_moves.specs.Moves.{outcome_with, swap_with}
@@ -193,45 +196,21 @@ is_driver node (Moves.Drain e) event h = ap driver_of (sym (same_event (Events.D
 is_driver node (Moves.PageOut e) event h = ap driver_of (sym (same_event (Events.PageOut node e) event h))
 is_driver node Moves.Nothing event h = absurd (cc)
 
-or_none : (b : Bool) → (b || false) ≡ b
-or_none true = refl
-or_none false = refl
-
-some_same : (a b : EndpointId) → Some a ≡ Some b → a ≡ b
-some_same a b h = cc
-
 touched_by : (d e : EndpointId) (event : Event) (o : Outcome) → end_moved event ≡ Some e → list_any (same_end d) (ends_touched event o) ≡ same_end d e
-touched_by d e (Events.Drain node end) o h = or_none (same_end d end) ∙ ap (same_end d) (some_same end e h)
-touched_by d e (Events.Unload node end) o h = or_none (same_end d end) ∙ ap (same_end d) (some_same end e h)
-touched_by d e (Events.Load node end frame) o h = or_none (same_end d end) ∙ ap (same_end d) (some_same end e h)
-touched_by d e (Events.PageOut node end) o h = or_none (same_end d end) ∙ ap (same_end d) (some_same end e h)
-touched_by d e (Events.PageIn node end) o h = or_none (same_end d end) ∙ ap (same_end d) (some_same end e h)
+touched_by d e (Events.Drain node end) o h = or-false (same_end d end) ∙ ap (same_end d) (some_is end e h)
+touched_by d e (Events.Unload node end) o h = or-false (same_end d end) ∙ ap (same_end d) (some_is end e h)
+touched_by d e (Events.Load node end frame) o h = or-false (same_end d end) ∙ ap (same_end d) (some_is end e h)
+touched_by d e (Events.PageOut node end) o h = or-false (same_end d end) ∙ ap (same_end d) (some_is end e h)
+touched_by d e (Events.PageIn node end) o h = or-false (same_end d end) ∙ ap (same_end d) (some_is end e h)
 touched_by d e event o h = absurd (cc)
 
 -- it changes the frame of no other endpoint
 frame_kept : (d e : EndpointId) (event : Event) → end_moved event ≡ Some e → same_end d e ≡ false → changes_frame d event ≡ false
-frame_kept d e (Events.Load node end frame) h other = ap (same_end d) (some_same end e h) ∙ other
-frame_kept d e (Events.Unload node end) h other = ap (same_end d) (some_same end e h) ∙ other
+frame_kept d e (Events.Load node end frame) h other = ap (same_end d) (some_is end e h) ∙ other
+frame_kept d e (Events.Unload node end) h other = ap (same_end d) (some_is end e h) ∙ other
 frame_kept d e event h other = refl
 
 -- ---- the disk
-
-one_more_is : (n : ℕ) → n + 1 < 2 ^ 64 → one_more n ≡ n + 1
-one_more_is n few = let le : n + 1 ≤ 2 ^ 64 - 1 = omega (arith, few) in min-eq_left le
-
-call_fails : (s done : Store) → done.fails ≡ s.fails → (after_call s done).fails ≡ s.fails
-call_fails s done same = by_test (fails_after s.fails s.calls)
-  where
-    by_test : (b : Bool) → (if b then faulted s else counted done).fails ≡ s.fails
-    by_test true = refl
-    by_test false = same
-
-call_calls : (s done : Store) → done.calls ≡ s.calls → (after_call s done).calls ≡ one_more s.calls
-call_calls s done same = by_test (fails_after s.fails s.calls)
-  where
-    by_test : (b : Bool) → (if b then faulted s else counted done).calls ≡ one_more s.calls
-    by_test true = refl
-    by_test false = ap one_more same
 
 swap_fails : (s : Store) (e : EndLog) (event : Event) → (swap_with s e event).fails ≡ s.fails
 swap_fails s e (Events.PageOut node end) = call_fails s (with_held s e.settings.id (image (state_in e).body)) refl
@@ -276,56 +255,46 @@ outcome_is d s event fails number = refl
 
 -- ---- it is enabled
 
-skip : (b : Bool) (word : Condition) (rest : Option Condition) → b ≡ false → rest ≡ None → cond b (Some word) rest ≡ None
-skip true word rest e h = absurd (cc)
-skip false word rest e h = h
-
-framed_resident : (place : Place) → is_in_a_frame place ≡ true → is_resident place ≡ true
-framed_resident (Frame frame) h = refl
-framed_resident Host h = absurd (cc)
-framed_resident Disk h = absurd (cc)
-framed_resident Direct h = absurd (cc)
-
 enabled : (view : ViewLists) (node : NodeId) (d : DriverLog) (set : EndSettings) (log : List Entry) (m : Move) (event : Event) → Suits view m (line_by set log) → event_of node m ≡ Some event → list_any (same_end set.id) d.settings.ends ≡ true
     → ((e : EndpointId) (frame : ℕ) → m ≡ Moves.Load e frame → is_frame_held_by d frame ≡ false) → failing_move d (state_by set log) event ≡ None
 enabled view node d set log (Moves.Unload e) event suits is ours free =
     let l = line_by set log in
-    let leaving = and_left (is_leaving l) (l.in_flight == 0) suits.1 in
+    let leaving = and_first (is_leaving l) (l.in_flight == 0) suits.1 in
     let mine : list_any (same_end e) d.settings.ends ≡ true = subst (λ (i : EndpointId). list_any (same_end i) d.settings.ends ≡ true) suits.0 ours in
     subst (λ (v : Event). failing_move d (state_by set log) v ≡ None) (same_event (Events.Unload node e) event is)
     (skip _ _ _ (not_true _ mine)
-    (skip _ _ _ (not_true _ (framed_resident l.place (and_left (has_frame l) l.draining leaving)))
-    (skip _ _ _ (not_true _ (and_right (has_frame l) l.draining leaving))
-    (skip _ _ _ (not_true _ (and_right (is_leaving l) (l.in_flight == 0) suits.1)) refl))))
+    (skip _ _ _ (not_true _ (framed_is_resident l.place (and_first (has_frame l) l.draining leaving)))
+    (skip _ _ _ (not_true _ (and_second (has_frame l) l.draining leaving))
+    (skip _ _ _ (not_true _ (and_second (is_leaving l) (l.in_flight == 0) suits.1)) refl))))
 enabled view node d set log (Moves.PageIn e) event suits is ours free =
     let l = line_by set log in
     let mine : list_any (same_end e) d.settings.ends ≡ true = subst (λ (i : EndpointId). list_any (same_end i) d.settings.ends ≡ true) suits.0 ours in
     subst (λ (v : Event). failing_move d (state_by set log) v ≡ None) (same_event (Events.PageIn node e) event is)
-    (skip _ _ _ (not_true _ mine) (skip _ _ _ (not_true _ (and_left (is_on_disk l.place) l.wanted suits.1)) refl))
+    (skip _ _ _ (not_true _ mine) (skip _ _ _ (not_true _ (and_first (is_on_disk l.place) l.wanted suits.1)) refl))
 enabled view node d set log (Moves.Load e frame) event suits is ours free =
     let l = line_by set log in
-    let on_host = and_left (is_open_on_host l) l.wanted suits.1 in
+    let on_host = and_first (is_open_on_host l) l.wanted suits.1 in
     let mine : list_any (same_end e) d.settings.ends ≡ true = subst (λ (i : EndpointId). list_any (same_end i) d.settings.ends ≡ true) suits.0 ours in
     subst (λ (v : Event). failing_move d (state_by set log) v ≡ None) (same_event (Events.Load node e frame) event is)
     (skip _ _ _ (not_true _ mine)
-    (skip _ _ _ (not_true _ (and_left (is_on_host l.place) (not l.closed) on_host))
-    (skip _ _ _ (true_not l.closed (and_right (is_on_host l.place) (not l.closed) on_host))
+    (skip _ _ _ (not_true _ (and_first (is_on_host l.place) (not l.closed) on_host))
+    (skip _ _ _ (not-true l.closed (and_second (is_on_host l.place) (not l.closed) on_host))
     (skip _ _ _ (free e frame refl) refl))))
 enabled view node d set log (Moves.Drain e) event suits is ours free =
     let l = line_by set log in
     let mine : list_any (same_end e) d.settings.ends ≡ true = subst (λ (i : EndpointId). list_any (same_end i) d.settings.ends ≡ true) suits.0 ours in
     subst (λ (v : Event). failing_move d (state_by set log) v ≡ None) (same_event (Events.Drain node e) event is)
     (skip _ _ _ (not_true _ mine)
-    (skip _ _ _ (not_true _ (framed_resident l.place suits.1))
+    (skip _ _ _ (not_true _ (framed_is_resident l.place suits.1))
     (skip _ _ _ suits.2 refl)))
 enabled view node d set log (Moves.PageOut e) event suits is ours free =
     let l = line_by set log in
-    let on_host = and_left (is_open_on_host l) (not l.wanted) suits.1 in
+    let on_host = and_first (is_open_on_host l) (not l.wanted) suits.1 in
     let mine : list_any (same_end e) d.settings.ends ≡ true = subst (λ (i : EndpointId). list_any (same_end i) d.settings.ends ≡ true) suits.0 ours in
     subst (λ (v : Event). failing_move d (state_by set log) v ≡ None) (same_event (Events.PageOut node e) event is)
     (skip _ _ _ (not_true _ mine)
-    (skip _ _ _ (not_true _ (and_left (is_on_host l.place) (not l.closed) on_host))
-    (skip _ _ _ (true_not l.closed (and_right (is_on_host l.place) (not l.closed) on_host)) refl)))
+    (skip _ _ _ (not_true _ (and_first (is_on_host l.place) (not l.closed) on_host))
+    (skip _ _ _ (not-true l.closed (and_second (is_on_host l.place) (not l.closed) on_host)) refl)))
 enabled view node d set log Moves.Nothing event suits is ours free = absurd suits
 
 none_of : (p : EndpointId → Bool) (ids : Ids) → ((j : ℕ) (e : EndpointId) → slice_get ids j ≡ Some e → p e ≡ false) → list_any p ids ≡ false
@@ -355,32 +324,26 @@ declared_there node (t ∷ ts) e h = by_test (same_node node t.node) h (declared
 
 in_range : (layout : Layout) (node : NodeId) (view : ViewLists) (m : Move) (event : Event) (line : EndView) → Suits view m line → event_of node m ≡ Some event → declared layout line.id ≡ true → node.0 < layout.nodes → view.frames ≡ layout.frames → is_in_range layout event ≡ true
 in_range layout node view (Moves.Unload e) event line suits is there low frames =
-    subst (λ (v : Event). is_in_range layout v ≡ true) (same_event (Events.Unload node e) event is) (both (declared layout e) (nat_lt node.0 layout.nodes) (ap (declared layout) (sym suits.0) ∙ there) (lt-ltb _ _ low))
+    subst (λ (v : Event). is_in_range layout v ≡ true) (same_event (Events.Unload node e) event is) (and_from (declared layout e) (nat_lt node.0 layout.nodes) (ap (declared layout) (sym suits.0) ∙ there) (lt-ltb _ _ low))
 in_range layout node view (Moves.PageIn e) event line suits is there low frames =
-    subst (λ (v : Event). is_in_range layout v ≡ true) (same_event (Events.PageIn node e) event is) (both (declared layout e) (nat_lt node.0 layout.nodes) (ap (declared layout) (sym suits.0) ∙ there) (lt-ltb _ _ low))
+    subst (λ (v : Event). is_in_range layout v ≡ true) (same_event (Events.PageIn node e) event is) (and_from (declared layout e) (nat_lt node.0 layout.nodes) (ap (declared layout) (sym suits.0) ∙ there) (lt-ltb _ _ low))
 in_range layout node view (Moves.Load e frame) event line suits is there low frames =
     let less : frame < layout.frames = (let below = suits.3 in omega (arith, below, frames)) in
     subst (λ (v : Event). is_in_range layout v ≡ true) (same_event (Events.Load node e frame) event is)
-    (both (declared layout e && nat_lt node.0 layout.nodes) (nat_lt frame layout.frames) (both (declared layout e) (nat_lt node.0 layout.nodes) (ap (declared layout) (sym suits.0) ∙ there) (lt-ltb _ _ low)) (lt-ltb _ _ less))
+    (and_from (declared layout e && nat_lt node.0 layout.nodes) (nat_lt frame layout.frames) (and_from (declared layout e) (nat_lt node.0 layout.nodes) (ap (declared layout) (sym suits.0) ∙ there) (lt-ltb _ _ low)) (lt-ltb _ _ less))
 in_range layout node view (Moves.Drain e) event line suits is there low frames =
-    subst (λ (v : Event). is_in_range layout v ≡ true) (same_event (Events.Drain node e) event is) (both (declared layout e) (nat_lt node.0 layout.nodes) (ap (declared layout) (sym suits.0) ∙ there) (lt-ltb _ _ low))
+    subst (λ (v : Event). is_in_range layout v ≡ true) (same_event (Events.Drain node e) event is) (and_from (declared layout e) (nat_lt node.0 layout.nodes) (ap (declared layout) (sym suits.0) ∙ there) (lt-ltb _ _ low))
 in_range layout node view (Moves.PageOut e) event line suits is there low frames =
-    subst (λ (v : Event). is_in_range layout v ≡ true) (same_event (Events.PageOut node e) event is) (both (declared layout e) (nat_lt node.0 layout.nodes) (ap (declared layout) (sym suits.0) ∙ there) (lt-ltb _ _ low))
+    subst (λ (v : Event). is_in_range layout v ≡ true) (same_event (Events.PageOut node e) event is) (and_from (declared layout e) (nat_lt node.0 layout.nodes) (ap (declared layout) (sym suits.0) ∙ there) (lt-ltb _ _ low))
 in_range layout node view Moves.Nothing event line suits is there low frames = absurd suits
 
 -- ---- a move
-
-host_no_frame : (frame : ℕ) (place : Place) → is_on_host place ≡ true → is_in_frame frame place ≡ false
-host_no_frame frame (Frame other) h = absurd (cc)
-host_no_frame frame Host h = refl
-host_no_frame frame Disk h = refl
-host_no_frame frame Direct h = refl
 
 -- the endpoint that is loaded is on the host
 loads_from_host : (view : ViewLists) (m : Move) (line : EndView) (e : EndpointId) (frame : ℕ) → m ≡ Moves.Load e frame → Suits view m line → (is_on_host line.place ≡ true) × (is_free view.ends frame ≡ true)
 loads_from_host view m line e frame is suits =
     let at : Suits view (Moves.Load e frame) line = subst (λ (n : Move). Suits view n line) is suits in
-    (and_left (is_on_host line.place) (not line.closed) (and_left (is_open_on_host line) line.wanted at.1), at.2)
+    (and_first (is_on_host line.place) (not line.closed) (and_first (is_open_on_host line) line.wanted at.1), at.2)
 
 clocks : (a b top stamp : ℕ) → stamp ≡ 1 + max a b → max a b < top → (a < stamp) × (stamp ≤ top)
 clocks a b top stamp is low = (omega arith, omega arith)
@@ -475,18 +438,18 @@ drivers_go_on s ids node turns k clock view view' swap swap' v w x d h m =
         from = loads_from_host shown (next_move shown) (line_by m.set (joined m.log)) e frame is suits
 
         here : lies_in h.made frame m.set.id ≡ false
-        here = sym (lies frame) ∙ ap (λ (o : State). is_in_frame frame (replay m.set.id o (joined m.log)).head.place) (sym opens) ∙ host_no_frame frame (state_by m.set (joined m.log)).head.place from.0
+        here = sym (lies frame) ∙ ap (λ (o : State). is_in_frame frame (replay m.set.id o (joined m.log)).head.place) (sym opens) ∙ on_host_in_no_frame frame (state_by m.set (joined m.log)).head.place from.0
 
         each : (j : ℕ) (g : EndpointId) → slice_get ids j ≡ Some g → lies_in h.made frame g ≡ false
         each j g at =
             ⊎_elim
-            (λ (same : j ≡ k). subst (λ (i : EndpointId). lies_in h.made frame i ≡ false) (some_same m.set.id g (sym at_place ∙ ap (slice_get ids) (sym same) ∙ at)) here)
+            (λ (same : j ≡ k). subst (λ (i : EndpointId). lies_in h.made frame i ≡ false) (some_is m.set.id g (sym at_place ∙ ap (slice_get ids) (sym same) ∙ at)) here)
             (λ (other : j ≢ k).
             (let low : j < length v.births = (let less = got_low ids j g at in omega (arith, less, h.knows.all)) in
             let b = born_at v.births j low in
             let had = line_at view.ends j (omega (arith, low, h.can.all)) in
             let p = h.can.each j b.set had.0 b.at had.1 in
-            let id : b.set.id ≡ g = some_same b.set.id g (sym (h.knows.births j b.set b.at) ∙ at) in
+            let id : b.set.id ≡ g = some_is b.set.id g (sym (h.knows.births j b.set b.at) ∙ at) in
             let free : is_in_frame frame had.0.place ≡ false = free_at shown.ends j frame had.0 from.1 (line_there view.ends k j (line_by m.set (joined m.log)) other ∙ had.1) in
             let seen : is_in_frame frame (replay b.set.id (opening (layout_of s) b.set.id) (seen_log j v)).head.place ≡ false =
             ap (λ (o : State). is_in_frame frame (replay b.set.id o (seen_log j v)).head.place) (sym (h.born j b.set b.at).opens) ∙ ap (λ (l : EndView). is_in_frame frame l.place) (sym p.shows) ∙ free in
@@ -524,7 +487,7 @@ drivers_go_on s ids node turns k clock view view' swap swap' v w x d h m =
     frames j e at =
         ⊎_elim
         (λ (same : j ≡ k).
-        (let id : m.set.id ≡ e = some_same m.set.id e (sym at_place ∙ ap (slice_get ids) (sym same) ∙ at) in
+        (let id : m.set.id ≡ e = some_is m.set.id e (sym at_place ∙ ap (slice_get ids) (sym same) ∙ at) in
         let here : LiesAsMoved (h.made ++ x ∷ []) m.set.id (replay m.set.id (opening (layout_of s) m.set.id) (seen_log k w)) =
         subst (λ (t : State). LiesAsMoved (h.made ++ x ∷ []) m.set.id t)
         (sym (ap (replay m.set.id (opening (layout_of s) m.set.id)) log_now ∙ replay_append m.set.id (opening (layout_of s) m.set.id) (joined m.log) (x ∷ []) ∙ ap (λ (o : State). after m.set.id (replay m.set.id o (joined m.log)) x) (sym opens))) state_now in

@@ -5,6 +5,8 @@ use Rattle.std.proofs.Common.{◌≡◌, ◌≢◌, ◌⊎◌, inl, inr, ⊎_eli
 use Rattle.std.proofs.lemmas.Bool.{and_parts}
 use lib.ListN.{get_elem?}
 use mathlib.Core.Option.{some}
+use Rattle.std.proofs.lemmas.List.{length-set}
+use Rattle.am_lemmas.proofs.Bools.{and_first}
 use Rattle.am_names.specs.declared.EndpointId.{EndpointId}
 use Rattle.am_names.specs.declared.NodeId.{NodeId}
 use Rattle.am_names.specs.Names.{same_end}
@@ -29,7 +31,6 @@ use Rattle.am_driver.specs.declared.EndView.{EndView}
 use Rattle.am_driver.specs.declared.Move.{Move}
 use Rattle.am_driver.specs.declared.Move.TheVariants as Moves
 use Rattle.am_driver.proofs.Chosen.{moves_of_lines}
-use Rattle.am_driver.proofs.Found.{and_left, and_right}
 use Rattle.am_phase.specs.Lying.{keeps_on_disk, moves_by, rests}
 use Rattle.am_phase.specs.Seats.{left_with}
 use Rattle.am_phase.proofs.Lying.{rests_then}
@@ -47,11 +48,6 @@ use Rattle.am_works.proofs.Staying.{replay_append}
 use Rattle.am_works.proofs.Stands.{set_here, set_length, set_there}
 
 -- ---- lists
-
-lines_long : (xs : List EndView) (k : ℕ) (x : EndView) → length (slice_set xs k x) ≡ length xs
-lines_long [] k x = refl
-lines_long (y ∷ ys) zero x = refl
-lines_long (y ∷ ys) (suc k) x = ap suc (lines_long ys k x)
 
 line_here : (xs : List EndView) (k : ℕ) (x : EndView) → k < length xs → slice_get (slice_set xs k x) k ≡ Some x
 line_here [] k x h = absurd (omega (arith, h))
@@ -204,7 +200,7 @@ can_after frames node view swap swap' fs line last v k set x c born sized owned 
       last = c.last;
       marked = c.marked;
       drives = c.drives;
-      all = lines_long view.ends k line ∙ c.all;
+      all = length-set view.ends k line ∙ c.all;
       wide = set_length v.known k x ∙ c.wide;
       framed = c.framed;
       sized = sized;
@@ -329,22 +325,22 @@ same_event x event h = cc
 pub may_of : (shown : ViewLists) (node : NodeId) (set : EndSettings) (log : List Entry) (frames : List ℕ) (m : Move) (event : Event) → Suits shown m (line_by set log) → event_of node m ≡ Some event → length frames ≡ shown.frames → MaySo frames (state_by set log) event
 may_of shown node set log frames (Moves.Unload e) event s is long =
     let l = line_by set log in
-    let framed : is_in_a_frame (state_by set log).head.place ≡ true = and_left (has_frame l) l.draining (and_left (is_leaving l) (l.in_flight == 0) s.1) in
+    let framed : is_in_a_frame (state_by set log).head.place ≡ true = and_first (has_frame l) l.draining (and_first (is_leaving l) (l.in_flight == 0) s.1) in
     subst (MaySo frames (state_by set log)) (same_event (Events.Unload node e) event is) framed
 may_of shown node set log frames (Moves.PageIn e) event s is long =
     let l = line_by set log in
-    let away : is_on_disk (state_by set log).head.place ≡ true = and_left (is_on_disk l.place) l.wanted s.1 in
+    let away : is_on_disk (state_by set log).head.place ≡ true = and_first (is_on_disk l.place) l.wanted s.1 in
     subst (MaySo frames (state_by set log)) (same_event (Events.PageIn node e) event is) away
 may_of shown node set log frames (Moves.Load e frame) event s is long =
     let l = line_by set log in
-    let host : is_on_host (state_by set log).head.place ≡ true = and_left (is_on_host l.place) (not l.closed) (and_left (is_open_on_host l) l.wanted s.1) in
+    let host : is_on_host (state_by set log).head.place ≡ true = and_first (is_on_host l.place) (not l.closed) (and_first (is_open_on_host l) l.wanted s.1) in
     subst (MaySo frames (state_by set log)) (same_event (Events.Load node e frame) event is) (host, (let less = s.3 in omega (arith, less, long)))
 may_of shown node set log frames (Moves.Drain e) event s is long =
     let framed : is_in_a_frame (state_by set log).head.place ≡ true = s.1 in
     subst (MaySo frames (state_by set log)) (same_event (Events.Drain node e) event is) framed
 may_of shown node set log frames (Moves.PageOut e) event s is long =
     let l = line_by set log in
-    let host : is_on_host (state_by set log).head.place ≡ true = and_left (is_on_host l.place) (not l.closed) (and_left (is_open_on_host l) (not l.wanted) s.1) in
+    let host : is_on_host (state_by set log).head.place ≡ true = and_first (is_on_host l.place) (not l.closed) (and_first (is_open_on_host l) (not l.wanted) s.1) in
     subst (MaySo frames (state_by set log)) (same_event (Events.PageOut node e) event is) host
 may_of shown node set log frames Moves.Nothing event s is long = absurd s
 

@@ -17,10 +17,6 @@ use Rattle.am_works.specs.Seats.{EndPass, Ids, KnowsNode, Stays, seen_log}
 
 -- ---- lists
 
-all_push : {X : Type 0} (P : X → Type 0) (xs : List X) (x : X) → AllAre P xs → P x → AllAre P (xs ++ x ∷ [])
-all_push P [] x h p = (p, tt)
-all_push P (y ∷ ys) x h p = (h.0, all_push P ys x h.1 p)
-
 pub push_all : {X : Type 0} (P : X → Type 0) (xs new : List X) → AllAre P xs → AllAre P new → AllAre P (xs ++ new)
 push_all P [] new h k = k
 push_all P (y ∷ ys) new h k = (h.0, push_all P ys new h.1 k)

@@ -23,7 +23,8 @@ use Rattle.am_model.specs.Changes.{changed, paged_in, paged_out, replay}
 use Rattle.am_model.specs.Endpoint.{Body, State, is_direct, is_in_a_frame, is_on_disk, is_on_host}
 use Rattle.am_model.specs.History.{is_in_frame}
 use Rattle.am_model.specs.Layout.{AllAre}
-use Rattle.am_moves.proofs.Paged.{host_no_disk}
+use Rattle.am_model.proofs.Places.{on_host_not_on_disk}
+use Rattle.am_moves.proofs.Stores.{held_other, held_still}
 use Rattle.am_moves.specs.Logs.{EndLog, state_in}
 use Rattle.am_moves.specs.Pages.{HoldsBody, IsBodyValid, after_call, after_page, page_outcome}
 use Rattle.am_phase.specs.Lying.{moves_by, rests}
@@ -122,20 +123,6 @@ fits_nowhere fs k a b away low fits = (omega (arith, low), λ g lg. ((λ is. abs
 
 -- ---- the disk
 
-held_after : (s : Store) (f : EndpointId) → held_for (after_call s s).held f ≡ held_for s.held f
-held_after s f = by_test (fails_after s.fails s.calls)
-  where
-    by_test : (b : Bool) → held_for (if b then faulted s else counted s).held f ≡ held_for s.held f
-    by_test true = refl
-    by_test false = refl
-
-held_beside : (s : Store) (key : EndpointId) (bytes : List ℕ) (f : EndpointId) → same_end f key ≡ false → held_for (after_call s (with_held s key bytes)).held f ≡ held_for s.held f
-held_beside s key bytes f other = by_test (fails_after s.fails s.calls)
-  where
-    by_test : (b : Bool) → held_for (if b then faulted s else counted (with_held s key bytes)).held f ≡ held_for s.held f
-    by_test true = refl
-    by_test false = holds_instead key bytes s.held f ∙ ap (λ (b : Bool). if b then Some bytes else held_for s.held f) other
-
 held_there : (s : Store) (key : EndpointId) (bytes : List ℕ) → fails_after s.fails s.calls ≡ false → same_end key key ≡ true → held_for (after_call s (with_held s key bytes)).held key ≡ Some bytes
 held_there s key bytes ok same =
     ap (λ (b : Bool). held_for (if b then faulted s else counted (with_held s key bytes)).held key) ok
@@ -147,8 +134,8 @@ holds_with s t pool e b same h = record { held = same ∙ h.held; valid = h.vali
 
 -- what is held of another endpoint
 pub held_with : (swap : Store) (e : EndLog) (event : Event) (f : EndpointId) → same_end f e.settings.id ≡ false → held_for (swap_with swap e event).held f ≡ held_for swap.held f
-held_with swap e (Events.PageOut node end) f other = held_beside swap e.settings.id (image (state_in e).body) f other
-held_with swap e (Events.PageIn node end) f other = held_after swap f
+held_with swap e (Events.PageOut node end) f other = held_other swap e.settings.id (image (state_in e).body) f other
+held_with swap e (Events.PageIn node end) f other = held_still swap f
 held_with swap e event f other = refl
 
 -- ---- places
@@ -255,7 +242,7 @@ module _ (frames : List ℕ) (swap : Store) (k : ℕ) (set : EndSettings) (log :
       by_test true fails =
           let failed : o ≡ Out.Failed = is ∙ ap (λ (b : Bool). if b then Out.Failed else Out.Done) fails in
           subst (λ (v : Outcome). LiesSo frames (after_page swap one (Events.PageOut node end)) k set (paged_out found v)) (sym failed)
-          (record { fits = l.fits; network = l.network; disk = λ on. absurd (host_no_disk found.head.place may on) })
+          (record { fits = l.fits; network = l.network; disk = λ on. absurd (on_host_not_on_disk found.head.place may on) })
       by_test false fails =
           let done : o ≡ Out.Done = is ∙ ap (λ (b : Bool). if b then Out.Failed else Out.Done) fails in
           subst (λ (v : Outcome). LiesSo frames (after_page swap one (Events.PageOut node end)) k set (paged_out found v)) (sym done)
@@ -270,7 +257,7 @@ module _ (frames : List ℕ) (swap : Store) (k : ℕ) (set : EndSettings) (log :
       by_test true fails =
           let failed : o ≡ Out.Failed = is ∙ ap (λ (b : Bool). if b then Out.Failed else Out.Done) fails in
           subst (λ (v : Outcome). LiesSo frames (after_page swap one (Events.PageIn node end)) k set (paged_in found v)) (sym failed)
-          (record { fits = l.fits; network = l.network; disk = λ on. holds_with swap (after_page swap one (Events.PageIn node end)) set.pool set.id found.body (held_after swap set.id) (l.disk on) })
+          (record { fits = l.fits; network = l.network; disk = λ on. holds_with swap (after_page swap one (Events.PageIn node end)) set.pool set.id found.body (held_still swap set.id) (l.disk on) })
       by_test false fails =
           let done : o ≡ Out.Done = is ∙ ap (λ (b : Bool). if b then Out.Failed else Out.Done) fails in
           subst (λ (v : Outcome). LiesSo frames (after_page swap one (Events.PageIn node end)) k set (paged_in found v)) (sym done)

@@ -1,9 +1,10 @@
 use Rattle.std.proofs.Common.{◌≡◌, List, [], arith, sym, subst}
 use Rattle.std.specs.BinaryHeap.{heap_items}
 use Rattle.std.specs.declared.cmp.Reverse.{Reverse}
+use Rattle.std.proofs.lemmas.List.{nil_from_length}
 use Rattle.am_join.specs.declared.heads.Head.{Head}
 use Rattle.am_join.specs.Joined.{lists_of}
-use Rattle.am_join.proofs.Joining.{IsReached, IsTaken, begins, ends, fewer, goes_on, none_left, popped_head}
+use Rattle.am_join.proofs.Joining.{IsReached, IsTaken, begins, ends, fewer, goes_on, popped_head}
 use Rattle.am_join.proofs.join.Goals as goal
 
 pub loop-head-init : goal.loop-head-init
@@ -47,5 +48,5 @@ loop-head-preserved c =
 pub returns : goal.returns
 returns c =
     let empty = c.in_default.ensures.none in
-    let none : heap_items c.loop-head.heads ≡ [] = none_left (heap_items c.loop-head.heads) (let items = c.loop-head.heads.data.ok.0 in omega (arith, items, empty)) in
+    let none : heap_items c.loop-head.heads ≡ [] = nil_from_length (heap_items c.loop-head.heads) (let items = c.loop-head.heads.data.ok.0 in omega (arith, items, empty)) in
     ends (lists_of c.args.logs.now) c.loop-head.entries.items c.requires.one (subst (λ (hs : List (Reverse Head)). IsReached (lists_of c.args.logs.now) hs c.loop-head.entries.items) none c.loop-head.invariant.reached)

@@ -1,13 +1,13 @@
 use Rattle.std.proofs.Common.{ap}
 use Rattle.am_office.specs.declared.Event.{Event}
 use Rattle.am_model.proofs.Order.{order_unloaded}
+use Rattle.am_model.proofs.Places.{framed_not_on_disk}
 use Rattle.am_endpoint.specs.Events.{keeps_flights}
 use Rattle.am_endpoint.specs.View.{state_after}
-use Rattle.am_endpoint.proofs.Holding.{framed_here}
 use Rattle.am_endpoint.proofs.Endpoint.unload.Goals as goal
 
 pub enter-requires-clause-here : goal.enter-requires-clause-here
-enter-requires-clause-here c = framed_here (state_after c.args.self.now).head.place c.requires.allowed.framed
+enter-requires-clause-here c = framed_not_on_disk (state_after c.args.self.now).head.place c.requires.allowed.framed
 
 pub enter-requires-clause-keeps : goal.enter-requires-clause-keeps
 enter-requires-clause-keeps c =

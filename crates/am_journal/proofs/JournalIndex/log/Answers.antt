@@ -1,10 +1,10 @@
 use Rattle.std.specs.Prelude.{max, slice_index_or, IfSome, Option}
 use Rattle.std.proofs.Common.{◌≡◌, ◌<◌, ◌^◌, ◌+◌, ◌++◌, ◌∷◌, [], ℕ, length, map, refl, ap, sym, ◌∙◌, subst}
+use Rattle.std.proofs.lemmas.List.{length-map}
 use Rattle.am_journal.specs.Kept.{items_of}
 use Rattle.am_journal.specs.View.{CanCount, IndexView, IsIndexOf}
 use Rattle.am_journal.specs.Places.{counted, page_place, receipt_place}
 use Rattle.am_journal.proofs.Growing as growing
-use Rattle.am_journal.proofs.Lists.{map_length}
 use Rattle.am_journal.proofs.JournalIndex.log.Goals as goal
 
 pub count-requires-clause-small : goal.count-requires-clause-small
@@ -28,10 +28,10 @@ invariant_of-self c =
       nodes = ap length (c.count.ensures ∙ ap (λ p. counted p j.page_calls) c.page_place.ensures) ∙ growing.counted_length (page_place c.args.entry.event) j.page_calls ∙ c.self.invariant.nodes;
       numbers = ap length (c.count-2.ensures ∙ ap (λ p. counted p j.receipts) c.receipt_place.ensures) ∙ growing.counted_length (receipt_place c.args.entry.event) j.receipts ∙ c.self.invariant.numbers;
       links =
-          sym (map_length items_of c.deliver.new.links.items)
+          sym (length-map c.deliver.new.links.items items_of)
           ∙ ap length c.deliver.ensures
           ∙ growing.delivered_length c.args.packet (map items_of j.packets.items)
-          ∙ map_length items_of j.packets.items
+          ∙ length-map j.packets.items items_of
           ∙ c.self.invariant.links;
     }
 

@@ -1,5 +1,5 @@
 use Rattle.std.proofs.Common.{Some, None, sym, ◌∙◌}
-use Rattle.am_lexer.proofs.FirstLine.{rest_is}
+use Rattle.am_lemmas.proofs.Lists.{rest_is}
 use Rattle.am_journal_lines.proofs.Cuts.{word_is}
 use Rattle.am_journal_lines.proofs.words.split_word.Goals as goal
 

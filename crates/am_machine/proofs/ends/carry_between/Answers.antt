@@ -1,6 +1,7 @@
 use Rattle.std.proofs.Common.{◌≡◌, false, sym, arith, slice_index_or, slice_set, length, ◌<◌}
+use Rattle.std.proofs.lemmas.List.{length-set}
 use Rattle.am_machine.specs.Carries.{ArrivesAt, CarriesFrom, is_place}
-use Rattle.am_machine.proofs.Places.{at_read, index_got, place_apart, set_length, set_other, still_at, carried_one, carried_two}
+use Rattle.am_machine.proofs.Places.{at_read, index_got, place_apart, set_other, still_at, carried_one, carried_two}
 use Rattle.am_machine.proofs.ends.carry_between.Goals as goal
 
 pub carry_out-requires-clause-ready : goal.carry_out-requires-clause-ready
@@ -16,7 +17,7 @@ pub put-requires-clause-ready : goal.put-requires-clause-ready
 put-requires-clause-ready c =
     let apart : is_place c.args.source c.args.dest ≡ false = place_apart c.args.source c.args.dest (λ same. c.if-dest-source.true (sym same)) in
     let vs = slice_set c.args.ends.now c.args.source c.carry_out.new.self in
-    let within : c.args.dest < length vs = omega (arith, set_length c.args.ends.now c.args.source c.carry_out.new.self, c.requires.dest) in
+    let within : c.args.dest < length vs = omega (arith, length-set c.args.ends.now c.args.source c.carry_out.new.self, c.requires.dest) in
     let at = still_at c.args.ends.now vs c.args.dest (ArrivesAt c.args.entry) (set_other c.args.ends.now c.args.source c.args.dest c.carry_out.new.self apart) (c.requires.arrives apart) in
     (at_read vs c.args.dest (ArrivesAt c.args.entry) c.index-ends-dest.result within at).ready
 
@@ -24,7 +25,7 @@ pub put-requires-clause-room : goal.put-requires-clause-room
 put-requires-clause-room c =
     let apart : is_place c.args.source c.args.dest ≡ false = place_apart c.args.source c.args.dest (λ same. c.if-dest-source.true (sym same)) in
     let vs = slice_set c.args.ends.now c.args.source c.carry_out.new.self in
-    let within : c.args.dest < length vs = omega (arith, set_length c.args.ends.now c.args.source c.carry_out.new.self, c.requires.dest) in
+    let within : c.args.dest < length vs = omega (arith, length-set c.args.ends.now c.args.source c.carry_out.new.self, c.requires.dest) in
     let at = still_at c.args.ends.now vs c.args.dest (ArrivesAt c.args.entry) (set_other c.args.ends.now c.args.source c.args.dest c.carry_out.new.self apart) (c.requires.arrives apart) in
     (at_read vs c.args.dest (ArrivesAt c.args.entry) c.index-ends-dest.result within at).room
 
@@ -32,7 +33,7 @@ pub put-requires-clause-allowed : goal.put-requires-clause-allowed
 put-requires-clause-allowed c =
     let apart : is_place c.args.source c.args.dest ≡ false = place_apart c.args.source c.args.dest (λ same. c.if-dest-source.true (sym same)) in
     let vs = slice_set c.args.ends.now c.args.source c.carry_out.new.self in
-    let within : c.args.dest < length vs = omega (arith, set_length c.args.ends.now c.args.source c.carry_out.new.self, c.requires.dest) in
+    let within : c.args.dest < length vs = omega (arith, length-set c.args.ends.now c.args.source c.carry_out.new.self, c.requires.dest) in
     let at = still_at c.args.ends.now vs c.args.dest (ArrivesAt c.args.entry) (set_other c.args.ends.now c.args.source c.args.dest c.carry_out.new.self apart) (c.requires.arrives apart) in
     (at_read vs c.args.dest (ArrivesAt c.args.entry) c.index-ends-dest.result within at).arrival
 
@@ -40,7 +41,7 @@ pub returns-then-dest-source : goal.returns-then-dest-source
 returns-then-dest-source c =
     let apart : is_place c.args.source c.args.dest ≡ false = place_apart c.args.source c.args.dest (λ same. c.if-dest-source.true (sym same)) in
     let vs = slice_set c.args.ends.now c.args.source c.carry_out.new.self in
-    let within : c.args.dest < length vs = omega (arith, set_length c.args.ends.now c.args.source c.carry_out.new.self, c.requires.dest) in
+    let within : c.args.dest < length vs = omega (arith, length-set c.args.ends.now c.args.source c.carry_out.new.self, c.requires.dest) in
     carried_two c.args.ends.now c.args.source c.args.dest
     (slice_index_or c.args.ends.now c.args.source c.index-ends-source.result) c.carry_out.new.self
     (slice_index_or vs c.args.dest c.index-ends-dest.result) c.put.new.self c.args.entry apart

@@ -1,8 +1,9 @@
 use Rattle.std.proofs.Common.{ap, ◌∙◌, subst}
+use Rattle.am_model.proofs.Places.{on_host_not_on_disk}
 use Rattle.am_endpoint.specs.View.{state_after}
 use Rattle.am_body.specs.Views.{View}
 use Rattle.am_image.specs.Range.{IsInRange}
-use Rattle.am_moves.proofs.Paged.{body_valid, host_no_disk, if_ok, none_flying}
+use Rattle.am_moves.proofs.Paged.{body_valid, if_ok, none_flying}
 use Rattle.am_moves.proofs.pages.image_of.Goals as goal
 
 pub encode-requires : goal.encode-requires
@@ -17,4 +18,4 @@ returns-clause-valid c =
     (λ bytes range. body_valid v.settings.pool v.settings.id (state_after v) c.in-Some.ensures.order c.requires (subst IsInRange (ap (λ (w : View). w.body) c.in-Some.ensures.body) range))
 
 pub unreachable-requires : goal.unreachable-requires
-unreachable-requires c = host_no_disk (state_after c.args.end.now).head.place c.requires (c.body.ensures.none.0 c.in_default.is)
+unreachable-requires c = on_host_not_on_disk (state_after c.args.end.now).head.place c.requires (c.body.ensures.none.0 c.in_default.is)

@@ -1,11 +1,11 @@
 use Rattle.std.proofs.Common.{◌≡◌, ◌<◌, [], List, length, ap, ◌∙◌, sym, subst, arith}
 use Rattle.std.specs.Prelude.{slice_index_or, slice_set, vec_capacity, vec_len}
+use Rattle.std.proofs.lemmas.List.{nil_from_length}
 use Rattle.am_names.specs.declared.NodeId.{NodeId}
 use Rattle.am_endpoint.specs.View.{EndpointView}
 use Rattle.am_node.specs.declared.shells.Shell.{Shell}
 use Rattle.am_node.specs.Dealt.{HasRoom, IsPut}
 use Rattle.am_node.proofs.Dealers.{AreDealing, all_last, begins, ends, goes_on, next_fits}
-use Rattle.am_node.proofs.Pushed.{none_left}
 use Rattle.am_node.proofs.dealing.deal.Goals as goal
 
 pub loop-end-init : goal.loop-end-init
@@ -36,5 +36,5 @@ loop-end-preserved c =
 
 pub returns : goal.returns
 returns c =
-    let none : c.loop-end.ends.items ≡ [] = none_left c.loop-end.ends.items (let items = c.loop-end.ends.ok.0 in let empty = c.in_default.ensures.cases.0 in omega (arith, items, empty)) in
+    let none : c.loop-end.ends.items ≡ [] = nil_from_length c.loop-end.ends.items (let items = c.loop-end.ends.ok.0 in let empty = c.in_default.ensures.cases.0 in omega (arith, items, empty)) in
     ends c.args.ends.items c.args.shells.items c.loop-end.shells.items (subst (λ (rest : List EndpointView). AreDealing c.args.ends.items rest c.args.shells.items c.loop-end.shells.items) none c.loop-end.invariant)

@@ -1,7 +1,7 @@
 use Rattle.std.proofs.Common.{◌≡◌, ◌∷◌, [], List, ℕ, length, length-append, ap, ◌∙◌, sym, subst, arith}
+use Rattle.std.proofs.lemmas.List.{nil_from_length}
 use Rattle.am_node.specs.declared.NodePart.{NodePart}
 use Rattle.am_node.specs.Taken.{HasRoomFor}
-use Rattle.am_node.proofs.Pushed.{none_left}
 use Rattle.am_node.proofs.Takings.{AreBeingTaken, begins, ends, goes_on}
 use Rattle.am_node.proofs.taking.take_apart.Goals as goal
 
@@ -28,5 +28,5 @@ loop-part-preserved c =
 
 pub returns : goal.returns
 returns c =
-    let none : c.loop-part.parts.items ≡ [] = none_left c.loop-part.parts.items (let items = c.loop-part.parts.ok.0 in let empty = c.in_default.ensures.cases.0 in omega (arith, items, empty)) in
+    let none : c.loop-part.parts.items ≡ [] = nil_from_length c.loop-part.parts.items (let items = c.loop-part.parts.ok.0 in let empty = c.in_default.ensures.cases.0 in omega (arith, items, empty)) in
     ends c.args.parts.items c.loop-part.taken (subst (λ (rest : List NodePart). AreBeingTaken c.args.parts.items rest c.loop-part.taken) none c.loop-part.invariant.taken')

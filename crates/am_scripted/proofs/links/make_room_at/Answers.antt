@@ -1,5 +1,6 @@
 use Rattle.std.proofs.Common.{◌≡◌, map, sym, ap, ◌∙◌, arith}
-use Rattle.am_journal.proofs.Lists.{index_map, map_length, map_set, set_same}
+use Rattle.std.proofs.lemmas.List.{length-map}
+use Rattle.am_journal.proofs.Lists.{index_map, map_set, set_same}
 use Rattle.am_scripted.specs.Links.{released_in}
 use Rattle.am_scripted.proofs.Rooms.{got_elsewhere, on_ok, room_written}
 use Rattle.am_scripted.proofs.links.make_room_at.Goals as goal
@@ -8,7 +9,7 @@ pub returns-clause-same : goal.returns-clause-same
 returns-clause-same c =
     let vs = c.args.links.now.items in
     let was = c.index_mut-link.result.now in
-    let all = map_length released_in vs in
+    let all = length-map vs released_in in
     let same : released_in c.room.new.self ≡ released_in was = λ i. record { numbers = c.room.ensures.released i; held = c.room.ensures.held i } in
     map_set released_in vs c.args.index c.room.new.self
     ∙ set_same (map released_in vs) c.args.index (released_in c.room.new.self) (released_in was)

@@ -1,5 +1,5 @@
 use Rattle.std.proofs.Common.{◌<◌, rules, ◌∙◌, arith, map, length}
-use Rattle.am_journal.proofs.Lists.{map_length}
+use Rattle.std.proofs.lemmas.List.{length-map}
 use Rattle.am_scripted.specs.Threads.{no_thread, scripted_in, with_call}
 use Rattle.am_scripted.proofs.Stepping.{counted_more}
 use Rattle.am_scripted.proofs.threads.count_call.Goals as goal
@@ -8,8 +8,8 @@ pub loop-index-preserved : goal.loop-index-preserved
 loop-index-preserved c =
     let all = map scripted_in c.args.threads.now.items in
     let now = map scripted_in c.loop-index.threads.items in
-    let first = map_length scripted_in c.args.threads.now.items in
-    let later = map_length scripted_in c.loop-index.threads.items in
+    let first = length-map c.args.threads.now.items scripted_in in
+    let later = length-map c.loop-index.threads.items scripted_in in
     let here : c.loop-index.index < length c.args.threads.now.items = (search rules) in
     let there : c.loop-index.index < length c.loop-index.threads.items = (search rules) in
     let lt : c.loop-index.index < length all = omega (arith, first, here) in

@@ -1,8 +1,9 @@
 use Rattle.std.proofs.Common.{◌≡◌, ◌≤◌, refl, ap, ◌∙◌, subst}
 use Rattle.am_scenario_types.specs.Lists.{ScenarioLists}
+use Rattle.am_driver_turn.proofs.Turning.{same_then}
 use Rattle.am_workers.specs.declared.workers.InterfaceWorker.{InterfaceWorker}
 use Rattle.am_workers.proofs.Linking.{ins_itself, ins_then, outs_itself, outs_then}
-use Rattle.am_workers.proofs.Turned.{at_more, seat_then}
+use Rattle.am_workers.proofs.Turned.{at_more}
 use Rattle.am_workers.proofs.interfaces.work_as_interface.Goals as goal
 
 pub loop-turn-init : goal.loop-turn-init
@@ -14,7 +15,7 @@ loop-turn-preserved g c =
     let w = c.args.worker.now in let u = c.loop-turn.worker in let t = c.take_turn in
     record {
       at_work = t.ensures.at_work;
-      seat = seat_then w.seat.token.me.0 u.seat.token.me.0 t.new.worker.seat.token.me.0 c.loop-turn.invariant.seat t.ensures.seat;
+      seat = same_then w.seat.token.me.0 u.seat.token.me.0 t.new.worker.seat.token.me.0 c.loop-turn.invariant.seat t.ensures.seat;
       outs = outs_then w.outs.items u.outs.items t.new.worker.outs.items c.loop-turn.invariant.outs t.ensures.outs;
       ins = ins_then w.ins.items u.ins.items t.new.worker.ins.items c.loop-turn.invariant.ins t.ensures.ins;
       stopped = λ why at. (let same : u ≡ w = c.loop-turn.invariant.stopped why at in t.ensures.stopped why (ap (λ (z : InterfaceWorker). z.stop) same ∙ at) ∙ same);

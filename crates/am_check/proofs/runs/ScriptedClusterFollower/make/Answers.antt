@@ -1,8 +1,8 @@
 use Rattle.std.proofs.Common.{sym, subst}
 use Rattle.am_follow.specs.Layout.{layout_of}
 use Rattle.am_scenario_types.specs.declared.parts.Form.TheVariants.{Run}
+use Rattle.am_machine.proofs.Applied.{enabled_of}
 use Rattle.am_scripted.specs.Scripted.{cluster_of}
-use Rattle.am_scripted.proofs.Applying.{enabled}
 use Rattle.am_check.specs.declared.faults.LineStop.{LineStop}
 use Rattle.am_check.specs.Lines.{StopsEvent}
 use Rattle.am_check.proofs.Early.{early_stops}
@@ -10,7 +10,7 @@ use Rattle.am_check.proofs.runs.ScriptedClusterFollower.make.Goals as goal
 
 pub returns-in-Ok-clause-stops : goal.returns-in-Ok-clause-stops
 returns-in-Ok-clause-stops c =
-    let free = enabled (layout_of c.args.self.now.scenario) c.args.self.now.journal c.args.event c.in-Ok.ensures.applies.0 in
+    let free = enabled_of (layout_of c.args.self.now.scenario) c.args.self.now.journal c.args.event c.in-Ok.ensures.applies.0 in
     (free, (c.is_early-early.ensures free).0 c.if-early.true)
 
 pub returns-in-Err-clause-stops : goal.returns-in-Err-clause-stops

@@ -1,5 +1,6 @@
 use Rattle.std.proofs.Common.{drop, ap, sym, ◌∙◌, arith}
-use Rattle.am_io.proofs.Parts.{copied_length, read_front, at_end, rest_is}
+use Rattle.am_lemmas.proofs.Lists.{rest_is}
+use Rattle.am_io.proofs.Parts.{copied_length, read_front, at_end}
 use Rattle.am_io.proofs.memory_source.MemorySourceSource.read.Goals as goal
 
 pub returns-clause-bytes : goal.returns-clause-bytes
