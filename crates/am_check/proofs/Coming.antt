@@ -8,7 +8,7 @@ use Rattle.am_scenario_types.specs.declared.parts.Form.{Form}
 use Rattle.am_scenario_types.specs.declared.parts.Form.TheVariants.{Step, Run}
 use Rattle.am_scenario_types.specs.Lists.{ScenarioLists}
 use Rattle.am_scenario_types.specs.Lawful.{IsLawful}
-use Rattle.am_follow.specs.Layout.{layout_of}
+use Rattle.am_scripts.specs.Layout.{layout_of}
 use Rattle.am_drain.specs.Made.{next_entry}
 use Rattle.am_journal_lines.specs.Grammar.{printed}
 use Rattle.am_journal_lines.specs.Reading.{event_of}

@@ -12,7 +12,7 @@ use Rattle.am_model.specs.declared.EntryFault.{EntryFault}
 use Rattle.am_model.specs.declared.EntryFault.TheVariants as EntryFaults
 use Rattle.am_scenario_types.specs.declared.parts.Form.TheVariants.{Run}
 use Rattle.am_scenario_types.specs.Lists.{ScenarioLists}
-use Rattle.am_follow.specs.Layout.{layout_of}
+use Rattle.am_scripts.specs.Layout.{layout_of}
 use Rattle.am_drain.specs.Made.{next_entry}
 use Rattle.am_check.specs.Follows.{IsEarly}
 use Rattle.am_check.specs.Lines.{StopsEvent, stop_in_run}

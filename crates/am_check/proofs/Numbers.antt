@@ -18,8 +18,8 @@ use Rattle.am_model.specs.Layout.{Layout, EndSetting, AllAre, IsSettingLawful, h
 use Rattle.am_model.specs.History.{is_in_range, is_actor_in_range, is_call_in_range, is_kind_in_range, are_words_in_range, are_credits_in_range, is_byte, is_four_bytes, is_eight_bytes}
 use Rattle.am_scenario_types.specs.Lists.{ScenarioLists}
 use Rattle.am_scenario_types.specs.Lawful.{IsLawful}
-use Rattle.am_follow.specs.Layout.{layout_of}
-use Rattle.am_follow.proofs.Lawful.{lawful_layout}
+use Rattle.am_scripts.specs.Layout.{layout_of}
+use Rattle.am_scripts.proofs.Lawful.{lawful_layout}
 use Rattle.am_journal_lines.specs.Grammar.{IsByte, AreWords, AreNumbersOf, AreNumbersOfCall, AreNumbersOfKind, IsNumberOfActor}
 
 known_byte : (layout : Layout) (e : EndpointId) (settings : List EndSetting) → AllAre (IsSettingLawful layout) settings → list_any (has_id e) settings ≡ true → IsByte e.0

@@ -9,7 +9,7 @@ use Rattle.am_model.specs.Steps.{NotEnabled, LogFull, Stop, stop, stop_by, full_
 use Rattle.am_laws_steps.proofs.Steps.{no_condition}
 use Rattle.am_scenario_types.specs.declared.parts.Form.{Form}
 use Rattle.am_scenario_types.specs.Lists.{ScenarioLists}
-use Rattle.am_follow.specs.Layout.{layout_of}
+use Rattle.am_scripts.specs.Layout.{layout_of}
 use Rattle.am_drain.specs.Made.{next_entry}
 use Rattle.am_journal_lines.specs.Reading.{event_of}
 use Rattle.am_check.specs.declared.faults.CheckWhat.TheVariants as Whats

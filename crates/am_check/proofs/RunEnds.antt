@@ -11,7 +11,7 @@ use Rattle.am_model.specs.History.{is_bound, channel_to}
 use Rattle.am_scenario_types.specs.declared.parts.ThreadLine.{ThreadLine}
 use Rattle.am_scenario_types.specs.declared.parts.ScriptCall.{ScriptCall}
 use Rattle.am_scenario_types.specs.Lists.{ScenarioLists}
-use Rattle.am_follow.specs.Layout.{layout_of}
+use Rattle.am_scripts.specs.Layout.{layout_of}
 use Rattle.am_scripts.specs.Links.{first_some, nodes_of}
 use Rattle.am_scripts.specs.Scripts.{calls_of, script_of}
 use Rattle.am_scripts.specs.Standings.{Standing, standings, is_missed, holds_nothing, is_idle}

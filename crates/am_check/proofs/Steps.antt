@@ -6,8 +6,8 @@ use Rattle.am_office.specs.declared.Event.{Event}
 use Rattle.am_scenario_types.specs.declared.parts.StepLine.{StepLine}
 use Rattle.am_scenario_types.specs.Lists.{ScenarioLists}
 use Rattle.am_scenario_types.specs.Lawful.{IsLawful}
-use Rattle.am_follow.specs.Layout.{events_of, layout_of}
-use Rattle.am_follow.proofs.Lawful.{steps_in_range}
+use Rattle.am_scripts.specs.Layout.{events_of, layout_of}
+use Rattle.am_scripts.proofs.Lawful.{steps_in_range}
 use Rattle.am_model.specs.History.{is_in_range}
 use Rattle.am_model.specs.Layout.{Layout}
 use Rattle.am_model.proofs.Alls.{all_at}

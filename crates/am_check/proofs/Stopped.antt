@@ -8,7 +8,7 @@ use Rattle.am_model.specs.Steps.{stop}
 use Rattle.am_drain.specs.Made.{next_entry}
 use Rattle.am_scenario_types.specs.declared.parts.Form.{Form}
 use Rattle.am_scenario_types.specs.Lists.{ScenarioLists}
-use Rattle.am_follow.specs.Layout.{layout_of}
+use Rattle.am_scripts.specs.Layout.{layout_of}
 use Rattle.am_check.specs.declared.faults.CheckWhat.TheVariants as Whats
 use Rattle.am_check.specs.declared.faults.LineStop.{LineStop}
 use Rattle.am_check.specs.declared.faults.LineStop.TheVariants as Stops

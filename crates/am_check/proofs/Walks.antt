@@ -51,7 +51,7 @@ goes_on form s lawful past (x ∷ front) (y ∷ whole) left right h k lines long
     rest_same a b ls ks e = cc
 
 -- a line that is due is stopped for a reason
-pub record IsStopped (form : Form) (s : ScenarioLists) (journal : List Entry) (left : List (List ℕ)) (answer : Result (Unit {0}) CheckStop) : Type 0 where
+pub record IsLineStopped (form : Form) (s : ScenarioLists) (journal : List Entry) (left : List (List ℕ)) (answer : Result (Unit {0}) CheckStop) : Type 0 where
   pub line : List ℕ
   pub more : List (List ℕ)
   pub left' : left ≡ line ∷ more
@@ -64,7 +64,7 @@ pub record IsStopped (form : Form) (s : ScenarioLists) (journal : List Entry) (l
 -- stands behind it is the rest of its report or not
 abbrev pub AtDueLine : Form → ScenarioLists → List Entry → List (List ℕ) → Result (Unit {0}) CheckStop → Type 0
 AtDueLine form s journal left answer =
-    ((left ≡ []) × (answer ≡ Err (Answers.Fault (number_of (length journal + 3)) Whats.Form))) ⊎ IsStopped form s journal left answer
+    ((left ≡ []) × (answer ≡ Err (Answers.Fault (number_of (length journal + 3)) Whats.Form))) ⊎ IsLineStopped form s journal left answer
 
 abbrev pub AtTail : ScenarioLists → List ℕ → List Entry → Result (Unit {0}) CheckStop → Type 0
 AtTail s bytes journal answer =
@@ -102,7 +102,7 @@ not_before form s lawful bytes count journal left answer x others comes is short
 not_before form s lawful bytes count journal left answer x others comes is short (inl p) =
     ⊎_elim
     (λ (none : (left ≡ []) × (answer ≡ Err (Answers.Fault (number_of (length journal + 3)) Whats.Form))). empty left (printed x) others none.0 is)
-    (λ (stopped : IsStopped form s journal left answer).
+    (λ (stopped : IsLineStopped form s journal left answer).
     passes form s lawful journal x stopped.why comes stopped.reason (subst (λ (l : List ℕ). StopsLine form s journal l stopped.why) (same left stopped.line (printed x) stopped.more others stopped.left' is) stopped.stops))
     p.1
   where

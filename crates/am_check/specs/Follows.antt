@@ -11,7 +11,7 @@ use Rattle.am_scenario_types.specs.declared.parts.Form.TheVariants.{Step, Run}
 use Rattle.am_scenario_types.specs.declared.parts.EndLine.{EndLine}
 use Rattle.am_scenario_types.specs.declared.parts.ScriptCall.{ScriptCall}
 use Rattle.am_scenario_types.specs.Lists.{ScenarioLists}
-use Rattle.am_follow.specs.Layout.{layout_of, events_of}
+use Rattle.am_scripts.specs.Layout.{layout_of, events_of}
 use Rattle.am_scripts.specs.Links.{IsReceiptInOrder, is_all_received, next_receipt}
 use Rattle.am_scripts.specs.Scripts.{KeepsScripts, call_left, call_made}
 use Rattle.am_scripts.specs.Standings.{IsAtRest}

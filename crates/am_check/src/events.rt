@@ -1,7 +1,7 @@
 //! Whether the numbers of an event are in range, and what must be declared is; and whether the event is one of a run.
 
 ghost use Rattle.am_check.specs.Declares.{declares};
-ghost use Rattle.am_follow.specs.Layout.{layout_of};
+ghost use Rattle.am_scripts.specs.Layout.{layout_of};
 ghost use Rattle.am_model.specs.History as ranges;
 ghost use Rattle.am_model.specs.Layout as layouts;
 ghost use Rattle.am_scripts.specs.Follows as follows;

@@ -4,7 +4,7 @@
 ghost use Rattle.am_check.specs.Follows.{ComesInRun, IsEarly, IsNextCall, IsRunEnded};
 ghost use Rattle.am_check.specs.Lines.{stop_in_run};
 ghost use Rattle.am_drain.specs.Made.{next_entry};
-ghost use Rattle.am_follow.specs.Layout.{layout_of};
+ghost use Rattle.am_scripts.specs.Layout.{layout_of};
 ghost use Rattle.am_model.specs.History as history;
 ghost use Rattle.am_scenario_types.specs.declared.parts.Form.TheVariants.{Run};
 ghost use Rattle.am_scripts.specs.Follows as follows;
@@ -17,7 +17,7 @@ use crate::faults::{CheckWhat, LineStop};
 use crate::follower::Follower;
 use crate::same::is_same_script_call;
 use crate::step_cluster::stop_of;
-use am_drain_loop::{Machine, next_turn, receipt};
+use am_drainer::{Machine, next_turn, receipt};
 use am_model::EntryFault;
 use am_names::{NoMemory, NodeId};
 use am_office::{Actor, Entry, Event, Journal};

@@ -1,7 +1,7 @@
 //! The journal of a step script: each event is that of the next step line.
 
 ghost use Rattle.am_check.specs.Lines.{stop_of};
-ghost use Rattle.am_follow.specs.Layout.{events_of};
+ghost use Rattle.am_scripts.specs.Layout.{events_of};
 ghost use Rattle.am_scenario_types.specs.Lawful.{IsLawful};
 ghost use Rattle.am_scenario_types.specs.declared.parts.Form.TheVariants.{Step};
 ghost use Rattle.std.specs.Prelude.{◌≡◌, ◌↔◌, [], IfOk, IsTrue, Some, slice_get};

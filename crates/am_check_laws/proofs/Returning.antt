@@ -14,7 +14,7 @@ use Rattle.am_check.specs.Follows.{Comes, ComesInRun, IsBegun, IsEnded, IsNextCa
 use Rattle.am_check_laws.specs.Laws.{IsStepHistory, IsRunHistory, IsHistoryOf}
 use Rattle.am_drain.proofs.Entries.{entry_is_step}
 use Rattle.am_drain.specs.Made.{next_entry}
-use Rattle.am_follow.specs.Layout.{layout_of, events_of}
+use Rattle.am_scripts.specs.Layout.{layout_of, events_of}
 use Rattle.am_laws_steps.proofs.Steps.{walked_more}
 use Rattle.am_laws_steps.specs.Laws.{IsUnstopped, Walked}
 use Rattle.am_model.specs.History.{EachAfter, MayFollow}

@@ -9,7 +9,7 @@ use Rattle.am_check.proofs.Coming.{in_range}
 use Rattle.am_check.specs.Follows.{Comes, IsBegun, IsEnded}
 use Rattle.am_check_laws.specs.Laws.{IsStepHistory, IsRunHistory, IsHistoryOf}
 use Rattle.am_drain.proofs.Entries.{entry_is_step}
-use Rattle.am_follow.specs.Layout.{layout_of, events_of}
+use Rattle.am_scripts.specs.Layout.{layout_of, events_of}
 use Rattle.am_laws_steps.proofs.Steps.{walked_more, no_condition}
 use Rattle.am_laws_steps.specs.Laws.{IsUnstopped, Walked}
 use Rattle.am_model.proofs.Each.{each_has, over_each}

@@ -8,7 +8,7 @@ use Rattle.am_scenario_types.specs.declared.parts.Form.TheVariants.{Step, Run}
 use Rattle.am_scenario_types.specs.Lawful.{IsLawful}
 use Rattle.am_scenario_types.specs.Lists.{ScenarioLists}
 use Rattle.am_scenario.specs.Laws.{Spells}
-use Rattle.am_follow.specs.Layout.{layout_of, events_of}
+use Rattle.am_scripts.specs.Layout.{layout_of, events_of}
 use Rattle.am_scripts.specs.Links.{KeepsLinks}
 use Rattle.am_scripts.specs.Scripts.{KeepsScripts}
 use Rattle.am_scripts.specs.Standings.{IsAtRest}

@@ -11,7 +11,7 @@ use Rattle.am_laws.proofs.OneFate.{one_fate}
 use Rattle.am_scenario_types.specs.declared.parts.Network.TheVariants.{Packet}
 use Rattle.am_scenario_types.specs.Lawful.{IsLawful}
 use Rattle.am_scenario_types.specs.Lists.{ScenarioLists}
-use Rattle.am_follow.specs.Layout.{layout_of}
+use Rattle.am_scripts.specs.Layout.{layout_of}
 use Rattle.am_drain.specs.Cut.{IsDrainCutOff, IsDrainedWithRoom}
 use Rattle.am_drain.specs.Follows.{IsGoodPhase, IsStoppedFor}
 use Rattle.am_drain.proofs.Stopped.{cut_off_is_stopped}

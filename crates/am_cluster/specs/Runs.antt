@@ -11,10 +11,10 @@ use Rattle.am_laws.specs.Fates.{HasOneFate}
 use Rattle.am_model.specs.History.{IsHistory}
 use Rattle.am_model.specs.PostOffice.{PostOffice}
 use Rattle.am_scenario_types.specs.Lists.{ScenarioLists}
-use Rattle.am_follow.specs.Layout.{layout_of}
+use Rattle.am_scripts.specs.Layout.{layout_of}
 use Rattle.am_drain.specs.Cut.{IsDrainCutOff, IsDrainedWithRoom}
 use Rattle.am_drain.specs.Follows.{IsGoodPhase, IsStoppedFor}
-use Rattle.am_drain_loop.specs.Stops.{IsDrainBeginning}
+use Rattle.am_drainer.specs.Stops.{IsDrainBeginning}
 use Rattle.am_drain_steps.specs.Endings.{UnknownIsPlanned, WithholdsNothing}
 use Rattle.am_run_laws.specs.Drained.{HasShortLogs}
 use Rattle.am_cluster.specs.declared.RunFault.{RunFault}

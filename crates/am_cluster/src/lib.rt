@@ -4,9 +4,9 @@
 ghost use Rattle.am_cluster.specs.Runs.{IsAloneStopped, IsDrainHalted, IsRunDone, IsRunStopped, ObeysRunLaws};
 ghost use Rattle.am_drain.specs.Cut.{IsDrainedWithRoom};
 ghost use Rattle.am_drain.specs.Follows.{IsGoodPhase};
-ghost use Rattle.am_drain_loop.specs.Stops.{IsDrainStopped};
+ghost use Rattle.am_drainer.specs.Stops.{IsDrainStopped};
 ghost use Rattle.am_drain_steps.specs.Runs.{IsWholeRun};
-ghost use Rattle.am_follow.specs.Layout.{layout_of};
+ghost use Rattle.am_scripts.specs.Layout.{layout_of};
 ghost use Rattle.am_model.specs.History.{IsHistory};
 ghost use Rattle.am_model.specs.PostOffice.{PostOffice};
 ghost use Rattle.am_run_laws.specs.Left.{LeavesNothing};
@@ -138,7 +138,7 @@ pub fn alone(alloc: Global, scenario: &Scenario) -> Result<Finished, RunFault>
         Ok(machine) => machine,
         Err(_) => return Err(RunFault::NoMemory),
     };
-    let drained = am_drain_loop::drain(&mut machine);
+    let drained = am_drainer::drain(&mut machine);
     match machine.journal(alloc) {
         Ok(journal) => run_of(scenario, drained, journal),
         Err(_) => Err(RunFault::NoMemory),

@@ -2,7 +2,7 @@
 
 ghost use Rattle.am_drain.specs.Cut.{IsDrainedWithRoom};
 ghost use Rattle.am_drain.specs.Follows.{IsGoodPhase};
-ghost use Rattle.am_follow.specs.Layout.{layout_of};
+ghost use Rattle.am_scripts.specs.Layout.{layout_of};
 ghost use Rattle.am_model.specs.Layout.{AllAre};
 ghost use Rattle.am_office.specs.declared.Entry.{Entry as Made};
 ghost use Rattle.am_scenario_types.specs.Lawful.{IsLawful};

@@ -39,7 +39,7 @@ use Rattle.am_model.specs.History.{outcome_of, state_of}
 use Rattle.am_model.specs.PostOffice.{IsAcceptedBy, PostOffice, WasAccepted, mapping_of, times, times_serial}
 use Rattle.am_model.proofs.Each.{over_each}
 use Rattle.am_scenario_types.specs.declared.parts.ScriptCall.{ScriptCall}
-use Rattle.am_follow.specs.Layout.{layout_of}
+use Rattle.am_scripts.specs.Layout.{layout_of}
 use Rattle.am_scripts.specs.Scripts.{KeepsScripts, call_made}
 use Rattle.am_scripts.specs.Follows.{KeepsToEvents, is_of_run}
 use Rattle.am_words.specs.declared.codes.CodedWord.{CodedWord}

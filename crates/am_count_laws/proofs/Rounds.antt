@@ -31,7 +31,7 @@ use Rattle.am_model.specs.History.{EachAfter, IsHistory, MayFollow, outcome_of, 
 use Rattle.am_model.specs.PostOffice.{IsAcceptedAsAsked, IsAcceptedBy, IsFirstRun, IsPutAndRunFirst, PostOffice, WasAccepted, is_from, mapping_of, own_tag, times}
 use Rattle.am_model.proofs.Each.{over_each}
 use Rattle.am_scenario_types.specs.declared.parts.ScriptCall.{ScriptCall}
-use Rattle.am_follow.specs.Layout.{layout_of}
+use Rattle.am_scripts.specs.Layout.{layout_of}
 use Rattle.am_scripts.specs.Scripts.{call_made}
 use Rattle.am_scripts.specs.Follows.{is_of_run}
 use Rattle.am_words.specs.declared.codes.CodedWord.{CodedWord}

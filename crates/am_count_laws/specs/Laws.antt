@@ -7,7 +7,7 @@ use Rattle.am_office.specs.declared.endings.Fate.TheVariants as Fates
 use Rattle.am_office.specs.Fates.{fate}
 use Rattle.am_model.specs.History.{IsHistory}
 use Rattle.am_model.specs.PostOffice.{PostOffice, WasAccepted}
-use Rattle.am_follow.specs.Layout.{layout_of}
+use Rattle.am_scripts.specs.Layout.{layout_of}
 use Rattle.am_scripts.specs.Scripts.{KeepsScripts}
 use Rattle.am_scripts.specs.Follows.{KeepsToEvents}
 use Rattle.am_words.specs.declared.codes.CodedWord.{CodedWord}

@@ -4,7 +4,7 @@
 
 ghost use Rattle.am_crew_opening.specs.Crews.{AreCrews, AreLinked};
 ghost use Rattle.am_drain.specs.Follows.{IsGoodPhase};
-ghost use Rattle.am_follow.specs.Layout.{layout_of};
+ghost use Rattle.am_scripts.specs.Layout.{layout_of};
 ghost use Rattle.am_scenario_types.specs.Lawful.{IsLawful};
 ghost use Rattle.am_scenario_types.specs.declared.parts.Network.TheVariants as Networks;
 ghost use Rattle.std.specs.Prelude.{◌≡◌, [], IfOk};

@@ -2,7 +2,7 @@
 
 ghost use Rattle.am_crew.specs.Running.{HaveRun, SameCrew, SameDriver, SameInterface, SameThread, is_starved, is_want};
 ghost use Rattle.am_crew_opening.specs.Crews.{AreCrews, AreLinked, AreNumbered, IsCrew};
-ghost use Rattle.am_follow.specs.Layout.{layout_of};
+ghost use Rattle.am_scripts.specs.Layout.{layout_of};
 ghost use Rattle.am_local.specs.Together.{ends_of};
 ghost use Rattle.am_scenario_types.specs.Lawful.{IsLawful};
 ghost use Rattle.am_scenario_types.specs.declared.parts.Network.TheVariants as Networks;

@@ -14,8 +14,8 @@ use Rattle.am_scenario_types.specs.declared.parts.ScriptCall.{ScriptCall}
 use Rattle.am_scenario_types.specs.declared.parts.ThreadLine.{ThreadLine}
 use Rattle.am_scenario_types.specs.Lawful as lawful
 use Rattle.am_scenario_types.specs.Lists.{ScenarioLists}
-use Rattle.am_follow.specs.Layout.{layout_of}
-use Rattle.am_follow.proofs.Lawful.{event_in_range}
+use Rattle.am_scripts.specs.Layout.{layout_of}
+use Rattle.am_scripts.proofs.Lawful.{event_in_range}
 use Rattle.am_scripts.specs.Follows.{is_thread}
 use Rattle.am_scripts.specs.Scripts.{is_of_thread, script_of}
 use Rattle.am_scripts.proofs.Declared.{thread_below_64, is_on_declared}

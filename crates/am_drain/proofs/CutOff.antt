@@ -6,8 +6,8 @@ use Rattle.am_office.specs.declared.Entry.{Entry}
 use Rattle.am_scenario_types.specs.Lists.{ScenarioLists}
 use Rattle.am_model.proofs.Each.{each_at}
 use Rattle.am_drain.specs.Rules.{next_turn}
-use Rattle.am_drain.specs.Drain.{turn, after_turns, IsDrainedBefore}
-use Rattle.am_drain.specs.Cut.{full_for, HasRoom, IsDrainCutOff}
+use Rattle.am_drain.specs.Drain.{after_next_turn, after_turns, IsDrainedBefore}
+use Rattle.am_drain.specs.Cut.{full_for, MeetsNoFullLog, IsDrainCutOff}
 use Rattle.am_drain.specs.Laws.{CutIsDetermined}
 use Rattle.am_drain.proofs.Turns.{Extends, turns_extend}
 use Rattle.am_drain.proofs.Determined.{no_more}
@@ -21,7 +21,7 @@ turns_meet (suc n) zero scenario past one other e f =
     let same : past ≡ other = cc in
     inr (subst (λ (xs : List Entry). Extends xs one) same (turns_extend (suc n) scenario past one e))
 turns_meet (suc n) (suc m) scenario past one other e f =
-    elim (turn scenario past) as (λ (t : Option (List Entry)). option_and_then (after_turns n scenario) t ≡ Some one → option_and_then (after_turns m scenario) t ≡ Some other → Extends one other ⊎ Extends other one) [
+    elim (after_next_turn scenario past) as (λ (t : Option (List Entry)). option_and_then (after_turns n scenario) t ≡ Some one → option_and_then (after_turns m scenario) t ≡ Some other → Extends one other ⊎ Extends other one) [
       | None ↦ λ e' f'. absurd (cc)
       | Some next ↦ λ e' f'. turns_meet n m scenario next one other e' f'
     ] e f
@@ -36,7 +36,7 @@ turns_before (suc n) zero scenario past one other e f end =
     let none = no_more n scenario past (ap (next_turn scenario) same ∙ end) in
     absurd (cc)
 turns_before (suc n) (suc m) scenario past one other e f end =
-    elim (turn scenario past) as (λ (t : Option (List Entry)). option_and_then (after_turns n scenario) t ≡ Some one → option_and_then (after_turns m scenario) t ≡ Some other → Extends one other) [
+    elim (after_next_turn scenario past) as (λ (t : Option (List Entry)). option_and_then (after_turns n scenario) t ≡ Some one → option_and_then (after_turns m scenario) t ≡ Some other → Extends one other) [
       | None ↦ λ e' f'. absurd (cc)
       | Some next ↦ λ e' f'. turns_before n m scenario next one other e' f' end
     ] e f
@@ -57,14 +57,14 @@ at_first scenario past x y part full none same =
     cc
 
 -- the first entry of a list that meets a full log is one
-one_first : (scenario : ScenarioLists) (past xs zs : List Entry) (x y : Entry) (ls ks : List Entry) (part here : Part) → xs ++ x ∷ ls ≡ zs ++ y ∷ ks → HasRoom scenario past xs → HasRoom scenario past zs → Meets scenario (past ++ xs) x part → Meets scenario (past ++ zs) y here → (xs ≡ zs) × (x ≡ y)
+one_first : (scenario : ScenarioLists) (past xs zs : List Entry) (x y : Entry) (ls ks : List Entry) (part here : Part) → xs ++ x ∷ ls ≡ zs ++ y ∷ ks → MeetsNoFullLog scenario past xs → MeetsNoFullLog scenario past zs → Meets scenario (past ++ xs) x part → Meets scenario (past ++ zs) y here → (xs ≡ zs) × (x ≡ y)
 one_first scenario past [] [] x y ls ks part here e ra rb fa fb = (refl, cc)
 one_first scenario past [] (b ∷ zs) x y ls ks part here e ra rb fa fb = absurd (at_first scenario past x b part fa rb.0 (cc))
 one_first scenario past (a ∷ xs) [] x y ls ks part here e ra rb fa fb = absurd (at_first scenario past y a here fb ra.0 (cc))
 one_first scenario past (a ∷ xs) (b ∷ zs) x y ls ks part here e ra rb fa fb =
     let same : b ≡ a = cc in
     let rest : xs ++ x ∷ ls ≡ zs ++ y ∷ ks = cc in
-    let room : HasRoom scenario (past ++ a ∷ []) zs = subst (λ (c : Entry). HasRoom scenario (past ++ c ∷ []) zs) same rb.1 in
+    let room : MeetsNoFullLog scenario (past ++ a ∷ []) zs = subst (λ (c : Entry). MeetsNoFullLog scenario (past ++ c ∷ []) zs) same rb.1 in
     let meets_a : Meets scenario ((past ++ a ∷ []) ++ xs) x part = ap (λ (us : List Entry). full_for scenario us x) (append_assoc past (a ∷ []) xs) ∙ fa in
     let meets_b : Meets scenario ((past ++ a ∷ []) ++ zs) y here = ap (λ (us : List Entry). full_for scenario us y) (append_assoc past (a ∷ []) zs ∙ ap (λ (c : Entry). past ++ c ∷ zs) (sym same)) ∙ fb in
     let both = one_first scenario (past ++ a ∷ []) xs zs x y ls ks part here rest ra.1 room meets_a meets_b in
@@ -106,7 +106,7 @@ cut_is_determined =
           let ex : Extends (past ++ (c.drained.added ++ c.drained.next ∷ c.drained.later)) other = turns_before c.drained.turns d.drained.0 scenario past (past ++ (c.drained.added ++ c.drained.next ∷ c.drained.later)) other (plan_is scenario past one c.drained) d.drained.1.made d.drained.1.ended in
           let whole : past ++ d.added ≡ past ++ (c.drained.added ++ c.drained.next ∷ (c.drained.later ++ ex.0)) = sym d.made ∙ (ex.1 ∙ (append_assoc past (c.drained.added ++ c.drained.next ∷ c.drained.later) ex.0 ∙ ap (λ (xs : List Entry). past ++ xs) (append_assoc c.drained.added (c.drained.next ∷ c.drained.later) ex.0))) in
           let lists : d.added ≡ c.drained.added ++ c.drained.next ∷ (c.drained.later ++ ex.0) = cancelled past d.added (c.drained.added ++ c.drained.next ∷ (c.drained.later ++ ex.0)) whole in
-          let none : full_for scenario (past ++ c.drained.added) c.drained.next ≡ None = each_at (λ (before : List Entry) (x : Entry). full_for scenario before x ≡ None) past c.drained.added c.drained.next (c.drained.later ++ ex.0) (subst (λ (xs : List Entry). HasRoom scenario past xs) lists d.room) in
+          let none : full_for scenario (past ++ c.drained.added) c.drained.next ≡ None = each_at (λ (before : List Entry) (x : Entry). full_for scenario before x ≡ None) past c.drained.added c.drained.next (c.drained.later ++ ex.0) (subst (λ (xs : List Entry). MeetsNoFullLog scenario past xs) lists d.room) in
           let some : full_for scenario (past ++ c.drained.added) c.drained.next ≡ Some part = ap (λ (xs : List Entry). full_for scenario xs c.drained.next) (sym c.drained.made) ∙ c.full in
           let both : Some part ≡ None = sym some ∙ none in
           absurd (cc);

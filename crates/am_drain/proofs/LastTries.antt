@@ -15,7 +15,7 @@ use Rattle.am_model.specs.History.{EachAfter}
 use Rattle.am_model.proofs.Each.{each_push}
 use Rattle.am_plan.specs.Shape.{shape, number_of}
 use Rattle.am_scenario_types.specs.Lists.{ScenarioLists}
-use Rattle.am_follow.specs.Layout.{layout_of}
+use Rattle.am_scripts.specs.Layout.{layout_of}
 use Rattle.am_scripts.specs.Links.{first_some, nodes_of, number_received, received, due, receipt, receipt_at, next_receipt, is_all_received}
 use Rattle.am_scripts.specs.Follows.{is_last_in, is_last, KeepsLastTries}
 use Rattle.am_model.specs.Parts.{driver_of}

@@ -6,7 +6,7 @@ use Rattle.am_office.specs.declared.Event.TheVariants as Events
 use Rattle.am_office.specs.declared.Entry.{Entry}
 use Rattle.am_model.proofs.Each.{each_push}
 use Rattle.am_scenario_types.specs.Lists.{ScenarioLists}
-use Rattle.am_follow.specs.Layout.{layout_of}
+use Rattle.am_scripts.specs.Layout.{layout_of}
 use Rattle.am_scripts.specs.Links.{IsReceiptInOrder, ReceivesInOrder}
 use Rattle.am_model.specs.Parts.{driver_of}
 use Rattle.am_drain.specs.declared.Turn.{Turn}

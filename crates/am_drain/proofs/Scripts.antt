@@ -9,7 +9,7 @@ use Rattle.am_office.specs.declared.Entry.{Entry}
 use Rattle.am_scenario_types.specs.declared.parts.ThreadLine.{ThreadLine}
 use Rattle.am_scenario_types.specs.declared.parts.ScriptCall.{ScriptCall}
 use Rattle.am_scenario_types.specs.Lists.{ScenarioLists}
-use Rattle.am_follow.specs.Layout.{layout_of}
+use Rattle.am_scripts.specs.Layout.{layout_of}
 use Rattle.am_scripts.specs.Scripts.{call_made, is_of_thread, calls_of, script_of, call_left, BeginsScripts}
 use Rattle.am_model.specs.Parts.{driver_of}
 use Rattle.am_scripts.proofs.Lists.{Begins, begins_next}

@@ -14,7 +14,7 @@ use Rattle.am_office.specs.Entries.{ends_touched, node_touched, is_node, touches
 use Rattle.am_model.specs.Steps.{is_end_full, is_node_full, lesser, least_such, full_by}
 use Rattle.am_model.proofs.Names.{same_end-refl}
 use Rattle.am_scenario_types.specs.Lists.{ScenarioLists}
-use Rattle.am_follow.specs.Layout.{layout_of}
+use Rattle.am_scripts.specs.Layout.{layout_of}
 use Rattle.am_model.specs.Parts.{touches_part}
 use Rattle.am_drain.specs.Cut.{full_for}
 use Rattle.am_drain.specs.Laws.{CutOffIsStopped}

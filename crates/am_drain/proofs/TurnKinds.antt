@@ -13,7 +13,7 @@ use Rattle.am_model.specs.History.{is_bound, channel_to}
 use Rattle.am_scenario_types.specs.declared.parts.ThreadLine.{ThreadLine}
 use Rattle.am_scenario_types.specs.declared.parts.ScriptCall.{ScriptCall}
 use Rattle.am_scenario_types.specs.Lists.{ScenarioLists}
-use Rattle.am_follow.specs.Layout.{layout_of}
+use Rattle.am_scripts.specs.Layout.{layout_of}
 use Rattle.am_scripts.specs.Links.{first_some, nodes_of, due, receipt, receipt_at, next_receipt}
 use Rattle.am_scripts.specs.Scripts.{call_made, is_of_thread, calls_of, call_left}
 use Rattle.am_scripts.specs.Standings.{Standing, standings, is_missed}

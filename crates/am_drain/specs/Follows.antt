@@ -4,7 +4,7 @@ use Rattle.am_office.specs.declared.Part.{Part}
 use Rattle.am_office.specs.declared.Entry.{Entry}
 use Rattle.am_model.specs.History.{IsHistory}
 use Rattle.am_scenario_types.specs.Lists.{ScenarioLists}
-use Rattle.am_follow.specs.Layout.{layout_of}
+use Rattle.am_scripts.specs.Layout.{layout_of}
 use Rattle.am_scripts.specs.Links.{KeepsLinks, ReceivesInOrder}
 use Rattle.am_scripts.specs.Scripts.{KeepsScripts, BeginsScripts}
 use Rattle.am_scripts.specs.Standings.{IsAtRest}

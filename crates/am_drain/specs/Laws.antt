@@ -6,20 +6,20 @@ use Rattle.am_office.specs.declared.Part.{Part}
 use Rattle.am_model.specs.declared.Queued.{Queued}
 use Rattle.am_model.specs.Endpoint.{front}
 use Rattle.am_scenario_types.specs.Lists.{ScenarioLists}
-use Rattle.am_follow.specs.Layout.{layout_of}
+use Rattle.am_scripts.specs.Layout.{layout_of}
 use Rattle.am_scripts.specs.Links.{ReceivesInOrder}
 use Rattle.am_scripts.specs.Scripts.{BeginsScripts}
 use Rattle.am_scripts.specs.Standings.{Standing, standings, is_standing_of, IsAtRest}
 use Rattle.am_scripts.specs.Follows.{KeepsLastTries, KeepsToEvents, IsPhase}
 use Rattle.am_model.specs.Parts.{touches_part}
 use Rattle.am_drain.specs.Rules.{next_turn, next_time_out}
-use Rattle.am_drain.specs.Drain.{turn, IsDrained}
+use Rattle.am_drain.specs.Drain.{after_next_turn, IsDrained}
 use Rattle.am_drain.specs.Follows.{IsGoodPhase, FollowsScripts, IsStoppedFor}
 use Rattle.am_drain.specs.Cut.{IsDrainedWithRoom, IsDrainCutOff}
 
--- each turn makes an entry
+-- each after_next_turn makes an entry
 abbrev pub TurnsMakeEntries : Type 0
-TurnsMakeEntries = (scenario : ScenarioLists) (past next : List Entry) → turn scenario past ≡ Some next → length past < length next
+TurnsMakeEntries = (scenario : ScenarioLists) (past next : List Entry) → after_next_turn scenario past ≡ Some next → length past < length next
 
 -- whether a message goes to an endpoint that there is
 abbrev pub is_known : List Standing → Option Queued → Bool

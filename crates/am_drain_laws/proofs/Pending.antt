@@ -32,8 +32,8 @@ use Rattle.am_model.proofs.Names.{same_end-is, same_serial-is}
 use Rattle.am_model.proofs.Received.{bit}
 use Rattle.am_scenario_types.specs.Lawful as lawful
 use Rattle.am_scenario_types.specs.Lists.{ScenarioLists}
-use Rattle.am_follow.specs.Layout.{layout_of}
-use Rattle.am_follow.proofs.Lawful.{lawful_layout}
+use Rattle.am_scripts.specs.Layout.{layout_of}
+use Rattle.am_scripts.proofs.Lawful.{lawful_layout}
 use Rattle.am_laws_homes.proofs.Homes.{messages_addressed}
 use Rattle.am_laws_messages.proofs.Delivered.{IsIn, delivers}
 use Rattle.am_laws_cluster.proofs.Whole.{cluster_holds}

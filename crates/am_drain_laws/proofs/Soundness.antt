@@ -17,8 +17,8 @@ use Rattle.am_model.specs.Cluster.{IsHeldOnce, InFlightIsBound}
 use Rattle.am_model.specs.History.{IsHistory, state_of, channel_to, is_bound}
 use Rattle.am_scenario_types.specs.Lawful as lawful
 use Rattle.am_scenario_types.specs.Lists.{ScenarioLists}
-use Rattle.am_follow.specs.Layout.{layout_of}
-use Rattle.am_follow.proofs.Lawful.{lawful_layout}
+use Rattle.am_scripts.specs.Layout.{layout_of}
+use Rattle.am_scripts.proofs.Lawful.{lawful_layout}
 use Rattle.am_laws_homes.proofs.Homes.{front_addressed, home_below}
 use Rattle.am_laws_messages.proofs.Delivered.{delivers}
 use Rattle.am_laws_cluster.proofs.Bound.{in_flight_bound}

@@ -17,8 +17,8 @@ use Rattle.am_laws_messages.proofs.Alls.{all_found}
 use Rattle.am_scenario_types.specs.declared.parts.ScriptCall.{ScriptCall}
 use Rattle.am_scenario_types.specs.Lawful as lawful
 use Rattle.am_scenario_types.specs.Lists.{ScenarioLists}
-use Rattle.am_follow.specs.Layout.{layout_of}
-use Rattle.am_follow.proofs.Lawful.{lawful_layout, is_declared, event_in_range}
+use Rattle.am_scripts.specs.Layout.{layout_of}
+use Rattle.am_scripts.proofs.Lawful.{lawful_layout, is_declared, event_in_range}
 use Rattle.am_scripts.specs.Scripts.{is_of_thread, calls_of}
 use Rattle.am_scripts.proofs.Declared.{thread_below_64, is_on_declared}
 use Rattle.am_drain.specs.Made.{after_event}

@@ -24,8 +24,8 @@ use Rattle.am_model.proofs.Names.{same_end-refl, same_node-refl}
 use Rattle.am_laws_messages.proofs.Alls.{all_map}
 use Rattle.am_scenario_types.specs.declared.parts.Network.TheVariants.{Packet}
 use Rattle.am_scenario_types.specs.Lists.{ScenarioLists}
-use Rattle.am_follow.specs.Layout.{is_direct, layout_of}
-use Rattle.am_follow.proofs.Lawful.{lawful_layout}
+use Rattle.am_scripts.specs.Layout.{is_direct, layout_of}
+use Rattle.am_scripts.proofs.Lawful.{lawful_layout}
 use Rattle.am_scripts.specs.Links.{first_some, nodes_of}
 use Rattle.am_scripts.specs.Standings.{Standing, standings, is_missed}
 use Rattle.am_scripts.proofs.Lists.{some_mapped, none_mapped, none_all, found_in, found_true}

@@ -22,8 +22,8 @@ use Rattle.am_model.proofs.Names.{same_end-is, same_node-is, same_node-refl}
 use Rattle.am_plan.specs.Shape.{fault_at, shape}
 use Rattle.am_scenario_types.specs.declared.parts.ThreadLine.{ThreadLine}
 use Rattle.am_scenario_types.specs.Lists.{ScenarioLists}
-use Rattle.am_follow.specs.Layout.{layout_of}
-use Rattle.am_follow.proofs.Lawful.{lawful_layout}
+use Rattle.am_scripts.specs.Layout.{layout_of}
+use Rattle.am_scripts.proofs.Lawful.{lawful_layout}
 use Rattle.am_scripts.specs.Links.{nodes_of, received}
 use Rattle.am_scripts.specs.Scripts.{calls_of, script_of}
 use Rattle.am_scripts.specs.Standings.{Standing, standings, is_missed}

@@ -26,7 +26,7 @@ use Rattle.am_plan.specs.declared.plan.LinkFault.TheVariants.{Repeat}
 use Rattle.am_plan.specs.declared.plan.PlanLine.{PlanLine}
 use Rattle.am_plan.specs.Shape.{is_line_of, fault_in, fault_at, at_once, late_from, stamped, stamp_of, number_of, released_by, shape_after}
 use Rattle.am_scenario_types.specs.Lists.{ScenarioLists}
-use Rattle.am_follow.specs.Layout.{layout_of}
+use Rattle.am_scripts.specs.Layout.{layout_of}
 use Rattle.am_scripts.specs.Links.{numbers_released}
 use Rattle.am_drain_steps.specs.Endings.{is_among, IsAnsweredInVain, IsKeptBack, IsOrderly, IsWithheld, WithholdsNothing, NoneIsUnknown}
 use Rattle.am_drain_steps.proofs.Receipts.{from_of, to_of}

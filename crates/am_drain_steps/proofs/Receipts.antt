@@ -34,7 +34,7 @@ use Rattle.am_plan.specs.declared.plan.LinkFault.{LinkFault}
 use Rattle.am_plan.specs.declared.plan.LinkFault.TheVariants.{Lose, Repeat, Late}
 use Rattle.am_plan.specs.Shape.{fault_at, at_once, is_late_until, late_from, stamped, stamp_of, number_of, released_by, shape_after, shape}
 use Rattle.am_scenario_types.specs.Lists.{ScenarioLists}
-use Rattle.am_follow.specs.Layout.{layout_of}
+use Rattle.am_scripts.specs.Layout.{layout_of}
 use Rattle.am_scripts.specs.Links.{due, receipt, receipt_at, next_receipt, received}
 use Rattle.am_scripts.proofs.Links.{emitted_push}
 use Rattle.am_scripts.proofs.Lists.{some_mapped}

@@ -19,8 +19,8 @@ use Rattle.am_model.proofs.Names.{same_end-is}
 use Rattle.am_laws_homes.proofs.Homes.{front_addressed}
 use Rattle.am_laws_cluster.proofs.Flights.{open_queued}
 use Rattle.am_scenario_types.specs.Lists.{ScenarioLists}
-use Rattle.am_follow.specs.Layout.{layout_of}
-use Rattle.am_follow.proofs.Lawful.{lawful_layout}
+use Rattle.am_scripts.specs.Layout.{layout_of}
+use Rattle.am_scripts.proofs.Lawful.{lawful_layout}
 use Rattle.am_scripts.specs.Links.{first_some}
 use Rattle.am_scripts.specs.Standings.{Standing, standings}
 use Rattle.am_drain.specs.declared.Turn.{Turn}

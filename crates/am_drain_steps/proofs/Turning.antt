@@ -5,7 +5,7 @@ use Rattle.am_office.specs.declared.Entry.{Entry}
 use Rattle.am_scenario_types.specs.declared.parts.ScriptCall.{ScriptCall}
 use Rattle.am_scenario_types.specs.Lists.{ScenarioLists}
 use Rattle.am_model.specs.History.{IsHistory}
-use Rattle.am_follow.specs.Layout.{layout_of}
+use Rattle.am_scripts.specs.Layout.{layout_of}
 use Rattle.am_scripts.proofs.Lists.{some_mapped}
 use Rattle.am_drain.specs.declared.Turn.{Turn}
 use Rattle.am_drain.specs.declared.Turn.TheVariants.{Once, Make}

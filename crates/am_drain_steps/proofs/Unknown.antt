@@ -36,7 +36,7 @@ use Rattle.am_plan.specs.declared.plan.PlanLine.{PlanLine}
 use Rattle.am_plan.specs.Shape.{fault_at, fault_in, is_line_of, number_of}
 use Rattle.am_scenario_types.specs.Lawful.{IsLawfulFault, IsLawfulPlanLine}
 use Rattle.am_scenario_types.specs.Lists.{ScenarioLists}
-use Rattle.am_follow.specs.Layout.{layout_of}
+use Rattle.am_scripts.specs.Layout.{layout_of}
 use Rattle.am_scripts.specs.Links.{nodes_of, received, numbers_released, next_receipt, is_all_received, IsReceiptInOrder, ReceivesInOrder, KeepsLinks}
 use Rattle.am_scripts.specs.Follows.{is_last_in, is_last}
 use Rattle.am_scripts.proofs.Links.{all_is_received}

@@ -1,6 +1,6 @@
 -- What is so of every drain and its end: an unknown message stands only where the plan withholds packets of the last try, and where
 -- the plan withholds none nothing is unknown. Two more are proved in crates above: that it ends by itself (`EachTurnFalls`) in
--- am_drain_falls, and that where the plan withholds none what is returned is returned for good (`ReturnsAreForGood`) in am_run_laws.
+-- am_drain_ends, and that where the plan withholds none what is returned is returned for good (`ReturnsAreForGood`) in am_run_laws.
 use Rattle.std.specs.Prelude.{◌≡◌, ◌≢◌, ◌⊎◌, ℕ, ◌+◌, ◌<◌, ◌≤◌, ◌^◌, ◌==◌, Bool, true, false, Option, Some, None, List, ◌∷◌, ◌++◌, map, length, slice_get}
 use Rattle.std.specs.List.{All, list_any}
 use Rattle.am_names.specs.Rules.{is_transient}
@@ -27,19 +27,19 @@ use Rattle.am_plan.specs.Shape.{fault_at, number_of, shape}
 use Rattle.am_scenario_types.specs.Lists.{ScenarioLists}
 use Rattle.am_scripts.specs.Follows.{KeepsLastTries}
 use Rattle.am_scripts.specs.Links.{ReceivesInOrder, numbers_released, received}
-use Rattle.am_follow.specs.Layout.{layout_of}
+use Rattle.am_scripts.specs.Layout.{layout_of}
 use Rattle.am_scripts.specs.Standings.{standings}
 use Rattle.am_drain.specs.declared.Turn.{Turn}
 use Rattle.am_drain.specs.Rules.{next_page_in}
-use Rattle.am_drain.specs.Drain.{turn, after_turn}
+use Rattle.am_drain.specs.Drain.{after_next_turn, after_turn}
 use Rattle.am_drain.specs.Follows.{FollowsScripts}
 use Rattle.am_drain_steps.specs.Enabled.{IsOfRun}
 use Rattle.am_drain_steps.specs.Work.{work}
 
--- the work that is left falls with each turn
+-- the work that is left falls with each after_next_turn
 abbrev pub EachTurnFalls : Type 0
 EachTurnFalls =
-    (s : ScenarioLists) (past next : List Entry) → IsOfRun s past → ReceivesInOrder s past → length past < 2 ^ 32 → turn s past ≡ Some next → work s next < work s past
+    (s : ScenarioLists) (past next : List Entry) → IsOfRun s past → ReceivesInOrder s past → length past < 2 ^ 32 → after_next_turn s past ≡ Some next → work s next < work s past
 
 -- so with a page-in that the drain names
 abbrev pub PageInsFall : Type 0
@@ -97,7 +97,7 @@ abbrev pub UnknownIsPlanned : ScenarioLists → List Entry → Type 0
 UnknownIsPlanned s journal =
     (past later : List Entry) (x : Entry) (node peer : NodeId) (channel : ℕ) (serial : Serial) → journal ≡ past ++ x ∷ later → x.event ≡ Events.Expire node peer channel → x.outcome ≡ Out.Unknown serial → IsWithheld s past node peer channel serial
 
--- a history of the scenario in which each packet is received in its turn and the last tries come last, as in each that follows the
+-- a history of the scenario in which each packet is received in its after_next_turn and the last tries come last, as in each that follows the
 -- scripts
 pub record IsOrderly (s : ScenarioLists) (journal : List Entry) : Type 0 where
   pub run : IsOfRun s journal

@@ -8,7 +8,7 @@ use Rattle.am_model.specs.Endpoint.{is_on_disk, is_in_a_frame}
 use Rattle.am_model.specs.Layout.{Layout, home}
 use Rattle.am_model.specs.History.{IsHistory, state_of}
 use Rattle.am_scenario_types.specs.Lists.{ScenarioLists}
-use Rattle.am_follow.specs.Layout.{layout_of}
+use Rattle.am_scripts.specs.Layout.{layout_of}
 use Rattle.am_drain.specs.Ready.{off_disk, ready}
 use Rattle.am_drain.specs.Rules.{next_time_out}
 use Rattle.am_drain_steps.specs.Enabled.{IsOfRun}

@@ -9,7 +9,7 @@ use Rattle.am_model.specs.PostOffice.{WasAccepted}
 use Rattle.am_scenario_types.specs.declared.parts.Network.TheVariants.{Packet}
 use Rattle.am_scenario_types.specs.Lawful.{IsLawful}
 use Rattle.am_scenario_types.specs.Lists.{ScenarioLists}
-use Rattle.am_follow.specs.Layout.{layout_of}
+use Rattle.am_scripts.specs.Layout.{layout_of}
 use Rattle.am_drain.specs.Drain.{IsDrained}
 use Rattle.am_drain.specs.Follows.{IsGoodPhase, FollowsScripts}
 

@@ -1,4 +1,4 @@
--- How much work is left to a drain: a number that falls with each turn. A message has its bounces, a binding its tries, a request
+-- How much work is left to a drain: a number that falls with each after_next_turn. A message has its bounces, a binding its tries, a request
 -- makes one reply, a packet goes out twice at most, and so many page calls fail.
 use Rattle.std.specs.Prelude.{ℕ, zero, suc, ◌+◌, ◌-◌, ◌*◌, Bool, true, false, ◌&&◌, nat_lt, Option, Some, None, List, [], ◌∷◌, length, drop, count_by, sum_by, if◌then◌else◌}
 use Rattle.std.specs.List.{range_with_len}
@@ -19,17 +19,17 @@ use Rattle.am_plan.specs.declared.plan.LinkFault.TheVariants.{Lose, Repeat, Late
 use Rattle.am_plan.specs.Shape.{fault_at}
 use Rattle.am_scenario_types.specs.declared.parts.ThreadLine.{ThreadLine}
 use Rattle.am_scenario_types.specs.Lists.{ScenarioLists}
-use Rattle.am_follow.specs.Layout.{layout_of}
+use Rattle.am_scripts.specs.Layout.{layout_of}
 use Rattle.am_scripts.specs.Links.{nodes_of, received, released}
 use Rattle.am_scripts.specs.Scripts.{calls_of, script_of}
 use Rattle.am_scripts.specs.Standings.{Standing, standings}
-use Rattle.am_drain.specs.Drain.{turn}
+use Rattle.am_drain.specs.Drain.{after_next_turn}
 
--- one sending of a message, by a binding: its turn with two page-outs, and two copies of its packet
+-- one sending of a message, by a binding: its after_next_turn with two page-outs, and two copies of its packet
 abbrev pub sending : ℕ → ℕ
 sending copy = 3 + 2 * copy
 
--- the time-outs after a packet was sent, where so many tries are left: each a turn and two copies
+-- the time-outs after a packet was sent, where so many tries are left: each a after_next_turn and two copies
 abbrev pub time_outs : ℕ → ℕ → ℕ
 time_outs copy left = left * (1 + 2 * copy)
 
@@ -141,7 +141,7 @@ works_by later (Some next) = later next
 
 abbrev pub works : ℕ → ScenarioLists → List Entry → List ℕ
 works zero s past = work s past ∷ []
-works (suc more) s past = work s past ∷ works_by (works more s) (turn s past)
+works (suc more) s past = work s past ∷ works_by (works more s) (after_next_turn s past)
 
 abbrev pub is_below : ℕ → List ℕ → Bool
 is_below most [] = true

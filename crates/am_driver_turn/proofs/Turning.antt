@@ -36,7 +36,7 @@ use Rattle.am_works.specs.Works.{DriverWorks}
 use Rattle.am_works.proofs.Drivers.{can_wait, drivers_go_on, drivers_look, drivers_rest, drivers_wait}
 use Rattle.am_works.proofs.Driving.{looks_keep, moved_id, moves_keep}
 use Rattle.am_works.proofs.Same.{busy_same, stays_same}
-use Rattle.am_driver_turn.specs.Turns.{Answer, IsFull, IsHeld, IsLate, IsSpent, IsStarved, IsStopped, MoveTurns}
+use Rattle.am_driver_turn.specs.Turns.{Answer, IsFull, IsHeld, IsLate, IsSpent, IsStarved, MeetsSeat, MoveTurns}
 use Rattle.am_driver_turn.specs.declared.turns.DriverFault.TheVariants as Faults
 use Rattle.am_driver_turn.specs.declared.turns.DriverTurn.TheVariants as Turns
 
@@ -55,10 +55,10 @@ looks_long zero view view' v w l = ap (λ (z : ViewLists). length z.ends) (sym l
 looks_long (suc n) view view' v w l =
     looks_long n view l.0 v l.1 l.2 ∙ sym (ap (λ (z : ViewLists). length z.ends) l.3.shown ∙ length-set l.0.ends n (line_by l.3.set (joined l.3.log)))
 
-pub stopped_can : (holder frames : ℕ) (node : NodeId) (view view' : ViewLists) (swap : Store) (v w : EndPass) → CanDrive frames node view swap v → IsStopped holder view view' v w → CanDrive frames node view' swap w
+pub stopped_can : (holder frames : ℕ) (node : NodeId) (view view' : ViewLists) (swap : Store) (v w : EndPass) → CanDrive frames node view swap v → MeetsSeat holder view view' v w → CanDrive frames node view' swap w
 stopped_can holder frames node view view' swap v w c l = can_wait frames node l.k holder view' swap l.between w (looks_can l.looked frames node view view' swap v l.between c l.looks) l.busy
 
-pub stopped_works : (holder : ℕ) (s : ScenarioLists) (ids : Ids) (node : NodeId) (turns clock : ℕ) (view view' : ViewLists) (swap : Store) (v w : EndPass) → DriverWorks s ids node turns clock view swap v → IsStopped holder view view' v w → DriverWorks s ids node (turns + 1) clock view' swap w
+pub stopped_works : (holder : ℕ) (s : ScenarioLists) (ids : Ids) (node : NodeId) (turns clock : ℕ) (view view' : ViewLists) (swap : Store) (v w : EndPass) → DriverWorks s ids node turns clock view swap v → MeetsSeat holder view view' v w → DriverWorks s ids node (turns + 1) clock view' swap w
 stopped_works holder s ids node turns clock view view' swap v w h l =
     drivers_rest s ids node turns clock view' swap w
     (drivers_wait s ids node turns l.k holder clock view' swap l.between w (looks_works l.looked s ids node turns clock view view' swap v l.between h l.looks) l.busy)
@@ -141,7 +141,7 @@ pub looks_same : (n : ℕ) (view view' : ViewLists) (v w : EndPass) → LooksTo 
 looks_same zero view view' v w l = record { mark = ap (λ (x : EndPass). x.mark) l.1; seats = ap (λ (x : EndPass). x.seats) l.1; births = ap (λ (x : EndPass). x.births) l.1 }
 looks_same (suc n) view view' v w l = same_then v l.1 w (looks_same n view l.0 v l.1 l.2) (stays_same n l.3.set l.3.place l.3.log [] l.1 w l.3.stays)
 
-pub stopped_same : (holder : ℕ) (view view' : ViewLists) (v w : EndPass) → IsStopped holder view view' v w → SameSeat v w
+pub stopped_same : (holder : ℕ) (view view' : ViewLists) (v w : EndPass) → MeetsSeat holder view view' v w → SameSeat v w
 stopped_same holder view view' v w l = same_then v l.between w (looks_same l.looked view view' v l.between l.looks) (busy_same l.k holder l.between w l.busy)
 
 held_same : (k : ℕ) (e : EndpointId) (Why : ViewLists → EndSettings → List Entry → Type 0) (shown view' : ViewLists) (u w : EndPass) → IsHeld k e Why shown view' u w → SameSeat u w

@@ -140,7 +140,7 @@ MoveTurns node k clock now shown view' swap swap' u w (Err (Faults.LogFull e)) =
 MoveTurns node k clock now shown view' swap swap' u w (Err Faults.NoMemory) = (e : EndpointId) × IsHeld k e (IsStarved view') shown view' u w × AreSame clock now swap swap'
 
 -- it looked at some endpoints, and met a seat at the next
-pub record IsStopped (holder : ℕ) (view view' : ViewLists) (v w : EndPass) : Type 0 where
+pub record MeetsSeat (holder : ℕ) (view view' : ViewLists) (v w : EndPass) : Type 0 where
   pub looked : ℕ
   pub k : ℕ
   pub between : EndPass
@@ -158,6 +158,6 @@ pub record IsAtMove (n : ℕ) (node : NodeId) (clock now : ℕ) (view view' : Vi
   pub turn : MoveTurns node k clock now shown view' swap swap' between w answer
 
 abbrev pub DriverTurns : ℕ → NodeId → ℕ → ℕ → ViewLists → ViewLists → Store → Store → EndPass → EndPass → Answer → Type 0
-DriverTurns n node clock now view view' swap swap' v w (Ok (Turns.Busy holder)) = IsStopped holder view view' v w × AreSame clock now swap swap'
+DriverTurns n node clock now view view' swap swap' v w (Ok (Turns.Busy holder)) = MeetsSeat holder view view' v w × AreSame clock now swap swap'
 DriverTurns n node clock now view view' swap swap' v w (Ok Turns.Nothing) = LooksTo n view view' v w × (next_move view' ≡ Moves.Nothing) × AreSame clock now swap swap'
 DriverTurns n node clock now view view' swap swap' v w answer = IsAtMove n node clock now view view' swap swap' v w answer

@@ -3,7 +3,7 @@ ghost use Rattle.am_driver.specs.Views as views;
 ghost use Rattle.am_endpoint.specs.View.{state_after};
 ghost use Rattle.am_works.specs.Drives.{IsLook, LooksTo, with_line};
 ghost use Rattle.am_works.specs.Seats.{IsBusy, IsIdle};
-ghost use Rattle.am_driver_turn.specs.Turns.{IsStopped};
+ghost use Rattle.am_driver_turn.specs.Turns.{MeetsSeat};
 ghost use Rattle.std.specs.Prelude.{◌≡◌, ◌<◌, IfErr, OnOk, length};
 
 use am_books::EndBook;
@@ -78,7 +78,7 @@ pub(crate) fn look_at_each(
     requires driver { seat.old.token.me.0.mark ≡ seat.old.token.me.0.seats }
     ensures idle { IsIdle places.now.board.shared.table_id seat.new.token }
     ensures looked { OnOk result (LooksTo (length view.old.ends) view.old view.new seat.old.token.me.0 seat.new.token.me.0) }
-    ensures busy { IfErr result (λ b. IsStopped b.holder view.old view.new seat.old.token.me.0 seat.new.token.me.0) }
+    ensures busy { IfErr result (λ b. MeetsSeat b.holder view.old view.new seat.old.token.me.0 seat.new.token.me.0) }
 {
     for at in 0..places.count {
         look(places, seat, view, at)?;

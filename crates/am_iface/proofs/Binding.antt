@@ -20,8 +20,8 @@ use Rattle.am_model.proofs.Names.{same_node-is}
 use Rattle.am_block.specs.declared.Slot.{Slot}
 use Rattle.am_channel.specs.declared.ends.Ends.{Ends}
 use Rattle.am_channel.specs.declared.sending.Sent.{Sent}
-use Rattle.am_channel_laws.specs.Calls.{Bind, after}
-use Rattle.am_channel_laws.specs.Counted.{AreCounted}
+use Rattle.am_channel.specs.Calls.{Bind, after}
+use Rattle.am_channel.specs.Counted.{AreCounted}
 use Rattle.am_local.specs.Interface.{InterfaceLog, bind_at, channel_by_home, channel_in, channel_of_front, failing_at, home_in, is_home_in, is_node_in, outcome_at}
 use Rattle.am_local.specs.declared.work.Work.TheVariants as Works
 use Rattle.am_local.proofs.Frames.{none_holds}

@@ -22,8 +22,8 @@ use Rattle.am_channel.specs.declared.sending.Bound.{Bound}
 use Rattle.am_channel.specs.declared.sending.TimedOut.{TimedOut}
 use Rattle.am_channel.specs.declared.sending.TimedOut.TheVariants as Times
 use Rattle.am_channel.specs.Sending.{timed_out, settled}
-use Rattle.am_channel_laws.specs.Calls.{Call, Bind, TimeOut, Answer, Arrive, Tells, TellsTimedOut, TellsTimeOut, settled_as, arrived_as}
-use Rattle.am_channel_laws.proofs.Pushes.{entry_is}
+use Rattle.am_channel.specs.Calls.{Call, Bind, TimeOut, Answer, Arrive, Tells, TellsTimedOut, TellsTimeOut, settled_as, arrived_as}
+use Rattle.am_channel.proofs.Pushes.{entry_is}
 use Rattle.am_iface.specs.Made.{bit}
 
 -- the packets that an entry emits on a link: the one that it emits, if it goes from the node to the peer

@@ -12,9 +12,9 @@ use Rattle.am_model.specs.Channels.{Channel, emitted}
 use Rattle.am_model.specs.History.{channel_to}
 use Rattle.am_model.specs.Layout.{node_at}
 use Rattle.am_channel.specs.declared.ends.Ends.{Ends}
-use Rattle.am_channel_laws.specs.Counted.{AreCounted}
-use Rattle.am_channel_laws.proofs.Pushes.{call_counted}
-use Rattle.am_channel_laws.proofs.Apart.{call_apart}
+use Rattle.am_channel.specs.Counted.{AreCounted}
+use Rattle.am_channel.proofs.Pushes.{call_counted}
+use Rattle.am_channel.proofs.Apart.{call_apart}
 use Rattle.am_iface.specs.Settings.{SettingsView}
 use Rattle.am_iface.specs.Kept.{AreOfLog, AreEndsOf, AreEmissionsOf, IsCounted, settings_in, view_of}
 use Rattle.am_iface.specs.View.{InterfaceView, own}

@@ -13,7 +13,7 @@ use Rattle.am_model.specs.Channels.{Mark, arrival}
 use Rattle.am_model.specs.Endpoint.{verdict, is_direct}
 use Rattle.am_model.specs.History.{decided, next_number}
 use Rattle.am_channel.specs.declared.ends.Ends.{Ends}
-use Rattle.am_channel_laws.specs.Counted.{AreCounted}
+use Rattle.am_channel.specs.Counted.{AreCounted}
 use Rattle.am_local.specs.Interface.{arrive_at, channel_in, needs, needs_arrival}
 use Rattle.am_local.specs.declared.work.Work.TheVariants as Works
 use Rattle.am_local.proofs.Granting.{work_granted}

@@ -18,8 +18,8 @@ use Rattle.am_channel.specs.declared.sending.Bound.{Bound}
 use Rattle.am_channel.specs.declared.sending.TimedOut.{TimedOut}
 use Rattle.am_channel.specs.declared.sending.TimedOut.TheVariants as Times
 use Rattle.am_channel.specs.Sending.{timed_out}
-use Rattle.am_channel_laws.specs.Calls.{TimeOut, TellsTimedOut, TellsTimeOut, after}
-use Rattle.am_channel_laws.specs.Counted.{AreCounted}
+use Rattle.am_channel.specs.Calls.{TimeOut, TellsTimedOut, TellsTimeOut, after}
+use Rattle.am_channel.specs.Counted.{AreCounted}
 use Rattle.am_local.specs.Interface.{channel_in, expire_at, has_try_left, needs, needs_bound, outcome_at}
 use Rattle.am_local.specs.declared.work.Work.TheVariants as Works
 use Rattle.am_local.proofs.Granting.{work_granted}

@@ -14,7 +14,7 @@ use Rattle.am_channel.specs.declared.ends.Ends.{Ends}
 use Rattle.am_channel.specs.declared.sending.Bound.{Bound}
 use Rattle.am_channel.specs.declared.sending.TimedOut.TheVariants as Times
 use Rattle.am_channel.specs.Sending.{settled, settled_by, settled_if}
-use Rattle.am_channel_laws.specs.Counted.{AreCounted}
+use Rattle.am_channel.specs.Counted.{AreCounted}
 use Rattle.am_local.specs.Interface.{InterfaceLog, needs_arrival, answers_to, needs_bound, settles, has_try_left, sends_again_to, channel_in}
 use Rattle.am_iface.specs.ByEnds.{needs_settling, needs_time_out, needs_given_up, emits_retry, emits_again}
 use Rattle.am_iface.specs.Kept.{AreOfLog, IsCounted, settings_in, view_of}

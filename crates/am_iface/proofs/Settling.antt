@@ -23,8 +23,8 @@ use Rattle.am_channel.specs.declared.sending.Bound.{Bound}
 use Rattle.am_channel.specs.declared.sending.Settled.{Settled}
 use Rattle.am_channel.specs.declared.sending.Settled.TheVariants as Settles
 use Rattle.am_channel.specs.Sending.{settled, settled_by, settled_if}
-use Rattle.am_channel_laws.specs.Calls.{Answer, after, settled_as}
-use Rattle.am_channel_laws.specs.Counted.{AreCounted}
+use Rattle.am_channel.specs.Calls.{Answer, after, settled_as}
+use Rattle.am_channel.specs.Counted.{AreCounted}
 use Rattle.am_local.specs.Granted.{IsInFlight}
 use Rattle.am_local.specs.Interface.{channel_in, needs, outcome_at, settle_at, settles}
 use Rattle.am_local.specs.declared.work.Work.TheVariants as Works

@@ -30,8 +30,8 @@ use Rattle.am_channel.specs.declared.sending.Settled.TheVariants as Settles
 use Rattle.am_channel.specs.declared.sending.TimedOut.{TimedOut}
 use Rattle.am_channel.specs.declared.sending.TimedOut.TheVariants as Times
 use Rattle.am_channel.specs.Sending.{bound_after, settled, settled_by, settled_if, timed_out}
-use Rattle.am_channel_laws.specs.Calls.{Arrive, Answer, Bind, TimeOut, Tells, TellsTimedOut, TellsTimeOut, after, arrived_as, settled_as, mark_later}
-use Rattle.am_channel_laws.specs.Counted.{AreCounted}
+use Rattle.am_channel.specs.Calls.{Arrive, Answer, Bind, TimeOut, Tells, TellsTimedOut, TellsTimeOut, after, arrived_as, settled_as, mark_later}
+use Rattle.am_channel.specs.Counted.{AreCounted}
 use Rattle.am_local.specs.declared.work.Work.TheVariants as Works
 use Rattle.am_local.specs.Interface.{InterfaceLog, channel_in, arrive_at, expire_at, failing_at, has_try_left, needs, needs_arrival, needs_bound, outcome_at, settle_at, settles}
 use Rattle.am_iface.specs.ByEnds.{needs_settling}

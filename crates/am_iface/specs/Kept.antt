@@ -6,7 +6,7 @@ use Rattle.am_model.specs.Channels.{emitted}
 use Rattle.am_model.specs.History.{channel_to}
 use Rattle.am_model.specs.Layout.{node_at}
 use Rattle.am_channel.specs.declared.ends.Ends.{Ends}
-use Rattle.am_channel_laws.specs.Counted.{AreCounted}
+use Rattle.am_channel.specs.Counted.{AreCounted}
 use Rattle.am_iface.specs.Settings.{AreLawful, SettingsView}
 use Rattle.am_iface.specs.View.{InterfaceView}
 use Rattle.am_iface.specs.declared.Interface.TheInside.{Inside}

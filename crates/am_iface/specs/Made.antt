@@ -3,8 +3,8 @@ use Rattle.std.specs.Prelude.{◌≡◌, ℕ, Bool, true, false, List}
 use Rattle.am_office.specs.declared.Entry.{Entry}
 use Rattle.am_model.specs.Channels.{Channel}
 use Rattle.am_channel.specs.declared.ends.Ends.{Ends}
-use Rattle.am_channel_laws.specs.Calls.{Call, Tells, after}
-use Rattle.am_channel_laws.specs.Counted.{AreCounted}
+use Rattle.am_channel.specs.Calls.{Call, Tells, after}
+use Rattle.am_channel.specs.Counted.{AreCounted}
 
 -- the entry tells of a call on the ends that are counted in the log, and the call leaves the new ends
 pub record IsMade (c : Channel) (log : List Entry) (new : Ends) (x : Entry) : Type 0 where

@@ -1,8 +1,8 @@
 // Binds of an endpoint's front message to a channel.
 ghost use Rattle.am_block.specs.declared.Slot.{Slot};
-ghost use Rattle.am_channel_laws.specs.Calls as Calls;
-ghost use Rattle.am_channel_laws.specs.Calls.{after};
-ghost use Rattle.am_channel_laws.specs.Counted.{AreCounted};
+ghost use Rattle.am_channel.specs.Calls as Calls;
+ghost use Rattle.am_channel.specs.Calls.{after};
+ghost use Rattle.am_channel.specs.Counted.{AreCounted};
 ghost use Rattle.am_endpoint.specs.View.{state_after};
 ghost use Rattle.am_iface.specs.View.{own};
 ghost use Rattle.am_iface.specs.Made.{IsMade};

@@ -1,8 +1,8 @@
 // What a work comes to by the ends of its channel.
 ghost use Rattle.am_iface.specs.ByEnds.{emits_retry, needs_settling, needs_time_out};
 ghost use Rattle.am_channel.specs.Sending.{settled, timed_out};
-ghost use Rattle.am_channel_laws.specs.Calls as Calls;
-ghost use Rattle.am_channel_laws.specs.Calls.{after};
+ghost use Rattle.am_channel.specs.Calls as Calls;
+ghost use Rattle.am_channel.specs.Calls.{after};
 ghost use Rattle.am_local.specs.Interface.{answers_to, needs_arrival};
 ghost use Rattle.am_model.specs.Channels.{Fresh, arrival};
 ghost use Rattle.std.specs.Prelude.{◌≡◌, ◌+◌, ◌-◌, ◌<◌, ◌≤◌, ◌^◌, IfSome, IsNone, IsSome};

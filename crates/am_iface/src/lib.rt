@@ -9,7 +9,7 @@ ghost use Rattle.am_iface.specs.Turns.{IsFull, Turns, stamp_after, stamp_in};
 ghost use Rattle.am_iface.specs.View.{FitsAnswer, FitsInterface, FitsParcel, InterfaceView, IsChannelOf, last_stamp, own};
 ghost use Rattle.am_iface.specs.With.{IsFullOf, KnowsHome};
 ghost use Rattle.am_channel.specs.declared.sending.Bound.{Bound};
-ghost use Rattle.am_channel_laws.specs.Counted.{AreCounted};
+ghost use Rattle.am_channel.specs.Counted.{AreCounted};
 ghost use Rattle.am_local.specs.Granted.{FitsEndpoint};
 ghost use Rattle.am_local.specs.Interface.{arrival_in, channel_in, emits_to, event_of, failing_at, home_in, needs, needs_arrival, outcome_at};
 ghost use Rattle.am_local.specs.declared.work.Work.TheVariants as Works;

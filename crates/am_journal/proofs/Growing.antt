@@ -124,11 +124,11 @@ delivered_got (Some p) ls k ps h = ⊎_elim here there (slice_get-set_cases ls (
     there both = (ps, both.1, sym (append-nil ps) ∙ ap (λ (b : Bool). ps ++ cond b (p ∷ []) []) (sym (same_number k (link_of p) both.0)))
 
 -- the nodes of a packet, if there is one
-abbrev pub IsWithin : Option Packet → Type 0
-IsWithin None = Unit {0}
-IsWithin (Some p) = ((from_of p).0 < 16) × ((receiver_of p).0 < 16)
+abbrev pub IsBetweenNodes : Option Packet → Type 0
+IsBetweenNodes None = Unit {0}
+IsBetweenNodes (Some p) = ((from_of p).0 < 16) × ((receiver_of p).0 < 16)
 
-put_same : (from to : ℕ) (p : Option Packet) → to < 16 → IsWithin p → put_on p (16 * from + to) ≡ on_link (node_at from) (node_at to) p
+put_same : (from to : ℕ) (p : Option Packet) → to < 16 → IsBetweenNodes p → put_on p (16 * from + to) ≡ on_link (node_at from) (node_at to) p
 put_same from to None lt nodes = refl
 put_same from to (Some (Packets.Parcel p)) lt nodes =
     ap (λ (b : Bool). cond b (Packets.Parcel p ∷ []) []) (same_link from to p.from.0 p.to.0 lt nodes.1 ∙ and_comm (to == p.to.0) (from == p.from.0))
@@ -145,7 +145,7 @@ pub delivered_length : (p : Option Packet) (ls : List (List Packet)) → length 
 delivered_length None ls = refl
 delivered_length (Some p) ls = length-set ls (link_of p) (slice_index_or ls (link_of p) [] ++ p ∷ [])
 
-pub read_more : (entries : List Entry) (pages received : List ℕ) (links : List (List Packet)) (x : Entry) (packet : Option Packet) → AreRead entries pages received links → packet ≡ emitted_of x → IsWithin packet → AreNodes x.event → AreRead (entries ++ x ∷ []) (counted (page_place x.event) pages) (counted (receipt_place x.event) received) (delivered packet links)
+pub read_more : (entries : List Entry) (pages received : List ℕ) (links : List (List Packet)) (x : Entry) (packet : Option Packet) → AreRead entries pages received links → packet ≡ emitted_of x → IsBetweenNodes packet → AreNodes x.event → AreRead (entries ++ x ∷ []) (counted (page_place x.event) pages) (counted (receipt_place x.event) received) (delivered packet links)
 read_more entries pages received links x packet are is nodes at =
     record {
       pages = λ node n h.
@@ -249,7 +249,7 @@ pub receipt_small : (received : List ℕ) (e : Event) → All (λ n. n + 1 < 2 ^
 receipt_small received (Events.Receive node peer number) small all at = let a = at.0 in let b = at.1 in small (link peer node) 0 (omega (arith, all, a, b))
 receipt_small received e small all at = tt
 
-pub nodes_within : (v : IndexView) (p : Option Packet) → HasRoomFor v p → IsWithin p
+pub nodes_within : (v : IndexView) (p : Option Packet) → HasRoomFor v p → IsBetweenNodes p
 nodes_within v None h = tt
 nodes_within v (Some p) h = (h.0, h.1)
 

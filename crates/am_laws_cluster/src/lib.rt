@@ -1,12 +1,11 @@
 //! The invariant of the cluster over every history: where each message is, and all eleven parts together.
 #![tactic(auto)]
 
-ghost use Rattle.am_model.specs.Cluster.{ClusterInvariant, InFlightIsBound, OneLiveSequence, sequences_bound, sequences_requeued};
-ghost use Rattle.am_model.specs.History.{IsHistory, channel_to};
+ghost use Rattle.am_model.specs.Cluster.{ClusterInvariant, InFlightIsBound, OneLiveSequence};
+ghost use Rattle.am_model.specs.History.{IsHistory};
 ghost use Rattle.am_model.specs.Layout.{IsLawful, Layout};
 ghost use Rattle.am_office.specs.declared.Entry.{Entry};
-ghost use Rattle.am_rows.specs.Bounce as bounced;
-ghost use Rattle.std.specs.Prelude.{◌≡◌, ◌∷◌, List, []};
+ghost use Rattle.std.specs.Prelude.{List};
 
 /// In each history all sequences of a message, or all but the last, ended in a requeue. A message
 /// that was put is received or has run. One that was accepted and was neither put nor returned nor
@@ -20,15 +19,6 @@ pub fn one_live_sequence()
 /// frame and open.
 pub fn in_flight_is_bound()
     ensures { (layout : Layout) (past : List Entry) → IsLawful layout → IsHistory layout past → InFlightIsBound layout past }
-{}
-
-/// A message that came back once and was bound again has two sequences, and the first of them ended
-/// in the requeue.
-pub fn a_second_sequence()
-    ensures history { IsHistory bounced.layout bounced.journal }
-    ensures bound { sequences_bound bounced.m1.serial bounced.journal
-        ≡ (channel_to (record { 0 = 0 }) (record { 0 = 1 }) 0, 1) ∷ (channel_to (record { 0 = 0 }) (record { 0 = 1 }) 0, 2) ∷ [] }
-    ensures requeued { sequences_requeued bounced.m1.serial bounced.journal ≡ (channel_to (record { 0 = 0 }) (record { 0 = 1 }) 0, 1) ∷ [] }
 {}
 
 /// In each history of a lawful layout, on either network, the whole invariant holds.

@@ -14,7 +14,7 @@ use Rattle.am_scenario_types.specs.declared.parts.FaultLine.{FaultLine}
 use Rattle.am_scenario_types.specs.declared.parts.Network.{Network}
 use Rattle.am_scenario_types.specs.declared.parts.Network.TheVariants as Networks
 use Rattle.am_scenario_types.specs.Lawful.{IsLawfulEnd}
-use Rattle.am_follow.specs.Layout.{is_direct, setting_of}
+use Rattle.am_scripts.specs.Layout.{is_direct, setting_of}
 use Rattle.am_machine.specs.declared.settings.Settings.{Settings}
 use Rattle.am_moves.specs.Logs.{EndLog}
 use Rattle.am_machine.specs.Ends.{setting_in}

@@ -13,7 +13,7 @@ use Rattle.am_model.specs.Layout.{has_id, home_by}
 use Rattle.am_scenario_types.specs.declared.parts.EndLine.{EndLine}
 use Rattle.am_scenario_types.specs.declared.parts.Network.{Network}
 use Rattle.am_scenario_types.specs.Lawful.{IsLawfulEnd}
-use Rattle.am_follow.specs.Layout.{setting_of}
+use Rattle.am_scripts.specs.Layout.{setting_of}
 use Rattle.am_iface.specs.View.{InterfaceView}
 use Rattle.am_journal.proofs.Lists.{index_got}
 use Rattle.am_machine.specs.declared.settings.Settings.{Settings}

@@ -13,7 +13,7 @@ use Rattle.am_iface.specs.View.{InterfaceView}
 use Rattle.am_device.specs.Memory.{Store}
 use Rattle.am_node.specs.declared.NodePart.{NodePart}
 use Rattle.am_node.specs.declared.shells.Shell.{Shell}
-use Rattle.am_node.specs.Dealt.{AreDealt, HasRoom}
+use Rattle.am_node.specs.Dealt.{AreDealt, FitsShells}
 use Rattle.am_node.specs.Parts.{part_of, parts_of}
 use Rattle.am_node.specs.Shells.{AreShells, is_at}
 use Rattle.am_moves.specs.Logs.{kept}
@@ -29,7 +29,7 @@ nodes_below : (n : ℕ) (layout : Layout) (vs : List EndpointView) → layout.no
 nodes_below n layout [] is h = tt
 nodes_below n layout (v ∷ vs) is h = (let lt = h.0.node in omega (arith, lt, is), nodes_below n layout vs is h.1)
 
-pub has_room : (layout : Layout) (journal : List Entry) (vs : List EndpointView) (shells : List Shell) → layout.ends ≡ map setting_in (map kept vs) → IsLawful layout → AreShells vs journal layout.nodes layout.nodes shells → HasRoom vs shells
+pub has_room : (layout : Layout) (journal : List Entry) (vs : List EndpointView) (shells : List Shell) → layout.ends ≡ map setting_in (map kept vs) → IsLawful layout → AreShells vs journal layout.nodes layout.nodes shells → FitsShells vs shells
 has_room layout journal vs shells ends lawful a =
     record {
       nodes = nodes_below (length shells) layout vs (sym a.all) (subst (AllAre (IsSettingLawful layout)) ends lawful.ends);

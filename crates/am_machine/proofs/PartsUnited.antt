@@ -21,7 +21,7 @@ use Rattle.am_drain.specs.Made.{later_stamp}
 use Rattle.am_endpoint.specs.View.{EndpointView}
 use Rattle.am_iface.specs.View.{InterfaceView}
 use Rattle.am_device.specs.Memory.{Store}
-use Rattle.am_follow.specs.Layout.{fault_of, layout_of, setting_of}
+use Rattle.am_scripts.specs.Layout.{fault_of, layout_of, setting_of}
 use Rattle.am_journal.specs.View.{AreNodes, IsEarly}
 use Rattle.am_journal.proofs.Lists.{got_all as all_got}
 use Rattle.am_join.proofs.Standing.{behind}
@@ -33,7 +33,7 @@ use Rattle.am_join.proofs.OneJournal.{are_one}
 use Rattle.am_node.specs.declared.NodePart.{NodePart}
 use Rattle.am_node.specs.Gathered.{AreDeclared, AreOfGroups}
 use Rattle.am_node.specs.Gathered as gathered
-use Rattle.am_node.specs.Packets.{GoesWithin, IsWithin}
+use Rattle.am_node.specs.Packets.{GoesWithin, IsBetweenNodes}
 use Rattle.am_node.specs.Parts.{all_logs, journal_of}
 use Rattle.am_node.specs.Taken.{ends_of, iface_of, swap_of, turned}
 use Rattle.am_scenario_types.specs.declared.parts.EndLine.{EndLine}
@@ -80,7 +80,7 @@ entry_within layout past x lawful may =
       packet = by_packet (emitted_of x) refl;
     }
   where
-    by_packet : (o : Option Packet) → emitted_of x ≡ o → IsWithin o
+    by_packet : (o : Option Packet) → emitted_of x ≡ o → IsBetweenNodes o
     by_packet None is = tt
     by_packet (Some p) is =
         let b = emits_between layout past x.stamp x.event lawful may.in_range p (ap (λ (o : Outcome). emitted_in x.stamp x.event o) (sym may.outcome) ∙ is) in

@@ -18,7 +18,7 @@ use Rattle.am_model.proofs.Order.{order_fresh}
 use Rattle.am_model.proofs.Alls.{all_at, all_by_place}
 use Rattle.am_scenario_types.specs.declared.parts.EndLine.{EndLine}
 use Rattle.am_scenario_types.specs.declared.parts.FaultLine.{FaultLine}
-use Rattle.am_follow.specs.Layout.{fault_of, setting_of}
+use Rattle.am_scripts.specs.Layout.{fault_of, setting_of}
 use Rattle.am_device.specs.Memory.{Store, held_for, with_held}
 use Rattle.am_device.proofs.Held.{holds_instead}
 use Rattle.am_image.specs.Image.{image}

@@ -2,7 +2,7 @@
 use Rattle.std.specs.Prelude.{◌≤◌, []}
 use Rattle.am_model.specs.Layout.{IsPoolLawful, opening_place}
 use Rattle.am_scenario_types.specs.declared.parts.EndLine.{EndLine}
-use Rattle.am_follow.specs.Layout.{is_direct}
+use Rattle.am_scripts.specs.Layout.{is_direct}
 use Rattle.am_machine.specs.declared.settings.Settings.{Settings}
 use Rattle.am_moves.specs.Logs.{EndLog}
 

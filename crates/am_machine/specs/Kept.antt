@@ -8,7 +8,7 @@ use Rattle.am_model.specs.History.{IsHistory}
 use Rattle.am_model.specs.Layout.{Layout, AllAre, IsLawful, opening}
 use Rattle.am_model.specs.Merge.{is_ordered}
 use Rattle.am_scenario_types.specs.declared.parts.FaultLine.{FaultLine}
-use Rattle.am_follow.specs.Layout.{is_direct, fault_of}
+use Rattle.am_scripts.specs.Layout.{is_direct, fault_of}
 use Rattle.am_journal.specs.View.{IsEarly, IsIndexOf, Readings}
 use Rattle.am_merge.specs.Merged.{merged}
 use Rattle.am_iface.specs.View.{InterfaceView}

@@ -11,7 +11,7 @@ use Rattle.am_model.specs.History.{IsHistory}
 use Rattle.am_model.specs.Layout.{AllAre, EndSetting, Layout, node_at}
 use Rattle.am_endpoint.specs.View.{EndpointView}
 use Rattle.am_scenario_types.specs.Lists.{ScenarioLists}
-use Rattle.am_follow.specs.Layout.{layout_of}
+use Rattle.am_scripts.specs.Layout.{layout_of}
 use Rattle.am_journal.specs.View.{receipts}
 use Rattle.am_scripts.specs.Links.{ReceivesInOrder}
 use Rattle.am_node.specs.declared.NodePart.{NodePart}

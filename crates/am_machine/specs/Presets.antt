@@ -10,7 +10,7 @@ use Rattle.am_device.specs.Memory.{Store, with_held}
 use Rattle.am_image.specs.Image.{image}
 use Rattle.am_scenario_types.specs.declared.parts.EndLine.{EndLine}
 use Rattle.am_scenario_types.specs.declared.parts.FaultLine.{FaultLine}
-use Rattle.am_follow.specs.Layout.{is_direct}
+use Rattle.am_scripts.specs.Layout.{is_direct}
 use Rattle.am_machine.specs.declared.settings.Settings.{Settings}
 
 abbrev pub is_of_node : NodeId → FaultLine → Bool

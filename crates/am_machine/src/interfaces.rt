@@ -1,5 +1,5 @@
 // The interfaces of a cluster, as they begin.
-ghost use Rattle.am_follow.specs.Layout.{is_direct};
+ghost use Rattle.am_scripts.specs.Layout.{is_direct};
 ghost use Rattle.am_machine.specs.Homes.{AreFresh, AreHomes, CanConnect, IsFresh, home_line};
 ghost use Rattle.std.specs.Prelude.{◌≡◌, ◌<◌, if◌then◌else◌, IfOk};
 

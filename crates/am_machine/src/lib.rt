@@ -1,7 +1,7 @@
 //! The cluster: endpoints and interfaces whose logs are the parts of one journal, and the events that may happen to them.
 #![tactic(auto)]
 
-ghost use Rattle.am_follow.specs.Layout.{layout_of};
+ghost use Rattle.am_scripts.specs.Layout.{layout_of};
 ghost use Rattle.am_machine.specs.View.{Applies};
 ghost use Rattle.am_model.specs.Cluster.{ClusterInvariant};
 ghost use Rattle.am_model.specs.History.{IsHistory, is_in_range};

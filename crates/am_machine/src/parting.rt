@@ -1,5 +1,5 @@
 // A cluster of the packet network taken apart into its nodes, and put together again.
-ghost use Rattle.am_follow.specs.Layout.{layout_of};
+ghost use Rattle.am_scripts.specs.Layout.{layout_of};
 ghost use Rattle.am_join.specs.Joined.{AreOne};
 ghost use Rattle.am_journal.specs.View.{IsIndexOf};
 ghost use Rattle.am_machine.specs.Parting.{settings_from};

@@ -8,8 +8,8 @@ use Rattle.am_report.specs.Report.{report}
 use Rattle.am_scenario_types.specs.declared.parts.StepLine.{StepLine}
 use Rattle.am_scenario_types.specs.Lawful.{IsLawful}
 use Rattle.am_scenario_types.specs.Lists.{ScenarioLists}
-use Rattle.am_follow.specs.Layout.{layout_of, events_of}
-use Rattle.am_follow.proofs.Lawful.{lawful_layout, steps_in_range}
+use Rattle.am_scripts.specs.Layout.{layout_of, events_of}
+use Rattle.am_scripts.proofs.Lawful.{lawful_layout, steps_in_range}
 use Rattle.am_laws.proofs.Laws.{post_office}
 use Rattle.am_laws.proofs.OneFate.{one_fate}
 use Rattle.am_laws_steps.specs.Laws.{AreInRange, IsMade, Walked}
@@ -29,7 +29,7 @@ use Rattle.am_machine.proofs.Applied.{enabled_of}
 use Rattle.am_main.specs.declared.faults.StepFault.{StepFault}
 use Rattle.am_main.specs.declared.faults.StepFault.TheVariants as Faults
 use Rattle.am_main.specs.Answer.{Answer, GivesText, Makes, TellsText, answer_of, answer_of_made, answer_of_stop, fault_of, ids_of, line_at, not_enabled_line}
-use Rattle.am_main.specs.Meaning.{PrintsHistory, IsStopped, IsNotEnabled, TextMeans}
+use Rattle.am_main.specs.Meaning.{PrintsHistory, IsStepStopped, IsNotEnabled, TextMeans}
 
 pub step_made : (layout : Layout) (past : List Entry) (step : StepLine) (steps : List StepLine) → stop layout past step.event ≡ None → made_from layout past (events_of (step ∷ steps)) ≡ made_from layout (past ++ step_entry layout past step.event ∷ []) (events_of steps)
 step_made layout past step steps runs = ap (λ (s : Option Stop). made_by s past (made_from layout (past ++ step_entry layout past step.event ∷ []) (events_of steps))) runs
@@ -131,7 +131,7 @@ prints_history s journal text lawful is printed =
       text' = printed;
     }
 
-abbrev pub is_stopped : (s : ScenarioLists) (why : Stop) → IsLawful s → (made (layout_of s) (events_of s.steps)).stopped ≡ Some why → IsStopped s why
+abbrev pub is_stopped : (s : ScenarioLists) (why : Stop) → IsLawful s → (made (layout_of s) (events_of s.steps)).stopped ≡ Some why → IsStepStopped s why
 is_stopped s why lawful is =
     let m = made_of s lawful in
     record { journal = (made (layout_of s) (events_of s.steps)).journal; history = m.history; follows = m.follows; unstopped = m.unstopped; stops = m.stopped why is }

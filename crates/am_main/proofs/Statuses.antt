@@ -3,7 +3,7 @@ use Rattle.std.specs.Prelude.{Result, Ok, Err}
 use Rattle.std.proofs.Common.{◌≡◌, ◌≢◌, ◌⊎◌, inl, inr, ℕ, List, Option, Some, None, sym, ◌∙◌, ap, subst, arith}
 use Rattle.am_office.specs.declared.Entry.{Entry}
 use Rattle.am_model.specs.Steps.{Stop, NotEnabled, LogFull, made}
-use Rattle.am_follow.specs.Layout.{events_of, layout_of}
+use Rattle.am_scripts.specs.Layout.{events_of, layout_of}
 use Rattle.am_scenario.specs.Grammar.{grammar}
 use Rattle.am_scenario_types.specs.declared.faults.ScenarioFault.{ScenarioFault}
 use Rattle.am_scenario_types.specs.declared.parts.Form.{Form}

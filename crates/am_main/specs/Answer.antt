@@ -11,7 +11,7 @@ use Rattle.am_scenario_types.specs.declared.parts.EndLine.{EndLine}
 use Rattle.am_scenario_types.specs.declared.parts.StepLine.{StepLine}
 use Rattle.am_scenario_types.specs.declared.faults.ScenarioFault.{ScenarioFault}
 use Rattle.am_scenario_types.specs.Lists.{ScenarioLists}
-use Rattle.am_follow.specs.Layout.{layout_of, events_of}
+use Rattle.am_scripts.specs.Layout.{layout_of, events_of}
 use Rattle.am_model.specs.Steps.{Made, Stop, NotEnabled, LogFull, made}
 use Rattle.am_model.specs.declared.EntryFault.{EntryFault}
 use Rattle.am_model.specs.declared.EntryFault.TheVariants as EntryFaults

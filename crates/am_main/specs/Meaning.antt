@@ -7,7 +7,7 @@ use Rattle.am_office.specs.declared.Entry.{Entry}
 use Rattle.am_report.specs.Report.{report}
 use Rattle.am_scenario_types.specs.declared.faults.ScenarioFault.{ScenarioFault}
 use Rattle.am_scenario_types.specs.Lists.{ScenarioLists}
-use Rattle.am_follow.specs.Layout.{layout_of, events_of}
+use Rattle.am_scripts.specs.Layout.{layout_of, events_of}
 use Rattle.am_laws.specs.Fates.{HasOneFate}
 use Rattle.am_laws_steps.specs.Laws.{IsUnstopped, StopsAt}
 use Rattle.am_model.specs.History.{EachAfter, IsHistory}
@@ -30,7 +30,7 @@ pub record PrintsHistory (scenario : ScenarioLists) (text : List ℕ) : Type 0 w
   pub text' : text ≡ report (ids_of scenario.ends) journal
 
 -- the steps before one step make a history that follows them, none of them is stopped, and there this step is stopped
-pub record IsStopped (scenario : ScenarioLists) (why : Stop) : Type 0 where
+pub record IsStepStopped (scenario : ScenarioLists) (why : Stop) : Type 0 where
   pub journal : List Entry
   pub history : IsHistory (layout_of scenario) journal
   pub follows : FollowsSteps (take (length journal) (events_of scenario.steps)) journal
@@ -39,13 +39,13 @@ pub record IsStopped (scenario : ScenarioLists) (why : Stop) : Type 0 where
 
 -- the same, where the step stands in this line
 pub record IsNotEnabled (scenario : ScenarioLists) (line : ℕ) (condition : Condition) : Type 0 where
-  pub stopped : IsStopped scenario (NotEnabled condition)
+  pub stopped : IsStepStopped scenario (NotEnabled condition)
   pub line' : line ≡ line_at scenario.steps (length stopped.journal)
 
 abbrev pub TextMeansOf : Result (List ℕ) StepFault → Result ScenarioLists ScenarioFault → Type 0
 TextMeansOf (Ok text) (Ok scenario) = PrintsHistory scenario text
 TextMeansOf (Err (Faults.NotEnabled line condition)) (Ok scenario) = IsNotEnabled scenario line condition
-TextMeansOf (Err (Faults.LogFull part)) (Ok scenario) = IsStopped scenario (LogFull part)
+TextMeansOf (Err (Faults.LogFull part)) (Ok scenario) = IsStepStopped scenario (LogFull part)
 TextMeansOf (Err Faults.NoMemory) read = Unit {0}
 TextMeansOf (Err (Faults.Scenario fault)) (Err first) = fault ≡ first
 TextMeansOf answer read = ⊥

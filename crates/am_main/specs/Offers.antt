@@ -7,7 +7,7 @@ use Rattle.am_scenario_types.specs.declared.parts.Form.TheVariants as Forms
 use Rattle.am_io.specs.Causes.{Rose}
 use Rattle.am_io.specs.Whole.{IsAll, IsLonger}
 use Rattle.am_main.specs.Answer.{Answer, answer_of, full_line, not_enabled_line, refused_line}
-use Rattle.am_main.specs.Meaning.{PrintsHistory, IsNotEnabled, IsStopped}
+use Rattle.am_main.specs.Meaning.{PrintsHistory, IsNotEnabled, IsStepStopped}
 use Rattle.am_main.specs.Runs.{MakeAnswers, PrintsCutRun, PrintsRun, RunAnswers, Summarizes, TellsCutRun}
 use Rattle.am_model.specs.Steps.{LogFull}
 use Rattle.am_office.specs.declared.Condition.{Condition}
@@ -149,7 +149,7 @@ pub record TellsFullLog (old new : Option (List ℕ)) (bytes : List ℕ) : Type 
   pub scenario : ScenarioLists
   pub part : Part
   pub spells : grammar Forms.Step bytes ≡ Ok scenario
-  pub stops : IsStopped scenario (LogFull part)
+  pub stops : IsStepStopped scenario (LogFull part)
   pub given : Appends old new (full_line part)
 
 -- the bytes spell a scenario whose run meets a full log, and the line that tells the log was appended, with the report of what the

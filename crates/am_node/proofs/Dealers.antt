@@ -10,7 +10,7 @@ use Rattle.am_endpoint.specs.View.{EndpointView}
 use Rattle.am_journal.proofs.Lists.{index_got}
 use Rattle.am_node.specs.declared.shells.Shell.{Shell}
 use Rattle.am_node.specs.Shells.{is_at}
-use Rattle.am_node.specs.Dealt.{AreDealt, HasRoom, IsFilled, IsPut}
+use Rattle.am_node.specs.Dealt.{AreDealt, FitsShells, IsFilled, IsPut}
 
 -- the endpoints that a shell got, and those that it is still to get, are its node's
 pub record IsGetting (whole rest : List EndpointView) (k : ℕ) (s t : Shell) : Type 0 where
@@ -20,7 +20,7 @@ pub record IsGetting (whole rest : List EndpointView) (k : ℕ) (s t : Shell) : 
 
 -- these endpoints are still to be dealt, the last of them first
 pub record AreDealing (whole rest : List EndpointView) (old now : List Shell) : Type 0 where
-  pub room : HasRoom rest now
+  pub room : FitsShells rest now
   pub all : length now ≡ length old
   pub each : (k : ℕ) (s t : Shell) → slice_get old k ≡ Some s → slice_get now k ≡ Some t → IsGetting whole rest k s t
 
@@ -56,7 +56,7 @@ count_reversed k (x ∷ xs) =
     let first : count_by (is_at (node_at k)) (x ∷ xs) ≡ (cond (is_at (node_at k) x) 1 0) + count_by (is_at (node_at k)) xs = sum_by-cons (λ (v : EndpointView). cond (is_at (node_at k) v) 1 0) x xs in
     omega (arith, e, push, more, first)
 
-pub begins : (whole : List EndpointView) (old : List Shell) → HasRoom whole old → AreDealing whole (reverse whole) old old
+pub begins : (whole : List EndpointView) (old : List Shell) → FitsShells whole old → AreDealing whole (reverse whole) old old
 begins whole old r =
     record {
       room =
@@ -77,7 +77,7 @@ begins whole old r =
     same k s t a b = let e : Some t ≡ Some s = sym b ∙ a in (cc)
 
 -- the shell of the next endpoint has room for it
-pub next_fits : (rest : List EndpointView) (now : List Shell) (x : EndpointView) (d : Shell) → HasRoom (rest ++ x ∷ []) now → vec_len (slice_index_or now x.settings.node.0 d).ends < vec_capacity (slice_index_or now x.settings.node.0 d).ends
+pub next_fits : (rest : List EndpointView) (now : List Shell) (x : EndpointView) (d : Shell) → FitsShells (rest ++ x ∷ []) now → vec_len (slice_index_or now x.settings.node.0 d).ends < vec_capacity (slice_index_or now x.settings.node.0 d).ends
 next_fits rest now x d r =
     let j = x.settings.node.0 in
     let within = all_last (λ (v : EndpointView). v.settings.node.0 < length now) rest x r.nodes in

@@ -9,7 +9,7 @@ use Rattle.am_lemmas.proofs.Lists.{slice_get-set_cases}
 use Rattle.am_names.specs.declared.NodeId.{NodeId}
 use Rattle.am_model.specs.Layout.{AllAre, EndSetting, node_at}
 use Rattle.am_endpoint.specs.View.{EndpointView}
-use Rattle.am_follow.specs.Layout.{setting_of}
+use Rattle.am_scripts.specs.Layout.{setting_of}
 use Rattle.am_scenario_types.specs.declared.parts.EndLine.{EndLine}
 use Rattle.am_journal.proofs.Lists.{index_got}
 use Rattle.am_join.proofs.Standing.{behind, first_or_behind, in_front}

@@ -7,7 +7,7 @@ use Rattle.am_node.specs.declared.shells.Shell.{Shell}
 use Rattle.am_node.specs.Shells.{is_at}
 
 -- each endpoint's node has a shell, which has room for its endpoints
-pub record HasRoom (ends : List EndpointView) (shells : List Shell) : Type 0 where
+pub record FitsShells (ends : List EndpointView) (shells : List Shell) : Type 0 where
   pub nodes : AllAre (λ (v : EndpointView). v.settings.node.0 < length shells) ends
   pub room : (k : ℕ) (s : Shell) → slice_get shells k ≡ Some s → vec_len s.ends + count_by (is_at (node_at k)) ends ≤ vec_capacity s.ends
 

@@ -7,7 +7,7 @@ use Rattle.am_names.specs.Names.{same_node}
 use Rattle.am_model.specs.Endpoint.{is_on_disk}
 use Rattle.am_model.specs.Layout.{AllAre, EndSetting, node_at}
 use Rattle.am_endpoint.specs.View.{EndpointView}
-use Rattle.am_follow.specs.Layout.{setting_of}
+use Rattle.am_scripts.specs.Layout.{setting_of}
 use Rattle.am_scenario_types.specs.declared.parts.EndLine.{EndLine}
 
 -- how an endpoint is declared

@@ -1,5 +1,5 @@
 // Endpoints go to the shells of their nodes.
-ghost use Rattle.am_node.specs.Dealt.{AreDealt, HasRoom, IsPut};
+ghost use Rattle.am_node.specs.Dealt.{AreDealt, FitsShells, IsPut};
 ghost use Rattle.std.specs.Prelude.{◌<◌, vec_capacity, vec_len};
 
 use crate::shells::Shell;
@@ -15,7 +15,7 @@ fn put(shell: &mut Shell, end: Endpoint)
 
 /// Puts each endpoint last in the shell of its node, in their order.
 pub fn deal(mut ends: Vec<Endpoint>, mut shells: Vec<Shell>) -> Vec<Shell>
-    requires { HasRoom ends.items shells.items }
+    requires { FitsShells ends.items shells.items }
     ensures { AreDealt ends.items shells.items result.items }
 {
     ends.reverse();

@@ -6,7 +6,7 @@ ghost use Rattle.am_merge.specs.Logs.{IsRising};
 ghost use Rattle.am_merge.specs.Merged.{entries_of};
 ghost use Rattle.am_model.specs.Layout.{AllAre};
 ghost use Rattle.am_node.specs.Parts.{all_logs, journal_of, logs_of_part};
-ghost use Rattle.am_node.specs.Packets.{GoesWithin, IsWithin};
+ghost use Rattle.am_node.specs.Packets.{GoesWithin, IsBetweenNodes};
 ghost use Rattle.am_office.specs.declared.Entry.{Entry};
 ghost use Rattle.std.specs.Prelude.{◌≡◌, ◌+◌, ◌<◌, ◌^◌, ◌∷◌, ◌++◌, [], length, IfOk, List, OnOk};
 
@@ -55,7 +55,7 @@ fn nodes_of(packet: &Packet) -> (NodeId, NodeId)
 
 /// Makes room for this packet, if there is one.
 fn make_room(index: &mut JournalIndex, packet: Option<Packet>) -> Result<(), NoMemory>
-    requires { IsWithin packet }
+    requires { IsBetweenNodes packet }
     ensures read { index.new.read ≡ index.old.read }
     ensures room { OnOk result (HasRoomFor index.new packet) }
 {

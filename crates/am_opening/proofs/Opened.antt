@@ -26,8 +26,8 @@ use Rattle.am_node.specs.declared.NodePart.{NodePart}
 use Rattle.am_scenario_types.specs.Lawful as lawful
 use Rattle.am_scenario_types.specs.Lists.{ScenarioLists}
 use Rattle.am_scenario_types.specs.declared.parts.Network.TheVariants as Networks
-use Rattle.am_follow.specs.Layout.{is_direct, layout_of}
-use Rattle.am_follow.proofs.Lawful.{lawful_layout}
+use Rattle.am_scripts.specs.Layout.{is_direct, layout_of}
+use Rattle.am_scripts.proofs.Lawful.{lawful_layout}
 use Rattle.am_works.specs.Begins.{AreFresh, ids_of}
 use Rattle.am_works.specs.Seats.{IsBorn, setting_by}
 use Rattle.am_works.specs.Stands.{fresh_pass}

@@ -19,7 +19,7 @@ use Rattle.am_moves.specs.Pages.{HoldsBody}
 use Rattle.am_places.specs.declared.places.Seat.{Seat}
 use Rattle.am_scenario_types.specs.declared.parts.ThreadLine.{ThreadLine}
 use Rattle.am_scenario_types.specs.Lists.{ScenarioLists}
-use Rattle.am_follow.specs.Layout.{layout_of}
+use Rattle.am_scripts.specs.Layout.{layout_of}
 use Rattle.am_iface.specs.Settings.{AreLawful}
 use Rattle.am_machine.specs.Interfaces.{IsInterface}
 use Rattle.am_works.specs.Begins.{AreFresh}

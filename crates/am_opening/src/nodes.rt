@@ -1,5 +1,5 @@
 // Each node is opened out of the cluster's part of it.
-ghost use Rattle.am_follow.specs.Layout.{layout_of};
+ghost use Rattle.am_scripts.specs.Layout.{layout_of};
 ghost use Rattle.am_machine.specs.Parts.{AreNodeParts, IsNodePart};
 ghost use Rattle.am_opening.specs.Openings.{AreOpenings, IsOpening};
 ghost use Rattle.am_scenario_types.specs.Lawful.{IsLawful};

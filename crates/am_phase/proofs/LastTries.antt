@@ -16,7 +16,7 @@ use Rattle.am_model.specs.Layout.{AllAre, opening}
 use Rattle.am_model.specs.History.{state_of}
 use Rattle.am_model.proofs.Names.{same_end-refl}
 use Rattle.am_scenario_types.specs.Lists.{ScenarioLists}
-use Rattle.am_follow.specs.Layout.{layout_of}
+use Rattle.am_scripts.specs.Layout.{layout_of}
 use Rattle.am_merge.specs.Logs.{AreRising, Logs, MergesInto}
 use Rattle.am_merge.specs.Right.{state_before}
 use Rattle.am_merge.proofs.Before.{part_before}

@@ -11,7 +11,7 @@ use Rattle.am_office.specs.declared.Entry.{Entry}
 use Rattle.am_office.specs.Entries.{ends_touched, is_node, node_touched, touches, touches_node}
 use Rattle.am_model.proofs.Names.{same_end-refl, same_node-is}
 use Rattle.am_model.specs.Parts.{driver_of, is_by_driver}
-use Rattle.am_follow.specs.Layout.{layout_of}
+use Rattle.am_scripts.specs.Layout.{layout_of}
 use Rattle.am_merge.specs.Logs.{AreRising, IsRising, Logs, MergesInto, StandWhereTheyTouch}
 use Rattle.am_merge.specs.Merged.{entries_of, merged}
 use Rattle.am_merge.specs.Right.{IsRight}

@@ -11,7 +11,7 @@ use Rattle.am_scenario_types.specs.declared.parts.ScriptCall.{ScriptCall}
 use Rattle.am_scenario_types.specs.declared.parts.ThreadLine.{ThreadLine}
 use Rattle.am_scenario_types.specs.Lists.{ScenarioLists}
 use Rattle.am_drain.specs.Follows.{IsGoodPhase}
-use Rattle.am_follow.specs.Layout.{layout_of}
+use Rattle.am_scripts.specs.Layout.{layout_of}
 use Rattle.am_merge.specs.Logs.{AreRising, Logs, MergesInto}
 use Rattle.am_merge.proofs.History.{made_history}
 use Rattle.am_merge.proofs.Sorted.{Has}

@@ -14,7 +14,7 @@ use Rattle.am_model.specs.Channels.{emitted}
 use Rattle.am_model.specs.Layout.{AllAre}
 use Rattle.am_plan.specs.Shape.{shape, number_of, stamp_of}
 use Rattle.am_scenario_types.specs.Lists.{ScenarioLists}
-use Rattle.am_follow.specs.Layout.{layout_of}
+use Rattle.am_scripts.specs.Layout.{layout_of}
 use Rattle.am_merge.specs.Logs.{IsRising, Logs}
 use Rattle.am_merge.specs.Right.{IsRight, state_before}
 use Rattle.am_scripts.specs.Links.{number_received}

@@ -8,7 +8,7 @@ use Rattle.am_model.specs.Layout.{AllAre}
 use Rattle.am_model.specs.Parts.{is_by_driver}
 use Rattle.am_scenario_types.specs.Lists.{ScenarioLists}
 use Rattle.am_drain.specs.Follows.{IsGoodPhase}
-use Rattle.am_follow.specs.Layout.{layout_of}
+use Rattle.am_scripts.specs.Layout.{layout_of}
 use Rattle.am_merge.specs.Logs.{IsRising, Logs, MergesInto}
 use Rattle.am_merge.specs.Merged.{entries_of, merged}
 use Rattle.am_scripts.specs.Follows.{is_by_thread}

@@ -35,7 +35,7 @@ use Rattle.am_restart.specs.Moves.{move_of, still, next_of_sender, next_of_recei
 use Rattle.am_restart.specs.State.{SessionState, changed, moved, packet_at}
 use Rattle.am_restart.specs.Traffics.{Traffic}
 
-record IsWithin (t : Traffic) (n : ℕ) : Type 0 where
+record IsCounted (t : Traffic) (n : ℕ) : Type 0 where
   offered : t.offered ≤ n
   from_sender : length t.from_sender ≤ n
   from_receiver : length t.from_receiver ≤ n
@@ -49,7 +49,7 @@ EmitsNumbered change = Unit {0}
 longer : {X : Type 0} (xs : List X) (x : X) (n : ℕ) → length xs ≤ n → length (xs ++ x ∷ []) ≤ n + 1
 longer {X = X} xs x n h = omega (arith, length-append {A = X} xs (x ∷ []))
 
-traffic_within : (c : Change) (t : Traffic) (n : ℕ) → IsWithin t n → EmitsNumbered c → IsWithin (changed c t) (n + 1)
+traffic_within : (c : Change) (t : Traffic) (n : ℕ) → IsCounted t n → EmitsNumbered c → IsCounted (changed c t) (n + 1)
 traffic_within Changes.Nothing t n is e = record { offered = omega arith; from_sender = omega arith; from_receiver = omega arith; numbered = is.numbered }
 traffic_within Changes.Offers t n is e = record { offered = omega arith; from_sender = omega arith; from_receiver = omega arith; numbered = is.numbered }
 traffic_within (Changes.Requeues m) t n is e = record { offered = omega arith; from_sender = omega arith; from_receiver = omega arith; numbered = is.numbered }
@@ -70,7 +70,7 @@ record IsBoundedMove (n : ℕ) (m : Move) : Type 0 where
 
 moves_within : (s : SessionState) (m : Move) → IsBounded s → IsBoundedMove s.events m → IsBounded (moved m s)
 moves_within s m is at =
-    let t : IsWithin (changed m.change s.traffic) (s.events + 1) = traffic_within m.change s.traffic s.events (record { offered = is.offered; from_sender = is.from_sender; from_receiver = is.from_receiver; numbered = is.numbered }) at.numbered in
+    let t : IsCounted (changed m.change s.traffic) (s.events + 1) = traffic_within m.change s.traffic s.events (record { offered = is.offered; from_sender = is.from_sender; from_receiver = is.from_receiver; numbered = is.numbered }) at.numbered in
     record {
       offered = t.offered;
       sender = omega (arith, at.sender);

@@ -2,7 +2,8 @@
 #![tactic(auto)]
 
 ghost use Rattle.am_office.specs.Fates.{fate};
-ghost use Rattle.am_model.specs.History.{IsHistory, failing};
+ghost use Rattle.am_model.specs.Cluster.{sequences_bound, sequences_requeued};
+ghost use Rattle.am_model.specs.History.{IsHistory, channel_to, failing};
 ghost use Rattle.am_office.specs.declared.Actor.TheVariants.{Outside};
 ghost use Rattle.am_office.specs.declared.Call.TheVariants as Calls;
 ghost use Rattle.am_office.specs.declared.Event.TheVariants as Events;
@@ -23,7 +24,7 @@ ghost use Rattle.am_rows.specs.OldRefusal as old_refusal_row;
 ghost use Rattle.am_rows.specs.Pool as pool_row;
 ghost use Rattle.am_rows.specs.Tags as tags_row;
 ghost use Rattle.am_rows.specs.UnknownButRan as unknown_but_ran_row;
-ghost use Rattle.std.specs.Prelude.{take, ◌≡◌, Some};
+ghost use Rattle.std.specs.Prelude.{take, ◌≡◌, ◌∷◌, [], Some};
 
 use am_names::Cause;
 use am_office::{Condition, Fate};
@@ -95,6 +96,15 @@ pub fn failed_read()
 pub fn bounce()
     ensures history { IsHistory bounce_row.layout bounce_row.journal }
     ensures m1 { fate bounce_row.journal bounce_row.m1.serial ≡ Some Fate.Pending }
+{}
+
+/// A message that came back once and was bound again has two sequences, and the first of them ended
+/// in the requeue.
+pub fn a_second_sequence()
+    ensures history { IsHistory bounce_row.layout bounce_row.journal }
+    ensures bound { sequences_bound bounce_row.m1.serial bounce_row.journal
+        ≡ (channel_to (record { 0 = 0 }) (record { 0 = 1 }) 0, 1) ∷ (channel_to (record { 0 = 0 }) (record { 0 = 1 }) 0, 2) ∷ [] }
+    ensures requeued { sequences_requeued bounce_row.m1.serial bounce_row.journal ≡ (channel_to (record { 0 = 0 }) (record { 0 = 1 }) 0, 1) ∷ [] }
 {}
 
 /// With no bounce allowed a message comes back at once.

@@ -7,10 +7,10 @@ use Rattle.am_office.specs.declared.Entry.{Entry}
 use Rattle.am_model.specs.History.{MayFollow, IsHistory, failing}
 use Rattle.am_model.proofs.Each.{each_front, each_at}
 use Rattle.am_scenario_types.specs.Lists.{ScenarioLists}
-use Rattle.am_follow.specs.Layout.{layout_of}
+use Rattle.am_scripts.specs.Layout.{layout_of}
 use Rattle.am_drain.specs.declared.Turn.{Turn}
 use Rattle.am_drain.specs.Rules.{next_turn}
-use Rattle.am_drain.specs.Drain.{after_turn, turn, after_turns}
+use Rattle.am_drain.specs.Drain.{after_turn, after_next_turn, after_turns}
 use Rattle.am_drain.proofs.Turns.{Extends, turns_extend}
 use Rattle.am_drain_steps.specs.Enabled.{IsOfRun}
 use Rattle.am_drain_steps.proofs.Turning.{turns_may_follow}
@@ -47,14 +47,14 @@ covers zero s past journal later run low e =
     record { turns = zero; whole = past; later = later; is = same; planned = refl; history = run.history }
 covers (suc n) s past journal later run low e =
     ⊎_elim
-    (λ (short : length past < length journal). by_turn (omega (arith, short, low)) (turn s past) refl e (λ next r f. covers n s next journal later r low f))
+    (λ (short : length past < length journal). by_turn (omega (arith, short, low)) (after_next_turn s past) refl e (λ next r f. covers n s next journal later r low f))
     (λ (long : length journal ≤ length past).
     let ex : Extends past (journal ++ later) = turns_extend (suc n) s past (journal ++ later) e in
     let r = shorter_begins journal past later ex.0 ex.1 long in
     record { turns = zero; whole = past; later = r.0; is = r.1; planned = refl; history = run.history })
     (cases_lt (length past) (length journal))
   where
-    by_turn : length past < 2 ^ 32 → (o : Option (List Entry)) → turn s past ≡ o → option_and_then (after_turns n s) o ≡ Some (journal ++ later) → ((next : List Entry) → IsOfRun s next → after_turns n s next ≡ Some (journal ++ later) → IsCovered s next journal) → IsCovered s past journal
+    by_turn : length past < 2 ^ 32 → (o : Option (List Entry)) → after_next_turn s past ≡ o → option_and_then (after_turns n s) o ≡ Some (journal ++ later) → ((next : List Entry) → IsOfRun s next → after_turns n s next ≡ Some (journal ++ later) → IsCovered s next journal) → IsCovered s past journal
     by_turn short None is f more = absurd (cc)
     by_turn short (Some next) is f more =
         let c : IsCovered s next journal = more next (record { lawful = run.lawful; packet = run.packet; history = next_history s past next (next_turn s past) refl run short is }) f in

@@ -11,12 +11,12 @@ use Rattle.am_model.specs.History.{IsHistory}
 use Rattle.am_model.proofs.Each.{each_front}
 use Rattle.am_scenario_types.specs.declared.parts.ThreadLine.{ThreadLine}
 use Rattle.am_scenario_types.specs.Lists.{ScenarioLists}
-use Rattle.am_follow.specs.Layout.{layout_of}
-use Rattle.am_follow.proofs.Lawful.{lawful_layout}
+use Rattle.am_scripts.specs.Layout.{layout_of}
+use Rattle.am_scripts.proofs.Lawful.{lawful_layout}
 use Rattle.am_scripts.specs.Links.{nodes_of}
 use Rattle.am_scripts.specs.Scripts.{calls_of, script_of}
 use Rattle.am_drain.specs.Drain.{after_turns}
-use Rattle.am_drain.specs.Cut.{full_for, HasRoom}
+use Rattle.am_drain.specs.Cut.{full_for, MeetsNoFullLog}
 use Rattle.am_drain.proofs.Stopped.{cut_off_is_stopped}
 use Rattle.am_drain_steps.specs.Enabled.{IsOfRun}
 use Rattle.am_drain_steps.proofs.Turning.{drains_make_runs}
@@ -64,11 +64,11 @@ cut (suc most) (x ∷ xs) =
 pub far_below : (n log : ℕ) → n ≤ 272 * log → log ≤ 65536 → n < 2 ^ 31
 far_below n log short low = omega (arith, short, low)
 
-room_front : (s : ScenarioLists) (past xs ys : List Entry) → HasRoom s past (xs ++ ys) → HasRoom s past xs
+room_front : (s : ScenarioLists) (past xs ys : List Entry) → MeetsNoFullLog s past (xs ++ ys) → MeetsNoFullLog s past xs
 room_front s past xs ys room = each_front (λ (before : List Entry) (x : Entry). full_for s before x ≡ None) past xs ys room
 
 -- entries that some turns add with room make a short history
-short_of : (n : ℕ) (s : ScenarioLists) (past added later : List Entry) → IsOfRun s past → HasShortLogs s past → HasRoom s past added → after_turns n s past ≡ Some ((past ++ added) ++ later) → IsShortHistory s (past ++ added)
+short_of : (n : ℕ) (s : ScenarioLists) (past added later : List Entry) → IsOfRun s past → HasShortLogs s past → MeetsNoFullLog s past added → after_turns n s past ≡ Some ((past ++ added) ++ later) → IsShortHistory s (past ++ added)
 short_of n s past added later run logs room e =
     let start : length past ≤ 272 * s.log = runs_are_short s past run logs in
     by_cut start (cut (2 ^ 31) added)
@@ -78,7 +78,7 @@ short_of n s past added later run logs room e =
         let whole : (past ++ added) ++ later ≡ (past ++ front) ++ (rest ++ later) =
         ap (λ (xs : List Entry). (past ++ xs) ++ later) is ∙ (ap (λ (xs : List Entry). xs ++ later) (sym (append_assoc past front rest)) ∙ append_assoc (past ++ front) rest later) in
         let h : IsHistory (layout_of s) (past ++ front) = begins n s past (past ++ front) (rest ++ later) run low (e ∙ ap (λ (xs : List Entry). Some xs) whole) in
-        let all : HasShortLogs s (past ++ front) = room_keeps_logs s past front logs (room_front s past front rest (subst (λ (xs : List Entry). HasRoom s past xs) is room)) in
+        let all : HasShortLogs s (past ++ front) = room_keeps_logs s past front logs (room_front s past front rest (subst (λ (xs : List Entry). MeetsNoFullLog s past xs) is room)) in
         record { history = h; logs = all; short = runs_are_short s (past ++ front) (record { lawful = run.lawful; packet = run.packet; history = h }) all }
 
     by_cut : length past ≤ 272 * s.log → IsCut (2 ^ 31) added → IsShortHistory s (past ++ added)

@@ -34,8 +34,8 @@ use Rattle.am_laws_cluster.proofs.Bound.{in_flight_bound}
 use Rattle.am_laws_messages.proofs.Delivered.{delivers}
 use Rattle.am_laws_order.proofs.Packets.{not_carry}
 use Rattle.am_scenario_types.specs.Lists.{ScenarioLists}
-use Rattle.am_follow.specs.Layout.{layout_of}
-use Rattle.am_follow.proofs.Lawful.{lawful_layout}
+use Rattle.am_scripts.specs.Layout.{layout_of}
+use Rattle.am_scripts.proofs.Lawful.{lawful_layout}
 use Rattle.am_drain_steps.specs.Enabled.{IsOfRun}
 use Rattle.am_drain_steps.proofs.Calls.{home_seated}
 use Rattle.am_drain_steps.proofs.Enabled.{of_packets}

@@ -13,7 +13,7 @@ use Rattle.am_model.specs.Steps.{is_end_full, is_node_full, least_such, full_by}
 use Rattle.am_model.proofs.Names.{same_node-is}
 use Rattle.am_model.proofs.Chosen.{least_such-None}
 use Rattle.am_scenario_types.specs.Lists.{ScenarioLists}
-use Rattle.am_follow.specs.Layout.{layout_of}
+use Rattle.am_scripts.specs.Layout.{layout_of}
 use Rattle.am_model.specs.Parts.{touches_part}
 use Rattle.am_drain.specs.Cut.{full_for}
 use Rattle.am_run_laws.specs.Drained.{HasShortLogs, RoomKeepsLogs}

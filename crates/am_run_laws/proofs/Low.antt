@@ -26,8 +26,8 @@ use Rattle.am_laws_cluster.proofs.Bound.{in_flight_bound}
 use Rattle.am_laws_endpoints.proofs.Bounced.{bounces_are}
 use Rattle.am_laws_messages.proofs.Alls.{all_found}
 use Rattle.am_scenario_types.specs.Lists.{ScenarioLists}
-use Rattle.am_follow.specs.Layout.{layout_of}
-use Rattle.am_follow.proofs.Lawful.{lawful_layout}
+use Rattle.am_scripts.specs.Layout.{layout_of}
+use Rattle.am_scripts.proofs.Lawful.{lawful_layout}
 use Rattle.am_scripts.specs.Follows.{is_bounced_out, is_last_in, is_last}
 use Rattle.am_drain_steps.specs.Enabled.{IsOfRun}
 use Rattle.am_drain_steps.proofs.Enabled.{of_packets}

@@ -23,7 +23,7 @@ use Rattle.am_model.proofs.Each.{each_at, each_front, over_each, each_push}
 use Rattle.am_model.proofs.Alls.{all_push}
 use Rattle.am_laws_order.proofs.Packets.{not_carry}
 use Rattle.am_scenario_types.specs.Lists.{ScenarioLists}
-use Rattle.am_follow.specs.Layout.{layout_of}
+use Rattle.am_scripts.specs.Layout.{layout_of}
 use Rattle.am_scripts.specs.Follows.{is_last}
 use Rattle.am_model.specs.Parts.{driver_of}
 use Rattle.am_scripts.specs.Links.{IsReceiptInOrder, ReceivesInOrder, next_receipt}

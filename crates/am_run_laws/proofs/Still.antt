@@ -21,8 +21,8 @@ use Rattle.am_laws_order.proofs.Marks.{ChannelsKept, channels_more, channels_beg
 use Rattle.am_laws_homes.proofs.Homes.{home_below}
 use Rattle.am_plan.specs.Shape.{number_of}
 use Rattle.am_scenario_types.specs.Lists.{ScenarioLists}
-use Rattle.am_follow.specs.Layout.{layout_of}
-use Rattle.am_follow.proofs.Lawful.{lawful_layout}
+use Rattle.am_scripts.specs.Layout.{layout_of}
+use Rattle.am_scripts.proofs.Lawful.{lawful_layout}
 use Rattle.am_scripts.specs.Links.{ReceivesInOrder, first_some, next_receipt, nodes_of, received}
 use Rattle.am_scripts.proofs.Links.{all_is_received}
 use Rattle.am_drain.specs.declared.Turn.TheVariants.{Once}
@@ -35,7 +35,7 @@ use Rattle.am_drain_steps.proofs.Unheard.{asked, unheard}
 use Rattle.am_drain_steps.proofs.Nothing.{is_released}
 use Rattle.am_drain_steps.proofs.Unknown.{link_is_received}
 use Rattle.am_run_laws.proofs.Heard.{are_heard}
-use Rattle.am_run_laws.proofs.Zone.{IsWithin, Zone}
+use Rattle.am_run_laws.proofs.Zone.{IsBetween, Zone}
 
 -- ---- each packet is released
 
@@ -54,7 +54,7 @@ all_got s past k p there from to =
     ap (is_among (number_of p)) (link_is_received s past (from_of p) (to_of p) (all_is_received s past k.order k.none) from to)
     ∙ is_released s past k.nothing k.run.history p there
 
-none_fresh : (s : ScenarioLists) (past : List Entry) → IsStill s past → (q : Parcel) → IsWithin (layout_of s) q → EmittedIn (Packets.Parcel q) past → IsFresh past q → ⊥
+none_fresh : (s : ScenarioLists) (past : List Entry) → IsStill s past → (q : Parcel) → IsBetween (layout_of s) q → EmittedIn (Packets.Parcel q) past → IsFresh past q → ⊥
 none_fresh s past k q within there fresh =
     are_heard (layout_of s) past k.run.history q there (all_got s past k (Packets.Parcel q) there within.from' within.to') fresh
 

@@ -9,7 +9,7 @@ use Rattle.am_office.specs.declared.Entry.{Entry}
 use Rattle.am_office.specs.Fates.{cause_of, causes_of}
 use Rattle.am_model.specs.Layout.{AllAre}
 use Rattle.am_model.proofs.Each.{each_front}
-use Rattle.am_follow.specs.Layout.{layout_of}
+use Rattle.am_scripts.specs.Layout.{layout_of}
 use Rattle.am_scripts.specs.Follows.{is_last}
 use Rattle.am_scripts.specs.Links.{IsReceiptInOrder, is_all_received}
 use Rattle.am_drain_steps.specs.Enabled.{IsOfRun}

@@ -38,13 +38,13 @@ FitsOf layout past None = Unit {0}
 FitsOf layout past (Some p) = fits (state_of layout past p.message.dest) p.message ≡ true
 
 -- a parcel between nodes of the layout
-pub record IsWithin (layout : Layout) (q : Parcel) : Type 0 where
+pub record IsBetween (layout : Layout) (q : Parcel) : Type 0 where
   pub from' : q.from.0 < layout.nodes
   pub to' : q.to.0 < layout.nodes
 
 -- one parcel at most is on its way that would be taken for fresh, and there is room for its message
 pub record OneFresh (layout : Layout) (past : List Entry) (o : Option Parcel) : Type 0 where
-  pub only : (q : Parcel) → IsWithin layout q → EmittedIn (Packets.Parcel q) past → IsFresh past q → o ≡ Some q
+  pub only : (q : Parcel) → IsBetween layout q → EmittedIn (Packets.Parcel q) past → IsFresh past q → o ≡ Some q
   pub room : FitsOf layout past o
 
 -- the verdicts on sequences that began since are for good, and so are the answers
@@ -216,7 +216,7 @@ undecided_more layout from past x node peer number o r none answers k =
 -- a parcel that is received and would be taken for fresh
 pub record Comes (layout : Layout) (past : List Entry) (node peer : NodeId) (p : Parcel) : Type 0 where
   pub there : EmittedIn (Packets.Parcel p) past
-  pub within : IsWithin layout p
+  pub within : IsBetween layout p
   pub on : back (channel_of p) ≡ channel_to node peer p.channel
   pub fresh : IsFresh past p
 

@@ -7,14 +7,14 @@ use Rattle.am_model.specs.History.{IsHistory}
 use Rattle.am_scenario_types.specs.declared.parts.Network.TheVariants.{Packet}
 use Rattle.am_scenario_types.specs.Lawful.{IsLawful}
 use Rattle.am_scenario_types.specs.Lists.{ScenarioLists}
-use Rattle.am_follow.specs.Layout.{layout_of}
+use Rattle.am_scripts.specs.Layout.{layout_of}
 use Rattle.am_model.specs.Parts.{touches_part}
 use Rattle.am_drain.specs.Drain.{IsDrained}
 use Rattle.am_drain.specs.Follows.{IsGoodPhase, IsStoppedFor}
-use Rattle.am_drain.specs.Cut.{HasRoom, IsDrainedWithRoom, IsDrainCutOff}
+use Rattle.am_drain.specs.Cut.{MeetsNoFullLog, IsDrainedWithRoom, IsDrainCutOff}
 use Rattle.am_drain_steps.specs.Enabled.{IsOfRun}
 use Rattle.am_drain_steps.specs.Runs.{IsWholeRun}
-use Rattle.am_drain_loop.specs.Stops.{IsDrainBeginning, IsDrainRefused}
+use Rattle.am_drainer.specs.Stops.{IsDrainBeginning, IsDrainRefused}
 use Rattle.am_run_laws.specs.Short.{IsWithinLogs}
 
 -- a beginning of what some turns of a history make is a history, where it is shorter than the numbers that there are
@@ -42,7 +42,7 @@ RunsHaveShortLogs = (s : ScenarioLists) (journal : List Entry) → IsOfRun s jou
 
 -- entries that meet no full log leave each log as short as it is to be
 abbrev pub RoomKeepsLogs : Type 0
-RoomKeepsLogs = (s : ScenarioLists) (past added : List Entry) → HasShortLogs s past → HasRoom s past added → HasShortLogs s (past ++ added)
+RoomKeepsLogs = (s : ScenarioLists) (past added : List Entry) → HasShortLogs s past → MeetsNoFullLog s past added → HasShortLogs s (past ++ added)
 
 -- a history of a scenario with short logs is short
 abbrev pub RunsAreShort : Type 0

@@ -6,7 +6,7 @@ ghost use Rattle.am_drain.specs.Cut.{IsDrainCutOff};
 ghost use Rattle.am_drain.specs.Drain.{IsDrainedIn, after_turns};
 ghost use Rattle.am_drain.specs.Follows.{FollowsScripts, IsGoodPhase, IsStoppedFor};
 ghost use Rattle.am_drain.specs.Rules.{next_turn};
-ghost use Rattle.am_follow.specs.Layout.{layout_of};
+ghost use Rattle.am_scripts.specs.Layout.{layout_of};
 ghost use Rattle.am_model.specs.History.{IsHistory};
 ghost use Rattle.am_office.specs.Fates.{fate};
 ghost use Rattle.am_run_rows.specs.ClientsAndServer as server;

@@ -15,7 +15,7 @@ use Rattle.am_model.specs.declared.EntryFault.TheVariants as Faults
 use Rattle.am_plan.specs.declared.plan.PlanLine.{PlanLine}
 use Rattle.am_scenario_types.specs.Lists.{ScenarioLists}
 use Rattle.am_scripts.specs.Scripts.{call_made}
-use Rattle.am_follow.proofs.Lawful.{lawful_layout}
+use Rattle.am_scripts.proofs.Lawful.{lawful_layout}
 use Rattle.am_run_laws.specs.Drained.{HasShortLogs}
 use Rattle.am_run_laws.proofs.Logs.{room_keeps_logs}
 use Rattle.am_run_laws.proofs.Drained.{runs_are_short}
@@ -23,10 +23,10 @@ use Rattle.am_scripted.specs.Links.{AreFed, Released}
 use Rattle.am_scripted.specs.Scripted.{AreParts, fed_by}
 use Rattle.am_scripted.specs.Threads.{Scripted, scripted_of, with_call_if}
 use Rattle.am_scripted.proofs.Growing.{called_after, fed_after}
-use Rattle.am_follow.specs.Layout.{layout_of}
-use Rattle.am_drain.specs.Cut.{HasRoom, full_for}
+use Rattle.am_scripts.specs.Layout.{layout_of}
+use Rattle.am_drain.specs.Cut.{MeetsNoFullLog, full_for}
 use Rattle.am_drain.specs.Made.{after_event, next_entry}
-use Rattle.am_drain_loop.specs.Stops.{Acts, IsDrainBeginning}
+use Rattle.am_drainer.specs.Stops.{Acts, IsDrainBeginning}
 
 stop_none : (f : Option Condition) (l : Option Part) → stop_by f l ≡ None → (f ≡ None) × (l ≡ None)
 stop_none None None h = (refl, refl)
@@ -43,7 +43,7 @@ stop_full None None p h = absurd (cc)
 stop_full None (Some q) p h = cc
 stop_full (Some c) l p h = absurd (cc)
 
-pub has_room : (s : ScenarioLists) (past : List Entry) (event : Event) (x : Entry) → stop (layout_of s) past event ≡ None → x ≡ next_entry (layout_of s) past event → HasRoom s past (x ∷ [])
+pub has_room : (s : ScenarioLists) (past : List Entry) (event : Event) (x : Entry) → stop (layout_of s) past event ≡ None → x ≡ next_entry (layout_of s) past event → MeetsNoFullLog s past (x ∷ [])
 has_room s past event x h is =
     (ap (full_for s past) is ∙ (stop_none (failing (layout_of s) past event) (full_log (layout_of s) past event) h).1, tt)
 

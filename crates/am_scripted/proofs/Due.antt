@@ -13,7 +13,7 @@ use Rattle.am_model.specs.History.{IsHistory}
 use Rattle.am_journal.specs.View.{is_receipt, receipts}
 use Rattle.am_journal.proofs.Lists.{index_got}
 use Rattle.am_scenario_types.specs.Lists.{ScenarioLists}
-use Rattle.am_follow.specs.Layout.{layout_of}
+use Rattle.am_scripts.specs.Layout.{layout_of}
 use Rattle.am_drain_steps.specs.Enabled.{DuesAreCounted}
 use Rattle.am_scripts.specs.Links.{due, number_received, received}
 use Rattle.am_scripted.specs.Links.{AreFed, Released, nothing, released_of}

@@ -23,7 +23,7 @@ use Rattle.am_local.proofs.Parts.{attempt_own}
 use Rattle.am_iface.specs.View.{InterfaceView, own}
 use Rattle.am_machine.specs.Interfaces.{IsInterface}
 use Rattle.am_scenario_types.specs.Lists.{ScenarioLists}
-use Rattle.am_follow.specs.Layout.{layout_of}
+use Rattle.am_scripts.specs.Layout.{layout_of}
 use Rattle.am_scripts.specs.Follows.{is_bounced_out, is_last_in}
 use Rattle.am_scripted.specs.Tries.{IsLastIfMade}
 

@@ -8,12 +8,12 @@ use Rattle.am_scenario_types.specs.declared.parts.ScriptCall.{ScriptCall}
 use Rattle.am_scenario_types.specs.declared.parts.ThreadLine.{ThreadLine}
 use Rattle.am_scenario_types.specs.Lawful as lawful
 use Rattle.am_scenario_types.specs.Lists.{ScenarioLists}
-use Rattle.am_follow.specs.Layout.{layout_of}
+use Rattle.am_scripts.specs.Layout.{layout_of}
 use Rattle.am_scripts.specs.Scripts.{is_of_thread}
 use Rattle.am_drain.specs.Rules.{Left, left_after, left_to}
 use Rattle.am_drain_steps.proofs.Calls.{All-filter_at, call_is_in_range}
-use Rattle.am_drain_loop.specs.declared.LeftCall.{LeftCall}
-use Rattle.am_drain_loop.specs.Reads.{call_event, left_of}
+use Rattle.am_drainer.specs.declared.LeftCall.{LeftCall}
+use Rattle.am_drainer.specs.Reads.{call_event, left_of}
 use Rattle.am_scripted.specs.Threads.{Scripted, left_in, scripted_of}
 
 -- ---- what is left

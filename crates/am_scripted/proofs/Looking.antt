@@ -31,13 +31,13 @@ use Rattle.am_machine.specs.Moves.{is_in_frame_of}
 use Rattle.am_machine.specs.View.{ClusterView}
 use Rattle.am_scenario_types.specs.declared.parts.Network.TheVariants.{Packet}
 use Rattle.am_scenario_types.specs.Lists.{ScenarioLists}
-use Rattle.am_follow.specs.Layout.{layout_of}
+use Rattle.am_scripts.specs.Layout.{layout_of}
 use Rattle.am_model.proofs.Alls.{all_at}
 use Rattle.am_model.proofs.Names.{same_end-is}
 use Rattle.am_scripts.specs.Standings.{Standing, is_missed, standings}
 use Rattle.am_scripts.proofs.Lists.{found_in, found_true, none_all, none_mapped}
 use Rattle.am_drain.specs.Rules.{next_page_in, page_in_of}
-use Rattle.am_drain_loop.specs.Reads.{head_of, is_seat, mail_of}
+use Rattle.am_drainer.specs.Reads.{head_of, is_seat, mail_of}
 use Rattle.am_drain_steps.specs.Away.{AwayIsSettled, is_settled, is_settled_at}
 use Rattle.am_drain_steps.proofs.Enabled.{IsSeatedSetting, all_seated, of_packets, seat_in_range}
 use Rattle.am_drain_steps.proofs.Calls.{home_seated}

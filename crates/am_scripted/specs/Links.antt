@@ -22,20 +22,20 @@ abbrev pub released_in : Staged ℕ → Released
 released_in l = record { numbers = l.released; held = l.held }
 
 -- there is room for what one emission releases and holds back
-abbrev pub HasRoom : Staged ℕ → Type 0
-HasRoom l = 1 ≤ l.spare
+abbrev pub HasSpare : Staged ℕ → Type 0
+HasSpare l = 1 ≤ l.spare
 
 -- so on the link at a place, and on each link
-abbrev pub HasRoomAt : List (Staged ℕ) → ℕ → Type 0
-HasRoomAt links k = (l : Staged ℕ) → slice_get links k ≡ Some l → HasRoom l
+abbrev pub HasSpareAt : List (Staged ℕ) → ℕ → Type 0
+HasSpareAt links k = (l : Staged ℕ) → slice_get links k ≡ Some l → HasSpare l
 
 abbrev pub HasAllRoom : List (Staged ℕ) → Type 0
-HasAllRoom links = (k : ℕ) → HasRoomAt links k
+HasAllRoom links = (k : ℕ) → HasSpareAt links k
 
 -- so on each link but the one that took the last packet
 pub record IsSpared (t : LinkTable) : Type 0 where
   pub within : t.last < length t.all.items
-  pub others : (k : ℕ) → (k ≡ t.last → ⊥) → HasRoomAt t.all.items k
+  pub others : (k : ℕ) → (k ≡ t.last → ⊥) → HasSpareAt t.all.items k
 
 -- one emission more, at this place
 abbrev pub fed : ℕ → Option LinkFault → ℕ → Released → Released

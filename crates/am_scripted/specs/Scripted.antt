@@ -8,7 +8,7 @@ use Rattle.am_plan.specs.Shape.{fault_at, number_of}
 use Rattle.am_scenario_types.specs.declared.parts.Network.TheVariants.{Packet as Packets}
 use Rattle.am_scenario_types.specs.Lawful.{IsLawful}
 use Rattle.am_scenario_types.specs.Lists.{ScenarioLists}
-use Rattle.am_follow.specs.Layout.{layout_of}
+use Rattle.am_scripts.specs.Layout.{layout_of}
 use Rattle.am_run_laws.specs.Drained.{HasShortLogs}
 use Rattle.am_machine.specs.View.{ClusterView}
 use Rattle.am_scripted.specs.Links.{AreFed, IsSpared, Released, fed_at, released_in}

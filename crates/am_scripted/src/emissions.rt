@@ -1,7 +1,7 @@
 // The packets that a cluster emits and its links release.
 ghost use Rattle.am_scripted.specs.Links.{AreFed, HasAllRoom, IsSpared, released_in};
 ghost use Rattle.am_scripted.specs.Scripted.{AreParts, fed_by};
-ghost use Rattle.am_follow.specs.Layout.{layout_of};
+ghost use Rattle.am_scripts.specs.Layout.{layout_of};
 ghost use Rattle.am_model.specs.Packets as packets;
 ghost use Rattle.am_model.specs.History.{IsHistory};
 ghost use Rattle.am_office.specs.Entries.{emitted_of};

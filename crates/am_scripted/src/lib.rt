@@ -4,8 +4,8 @@
 #![tactic(auto)]
 
 ghost use Rattle.am_drain.specs.Cut.{IsDrainedWithRoom};
-ghost use Rattle.am_drain_loop.specs.Stops.{IsDrainStopped};
-ghost use Rattle.am_follow.specs.Layout.{layout_of};
+ghost use Rattle.am_drainer.specs.Stops.{IsDrainStopped};
+ghost use Rattle.am_scripts.specs.Layout.{layout_of};
 ghost use Rattle.am_model.specs.History.{IsHistory};
 ghost use Rattle.am_run_laws.specs.Drained.{HasShortLogs};
 ghost use Rattle.am_scenario_types.specs.Lawful.{IsLawful};

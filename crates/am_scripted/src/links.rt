@@ -1,6 +1,6 @@
 // What each link has released, and what it holds back: so the packet that is due is found without a look at the others.
 // A link is a stage that takes the numbers of its packets.
-ghost use Rattle.am_scripted.specs.Links.{HasAllRoom, HasRoom, HasRoomAt, IsSpared, fed, fed_at, nothing, released_in};
+ghost use Rattle.am_scripted.specs.Links.{HasAllRoom, HasSpare, HasSpareAt, IsSpared, fed, fed_at, nothing, released_in};
 ghost use Rattle.std.specs.Prelude.{◌≡◌, ℕ, ◌+◌, ◌*◌, ◌<◌, ◌^◌, All, IfOk, OnOk, length, map, slice_get, slice_index_or, vec_len};
 
 use am_names::NodeId;
@@ -27,7 +27,7 @@ pub(crate) fn link_place(from: NodeId, to: NodeId) -> usize
 /// A link that released nothing, with room for one emission.
 fn fresh_link(alloc: Global) -> Result<Stage<u32>, NoMemory>
     ensures none { IfOk result (λ link. released_in link ≡ nothing) }
-    ensures room { IfOk result HasRoom }
+    ensures room { IfOk result HasSpare }
 {
     let mut link = Stage::new(alloc);
     link.room()?;
@@ -65,7 +65,7 @@ fn make_room_at(links: &mut Vec<Stage<u32>>, index: usize) -> Result<(), NoMemor
     requires { index < length links.old.items }
     ensures same { map released_in links.new.items ≡ map released_in links.old.items }
     ensures len { vec_len links.new ≡ vec_len links.old }
-    ensures room { OnOk result (HasRoomAt links.new.items index) }
+    ensures room { OnOk result (HasSpareAt links.new.items index) }
     ensures others { (k : ℕ) → (k ≡ index → ⊥) → slice_get links.new.items k ≡ slice_get links.old.items k }
 {
     let link = &mut links[index];

@@ -1,9 +1,9 @@
 // What a drain reads of the endpoints and channels of a cluster.
 ghost use Rattle.am_scripted.specs.Scripted.{AreParts};
 ghost use Rattle.am_drain.specs.Rules.{next_page_in};
-ghost use Rattle.am_drain_loop.specs.Reads.{head_of, is_seat, mail_of};
+ghost use Rattle.am_drainer.specs.Reads.{head_of, is_seat, mail_of};
 ghost use Rattle.am_endpoint.specs.View.{state_after};
-ghost use Rattle.am_follow.specs.Layout.{layout_of};
+ghost use Rattle.am_scripts.specs.Layout.{layout_of};
 ghost use Rattle.am_machine.specs.Moves.{is_in_frame_of};
 ghost use Rattle.am_model.specs.Endpoint as endpoint;
 ghost use Rattle.am_model.specs.History.{channel_to, is_bound, is_frame_held, state_of};
@@ -15,7 +15,7 @@ ghost use Rattle.std.specs.Prelude.{◌≡◌, ◌<◌, IfSome, None, Some, coun
 use crate::reads::{
     front_of, has_arrivals_of, has_reply_of, head_of, is_in_frame, received_requests_of,
 };
-use am_drain_loop::{EndHead, EndMail};
+use am_drainer::{EndHead, EndMail};
 use am_endpoint::Endpoint;
 use am_machine::Cluster;
 use am_model::Head;

@@ -6,8 +6,8 @@ ghost use Rattle.am_scripted.specs.Scripted.{AreParts, capacity_of, cluster_of};
 ghost use Rattle.am_scripted.specs.Tries.{IsLastIfMade};
 ghost use Rattle.am_scripted.specs.Threads.{scripted_in, scripted_of};
 ghost use Rattle.am_drain.specs.Cut.{IsDrainedWithRoom};
-ghost use Rattle.am_drain_loop.specs.Stops.{IsDrainStopped};
-ghost use Rattle.am_follow.specs.Layout.{layout_of};
+ghost use Rattle.am_drainer.specs.Stops.{IsDrainStopped};
+ghost use Rattle.am_scripts.specs.Layout.{layout_of};
 ghost use Rattle.am_model.specs.PostOffice.{PostOffice};
 ghost use Rattle.am_scenario_types.specs.Lawful.{IsLawful};
 ghost use Rattle.am_scenario_types.specs.declared.parts.Network.TheVariants.{Packet};
@@ -21,7 +21,7 @@ use crate::looks::{has_bound, head_at, head_by, home, is_frame_held, mail_at, re
 use crate::plan_index::PlanIndex;
 use crate::threads::{ThreadScript, all_scripts, count_event, left_to, next_call};
 use crate::tries::is_last;
-use am_drain_loop::{EndHead, EndMail, LeftCall, Machine};
+use am_drainer::{EndHead, EndMail, LeftCall, Machine};
 use am_machine::Cluster;
 use am_model::{EntryFault, Head};
 use am_names::{EndpointId, NodeId};
@@ -189,7 +189,7 @@ pub(crate) fn drain_owned<'a>(cluster: Cluster, beside: Beside<'a>) -> (Cluster,
         links,
         threads,
     };
-    let result = am_drain_loop::drain(&mut machine);
+    let result = am_drainer::drain(&mut machine);
     let ScriptedCluster {
         scenario: _,
         plan: _,

@@ -1,11 +1,11 @@
 // What each thread is still to call.
 ghost use Rattle.am_scripted.specs.Threads.{AreSmall, IsSmallAt, call_in, found_in, left_in, made_in, next_in, scripted_in, scripted_of, with_call, with_call_at, with_call_if};
-ghost use Rattle.am_drain_loop.specs.Reads.{left_of};
+ghost use Rattle.am_drainer.specs.Reads.{left_of};
 ghost use Rattle.am_scenario_types.specs.Lawful.{IsLawful};
 ghost use Rattle.am_scripts.specs.Scripts.{call_made, script_of};
 ghost use Rattle.std.specs.Prelude.{◌≡◌, ◌+◌, ◌*◌, ◌≤◌, ◌<◌, ◌^◌, [], All, IfOk, filter, length, map, option_map, vec_len};
 
-use am_drain_loop::LeftCall;
+use am_drainer::LeftCall;
 use am_office::{Actor, Entry, Event, NoMemory};
 use am_scenario_types::{Scenario, ScriptCall, ThreadLine};
 use std::alloc::Global;

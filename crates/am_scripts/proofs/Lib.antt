@@ -2,3 +2,4 @@ pub mod Lists
 pub mod Done
 pub mod Links
 pub mod Declared
+pub mod Lawful

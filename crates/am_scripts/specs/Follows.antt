@@ -18,7 +18,7 @@ use Rattle.am_model.specs.History.{EachAfter, state_of}
 use Rattle.am_model.specs.Parts.{is_by_driver}
 use Rattle.am_scenario_types.specs.declared.parts.ThreadLine.{ThreadLine}
 use Rattle.am_scenario_types.specs.Lists.{ScenarioLists}
-use Rattle.am_follow.specs.Layout.{layout_of}
+use Rattle.am_scripts.specs.Layout.{layout_of}
 use Rattle.am_scripts.specs.Links.{nodes_of, is_all_received}
 
 -- whether a message has bounced as often as it may

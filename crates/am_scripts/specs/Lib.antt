@@ -2,3 +2,4 @@ pub mod Links
 pub mod Scripts
 pub mod Standings
 pub mod Follows
+pub mod Layout

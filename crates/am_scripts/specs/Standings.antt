@@ -9,7 +9,7 @@ use Rattle.am_model.specs.Endpoint.{Body, State, is_on_disk}
 use Rattle.am_model.specs.Layout.{Layout, EndSetting}
 use Rattle.am_model.specs.History.{state_of, is_bound, channel_to}
 use Rattle.am_scenario_types.specs.Lists.{ScenarioLists}
-use Rattle.am_follow.specs.Layout.{layout_of}
+use Rattle.am_scripts.specs.Layout.{layout_of}
 use Rattle.am_scripts.specs.Links.{EachLink}
 
 -- an endpoint as it stands

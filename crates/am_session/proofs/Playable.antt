@@ -28,7 +28,7 @@ comes A B (Ok x) f y e = record { value = x; is = refl; then' = e }
 comes A B (Err what) f y e = absurd (cc)
 
 -- what the lines so far have said is within its bounds
-record IsWithin (said : Said) : Type 0 where
+record IsBounded (said : Said) : Type 0 where
   tries : IfSome said.tries (λ n. (2 ≤ n) × (n ≤ 16))
   few : length said.steps ≤ 65536
 
@@ -113,36 +113,36 @@ words_fit said Heads.Sender words line e = sender_fits said words line e
 words_fit said Heads.Receiver words line e = receiver_fits said words line e
 
 -- a line that fits leaves what is said within its bounds
-with_within : (number section : ℕ) (said : Said) (line : Line) → IsWithin said → Fits said line → IsWithin (with_line number section said line)
+with_within : (number section : ℕ) (said : Said) (line : Line) → IsBounded said → Fits said line → IsBounded (with_line number section said line)
 with_within number section said Lines.Session is h = record { tries = is.tries; few = is.few }
 with_within number section said (Lines.Tries n) is h = record { tries = h; few = is.few }
 with_within number section said (Lines.Event event) is h =
     let more : length (said.steps ++ record { line = number; event = event } ∷ []) ≡ length said.steps + 1 = length-append said.steps (record { line = number; event = event } ∷ []) in
     record { tries = is.tries; few = omega (arith, more, h) }
 
-words_within : (number : ℕ) (said next : Said) (words : List (List ℕ)) → IsWithin said → after_words number said words ≡ Ok next → IsWithin next
+words_within : (number : ℕ) (said next : Said) (words : List (List ℕ)) → IsBounded said → after_words number said words ≡ Ok next → IsBounded next
 unfolding after_words
-words_within number said next [] is e = let same : said ≡ next = cc in subst IsWithin same is
+words_within number said next [] is e = let same : said ≡ next = cc in subst IsBounded same is
 words_within number said next (first ∷ words) is e = by_test (slice_index first 0 == 35) e
   where
-    by_test : (t : Bool) → ◌≡◌ {A = Result Said What} (if t then Ok said else (or_else UnknownWord (head_of first) >>= (λ named. placed said named >>= (λ head. words_say said head words >>= (λ line. Ok (with_line number (section_of head) said line)))))) (Ok next) → IsWithin next
-    by_test true e = let same : said ≡ next = cc in subst IsWithin same is
+    by_test : (t : Bool) → ◌≡◌ {A = Result Said What} (if t then Ok said else (or_else UnknownWord (head_of first) >>= (λ named. placed said named >>= (λ head. words_say said head words >>= (λ line. Ok (with_line number (section_of head) said line)))))) (Ok next) → IsBounded next
+    by_test true e = let same : said ≡ next = cc in subst IsBounded same is
     by_test false e =
         let c : Comes Head Said (or_else UnknownWord (head_of first)) (λ named. placed said named >>= (λ head. words_say said head words >>= (λ line. Ok (with_line number (section_of head) said line)))) next = comes Head Said (or_else UnknownWord (head_of first)) (λ named. placed said named >>= (λ head. words_say said head words >>= (λ line. Ok (with_line number (section_of head) said line)))) next e in
         let d : Comes Head Said (placed said c.value) (λ head. words_say said head words >>= (λ line. Ok (with_line number (section_of head) said line))) next = comes Head Said (placed said c.value) (λ head. words_say said head words >>= (λ line. Ok (with_line number (section_of head) said line))) next c.then' in
         let g : Comes Line Said (words_say said d.value words) (λ line. Ok (with_line number (section_of d.value) said line)) next = comes Line Said (words_say said d.value words) (λ line. Ok (with_line number (section_of d.value) said line)) next d.then' in
         let same : with_line number (section_of d.value) said g.value ≡ next = let ok : ◌≡◌ {A = Result Said What} (Ok (with_line number (section_of d.value) said g.value)) (Ok next) = g.then' in cc in
-        subst IsWithin same (with_within number (section_of d.value) said g.value is (words_fit said d.value words g.value g.is))
+        subst IsBounded same (with_within number (section_of d.value) said g.value is (words_fit said d.value words g.value g.is))
 
-line_within : (number : ℕ) (said next : Said) (line : List ℕ) → IsWithin said → after_line number said line ≡ Ok next → IsWithin next
+line_within : (number : ℕ) (said next : Said) (line : List ℕ) → IsBounded said → after_line number said line ≡ Ok next → IsBounded next
 unfolding after_line
 line_within number said next line is e = by_test (is_text_line line) e
   where
-    by_test : (t : Bool) → ◌≡◌ {A = Result Said What} (if t then after_words number said (words_of line) else Err NotText) (Ok next) → IsWithin next
+    by_test : (t : Bool) → ◌≡◌ {A = Result Said What} (if t then after_words number said (words_of line) else Err NotText) (Ok next) → IsBounded next
     by_test true e = words_within number said next (words_of line) is e
     by_test false e = absurd (cc)
 
-whole_playable : (said : Said) (script : Script) → IsWithin said → whole said ≡ Ok script → IsPlayable script
+whole_playable : (said : Said) (script : Script) → IsBounded said → whole said ≡ Ok script → IsPlayable script
 unfolding whole
 whole_playable said script is e = by_tries said.tries is.tries e
   where
@@ -152,7 +152,7 @@ whole_playable said script is e = by_tries said.tries is.tries e
         let same : record { tries = n; steps = said.steps } ≡ script = let ok : ◌≡◌ {A = Result Script What} (Ok (record { tries = n; steps = said.steps })) (Ok script) = e in cc in
         subst IsPlayable same (record { at_least = h.0; at_most = h.1; few = is.few })
 
-spells_from : (number : ℕ) (said : Said) (lines : List (List ℕ)) (script : Script) → IsWithin said → read_from number said lines ≡ Ok script → IsPlayable script
+spells_from : (number : ℕ) (said : Said) (lines : List (List ℕ)) (script : Script) → IsBounded said → read_from number said lines ≡ Ok script → IsPlayable script
 unfolding read_from
 spells_from number said [] script is e = by_read (whole said) refl e
   where
@@ -161,7 +161,7 @@ spells_from number said [] script is e = by_read (whole said) refl e
     by_read (Err what) at e = absurd (cc)
 spells_from number said (line ∷ lines) script is e = by_read (after_line number said line) refl e (λ next within' h. spells_from (line_after number) next lines script within' h)
   where
-    by_read : (read : Result Said What) → after_line number said line ≡ read → on_line number read (λ next. read_from (line_after number) next lines) ≡ Ok script → ((next : Said) → IsWithin next → read_from (line_after number) next lines ≡ Ok script → IsPlayable script) → IsPlayable script
+    by_read : (read : Result Said What) → after_line number said line ≡ read → on_line number read (λ next. read_from (line_after number) next lines) ≡ Ok script → ((next : Said) → IsBounded next → read_from (line_after number) next lines ≡ Ok script → IsPlayable script) → IsPlayable script
     by_read (Ok next) at e more = more next (line_within number said next line is at) e
     by_read (Err what) at e more = absurd (cc)
 

@@ -17,7 +17,7 @@ use Rattle.am_local.specs.declared.work.Work.TheVariants as Works
 use Rattle.am_iface.specs.Settings.{AreLawful}
 use Rattle.am_iface.specs.View.{InterfaceView, own}
 use Rattle.am_scenario_types.specs.Lists.{ScenarioLists}
-use Rattle.am_follow.specs.Layout.{layout_of}
+use Rattle.am_scripts.specs.Layout.{layout_of}
 use Rattle.am_turns.specs.Servers.{IfMade, IsInterfaceOf, IsNumbered, IsRanged}
 use Rattle.am_turns.specs.declared.turns.InterfaceTurn.{InterfaceTurn}
 use Rattle.am_turns.specs.declared.turns.InterfaceTurn.TheVariants as Worked

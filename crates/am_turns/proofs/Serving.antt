@@ -15,7 +15,7 @@ use Rattle.am_phase.specs.Crew.{AreReceipts, is_receipt}
 use Rattle.am_places.specs.Rule.{Begins, read}
 use Rattle.am_places.specs.declared.board.Tenure.{Tenure}
 use Rattle.am_scenario_types.specs.Lists.{ScenarioLists}
-use Rattle.am_follow.specs.Layout.{layout_of}
+use Rattle.am_scripts.specs.Layout.{layout_of}
 use Rattle.am_works.proofs.Receipts.{interfaces_go_on}
 use Rattle.am_works.proofs.Stands.{none_keep}
 use Rattle.am_works.specs.Seats.{EndPass, Ids, KnowsNode, Stays, seen_log}

@@ -26,7 +26,7 @@ use Rattle.am_places.specs.Rule.{Begins, joined, read}
 use Rattle.am_places.specs.declared.board.Tenure.{Tenure}
 use Rattle.am_scenario_types.specs.Lists.{ScenarioLists}
 use Rattle.am_scenario_types.specs.declared.parts.ScriptCall.{ScriptCall}
-use Rattle.am_follow.specs.Layout.{layout_of}
+use Rattle.am_scripts.specs.Layout.{layout_of}
 use Rattle.am_scripts.specs.Follows.{is_by_thread}
 use Rattle.am_scripts.specs.Scripts.{call_made, calls_of, is_of_thread, script_of}
 use Rattle.am_turns.specs.Callers.{IsScript, next_after}

@@ -25,8 +25,8 @@ use Rattle.am_merge.specs.Logs.{IsRising}
 use Rattle.am_merge.proofs.Sorted.{Has, contains_has, has_contains, filter_has, has_last}
 use Rattle.am_scenario_types.specs.Lists.{ScenarioLists}
 use Rattle.am_scenario_types.specs.declared.parts.Network.TheVariants as Networks
-use Rattle.am_follow.specs.Layout.{is_direct, layout_of}
-use Rattle.am_follow.proofs.Lawful.{lawful_layout}
+use Rattle.am_scripts.specs.Layout.{is_direct, layout_of}
+use Rattle.am_scripts.proofs.Lawful.{lawful_layout}
 use Rattle.am_body.specs.declared.settings.EndSettings.{EndSettings}
 use Rattle.am_driver.specs.declared.EndView.{EndView}
 use Rattle.am_endpoint.specs.View.{state_by}

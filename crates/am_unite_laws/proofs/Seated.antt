@@ -5,7 +5,7 @@ use Rattle.am_names.specs.declared.NodeId.{NodeId}
 use Rattle.am_model.specs.Layout.{AllAre}
 use Rattle.am_local.specs.Together.{ends_of}
 use Rattle.am_scenario_types.specs.Lists.{ScenarioLists}
-use Rattle.am_follow.specs.Layout.{layout_of}
+use Rattle.am_scripts.specs.Layout.{layout_of}
 use Rattle.am_places.specs.Rule.{gathered, has}
 use Rattle.am_phase.specs.Makers.{Interface}
 use Rattle.am_phase.specs.Tenures.{IsSeat}

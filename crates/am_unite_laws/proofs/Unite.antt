@@ -13,7 +13,7 @@ use Rattle.am_node.specs.Parts.{all_logs, journal_of}
 use Rattle.am_scenario_types.specs.Lists.{ScenarioLists}
 use Rattle.am_scripts.specs.Scripts.{calls_of}
 use Rattle.am_drain.specs.Follows.{IsGoodPhase}
-use Rattle.am_follow.specs.Layout.{layout_of}
+use Rattle.am_scripts.specs.Layout.{layout_of}
 use Rattle.am_phase.specs.Crew.{ByDriver, ByInterface, ByThread, IsMade}
 use Rattle.am_phase.specs.Makers.{Driver, Interface, IsOfMaker, Maker, Thread}
 use Rattle.am_phase.proofs.Makers.{thread_end}

@@ -18,7 +18,7 @@ use Rattle.am_scenario_types.specs.declared.parts.Network.TheVariants as Network
 use Rattle.am_scenario_types.specs.Lists.{ScenarioLists}
 use Rattle.am_scripts.specs.Scripts.{calls_of}
 use Rattle.am_drain.specs.Follows.{IsGoodPhase}
-use Rattle.am_follow.specs.Layout.{layout_of}
+use Rattle.am_scripts.specs.Layout.{layout_of}
 use Rattle.am_books.specs.declared.EndBook.{EndBook}
 use Rattle.am_phase.specs.Makers.{Driver, Interface, Thread}
 use Rattle.am_works.specs.Seats.{setting_by}

@@ -20,7 +20,7 @@ use Rattle.am_scenario_types.specs.Lists.{ScenarioLists}
 use Rattle.am_scenario_types.specs.Lawful.{IsLawful}
 use Rattle.am_scripts.specs.Scripts.{calls_of}
 use Rattle.am_drain.specs.Follows.{IsGoodPhase}
-use Rattle.am_follow.specs.Layout.{layout_of}
+use Rattle.am_scripts.specs.Layout.{layout_of}
 use Rattle.am_places.specs.Rule.{Begins, HasGathered, spent}
 use Rattle.am_books.specs.declared.EndBook.{EndBook}
 use Rattle.am_phase.specs.Makers.{Driver, Interface, Maker, Thread}

@@ -18,7 +18,7 @@ use Rattle.am_device.specs.Memory.{Store}
 use Rattle.am_driver.specs.Views.{line_of}
 use Rattle.am_driver.specs.declared.EndView.{EndView}
 use Rattle.am_endpoint.specs.View.{state_after, state_by}
-use Rattle.am_follow.specs.Layout.{layout_of}
+use Rattle.am_scripts.specs.Layout.{layout_of}
 use Rattle.am_model.specs.Changes.{replay}
 use Rattle.am_model.specs.Endpoint.{State, fresh, is_direct}
 use Rattle.am_model.specs.History.{is_in_frame}

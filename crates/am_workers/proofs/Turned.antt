@@ -14,7 +14,7 @@ use Rattle.am_iface.specs.View.{InterfaceView, own}
 use Rattle.am_plan.specs.Shape.{shape}
 use Rattle.am_scenario_types.specs.Lists.{ScenarioLists}
 use Rattle.am_scenario_types.specs.Lawful.{IsLawful}
-use Rattle.am_follow.specs.Layout.{layout_of}
+use Rattle.am_scripts.specs.Layout.{layout_of}
 use Rattle.am_wire.specs.Links.{SameLink}
 use Rattle.am_wire.specs.declared.sending.LinkOut.{LinkOut}
 use Rattle.am_books.specs.declared.EndBook.{EndBook}

@@ -5,7 +5,7 @@ use Rattle.am_names.specs.declared.NodeId.{NodeId}
 use Rattle.am_names.specs.declared.Packet.{Packet}
 use Rattle.am_model.specs.Layout.{node_at}
 use Rattle.am_scenario_types.specs.Lists.{ScenarioLists}
-use Rattle.am_follow.specs.Layout.{layout_of}
+use Rattle.am_scripts.specs.Layout.{layout_of}
 use Rattle.am_scripts.specs.Follows.{is_thread}
 use Rattle.am_local.specs.Together.{IsSet}
 use Rattle.am_iface.specs.Settings.{AreLawful}

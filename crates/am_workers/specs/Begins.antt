@@ -11,7 +11,7 @@ use Rattle.am_device.specs.Memory.{Store}
 use Rattle.am_driver.specs.Lists.{ViewLists}
 use Rattle.am_driver.specs.Views.{line_of}
 use Rattle.am_endpoint.specs.View.{state_after}
-use Rattle.am_follow.specs.Layout.{layout_of}
+use Rattle.am_scripts.specs.Layout.{layout_of}
 use Rattle.am_iface.specs.Settings.{AreLawful}
 use Rattle.am_iface.specs.View.{own}
 use Rattle.am_local.specs.Together.{IsSet, faults_of}

@@ -55,7 +55,7 @@ use Rattle.am_places.specs.declared.board.Tenure.{Tenure}
 use Rattle.am_scenario_types.specs.Lists.{ScenarioLists}
 use Rattle.am_driver.proofs.Enabled.{skip}
 use Rattle.am_moves.proofs.Stores.{call_fails, one_more_is, call_calls}
-use Rattle.am_follow.specs.Layout.{layout_of}
+use Rattle.am_scripts.specs.Layout.{layout_of}
 use Rattle.am_works.specs.Drivers.{DriversGoOn, DriversLook, DriversRest, DriversWait, IsDriverOf}
 use Rattle.am_moves.specs.Moves.{outcome_with, swap_with}
 use Rattle.am_works.specs.Drives.{CanDrive, CanWait, IsLook, IsMoved, frames_after, line_by, log_of, with_frames, with_line}

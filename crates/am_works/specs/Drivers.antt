@@ -7,7 +7,7 @@ use Rattle.am_device.specs.Memory.{Store}
 use Rattle.am_local.specs.Together.{AreDeclaredOnce, ends_of}
 use Rattle.am_driver.specs.Lists.{ViewLists}
 use Rattle.am_scenario_types.specs.Lists.{ScenarioLists}
-use Rattle.am_follow.specs.Layout.{layout_of}
+use Rattle.am_scripts.specs.Layout.{layout_of}
 use Rattle.am_works.specs.Drives.{IsLook, IsMoved}
 use Rattle.am_works.specs.Seats.{EndPass, Ids, IsBusy}
 use Rattle.am_works.specs.Works.{DriverWorks}

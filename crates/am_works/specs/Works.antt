@@ -22,7 +22,7 @@ use Rattle.am_local.specs.declared.work.Work.TheVariants as Works
 use Rattle.am_merge.specs.Logs.{IsRising}
 use Rattle.am_device.specs.Memory.{Store}
 use Rattle.am_scenario_types.specs.Lists.{ScenarioLists}
-use Rattle.am_follow.specs.Layout.{layout_of}
+use Rattle.am_scripts.specs.Layout.{layout_of}
 use Rattle.am_scripts.specs.Follows.{is_by_thread}
 use Rattle.am_scripts.specs.Scripts.{calls_of, script_of}
 use Rattle.am_driver.specs.Lists.{ViewLists}

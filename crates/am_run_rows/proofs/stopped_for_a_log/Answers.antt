@@ -1,10 +1,10 @@
 use Rattle.std.proofs.Common.{rules, List, [], take, drop, refl}
 use Rattle.am_office.specs.declared.Event.TheVariants as Events
 use Rattle.am_office.specs.declared.Entry.{Entry}
-use Rattle.am_follow.specs.Layout.{layout_of}
+use Rattle.am_scripts.specs.Layout.{layout_of}
 use Rattle.am_scripts.specs.Follows.{IsPhase}
 use Rattle.am_drain.specs.Made.{next_entry}
-use Rattle.am_drain.specs.Cut.{HasRoom}
+use Rattle.am_drain.specs.Cut.{MeetsNoFullLog}
 use Rattle.am_run_rows.specs.EveryTryLost as lost
 use Rattle.am_run_rows.specs.StoppedForLog.{scenario, journal}
 use Rattle.am_run_rows.proofs.stopped_for_a_log.Goals as goal
@@ -18,7 +18,7 @@ next = next_entry (layout_of scenario) journal (Events.Load (record { 0 = 0 }) (
 later : List Entry
 later = take 2 (drop 4 lost.journal)
 
-room : HasRoom scenario [] journal
+room : MeetsNoFullLog scenario [] journal
 room = search rules
 
 pub returns-clause-stopped : goal.returns-clause-stopped

@@ -2,7 +2,7 @@ use Rattle.std.proofs.Common.{ap, ◌∙◌, subst}
 use Rattle.am_model.specs.History.{IsHistory}
 use Rattle.am_model.specs.Layout.{Layout}
 use Rattle.am_scenario_types.specs.declared.parts.Network.{Network}
-use Rattle.am_follow.specs.Layout.{is_direct}
+use Rattle.am_scripts.specs.Layout.{is_direct}
 use Rattle.am_run_laws.specs.Short.{IsWithinLogs}
 use Rattle.am_scripted.proofs.tell_logs.Goals as goal
 

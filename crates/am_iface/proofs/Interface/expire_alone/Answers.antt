@@ -7,7 +7,7 @@ use Rattle.am_local.specs.declared.work.Work.TheVariants as Works
 use Rattle.am_channel.specs.declared.ends.Ends.{Ends}
 use Rattle.am_channel.specs.declared.sending.TimedOut.TheVariants as Times
 use Rattle.am_channel.specs.Sending.{timed_out}
-use Rattle.am_channel_laws.specs.Calls.{TimeOut, after}
+use Rattle.am_channel.specs.Calls.{TimeOut, after}
 use Rattle.am_iface.specs.Made.{IsMade}
 use Rattle.am_iface.specs.View.{own}
 use Rattle.am_iface.proofs.Telling as telling

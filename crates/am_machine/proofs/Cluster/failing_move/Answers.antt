@@ -1,5 +1,5 @@
 use Rattle.std.proofs.Common.{map, sym, ap, ◌∙◌}
-use Rattle.am_follow.specs.Layout.{is_direct}
+use Rattle.am_scripts.specs.Layout.{is_direct}
 use Rattle.am_model.specs.History.{failing}
 use Rattle.am_moves.specs.Logs.{kept}
 use Rattle.am_machine.specs.Kept.{journal_by, layout_in}

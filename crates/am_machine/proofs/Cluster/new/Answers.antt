@@ -1,11 +1,11 @@
 use Rattle.std.proofs.Common.{◌≡◌, [], List, map, refl, sym, ap, ◌∙◌, subst}
 use Rattle.am_model.specs.Layout as model
-use Rattle.am_follow.proofs.Lawful.{lawful_layout}
+use Rattle.am_scripts.proofs.Lawful.{lawful_layout}
 use Rattle.am_machine.proofs.Beginnings.{pool_lawful}
 use Rattle.am_scenario_types.specs.declared.parts.EndLine.{EndLine}
 use Rattle.am_scenario_types.specs.declared.parts.FaultLine.{FaultLine}
 use Rattle.am_scenario_types.specs.Lawful.{IsLawful}
-use Rattle.am_follow.specs.Layout.{fault_of, layout_of, setting_of}
+use Rattle.am_scripts.specs.Layout.{fault_of, layout_of, setting_of}
 use Rattle.am_machine.specs.declared.settings.Settings.{Settings}
 use Rattle.am_machine.specs.Beginnings.{opened}
 use Rattle.am_moves.specs.Logs.{EndLog, kept}

@@ -1,8 +1,8 @@
 use Rattle.std.proofs.Common.{◌≡◌, ◌≤◌, List, [], length, map, refl, ap, ◌∙◌, sym, subst}
 use Rattle.std.specs.Prelude.{vec_capacity}
 use Rattle.std.specs.List.{All}
-use Rattle.am_follow.specs.Layout.{is_direct, layout_of, setting_of}
-use Rattle.am_follow.proofs.Lawful.{lawful_layout}
+use Rattle.am_scripts.specs.Layout.{is_direct, layout_of, setting_of}
+use Rattle.am_scripts.proofs.Lawful.{lawful_layout}
 use Rattle.am_join.specs.Joined.{AreOne}
 use Rattle.am_endpoint.specs.View.{EndpointView}
 use Rattle.am_journal.specs.View.{IsIndexOf}

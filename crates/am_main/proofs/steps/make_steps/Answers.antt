@@ -1,5 +1,5 @@
 use Rattle.std.specs.Prelude.{slice_index_or, Result, Err}
-use Rattle.am_follow.specs.Layout.{events_of}
+use Rattle.am_scripts.specs.Layout.{events_of}
 use Rattle.am_model.specs.declared.EntryFault.{EntryFault}
 use Rattle.am_machine.specs.View.{Applies, ClusterView}
 use Rattle.am_main.specs.Answer.{Makes}

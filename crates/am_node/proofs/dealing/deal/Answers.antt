@@ -4,7 +4,7 @@ use Rattle.std.proofs.lemmas.List.{nil_from_length}
 use Rattle.am_names.specs.declared.NodeId.{NodeId}
 use Rattle.am_endpoint.specs.View.{EndpointView}
 use Rattle.am_node.specs.declared.shells.Shell.{Shell}
-use Rattle.am_node.specs.Dealt.{HasRoom, IsPut}
+use Rattle.am_node.specs.Dealt.{FitsShells, IsPut}
 use Rattle.am_node.proofs.Dealers.{AreDealing, all_last, begins, ends, goes_on, next_fits}
 use Rattle.am_node.proofs.dealing.deal.Goals as goal
 
@@ -14,7 +14,7 @@ loop-end-init c =
 
 pub index_mut-requires : goal.index_mut-requires
 index_mut-requires c =
-    let room = subst (λ (rest : List EndpointView). HasRoom rest c.loop-end.shells.items) c.in-Some.ensures.items c.loop-end.invariant.room in
+    let room = subst (λ (rest : List EndpointView). FitsShells rest c.loop-end.shells.items) c.in-Some.ensures.items c.loop-end.invariant.room in
     let within = all_last (λ (v : EndpointView). v.settings.node.0 < length c.loop-end.shells.items) c.pop.new.self.items c.in-Some.end room.nodes in
     let at = ap (λ (n : NodeId). n.0) c.node.ensures in
     let items = c.loop-end.shells.ok.0 in
@@ -22,7 +22,7 @@ index_mut-requires c =
 
 pub put-requires : goal.put-requires
 put-requires c =
-    let room = subst (λ (rest : List EndpointView). HasRoom rest c.loop-end.shells.items) c.in-Some.ensures.items c.loop-end.invariant.room in
+    let room = subst (λ (rest : List EndpointView). FitsShells rest c.loop-end.shells.items) c.in-Some.ensures.items c.loop-end.invariant.room in
     let at : c.index_mut.result.now ≡ slice_index_or c.loop-end.shells.items c.in-Some.end.settings.node.0 c.index_mut.result.now = c.index_mut.ensures.value ∙ ap (λ (n : NodeId). slice_index_or c.loop-end.shells.items n.0 c.index_mut.result.now) c.node.ensures in
     subst (λ (s : Shell). vec_len s.ends < vec_capacity s.ends) (sym at) (next_fits c.pop.new.self.items c.loop-end.shells.items c.in-Some.end c.index_mut.result.now room)
 

@@ -3,7 +3,7 @@ use Rattle.std.proofs.lemmas.List.{length-map}
 use Rattle.std.proofs.lemmas.Grind.{common_steps}
 use Rattle.am_scenario_types.specs.declared.parts.EndLine.{EndLine}
 use Rattle.am_node.specs.Gathered.{AreDeclared, setting_in}
-use Rattle.am_follow.specs.Layout.{setting_of}
+use Rattle.am_scripts.specs.Layout.{setting_of}
 use Rattle.am_node.proofs.Gatherers.{AreGathering, begins, ends_made, goes_on, has_one, line_now, line_next, no_line}
 use Rattle.am_node.proofs.gathering.gather.Goals as goal
 

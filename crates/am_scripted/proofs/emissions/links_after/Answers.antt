@@ -1,5 +1,5 @@
-use Rattle.am_follow.specs.Layout.{layout_of}
-use Rattle.am_follow.proofs.Lawful.{lawful_layout}
+use Rattle.am_scripts.specs.Layout.{layout_of}
+use Rattle.am_scripts.proofs.Lawful.{lawful_layout}
 use Rattle.am_scripted.proofs.Starting.{fed_nothing}
 use Rattle.am_scripted.proofs.Stepping.{fed_step, from_at, to_at}
 use Rattle.am_scripted.proofs.emissions.links_after.Goals as goal

@@ -1,5 +1,5 @@
-use Rattle.am_follow.specs.Layout.{layout_of}
-use Rattle.am_follow.proofs.Lawful.{lawful_layout}
+use Rattle.am_scripts.specs.Layout.{layout_of}
+use Rattle.am_scripts.proofs.Lawful.{lawful_layout}
 use Rattle.am_scripted.proofs.Looking.{head_read, seat_at, seen_in}
 use Rattle.am_scripted.proofs.looks.head_at.Goals as goal
 

@@ -1,5 +1,5 @@
 use Rattle.std.proofs.Common.{sym, ◌∙◌, ◌+◌, true, false}
-use Rattle.am_follow.specs.Layout.{layout_of}
+use Rattle.am_scripts.specs.Layout.{layout_of}
 use Rattle.am_scripted.proofs.Looking.{held_found, held_more, seen_in}
 use Rattle.am_scripted.proofs.looks.is_frame_held.Goals as goal
 

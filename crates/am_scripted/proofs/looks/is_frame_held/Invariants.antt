@@ -1,6 +1,6 @@
 use Rattle.std.specs.List.{list_any}
 use Rattle.std.proofs.Common.{◌≡◌, false, length, take}
-use Rattle.am_follow.specs.Layout.{layout_of}
+use Rattle.am_scripts.specs.Layout.{layout_of}
 use Rattle.am_scripted.proofs.Looking.{lies_in}
 use Rattle.am_scripted.proofs.looks.is_frame_held.Given as goal
 

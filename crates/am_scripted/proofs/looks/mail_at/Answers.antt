@@ -1,8 +1,8 @@
 use Rattle.std.proofs.Common.{subst}
 use Rattle.am_model.specs.History.{IsHistory}
 use Rattle.am_model.specs.Layout.{Layout}
-use Rattle.am_follow.specs.Layout.{layout_of}
-use Rattle.am_follow.proofs.Lawful.{lawful_layout}
+use Rattle.am_scripts.specs.Layout.{layout_of}
+use Rattle.am_scripts.proofs.Lawful.{lawful_layout}
 use Rattle.am_drain_steps.proofs.Away.{away_is_settled}
 use Rattle.am_drain_steps.proofs.Enabled.{of_packets}
 use Rattle.am_scripted.proofs.Looking.{mail_read, quiet_at, seat_at, seen_in}

@@ -1,6 +1,6 @@
 use Rattle.std.specs.Prelude.{slice_get}
 use Rattle.std.proofs.Common.{◌≡◌, Some, length, sym, subst, arith}
-use Rattle.am_follow.specs.Layout.{events_of}
+use Rattle.am_scripts.specs.Layout.{events_of}
 use Rattle.am_check.specs.Steps.{StepView}
 use Rattle.am_check.proofs.Steps.{in_range_at, step_below}
 use Rattle.am_check.proofs.step_cluster.StepClusterFollower.make.Goals as goal

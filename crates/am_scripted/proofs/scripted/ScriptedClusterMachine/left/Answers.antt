@@ -4,10 +4,10 @@ use Rattle.std.proofs.lemmas.List.{length-map}
 use Rattle.am_lemmas.proofs.Lists.{slice_get-map_Some}
 use Rattle.am_model.specs.History.{is_in_range}
 use Rattle.am_journal.proofs.Lists.{index_got}
-use Rattle.am_follow.specs.Layout.{layout_of}
+use Rattle.am_scripts.specs.Layout.{layout_of}
 use Rattle.am_drain.specs.Rules.{left_to}
-use Rattle.am_drain_loop.specs.declared.LeftCall.{LeftCall}
-use Rattle.am_drain_loop.specs.Reads.{call_event, left_of}
+use Rattle.am_drainer.specs.declared.LeftCall.{LeftCall}
+use Rattle.am_drainer.specs.Reads.{call_event, left_of}
 use Rattle.am_scripted.specs.Scripted.{ScriptedView}
 use Rattle.am_scripted.specs.Threads.{Scripted, scripted_in, scripted_of}
 use Rattle.am_scripted.proofs.Leaving.{left_ranged, left_read}

@@ -1,0 +1,5 @@
+use Rattle.am_channel.proofs.Folds as laws
+use Rattle.am_channel.proofs.laws.new_ends_are_counted.Goals as goal
+
+pub returns : goal.returns
+returns c = laws.new_counted

@@ -1,5 +1,0 @@
-use Rattle.am_channel_laws.proofs.Apart as laws
-use Rattle.am_channel_laws.proofs.a_call_leaves_other_channels.Goals as goal
-
-pub returns : goal.returns
-returns c = laws.call_apart

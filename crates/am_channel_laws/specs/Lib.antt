@@ -1,4 +1,0 @@
-pub mod Calls
-pub mod Counted
-pub mod Folded
-pub mod Lost

@@ -1,5 +1,0 @@
-use Rattle.am_drain_falls.proofs.Calling.{polls_fall}
-use Rattle.am_drain_falls.proofs.polls_fall.Goals as goal
-
-pub returns : goal.returns
-returns c = polls_fall
