@@ -14,12 +14,6 @@ link from to = 16 * from.0 + to.0
 abbrev pub link_of : Packet → ℕ
 link_of p = link (from_of p) (receiver_of p)
 
--- the node whose page call it is, if it is one
-abbrev pub page_place : Event → Option ℕ
-page_place (Events.PageOut node end) = Some node.0
-page_place (Events.PageIn node end) = Some node.0
-page_place event = None
-
 -- the link whose packet is received, if one is
 abbrev pub receipt_place : Event → Option ℕ
 receipt_place (Events.Receive node peer number) = Some (link peer node)

@@ -10,15 +10,12 @@ use Rattle.am_office.specs.declared.Entry.{Entry}
 use Rattle.am_model.specs.Channels.{emitted}
 use Rattle.am_model.specs.Packets.{receiver_of, from_of}
 use Rattle.am_model.specs.Layout.{node_at}
-use Rattle.am_local.specs.Readings.{page_calls}
 use Rattle.am_drain.specs.Made.{later_stamp}
 use Rattle.am_journal.specs.Places.{link}
 
--- what an index reads: the greatest stamp, the page calls of each of 16 nodes, and of each link, sixteen to a node, the receipts
--- and the packets
+-- what an index reads: the greatest stamp, and of each link, sixteen to a node, the receipts and the packets
 pub record Readings : Type 0 where
   pub greatest : ℕ
-  pub pages : List ℕ
   pub received : List ℕ
   pub packets : List (List Packet)
 
@@ -64,21 +61,21 @@ abbrev pub HasRoomFor : IndexView → Option Packet → Type 0
 HasRoomFor v None = Unit {0}
 HasRoomFor v (Some p) = ((from_of p).0 < 16) × ((receiver_of p).0 < 16) × (is_ready_on v (from_of p) (receiver_of p) ≡ true)
 
--- the numbers of each node and link, and the packets of each link, are those of the entries
-pub record AreRead (entries : List Entry) (of_nodes of_links : List ℕ) (packets : List (List Packet)) : Type 0 where
-  pub pages : (node n : ℕ) → slice_get of_nodes node ≡ Some n → n ≡ page_calls (node_at node) entries
+abbrev pub node_of : ℕ → NodeId
+node_of n = record { 0 = n }
+
+-- the numbers and the packets of each link are those of the entries
+pub record AreRead (entries : List Entry) (of_links : List ℕ) (packets : List (List Packet)) : Type 0 where
   pub received : (from to n : ℕ) → to < 16 → slice_get of_links (16 * from + to) ≡ Some n → n ≡ receipts (node_at from) (node_at to) entries
   pub emitted : (from to : ℕ) (ps : List Packet) → to < 16 → slice_get packets (16 * from + to) ≡ Some ps → ps ≡ emitted (node_at from) (node_at to) entries
-  pub all_pages : length of_nodes ≡ 16
   pub all_received : length of_links ≡ 256
   pub all_links : length packets ≡ 256
 
 -- it reads what the definitions read off these entries
 pub record IsIndexOf (entries : List Entry) (r : Readings) : Type 0 where
   pub greatest : r.greatest ≡ greatest_stamp entries
-  pub read : AreRead entries r.pages r.received r.packets
+  pub read : AreRead entries r.received r.packets
 
 -- each count can be one more
 pub record CanCount (r : Readings) : Type 0 where
-  pub pages : All (λ n. n + 1 < 2 ^ 64) r.pages
   pub received : All (λ n. n + 1 < 2 ^ 64) r.received

@@ -12,16 +12,6 @@ pub(crate) fn link(from: NodeId, to: NodeId) -> usize
     16 * from.0 as usize + to.0 as usize
 }
 
-/// The place of the node whose page call it is, if it is one.
-pub(crate) fn page_place(event: Event) -> Option<usize>
-    ensures { result ≡ at.page_place event }
-{
-    match event {
-        Event::PageOut { node, .. } | Event::PageIn { node, .. } => Some(node.0 as usize),
-        _ => None,
-    }
-}
-
 /// The place of the link whose packet is received, if one is.
 pub(crate) fn receipt_place(event: Event) -> Option<usize>
     ensures { result ≡ at.receipt_place event }

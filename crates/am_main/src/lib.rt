@@ -21,6 +21,3 @@ pub use crate::faults::StepFault;
 pub use crate::laws::have_one_answer;
 pub use crate::steps::step_text;
 pub use crate::top::{Status, am2};
-
-#[cfg(test)]
-mod tests;

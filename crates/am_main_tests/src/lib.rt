@@ -1,7 +1,19 @@
-//! Tests of the top call over sources and sinks that fail.
+//! Tests of the top call: each command over texts, and over sources and sinks that fail.
 #![tactic(auto)]
 
+#[cfg(test)]
+mod answers;
+#[cfg(test)]
+mod direct;
+#[cfg(test)]
+mod faults;
+#[cfg(test)]
+mod packet;
+#[cfg(test)]
+mod scripts;
 #[cfg(test)]
 mod tables;
 #[cfg(test)]
 mod tests;
+#[cfg(test)]
+mod texts;

@@ -1,152 +1,189 @@
-use crate::tables::{CASES, COMMANDS, Device, PATH, PATH_REPORT};
-use am_io::{MemorySink, MemorySource, Sink, Source};
-use am_main::am2;
+use crate::answers::{SOUND, answer_of, words_of};
+use crate::scripts;
+use crate::tables::{Device, PATH, PATH_REPORT};
+use crate::texts::{CHECKS, CONDITIONS, COUNTS, IDLE, NO_FORMS, RUNS, Row, STEPS};
+use am_main::{Command, StepFault, command_of, step_text};
+use am_office::Condition;
 use std::alloc::{AllocError, Global};
 use std::test::Fail;
 use std::thread::Threads;
 
-/// Moves all bytes in one call, and never fails.
-const SOUND: Device = Device {
-    most: 65_536,
-    fails: 0,
-};
+/// Moves a few bytes in a call, and never fails.
+const SLOW: Device = Device { most: 7, fails: 0 };
 
-/// What a command answered: its status, what the sink holds, and how many reads and writes failed.
-#[derive(Drop)]
-struct Answer {
-    status: u8,
-    printed: Vec<u8>,
-    read_faults: u64,
-    write_faults: u64,
-}
-
-fn words_of(alloc: Global, line: &str) -> Result<Vec<String>, AllocError> {
-    let mut words = Vec::new(alloc);
-    for word in line.split(' ') {
-        words.push(String::from_str(alloc, word)?)?;
-    }
-    Ok(words)
-}
-
-/// The failing calls of a device: its own and the next one, so that a second try would be counted.
-fn fails_of(alloc: Global, device: Device) -> Result<Vec<u32>, AllocError> {
-    let mut fails = Vec::new(alloc);
-    if device.fails > 0 {
-        fails.push(device.fails)?;
-        fails.push(device.fails.saturating_add(1))?;
-    }
-    Ok(fails)
-}
-
-fn answer_of<R: Threads + Sync>(
+/// The number of the first row that is answered otherwise, if there is one.
+fn first_other<R: Threads + Sync>(
     rt: &R,
     alloc: Global,
     line: &str,
-    text: &str,
-    source: Device,
-    sink: Device,
-) -> Result<Answer, AllocError> {
-    let words = words_of(alloc, line)?;
-    let bytes = Vec::from_slice(alloc, text.as_bytes())?;
-    let mut from = MemorySource::new(bytes, source.most.max(1), fails_of(alloc, source)?);
-    let mut to = MemorySink::new(alloc, sink.most.max(1), fails_of(alloc, sink)?);
-    let status = am2(rt, alloc, &words, &mut from, &mut to);
-    Ok(Answer {
-        status: status.number,
-        printed: Vec::from_slice(alloc, to.bytes())?,
-        read_faults: from.faults(),
-        write_faults: to.faults(),
-    })
-}
-
-#[test]
-fn a_read_fails_or_a_write_fails(rt: HostRuntime) -> Result<(), Fail> {
-    for case in CASES {
-        let answer = answer_of(&rt, rt.alloc(), "step", PATH, case.source, case.sink)?;
-        assert_eq!(rt; answer.status, case.status);
-        assert_eq!(rt; answer.printed.as_slice(), case.printed.as_bytes());
-        assert_eq!(rt; answer.read_faults, u64::from(case.source.fails > 0));
-        assert_eq!(rt; answer.write_faults, u64::from(case.sink.fails > 0));
+    rows: &[Row],
+) -> Result<Option<usize>, AllocError> {
+    for (i, (scenario, rest, status, printed)) in rows.iter().enumerate() {
+        let text = format!(in alloc; "{scenario}{rest}")?;
+        let answer = answer_of(rt, alloc, line, text.as_bytes(), SLOW, SLOW)?;
+        if answer.status != *status || answer.printed.as_slice() != printed.as_bytes() {
+            return Ok(Some(i));
+        }
     }
-    Ok(())
-}
-
-/// The text has 9 parts of at most 16 bytes, and the tenth read finds its end.
-#[test]
-fn each_read_fails_in_turn(rt: HostRuntime) -> Result<(), Fail> {
-    for fails in 1..13u32 {
-        let source = Device { most: 16, fails };
-        let answer = answer_of(&rt, rt.alloc(), "step", PATH, source, SOUND)?;
-        let (status, printed) = if fails <= 10 {
-            (4, "read fault\n")
-        } else {
-            (0, PATH_REPORT)
-        };
-        assert_eq!(rt; answer.status, status, "read {fails}");
-        assert_eq!(rt; answer.printed.as_slice(), printed.as_bytes());
-        assert_eq!(rt; answer.read_faults, u64::from(fails <= 10));
-    }
-    Ok(())
-}
-
-/// The report has 22 parts of at most 16 bytes. What stands in front of the part that fails is printed.
-#[test]
-fn each_write_fails_in_turn(rt: HostRuntime) -> Result<(), Fail> {
-    for (number, part) in PATH_REPORT.as_bytes().chunks(16).enumerate() {
-        let fails = (number as u32).saturating_add(1);
-        let sink = Device { most: 16, fails };
-        let answer = answer_of(&rt, rt.alloc(), "step", PATH, SOUND, sink)?;
-        assert_eq!(rt; answer.status, 5);
-        assert_eq!(rt; answer.printed.len(), number.saturating_mul(16));
-        assert!(rt; PATH_REPORT.as_bytes().starts_with(&answer.printed));
-        assert!(rt; !part.is_empty());
-        assert_eq!(rt; answer.write_faults, 1);
-    }
-    Ok(())
+    Ok(None)
 }
 
 #[test]
-fn each_command_ends_at_a_fault(rt: HostRuntime) -> Result<(), Fail> {
-    let failing = Device { most: 16, fails: 2 };
-    for (line, text, front) in COMMANDS {
-        let unread = answer_of(&rt, rt.alloc(), line, text, failing, SOUND)?;
-        assert_eq!(rt; unread.status, 4, "{line}");
-        assert_eq!(rt; unread.printed.as_slice(), b"read fault\n".as_slice());
-        assert_eq!(rt; unread.read_faults, 1);
-        let cut = answer_of(&rt, rt.alloc(), line, text, SOUND, failing)?;
-        assert_eq!(rt; cut.status, 5, "{line}");
-        assert_eq!(rt; cut.printed.as_slice(), front.as_bytes());
-        assert_eq!(rt; cut.write_faults, 1);
-        let whole = answer_of(&rt, rt.alloc(), line, text, SOUND, SOUND)?;
-        assert_eq!(rt; whole.status, 0, "{line}");
-    }
-    Ok(())
-}
-
-/// It reads nothing, so no read of it fails.
-#[test]
-fn a_made_run_ends_at_a_failed_write(rt: HostRuntime) -> Result<(), Fail> {
-    let source = Device { most: 16, fails: 1 };
-    let sink = Device { most: 16, fails: 2 };
-    let answer = answer_of(&rt, rt.alloc(), "make 1", "", source, sink)?;
-    assert_eq!(rt; answer.status, 5);
-    assert_eq!(rt; answer.printed.as_slice(), b"am2 make 1\ncalls".as_slice());
-    assert_eq!(rt; answer.read_faults, 0);
-    Ok(())
-}
-
-/// A line that fails to be written leaves its front: the usage line, and what is told of a fault.
-#[test]
-fn no_text_is_tried_twice(rt: HostRuntime) -> Result<(), Fail> {
-    let sink = Device { most: 8, fails: 2 };
-    for (line, text, front) in [
-        ("stop", PATH, "usage: a"),
-        ("step", "am2 1\nspeed 3\n", "refused "),
+fn each_text_is_answered(rt: HostRuntime) -> Result<(), Fail> {
+    for (line, rows) in [
+        ("step", STEPS.as_slice()),
+        ("step", CONDITIONS.as_slice()),
+        ("run", RUNS.as_slice()),
+        ("check step", CHECKS.as_slice()),
     ] {
-        let answer = answer_of(&rt, rt.alloc(), line, text, SOUND, sink)?;
-        assert_eq!(rt; answer.status, 5, "{line}");
-        assert_eq!(rt; answer.printed.as_slice(), front.as_bytes());
-        assert_eq!(rt; answer.write_faults, 1);
+        assert!(rt;
+            first_other(&rt, rt.alloc(), line, rows)?.is_none(),
+            "{line}"
+        );
     }
+    Ok(())
+}
+
+#[test]
+fn words_are_counted(rt: HostRuntime) -> Result<(), Fail> {
+    for (line, text, status, printed) in COUNTS {
+        let answer = answer_of(&rt, rt.alloc(), line, text, SLOW, SLOW)?;
+        assert!(rt; answer.status == status);
+        assert!(rt; answer.printed.as_slice() == printed);
+    }
+    Ok(())
+}
+
+/// One byte more than a command takes.
+#[test]
+fn long_texts_are_not_read_to_their_end(rt: HostRuntime) -> Result<(), Fail> {
+    for (line, length, status, printed) in [
+        ("step", 16_777_217, 7, "input too long\n"),
+        ("count 1 0", 1_048_577, 11, "text too long\n"),
+    ] {
+        let text = vec![in rt.alloc(); b' '; length]?;
+        let answer = answer_of(&rt, rt.alloc(), line, text.as_slice(), SOUND, SOUND)?;
+        assert!(rt; answer.status == status);
+        assert!(rt; answer.printed.as_slice() == printed.as_bytes());
+    }
+    Ok(())
+}
+
+#[test]
+fn a_text_without_a_sink(rt: HostRuntime) {
+    let path = step_text(rt.alloc(), PATH.as_bytes());
+    assert!(rt; matches!(path, Ok(text) if text.as_slice() == PATH_REPORT.as_bytes()));
+    let idle = step_text(rt.alloc(), IDLE.as_bytes());
+    assert!(rt;
+        matches!(
+            idle,
+            Err(StepFault::NotEnabled {
+                line: 5,
+                condition: Condition::NoMessage
+            })
+        )
+    );
+}
+
+// The scenario with each of 4096 packets late by 16 emissions.
+fn late_text(alloc: Global) -> Result<Vec<u8>, AllocError> {
+    let mut text = Vec::from_slice(alloc, scripts::HEAD.as_bytes())?;
+    for number in 1..4097u32 {
+        text.extend_from_slice(b"plan 0 1 ")?;
+        text.extend_from_slice(number.to_string(alloc)?.as_bytes())?;
+        text.extend_from_slice(b" late 16\n")?;
+    }
+    text.extend_from_slice(scripts::SCRIPTS.as_bytes())?;
+    Ok(text)
+}
+
+#[test]
+fn is_unknown_where_each_packet_is_late(rt: HostRuntime) -> Result<(), Fail> {
+    let text = late_text(rt.alloc())?;
+    let answer = answer_of(&rt, rt.alloc(), "run", text.as_slice(), SOUND, SOUND)?;
+    assert!(rt; answer.status == 0);
+    let totals = b"\ntotals ran 0 returned 0 unknown 2 unknown-but-ran 0 pending 0\n";
+    assert!(rt; answer.printed.ends_with(totals));
+    Ok(())
+}
+
+// The scenario of two clients and a server with so many turns.
+fn turns_text(alloc: Global, turns: u32) -> Result<Vec<u8>, AllocError> {
+    let mut text = Vec::from_slice(alloc, b"am2 1\nturns ")?;
+    text.extend_from_slice(turns.to_string(alloc)?.as_bytes())?;
+    text.extend_from_slice(scripts::BEHIND_TURNS.as_bytes())?;
+    text.extend_from_slice(scripts::SCRIPTS.as_bytes())?;
+    Ok(text)
+}
+
+#[test]
+fn comes_to_its_end_with_turns(rt: HostRuntime) -> Result<(), Fail> {
+    for count in 0..34u32 {
+        let turns = if count == 33 { 1000 } else { count };
+        let text = turns_text(rt.alloc(), turns)?;
+        let answer = answer_of(&rt, rt.alloc(), "run", text.as_slice(), SOUND, SOUND)?;
+        assert!(rt; answer.status == 0);
+        assert!(rt; answer.printed.ends_with(b" pending 0\n"));
+    }
+    Ok(())
+}
+
+/// It reads nothing: the first read would fail.
+#[test]
+fn makes_a_run_of_a_number(rt: HostRuntime) -> Result<(), Fail> {
+    let unread = Device { most: 7, fails: 1 };
+    for (line, front) in [
+        ("make 0", "am2 make 0\ncalls 1744\nentries "),
+        ("make 1", "am2 make 1\ncalls 1744\nentries "),
+    ] {
+        let answer = answer_of(&rt, rt.alloc(), line, b"", unread, SOUND)?;
+        assert!(rt; answer.status == 0);
+        assert!(rt; answer.printed.starts_with(front.as_bytes()));
+        assert!(rt; answer.printed.ends_with(b" pending 0\n"));
+    }
+    Ok(())
+}
+
+#[test]
+fn other_words_are_usage(rt: HostRuntime) -> Result<(), Fail> {
+    let usage =
+        b"usage: am2 step | am2 run | am2 make N | am2 segments | am2 session | am2 count W U | am2 check step | am2 check run\n";
+    for line in NO_FORMS {
+        let answer = answer_of(&rt, rt.alloc(), line, b"", SLOW, SLOW)?;
+        assert!(rt; answer.status == 2, "{line}");
+        assert!(rt; answer.printed.as_slice() == usage.as_slice());
+    }
+    Ok(())
+}
+
+#[test]
+fn forms_of_words(rt: HostRuntime) -> Result<(), Fail> {
+    let alloc = rt.alloc();
+    let none: Vec<String> = Vec::new(alloc);
+    assert!(rt; command_of(&none).is_none());
+    assert!(rt; matches!(command_of(&words_of(alloc, "step")?), Some(Command::Step)));
+    assert!(rt; matches!(command_of(&words_of(alloc, "run")?), Some(Command::Run)));
+    assert!(rt;
+        matches!(
+            command_of(&words_of(alloc, "make 0")?),
+            Some(Command::Make(0))
+        )
+    );
+    let most = words_of(alloc, "make 18446744073709551615")?;
+    assert!(rt;
+        matches!(
+            command_of(&most),
+            Some(Command::Make(18_446_744_073_709_551_615))
+        )
+    );
+    assert!(rt;
+        matches!(
+            command_of(&words_of(alloc, "count 8 10000")?),
+            Some(Command::Count {
+                nodes: 8,
+                turns: 10_000
+            })
+        )
+    );
     Ok(())
 }

@@ -12,7 +12,7 @@ pub use endings::Fate;
 pub use fates::fate;
 pub use roles::{accepted_of, return_of, run_of, unknown_of};
 use std::marker::Model;
-pub use touched::{node_touched, touches};
+pub use touched::node_touched;
 
 /// What a handler does when a message runs it.
 #[derive(Clone, Copy, PartialEq, Eq, Debug)]

@@ -1,0 +1,59 @@
+use crate::tables::Device;
+use am_io::{MemorySink, MemorySource, Sink, Source};
+use am_main::am2;
+use std::alloc::{AllocError, Global};
+use std::thread::Threads;
+
+/// Moves all bytes in one call, and never fails.
+pub const SOUND: Device = Device {
+    most: 65_536,
+    fails: 0,
+};
+
+/// What a command answered: its status, what the sink holds, and how many reads and writes failed.
+#[derive(Drop)]
+pub struct Answer {
+    pub status: u8,
+    pub printed: Vec<u8>,
+    pub read_faults: u64,
+    pub write_faults: u64,
+}
+
+pub fn words_of(alloc: Global, line: &str) -> Result<Vec<String>, AllocError> {
+    let mut words = Vec::new(alloc);
+    for word in line.split(' ') {
+        words.push(String::from_str(alloc, word)?)?;
+    }
+    Ok(words)
+}
+
+/// The failing calls of a device: its own and the next one, so that a second try would be counted.
+fn fails_of(alloc: Global, device: Device) -> Result<Vec<u32>, AllocError> {
+    let mut fails = Vec::new(alloc);
+    if device.fails > 0 {
+        fails.push(device.fails)?;
+        fails.push(device.fails.saturating_add(1))?;
+    }
+    Ok(fails)
+}
+
+pub fn answer_of<R: Threads + Sync>(
+    rt: &R,
+    alloc: Global,
+    line: &str,
+    text: &[u8],
+    source: Device,
+    sink: Device,
+) -> Result<Answer, AllocError> {
+    let words = words_of(alloc, line)?;
+    let bytes = Vec::from_slice(alloc, text)?;
+    let mut from = MemorySource::new(bytes, source.most.max(1), fails_of(alloc, source)?);
+    let mut to = MemorySink::new(alloc, sink.most.max(1), fails_of(alloc, sink)?);
+    let status = am2(rt, alloc, &words, &mut from, &mut to);
+    Ok(Answer {
+        status: status.number,
+        printed: Vec::from_slice(alloc, to.bytes())?,
+        read_faults: from.faults(),
+        write_faults: to.faults(),
+    })
+}

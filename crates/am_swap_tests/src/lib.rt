@@ -1,0 +1,9 @@
+//! Tests of swapping: a disk whose calls fail, and the images of bodies, by hand.
+#![tactic(auto)]
+
+#[cfg(test)]
+mod devices;
+#[cfg(test)]
+mod images;
+#[cfg(test)]
+mod tests;
