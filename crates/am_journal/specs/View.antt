@@ -61,9 +61,6 @@ abbrev pub HasRoomFor : IndexView → Option Packet → Type 0
 HasRoomFor v None = Unit {0}
 HasRoomFor v (Some p) = ((from_of p).0 < 16) × ((receiver_of p).0 < 16) × (is_ready_on v (from_of p) (receiver_of p) ≡ true)
 
-abbrev pub node_of : ℕ → NodeId
-node_of n = record { 0 = n }
-
 -- the numbers and the packets of each link are those of the entries
 pub record AreRead (entries : List Entry) (of_links : List ℕ) (packets : List (List Packet)) : Type 0 where
   pub received : (from to n : ℕ) → to < 16 → slice_get of_links (16 * from + to) ≡ Some n → n ≡ receipts (node_at from) (node_at to) entries
