@@ -89,7 +89,7 @@ arrives i e s p x w = by_arrival (arrival_in i p.from p.channel p.seq p.attempt)
 
 -- a flight of the message
 pub record IsFlightOf (s : State) (m : Message) (f : Flying) : Type 0 where
-  pub flying_of-has_serial : flying_of m.serial s.body.in_flight ≡ Some f
+  pub found : flying_of m.serial s.body.in_flight ≡ Some f
   pub same : m.serial ≡ f.message.serial
 
 flight : (s : State) (m : Message) → is_some (flying_of m.serial s.body.in_flight) ≡ true → (f : Flying) × IsFlightOf s m f
@@ -97,7 +97,7 @@ flight s m there = by_flight (flying_of m.serial s.body.in_flight) refl there
   where
     by_flight : (g : Option Flying) → flying_of m.serial s.body.in_flight ≡ g → is_some g ≡ true → (f : Flying) × IsFlightOf s m f
     by_flight None is there = absurd (true≢false (sym there))
-    by_flight (Some f) is there = (f, record { flying_of-has_serial = is; same = same_serial-is m.serial f.message.serial (flying_of-has_serial m.serial s.body.in_flight f is) })
+    by_flight (Some f) is there = (f, record { found = is; same = same_serial-is m.serial f.message.serial (flying_of-has_serial m.serial s.body.in_flight f is) })
 
 settled_serial : (limit : ℕ) (m n : Message) (bounces : ℕ) (v : Verdict) → m.serial ≡ n.serial → settle_by limit m bounces v ≡ settle_by limit n bounces v
 settled_serial limit m n bounces Verdicts.Accepted same = ap Got.Delivered same
