@@ -14,10 +14,9 @@ use Rattle.am_office.specs.declared.Event.TheVariants as Events
 use Rattle.am_office.specs.declared.Entry.{Entry}
 use Rattle.am_office.specs.Entries.{emitted_of}
 use Rattle.am_model.specs.Channels.{emitted, is_on_link}
-use Rattle.am_model.specs.History.{is_page_call}
+use Rattle.am_model.specs.History.{is_page_call, page_calls}
 use Rattle.am_model.proofs.Received.{bit}
 use Rattle.am_model.specs.Packets.{receiver_of, from_of}
-use Rattle.am_local.specs.Readings.{page_calls}
 use Rattle.am_local.proofs.Growing.{emitted_append, readings_push}
 use Rattle.am_drain.specs.Made.{later_stamp}
 use Rattle.am_journal.specs.Kept.{items_of}

@@ -9,7 +9,7 @@ use Rattle.am_office.specs.declared.Event.TheVariants as Events
 use Rattle.am_office.specs.declared.Entry.{Entry}
 use Rattle.am_model.specs.Channels.{emitted}
 use Rattle.am_model.specs.Packets.{receiver_of, from_of}
-use Rattle.am_local.specs.Readings.{page_calls}
+use Rattle.am_model.specs.History.{page_calls}
 use Rattle.am_drain.specs.Made.{later_stamp}
 use Rattle.am_journal.specs.Places.{link}
 

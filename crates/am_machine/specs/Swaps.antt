@@ -4,9 +4,8 @@ use Rattle.am_names.specs.declared.EndpointId.{EndpointId}
 use Rattle.am_names.specs.declared.NodeId.{NodeId}
 use Rattle.am_office.specs.declared.Entry.{Entry}
 use Rattle.am_model.specs.Endpoint.{Body, is_on_disk}
-use Rattle.am_model.specs.History.{state_of}
+use Rattle.am_model.specs.History.{state_of, page_calls}
 use Rattle.am_model.specs.Layout.{EndSetting, Layout}
-use Rattle.am_local.specs.Readings.{page_calls}
 use Rattle.am_local.specs.Together.{faults_of}
 use Rattle.am_device.specs.Memory.{Store, held_for}
 use Rattle.am_image.specs.Image.{image}
