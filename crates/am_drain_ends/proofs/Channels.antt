@@ -19,7 +19,7 @@ use Rattle.am_model.specs.History.{channel_to}
 use Rattle.am_model.proofs.Ends.{bound_push, attempt_push}
 use Rattle.am_model.proofs.Names.{same_serial-is, same_node-refl}
 use Rattle.am_model.proofs.Received.{bit}
-use Rattle.am_laws_order.proofs.Effects.{landed_in}
+use Rattle.am_model.specs.Changes.{settled_in}
 use Rattle.am_scenario_types.specs.Lists.{ScenarioLists}
 use Rattle.am_scripts.specs.Layout.{layout_of}
 use Rattle.am_scripts.specs.Links.{nodes_of}
@@ -62,7 +62,7 @@ at_free s past c is = ap (bound_work s past c) is
 pub record IsAside (past : List Entry) (x : Entry) (c : Channel) : Type 0 where
   pub bound' : (binds c x.event x.outcome || frees c x.event x.outcome) ≡ false
   pub sent' : sends c x.event x.outcome ≡ false
-  pub stays : (m : Message) → bound_message c past ≡ Some m → StaysAloft m.serial (landed_in x.event x.outcome)
+  pub stays : (m : Message) → bound_message c past ≡ Some m → StaysAloft m.serial (settled_in x.event x.outcome)
 
 pub channel_kept : (s : ScenarioLists) (past : List Entry) (x : Entry) (c : Channel) → Acts x.event → IsAside past x c → channel_work s (past ++ x ∷ []) c ≤ channel_work s past c
 channel_kept s past x c acts k = by_message (bound_message c past) refl

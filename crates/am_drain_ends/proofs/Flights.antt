@@ -18,12 +18,11 @@ use Rattle.am_office.specs.Entries.{touches}
 use Rattle.am_model.specs.declared.Flying.{Flying}
 use Rattle.am_model.specs.Choice.{without_first}
 use Rattle.am_model.specs.Endpoint.{State}
-use Rattle.am_model.specs.Changes.{bounces_of, called, changed, expired, received, bound, flying_of, marked, with_marked}
+use Rattle.am_model.specs.Changes.{bounces_of, called, changed, expired, received, bound, flying_of, marked, with_marked, settled_by, settled_in}
 use Rattle.am_model.specs.Layout.{Layout}
 use Rattle.am_model.specs.History.{state_of, bounced}
 use Rattle.am_model.proofs.Each.{state_of_push}
 use Rattle.am_model.proofs.Names.{same_serial-is}
-use Rattle.am_laws_order.proofs.Effects.{landed_by, landed_in}
 
 -- a call, a send, a time-out or a receipt
 abbrev pub Acts : Event → Type 0
@@ -96,12 +95,12 @@ bound_kept : (t : Serial) (st : State) (o : Outcome) → bounces_in t st.body.in
 bound_kept t st (Out.Sent m peer channel seq attempt number) = append_bounces t st.body.in_flight (record { message = m; bounces = bounces_of st.body.replies st.body.requests; answered = false })
 bound_kept t st o = omega arith
 
-expired_kept : (t : Serial) (st : State) (node peer : NodeId) (channel : ℕ) (o : Outcome) → StaysAloft t (landed_in (Events.Expire node peer channel) o) → bounces_in t st.body.in_flight ≤ bounces_in t (expired st o).body.in_flight
+expired_kept : (t : Serial) (st : State) (node peer : NodeId) (channel : ℕ) (o : Outcome) → StaysAloft t (settled_in (Events.Expire node peer channel) o) → bounces_in t st.body.in_flight ≤ bounces_in t (expired st o).body.in_flight
 expired_kept t st node peer channel (Out.Delivered u) stays = gone_bounces t u st.body.in_flight (stays u refl)
 expired_kept t st node peer channel (Out.Unknown u) stays = gone_bounces t u st.body.in_flight (stays u refl)
 expired_kept t st node peer channel o stays = omega arith
 
-received_kept : (t : Serial) (e : EndpointId) (st : State) (r : Received) → StaysAloft t (landed_by r) → bounces_in t st.body.in_flight ≤ bounces_in t (received e st r).body.in_flight
+received_kept : (t : Serial) (e : EndpointId) (st : State) (r : Received) → StaysAloft t (settled_by r) → bounces_in t st.body.in_flight ≤ bounces_in t (received e st r).body.in_flight
 received_kept t e st (Got.Accepted m answer) stays = omega (arith, marked_bounces t m.about st.body.in_flight)
 received_kept t e st (Got.Refused m NotResident answer) stays = omega arith
 received_kept t e st (Got.Delivered u) stays = gone_bounces t u st.body.in_flight (stays u refl)
@@ -109,7 +108,7 @@ received_kept t e st (Got.Requeued u cause bounces) stays = gone_bounces t u st.
 received_kept t e st (Got.Returned u cause) stays = gone_bounces t u st.body.in_flight (stays u refl)
 received_kept t e st r stays = omega arith
 
-kept : (t : Serial) (e : EndpointId) (st : State) (event : Event) (o : Outcome) → Acts event → StaysAloft t (landed_in event o) → bounces_in t st.body.in_flight ≤ bounces_in t (changed e st event o).body.in_flight
+kept : (t : Serial) (e : EndpointId) (st : State) (event : Event) (o : Outcome) → Acts event → StaysAloft t (settled_in event o) → bounces_in t st.body.in_flight ≤ bounces_in t (changed e st event o).body.in_flight
 kept t e st (Events.Call actor end call) o acts stays =
     let same : bounces_in t (called st call o).body.in_flight ≡ bounces_in t st.body.in_flight = ap (bounces_in t) (called_flights st call o) in
     omega (arith, same)
@@ -120,7 +119,7 @@ kept t e st (Events.Receive node peer number) o acts stays = omega arith
 kept t e st event o acts stays = absurd acts
 
 -- the flights of an endpoint after an entry: one that doesn't land bounced as often at least
-pub flights_kept : (layout : Layout) (past : List Entry) (x : Entry) (t : Serial) → Acts x.event → StaysAloft t (landed_in x.event x.outcome) → bounces_in t (state_of layout past t.source).body.in_flight ≤ bounces_in t (state_of layout (past ++ x ∷ []) t.source).body.in_flight
+pub flights_kept : (layout : Layout) (past : List Entry) (x : Entry) (t : Serial) → Acts x.event → StaysAloft t (settled_in x.event x.outcome) → bounces_in t (state_of layout past t.source).body.in_flight ≤ bounces_in t (state_of layout (past ++ x ∷ []) t.source).body.in_flight
 flights_kept layout past x t acts stays = by_test (touches t.source x) refl
   where
     by_test : (b : Bool) → touches t.source x ≡ b → bounces_in t (state_of layout past t.source).body.in_flight ≤ bounces_in t (state_of layout (past ++ x ∷ []) t.source).body.in_flight

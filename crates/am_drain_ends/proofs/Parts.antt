@@ -8,7 +8,7 @@ use Rattle.am_names.specs.declared.NodeId.{NodeId}
 use Rattle.am_office.specs.declared.Entry.{Entry}
 use Rattle.am_model.specs.Endpoint.{is_on_disk}
 use Rattle.am_model.specs.Layout.{Fault}
-use Rattle.am_model.specs.History.{channel_to, is_page_call}
+use Rattle.am_model.specs.History.{channel_to, is_page_call, page_calls}
 use Rattle.am_scenario_types.specs.declared.parts.ThreadLine.{ThreadLine}
 use Rattle.am_scenario_types.specs.Lists.{ScenarioLists}
 use Rattle.am_scripts.specs.Layout.{layout_of}
@@ -17,7 +17,7 @@ use Rattle.am_scripts.specs.Scripts.{call_made, script_of}
 use Rattle.am_scripts.specs.Standings.{standings}
 use Rattle.am_drain.proofs.Scripts.{calls_same}
 use Rattle.am_drain_steps.specs.Work.{channel_work, link_work, node_work, thread_work, new_request, is_fault_left, is_standing_on_disk, work}
-use Rattle.am_drain_steps.proofs.Falling.{bit_le, disk_fewer, page_calls, fault_bit}
+use Rattle.am_drain_steps.proofs.Falling.{bit_le, disk_fewer, fault_bit}
 use Rattle.am_drain_ends.proofs.Sums.{over_channels}
 use Rattle.am_drain_ends.proofs.Flights.{Acts, places_kept}
 use Rattle.am_drain_ends.proofs.Links.{links_work, sent_by, taken_by}

@@ -26,13 +26,12 @@ use Rattle.am_office.specs.declared.Entry.{Entry}
 use Rattle.am_office.specs.Entries.{answer_by, answer_packet}
 use Rattle.am_model.specs.declared.Flying.{Flying}
 use Rattle.am_model.specs.Endpoint.{State, verdict}
-use Rattle.am_model.specs.Changes.{flying_of, without_flight, received as received_state}
+use Rattle.am_model.specs.Changes.{flying_of, without_flight, received as received_state, settled_by}
 use Rattle.am_model.specs.Cluster.{InFlightIsBound, IsFlying, in_flight}
 use Rattle.am_model.specs.Layout.{declared}
 use Rattle.am_model.specs.Channels.{Channel, Arrival, Stale, Again, Fresh, same_channel, bound_message, frees_by, arrival, mark, emitted, attempt, sequence}
 use Rattle.am_model.specs.History.{state_of, channel_to, next_number, decided, arrive, settle_by, counts, settle, receive}
 use Rattle.am_model.proofs.Ends.{bound_push}
-use Rattle.am_laws_order.proofs.Effects.{landed_by}
 use Rattle.am_model.proofs.Names.{same_serial-is}
 use Rattle.am_model.proofs.Chosen.{flying_of-has_serial}
 use Rattle.am_laws_messages.proofs.Alls.{all_found}
@@ -88,7 +87,7 @@ took_answered s past stamp node peer number channel seq attempt copy r a k is =
     omega (arith, links_emit s past x p (taken_by (past ++ x ∷ [])) (ap (answer_packet node peer channel seq attempt stamp) is) k.node' k.peer', links_take s past x node peer number k.packet refl k.peer' k.node' k.due', k.copy')
 
 -- an entry that frees no channel
-unfreed : (s : ScenarioLists) (past : List Entry) (stamp : ℕ) (node peer : NodeId) (number channel seq attempt : ℕ) (r : Received) → frees_by r ≡ false → landed_by r ≡ None → channels_work s (past ++ got stamp node peer number channel seq attempt r ∷ []) ≤ channels_work s past
+unfreed : (s : ScenarioLists) (past : List Entry) (stamp : ℕ) (node peer : NodeId) (number channel seq attempt : ℕ) (r : Received) → frees_by r ≡ false → settled_by r ≡ None → channels_work s (past ++ got stamp node peer number channel seq attempt r ∷ []) ≤ channels_work s past
 unfreed s past stamp node peer number channel seq attempt r none stays =
     let x : Entry = got stamp node peer number channel seq attempt r in
     channels_fewer s past x tt
@@ -160,7 +159,7 @@ source_known : (s : ScenarioLists) (past : List Entry) (node peer : NodeId) (cha
 source_known s past node peer channel m k = (bound_aloft (layout_of s) past (of_packets s k.run.packet) k.run.history (channel_to node peer channel) m k.is).source
 
 -- the channel is free then
-lands : (s : ScenarioLists) (past : List Entry) (stamp : ℕ) (node peer : NodeId) (number channel seq attempt a : ℕ) (m : Message) (r : Received) → Settles s past node peer channel m → frees_by r ≡ true → landed_by r ≡ Some m.serial → a ≤ channel_work s past (channel_to node peer channel) → channels_work s (past ++ got stamp node peer number channel seq attempt r ∷ []) + a ≤ channels_work s past
+lands : (s : ScenarioLists) (past : List Entry) (stamp : ℕ) (node peer : NodeId) (number channel seq attempt a : ℕ) (m : Message) (r : Received) → Settles s past node peer channel m → frees_by r ≡ true → settled_by r ≡ Some m.serial → a ≤ channel_work s past (channel_to node peer channel) → channels_work s (past ++ got stamp node peer number channel seq attempt r ∷ []) + a ≤ channels_work s past
 lands s past stamp node peer number channel seq attempt a m r k frees' lands' least =
     let x : Entry = got stamp node peer number channel seq attempt r in
     let own : (frees_by r && same_channel (channel_to node peer channel) node peer channel) ≡ true = ap (λ (b : Bool). b && same_channel (channel_to node peer channel) node peer channel) frees' ∙ channel_self node peer channel in

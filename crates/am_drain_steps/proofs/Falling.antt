@@ -15,7 +15,7 @@ use Rattle.am_model.specs.Endpoint.{State, is_on_disk}
 use Rattle.am_model.specs.Changes.{flying_of, paged_in}
 use Rattle.am_model.specs.Layout.{Layout, EndSetting, Fault, has_id, declared}
 use Rattle.am_model.specs.Channels.{Channel, bound_message, attempt, emitted}
-use Rattle.am_model.specs.History.{channel_to, bounced, is_page_call, page, state_of}
+use Rattle.am_model.specs.History.{channel_to, bounced, is_page_call, page, state_of, page_calls}
 use Rattle.am_model.proofs.Ends.{attempt_push}
 use Rattle.am_model.proofs.Received.{bit}
 use Rattle.am_model.proofs.Names.{same_end-is, same_node-is, same_node-refl}
@@ -124,9 +124,6 @@ disk_less layout past next e h on off (x ∷ xs) known = by_test (same_end e x.i
         omega (arith, sum_by-cons on_disk_bit (stand layout next x) (map (stand layout next) xs), sum_by-cons on_disk_bit (stand layout past x) (map (stand layout past) xs), bit_le (is_on_disk (state_of layout next x.id).head.place) (is_on_disk (state_of layout past x.id).head.place) (h x.id), later k)
 
 -- ---- faults that are left
-
-abbrev pub page_calls : NodeId → List Entry → ℕ
-page_calls node past = count_by (λ (x : Entry). is_page_call node x.event) past
 
 abbrev pub fault_bit : List Entry → Fault → ℕ
 fault_bit past f = cond (is_fault_left past f) 1 0

@@ -21,7 +21,7 @@ use Rattle.am_office.specs.Entries.{touches, ends_touched}
 use Rattle.am_model.specs.Endpoint.{State, is_on_host}
 use Rattle.am_model.specs.Changes.{called, left, reached, received, expired, bound, paged_out, paged_in, put, changed}
 use Rattle.am_model.specs.Layout.{Layout, EndSetting, AreApart, IsLawful, has_id, declared, opening_by, opening_place}
-use Rattle.am_model.specs.History.{MayFollow, state_of, failing, is_in_range, is_home, is_in_frame, is_frame_held}
+use Rattle.am_model.specs.History.{MayFollow, state_of, failing, is_in_range, holds_frame, is_home, is_home_by, is_in_frame, is_frame_held}
 use Rattle.am_model.proofs.Each.{over_each, state_of_push}
 use Rattle.am_model.proofs.Names.{same_end-refl, same_end-is, same_node-is}
 use Rattle.am_model.proofs.Received.{one_touched}
@@ -110,19 +110,16 @@ or_parts : (P : Type 0) (a b : Bool) → (a || b) ≡ true → (a ≡ true → P
 or_parts P true b h first second = first refl
 or_parts P false b h first second = second h
 
-abbrev at_home : EndpointId → NodeId → EndSetting → Bool
-at_home e node s = same_end e s.id && same_node node s.node
-
 -- no other setting has this number
-no_other : (e : EndpointId) (node : NodeId) (x : EndSetting) (xs : List EndSetting) → same_end e x.id ≡ true → list_any (λ (s : EndSetting). same_end x.id s.id) xs ≡ false → list_any (at_home e node) xs ≡ true → ⊥
+no_other : (e : EndpointId) (node : NodeId) (x : EndSetting) (xs : List EndSetting) → same_end e x.id ≡ true → list_any (λ (s : EndSetting). same_end x.id s.id) xs ≡ false → list_any (is_home_by e node) xs ≡ true → ⊥
 no_other e node x [] own none h = true≢false (sym h)
 no_other e node x (y ∷ ys) own none h =
-    or_parts ⊥ (at_home e node y) (list_any (at_home e node) ys) h
-    (λ (here : at_home e node y ≡ true).
+    or_parts ⊥ (is_home_by e node y) (list_any (is_home_by e node) ys) h
+    (λ (here : is_home_by e node y ≡ true).
     let both = and_parts (same_end e y.id) (same_node node y.node) here in
     let same : same_end x.id y.id ≡ true = ap (λ (i : EndpointId). same_end i y.id) (sym (same_end-is e x.id own)) ∙ both.0 in
     true≢false (sym same ∙ first_false (same_end x.id y.id) (list_any (λ (s : EndSetting). same_end x.id s.id) ys) none))
-    (λ (later : list_any (at_home e node) ys ≡ true). no_other e node x ys own (rest_false (same_end x.id y.id) (list_any (λ (s : EndSetting). same_end x.id s.id) ys) none) later)
+    (λ (later : list_any (is_home_by e node) ys ≡ true). no_other e node x ys own (rest_false (same_end x.id y.id) (list_any (λ (s : EndSetting). same_end x.id s.id) ys) none) later)
   where
     first_false : (a b : Bool) → (a || b) ≡ false → a ≡ false
     first_false true b h = h
@@ -133,34 +130,30 @@ no_other e node x (y ∷ ys) own none h =
     rest_false false b h = h
 
 -- an endpoint has one node
-one_home : (e : EndpointId) (n m : NodeId) (xs : List EndSetting) → AreApart (λ (s t : EndSetting). same_end s.id t.id) xs → list_any (at_home e n) xs ≡ true → list_any (at_home e m) xs ≡ true → n ≡ m
+one_home : (e : EndpointId) (n m : NodeId) (xs : List EndSetting) → AreApart (λ (s t : EndSetting). same_end s.id t.id) xs → list_any (is_home_by e n) xs ≡ true → list_any (is_home_by e m) xs ≡ true → n ≡ m
 one_home e n m [] apart h k = absurd (true≢false (sym h))
 one_home e n m (x ∷ xs) apart h k =
-    or_parts (n ≡ m) (at_home e n x) (list_any (at_home e n) xs) h
-    (λ (here : at_home e n x ≡ true).
+    or_parts (n ≡ m) (is_home_by e n x) (list_any (is_home_by e n) xs) h
+    (λ (here : is_home_by e n x ≡ true).
     let one = and_parts (same_end e x.id) (same_node n x.node) here in
-    or_parts (n ≡ m) (at_home e m x) (list_any (at_home e m) xs) k
-    (λ (there : at_home e m x ≡ true). same_node-is n x.node one.1 ∙ sym (same_node-is m x.node (and_parts (same_end e x.id) (same_node m x.node) there).1))
-    (λ (later : list_any (at_home e m) xs ≡ true). absurd (no_other e m x xs one.0 apart.0 later)))
-    (λ (later : list_any (at_home e n) xs ≡ true).
-    or_parts (n ≡ m) (at_home e m x) (list_any (at_home e m) xs) k
-    (λ (there : at_home e m x ≡ true). absurd (no_other e n x xs (and_parts (same_end e x.id) (same_node m x.node) there).0 apart.0 later))
-    (λ (last : list_any (at_home e m) xs ≡ true). one_home e n m xs apart.1 later last))
-
--- whether an endpoint of the node lies in the frame
-abbrev lies_in : Layout → List Entry → NodeId → ℕ → EndSetting → Bool
-lies_in layout past node frame s = same_node node s.node && is_in_frame frame (state_of layout past s.id).head.place
+    or_parts (n ≡ m) (is_home_by e m x) (list_any (is_home_by e m) xs) k
+    (λ (there : is_home_by e m x ≡ true). same_node-is n x.node one.1 ∙ sym (same_node-is m x.node (and_parts (same_end e x.id) (same_node m x.node) there).1))
+    (λ (later : list_any (is_home_by e m) xs ≡ true). absurd (no_other e m x xs one.0 apart.0 later)))
+    (λ (later : list_any (is_home_by e n) xs ≡ true).
+    or_parts (n ≡ m) (is_home_by e m x) (list_any (is_home_by e m) xs) k
+    (λ (there : is_home_by e m x ≡ true). absurd (no_other e n x xs (and_parts (same_end e x.id) (same_node m x.node) there).0 apart.0 later))
+    (λ (last : list_any (is_home_by e m) xs ≡ true). one_home e n m xs apart.1 later last))
 
 -- an endpoint of the node that lies in a frame holds it
-holds_it : (layout : Layout) (past : List Entry) (f : EndpointId) (node : NodeId) (frame : ℕ) (xs : List EndSetting) → list_any (at_home f node) xs ≡ true → is_in_frame frame (state_of layout past f).head.place ≡ true → list_any (lies_in layout past node frame) xs ≡ true
+holds_it : (layout : Layout) (past : List Entry) (f : EndpointId) (node : NodeId) (frame : ℕ) (xs : List EndSetting) → list_any (is_home_by f node) xs ≡ true → is_in_frame frame (state_of layout past f).head.place ≡ true → list_any (holds_frame layout past node frame) xs ≡ true
 holds_it layout past f node frame [] h lies = absurd (true≢false (sym h))
 holds_it layout past f node frame (x ∷ xs) h lies =
-    or_parts (list_any (lies_in layout past node frame) (x ∷ xs) ≡ true) (at_home f node x) (list_any (at_home f node) xs) h
-    (λ (here : at_home f node x ≡ true).
+    or_parts (list_any (holds_frame layout past node frame) (x ∷ xs) ≡ true) (is_home_by f node x) (list_any (is_home_by f node) xs) h
+    (λ (here : is_home_by f node x ≡ true).
     let both = and_parts (same_end f x.id) (same_node node x.node) here in
     let at : is_in_frame frame (state_of layout past x.id).head.place ≡ true = ap (λ (i : EndpointId). is_in_frame frame (state_of layout past i).head.place) (sym (same_end-is f x.id both.0)) ∙ lies in
-    or_left (lies_in layout past node frame x) (list_any (lies_in layout past node frame) xs) (and_from (same_node node x.node) (is_in_frame frame (state_of layout past x.id).head.place) both.1 at))
-    (λ (later : list_any (at_home f node) xs ≡ true). or_right (lies_in layout past node frame x) (list_any (lies_in layout past node frame) xs) (holds_it layout past f node frame xs later lies))
+    or_left (holds_frame layout past node frame x) (list_any (holds_frame layout past node frame) xs) (and_from (same_node node x.node) (is_in_frame frame (state_of layout past x.id).head.place) both.1 at))
+    (λ (later : list_any (is_home_by f node) xs ≡ true). or_right (holds_frame layout past node frame x) (list_any (holds_frame layout past node frame) xs) (holds_it layout past f node frame xs later lies))
   where
     or_left : (a b : Bool) → a ≡ true → (a || b) ≡ true
     or_left true b i = refl

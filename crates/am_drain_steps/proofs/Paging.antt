@@ -13,7 +13,7 @@ use Rattle.am_office.specs.declared.Entry.{Entry}
 use Rattle.am_model.specs.Endpoint.{State, is_on_disk}
 use Rattle.am_model.specs.Changes.{paged_in}
 use Rattle.am_model.specs.Layout.{Layout, Fault}
-use Rattle.am_model.specs.History.{IsHistory, state_of, page, is_page_call, is_home}
+use Rattle.am_model.specs.History.{IsHistory, state_of, page, is_page_call, is_home, page_calls}
 use Rattle.am_model.proofs.Each.{state_of_push}
 use Rattle.am_model.proofs.Names.{same_end-refl, same_node-refl}
 use Rattle.am_drain.specs.Made.{next_entry, after_event, after_event_if}
@@ -66,9 +66,6 @@ one_less node n (f ∷ fs) h = by_tests (same_node node f.node) (f.number == n +
     by_tests true true false false same later now k less = absurd (omega (arith, eqb-true f.number (n + 1) same, ltb-false n f.number now))
 
 -- ---- one page-in
-
-abbrev page_calls : NodeId → List Entry → ℕ
-page_calls node past = count_by (λ (x : Entry). is_page_call node x.event) past
 
 one_call_more : (layout : Layout) (node : NodeId) (e : EndpointId) (past : List Entry) → page_calls node (after_event layout (Events.PageIn node e) past) ≡ page_calls node past + 1
 one_call_more layout node e past =

@@ -2,7 +2,8 @@
 ghost use Rattle.am_block.specs.Pools.{without};
 ghost use Rattle.am_body.specs.Flights.{slot_of};
 ghost use Rattle.am_body.specs.Views.{Fits};
-ghost use Rattle.am_endpoint.specs.Flights.{IsSlotOf, given_up_by, settled_by, settled_in};
+ghost use Rattle.am_endpoint.specs.Flights.{IsSlotOf};
+ghost use Rattle.am_model.specs.Changes.{given_up_by, settled_by, settled_in};
 ghost use Rattle.am_endpoint.specs.Seen.{state_in};
 ghost use Rattle.am_model.specs.Changes.{after, expired, received, requeued_flight, returned_flight, flying_of, without_flight, with_body};
 ghost use Rattle.std.specs.Prelude.{◌≡◌, Some};

@@ -4,7 +4,8 @@
 ghost use Rattle.am_block.specs.Pools.{without};
 ghost use Rattle.am_body.specs.Flights.{slot_of};
 ghost use Rattle.am_endpoint.specs.Events.{is_kept_out, keeps_flights};
-ghost use Rattle.am_endpoint.specs.Flights.{IsSlotOf, settled_in};
+ghost use Rattle.am_endpoint.specs.Flights.{IsSlotOf};
+ghost use Rattle.am_model.specs.Changes.{settled_in};
 ghost use Rattle.am_endpoint.specs.Held.{with_wanted};
 ghost use Rattle.am_endpoint.specs.Seen.{state_in};
 ghost use Rattle.am_endpoint.specs.Settings.{AreLawful};

@@ -13,6 +13,7 @@ use Rattle.am_office.specs.declared.Place.{Place}
 use Rattle.am_office.specs.declared.Place.TheVariants.{Host, Disk, Frame, Direct}
 use Rattle.am_office.specs.declared.Entry.{Entry}
 use Rattle.am_model.specs.declared.Queued.{Queued}
+use Rattle.am_office.specs.Entries.{is_node}
 use Rattle.am_model.specs.Allowed.{MayBind}
 use Rattle.am_model.specs.Endpoint.{State, front, is_direct, is_on_disk, is_resident}
 use Rattle.am_model.specs.History.{bind_to, free_from, next_number}
@@ -22,7 +23,7 @@ use Rattle.am_channel.specs.declared.ends.Ends.{Ends}
 use Rattle.am_channel.specs.declared.sending.Sent.{Sent}
 use Rattle.am_channel.specs.Calls.{Bind, after}
 use Rattle.am_channel.specs.Counted.{AreCounted}
-use Rattle.am_local.specs.Interface.{InterfaceLog, bind_at, channel_by_home, channel_in, channel_of_front, failing_at, home_in, is_home_in, is_node_in, outcome_at}
+use Rattle.am_local.specs.Interface.{InterfaceLog, bind_at, channel_by_home, channel_in, channel_of_front, failing_at, home_in, is_home_in, outcome_at}
 use Rattle.am_local.specs.declared.work.Work.TheVariants as Works
 use Rattle.am_local.proofs.Frames.{none_holds}
 use Rattle.am_local.proofs.Granting.{work_granted}
@@ -108,7 +109,7 @@ binding_entry v e q peer channel ends numbers number stamp node end outcome x is
 
 -- the endpoint is of the interface's node
 home_is : (v : InterfaceView) (end : EndpointId) (node : NodeId) → is_home_in (own v) end ≡ true → home_in (own v) end ≡ Some node → v.settings.node ≡ node
-home_is v end node home at = same_node-is v.settings.node node (sym (ap (λ (h : Option NodeId). is_node_in (own v) h) at) ∙ home)
+home_is v end node home at = same_node-is v.settings.node node (sym (ap (λ (h : Option NodeId). is_node v.settings.node h) at) ∙ home)
 
 -- the endpoint may be given it
 pub binding_allowed : (v : InterfaceView) (e : EndpointView) (stamp : ℕ) (x : Entry) → home_in (own v) e.settings.id ≡ Some e.settings.node → is_direct (state_after e).head.place ≡ false → IsEntryOf v (state_after e) stamp (Works.Bind e.settings.id) x → MayBind e.settings.node e.settings.id (state_after e) x

@@ -6,6 +6,7 @@ ghost use Rattle.am_model.specs.History.{decided, settle_by};
 ghost use Rattle.std.specs.Prelude.{◌≡◌, ◌≤◌, None, if◌then◌else◌};
 
 use am_channel::{Arrival, Ends, Sent};
+use am_model::may_bounce;
 use am_names::{AnswerPacket, EndpointId, Message, NodeId, Parcel, Verdict};
 use am_office::{Entry, Event, Outcome, Received};
 
@@ -116,7 +117,7 @@ pub(crate) fn settled_by(limit: u8, message: Message, bounces: u8, verdict: Verd
 {
     match verdict {
         Verdict::Accepted => Received::Delivered(message.serial),
-        Verdict::Refused(cause) => if cause.transient() && bounces < limit {
+        Verdict::Refused(cause) => if may_bounce(limit, cause, bounces) {
             Received::Requeued {
                 serial: message.serial,
                 cause,

@@ -16,6 +16,7 @@ use Rattle.am_office.specs.declared.Event.TheVariants as Events
 use Rattle.am_office.specs.declared.Entry.{Entry}
 use Rattle.am_office.specs.Entries.{emitted_of}
 use Rattle.am_model.specs.Channels.{emitted, is_on_link}
+use Rattle.am_model.specs.History.{page_calls}
 use Rattle.am_model.proofs.Received.{bit}
 use Rattle.am_model.specs.Packets.{receiver_of, from_of}
 use Rattle.am_model.specs.Layout.{node_at}

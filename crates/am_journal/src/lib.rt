@@ -3,6 +3,7 @@
 #![tactic(auto)]
 
 ghost use Rattle.am_journal.specs.View.{AreNodes, CanCount, HasRoomFor, IsIndexOf, is_ready_on, received_in, receipts};
+ghost use Rattle.am_model.specs.History.{page_calls};
 ghost use Rattle.am_model.specs.Channels.{emitted};
 ghost use Rattle.am_office.specs.Entries.{emitted_of};
 ghost use Rattle.am_office.specs.declared.Entry.{Entry};

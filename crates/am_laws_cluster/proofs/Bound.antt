@@ -20,7 +20,7 @@ use Rattle.am_model.specs.declared.Flying.{Flying}
 use Rattle.am_office.specs.declared.Place.{Place}
 use Rattle.am_office.specs.declared.Place.TheVariants.{Host, Disk, Frame, Direct}
 use Rattle.am_model.specs.Endpoint.{State, is_direct, is_in_a_frame, is_resident}
-use Rattle.am_model.specs.Changes.{changed}
+use Rattle.am_model.specs.Changes.{changed, settled_in}
 use Rattle.am_office.specs.Entries.{ends_touched, touches}
 use Rattle.am_model.specs.Layout.{Layout, AllAre, EndSetting, declared, has_id, opening_by, home, IsLawful}
 use Rattle.am_model.specs.Channels.{Channel, bound_message, attempt, sent_message}
@@ -45,7 +45,7 @@ use Rattle.am_model.specs.Cluster.{InFlightIsBound, IsHeldOnce, IsFlying}
 use Rattle.am_model.proofs.Ends.{bound_push}
 use Rattle.am_model.proofs.Channels.{freeing_sends_nothing}
 use Rattle.am_laws_order.proofs.Senders.{sender, same_channel-is}
-use Rattle.am_laws_order.proofs.Effects.{Effect, Keeps, Binds, Refuses, Ends, IsSame, IsFreedAt, landed_in, effect}
+use Rattle.am_laws_order.proofs.Effects.{Effect, Keeps, Binds, Refuses, Ends, IsSame, IsFreedAt, effect}
 use Rattle.am_laws_messages.proofs.Sent.{front_are}
 use Rattle.am_laws_fates.proofs.Aloft.{flight_weight}
 use Rattle.am_laws_fates.proofs.Flown.{one, flown, kept_flights, one_channel}
@@ -127,7 +127,7 @@ record IsHeldBy (layout : Layout) (past : List Entry) (e : EndpointId) (m : Mess
   pub bound : bound_message channel past ≡ Some m
   pub node : home layout e ≡ Some channel.node
 
-landed_touches : (event : Event) (o : Outcome) (t : Serial) → landed_in event o ≡ Some t → list_any (same_end t.source) (ends_touched event o) ≡ true
+landed_touches : (event : Event) (o : Outcome) (t : Serial) → settled_in event o ≡ Some t → list_any (same_end t.source) (ends_touched event o) ≡ true
 landed_touches (Events.Receive node peer number) (Out.Received channel seq attempt (Got.Delivered u)) t h = let same : u ≡ t = cc in subst (λ (w : Serial). (same_end w.source u.source || false) ≡ true) same (ap (λ (b : Bool). b || false) (same_end-refl u.source))
 landed_touches (Events.Receive node peer number) (Out.Received channel seq attempt (Got.Requeued u cause bounces)) t h = let same : u ≡ t = cc in subst (λ (w : Serial). (same_end w.source u.source || false) ≡ true) same (ap (λ (b : Bool). b || false) (same_end-refl u.source))
 landed_touches (Events.Receive node peer number) (Out.Received channel seq attempt (Got.Returned u cause)) t h = let same : u ≡ t = cc in subst (λ (w : Serial). (same_end w.source u.source || false) ≡ true) same (ap (λ (b : Bool). b || false) (same_end-refl u.source))
@@ -135,7 +135,7 @@ landed_touches (Events.Expire node peer channel) (Out.Delivered u) t h = let sam
 landed_touches (Events.Expire node peer channel) (Out.Unknown u) t h = let same : u ≡ t = cc in subst (λ (w : Serial). (same_end w.source u.source || false) ≡ true) same (ap (λ (b : Bool). b || false) (same_end-refl u.source))
 landed_touches event o t h = absurd (cc)
 
-landed_flights : (e : EndpointId) (st : State) (event : Event) (o : Outcome) (t : Serial) → landed_in event o ≡ Some t → (changed e st event o).body.in_flight ≡ without_first (λ (f : Flying). has_serial t f.message) st.body.in_flight
+landed_flights : (e : EndpointId) (st : State) (event : Event) (o : Outcome) (t : Serial) → settled_in event o ≡ Some t → (changed e st event o).body.in_flight ≡ without_first (λ (f : Flying). has_serial t f.message) st.body.in_flight
 landed_flights e st (Events.Receive node peer number) (Out.Received channel seq attempt (Got.Delivered u)) t h = let same : u ≡ t = cc in ap (λ (w : Serial). without_first (λ (f : Flying). has_serial w f.message) st.body.in_flight) same
 landed_flights e st (Events.Receive node peer number) (Out.Received channel seq attempt (Got.Requeued u cause bounces)) t h = let same : u ≡ t = cc in ap (λ (w : Serial). without_first (λ (f : Flying). has_serial w f.message) st.body.in_flight) same
 landed_flights e st (Events.Receive node peer number) (Out.Received channel seq attempt (Got.Returned u cause)) t h = let same : u ≡ t = cc in ap (λ (w : Serial). without_first (λ (f : Flying). has_serial w f.message) st.body.in_flight) same
@@ -174,11 +174,11 @@ record Held (layout : Layout) (past : List Entry) : Type 0 where
 
 held_more : (layout : Layout) → IsLawful layout → (past : List Entry) (x : Entry) → Held layout past → MayFollow layout past x → (e : EndpointId) → AllAre (λ (f : Flying). IsHeldBy layout (past ++ x ∷ []) e f.message) (state_of layout (past ++ x ∷ []) e).body.in_flight
 held_more layout lawful past x k may e =
-    all_both (λ (f : Flying). IsHeldBy layout past e f.message ⊎ (bound_at x.event x.outcome ≡ Some f.message)) (λ (f : Flying). (f.message.serial.source ≡ e) × ((t : Serial) → landed_in x.event x.outcome ≡ Some t → f.message.serial ≢ t)) (λ (f : Flying). IsHeldBy layout (past ++ x ∷ []) e f.message) (state_of layout (past ++ x ∷ []) e).body.in_flight
+    all_both (λ (f : Flying). IsHeldBy layout past e f.message ⊎ (bound_at x.event x.outcome ≡ Some f.message)) (λ (f : Flying). (f.message.serial.source ≡ e) × ((t : Serial) → settled_in x.event x.outcome ≡ Some t → f.message.serial ≢ t)) (λ (f : Flying). IsHeldBy layout (past ++ x ∷ []) e f.message) (state_of layout (past ++ x ∷ []) e).body.in_flight
     (λ f q n. by_effect f.message q n.0 n.1 (effect layout past x may))
     (comes_from (touches e x) refl)
-    (all_both (λ (f : Flying). f.message.serial.source ≡ e) (λ (f : Flying). (t : Serial) → landed_in x.event x.outcome ≡ Some t → f.message.serial ≢ t) (λ (f : Flying). (f.message.serial.source ≡ e) × ((t : Serial) → landed_in x.event x.outcome ≡ Some t → f.message.serial ≢ t)) (state_of layout (past ++ x ∷ []) e).body.in_flight (λ f o n. (o, n)) own
-    (stays_apart (landed_in x.event x.outcome) refl))
+    (all_both (λ (f : Flying). f.message.serial.source ≡ e) (λ (f : Flying). (t : Serial) → settled_in x.event x.outcome ≡ Some t → f.message.serial ≢ t) (λ (f : Flying). (f.message.serial.source ≡ e) × ((t : Serial) → settled_in x.event x.outcome ≡ Some t → f.message.serial ≢ t)) (state_of layout (past ++ x ∷ []) e).body.in_flight (λ f o n. (o, n)) own
+    (stays_apart (settled_in x.event x.outcome) refl))
   where
     now : IsHistory layout (past ++ x ∷ [])
     now = each_push (MayFollow layout) [] past x k.history may
@@ -200,26 +200,26 @@ held_more layout lawful past x k may e =
         all_map (λ (f : Flying). f.message.serial.source ≡ e) (λ (f : Flying). f.message.serial ≢ t) (state_of layout (past ++ x ∷ []) e).body.in_flight
         (λ f mine is. true≢false (sym (same_end-refl e) ∙ subst (λ (w : EndpointId). same_end e w ≡ false) (ap (λ (w : Serial). w.source) (sym is) ∙ mine) apart)) own
 
-    of_source : (t : Serial) → landed_in x.event x.outcome ≡ Some t → e ≡ t.source → touches e x ≡ true → AllAre (λ (f : Flying). f.message.serial ≢ t) (state_of layout (past ++ x ∷ []) e).body.in_flight
+    of_source : (t : Serial) → settled_in x.event x.outcome ≡ Some t → e ≡ t.source → touches e x ≡ true → AllAre (λ (f : Flying). f.message.serial ≢ t) (state_of layout (past ++ x ∷ []) e).body.in_flight
     of_source t is same at =
         let few : flight_weight (one t) (state_of layout past e).body.in_flight ≤ 1 = subst (λ (w : EndpointId). flight_weight (one t) (state_of layout past w).body.in_flight ≤ 1) (sym same) (flown_once layout past k.history t) in
         rw (state_of_push layout past x e true at)
         (subst (AllAre (λ (f : Flying). f.message.serial ≢ t)) (sym (landed_flights e (state_of layout past e) x.event x.outcome t is)) (gone_all t (state_of layout past e).body.in_flight few))
 
-    apart_from : (t : Serial) → landed_in x.event x.outcome ≡ Some t → (b : Bool) → same_end e t.source ≡ b → AllAre (λ (f : Flying). f.message.serial ≢ t) (state_of layout (past ++ x ∷ []) e).body.in_flight
+    apart_from : (t : Serial) → settled_in x.event x.outcome ≡ Some t → (b : Bool) → same_end e t.source ≡ b → AllAre (λ (f : Flying). f.message.serial ≢ t) (state_of layout (past ++ x ∷ []) e).body.in_flight
     apart_from t is true at =
         let same : e ≡ t.source = same_end-is e t.source at in
         of_source t is same (subst (λ (w : EndpointId). touches w x ≡ true) (sym same) (landed_touches x.event x.outcome t is))
     apart_from t is false at = of_other t at
 
-    stays_apart : (w : Option Serial) → landed_in x.event x.outcome ≡ w → AllAre (λ (f : Flying). (t : Serial) → landed_in x.event x.outcome ≡ Some t → f.message.serial ≢ t) (state_of layout (past ++ x ∷ []) e).body.in_flight
-    stays_apart None is = every (λ (f : Flying). (t : Serial) → landed_in x.event x.outcome ≡ Some t → f.message.serial ≢ t) (state_of layout (past ++ x ∷ []) e).body.in_flight (λ f t h. let both : ◌≡◌ {A = Option Serial} None (Some t) = sym is ∙ h in absurd (cc))
+    stays_apart : (w : Option Serial) → settled_in x.event x.outcome ≡ w → AllAre (λ (f : Flying). (t : Serial) → settled_in x.event x.outcome ≡ Some t → f.message.serial ≢ t) (state_of layout (past ++ x ∷ []) e).body.in_flight
+    stays_apart None is = every (λ (f : Flying). (t : Serial) → settled_in x.event x.outcome ≡ Some t → f.message.serial ≢ t) (state_of layout (past ++ x ∷ []) e).body.in_flight (λ f t h. let both : ◌≡◌ {A = Option Serial} None (Some t) = sym is ∙ h in absurd (cc))
     stays_apart (Some u) is =
-        all_map (λ (f : Flying). f.message.serial ≢ u) (λ (f : Flying). (t : Serial) → landed_in x.event x.outcome ≡ Some t → f.message.serial ≢ t) (state_of layout (past ++ x ∷ []) e).body.in_flight
+        all_map (λ (f : Flying). f.message.serial ≢ u) (λ (f : Flying). (t : Serial) → settled_in x.event x.outcome ≡ Some t → f.message.serial ≢ t) (state_of layout (past ++ x ∷ []) e).body.in_flight
         (λ f n t h. let both : ◌≡◌ {A = Option Serial} (Some u) (Some t) = sym is ∙ h in let same : u ≡ t = cc in λ e'. n (e' ∙ sym same))
         (apart_from u is (same_end e u.source) refl)
 
-    by_free : (m : Message) → IsHeldBy layout past e m ⊎ (bound_at x.event x.outcome ≡ Some m) → ((t : Serial) → landed_in x.event x.outcome ≡ Some t → m.serial ≢ t) → (at : Channel) (n : Message) → bound_message at past ≡ Some n → ((c : Channel) → IsFreedAt at c (sender c past) (sender c (past ++ x ∷ []))) → bound_at x.event x.outcome ≡ None → landed_in x.event x.outcome ≡ Some n.serial → IsHeldBy layout (past ++ x ∷ []) e m
+    by_free : (m : Message) → IsHeldBy layout past e m ⊎ (bound_at x.event x.outcome ≡ Some m) → ((t : Serial) → settled_in x.event x.outcome ≡ Some t → m.serial ≢ t) → (at : Channel) (n : Message) → bound_message at past ≡ Some n → ((c : Channel) → IsFreedAt at c (sender c past) (sender c (past ++ x ∷ []))) → bound_at x.event x.outcome ≡ None → settled_in x.event x.outcome ≡ Some n.serial → IsHeldBy layout (past ++ x ∷ []) e m
     by_free m q apart at n held' frees' no' lands =
         ⊎_elim
         (λ (b : IsHeldBy layout past e m).
@@ -233,7 +233,7 @@ held_more layout lawful past x k may e =
         (λ (new : bound_at x.event x.outcome ≡ Some m). let both : ◌≡◌ {A = Option Message} None (Some m) = sym no' ∙ new in absurd (cc))
         q
 
-    by_effect : (m : Message) → IsHeldBy layout past e m ⊎ (bound_at x.event x.outcome ≡ Some m) → m.serial.source ≡ e → ((t : Serial) → landed_in x.event x.outcome ≡ Some t → m.serial ≢ t) → Effect past x.event x.outcome (λ c. sender c (past ++ x ∷ [])) → IsHeldBy layout (past ++ x ∷ []) e m
+    by_effect : (m : Message) → IsHeldBy layout past e m ⊎ (bound_at x.event x.outcome ≡ Some m) → m.serial.source ≡ e → ((t : Serial) → settled_in x.event x.outcome ≡ Some t → m.serial ≢ t) → Effect past x.event x.outcome (λ c. sender c (past ++ x ∷ [])) → IsHeldBy layout (past ++ x ∷ []) e m
     by_effect m q mine apart (Keeps same no' again lands) =
         ⊎_elim
         (λ (b : IsHeldBy layout past e m). record { channel = b.channel; bound = (same b.channel).bound ∙ b.bound; node = b.node })

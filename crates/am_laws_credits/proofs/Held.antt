@@ -28,7 +28,7 @@ use Rattle.am_model.specs.declared.Awaited.{Awaited}
 use Rattle.am_model.specs.declared.Flying.{Flying}
 use Rattle.am_model.specs.Endpoint.{waits_for}
 use Rattle.am_model.specs.Calls.{unless, give_up_refusal}
-use Rattle.am_model.specs.Changes.{flying_of}
+use Rattle.am_model.specs.Changes.{flying_of, settled_in}
 use Rattle.am_office.specs.Entries.{accepted_by, accepted_in, accepted_of, put_by, put_in, put_of, run_by, run_in, run_of, returned_by, returned_in, returned_of, unknown_in, unknown_of, given_up_in, given_up_of, requeue_of, refusal_of, ends_touched, touched_by_result, touched_by_expiry, touches, passes, is_serial}
 use Rattle.am_model.specs.Layout.{Layout, AllAre, EndSetting, has_id, opening_by}
 use Rattle.am_model.specs.Channels.{bound_message, sequence, attempt}
@@ -53,7 +53,6 @@ use Rattle.am_laws_fates.proofs.Balance.{balanced, serial_push}
 use Rattle.am_laws_fates.proofs.Returned.{returned_never_ran}
 use Rattle.am_laws_messages.proofs.Sent.{front_are}
 use Rattle.am_laws_order.proofs.Waiting.{weight_serial}
-use Rattle.am_laws_order.proofs.Effects.{landed_in}
 use Rattle.am_model.proofs.Queues.{Judged}
 use Rattle.am_laws_credits.proofs.Given.{gave_times}
 use Rattle.am_laws_credits.proofs.Marked.{replied, flags, not_replied, was_new}
@@ -142,14 +141,14 @@ given_waits layout past (Events.Call actor end call) t h = absurd (cc)
 given_waits layout past event t h = absurd (cc)
 
 -- what is left unknown is in flight, and not marked
-unknown_flies : (layout : Layout) (past : List Entry) (event : Event) (t : Serial) → unknown_in event (outcome_of layout past event) ≡ Some t → (is_answered (flying_of t (state_of layout past t.source).body.in_flight) ≡ false) × (landed_in event (outcome_of layout past event) ≡ Some t)
+unknown_flies : (layout : Layout) (past : List Entry) (event : Event) (t : Serial) → unknown_in event (outcome_of layout past event) ≡ Some t → (is_answered (flying_of t (state_of layout past t.source).body.in_flight) ≡ false) × (settled_in event (outcome_of layout past event) ≡ Some t)
 unknown_flies layout past (Events.Expire node peer channel) t h = by_bound (bound_message (channel_to node peer channel) past) h
   where
-    by_bound : (b : Option Message) → unknown_in (Events.Expire node peer channel) (expire layout node peer channel past b) ≡ Some t → (is_answered (flying_of t (state_of layout past t.source).body.in_flight) ≡ false) × (landed_in (Events.Expire node peer channel) (expire layout node peer channel past b) ≡ Some t)
+    by_bound : (b : Option Message) → unknown_in (Events.Expire node peer channel) (expire layout node peer channel past b) ≡ Some t → (is_answered (flying_of t (state_of layout past t.source).body.in_flight) ≡ false) × (settled_in (Events.Expire node peer channel) (expire layout node peer channel past b) ≡ Some t)
     by_bound None e = absurd (cc)
     by_bound (Some m) e = by_tests (nat_lt (attempt (channel_to node peer channel) past + 1) layout.tries) (is_answered (flying_of m.serial (state_of layout past m.serial.source).body.in_flight)) refl e
       where
-        by_tests : (again answered : Bool) → is_answered (flying_of m.serial (state_of layout past m.serial.source).body.in_flight) ≡ answered → unknown_in (Events.Expire node peer channel) (if again then Out.Sent m peer channel (sequence (channel_to node peer channel) past) (attempt (channel_to node peer channel) past + 1) (next_number node peer past) else (if answered then Out.Delivered m.serial else Out.Unknown m.serial)) ≡ Some t → (is_answered (flying_of t (state_of layout past t.source).body.in_flight) ≡ false) × (landed_in (Events.Expire node peer channel) (if again then Out.Sent m peer channel (sequence (channel_to node peer channel) past) (attempt (channel_to node peer channel) past + 1) (next_number node peer past) else (if answered then Out.Delivered m.serial else Out.Unknown m.serial)) ≡ Some t)
+        by_tests : (again answered : Bool) → is_answered (flying_of m.serial (state_of layout past m.serial.source).body.in_flight) ≡ answered → unknown_in (Events.Expire node peer channel) (if again then Out.Sent m peer channel (sequence (channel_to node peer channel) past) (attempt (channel_to node peer channel) past + 1) (next_number node peer past) else (if answered then Out.Delivered m.serial else Out.Unknown m.serial)) ≡ Some t → (is_answered (flying_of t (state_of layout past t.source).body.in_flight) ≡ false) × (settled_in (Events.Expire node peer channel) (if again then Out.Sent m peer channel (sequence (channel_to node peer channel) past) (attempt (channel_to node peer channel) past + 1) (next_number node peer past) else (if answered then Out.Delivered m.serial else Out.Unknown m.serial)) ≡ Some t)
         by_tests true answered is f = absurd (cc)
         by_tests false true is f = absurd (cc)
         by_tests false false is f = let same : m.serial ≡ t = cc in (subst (λ (w : Serial). is_answered (flying_of w (state_of layout past w.source).body.in_flight) ≡ false) same is, f)
@@ -187,7 +186,7 @@ stop_unreplied layout past x h may t is =
     (λ (returned' : returned_of x ≡ Some t). not_replied layout past h t (returned_unput layout past x h may t returned'))
     (λ (unknown : unknown_of x ≡ Some t).
     let u = unknown_flies layout past x.event t (ap (unknown_in x.event) (sym may.outcome) ∙ unknown) in
-    let f = lands_found layout past x h may t (ap (landed_in x.event) may.outcome ∙ u.1) in
+    let f = lands_found layout past x h may t (ap (settled_in x.event) may.outcome ∙ u.1) in
     let off : f.0.answered ≡ false = ap is_answered (sym f.1) ∙ u.0 in
     subst (λ (w : Serial). replied w past ≡ 0) (found_serial t (state_of layout past t.source).body.in_flight f.0 f.1)
     (all_found (λ (g : Flying). g.answered ≡ false → replied g.message.serial past ≡ 0) (λ (g : Flying). has_serial t g.message) (state_of layout past t.source).body.in_flight f.0 f.1 (flags layout past h t.source).unmarked off)))

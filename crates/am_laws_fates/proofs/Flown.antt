@@ -18,7 +18,7 @@ use Rattle.am_office.specs.declared.Entry.{Entry}
 use Rattle.am_names.specs.Names.{same_end, same_serial, has_serial}
 use Rattle.am_model.specs.declared.Flying.{Flying}
 use Rattle.am_model.specs.Endpoint.{State, Body}
-use Rattle.am_model.specs.Changes.{bounces_of, called, left, reached, paged_out, paged_in, changed, put, received, expired, bound, flying_of, without_flight}
+use Rattle.am_model.specs.Changes.{bounces_of, called, left, reached, paged_out, paged_in, changed, put, received, expired, bound, flying_of, without_flight, settled_by, settled_in}
 use Rattle.am_office.specs.Entries.{touches, passes}
 use Rattle.am_model.specs.Layout.{Layout}
 use Rattle.am_model.specs.History.{state_of, MayFollow, IsHistory}
@@ -31,7 +31,7 @@ use Rattle.am_model.proofs.Queues.{FitsDirect}
 use Rattle.am_model.proofs.Chosen.{flying_of-has_serial}
 use Rattle.am_laws_order.proofs.Senders.{sender}
 use Rattle.am_laws_order.proofs.Waiting.{weight_serial, bound_at}
-use Rattle.am_laws_order.proofs.Effects.{Effect, Keeps, Binds, Refuses, Ends, IsSame, IsFreedAt, landed_by, landed_in, effect}
+use Rattle.am_laws_order.proofs.Effects.{Effect, Keeps, Binds, Refuses, Ends, IsSame, IsFreedAt, effect}
 use Rattle.am_laws_order.proofs.Situations.{Situation, Waits, Flies, Ended}
 use Rattle.am_laws_order.proofs.Packets.{KeptPackets, packets_more, packets_begin, bound_own}
 use Rattle.am_laws_fates.proofs.Aloft.{Weight, flight_weight, one_weight, as_queued, marked_weighs, landed_weighs}
@@ -85,7 +85,7 @@ reached_flown v e s (Out.Accepted m) = by_test (same_end e m.dest)
     by_test false = refl
 reached_flown v e s o = refl
 
-received_flown : (s : Serial) (e : EndpointId) (st : State) (r : Received) → flight_weight (one s) st.body.in_flight ≤ flight_weight (one s) (received e st r).body.in_flight + weight_serial s (landed_by r)
+received_flown : (s : Serial) (e : EndpointId) (st : State) (r : Received) → flight_weight (one s) st.body.in_flight ≤ flight_weight (one s) (received e st r).body.in_flight + weight_serial s (settled_by r)
 received_flown s e st (Got.Accepted m answer) = omega (arith, marked_weighs (one s) m.about st.body.in_flight)
 received_flown s e st (Got.Refused m NotResident answer) = omega arith
 received_flown s e st (Got.Delivered serial) = landing s serial st.body
@@ -93,7 +93,7 @@ received_flown s e st (Got.Requeued serial cause bounces) = landing s serial st.
 received_flown s e st (Got.Returned serial cause) = landing s serial st.body
 received_flown s e st r = omega arith
 
-expired_flown : (s : Serial) (st : State) (node peer : NodeId) (channel : ℕ) (o : Outcome) → flight_weight (one s) st.body.in_flight ≤ flight_weight (one s) (expired st o).body.in_flight + weight_serial s (landed_in (Events.Expire node peer channel) o)
+expired_flown : (s : Serial) (st : State) (node peer : NodeId) (channel : ℕ) (o : Outcome) → flight_weight (one s) st.body.in_flight ≤ flight_weight (one s) (expired st o).body.in_flight + weight_serial s (settled_in (Events.Expire node peer channel) o)
 expired_flown s st node peer channel (Out.Delivered serial) = landing s serial st.body
 expired_flown s st node peer channel (Out.Unknown serial) = landing s serial st.body
 expired_flown s st node peer channel o = omega arith
@@ -110,7 +110,7 @@ pub in_flown : (v : Weight) (s : State) (o : Outcome) → flight_weight v (paged
 in_flown v s Out.Done = refl
 in_flown v s o = refl
 
-touched_flown : (s : Serial) (e : EndpointId) (st : State) (event : Event) (o : Outcome) → flight_weight (one s) st.body.in_flight + bit (passes (has_serial s) (bound_at event o)) ≤ flight_weight (one s) (changed e st event o).body.in_flight + weight_serial s (landed_in event o)
+touched_flown : (s : Serial) (e : EndpointId) (st : State) (event : Event) (o : Outcome) → flight_weight (one s) st.body.in_flight + bit (passes (has_serial s) (bound_at event o)) ≤ flight_weight (one s) (changed e st event o).body.in_flight + weight_serial s (settled_in event o)
 touched_flown s e st (Events.Call actor end call) o = omega (arith, called_flown (one s) st call o)
 touched_flown s e st (Events.Want actor end) o = omega arith
 touched_flown s e st (Events.Carry end) o = omega (arith, reached_flown (one s) e (if same_end e end then left st o else st) o, left_flown (one s) st o (same_end e end))
@@ -124,10 +124,10 @@ touched_flown s e st (Events.Load node end frame) o = omega arith
 touched_flown s e st (Events.PageOut node end) o = omega (arith, out_flown (one s) st o)
 touched_flown s e st (Events.PageIn node end) o = omega (arith, in_flown (one s) st o)
 
-flown_more : (layout : Layout) → layout.direct ≡ false → (past : List Entry) (x : Entry) → KeptPackets layout past → MayFollow layout past x → (s : Serial) → flown layout past s + bit (passes (has_serial s) (bound_at x.event x.outcome)) ≤ flown layout (past ++ x ∷ []) s + weight_serial s (landed_in x.event x.outcome)
+flown_more : (layout : Layout) → layout.direct ≡ false → (past : List Entry) (x : Entry) → KeptPackets layout past → MayFollow layout past x → (s : Serial) → flown layout past s + bit (passes (has_serial s) (bound_at x.event x.outcome)) ≤ flown layout (past ++ x ∷ []) s + weight_serial s (settled_in x.event x.outcome)
 flown_more layout packet past x k may s = by_test (touches s.source x) refl
   where
-    by_test : (t : Bool) → touches s.source x ≡ t → flown layout past s + bit (passes (has_serial s) (bound_at x.event x.outcome)) ≤ flown layout (past ++ x ∷ []) s + weight_serial s (landed_in x.event x.outcome)
+    by_test : (t : Bool) → touches s.source x ≡ t → flown layout past s + bit (passes (has_serial s) (bound_at x.event x.outcome)) ≤ flown layout (past ++ x ∷ []) s + weight_serial s (settled_in x.event x.outcome)
     by_test true at = rw (state_of_push layout past x s.source true at) (touched_flown s s.source (state_of layout past s.source) x.event x.outcome)
     by_test false at = rw (state_of_push layout past x s.source false at) (omega (arith, bound_own layout packet past x k.none_foreign may s at))
 
@@ -144,13 +144,13 @@ one_channel s past w n c d m l (Ended k j unbound on put w' n') at is there also
 flown_next : (layout : Layout) → layout.direct ≡ false → (past : List Entry) (x : Entry) → KeptPackets layout past → IsFlown layout past → MayFollow layout past x → IsFlown layout (past ++ x ∷ [])
 flown_next layout packet past x k f may = λ c m h. by_effect c m h (effect layout past x may)
   where
-    more : (s : Serial) → flown layout past s + bit (passes (has_serial s) (bound_at x.event x.outcome)) ≤ flown layout (past ++ x ∷ []) s + weight_serial s (landed_in x.event x.outcome)
+    more : (s : Serial) → flown layout past s + bit (passes (has_serial s) (bound_at x.event x.outcome)) ≤ flown layout (past ++ x ∷ []) s + weight_serial s (settled_in x.event x.outcome)
     more s = flown_more layout packet past x k may s
 
-    stays : (s : Serial) → landed_in x.event x.outcome ≡ None → 1 ≤ flown layout past s → 1 ≤ flown layout (past ++ x ∷ []) s
+    stays : (s : Serial) → settled_in x.event x.outcome ≡ None → 1 ≤ flown layout past s → 1 ≤ flown layout (past ++ x ∷ []) s
     stays s lands before = omega (arith, more s, before, ap (weight_serial s) lands)
 
-    by_free : (c : Channel) (m : Message) → bound_message c (past ++ x ∷ []) ≡ Some m → (at : Channel) (n : Message) → bound_message at past ≡ Some n → IsFreedAt at c (sender c past) (sender c (past ++ x ∷ [])) → landed_in x.event x.outcome ≡ Some n.serial → 1 ≤ flown layout (past ++ x ∷ []) m.serial
+    by_free : (c : Channel) (m : Message) → bound_message c (past ++ x ∷ []) ≡ Some m → (at : Channel) (n : Message) → bound_message at past ≡ Some n → IsFreedAt at c (sender c past) (sender c (past ++ x ∷ [])) → settled_in x.event x.outcome ≡ Some n.serial → 1 ≤ flown layout (past ++ x ∷ []) m.serial
     by_free c m h at n held frees lands =
         ⊎_elim
         (λ (here : (c ≡ at) × ((sender c (past ++ x ∷ [])).seq ≡ (sender c past).seq) × (bound_message c (past ++ x ∷ []) ≡ None)). let both : None ≡ Some m = sym here.2 ∙ h in absurd (cc))
@@ -163,7 +163,7 @@ flown_next layout packet past x k f may = λ c m h. by_effect c m h (effect layo
             let same : n.serial ≡ m.serial = sym (same_serial-is m.serial n.serial is) in
             absurd (apart (one_channel m.serial past _ _ c at m n (k.stands m.serial) before refl held same))
         by_test false is apart before =
-            let none : weight_serial m.serial (landed_in x.event x.outcome) ≡ 0 = ap (weight_serial m.serial) lands ∙ ap bit is in
+            let none : weight_serial m.serial (settled_in x.event x.outcome) ≡ 0 = ap (weight_serial m.serial) lands ∙ ap bit is in
             omega (arith, more m.serial, f c m before, none)
 
     by_effect : (c : Channel) (m : Message) → bound_message c (past ++ x ∷ []) ≡ Some m → Effect past x.event x.outcome (λ d. sender d (past ++ x ∷ [])) → 1 ≤ flown layout (past ++ x ∷ []) m.serial
@@ -200,10 +200,10 @@ is_there s (g ∷ flying) h = by_test (has_serial s g.message) refl (λ more. is
     by_test false is more = more (omega (arith, h, sum_by-cons (λ (w : Flying). one s w.message w.bounces) g flying, ap bit is))
 
 -- what leaves in flight was there
-pub lands_found : (layout : Layout) (past : List Entry) (x : Entry) → IsHistory layout past → MayFollow layout past x → (t : Serial) → landed_in x.event x.outcome ≡ Some t → (f : Flying) × (flying_of t (state_of layout past t.source).body.in_flight ≡ Some f)
+pub lands_found : (layout : Layout) (past : List Entry) (x : Entry) → IsHistory layout past → MayFollow layout past x → (t : Serial) → settled_in x.event x.outcome ≡ Some t → (f : Flying) × (flying_of t (state_of layout past t.source).body.in_flight ≡ Some f)
 lands_found layout past x h may t is = by_network layout.direct refl
   where
-    on_direct : (e : EndpointId) (event : Event) (o : Outcome) → FitsDirect e (state_of layout past e) event o → landed_in event o ≡ Some t → ⊥
+    on_direct : (e : EndpointId) (event : Event) (o : Outcome) → FitsDirect e (state_of layout past e) event o → settled_in event o ≡ Some t → ⊥
     on_direct e (Events.Receive node peer number) o fits l = fits
     on_direct e (Events.Expire node peer channel) o fits l = fits
     on_direct e event o fits l = cc

@@ -18,7 +18,7 @@ use Rattle.am_names.specs.Names.{same_end, same_serial, has_serial}
 use Rattle.am_model.specs.declared.Queued.{Queued}
 use Rattle.am_model.specs.declared.Flying.{Flying}
 use Rattle.am_model.specs.Endpoint.{State, Body}
-use Rattle.am_model.specs.Changes.{flying_of}
+use Rattle.am_model.specs.Changes.{flying_of, settled_in}
 use Rattle.am_office.specs.Entries.{accepted_by, ends_touched, touches, touched_by_result, touched_by_expiry, passes}
 use Rattle.am_model.specs.Layout.{Layout}
 use Rattle.am_model.specs.History.{state_of, MayFollow, IsHistory, bounced}
@@ -29,7 +29,6 @@ use Rattle.am_model.proofs.Books.{not_touched}
 use Rattle.am_model.proofs.Counts.{Accepts, accepts_next, HasSerial}
 use Rattle.am_model.specs.Calls.{new_serial}
 use Rattle.am_model.proofs.Chosen.{flying_of-has_serial}
-use Rattle.am_laws_order.proofs.Effects.{landed_in}
 use Rattle.am_laws_messages.proofs.Sent.{fits_send}
 use Rattle.am_laws_fates.proofs.Aloft.{as_queued, rebounced, carry_parts, carry_comes, parts, comes, Moves, stays, entry_moves}
 use Rattle.am_laws_fates.proofs.Flown.{lands_found}
@@ -46,7 +45,7 @@ pub found_serial : (t : Serial) (flying : List Flying) (f : Flying) → flying_o
 found_serial t flying f is = sym (same_serial-is t f.message.serial (flying_of-has_serial t flying f is))
 
 -- a flight that lands, by its result
-result_numbers : (limit : ℕ) (s : Serial) (st : State) (node peer : NodeId) (number channel seq attempt : ℕ) (r : Received) (flights : Serial → Option Flying) → ((t : Serial) → list_any (same_end s.source) (touched_by_result r) ≡ true → landed_in (Events.Receive node peer number) (Out.Received channel seq attempt r) ≡ Some t → flights t ≡ flying_of t st.body.in_flight) → list_any (same_end s.source) (touched_by_result r) ≡ true → ((t : Serial) → landed_in (Events.Receive node peer number) (Out.Received channel seq attempt r) ≡ Some t → (f : Flying) × (flights t ≡ Some f)) → TellsResult limit flights r → NumbersOf limit s (Events.Receive node peer number) (Out.Received channel seq attempt r) (parts s.source st (Events.Receive node peer number) (Out.Received channel seq attempt r)) (comes s.source st (Events.Receive node peer number) (Out.Received channel seq attempt r))
+result_numbers : (limit : ℕ) (s : Serial) (st : State) (node peer : NodeId) (number channel seq attempt : ℕ) (r : Received) (flights : Serial → Option Flying) → ((t : Serial) → list_any (same_end s.source) (touched_by_result r) ≡ true → settled_in (Events.Receive node peer number) (Out.Received channel seq attempt r) ≡ Some t → flights t ≡ flying_of t st.body.in_flight) → list_any (same_end s.source) (touched_by_result r) ≡ true → ((t : Serial) → settled_in (Events.Receive node peer number) (Out.Received channel seq attempt r) ≡ Some t → (f : Flying) × (flights t ≡ Some f)) → TellsResult limit flights r → NumbersOf limit s (Events.Receive node peer number) (Out.Received channel seq attempt r) (parts s.source st (Events.Receive node peer number) (Out.Received channel seq attempt r)) (comes s.source st (Events.Receive node peer number) (Out.Received channel seq attempt r))
 result_numbers limit s st node peer number channel seq attempt (Got.Delivered t) flights same at found tells =
     let f = found t refl in
     let there : flying_of t st.body.in_flight ≡ Some f.0 = sym (same t at refl) ∙ f.1 in
@@ -63,7 +62,7 @@ result_numbers limit s st node peer number channel seq attempt (Got.Returned t c
     (come_back limit s t (record { message = f.0.message; bounces = f.0.bounces }) cause (found_serial t st.body.in_flight f.0 there) (λ passing. subst (λ (n : ℕ). limit ≤ n) (ap bounced f.1) (tells passing)))
 result_numbers limit s st node peer number channel seq attempt r flights same at found tells = quiet limit s
 
-expiry_numbers : (limit : ℕ) (s : Serial) (st : State) (node peer : NodeId) (channel : ℕ) (o : Outcome) (flights : Serial → Option Flying) → ((t : Serial) → landed_in (Events.Expire node peer channel) o ≡ Some t → flights t ≡ flying_of t st.body.in_flight) → ((t : Serial) → landed_in (Events.Expire node peer channel) o ≡ Some t → (f : Flying) × (flights t ≡ Some f)) → NumbersOf limit s (Events.Expire node peer channel) o (parts s.source st (Events.Expire node peer channel) o) (comes s.source st (Events.Expire node peer channel) o)
+expiry_numbers : (limit : ℕ) (s : Serial) (st : State) (node peer : NodeId) (channel : ℕ) (o : Outcome) (flights : Serial → Option Flying) → ((t : Serial) → settled_in (Events.Expire node peer channel) o ≡ Some t → flights t ≡ flying_of t st.body.in_flight) → ((t : Serial) → settled_in (Events.Expire node peer channel) o ≡ Some t → (f : Flying) × (flights t ≡ Some f)) → NumbersOf limit s (Events.Expire node peer channel) o (parts s.source st (Events.Expire node peer channel) o) (comes s.source st (Events.Expire node peer channel) o)
 expiry_numbers limit s st node peer channel (Out.Delivered t) flights same found =
     let f = found t refl in
     let there : flying_of t st.body.in_flight ≡ Some f.0 = sym (same t refl) ∙ f.1 in
@@ -128,18 +127,18 @@ serial_moves layout past x h may s = by_test (touches s.source x) refl
         carry_here layout.bounces s end (state_of layout past s.source) o (subst (λ (w : EndpointId). Rattle.am_laws_fates.proofs.Numbers.TellsCarry layout.bounces (state_of layout past w) o) same tells)
     carried end o tells false is = carry_away layout.bounces s end (state_of layout past end) o is (own end) tells
 
-    landed_here : (r : Received) (node peer : NodeId) (number channel seq attempt : ℕ) (t : Serial) → list_any (same_end s.source) (touched_by_result r) ≡ true → landed_in (Events.Receive node peer number) (Out.Received channel seq attempt r) ≡ Some t → list_any (same_end s.source) (t.source ∷ []) ≡ true
+    landed_here : (r : Received) (node peer : NodeId) (number channel seq attempt : ℕ) (t : Serial) → list_any (same_end s.source) (touched_by_result r) ≡ true → settled_in (Events.Receive node peer number) (Out.Received channel seq attempt r) ≡ Some t → list_any (same_end s.source) (t.source ∷ []) ≡ true
     landed_here (Got.Delivered u) node peer number channel seq attempt t at is = let same : u ≡ t = cc in subst (λ (w : Serial). list_any (same_end s.source) (w.source ∷ []) ≡ true) same at
     landed_here (Got.Requeued u cause bounces) node peer number channel seq attempt t at is = let same : u ≡ t = cc in subst (λ (w : Serial). list_any (same_end s.source) (w.source ∷ []) ≡ true) same at
     landed_here (Got.Returned u cause) node peer number channel seq attempt t at is = let same : u ≡ t = cc in subst (λ (w : Serial). list_any (same_end s.source) (w.source ∷ []) ≡ true) same at
     landed_here r node peer number channel seq attempt t at is = absurd (cc)
 
-    expired_here : (node peer : NodeId) (channel : ℕ) (o : Outcome) (t : Serial) → list_any (same_end s.source) (touched_by_expiry o) ≡ true → landed_in (Events.Expire node peer channel) o ≡ Some t → list_any (same_end s.source) (t.source ∷ []) ≡ true
+    expired_here : (node peer : NodeId) (channel : ℕ) (o : Outcome) (t : Serial) → list_any (same_end s.source) (touched_by_expiry o) ≡ true → settled_in (Events.Expire node peer channel) o ≡ Some t → list_any (same_end s.source) (t.source ∷ []) ≡ true
     expired_here node peer channel (Out.Delivered u) t at is = let same : u ≡ t = cc in subst (λ (w : Serial). list_any (same_end s.source) (w.source ∷ []) ≡ true) same at
     expired_here node peer channel (Out.Unknown u) t at is = let same : u ≡ t = cc in subst (λ (w : Serial). list_any (same_end s.source) (w.source ∷ []) ≡ true) same at
     expired_here node peer channel o t at is = absurd (cc)
 
-    touched : (event : Event) (o : Outcome) → list_any (same_end s.source) (ends_touched event o) ≡ true → ((t : Serial) → landed_in event o ≡ Some t → (f : Flying) × (flight layout past t ≡ Some f)) → Tells layout past event o → NumbersOf layout.bounces s event o (parts s.source (state_of layout past s.source) event o) (comes s.source (state_of layout past s.source) event o)
+    touched : (event : Event) (o : Outcome) → list_any (same_end s.source) (ends_touched event o) ≡ true → ((t : Serial) → settled_in event o ≡ Some t → (f : Flying) × (flight layout past t ≡ Some f)) → Tells layout past event o → NumbersOf layout.bounces s event o (parts s.source (state_of layout past s.source) event o) (comes s.source (state_of layout past s.source) event o)
     touched (Events.Call actor end call) o at found tells = accepted_new layout.bounces s (accepted_by call o)
     touched (Events.Carry end) o at found tells = carried end o tells (same_end s.source end) refl
     touched (Events.Receive node peer number) (Out.Received channel seq attempt r) at found tells =

@@ -22,7 +22,8 @@ use Rattle.am_model.proofs.Books.{role_push, fits_direct}
 use Rattle.am_model.proofs.Queues.{FitsDirect}
 use Rattle.am_laws_order.proofs.Waiting.{weight_serial}
 use Rattle.am_laws_order.proofs.Senders.{sender}
-use Rattle.am_laws_order.proofs.Effects.{Effect, Keeps, Binds, Refuses, Ends, landed_in, effect}
+use Rattle.am_laws_order.proofs.Effects.{Effect, Keeps, Binds, Refuses, Ends, effect}
+use Rattle.am_model.specs.Changes.{settled_in}
 use Rattle.am_laws_order.proofs.Puts.{put_is}
 use Rattle.am_laws_order.proofs.Situations.{NoneFresh, IsUnbound, sent_by, puts, puts_push, put_or_not, none_fresh_more, refused_for_good}
 use Rattle.am_laws_order.proofs.Packets.{not_carry}
@@ -43,7 +44,7 @@ unbound_when_returned layout packet past h s back = λ c m is same.
 abbrev pub NeverPut : List Entry → Serial → Type 0
 NeverPut past s = 1 ≤ times_serial returned_of s past → (puts s past ≡ 0) × NoneFresh s past
 
-return_lands : (event : Event) (o : Outcome) (s : Serial) → event ≢ event ⊎ (weight_serial s (returned_in event o) ≡ 0) ⊎ (((end : EndpointId) → event ≢ Events.Carry end) → (t : Serial) × (landed_in event o ≡ Some t) × (returned_in event o ≡ Some t) × (t ≡ s))
+return_lands : (event : Event) (o : Outcome) (s : Serial) → event ≢ event ⊎ (weight_serial s (returned_in event o) ≡ 0) ⊎ (((end : EndpointId) → event ≢ Events.Carry end) → (t : Serial) × (settled_in event o ≡ Some t) × (returned_in event o ≡ Some t) × (t ≡ s))
 return_lands (Events.Carry end) (Out.Returned m cause) s = inr (inr (λ apart. absurd (apart end refl)))
 return_lands (Events.Receive node peer number) (Out.Received channel seq attempt (Got.Returned t cause)) s = inr (by_test (same_serial s t) refl)
   where
@@ -77,7 +78,7 @@ never_put_more layout packet past x h never may s back =
           none_fresh_more layout past x may s n.1 unbound,
         )
 
-    by_effect : (t : Serial) × (landed_in x.event x.outcome ≡ Some t) × (returned_in x.event x.outcome ≡ Some t) × (t ≡ s) → Effect past x.event x.outcome (λ c. sender c (past ++ x ∷ [])) → (puts s (past ++ x ∷ []) ≡ 0) × NoneFresh s (past ++ x ∷ [])
+    by_effect : (t : Serial) × (settled_in x.event x.outcome ≡ Some t) × (returned_in x.event x.outcome ≡ Some t) × (t ≡ s) → Effect past x.event x.outcome (λ c. sender c (past ++ x ∷ [])) → (puts s (past ++ x ∷ []) ≡ 0) × NoneFresh s (past ++ x ∷ [])
     by_effect now (Keeps same no' again lands) = let both : None ≡ Some now.0 = sym lands ∙ now.1 in absurd (cc)
     by_effect now (Binds at m is free binds still again lands) = let both : None ≡ Some now.0 = sym lands ∙ now.1 in absurd (cc)
     by_effect now (Refuses at m held frees a cause r still no' again lands) =

@@ -28,7 +28,7 @@ use Rattle.am_laws_order.proofs.Senders.{Sender, sender, same_channel-is, sender
 use Rattle.am_names.specs.declared.EndpointId.{EndpointId}
 use Rattle.am_names.specs.declared.Serial.{Serial}
 use Rattle.am_office.specs.declared.Received.{Received}
-use Rattle.am_model.specs.Changes.{flying_of}
+use Rattle.am_model.specs.Changes.{flying_of, settled_by, settled_in}
 use Rattle.am_model.specs.declared.Queued.{Queued}
 use Rattle.am_model.proofs.Received.{bit}
 use Rattle.am_office.specs.Entries.{put_in, returned_in}
@@ -57,24 +57,11 @@ pub record IsRefusal (past : List Entry) (at : Channel) (a : AnswerPacket) (caus
   pub seq : a.seq ≡ sequence at past
   pub attempt : a.attempt ≡ attempt at past
 
--- the serial that leaves in flight here
-abbrev pub landed_by : Received → Option Serial
-landed_by (Got.Delivered serial) = Some serial
-landed_by (Got.Requeued serial cause bounces) = Some serial
-landed_by (Got.Returned serial cause) = Some serial
-landed_by result = None
-
-abbrev pub landed_in : Event → Outcome → Option Serial
-landed_in (Events.Receive node peer number) (Out.Received channel seq attempt result) = landed_by result
-landed_in (Events.Expire node peer channel) (Out.Delivered serial) = Some serial
-landed_in (Events.Expire node peer channel) (Out.Unknown serial) = Some serial
-landed_in event o = None
-
 pub data Effect (past : List Entry) (event : Event) (o : Outcome) (new : Channel → Sender) : Type 0 where
-  Keeps : ((c : Channel) → IsSame (sender c past) (new c)) → bound_at event o ≡ None → requeued_in event o ≡ None → landed_in event o ≡ None → Effect past event o new
-  Binds : (at : Channel) (m : Message) → bound_at event o ≡ Some m → bound_message at past ≡ None → ((c : Channel) → IsBoundTo at m c (sender c past) (new c)) → put_in event o ≡ None → requeued_in event o ≡ None → landed_in event o ≡ None → Effect past event o new
-  Refuses : (at : Channel) (m : Message) → bound_message at past ≡ Some m → ((c : Channel) → IsFreedAt at c (sender c past) (new c)) → (a : AnswerPacket) (cause : Cause) → IsRefusal past at a cause → put_in event o ≡ None → bound_at event o ≡ None → (requeued_in event o ≡ None) ⊎ (requeued_in event o ≡ Some m.serial) → landed_in event o ≡ Some m.serial → Effect past event o new
-  Ends : (at : Channel) (m : Message) → bound_message at past ≡ Some m → ((c : Channel) → IsFreedAt at c (sender c past) (new c)) → put_in event o ≡ None → bound_at event o ≡ None → requeued_in event o ≡ None → landed_in event o ≡ Some m.serial → returned_in event o ≡ None → Effect past event o new
+  Keeps : ((c : Channel) → IsSame (sender c past) (new c)) → bound_at event o ≡ None → requeued_in event o ≡ None → settled_in event o ≡ None → Effect past event o new
+  Binds : (at : Channel) (m : Message) → bound_at event o ≡ Some m → bound_message at past ≡ None → ((c : Channel) → IsBoundTo at m c (sender c past) (new c)) → put_in event o ≡ None → requeued_in event o ≡ None → settled_in event o ≡ None → Effect past event o new
+  Refuses : (at : Channel) (m : Message) → bound_message at past ≡ Some m → ((c : Channel) → IsFreedAt at c (sender c past) (new c)) → (a : AnswerPacket) (cause : Cause) → IsRefusal past at a cause → put_in event o ≡ None → bound_at event o ≡ None → (requeued_in event o ≡ None) ⊎ (requeued_in event o ≡ Some m.serial) → settled_in event o ≡ Some m.serial → Effect past event o new
+  Ends : (at : Channel) (m : Message) → bound_message at past ≡ Some m → ((c : Channel) → IsFreedAt at c (sender c past) (new c)) → put_in event o ≡ None → bound_at event o ≡ None → requeued_in event o ≡ None → settled_in event o ≡ Some m.serial → returned_in event o ≡ None → Effect past event o new
 
 not_same_channel : (c : Channel) (node peer : NodeId) (number : ℕ) → same_channel c node peer number ≡ false → c ≢ channel_to node peer number
 not_same_channel c node peer number h = λ same. true≢false (sym (same_channel-refl (channel_to node peer number)) ∙ (subst (λ (d : Channel). same_channel d node peer number ≡ false) same h))

@@ -7,14 +7,10 @@ use Rattle.am_names.specs.declared.EndpointId.{EndpointId}
 use Rattle.am_names.specs.declared.NodeId.{NodeId}
 use Rattle.am_names.specs.Names.{same_end, same_node}
 use Rattle.am_model.specs.Layout.{Layout, EndSetting, AllAre, AreApart, has_id, home, home_by}
-use Rattle.am_model.specs.History.{is_home}
+use Rattle.am_model.specs.History.{is_home, is_home_by}
+use Rattle.am_office.specs.Entries.{is_node}
 use Rattle.am_model.proofs.Names.{same_end-is, same_end-refl}
 use Rattle.am_local.specs.Together.{AreDeclaredOnce, ends_of}
-
--- whether there is a node, and it is this one
-abbrev pub is_at : NodeId → Option NodeId → Bool
-is_at node None = false
-is_at node (Some other) = same_node node other
 
 pub none_such : {X : Type 0} (p q : X → Bool) → ((x : X) → q x ≡ true → p x ≡ true) → (xs : List X) → list_any p xs ≡ false → list_any q xs ≡ false
 none_such p q within [] h = refl
@@ -25,11 +21,7 @@ none_such p q within (x ∷ xs) h = by_tests (p x) (q x) refl refl h (none_such 
     by_tests false true is on g more = absurd (true≢false (sym (within x on) ∙ is))
     by_tests false false is on g more = more g
 
--- whether a declaration is of the endpoint at the node
-abbrev pub is_home_by : EndpointId → NodeId → EndSetting → Bool
-is_home_by e node s = same_end e s.id && same_node node s.node
-
-home_among : (e : EndpointId) (node : NodeId) (ss : List EndSetting) → AreApart (λ (s t : EndSetting). same_end s.id t.id) ss → list_any (is_home_by e node) ss ≡ is_at node (home_by (find (has_id e) ss))
+home_among : (e : EndpointId) (node : NodeId) (ss : List EndSetting) → AreApart (λ (s t : EndSetting). same_end s.id t.id) ss → list_any (is_home_by e node) ss ≡ is_node node (home_by (find (has_id e) ss))
 home_among e node [] once = refl
 home_among e node (s ∷ ss) once = by_test (same_end e s.id) refl (home_among e node ss once.1)
   where
@@ -43,12 +35,12 @@ home_among e node (s ∷ ss) once = by_test (same_end e s.id) refl (home_among e
     or_false true b h = refl
     or_false false b h = h
 
-    by_test : (b : Bool) → same_end e s.id ≡ b → list_any (is_home_by e node) ss ≡ is_at node (home_by (find (has_id e) ss)) → ((b && same_node node s.node) || list_any (is_home_by e node) ss) ≡ is_at node (home_by (cond b (Some s) (find (has_id e) ss)))
+    by_test : (b : Bool) → same_end e s.id ≡ b → list_any (is_home_by e node) ss ≡ is_node node (home_by (find (has_id e) ss)) → ((b && same_node node s.node) || list_any (is_home_by e node) ss) ≡ is_node node (home_by (cond b (Some s) (find (has_id e) ss)))
     by_test true is more = or_false (same_node node s.node) (list_any (is_home_by e node) ss) (others is)
     by_test false is more = more
 
 -- an endpoint is of the node where it is declared
-pub home_is : (layout : Layout) → AreDeclaredOnce layout → (e : EndpointId) (node : NodeId) → is_home layout e node ≡ is_at node (home layout e)
+pub home_is : (layout : Layout) → AreDeclaredOnce layout → (e : EndpointId) (node : NodeId) → is_home layout e node ≡ is_node node (home layout e)
 home_is layout once e node = home_among e node layout.ends once
 
 -- and of no other
@@ -56,7 +48,7 @@ pub one_home : (layout : Layout) → AreDeclaredOnce layout → (e : EndpointId)
 one_home layout once e n m here there =
     by_home (home layout e) (sym (home_is layout once e n) ∙ here) (sym (home_is layout once e m) ∙ there)
   where
-    by_home : (h : Option NodeId) → is_at n h ≡ true → is_at m h ≡ true → n ≡ m
+    by_home : (h : Option NodeId) → is_node n h ≡ true → is_node m h ≡ true → n ≡ m
     by_home None a b = absurd (true≢false (sym a))
     by_home (Some k) a b = let e : n.0 ≡ k.0 = eqb-true n.0 k.0 a in let f : m.0 ≡ k.0 = eqb-true m.0 k.0 b in λ j. record { 0 = (e ∙ sym f) j }
 

@@ -15,10 +15,10 @@ use Rattle.am_office.specs.Entries.{is_node}
 use Rattle.am_model.specs.Choice.{first_holding}
 use Rattle.am_model.specs.Endpoint.{State, is_resident, is_on_host, is_on_disk}
 use Rattle.am_model.specs.Layout.{Layout, Fault}
-use Rattle.am_model.specs.History.{IsHistory, is_home, is_frame_held, is_page_call, page}
+use Rattle.am_model.specs.History.{IsHistory, is_home, is_frame_held, is_page_call, page, page_calls}
 use Rattle.am_local.specs.Driver.{DriverLog, end_moved, lies_in, is_frame_held_by, is_end_of, page_at}
 use Rattle.am_model.specs.Parts.{driver_of, is_by_driver}
-use Rattle.am_local.specs.Readings.{of_driver, page_calls}
+use Rattle.am_local.specs.Readings.{of_driver}
 use Rattle.am_local.specs.Together.{IsDriverPart, IsState, SaysTheSameOfMove}
 use Rattle.am_local.proofs.Within.{count_within}
 use Rattle.am_local.proofs.Homes.{any_mapped, ends_home}

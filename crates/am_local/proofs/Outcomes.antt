@@ -23,10 +23,11 @@ use Rattle.am_model.specs.Channels.{Channel, Arrival, Stale, Again, Fresh, seque
 use Rattle.am_model.specs.History.{state_of, is_home, channel_to, free_from, channel_by, channel_for, next_number, sent, bind, bind_to, expire, is_answered, bounced, decided, arrive, settle, settle_by, counts, receive, outcome_of, failing}
 use Rattle.am_local.specs.declared.work.Work.{Work}
 use Rattle.am_local.specs.declared.work.Work.TheVariants as Works
-use Rattle.am_local.specs.Interface.{InterfaceLog, home_in, is_node_in, is_home_in, channel_in, channel_by_home, channel_of_front, arrival_in, arrive_at, settles, settle_at, bind_at, has_try_left, expire_at, needs_arrival, needs_bound, event_of, outcome_at, failing_at}
+use Rattle.am_local.specs.Interface.{InterfaceLog, home_in, is_home_in, channel_in, channel_by_home, channel_of_front, arrival_in, arrive_at, settles, settle_at, bind_at, has_try_left, expire_at, needs_arrival, needs_bound, event_of, outcome_at, failing_at}
 use Rattle.am_local.specs.Together.{IsPart, IsState, IsAt, SaysTheSame, from_of, number_of}
 use Rattle.am_local.proofs.Parts.{sequence_own, bound_own, attempt_own, mark_own, number_own, free_own}
-use Rattle.am_local.proofs.Homes.{is_at, home_is}
+use Rattle.am_local.proofs.Homes.{home_is}
+use Rattle.am_office.specs.Entries.{is_node}
 
 -- each reading of a channel's ends is the same by both lists
 pub record SameEnds (past log : List Entry) (c : Channel) : Type 0 where
@@ -156,11 +157,7 @@ received_failing layout past i peer number p part e =
 -- whether an endpoint is of the interface's node
 same_home : (layout : Layout) (past : List Entry) (i : InterfaceLog) → IsPart layout past i → (e : EndpointId) → is_home layout e i.settings.node ≡ is_home_in i e
 same_home layout past i part e =
-    home_is layout part.settings.once e i.settings.node ∙ ap (is_at i.settings.node) (sym (part.settings.homes e)) ∙ by_home (home_in i e)
-  where
-    by_home : (h : Option NodeId) → is_at i.settings.node h ≡ is_node_in i h
-    by_home None = refl
-    by_home (Some node) = refl
+    home_is layout part.settings.once e i.settings.node ∙ ap (is_node i.settings.node) (sym (part.settings.homes e))
 
 failing_same : (layout : Layout) (past : List Entry) (i : InterfaceLog) (s : State) (w : Work) → IsPart layout past i → IsAt layout past i s w → SameFailing layout past i s w
 failing_same layout past i s (Works.Receive (Packets.Parcel p)) part on = received_failing layout past i p.from p.number _ part on.packet.emitted

@@ -1,6 +1,6 @@
 -- A node's driver by its settings and its own log, which has the node's driver entries: what its next move comes to, and
 -- what keeps it from being made. It reads the state of the endpoint that it moves, and nothing of other parts.
-use Rattle.std.specs.Prelude.{ℕ, ◌+◌, Bool, false, ◌==◌, Option, Some, None, List, count_by}
+use Rattle.std.specs.Prelude.{ℕ, ◌+◌, Bool, false, ◌==◌, Option, Some, None, List}
 use Rattle.std.specs.List.{list_any}
 use Rattle.am_names.specs.declared.EndpointId.{EndpointId}
 use Rattle.am_names.specs.declared.NodeId.{NodeId}
@@ -15,7 +15,7 @@ use Rattle.am_model.specs.Choice.{first_holding}
 use Rattle.am_model.specs.Endpoint.{State}
 use Rattle.am_model.specs.Tables.{drain_table, load_table, page_in_table, page_out_table, page_ended, unload_table}
 use Rattle.am_model.specs.Channels.{last_such}
-use Rattle.am_model.specs.History.{is_page_call}
+use Rattle.am_model.specs.History.{page_calls}
 
 -- what a driver begins with: its node, the node's endpoints, and the numbers of its page calls that fail
 pub record DriverSettings : Type 0 where
@@ -65,7 +65,7 @@ is_end_of d e = list_any (same_end e) d.settings.ends
 
 -- the number of the next page call, counted from 1
 abbrev pub page_number : DriverLog → ℕ
-page_number d = count_by (λ (x : Entry). is_page_call d.settings.node x.event) d.log + 1
+page_number d = page_calls d.settings.node d.log + 1
 
 -- what comes of the next page call
 abbrev pub page_at : DriverLog → Outcome

@@ -8,7 +8,6 @@ use Rattle.am_names.specs.declared.Message.{Message}
 use Rattle.am_names.specs.declared.AnswerPacket.{AnswerPacket}
 use Rattle.am_names.specs.declared.Packet.{Packet}
 use Rattle.am_names.specs.declared.Packet.TheVariants as Packets
-use Rattle.am_names.specs.Names.{same_node}
 use Rattle.am_office.specs.declared.Condition.{Condition}
 use Rattle.am_office.specs.declared.Event.{Event}
 use Rattle.am_office.specs.declared.Event.TheVariants as Events
@@ -17,6 +16,7 @@ use Rattle.am_office.specs.declared.Received.TheVariants as Got
 use Rattle.am_office.specs.declared.Outcome.{Outcome}
 use Rattle.am_office.specs.declared.Outcome.TheVariants as Out
 use Rattle.am_office.specs.declared.Entry.{Entry}
+use Rattle.am_office.specs.Entries.{is_node}
 use Rattle.am_model.specs.Choice.{first_holding}
 use Rattle.am_model.specs.declared.Queued.{Queued}
 use Rattle.am_model.specs.Endpoint.{State, front, verdict, entry_at}
@@ -65,13 +65,9 @@ abbrev pub channel_of_front : InterfaceLog → Option Queued → Option ℕ
 channel_of_front i None = None
 channel_of_front i (Some q) = channel_by_home i (home_in i q.message.dest)
 
-abbrev pub is_node_in : InterfaceLog → Option NodeId → Bool
-is_node_in i None = false
-is_node_in i (Some node) = same_node i.settings.node node
-
 -- whether the endpoint is of the interface's node
 abbrev pub is_home_in : InterfaceLog → EndpointId → Bool
-is_home_in i e = is_node_in i (home_in i e)
+is_home_in i e = is_node i.settings.node (home_in i e)
 
 -- the first condition that keeps a work from being done, where the endpoint that it reads is in this state
 abbrev pub failing_at : InterfaceLog → State → Work → Option Condition

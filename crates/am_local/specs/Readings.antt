@@ -1,6 +1,6 @@
 -- The readings of a list of entries that parts keep beside their log: which entries they read, and what one entry more
 -- makes of them.
-use Rattle.std.specs.Prelude.{◌≡◌, ℕ, Bool, true, false, ◌+◌, ◌||◌, List, [], ◌∷◌, ◌++◌, filter, count_by, if◌then◌else◌}
+use Rattle.std.specs.Prelude.{◌≡◌, ℕ, Bool, true, false, ◌+◌, ◌||◌, List, [], ◌∷◌, ◌++◌, filter, if◌then◌else◌}
 use Rattle.am_names.specs.declared.EndpointId.{EndpointId}
 use Rattle.am_names.specs.declared.NodeId.{NodeId}
 use Rattle.am_office.specs.declared.Entry.{Entry}
@@ -8,7 +8,7 @@ use Rattle.am_office.specs.Entries.{touches, touches_node}
 use Rattle.am_model.specs.Changes.{after}
 use Rattle.am_model.specs.Layout.{Layout}
 use Rattle.am_model.specs.Channels.{Channel, sequence, bound_message, attempt, mark, emitted, binds, frees, sends, decides, sent_message, attempt_in, mark_in}
-use Rattle.am_model.specs.History.{state_of, channel_to, free_from, is_page_call}
+use Rattle.am_model.specs.History.{state_of, channel_to, free_from, is_page_call, page_calls}
 use Rattle.am_local.specs.Driver.{changes_frame, is_load_into, lies_in}
 use Rattle.am_model.specs.Parts.{is_by_driver}
 
@@ -19,9 +19,6 @@ of_interface node past = filter (touches_node node) past
 -- the entries that the node's driver makes
 abbrev pub of_driver : NodeId → List Entry → List Entry
 of_driver node past = filter (is_by_driver node) past
-
-abbrev pub page_calls : NodeId → List Entry → ℕ
-page_calls node past = count_by (λ (x : Entry). is_page_call node x.event) past
 
 -- the ends of a node's channels, its free channels and the packets that it emitted are read off the entries of its own
 -- interface, and the number of its page calls off those of its own driver

@@ -15,15 +15,14 @@ use Rattle.am_office.specs.declared.Entry.{Entry}
 use Rattle.am_office.specs.Entries.{ends_touched, touches}
 use Rattle.am_model.specs.Changes.{changed, paged_out}
 use Rattle.am_model.specs.Endpoint.{Body, State, is_on_disk}
-use Rattle.am_model.specs.History.{IsHistory, MayFollow, is_home, is_page_call, state_of}
+use Rattle.am_model.specs.History.{IsHistory, MayFollow, is_home, is_page_call, state_of, page_calls, is_home_by}
 use Rattle.am_model.specs.Layout.{EndSetting, IsLawful, Layout, node_at}
 use Rattle.am_model.proofs.Each.{state_of_push}
 use Rattle.am_model.proofs.Names.{same_end-is, same_end-refl}
 use Rattle.am_model.proofs.Unchanged.{paged_out_body}
 use Rattle.am_model.proofs.Places.{on_host_not_on_disk}
-use Rattle.am_local.specs.Readings.{page_calls}
 use Rattle.am_local.proofs.Growing.{readings_push}
-use Rattle.am_local.proofs.Homes.{is_home_by, one_home}
+use Rattle.am_local.proofs.Homes.{one_home}
 use Rattle.am_laws_disk.specs.Disk.{StaysOnDisk, pages_out}
 use Rattle.am_laws_disk.proofs.Still.{stays}
 use Rattle.am_device.specs.Causes.{fails_after, one_more}

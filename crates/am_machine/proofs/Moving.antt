@@ -14,7 +14,7 @@ use Rattle.am_office.specs.declared.Event.TheVariants as Events
 use Rattle.am_office.specs.declared.Outcome.{Outcome}
 use Rattle.am_office.specs.declared.Outcome.TheVariants as Out
 use Rattle.am_office.specs.declared.Entry.{Entry}
-use Rattle.am_office.specs.Entries.{emitted_in, ends_touched, node_touched}
+use Rattle.am_office.specs.Entries.{emitted_in, ends_touched, node_touched, is_node}
 use Rattle.am_model.specs.Endpoint.{State, is_direct}
 use Rattle.am_model.specs.Layout.{Layout, EndSetting, AllAre, declared, has_id, home, home_by}
 use Rattle.am_model.specs.History.{failing, is_frame_held, is_home, is_in_frame, is_in_range, outcome_of, state_of}
@@ -26,7 +26,7 @@ use Rattle.am_model.specs.Parts.{driver_of, is_by_driver}
 use Rattle.am_local.specs.Granted.{MayMove}
 use Rattle.am_local.specs.Together.{IsDriverPart, IsState, ends_of, faults_of}
 use Rattle.am_local.proofs.Granting.{move_granted}
-use Rattle.am_local.proofs.Homes.{home_is, is_at}
+use Rattle.am_local.proofs.Homes.{home_is}
 use Rattle.am_local.proofs.Moves.{move_local}
 use Rattle.am_laws_homes.proofs.Places.{fits_network}
 use Rattle.am_scenario_types.specs.declared.parts.FaultLine.{FaultLine}
@@ -174,7 +174,7 @@ setting_found (v ∷ vs) e one at = by_test (is_of e v) at (setting_found vs e o
 pub home_here : (layout : Layout) (vs : List EndpointView) (journal : List Entry) (e : EndpointId) (node : NodeId) (one : EndpointView) → layout.ends ≡ map setting_in (map kept vs) → IsTied layout (map kept vs) journal → slice_get vs (position_or_len (is_of e) vs) ≡ Some one → is_home layout e node ≡ same_node node one.settings.node
 home_here layout vs journal e node one ends tied at =
     home_is layout tied.lawful.ids e node
-    ∙ ap (λ (o : Option EndSetting). is_at node (home_by o)) (ap (find (has_id e)) ends ∙ setting_found vs e one at)
+    ∙ ap (λ (o : Option EndSetting). is_node node (home_by o)) (ap (find (has_id e)) ends ∙ setting_found vs e one at)
 
 -- ---- what the endpoint may be given
 

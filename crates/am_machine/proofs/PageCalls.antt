@@ -12,14 +12,13 @@ use Rattle.am_office.specs.declared.Event.TheVariants as Events
 use Rattle.am_office.specs.declared.Outcome.TheVariants as Out
 use Rattle.am_office.specs.declared.Entry.{Entry}
 use Rattle.am_model.specs.Endpoint.{State, is_on_disk}
-use Rattle.am_model.specs.History.{MayFollow, is_page_call, outcome_of, page, state_of}
+use Rattle.am_model.specs.History.{MayFollow, is_page_call, outcome_of, page, state_of, page_calls}
 use Rattle.am_model.specs.Layout.{Fault, Layout}
 use Rattle.am_drain.specs.Made.{next_entry, next_stamp}
 use Rattle.am_model.proofs.Names.{same_end-is}
 use Rattle.am_local.specs.Driver.{end_moved}
 use Rattle.am_model.specs.Parts.{driver_of}
 use Rattle.am_local.specs.Granted.{MayMove}
-use Rattle.am_local.specs.Readings.{page_calls}
 use Rattle.am_laws_disk.specs.Disk.{pages_out}
 use Rattle.am_drain.proofs.Entries.{entry_may_follow}
 use Rattle.am_device.specs.Causes.{fails_after, one_more}

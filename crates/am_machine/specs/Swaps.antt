@@ -3,9 +3,8 @@ use Rattle.std.specs.Prelude.{◌≡◌, ℕ, true, Some, List, length, slice_ge
 use Rattle.am_names.specs.declared.NodeId.{NodeId}
 use Rattle.am_office.specs.declared.Entry.{Entry}
 use Rattle.am_model.specs.Endpoint.{is_on_disk}
-use Rattle.am_model.specs.History.{state_of}
+use Rattle.am_model.specs.History.{state_of, page_calls}
 use Rattle.am_model.specs.Layout.{EndSetting, Layout, node_at}
-use Rattle.am_local.specs.Readings.{page_calls}
 use Rattle.am_local.specs.Together.{faults_of}
 use Rattle.am_device.specs.Memory.{Store}
 use Rattle.am_moves.specs.Pages.{HoldsBody}

@@ -4,12 +4,11 @@ ghost use Rattle.am_machine.specs.Ends.{is_of};
 ghost use Rattle.am_machine.specs.Carries.{At, ArrivesAt, CarriesFrom, IsReady, carried_at, is_place, least_full};
 ghost use Rattle.am_endpoint.specs.View.{state_after};
 ghost use Rattle.am_model.specs.Endpoint.{is_on_disk};
-ghost use Rattle.am_model.specs.History.{judged};
 ghost use Rattle.std.specs.Prelude.{◌≡◌, ◌<◌, ℕ, length, map, nat_le, OnOk, position, slice_get, true, false};
 
 use am_endpoint::{EndFault, Endpoint};
-use am_names::{EndpointId, Message, Verdict};
-use am_office::{Entry, Outcome, Place};
+use am_names::EndpointId;
+use am_office::{Entry, Place};
 
 /// The place of an endpoint among others.
 pub fn place_of(ends: &[Endpoint], id: EndpointId) -> Option<usize>
@@ -49,26 +48,6 @@ pub fn least_full(
         (true, false) => Some(first),
         (false, true) => Some(second),
         (false, false) => None,
-    }
-}
-
-/// What comes of a message that got this verdict.
-pub fn judged(limit: u8, message: Message, bounces: u8, verdict: Verdict) -> Outcome
-    ensures { result ≡ judged limit message bounces verdict }
-{
-    match verdict {
-        Verdict::Accepted => Outcome::Accepted(message),
-        Verdict::Refused(cause) => {
-            if cause.transient() && bounces < limit {
-                Outcome::Requeued {
-                    message,
-                    cause,
-                    used: bounces + 1,
-                }
-            } else {
-                Outcome::Returned { message, cause }
-            }
-        }
     }
 }
 

@@ -208,6 +208,25 @@ expired s (Out.Delivered serial) = with_body s (without_flight serial s.body)
 expired s (Out.Unknown serial) = with_body s (returned_flight serial (flying_of serial s.body.in_flight) Whys.Unknown (without_flight serial s.body))
 expired s outcome = s
 
+-- the message in flight that an answer settles
+abbrev pub settled_by : Received → Option Serial
+settled_by (Got.Delivered serial) = Some serial
+settled_by (Got.Requeued serial cause bounces) = Some serial
+settled_by (Got.Returned serial cause) = Some serial
+settled_by result = None
+
+-- the message in flight that a time-out gives up
+abbrev pub given_up_by : Outcome → Option Serial
+given_up_by (Out.Delivered serial) = Some serial
+given_up_by (Out.Unknown serial) = Some serial
+given_up_by outcome = None
+
+-- the message whose flight ends here: an answer settles it, or a time-out gives it up
+abbrev pub settled_in : Event → Outcome → Option Serial
+settled_in (Events.Receive node peer number) (Out.Received channel seq attempt result) = settled_by result
+settled_in (Events.Expire node peer channel) outcome = given_up_by outcome
+settled_in event outcome = None
+
 -- after the front message was bound to a channel
 abbrev pub bound : State → Outcome → State
 bound s (Out.Sent m peer channel seq attempt number) =

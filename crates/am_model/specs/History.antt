@@ -44,8 +44,12 @@ use Rattle.am_model.specs.Channels.{Channel, Arrival, Stale, Again, Fresh, seque
 abbrev pub state_of : Layout → List Entry → EndpointId → State
 state_of layout past e = replay e (opening layout e) (filter (touches e) past)
 
+-- whether a declaration is of the endpoint at the node
+abbrev pub is_home_by : EndpointId → NodeId → EndSetting → Bool
+is_home_by e node s = same_end e s.id && same_node node s.node
+
 abbrev pub is_home : Layout → EndpointId → NodeId → Bool
-is_home layout e node = list_any (λ (s : EndSetting). same_end e s.id && same_node node s.node) layout.ends
+is_home layout e node = list_any (is_home_by e node) layout.ends
 
 abbrev pub channel_to : NodeId → NodeId → ℕ → Channel
 channel_to node peer number = record { node = node; peer = peer; number = number }
@@ -76,10 +80,13 @@ abbrev pub is_in_frame : ℕ → Place → Bool
 is_in_frame frame (Frame other) = frame == other
 is_in_frame frame place = false
 
+-- whether a declared endpoint is of the node and lies in this frame
+abbrev pub holds_frame : Layout → List Entry → NodeId → ℕ → EndSetting → Bool
+holds_frame layout past node frame s = same_node node s.node && is_in_frame frame (state_of layout past s.id).head.place
+
 -- whether some endpoint of the node lies in this frame
 abbrev pub is_frame_held : Layout → List Entry → NodeId → ℕ → Bool
-is_frame_held layout past node frame =
-    list_any (λ (s : EndSetting). same_node node s.node && is_in_frame frame (state_of layout past s.id).head.place) layout.ends
+is_frame_held layout past node frame = list_any (holds_frame layout past node frame) layout.ends
 
 -- the first condition that keeps an event from happening
 abbrev pub failing : Layout → List Entry → Event → Option Condition
@@ -197,11 +204,14 @@ is_page_call node (Events.PageOut other end) = same_node node other
 is_page_call node (Events.PageIn other end) = same_node node other
 is_page_call node event = false
 
+-- how many page calls a node made
+abbrev pub page_calls : NodeId → List Entry → ℕ
+page_calls node past = count_by (λ (x : Entry). is_page_call node x.event) past
+
 -- what comes of the next page call of a node
 abbrev pub page : Layout → NodeId → List Entry → Outcome
 page layout node past =
-    let number = count_by (λ (x : Entry). is_page_call node x.event) past + 1 in
-    page_ended (list_any (λ (f : Fault). same_node node f.node && (f.number == number)) layout.faults)
+    page_ended (list_any (λ (f : Fault). same_node node f.node && (f.number == page_calls node past + 1)) layout.faults)
 
 -- what comes of an event after these entries
 abbrev pub outcome_of : Layout → List Entry → Event → Outcome

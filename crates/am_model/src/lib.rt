@@ -13,6 +13,10 @@ ghost use Rattle.std.specs.Prelude.{◌≡◌, [], Some, true};
 use am_names::{EndpointId, Message, Serial, Tag, Why};
 use am_office::{Condition, Fate, Part, Place};
 
+mod limits;
+
+pub use limits::{judged, may_bounce};
+
 /// Where the requests of an index go, under which tag, and how many may be out: its credits, or
 /// its least share where the endpoint has a pool.
 #[derive(Clone, Copy, PartialEq, Eq, Debug)]

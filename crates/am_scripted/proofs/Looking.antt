@@ -16,7 +16,7 @@ use Rattle.am_model.specs.declared.Queued.{Queued}
 use Rattle.am_model.specs.Changes.{has_arrivals, has_queued}
 use Rattle.am_model.specs.Channels.{bound_message}
 use Rattle.am_model.specs.Endpoint.{Body, State, front, front_of, is_on_disk}
-use Rattle.am_model.specs.History.{IsHistory, channel_to, is_bound, is_in_frame, state_of}
+use Rattle.am_model.specs.History.{IsHistory, channel_to, is_bound, is_in_frame, state_of, holds_frame}
 use Rattle.am_model.specs.Layout.{EndSetting, IsLawful, Layout, declared, has_id, home, home_by}
 use Rattle.am_channel.specs.declared.sending.Bound.{Bound}
 use Rattle.am_local.specs.Interface.{channel_in}
@@ -275,17 +275,14 @@ bound_read layout past node peer channel i b one is =
 
 -- ---- frames
 
-abbrev pub lies_in : Layout → List Entry → NodeId → ℕ → EndSetting → Bool
-lies_in layout past node frame s = same_node node s.node && is_in_frame frame (state_of layout past s.id).head.place
-
-pub lies_read : (layout : Layout) (past : List Entry) (node : NodeId) (frame k : ℕ) (one : EndpointView) → IsSeen layout past k one → lies_in layout past node frame (setting_in (kept one)) ≡ is_in_frame_of node frame one
+pub lies_read : (layout : Layout) (past : List Entry) (node : NodeId) (frame k : ℕ) (one : EndpointView) → IsSeen layout past k one → holds_frame layout past node frame (setting_in (kept one)) ≡ is_in_frame_of node frame one
 lies_read layout past node frame k one seen = ap (λ (s : State). same_node node one.settings.node && is_in_frame frame s.head.place) (sym seen.state)
 
-pub held_more : (layout : Layout) (past : List Entry) (node : NodeId) (frame k : ℕ) (one : EndpointView) (b : Bool) → IsSeen layout past k one → b ≡ is_in_frame_of node frame one → list_any (lies_in layout past node frame) (take k layout.ends) ≡ false → list_any (lies_in layout past node frame) (take (k + 1) layout.ends) ≡ b
+pub held_more : (layout : Layout) (past : List Entry) (node : NodeId) (frame k : ℕ) (one : EndpointView) (b : Bool) → IsSeen layout past k one → b ≡ is_in_frame_of node frame one → list_any (holds_frame layout past node frame) (take k layout.ends) ≡ false → list_any (holds_frame layout past node frame) (take (k + 1) layout.ends) ≡ b
 held_more layout past node frame k one b seen is before =
     let next : suc k ≡ k + 1 = omega arith in
-    subst (λ (n : ℕ). list_any (lies_in layout past node frame) (take n layout.ends) ≡ b) next
-    (any_more (lies_in layout past node frame) layout.ends k (setting_in (kept one)) b seen.setting (lies_read layout past node frame k one seen ∙ sym is) before)
+    subst (λ (n : ℕ). list_any (holds_frame layout past node frame) (take n layout.ends) ≡ b) next
+    (any_more (holds_frame layout past node frame) layout.ends k (setting_in (kept one)) b seen.setting (lies_read layout past node frame k one seen ∙ sym is) before)
 
-pub held_found : (layout : Layout) (past : List Entry) (node : NodeId) (frame k : ℕ) → list_any (lies_in layout past node frame) (take k layout.ends) ≡ true → list_any (lies_in layout past node frame) layout.ends ≡ true
-held_found layout past node frame k h = any_later (lies_in layout past node frame) layout.ends k h
+pub held_found : (layout : Layout) (past : List Entry) (node : NodeId) (frame k : ℕ) → list_any (holds_frame layout past node frame) (take k layout.ends) ≡ true → list_any (holds_frame layout past node frame) layout.ends ≡ true
+held_found layout past node frame k h = any_later (holds_frame layout past node frame) layout.ends k h

@@ -17,7 +17,7 @@ use Rattle.am_endpoint.specs.View.{EndpointView}
 use Rattle.am_model.specs.Channels.{emitted}
 use Rattle.am_model.specs.Layout.{AllAre, EndSetting, node_at}
 use Rattle.am_journal.specs.View.{is_receipt, receipts}
-use Rattle.am_local.specs.Readings.{page_calls}
+use Rattle.am_model.specs.History.{page_calls}
 use Rattle.am_local.specs.Together.{ends_of}
 use Rattle.am_local.proofs.Moves.{pages_own}
 use Rattle.am_local.proofs.Parts.{emitted_own}

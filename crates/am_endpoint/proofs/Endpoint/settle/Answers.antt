@@ -1,7 +1,7 @@
 use Rattle.std.proofs.Common.{◌≡◌, ◌<◌, [], ◌∷◌, ◌++◌, length, sym, subst, arith}
 use Rattle.std.proofs.lemmas.Grind.{common_steps}
 use Rattle.am_model.proofs.Order.{order_settled}
-use Rattle.am_endpoint.specs.Flights.{settled_in}
+use Rattle.am_model.specs.Changes.{settled_in}
 use Rattle.am_endpoint.specs.Kept.{replayed}
 use Rattle.am_endpoint.specs.View.{EndpointView, state_after}
 use Rattle.am_endpoint.specs.declared.held.Held.TheVariants.{Here}

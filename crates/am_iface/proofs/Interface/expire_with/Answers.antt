@@ -3,7 +3,7 @@ use Rattle.am_office.specs.declared.Entry.{Entry}
 use Rattle.am_channel.specs.declared.sending.TimedOut.TheVariants as Times
 use Rattle.am_channel.specs.Calls.{TimeOut, after}
 use Rattle.am_local.specs.declared.work.Work.TheVariants as Works
-use Rattle.am_endpoint.specs.Flights.{settled_in}
+use Rattle.am_model.specs.Changes.{settled_in}
 use Rattle.am_iface.proofs.GivingUp as giving
 use Rattle.am_iface.proofs.Settled.{given_up_serial}
 use Rattle.am_iface.proofs.TurningWith as turning

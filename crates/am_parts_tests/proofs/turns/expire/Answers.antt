@@ -8,10 +8,10 @@ use Rattle.am_office.specs.declared.Outcome.TheVariants as Out
 use Rattle.am_body.specs.Flights.{slot_of}
 use Rattle.am_model.specs.declared.Flying.{Flying}
 use Rattle.am_model.specs.Allowed.{EndsFlight, tries_used_up}
-use Rattle.am_model.specs.Changes.{flying_of}
+use Rattle.am_model.specs.Changes.{flying_of, given_up_by, settled_in}
 use Rattle.am_model.proofs.Names.{same_serial-is}
 use Rattle.am_model.proofs.Records.{found_is}
-use Rattle.am_endpoint.specs.Flights.{IsSlotOf, given_up_by, settled_in}
+use Rattle.am_endpoint.specs.Flights.{IsSlotOf}
 use Rattle.am_endpoint.specs.View.{state_after}
 use Rattle.am_parts_tests.proofs.turns.expire.Goals as goal
 
