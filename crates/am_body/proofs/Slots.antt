@@ -9,7 +9,7 @@ use Rattle.am_names.specs.declared.Serial.{Serial}
 use Rattle.am_names.specs.declared.Why.{Why}
 use Rattle.am_model.specs.declared.Flying.{Flying}
 use Rattle.am_model.specs.declared.Notice.{Notice}
-use Rattle.am_model.specs.Endpoint.{Body, IsBounded, State, is_arrived, replies_held, requests_held}
+use Rattle.am_model.specs.Endpoint.{Body, IsWithinBounds, State, is_arrived, replies_held, requests_held}
 use Rattle.am_model.specs.Changes.{marked, noticed, put, queued, with_marked}
 use Rattle.am_model.proofs.Sizes.{length_appended}
 use Rattle.am_model.proofs.Sizes.{requests_and_answers}
@@ -19,15 +19,15 @@ pub held_by_kind : (b : Body) → slots_held b ≡ requests_held b + replies_hel
 held_by_kind b =
     omega (arith, requests_and_answers (λ (f : Flying). f.message) b.in_flight, requests_and_answers (λ (n : Notice). n.message) b.notices, requests_and_answers (λ (m : Message). m) b.received)
 
-pub fits_within : (b : Body) → IsBounded b → Fits b
+pub fits_within : (b : Body) → IsWithinBounds b → Fits b
 fits_within b w = omega (arith, held_by_kind b, w.requests, w.replies, w.received, w.answers, w.awaited, count_by-le-length is_arrived b.awaited)
 
 -- a free request slot or reply slot is a free slot
 
-pub spare_request : (b : Body) → IsBounded b → requests_held b < 16 → slots_held b < 80
+pub spare_request : (b : Body) → IsWithinBounds b → requests_held b < 16 → slots_held b < 80
 spare_request b w spare = omega (arith, spare, held_by_kind b, w.replies, w.received, w.answers, w.awaited, count_by-le-length is_arrived b.awaited)
 
-pub spare_reply : (b : Body) → IsBounded b → replies_held b < 16 → slots_held b < 80
+pub spare_reply : (b : Body) → IsWithinBounds b → replies_held b < 16 → slots_held b < 80
 spare_reply b w spare = omega (arith, spare, held_by_kind b, w.requests, w.received, w.answers, w.awaited, count_by-le-length is_arrived b.awaited)
 
 length_marked : (about : Option Serial) (fs : List Flying) → length (with_marked about fs) ≡ length fs

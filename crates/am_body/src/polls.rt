@@ -2,7 +2,7 @@
 ghost use Rattle.am_body.specs.Views.{on_host};
 ghost use Rattle.am_model.specs.Calls.{poll, poll_requests};
 ghost use Rattle.am_model.specs.Changes.{called, with_body};
-ghost use Rattle.am_model.specs.Endpoint.{IsBounded};
+ghost use Rattle.am_model.specs.Endpoint.{IsWithinBounds};
 ghost use Rattle.am_office.specs.declared.Call.TheVariants as Calls;
 ghost use Rattle.std.specs.Prelude.{◌≡◌, ◌+◌, ◌<◌, ◌^◌};
 
@@ -14,7 +14,7 @@ impl Body {
     /// Polls the endpoint `e`, whose body this is: a notice first, then a reply, then a request.
     pub fn poll(&mut self, e: EndpointId) -> Outcome
         requires count { self.old.body.accepted + 1 < 2 ^ 32 }
-        requires within { IsBounded self.old.body }
+        requires within { IsWithinBounds self.old.body }
         ensures outcome { result ≡ poll e (on_host self.old.body) self.old.body.notices }
         ensures state { self.new ≡ record self.old { body = (called (on_host self.old.body) Calls.Poll result).body } }
     {
@@ -40,7 +40,7 @@ impl Body {
     /// A poll where no notice and no reply is there.
     fn poll_requests(&mut self, e: EndpointId) -> Outcome
         requires count { self.old.body.accepted + 1 < 2 ^ 32 }
-        requires within { IsBounded self.old.body }
+        requires within { IsWithinBounds self.old.body }
         ensures outcome { result ≡ poll_requests e (on_host self.old.body) self.old.body.received }
         ensures state { self.new ≡ record self.old { body = (called (on_host self.old.body) Calls.Poll result).body } }
     {

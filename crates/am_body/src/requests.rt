@@ -3,7 +3,7 @@ ghost use Rattle.am_body.specs.Refusals.{of_credit};
 ghost use Rattle.am_body.specs.Views.{on_host, table_of};
 ghost use Rattle.am_model.specs.Calls.{new_request, new_serial, request_refusal};
 ghost use Rattle.am_model.specs.Changes.{request_accepted};
-ghost use Rattle.am_model.specs.Endpoint.{IsBounded, entry_at};
+ghost use Rattle.am_model.specs.Endpoint.{IsWithinBounds, entry_at};
 ghost use Rattle.am_office.specs.declared.Outcome.TheVariants as Out;
 ghost use Rattle.am_translate.specs.Tables.{credit_fault, is_known, target_at};
 ghost use Rattle.std.specs.Prelude.{◌≡◌, ◌+◌, ◌<◌, ◌^◌, [], ◌∷◌, ◌++◌, IfOk, None, OnErr, OnOk, Some, false};
@@ -86,7 +86,7 @@ impl Body {
     ) -> Result<Message, Refusal>
         requires count { self.old.body.accepted + 1 < 2 ^ 32 }
         requires unknown { is_known (table_of self.old) (new_serial e (on_host self.old.body)) ≡ false }
-        requires within { IsBounded self.old.body }
+        requires within { IsWithinBounds self.old.body }
         ensures refusal { result_err result ≡ request_refusal self.old.pool (on_host self.old.body) index }
         ensures message { IfOk result (λ m. new_request e (on_host self.old.body) (entry_at self.old.body.mapped index) handler words ≡ Out.Requested m) }
         ensures ok { IfOk result (λ m. self.new ≡ record self.old { body = (request_accepted index m (on_host self.old.body)).body }) }

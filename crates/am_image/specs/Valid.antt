@@ -1,7 +1,7 @@
 -- Which bodies an endpoint may have on disk.
 use Rattle.std.specs.Prelude.{◌≡◌, ℕ, Option, []}
 use Rattle.am_names.specs.declared.EndpointId.{EndpointId}
-use Rattle.am_model.specs.Endpoint.{Body, IsBounded}
+use Rattle.am_model.specs.Endpoint.{Body, IsWithinBounds}
 use Rattle.am_model.specs.Valid as endpoint
 use Rattle.am_image.specs.Range.{IsInRange}
 
@@ -9,6 +9,6 @@ use Rattle.am_image.specs.Range.{IsInRange}
 -- nothing in flight, and its numbers are in range
 pub record IsValid (e : EndpointId) (pool : Option ℕ) (b : Body) : Type 0 where
   pub valid : endpoint.IsValid e pool b
-  pub within : IsBounded b
+  pub within : IsWithinBounds b
   pub none_in_flight : b.in_flight ≡ []
   pub in_range : IsInRange b

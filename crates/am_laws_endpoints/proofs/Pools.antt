@@ -28,7 +28,7 @@ use Rattle.am_model.specs.declared.Awaited.{Awaited}
 use Rattle.am_model.specs.declared.Queued.{Queued}
 use Rattle.am_model.specs.declared.Flying.{Flying}
 use Rattle.am_model.specs.declared.Notice.{Notice}
-use Rattle.am_model.specs.Endpoint.{State, Body, waits_for, is_waited_for, front, is_arrived, requests_held, replies_held, IsBounded}
+use Rattle.am_model.specs.Endpoint.{State, Body, waits_for, is_waited_for, front, is_arrived, requests_held, replies_held, IsWithinBounds}
 use Rattle.am_model.specs.Calls.{outcome_of_call, answer}
 use Rattle.am_model.specs.Changes.{called, left, reached, paged_out, paged_in, changed, put, received, expired, bound, arrived, with_arrived, flying_of, without_flight, bounces_of}
 use Rattle.am_office.specs.Entries.{put_of, ends_touched, touched_by_result, touches}
@@ -363,14 +363,14 @@ entry_arrives e s (Events.PageIn node end) o t h w = omega (arith, in_arrives s 
 pub record Bounded (layout : Layout) (past : List Entry) : Type 0 where
   pub history : IsHistory layout past
   pub sorted : (e : EndpointId) → AreSorted (state_of layout past e).body
-  pub within : (e : EndpointId) → IsBounded (state_of layout past e).body
+  pub within : (e : EndpointId) → IsWithinBounds (state_of layout past e).body
 
 no_run : (e : EndpointId) (event : Event) (o : Outcome) → is_call event ≡ false → run_at e event o ≡ None
 no_run e (Events.Call actor end call) o h = absurd (true≢false h)
 no_run e event o h = refl
 
 -- of an entry that is no call
-other_within : (layout : Layout) (past : List Entry) (x : Entry) → Bounded layout past → MayFollow layout past x → (e : EndpointId) → touches e x ≡ true → is_call x.event ≡ false → IsBounded (changed e (state_of layout past e) x.event x.outcome).body
+other_within : (layout : Layout) (past : List Entry) (x : Entry) → Bounded layout past → MayFollow layout past x → (e : EndpointId) → touches e x ≡ true → is_call x.event ≡ false → IsWithinBounds (changed e (state_of layout past e) x.event x.outcome).body
 other_within layout past x k may e at h =
     record {
       requests = omega (arith, requests_are (state_of layout past e).body (k.sorted e), requests_are (changed e (state_of layout past e) x.event x.outcome).body new, no_more is_request e (state_of layout past e) x.event x.outcome fits h, (k.within e).requests);
@@ -414,11 +414,11 @@ other_within layout past x k may e at h =
         by_tests true false ha hb f = omega (arith, ap (weight is_request) is, ap bit ha, leb-false 16 (count_by is_request (state_of layout past e).body.received) hb)
         by_tests false b ha hb f = omega (arith, ap (weight is_request) is, ap bit ha, (k.within e).received)
 
-call_within : (layout : Layout) (past : List Entry) (x : Entry) (actor : Actor) (end : EndpointId) (call : Call) → x.event ≡ Events.Call actor end call → Bounded layout past → MayFollow layout past x → (e : EndpointId) → touches e x ≡ true → IsBounded (changed e (state_of layout past e) x.event x.outcome).body
+call_within : (layout : Layout) (past : List Entry) (x : Entry) (actor : Actor) (end : EndpointId) (call : Call) → x.event ≡ Events.Call actor end call → Bounded layout past → MayFollow layout past x → (e : EndpointId) → touches e x ≡ true → IsWithinBounds (changed e (state_of layout past e) x.event x.outcome).body
 call_within layout past x actor end call ev k may e at =
     let fits : x.outcome ≡ outcome_of_call layout.pool end (state_of layout past e) call = subst (λ (v : Event). FitsCall layout.pool (state_of layout past e) v x.outcome) ev (fits_call layout past e x may at) in
-    subst (λ (v : Event). IsBounded (changed e (state_of layout past e) v x.outcome).body) (sym ev)
-    (subst (λ (o : Outcome). IsBounded (called (state_of layout past e) call o).body) (sym fits)
+    subst (λ (v : Event). IsWithinBounds (changed e (state_of layout past e) v x.outcome).body) (sym ev)
+    (subst (λ (o : Outcome). IsWithinBounds (called (state_of layout past e) call o).body) (sym fits)
     (within_called layout.pool end (state_of layout past e) call (k.within e)))
 
 bounded_more : (layout : Layout) (past : List Entry) (x : Entry) → Bounded layout past → MayFollow layout past x → Bounded layout (past ++ x ∷ [])
@@ -429,11 +429,11 @@ bounded_more layout past x k may =
     sorted e true at = rw (state_of_push layout past x e true at) (changed_sorted e (state_of layout past e) x.event x.outcome (k.sorted e))
     sorted e false at = rw (state_of_push layout past x e false at) (k.sorted e)
 
-    by_event : (e : EndpointId) (event : Event) → x.event ≡ event → touches e x ≡ true → IsBounded (changed e (state_of layout past e) x.event x.outcome).body
+    by_event : (e : EndpointId) (event : Event) → x.event ≡ event → touches e x ≡ true → IsWithinBounds (changed e (state_of layout past e) x.event x.outcome).body
     by_event e (Events.Call actor end call) ev at = call_within layout past x actor end call ev k may e at
     by_event e event ev at = other_within layout past x k may e at (ap is_call ev)
 
-    within : (e : EndpointId) (t : Bool) → touches e x ≡ t → IsBounded (state_of layout (past ++ x ∷ []) e).body
+    within : (e : EndpointId) (t : Bool) → touches e x ≡ t → IsWithinBounds (state_of layout (past ++ x ∷ []) e).body
     within e true at = rw (state_of_push layout past x e true at) (by_event e x.event refl at)
     within e false at = rw (state_of_push layout past x e false at) (k.within e)
 
@@ -446,7 +446,7 @@ bounded layout past h =
     sorted None = record { requests = tt; replies = tt }
     sorted (Some setting) = record { requests = tt; replies = tt }
 
-    within : (setting : Option EndSetting) → IsBounded (opening_by layout setting).body
+    within : (setting : Option EndSetting) → IsWithinBounds (opening_by layout setting).body
     within None = record { requests = omega arith; replies = omega arith; awaited = omega arith; received = omega arith; answers = omega arith }
     within (Some setting) = record { requests = omega arith; replies = omega arith; awaited = omega arith; received = omega arith; answers = omega arith }
 

@@ -4,11 +4,11 @@ use Rattle.std.proofs.lemmas.List.Sums.{count_by-le-length}
 use Rattle.am_names.specs.declared.Message.{Message}
 use Rattle.am_model.specs.declared.Flying.{Flying}
 use Rattle.am_model.specs.declared.Notice.{Notice}
-use Rattle.am_model.specs.Endpoint.{Body, IsBounded, is_arrived}
+use Rattle.am_model.specs.Endpoint.{Body, IsWithinBounds, is_arrived}
 use Rattle.am_model.proofs.Sizes.{requests_and_answers}
 use Rattle.am_local.specs.Bounds.{IsBounded}
 
-pub bounded : (b : Body) → IsBounded b → IsBounded b
+pub bounded : (b : Body) → IsWithinBounds b → IsBounded b
 bounded b w =
     record {
       requests = w.requests;

@@ -24,7 +24,8 @@ use Rattle.am_model.specs.History.{state_of, is_home, channel_to, free_from, cha
 use Rattle.am_local.specs.declared.work.Work.{Work}
 use Rattle.am_local.specs.declared.work.Work.TheVariants as Works
 use Rattle.am_local.specs.Interface.{InterfaceLog, home_in, is_home_in, channel_in, channel_by_home, channel_of_front, arrival_in, arrive_at, settles, settle_at, bind_at, has_try_left, expire_at, needs_arrival, needs_bound, event_of, outcome_at, failing_at}
-use Rattle.am_local.specs.Together.{IsPart, IsState, IsAt, SaysTheSame, from_of, number_of}
+use Rattle.am_local.specs.Together.{IsPart, IsState, IsAt, SaysTheSame}
+use Rattle.am_model.specs.Packets.{from_of, number_of}
 use Rattle.am_local.proofs.Parts.{sequence_own, bound_own, attempt_own, mark_own, number_own, free_own}
 use Rattle.am_local.proofs.Homes.{home_is}
 use Rattle.am_office.specs.Entries.{is_node}

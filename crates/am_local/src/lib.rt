@@ -18,7 +18,7 @@ ghost use Rattle.am_model.specs.Allowed.{MayArrive, MayBind, MayCarry, MayDrain,
 ghost use Rattle.am_model.specs.Calls.{outcome_of_call};
 ghost use Rattle.am_model.specs.Changes.{called, made_wanted};
 ghost use Rattle.am_model.specs.Channels.{emitted};
-ghost use Rattle.am_model.specs.Endpoint.{IsBounded, State, Body, fresh, front};
+ghost use Rattle.am_model.specs.Endpoint.{IsWithinBounds, State, Body, fresh, front};
 ghost use Rattle.am_model.specs.History.{IsHistory, MayFollow, state_of};
 ghost use Rattle.am_model.specs.Layout.{IsLawful, IsPoolLawful, Layout};
 ghost use Rattle.am_model.specs.Order.{IsInOrder, KeepsOrder};
@@ -155,7 +155,7 @@ pub fn move_is_granted()
 /// records, and has received at most 16 requests and 32 replies that it did not run.
 pub fn order_is_bounded()
     ensures order { (pool : Option ℕ) (e : EndpointId) (s : State) → IsInOrder pool e s → IsBounded s.body }
-    ensures within { (b : Body) → IsBounded b → IsBounded b }
+    ensures within { (b : Body) → IsWithinBounds b → IsBounded b }
 {}
 
 /// Every change keeps an endpoint in order, by what makes the change allowed alone and not by what came before: its lists

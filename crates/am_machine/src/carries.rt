@@ -5,9 +5,8 @@ ghost use Rattle.am_office.specs.declared.Event.TheVariants as Events;
 ghost use Rattle.std.specs.Prelude.{◌≡◌, true};
 
 use crate::Cluster;
-use am_model::EntryFault;
 use crate::ends::{carry_between, is_full, least_full, place_of, room_for_both};
-use am_model::judged;
+use am_model::{EntryFault, judged};
 use am_names::EndpointId;
 use am_office::{Condition, Entry, Event, Part};
 use am_scenario_types::Network;

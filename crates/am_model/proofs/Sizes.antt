@@ -17,7 +17,7 @@ use Rattle.am_office.specs.declared.HandlerKind.TheVariants.{Note, Echo, Add}
 use Rattle.am_names.specs.Names.{same_serial, is_answer, is_request}
 use Rattle.am_model.specs.Choice.{without_first, first_holding}
 use Rattle.am_model.specs.declared.Notice.{Notice}
-use Rattle.am_model.specs.Endpoint.{State, replies_held, Body, IsBounded, is_arrived, requests_held, waits_for, entry_at}
+use Rattle.am_model.specs.Endpoint.{State, replies_held, Body, IsWithinBounds, is_arrived, requests_held, waits_for, entry_at}
 use Rattle.am_model.specs.Calls.{outcome_of_call, poll, poll_received, poll_requests, request_refusal, unless, new_request, request_message, has_no_credit, answer, handler_run}
 use Rattle.am_model.specs.Changes.{called, appended, without_record, is_of, without_waiting, answer_ran, request_ran, request_accepted}
 use Rattle.am_office.specs.Entries.{run_by, accepted_by}
@@ -86,7 +86,7 @@ request_room pool s index h =
     by_tests false false false false false false false table send h = (leb-false 32 (length s.body.awaited) table, leb-false 16 (requests_held s.body) send)
 
 -- a request that is accepted
-within_accepted : (index : ℕ) (m : Message) (s : State) → is_request m ≡ true → length s.body.awaited < 32 → requests_held s.body < 16 → IsBounded s.body → IsBounded (request_accepted index m s).body
+within_accepted : (index : ℕ) (m : Message) (s : State) → is_request m ≡ true → length s.body.awaited < 32 → requests_held s.body < 16 → IsWithinBounds s.body → IsWithinBounds (request_accepted index m s).body
 within_accepted index m s is table send w =
     let q : length (appended (is_request m) m 0 s.body.requests) ≡ length s.body.requests + 1 = length_appended (is_request m) m 0 s.body.requests ∙ ap (λ (b : Bool). length s.body.requests + bit b) is in
     let r : length (appended (is_answer m) m 0 s.body.replies) ≡ length s.body.replies = length_appended (is_answer m) m 0 s.body.replies ∙ ap (λ (b : Bool). length s.body.replies + bit (if b then false else true)) is ∙ omega arith in
@@ -100,7 +100,7 @@ within_accepted index m s is table send w =
     }
 
 -- a reply or an empty reply that runs
-within_answer : (m : Message) (handler : Option ℕ) (b : Body) → find is_answer b.received ≡ Some m → IsBounded b → IsBounded (answer_ran m handler b)
+within_answer : (m : Message) (handler : Option ℕ) (b : Body) → find is_answer b.received ≡ Some m → IsWithinBounds b → IsWithinBounds (answer_ran m handler b)
 within_answer m handler b found w =
     let passes' : is_answer m ≡ true = found_passes is_answer b.received m found in
     let fewer = find_counts is_answer is_answer b.received m found in
@@ -115,7 +115,7 @@ within_answer m handler b found w =
     }
 
 -- a request that runs, whose answer is queued
-within_request : (m : Message) (ms : List Message) (handler : Option ℕ) (reply : Message) (b : Body) → b.received ≡ m ∷ ms → find is_answer b.received ≡ None → is_request reply ≡ false → replies_held b < 16 → IsBounded b → IsBounded (request_ran m handler reply b)
+within_request : (m : Message) (ms : List Message) (handler : Option ℕ) (reply : Message) (b : Body) → b.received ≡ m ∷ ms → find is_answer b.received ≡ None → is_request reply ≡ false → replies_held b < 16 → IsWithinBounds b → IsWithinBounds (request_ran m handler reply b)
 within_request m ms handler reply b at none kind room w =
     let q : length (appended (is_request reply) reply 0 b.requests) ≡ length b.requests = length_appended (is_request reply) reply 0 b.requests ∙ ap (λ (t : Bool). length b.requests + bit t) kind ∙ omega arith in
     let r : length (appended (is_answer reply) reply 0 b.replies) ≡ length b.replies + 1 = length_appended (is_answer reply) reply 0 b.replies ∙ ap (λ (t : Bool). length b.replies + bit (if t then false else true)) kind in
@@ -128,7 +128,7 @@ within_request m ms handler reply b at none kind room w =
     }
 
 -- the front of the notices goes
-within_notice : (b : Body) → IsBounded b → IsBounded (record b { notices = drop 1 b.notices })
+within_notice : (b : Body) → IsWithinBounds b → IsWithinBounds (record b { notices = drop 1 b.notices })
 within_notice b w =
     record {
       requests = omega (arith, w.requests, drop_le (λ (n : Notice). is_request n.message) b.notices);
@@ -139,7 +139,7 @@ within_notice b w =
     }
 
 -- a call that is no request and no poll
-within_other : (s : State) (c : Call) (o : Outcome) → accepted_by c o ≡ None → run_by c o ≡ None → IsBounded s.body → IsBounded (called s c o).body
+within_other : (s : State) (c : Call) (o : Outcome) → accepted_by c o ≡ None → run_by c o ≡ None → IsWithinBounds s.body → IsWithinBounds (called s c o).body
 within_other s (Calls.Request index handler words) (Out.Requested m) e r w = absurd (cc)
 within_other s Calls.Poll (Out.Zero serial why) e r w = within_notice s.body w
 within_other s Calls.Poll (Out.Ran m handler None) e r w = absurd (cc)
@@ -159,7 +159,7 @@ within_other s (Calls.GiveUp serial) Out.Done e r w =
 within_other s Calls.Close Out.Done e r w = w
 within_other s c o e r w = w
 
-within_requested : (pool : Option ℕ) (e : EndpointId) (s : State) (index handler : ℕ) (words : Words) (r : Option Refusal) (mapping : Option Mapping) → request_refusal pool s index ≡ r → IsBounded s.body → IsBounded (called s (Calls.Request index handler words) (unless r (new_request e s mapping handler words))).body
+within_requested : (pool : Option ℕ) (e : EndpointId) (s : State) (index handler : ℕ) (words : Words) (r : Option Refusal) (mapping : Option Mapping) → request_refusal pool s index ≡ r → IsWithinBounds s.body → IsWithinBounds (called s (Calls.Request index handler words) (unless r (new_request e s mapping handler words))).body
 within_requested pool e s index handler words (Some refusal) mapping is w = w
 within_requested pool e s index handler words None None is w = w
 within_requested pool e s index handler words None (Some mapping) is w = let room = request_room pool s index is in within_accepted index (request_message e s mapping handler words) s refl room.0 room.1 w
@@ -170,24 +170,24 @@ answer_kind e s m (Some (Add to)) = refl
 answer_kind e s m (Some Note) = refl
 answer_kind e s m None = refl
 
-within_polled : (e : EndpointId) (s : State) → IsBounded s.body → (notices : List Notice) → IsBounded (called s Calls.Poll (poll e s notices)).body
+within_polled : (e : EndpointId) (s : State) → IsWithinBounds s.body → (notices : List Notice) → IsWithinBounds (called s Calls.Poll (poll e s notices)).body
 within_polled e s w (notice ∷ notices) = within_notice s.body w
 within_polled e s w [] = by_found (find is_answer s.body.received) refl
   where
-    by_full : (m : Message) (ms : List Message) (full : Bool) → nat_le 16 (replies_held s.body) ≡ full → s.body.received ≡ m ∷ ms → find is_answer s.body.received ≡ None → IsBounded (called s Calls.Poll (if full then Out.Blocked else Out.Ran m (Some m.handler) (Some (answer e s m (entry_at s.body.handlers m.handler))))).body
+    by_full : (m : Message) (ms : List Message) (full : Bool) → nat_le 16 (replies_held s.body) ≡ full → s.body.received ≡ m ∷ ms → find is_answer s.body.received ≡ None → IsWithinBounds (called s Calls.Poll (if full then Out.Blocked else Out.Ran m (Some m.handler) (Some (answer e s m (entry_at s.body.handlers m.handler))))).body
     by_full m ms true is at none = w
     by_full m ms false is at none = within_request m ms (Some m.handler) (answer e s m (entry_at s.body.handlers m.handler)) s.body at none (answer_kind e s m (entry_at s.body.handlers m.handler)) (leb-false 16 (replies_held s.body) is) w
 
-    by_list : (xs : List Message) → s.body.received ≡ xs → find is_answer s.body.received ≡ None → IsBounded (called s Calls.Poll (poll_requests e s xs)).body
+    by_list : (xs : List Message) → s.body.received ≡ xs → find is_answer s.body.received ≡ None → IsWithinBounds (called s Calls.Poll (poll_requests e s xs)).body
     by_list [] at none = w
     by_list (m ∷ ms) at none = by_full m ms (nat_le 16 (replies_held s.body)) refl at none
 
-    by_found : (f : Option Message) → find is_answer s.body.received ≡ f → IsBounded (called s Calls.Poll (poll_received e s f)).body
+    by_found : (f : Option Message) → find is_answer s.body.received ≡ f → IsWithinBounds (called s Calls.Poll (poll_received e s f)).body
     by_found (Some m) is = within_answer m (handler_run s m) s.body is w
     by_found None is = by_list s.body.received refl is
 
 -- a call keeps the bounds
-pub within_called : (pool : Option ℕ) (e : EndpointId) (s : State) (c : Call) → IsBounded s.body → IsBounded (called s c (outcome_of_call pool e s c)).body
+pub within_called : (pool : Option ℕ) (e : EndpointId) (s : State) (c : Call) → IsWithinBounds s.body → IsWithinBounds (called s c (outcome_of_call pool e s c)).body
 within_called pool e s (Calls.Request index handler words) w = within_requested pool e s index handler words (request_refusal pool s index) (entry_at s.body.mapped index) refl w
 within_called pool e s Calls.Poll w = within_polled e s w s.body.notices
 within_called pool e s c w = within_other s c (outcome_of_call pool e s c) refl refl w

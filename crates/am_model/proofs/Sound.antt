@@ -39,7 +39,7 @@ use Rattle.am_model.specs.declared.Mapping.{Mapping}
 use Rattle.am_model.specs.declared.Notice.{Notice}
 use Rattle.am_model.specs.declared.Queued.{Queued}
 use Rattle.am_model.specs.Choice.{first_holding, without_first}
-use Rattle.am_model.specs.Endpoint.{State, Body, IsBounded, fresh, front, front_of, is_arrived, is_waited_for, is_resident, entry_at, requests_held, replies_held, verdict, verdict_of, waits_for}
+use Rattle.am_model.specs.Endpoint.{State, Body, IsWithinBounds, fresh, front, front_of, is_arrived, is_waited_for, is_resident, entry_at, requests_held, replies_held, verdict, verdict_of, waits_for}
 use Rattle.am_model.specs.Calls.{outcome_of_call, answer, poll, poll_received, poll_requests, request_refusal, unless, new_request, request_message, sum_after}
 use Rattle.am_model.specs.Changes.{appended, kind_run, arrived, called, left, marked, put, queued, reached, with_arrived, with_marked, without_front, noticed, bounces_of, flying_of, without_flight, requeued_flight, returned_flight, received, expired, bound, changed, after}
 use Rattle.am_model.specs.History.{judged, settle_by}
@@ -62,7 +62,7 @@ is_flight_formed f = is_well_formed f.message
 
 -- what keeps the lists of a body within their bounds
 pub record IsSound (pool : Option ℕ) (b : Body) : Type 0 where
-  pub within : IsBounded b
+  pub within : IsWithinBounds b
   pub indexes : length b.mapped ≡ 16
   pub credits : list_all (is_mapping_in_range pool) b.mapped ≡ true
   pub requests : list_all is_queued_request b.requests ≡ true
@@ -205,7 +205,7 @@ tables_called pool s (Calls.GiveUp serial) Out.Done range kept = record { indexe
 tables_called pool s Calls.Close Out.Done range kept = kept
 tables_called pool s c o range kept = kept
 
-sound_by : (pool : Option ℕ) (b : Body) → IsBounded b → QueuesKept b → TablesKept pool b → IsSound pool b
+sound_by : (pool : Option ℕ) (b : Body) → IsWithinBounds b → QueuesKept b → TablesKept pool b → IsSound pool b
 sound_by pool b within queues tables =
     record {
       within = within;
@@ -302,10 +302,10 @@ arrived_length None xs = refl
 arrived_length (Some r) [] = refl
 arrived_length (Some r) (a ∷ xs) = ap suc (arrived_length (Some r) xs)
 
-within_put : (m : Message) (s : State) → verdict s m ≡ Verdicts.Accepted → IsBounded s.body → IsBounded (put m s).body
+within_put : (m : Message) (s : State) → verdict s m ≡ Verdicts.Accepted → IsWithinBounds s.body → IsWithinBounds (put m s).body
 within_put m s accepts w = by_kind (is_request m) (is_waited_for s.body.awaited m.about) refl refl (verdict_accepts s m accepts)
   where
-    by_kind : (request awaited : Bool) → is_request m ≡ request → is_waited_for s.body.awaited m.about ≡ awaited → ((is_request m && nat_le 16 (count_by is_request s.body.received)) ≡ false) × ((is_answer m && not (is_waited_for s.body.awaited m.about)) ≡ false) → IsBounded (put m s).body
+    by_kind : (request awaited : Bool) → is_request m ≡ request → is_waited_for s.body.awaited m.about ≡ awaited → ((is_request m && nat_le 16 (count_by is_request s.body.received)) ≡ false) × ((is_answer m && not (is_waited_for s.body.awaited m.about)) ≡ false) → IsWithinBounds (put m s).body
     by_kind true awaited is about h =
         record {
           requests = omega (arith, w.requests, marked_counts is_request m.about s.body.in_flight);

@@ -25,7 +25,7 @@ use Rattle.am_model.specs.declared.Flying.{Flying}
 use Rattle.am_model.specs.declared.Notice.{Notice}
 use Rattle.am_model.specs.declared.Mapping.{Mapping}
 use Rattle.am_model.specs.Calls.{records_at}
-use Rattle.am_model.specs.Endpoint.{Body, IsBounded, is_in_a_frame, entry_at}
+use Rattle.am_model.specs.Endpoint.{Body, IsWithinBounds, is_in_a_frame, entry_at}
 use Rattle.am_office.specs.Entries.{put_by, put_of, run_of, returned_of, unknown_of, requeue_of, emitted_of}
 use Rattle.am_model.specs.Layout.{Layout, AllAre, home}
 use Rattle.am_model.specs.Channels.{Channel, Mark, same_channel, sequence, bound_message, attempt, mark}
@@ -236,7 +236,7 @@ abbrev pub ReceivedTagMatches : Layout → List Entry → Type 0
 ReceivedTagMatches layout past = (e : EndpointId) → AllAre (λ (m : Message). matches (state_of layout past e).body.tag m.tag ≡ true) (state_of layout past e).body.received
 
 abbrev pub PoolsAreBounded : Layout → List Entry → Type 0
-PoolsAreBounded layout past = (e : EndpointId) → IsBounded (state_of layout past e).body
+PoolsAreBounded layout past = (e : EndpointId) → IsWithinBounds (state_of layout past e).body
 
 abbrev pub HasBounced : Layout → List Entry → Message → ℕ → Type 0
 HasBounced layout past m bounces = (bounces ≡ times_serial requeue_of m.serial past) × (bounces ≤ layout.bounces)

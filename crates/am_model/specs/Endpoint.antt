@@ -143,7 +143,7 @@ abbrev pub is_arrived : Awaited → Bool
 is_arrived a = a.arrived
 
 -- the lists of an endpoint are within their bounds
-pub record IsBounded (b : Body) : Type 0 where
+pub record IsWithinBounds (b : Body) : Type 0 where
   pub requests : requests_held b ≤ 16
   pub replies : replies_held b ≤ 16
   pub awaited : length b.awaited ≤ 32
