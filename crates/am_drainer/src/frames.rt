@@ -10,11 +10,12 @@ ghost use Rattle.am_names.specs.Names.{same_end};
 ghost use Rattle.am_scripts.specs.Standings.{standings};
 ghost use Rattle.std.specs.Prelude.{◌≡◌, ◌<◌, ◌&&◌, true, not, is_none, option_map, length, filter, find, Some, IfSome};
 
-use crate::pages::{apply_if, is_on_disk, off_disk};
 use crate::{EndHead, Machine};
 use am_model::{EntryFault, Head};
+use crate::pages::{apply_if, off_disk};
+use am_model::{Head, is_in_a_frame, is_on_disk, is_on_host};
 use am_names::{EndpointId, NodeId};
-use am_office::{Event, Place};
+use am_office::Event;
 
 /// What an endpoint is looked for.
 #[derive(Clone, Copy)]
@@ -33,24 +34,6 @@ pub(crate) enum HeadTest {
         source: EndpointId,
         dest: EndpointId,
     },
-}
-
-fn is_on_host(place: Place) -> bool
-    ensures { result ≡ endpoint.is_on_host place }
-{
-    match place {
-        Place::Host => true,
-        Place::Disk | Place::Frame(_) | Place::Direct => false,
-    }
-}
-
-fn is_in_a_frame(place: Place) -> bool
-    ensures { result ≡ endpoint.is_in_a_frame place }
-{
-    match place {
-        Place::Frame(_) => true,
-        Place::Disk | Place::Host | Place::Direct => false,
-    }
 }
 
 fn is_neither(head: EndHead, source: EndpointId, dest: EndpointId) -> bool

@@ -4,25 +4,15 @@ ghost use Rattle.am_drain.specs.Ready as plan;
 ghost use Rattle.am_drainer.specs.Reads.{is_seat};
 ghost use Rattle.am_drainer.specs.Stops.{Acts};
 ghost use Rattle.am_scripts.specs.Layout.{layout_of};
-ghost use Rattle.am_model.specs.Endpoint as endpoint;
 ghost use Rattle.am_model.specs.History.{is_in_range};
 ghost use Rattle.am_model.specs.Layout as layouts;
 ghost use Rattle.std.specs.Prelude.{◌≡◌, true};
 
 use crate::Machine;
 use am_model::EntryFault;
+use am_model::is_on_disk;
 use am_names::{EndpointId, NodeId};
-use am_office::{Event, Place};
-
-/// Whether it is the disk.
-pub(crate) fn is_on_disk(place: Place) -> bool
-    ensures { result ≡ endpoint.is_on_disk place }
-{
-    match place {
-        Place::Disk => true,
-        Place::Host | Place::Frame(_) | Place::Direct => false,
-    }
-}
+use am_office::Event;
 
 /// Makes the entry of an event under a condition.
 pub(crate) fn apply_if<M: Machine>(

@@ -1,49 +1,11 @@
 // The tests that the rules make of a view's lines.
 ghost use Rattle.am_driver.specs.Moves as rules;
-ghost use Rattle.am_model.specs.Endpoint.{is_in_a_frame, is_on_disk, is_on_host};
-ghost use Rattle.am_model.specs.History.{is_in_frame};
 ghost use Rattle.std.specs.Prelude.{◌≡◌, count_by, find};
 ghost use Rattle.std.specs.List.{list_any};
 
 use crate::{EndView, View};
+use am_model::{is_in_a_frame, is_in_frame, is_on_disk, is_on_host};
 use am_names::EndpointId;
-use am_office::Place;
-
-fn is_on_host(place: Place) -> bool
-    ensures { result ≡ is_on_host place }
-{
-    match place {
-        Place::Host => true,
-        Place::Disk | Place::Frame(_) | Place::Direct => false,
-    }
-}
-
-fn is_on_disk(place: Place) -> bool
-    ensures { result ≡ is_on_disk place }
-{
-    match place {
-        Place::Disk => true,
-        Place::Host | Place::Frame(_) | Place::Direct => false,
-    }
-}
-
-fn is_in_a_frame(place: Place) -> bool
-    ensures { result ≡ is_in_a_frame place }
-{
-    match place {
-        Place::Frame(_) => true,
-        Place::Host | Place::Disk | Place::Direct => false,
-    }
-}
-
-fn is_in_frame(frame: u8, place: Place) -> bool
-    ensures { result ≡ is_in_frame frame place }
-{
-    match place {
-        Place::Frame(other) => frame == other,
-        Place::Host | Place::Disk | Place::Direct => false,
-    }
-}
 
 fn is_leaving(end: &EndView) -> bool
     ensures { result ≡ rules.is_leaving end.now }

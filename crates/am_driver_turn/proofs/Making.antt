@@ -8,7 +8,8 @@ use Rattle.am_office.specs.declared.Entry.{Entry}
 use Rattle.am_body.specs.declared.settings.EndSettings.{EndSettings}
 use Rattle.am_books.specs.Books.{IsBook}
 use Rattle.am_device.specs.Memory.{Store}
-use Rattle.am_endpoint.specs.View.{EndpointView, last_stamp, state_after}
+use Rattle.am_endpoint.specs.View.{EndpointView, state_after}
+use Rattle.am_model.specs.Parts.{last_stamp}
 use Rattle.am_moves.specs.Logs.{EndLog, kept}
 use Rattle.am_moves.specs.Moves.{CanMove, Moves}
 use Rattle.am_phase.specs.Lying.{keeps_body, keeps_on_disk}

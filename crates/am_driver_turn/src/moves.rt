@@ -1,6 +1,6 @@
 //! What a driver does with an endpoint that it has entered.
 ghost use Rattle.am_driver.specs.Moves as rules;
-ghost use Rattle.am_endpoint.specs.View.{last_stamp};
+ghost use Rattle.am_model.specs.Parts.{last_stamp};
 ghost use Rattle.am_moves.specs.Logs.{kept};
 ghost use Rattle.am_moves.specs.Moves.{CanMove};
 ghost use Rattle.am_works.specs.Drives as drives;

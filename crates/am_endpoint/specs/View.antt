@@ -1,6 +1,6 @@
 -- An endpoint as its callers see it: what it began with, its log, whether it has room for one more entry, and the slots of
 -- its messages in flight, in order.
-use Rattle.std.specs.Prelude.{ℕ, ◌-◌, Bool, Option, None, Some, List, length, slice_get}
+use Rattle.std.specs.Prelude.{ℕ, ◌-◌, Bool, List}
 use Rattle.am_office.specs.declared.Entry.{Entry}
 use Rattle.am_model.specs.Endpoint.{State, fresh}
 use Rattle.am_model.specs.Changes.{replay}
@@ -19,11 +19,3 @@ state_by set log = replay set.id (fresh set.tag set.place) log
 -- the state of an endpoint: its log replayed from its opening state
 abbrev pub state_after : EndpointView → State
 state_after v = state_by v.settings v.log
-
-abbrev pub stamp_by : Option Entry → ℕ
-stamp_by None = 0
-stamp_by (Some x) = x.stamp
-
--- the stamp of the last entry, and 0 where there is none
-abbrev pub last_stamp : List Entry → ℕ
-last_stamp log = stamp_by (slice_get log (length log - 1))

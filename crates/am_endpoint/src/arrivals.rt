@@ -1,22 +1,12 @@
 // The verdict of an endpoint on a message that arrives.
 ghost use Rattle.am_endpoint.specs.Seen.{state_in};
-ghost use Rattle.am_model.specs.Endpoint.{is_resident, is_waited_for, verdict};
+ghost use Rattle.am_model.specs.Endpoint.{is_waited_for, verdict};
 ghost use Rattle.std.specs.Prelude.{◌≡◌, cond};
 
 use crate::fields::Fields;
 use am_body::is_request;
-use am_model::Head;
+use am_model::{Head, is_resident};
 use am_names::{Cause, Message, Serial, Verdict};
-use am_office::Place;
-
-fn is_resident(place: Place) -> bool
-    ensures { result ≡ is_resident place }
-{
-    match place {
-        Place::Frame(_) | Place::Direct => true,
-        Place::Host | Place::Disk => false,
-    }
-}
 
 /// The verdict of an endpoint on disk.
 pub fn verdict_on_disk(head: Head) -> Verdict

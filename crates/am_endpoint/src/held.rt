@@ -1,13 +1,12 @@
 // What an endpoint keeps of its state, in memory and on disk.
 ghost use Rattle.am_endpoint.specs.Held.{IsHeldOf, head_of, held_wanted};
-ghost use Rattle.am_model.specs.Endpoint.{fresh, is_on_disk};
+ghost use Rattle.am_model.specs.Endpoint.{fresh};
 ghost use Rattle.std.specs.Prelude.{◌≡◌, IfOk};
 
 use crate::fields::Fields;
 use am_body::{Body, EndSettings};
-use am_model::Head;
+use am_model::{Head, is_on_disk};
 use am_names::NoMemory;
-use am_office::Place;
 use std::alloc::Global;
 
 /// What is kept of a state: all of it in memory, and on disk its head alone.
@@ -15,16 +14,6 @@ use std::alloc::Global;
 pub enum Held {
     Here(Fields),
     OnDisk(Head),
-}
-
-/// Whether a place is on disk.
-pub fn is_on_disk(place: Place) -> bool
-    ensures { result ≡ is_on_disk place }
-{
-    match place {
-        Place::Disk => true,
-        Place::Host | Place::Frame(_) | Place::Direct => false,
-    }
 }
 
 impl Held {

@@ -13,7 +13,8 @@ use Rattle.am_local.specs.Interface.{event_of, failing_at, outcome_at}
 use Rattle.am_iface.specs.declared.Turned.{Turned}
 use Rattle.am_model.specs.declared.EntryFault.{EntryFault}
 use Rattle.am_model.specs.declared.EntryFault.TheVariants as Faults
-use Rattle.am_iface.specs.View.{InterfaceView, last_stamp, own}
+use Rattle.am_iface.specs.View.{InterfaceView, own}
+use Rattle.am_model.specs.Parts.{last_stamp}
 
 -- the stamp of the packet in hand, and 0 where there is none
 abbrev pub stamp_in : Work → ℕ

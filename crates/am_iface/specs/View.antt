@@ -1,5 +1,5 @@
 -- An interface as its callers see it, and the work that it can be given.
-use Rattle.std.specs.Prelude.{◌≡◌, ℕ, ◌-◌, ◌<◌, ◌≤◌, true, Option, None, Some, List, length, slice_get}
+use Rattle.std.specs.Prelude.{◌≡◌, ℕ, ◌-◌, ◌<◌, ◌≤◌, true, List}
 use Rattle.am_names.specs.declared.NodeId.{NodeId}
 use Rattle.am_names.specs.declared.Parcel.{Parcel}
 use Rattle.am_names.specs.declared.AnswerPacket.{AnswerPacket}
@@ -29,14 +29,6 @@ own v =
           };
       log = v.log;
     }
-
-abbrev pub stamp_by : Option Entry → ℕ
-stamp_by None = 0
-stamp_by (Some x) = x.stamp
-
--- the stamp of the last entry, and 0 where there is none
-abbrev pub last_stamp : List Entry → ℕ
-last_stamp log = stamp_by (slice_get log (length log - 1))
 
 -- a peer and a channel are of the settings
 pub record IsChannelOf (set : SettingsView) (to : NodeId) (number : ℕ) : Type 0 where

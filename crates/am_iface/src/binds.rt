@@ -10,7 +10,7 @@ ghost use Rattle.am_iface.specs.With.{IsFullOf, IsHomeKnown, TurnsWith};
 ghost use Rattle.am_local.specs.Interface.{channel_in, channel_of_front, failing_at, home_in};
 ghost use Rattle.am_local.specs.declared.work.Work.TheVariants as Works;
 ghost use Rattle.am_model.specs.Allowed.{MayBind};
-ghost use Rattle.am_model.specs.Endpoint.{front, is_direct, is_resident};
+ghost use Rattle.am_model.specs.Endpoint.{front, is_direct};
 ghost use Rattle.am_model.specs.History.{free_from};
 ghost use Rattle.am_office.specs.Entries.{emitted_of};
 ghost use Rattle.am_office.specs.declared.Condition.{Condition};
@@ -24,8 +24,9 @@ use crate::{Interface, Turned, write};
 use am_channel::Ends;
 use am_endpoint::Endpoint;
 use am_model::{EntryFault, Queued};
+use am_model::{Queued, is_resident};
 use am_names::{EndpointId, Message, NodeId};
-use am_office::{Condition, Entry, Part, Place};
+use am_office::{Condition, Entry, Part};
 
 impl Interface {
     /// The node of an endpoint, if it is declared.
@@ -208,15 +209,5 @@ impl Interface {
             Some(why) => Err(EntryFault::NotEnabled(why)),
             None => self.bind_front(stamp, endpoint),
         }
-    }
-}
-
-/// Whether an endpoint that lies there is resident.
-fn is_resident(place: Place) -> bool
-    ensures { result ≡ is_resident place }
-{
-    match place {
-        Place::Frame(_) | Place::Direct => true,
-        Place::Host | Place::Disk => false,
     }
 }

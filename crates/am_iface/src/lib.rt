@@ -3,10 +3,10 @@
 #![tactic(auto)]
 
 ghost use Rattle.am_iface.specs.Settings.{AreLawful};
-ghost use Rattle.am_endpoint.specs.View as endpoints;
 ghost use Rattle.am_endpoint.specs.View.{state_after};
 ghost use Rattle.am_iface.specs.Turns.{IsFull, Turns, stamp_after, stamp_in};
-ghost use Rattle.am_iface.specs.View.{FitsAnswer, FitsInterface, FitsParcel, InterfaceView, IsChannelOf, last_stamp, own};
+ghost use Rattle.am_iface.specs.View.{FitsAnswer, FitsInterface, FitsParcel, InterfaceView, IsChannelOf, own};
+ghost use Rattle.am_model.specs.Parts.{last_stamp};
 ghost use Rattle.am_iface.specs.With.{IsFullOf, KnowsHome};
 ghost use Rattle.am_channel.specs.declared.sending.Bound.{Bound};
 ghost use Rattle.am_channel.specs.Counted.{AreCounted};
@@ -326,9 +326,9 @@ impl Interface {
     fn stamp_with(&self, floor: u64, work: &Work, endpoint: &Endpoint) -> u64
         requires floor { floor + 1 < 2 ^ 64 }
         requires last { last_stamp self.now.log + 1 < 2 ^ 64 }
-        requires last_there { endpoints.last_stamp endpoint.now.log + 1 < 2 ^ 64 }
+        requires last_there { last_stamp endpoint.now.log + 1 < 2 ^ 64 }
         requires packet { stamp_in work.now + 1 < 2 ^ 64 }
-        ensures { result ≡ stamp_after (max floor (endpoints.last_stamp endpoint.now.log)) self.now.log work.now }
+        ensures { result ≡ stamp_after (max floor (last_stamp endpoint.now.log)) self.now.log work.now }
     {
         self.stamp_after(floor.max(endpoint.last_stamp()), work)
     }
@@ -427,13 +427,13 @@ impl Interface {
         requires flies { FitsEndpoint (own self.old) (state_after endpoint.old) work.now }
         requires floor { floor + 1 < 2 ^ 64 }
         requires last { last_stamp self.old.log + 1 < 2 ^ 64 }
-        requires last_there { endpoints.last_stamp endpoint.old.log + 1 < 2 ^ 64 }
+        requires last_there { last_stamp endpoint.old.log + 1 < 2 ^ 64 }
         requires packet { stamp_in work.now + 1 < 2 ^ 64 }
 
         // the one entry of the work at the endpoint's state, and its packet
         ensures event { IfOk result (λ t. t.entry.event ≡ event_of self.old.settings.node work.now) }
         ensures outcome { IfOk result (λ t. t.entry.outcome ≡ outcome_at (own self.old) (state_after endpoint.old) work.now) }
-        ensures stamp { IfOk result (λ t. t.entry.stamp ≡ stamp_after (max floor (endpoints.last_stamp endpoint.old.log)) self.old.log work.now) }
+        ensures stamp { IfOk result (λ t. t.entry.stamp ≡ stamp_after (max floor (last_stamp endpoint.old.log)) self.old.log work.now) }
         ensures out { IfOk result (λ t. t.out ≡ emitted_of t.entry) }
         ensures logged { IfOk result (λ t. self.new ≡ record self.old { log = self.old.log ++ t.entry ∷ [] }) }
         ensures logged_there { IfOk result (λ t. endpoint.new.log ≡ endpoint.old.log ++ t.entry ∷ []) }

@@ -33,7 +33,8 @@ use Rattle.am_journal.specs.View.{IsIndexOf, Readings, greatest_stamp}
 use Rattle.am_scenario_types.specs.declared.parts.FaultLine.{FaultLine}
 use Rattle.am_endpoint.specs.View.{EndpointView}
 use Rattle.am_journal.proofs.Lists.{index_got}
-use Rattle.am_iface.specs.View.{FitsInterface, InterfaceView, last_stamp, own}
+use Rattle.am_iface.specs.View.{FitsInterface, InterfaceView, own}
+use Rattle.am_model.specs.Parts.{last_stamp}
 use Rattle.am_iface.specs.Turns.{stamp_in}
 use Rattle.am_device.specs.Memory.{Store}
 use Rattle.am_machine.specs.declared.settings.Settings.{Settings}

@@ -14,8 +14,8 @@ use Rattle.am_model.specs.Packets.{from_of, number_of}
 use Rattle.am_drain.specs.Made.{next_stamp}
 use Rattle.am_journal.specs.View.{CanCount, Readings}
 use Rattle.am_endpoint.specs.View.{EndpointView, state_after}
-use Rattle.am_endpoint.specs.View as endpoints
-use Rattle.am_iface.specs.View.{FitsInterface, InterfaceView, last_stamp, own}
+use Rattle.am_iface.specs.View.{FitsInterface, InterfaceView, own}
+use Rattle.am_model.specs.Parts.{last_stamp}
 use Rattle.am_iface.specs.Turns.{IsFull, stamp_in}
 use Rattle.am_iface.specs.With.{IsFullOf, KnowsHome}
 use Rattle.am_moves.specs.Logs.{EndLog, kept, state_in}
@@ -84,4 +84,4 @@ pub record CanTurnWith (i : InterfaceView) (d : EndLog) (r : Readings) (w : Work
   pub bounces : d.settings.bounces ≡ i.settings.bounces
   pub known : KnowsHome (own i) (state_in d) w
   pub flies : FitsEndpoint (own i) (state_in d) w
-  pub last : endpoints.last_stamp d.log ≤ r.greatest
+  pub last : last_stamp d.log ≤ r.greatest

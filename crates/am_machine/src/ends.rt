@@ -8,7 +8,7 @@ ghost use Rattle.std.specs.Prelude.{◌≡◌, ◌<◌, ℕ, length, map, nat_le
 
 use am_endpoint::{EndFault, Endpoint};
 use am_names::EndpointId;
-use am_office::{Entry, Place};
+use am_office::Entry;
 
 /// The place of an endpoint among others.
 pub fn place_of(ends: &[Endpoint], id: EndpointId) -> Option<usize>
@@ -21,10 +21,7 @@ pub fn place_of(ends: &[Endpoint], id: EndpointId) -> Option<usize>
 pub fn is_on_disk(end: &Endpoint) -> bool
     ensures { result ≡ is_on_disk (state_after end.now).head.place }
 {
-    match end.place() {
-        Place::Disk => true,
-        Place::Host | Place::Frame(_) | Place::Direct => false,
-    }
+    am_model::is_on_disk(end.place())
 }
 
 /// Whether the log has as many entries as it may.

@@ -1,34 +1,15 @@
 // What a driver's move asks of the endpoint that it moves and of the frames.
 ghost use Rattle.am_endpoint.specs.View.{state_after};
-ghost use Rattle.am_machine.specs.Moves.{failing_on, failing_unload, is_in_frame_of, is_taken};
-ghost use Rattle.am_model.specs.Endpoint as model;
-ghost use Rattle.am_model.specs.History as history;
+ghost use Rattle.am_machine.specs.Moves.{failing_on, is_in_frame_of, is_taken};
 ghost use Rattle.std.specs.Prelude.{◌≡◌};
+ghost use Rattle.am_model.specs.Choice.{first_holding};
+ghost use Rattle.am_model.specs.Tables.{unload_table};
 ghost use Rattle.std.specs.List.{list_any};
 
 use am_endpoint::Endpoint;
+use am_model::{is_in_frame, is_resident};
 use am_names::NodeId;
 use am_office::{Condition, Event, Place};
-
-/// Whether what lies there is resident.
-fn is_resident(place: Place) -> bool
-    ensures { result ≡ model.is_resident place }
-{
-    match place {
-        Place::Frame(_) | Place::Direct => true,
-        Place::Host | Place::Disk => false,
-    }
-}
-
-/// Whether it is this frame.
-fn is_in_frame(frame: u8, place: Place) -> bool
-    ensures { result ≡ history.is_in_frame frame place }
-{
-    match place {
-        Place::Frame(other) => frame == other,
-        Place::Host | Place::Disk | Place::Direct => false,
-    }
-}
 
 /// Whether an endpoint of the node lies in the frame.
 fn is_frame_held(ends: &[Endpoint], node: NodeId, frame: u8) -> bool
@@ -89,7 +70,7 @@ pub(crate) fn failing_on(end: &Endpoint, event: Event, is_taken: bool) -> Option
 
 /// The first condition of an unload that an endpoint doesn't meet.
 fn failing_unload(end: &Endpoint) -> Option<Condition>
-    ensures { result ≡ failing_unload (state_after end.now) }
+    ensures { result ≡ first_holding (unload_table true (state_after end.now)) }
 {
     if !is_resident(end.place()) {
         Some(Condition::NotResident)

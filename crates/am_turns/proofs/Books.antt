@@ -5,7 +5,8 @@ use Rattle.am_office.specs.declared.Actor.{Actor}
 use Rattle.am_office.specs.declared.Event.{Event}
 use Rattle.am_office.specs.declared.Event.TheVariants as Events
 use Rattle.am_office.specs.declared.Entry.{Entry}
-use Rattle.am_endpoint.specs.View.{EndpointView, last_stamp, state_after}
+use Rattle.am_endpoint.specs.View.{EndpointView, state_after}
+use Rattle.am_model.specs.Parts.{last_stamp}
 use Rattle.am_endpoint.specs.declared.settings.EndFault.{EndFault}
 use Rattle.am_endpoint.specs.declared.settings.EndFault.TheVariants as Faults
 use Rattle.am_model.specs.Endpoint.{State, is_on_disk}
@@ -17,7 +18,6 @@ use Rattle.am_office.specs.declared.Part.{Part}
 use Rattle.am_office.specs.declared.Part.TheVariants as Parts
 use Rattle.am_local.specs.declared.work.Work.{Work}
 use Rattle.am_iface.specs.Turns.{stamp_after, stamp_in}
-use Rattle.am_iface.specs.View as ifaces
 use Rattle.am_iface.specs.View.{InterfaceView}
 use Rattle.am_iface.specs.With.{IsFullOf}
 use Rattle.am_iface.specs.declared.Turned.{Turned}
@@ -58,7 +58,7 @@ pub worked_book : (e f : EndpointView) (i : InterfaceView) (w : Work) (r : Resul
     → TellsDisabled r failing → TellsFull r failing (IsFullOf i e) → IfOk r (λ (t : Turned). t.entry.stamp ≡ stamp_after (max 0 (last_stamp e.log)) i.log w) → IfOk r (λ (t : Turned). keeps_on_disk (state_after e) t.entry ≡ true) → IsBook f
 worked_book e f i w (Ok t) failing b set log same disabled full stamped keeps =
     grown_book e f t.entry b set log (λ h. full_none t failing (IsFullOf i e) (Parts.Endpoint e.settings.id) disabled full (inl (refl, h)))
-    (above (last_stamp e.log) (ifaces.last_stamp i.log) (stamp_in w) t.entry.stamp stamped) keeps
+    (above (last_stamp e.log) (last_stamp i.log) (stamp_in w) t.entry.stamp stamped) keeps
   where
     above : (n l s stamp : ℕ) → stamp ≡ 1 + max (max (max 0 n) l) s → n < stamp
     above n l s stamp is = omega arith

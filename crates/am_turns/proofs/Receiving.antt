@@ -14,8 +14,8 @@ use Rattle.am_office.specs.declared.Event.TheVariants as Events
 use Rattle.am_office.specs.declared.Outcome.TheVariants as Out
 use Rattle.am_office.specs.declared.Entry.{Entry}
 use Rattle.am_office.specs.Entries.{ends_touched, touches}
-use Rattle.am_endpoint.specs.View as endpoints
 use Rattle.am_model.specs.declared.Queued.{Queued}
+use Rattle.am_model.specs.Parts.{last_stamp}
 use Rattle.am_model.specs.Changes.{flying_of}
 use Rattle.am_model.specs.Channels.{attempt, bound_message, sequence}
 use Rattle.am_model.specs.Endpoint.{State, front}
@@ -25,7 +25,6 @@ use Rattle.am_local.specs.Interface.{InterfaceLog, bind_at, channel_in, channel_
 use Rattle.am_local.specs.declared.work.Work.{Work}
 use Rattle.am_local.specs.declared.work.Work.TheVariants as Works
 use Rattle.am_iface.specs.Turns.{stamp_after, stamp_in}
-use Rattle.am_iface.specs.View as ifaces
 use Rattle.am_iface.specs.View.{InterfaceView, own}
 use Rattle.am_merge.specs.Logs.{IsRising}
 use Rattle.am_phase.specs.Crew.{AreReceipts, is_last_by, is_receipt}
@@ -40,15 +39,8 @@ use Rattle.am_works.proofs.Keeping.{AreOf}
 
 -- ---- the stamp
 
-same_last : (log : List Entry) → ifaces.last_stamp log ≡ endpoints.last_stamp log
-same_last log = by_option (slice_get log (length log - 1))
-  where
-    by_option : (o : Option Entry) → ifaces.stamp_by o ≡ endpoints.stamp_by o
-    by_option None = refl
-    by_option (Some x) = refl
-
 pub rises_by : (log : List Entry) (x : Entry) (floor : ℕ) (w : Work) → IsRising log → x.stamp ≡ stamp_after floor log w → IsRising (log ++ x ∷ [])
-rises_by log x floor w rising is = rising_push log x rising (subst (λ (n : ℕ). n < x.stamp) (same_last log) (above floor (ifaces.last_stamp log) (stamp_in w) x.stamp is))
+rises_by log x floor w rising is = rising_push log x rising (above floor (last_stamp log) (stamp_in w) x.stamp is)
   where
     above : (f n s stamp : ℕ) → stamp ≡ 1 + max (max f n) s → n < stamp
     above f n s stamp is = omega arith

@@ -15,7 +15,8 @@ use Rattle.am_office.specs.declared.Event.TheVariants as Events
 use Rattle.am_office.specs.declared.Entry.{Entry}
 use Rattle.am_office.specs.Entries.{touches}
 use Rattle.am_body.specs.declared.settings.EndSettings.{EndSettings}
-use Rattle.am_endpoint.specs.View.{last_stamp, state_by}
+use Rattle.am_endpoint.specs.View.{state_by}
+use Rattle.am_model.specs.Parts.{last_stamp}
 use Rattle.am_model.specs.Calls.{outcome_of_call}
 use Rattle.am_model.specs.Choice.{first_holding}
 use Rattle.am_model.specs.Changes.{replay}

@@ -9,13 +9,13 @@ use Rattle.am_names.specs.declared.NodeId.{NodeId}
 use Rattle.am_names.specs.declared.Packet.TheVariants as Packets
 use Rattle.am_body.specs.declared.settings.EndSettings.{EndSettings}
 use Rattle.am_phase.specs.Lying.{moves_by}
-use Rattle.am_endpoint.specs.View.{EndpointView, last_stamp, state_after}
+use Rattle.am_endpoint.specs.View.{EndpointView, state_after}
+use Rattle.am_model.specs.Parts.{last_stamp}
 use Rattle.am_model.specs.Endpoint.{State}
 use Rattle.am_local.specs.declared.work.Work.{Work}
 use Rattle.am_local.specs.declared.work.Work.TheVariants as Works
 use Rattle.am_local.specs.Interface.{event_of, failing_at, needs, outcome_at}
 use Rattle.am_iface.specs.Turns.{IsFull, stamp_after, stamp_in}
-use Rattle.am_iface.specs.View as ifaces
 use Rattle.am_iface.specs.View.{InterfaceView, own}
 use Rattle.am_iface.specs.With.{IsFullOf}
 use Rattle.am_iface.specs.declared.Turned.{Turned}
@@ -64,15 +64,15 @@ low_alone l s stamp top is b c = omega arith
 -- the work is done
 pub worked_found : (e : EndpointView) (i j : InterfaceView) (w : Work) (t : Turned) → needs (own i) w ≡ Some e.settings.id → TellsDisabled (Ok t) (failing_at (own i) (state_after e) w) → t.entry.event ≡ event_of i.settings.node w
     → t.entry.outcome ≡ outcome_at (own i) (state_after e) w → t.entry.stamp ≡ stamp_after (max 0 (last_stamp e.log)) i.log w → t.out ≡ emitted_of t.entry → j ≡ record i { log = i.log ++ t.entry ∷ [] }
-    → MayBounce i.settings.bounces (state_after e) w → ifaces.last_stamp i.log < 2 ^ 63 → last_stamp e.log < 2 ^ 63 → stamp_in w < 2 ^ 63 → InterfaceFound w i j (Worked.Made t) e.settings e.log
+    → MayBounce i.settings.bounces (state_after e) w → last_stamp i.log < 2 ^ 63 → last_stamp e.log < 2 ^ 63 → stamp_in w < 2 ^ 63 → InterfaceFound w i j (Worked.Made t) e.settings e.log
 worked_found e i j w t needed disabled event outcome stamped out logged bounces last there packet = (
   record {
     needed = needed;
     enabled = enabled_done t (failing_at (own i) (state_after e) w) disabled;
     event = event;
     outcome = outcome;
-    stamped = floor_none (last_stamp e.log) (ifaces.last_stamp i.log) (stamp_in w) t.entry.stamp stamped;
-    low = low_with (last_stamp e.log) (ifaces.last_stamp i.log) (stamp_in w) t.entry.stamp (2 ^ 63) stamped there last packet;
+    stamped = floor_none (last_stamp e.log) (last_stamp i.log) (stamp_in w) t.entry.stamp stamped;
+    low = low_with (last_stamp e.log) (last_stamp i.log) (stamp_in w) t.entry.stamp (2 ^ 63) stamped there last packet;
     bounces = bounces;
     logged = logged;
   },
@@ -106,7 +106,7 @@ alone_done w i j Worked.Full v h = (Same refl, h)
 alone_done w i j Worked.NoMemory v h = (Same refl, h)
 
 pub alone_found : (i j : InterfaceView) (w : Work) (t : Turned) → needs (own i) w ≡ None → ((s : State) → TellsDisabled (Ok t) (failing_at (own i) s w)) → t.entry.event ≡ event_of i.settings.node w
-    → ((s : State) → t.entry.outcome ≡ outcome_at (own i) s w) → t.entry.stamp ≡ stamp_after 0 i.log w → t.out ≡ emitted_of t.entry → j ≡ record i { log = i.log ++ t.entry ∷ [] } → HasTries i w → ifaces.last_stamp i.log < 2 ^ 63 → stamp_in w < 2 ^ 63 → AloneTurns w i j (Worked.Made t)
+    → ((s : State) → t.entry.outcome ≡ outcome_at (own i) s w) → t.entry.stamp ≡ stamp_after 0 i.log w → t.out ≡ emitted_of t.entry → j ≡ record i { log = i.log ++ t.entry ∷ [] } → HasTries i w → last_stamp i.log < 2 ^ 63 → stamp_in w < 2 ^ 63 → AloneTurns w i j (Worked.Made t)
 alone_found i j w t needed disabled event outcome stamped out logged tries last packet = (
   record {
     needed = needed;
@@ -114,7 +114,7 @@ alone_found i j w t needed disabled event outcome stamped out logged tries last 
     event = event;
     outcome = outcome;
     stamped = stamped;
-    low = low_alone (ifaces.last_stamp i.log) (stamp_in w) t.entry.stamp (2 ^ 63) stamped last packet;
+    low = low_alone (last_stamp i.log) (stamp_in w) t.entry.stamp (2 ^ 63) stamped last packet;
     tries = tries;
     logged = logged;
   },

@@ -8,7 +8,8 @@ use Rattle.am_office.specs.declared.Outcome.TheVariants as Out
 use Rattle.am_office.specs.declared.Entry.{Entry}
 use Rattle.am_office.specs.Entries.{emitted_of}
 use Rattle.am_body.specs.declared.settings.EndSettings.{EndSettings}
-use Rattle.am_endpoint.specs.View.{last_stamp, state_by}
+use Rattle.am_endpoint.specs.View.{state_by}
+use Rattle.am_model.specs.Parts.{last_stamp}
 use Rattle.am_model.specs.Calls.{outcome_of_call}
 use Rattle.am_model.specs.Endpoint.{State, front, is_on_disk}
 use Rattle.am_iface.specs.Turns.{stamp_after}

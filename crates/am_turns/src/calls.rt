@@ -1,6 +1,7 @@
 //! What an application thread does with an endpoint that it has entered.
 ghost use Rattle.am_turns.specs.Turns.{ThreadFound, made_in};
-ghost use Rattle.am_endpoint.specs.View.{last_stamp, state_after};
+ghost use Rattle.am_endpoint.specs.View.{state_after};
+ghost use Rattle.am_model.specs.Parts.{last_stamp};
 ghost use Rattle.am_model.specs.Allowed.{are_numbers_in_range};
 ghost use Rattle.am_model.specs.Endpoint.{is_on_disk};
 ghost use Rattle.std.specs.Prelude.{◌≡◌, ◌↔◌, ◌<◌, ◌≤◌, ◌^◌, ◌++◌, IsTrue, false, max, true};
@@ -8,7 +9,8 @@ ghost use Rattle.std.specs.Prelude.{◌≡◌, ◌↔◌, ◌<◌, ◌≤◌, �
 use crate::turns::ThreadTurn;
 use am_books::EndBook;
 use am_endpoint::{EndFault, Endpoint};
-use am_office::{Actor, Call, Place};
+use am_model::is_on_disk;
+use am_office::{Actor, Call};
 
 /// No stamp of 2^63 or more is followed by another.
 pub(crate) const LAST: u64 = 1 << 63;
@@ -18,15 +20,6 @@ pub(crate) fn is_spent(clock: u64, end: &Endpoint) -> bool
     ensures { IsTrue result ↔ (2 ^ 63 ≤ max clock (last_stamp end.now.log)) }
 {
     clock.max(end.last_stamp()) >= LAST
-}
-
-pub(crate) fn is_on_disk(place: Place) -> bool
-    ensures { result ≡ is_on_disk place }
-{
-    match place {
-        Place::Disk => true,
-        Place::Host | Place::Frame(_) | Place::Direct => false,
-    }
 }
 
 /// Makes the call.

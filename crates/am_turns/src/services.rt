@@ -2,7 +2,8 @@
 ghost use Rattle.am_body.specs.declared.settings.EndSettings.{EndSettings};
 ghost use Rattle.am_iface.specs.Settings.{AreLawful};
 ghost use Rattle.am_iface.specs.Turns.{stamp_in};
-ghost use Rattle.am_iface.specs.View.{FitsInterface, last_stamp, own};
+ghost use Rattle.am_iface.specs.View.{FitsInterface, own};
+ghost use Rattle.am_model.specs.Parts.{last_stamp};
 ghost use Rattle.am_local.specs.Interface.{needs};
 ghost use Rattle.am_local.specs.declared.work.Work.TheVariants as Works;
 ghost use Rattle.am_works.specs.Seats.{IsIdle};

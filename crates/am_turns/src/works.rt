@@ -1,9 +1,9 @@
 //! What an interface does with an endpoint that it has entered.
-ghost use Rattle.am_endpoint.specs.View as endpoints;
 ghost use Rattle.am_endpoint.specs.View.{state_after};
 ghost use Rattle.am_iface.specs.Settings.{AreLawful};
 ghost use Rattle.am_iface.specs.Turns.{stamp_in};
-ghost use Rattle.am_iface.specs.View.{FitsInterface, last_stamp, own};
+ghost use Rattle.am_iface.specs.View.{FitsInterface, own};
+ghost use Rattle.am_model.specs.Parts.{last_stamp};
 ghost use Rattle.am_iface.specs.With.{IsHomeKnown, KnowsHome};
 ghost use Rattle.am_local.specs.Granted.{FitsEndpoint, IsInFlight};
 ghost use Rattle.am_local.specs.Interface.{channel_in, home_in, needs};
@@ -13,12 +13,13 @@ ghost use Rattle.am_scripts.specs.Follows.{is_bounced_out};
 ghost use Rattle.am_turns.specs.Turns.{InterfaceFound, MayBounce, SettlesHere, worked_in};
 ghost use Rattle.std.specs.Prelude.{◌≡◌, ◌<◌, ◌^◌, ◌++◌, IsTrue, Some, false, length, max};
 
-use crate::calls::{is_on_disk, is_spent};
+use crate::calls::is_spent;
 use crate::turns::InterfaceTurn;
 use am_books::EndBook;
 use am_endpoint::Endpoint;
 use am_iface::{IfaceSettings, Interface, Work};
 use am_model::{EntryFault, Queued};
+use am_model::{Queued, is_on_disk};
 use am_names::{EndpointId, NodeId, Packet};
 use am_office::Place;
 
@@ -143,7 +144,7 @@ fn work_on(interface: &mut Interface, work: &Work, book: &mut EndBook) -> Interf
     requires bounces { MayBounce interface.old.settings.bounces (state_after book.old.end.value) work.now }
     requires here { SettlesHere (state_after book.old.end.value) work.now }
     requires last { last_stamp interface.old.log < 2 ^ 63 }
-    requires last_there { endpoints.last_stamp book.old.end.value.log < 2 ^ 63 }
+    requires last_there { last_stamp book.old.end.value.log < 2 ^ 63 }
     requires packet { stamp_in work.now < 2 ^ 63 }
     ensures settings { book.new.end.value.settings ≡ book.old.end.value.settings }
     ensures added { book.new.end.value.log ≡ book.old.end.value.log ++ worked_in result }

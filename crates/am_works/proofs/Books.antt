@@ -4,7 +4,8 @@ use Rattle.std.proofs.Common.{◌≡◌, ◌∙◌, ℕ, suc, ◌+◌, ◌-◌, 
 use Rattle.std.specs.List.{slice_get}
 use Rattle.am_office.specs.declared.Entry.{Entry}
 use Rattle.am_body.specs.declared.settings.EndSettings.{EndSettings}
-use Rattle.am_endpoint.specs.View.{EndpointView, last_stamp, stamp_by, state_after}
+use Rattle.am_endpoint.specs.View.{EndpointView, state_after}
+use Rattle.am_model.specs.Parts.{last_stamp, stamp_by}
 use Rattle.am_model.specs.Endpoint.{State, fresh, is_on_disk}
 use Rattle.am_model.specs.Layout.{AllAre}
 use Rattle.am_merge.specs.Logs.{IsRising}

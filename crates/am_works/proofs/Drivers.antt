@@ -23,7 +23,8 @@ use Rattle.am_office.specs.Entries.{ends_touched, is_node, touches}
 use Rattle.am_body.specs.declared.settings.EndSettings.{EndSettings}
 use Rattle.am_device.specs.Causes.{one_more}
 use Rattle.am_device.specs.Memory.{Store, with_held}
-use Rattle.am_endpoint.specs.View.{last_stamp, state_by}
+use Rattle.am_endpoint.specs.View.{state_by}
+use Rattle.am_model.specs.Parts.{last_stamp, driver_of, is_by_driver}
 use Rattle.am_image.specs.Image.{image}
 use Rattle.am_model.specs.Changes.{after, replay}
 use Rattle.am_model.specs.Endpoint.{State, fresh, is_on_disk, is_on_host}
@@ -31,7 +32,6 @@ use Rattle.am_model.specs.History.{is_in_frame, is_in_range, is_page_call, page_
 use Rattle.am_model.specs.Layout.{AllAre, EndSetting, Layout, declared, has_id, opening}
 use Rattle.am_model.proofs.Names.{same_end-is, same_end-refl}
 use Rattle.am_local.specs.Driver.{DriverLog, changes_frame, end_moved, failing_move, is_frame_held_by, lies_in, outcome_move, page_at, page_number}
-use Rattle.am_model.specs.Parts.{driver_of, is_by_driver}
 use Rattle.am_model.proofs.Places.{on_host_in_no_frame, framed_is_resident}
 use Rattle.am_local.specs.Together.{ends_of, faults_of}
 use Rattle.am_local.proofs.Growing.{readings_push}

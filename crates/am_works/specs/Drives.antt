@@ -12,7 +12,8 @@ use Rattle.am_office.specs.declared.Place.TheVariants.{Frame}
 use Rattle.am_office.specs.declared.Entry.{Entry}
 use Rattle.am_body.specs.declared.settings.EndSettings.{EndSettings}
 use Rattle.am_device.specs.Memory.{Store}
-use Rattle.am_endpoint.specs.View.{last_stamp, state_by}
+use Rattle.am_endpoint.specs.View.{state_by}
+use Rattle.am_model.specs.Parts.{last_stamp}
 use Rattle.am_model.specs.Endpoint.{State, is_direct, is_on_disk}
 use Rattle.am_local.specs.Driver.{end_moved}
 use Rattle.am_moves.specs.Logs.{EndLog}

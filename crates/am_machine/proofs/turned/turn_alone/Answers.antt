@@ -3,7 +3,8 @@ use Rattle.std.proofs.Common.{◌<◌, Option, sym, ap, ◌∙◌, subst, arith}
 use Rattle.am_names.specs.declared.NodeId.{NodeId}
 use Rattle.am_office.specs.declared.Place.TheVariants.{Host}
 use Rattle.am_model.specs.Endpoint.{State, fresh}
-use Rattle.am_iface.specs.View.{last_stamp, own}
+use Rattle.am_iface.specs.View.{own}
+use Rattle.am_model.specs.Parts.{last_stamp}
 use Rattle.am_journal.specs.View.{CanCount, Readings}
 use Rattle.am_machine.specs.Ways.{GoesTo}
 use Rattle.am_machine.proofs.Turning as turning

@@ -1,8 +1,8 @@
 use Rattle.std.specs.Prelude.{Err, Ok, max}
 use Rattle.std.proofs.Common.{◌≡◌, ◌+◌, ℕ, sym, ap, ◌∙◌, subst, arith}
 use Rattle.am_endpoint.specs.View.{state_after}
-use Rattle.am_endpoint.specs.View as endpoints
-use Rattle.am_iface.specs.View.{last_stamp, own}
+use Rattle.am_iface.specs.View.{own}
+use Rattle.am_model.specs.Parts.{last_stamp}
 use Rattle.am_iface.specs.Turns.{stamp_in}
 use Rattle.am_journal.specs.View.{CanCount, Readings}
 use Rattle.am_moves.specs.Logs.{EndLog, state_in}
@@ -69,7 +69,7 @@ returns-in-Ok-clause-turns c past is =
     let late = can.last in
     let last = can.turn.last in
     let packet = can.turn.packet in
-    let floor : max c.greatest_stamp.result (endpoints.last_stamp one.log) ≡ c.greatest_stamp.result = turning.max_floor c.greatest_stamp.result (endpoints.last_stamp one.log) (omega (arith, late, at, is.greatest)) in
+    let floor : max c.greatest_stamp.result (last_stamp one.log) ≡ c.greatest_stamp.result = turning.max_floor c.greatest_stamp.result (last_stamp one.log) (omega (arith, late, at, is.greatest)) in
     turning.turns_still i c.turn_with.new.self e one f past w (Ok x) c.make_room.ensures.same
     (turning.turned_with_ok i c.turn_with.new.self one f past w c.turn_with.result c.in-Ok.turned c.in-Ok.is
     (turning.ok_then c.make_room.result _ (sym c.is_err.ensures.value ∙ c.if-is_err.false) c.make_room.ensures.bounded)

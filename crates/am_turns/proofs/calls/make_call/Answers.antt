@@ -1,6 +1,7 @@
 use Rattle.std.proofs.Common.{◌≡◌, ◌+◌, ◌<◌, ◌^◌, false, max, subst, sym}
 use Rattle.am_books.specs.Books.{IsBook}
-use Rattle.am_endpoint.specs.View.{EndpointView, last_stamp, state_after}
+use Rattle.am_endpoint.specs.View.{EndpointView, state_after}
+use Rattle.am_model.specs.Parts.{last_stamp}
 use Rattle.am_model.specs.Endpoint.{is_on_disk}
 use Rattle.am_turns.specs.Turns.{IsCall}
 use Rattle.am_turns.proofs.Books.{call_keeps, called_book}

@@ -1,12 +1,12 @@
 use Rattle.std.proofs.Common.{◌≡◌, ◌<◌, ◌^◌, Err, Some, false, subst, sym}
 use Rattle.am_books.specs.Books.{IsBook}
-use Rattle.am_endpoint.specs.View as endpoints
 use Rattle.am_endpoint.specs.View.{EndpointView, state_after}
 use Rattle.am_iface.specs.View.{own}
 use Rattle.am_iface.specs.With.{IsFullOf}
 use Rattle.am_model.specs.declared.EntryFault.{EntryFault}
 use Rattle.am_local.specs.Granted.{FitsEndpoint}
 use Rattle.am_local.specs.Interface.{failing_at, needs}
+use Rattle.am_model.specs.Parts.{last_stamp}
 use Rattle.am_model.specs.Endpoint.{is_direct}
 use Rattle.am_turns.specs.Turns.{InterfaceFound, MayBounce, SettlesHere}
 use Rattle.am_turns.specs.declared.turns.InterfaceTurn.TheVariants as Worked
@@ -29,7 +29,7 @@ returns-in-Ok-clause-found c =
     let i = c.args.interface.now in let w = c.args.work.now in let same = sym c.deref_mut.ensures.value in
     subst (λ (d : EndpointView). InterfaceFound w i c.turn_with.new.self (Worked.Made c.in-Ok.turned) d.settings d.log) c.deref_mut.ensures.value
     (worked_found c.deref_mut.result.now i c.turn_with.new.self w c.in-Ok.turned (subst (λ (d : EndpointView). needs (own i) w ≡ Some d.settings.id) same c.requires.needs) c.in-Ok.ensures.disabled c.in-Ok.ensures.event c.in-Ok.ensures.outcome c.in-Ok.ensures.stamp c.in-Ok.ensures.out c.in-Ok.ensures.logged
-    (subst (λ (d : EndpointView). MayBounce i.settings.bounces (state_after d) w) same c.requires.bounces) c.requires.last (subst (λ (d : EndpointView). endpoints.last_stamp d.log < 2 ^ 63) same c.requires.last_there) c.requires.packet)
+    (subst (λ (d : EndpointView). MayBounce i.settings.bounces (state_after d) w) same c.requires.bounces) c.requires.last (subst (λ (d : EndpointView). last_stamp d.log < 2 ^ 63) same c.requires.last_there) c.requires.packet)
 
 pub returns-in-Err-LogFull-clause-found : goal.returns-in-Err-LogFull-clause-found
 returns-in-Err-LogFull-clause-found c =
