@@ -1,14 +1,12 @@
 -- The words that carry a piece are that piece.
-use Rattle.std.proofs.Common.{◌≡◌, ℕ, zero, suc, lit<, ◌+◌, ◌*◌, ◌/◌, ◌%◌, ◌^◌, ◌<◌, ◌≤◌, ◌-◌, Bool, true, false, ◌&&◌, ◌==◌, Option, Some, None, List, [], ◌∷◌, ◌++◌, refl, sym, ap, ◌∙◌, length, take, drop, get_or, slice_index, nat_le, if◌then◌else◌, arith}
-use Rattle.std.specs.List.{list_all}
+use Rattle.std.proofs.Common.{◌≡◌, ℕ, zero, suc, lit<, ◌+◌, ◌*◌, ◌/◌, ◌%◌, ◌<◌, ◌≤◌, true, ◌&&◌, Some, None, List, [], ◌∷◌, ◌++◌, refl, sym, ap, ◌∙◌, length, take, drop, get_or, nat_le, if◌then◌else◌, arith}
 use Rattle.std.specs.Int.{w64, to_be_bytes, from_be_bytes}
-use Rattle.std.proofs.lemmas.Bool.{le-leb, eq-eqb}
+use Rattle.std.proofs.lemmas.Bool.{le-leb}
 use Rattle.std.proofs.lemmas.Nat.{be_bytes_8}
-use Rattle.std.proofs.lemmas.List.{get_or-drop, get_or-take, get_or_past, length-take, length-drop, take-append-drop, append_assoc, drop-drop, take_all}
-use Rattle.am_names.specs.declared.Words.{Words}
+use Rattle.std.proofs.lemmas.List.{get_or-drop, length-take, length-drop, take-append-drop, append_assoc, drop-drop, take_all}
 use Rattle.am_pieces.specs.declared.parts.Piece.{Piece}
-use Rattle.am_pieces.specs.Pieces.{piece_of, words_of, word_at, are_zero, offset_in, length_in, transfer_in, bytes_in}
-use Rattle.am_segment_laws.specs.Laws.{IsPiece, PiecesAreWords}
+use Rattle.am_pieces.specs.Pieces.{piece_of, words_of, word_at, are_zero}
+use Rattle.am_segment_laws.specs.Laws.{PiecesAreWords}
 
 -- ---- the first word
 
