@@ -15,7 +15,7 @@ use Rattle.am_restart.specs.Fates.{puts, returns, leaves_unknown, is_of, put_in,
 use Rattle.am_session.specs.declared.fates.Known.{Known}
 use Rattle.am_session.specs.declared.fates.News.{News}
 use Rattle.am_session.specs.declared.fates.News.TheVariants as Latest
-use Rattle.am_session.specs.Tables.{news_in, unknown_news, known_with, known_in, known_of, known_after, nothing_known, AreKnown}
+use Rattle.am_session.specs.Tables.{news_in, unknown_news, known_with, known_in, known_of, known_after, AreKnown}
 
 eq_or_greater : (b : Bool) → is_eq (cond b Equal Greater) ≡ b
 eq_or_greater true = refl
