@@ -1,7 +1,7 @@
 // What an endpoint polls.
 ghost use Rattle.am_body.specs.Views.{on_host};
 ghost use Rattle.am_model.specs.Calls.{poll, poll_requests};
-ghost use Rattle.am_model.specs.Changes.{called, with_body};
+ghost use Rattle.am_model.specs.Changes.{called};
 ghost use Rattle.am_model.specs.Endpoint.{IsWithinBounds};
 ghost use Rattle.am_office.specs.declared.Call.TheVariants as Calls;
 ghost use Rattle.std.specs.Prelude.{◌≡◌, ◌+◌, ◌<◌, ◌^◌};

@@ -4,7 +4,7 @@ ghost use Rattle.am_model.specs.Allowed.{are_zero, is_formed_as, is_well_formed}
 ghost use Rattle.am_office.specs.Entries.{is_serial};
 ghost use Rattle.am_model.specs.Valid.{answers, has_arrived, is_own, is_own_answer, is_own_notice, is_own_request, is_received_here};
 ghost use Rattle.am_names.specs.Names.{is_answer, is_request, is_request_kind, same_end, same_serial};
-ghost use Rattle.std.specs.List.{list_all, list_any};
+ghost use Rattle.std.specs.List.{list_any};
 ghost use Rattle.std.specs.Prelude.{◌≡◌, count_by};
 
 use am_model::{Awaited, Notice, Queued};

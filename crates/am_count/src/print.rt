@@ -1,9 +1,8 @@
 //! What is printed of counted words.
 
-ghost use Rattle.std.specs.Prelude.{◌≡◌, ◌++◌, IfOk, OnOk, sum_by};
+ghost use Rattle.std.specs.Prelude.{◌≡◌, ◌++◌, IfOk, OnOk};
 ghost use Rattle.std.specs.List.{flat_map};
-ghost use Rattle.am_words.specs.Counts.{capped};
-ghost use Rattle.am_count.specs.Printed.{count_text, left_of, left_total, word_line};
+ghost use Rattle.am_count.specs.Printed.{count_text, left_total, word_line};
 
 use am_text::Piece::{Number, Text};
 use am_text::{count, put_end, put_line, put_spaced, put_word, small};

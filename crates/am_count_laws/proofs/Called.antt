@@ -1,14 +1,13 @@
 -- The calls that the threads make are those of the scripts.
-use Rattle.std.proofs.Common.{◌≡◌, ℕ, zero, suc, ◌+◌, ◌%◌, ◌<◌, ◌≤◌, Bool, true, false, ◌&&◌, ◌||◌, not, Option, Some, None, List, [], ◌∷◌, ◌++◌, refl, sym, ap, ◌∙◌, subst, length, count_by, filter_map, nat_lt, if◌then◌else◌, arith}
+use Rattle.std.proofs.Common.{◌≡◌, ℕ, zero, suc, ◌+◌, ◌%◌, ◌<◌, ◌≤◌, Bool, true, false, ◌&&◌, ◌||◌, not, Option, Some, None, List, [], ◌∷◌, ◌++◌, refl, sym, ap, ◌∙◌, subst, count_by, filter_map, nat_lt, if◌then◌else◌, arith}
 use Rattle.std.specs.Prelude.{◌==◌, filter}
-use Rattle.std.specs.List.{All, AllByRecursion, Contains, cons_option, list_all, list_any}
+use Rattle.std.specs.List.{All, Contains, cons_option, list_all, list_any}
 use Rattle.std.proofs.lemmas.Bool.Decides.{nat_tests}
 use Rattle.std.proofs.lemmas.List.Elements.{All-contains, All-from_recursion, Contains-append_left, Contains-push}
 use Rattle.std.proofs.lemmas.List.Folds.{list_any-append}
 use Rattle.std.proofs.lemmas.Nat.{mod_below}
-use Rattle.std.proofs.lemmas.List.Sums.{sum_by-append, sum_by-cons, sum_by-le-sum_by}
+use Rattle.std.proofs.lemmas.List.Sums.{sum_by-append, sum_by-le-sum_by}
 use Rattle.std.proofs.lemmas.Bool.{and_parts}
-use Rattle.am_office.specs.declared.Actor.{Actor}
 use Rattle.am_office.specs.declared.Actor.TheVariants.{Thread, Outside}
 use Rattle.am_office.specs.declared.HandlerKind.TheVariants.{Note}
 use Rattle.am_office.specs.declared.Call.{Call}
@@ -19,7 +18,7 @@ use Rattle.am_office.specs.declared.Entry.{Entry}
 use Rattle.am_scenario_types.specs.declared.parts.ScriptCall.{ScriptCall}
 use Rattle.am_scenario_types.specs.declared.parts.ThreadLine.{ThreadLine}
 use Rattle.am_scripts.specs.Scripts.{KeepsScripts, call_made, calls_of, is_of_thread, script_of}
-use Rattle.am_scripts.specs.Follows.{KeepsToEvents, is_of_run, is_thread}
+use Rattle.am_scripts.specs.Follows.{KeepsToEvents, is_of_run}
 use Rattle.am_words.specs.declared.codes.CodedWord.{CodedWord}
 use Rattle.am_job.specs.Rounds.{scenario, thread_line, threads_below}
 use Rattle.am_job.specs.Scripts.{map_to, maps_below, on_owner, on_sender, opening, openings_below, owner, polls, script, sending, sendings}

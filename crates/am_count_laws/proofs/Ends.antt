@@ -1,12 +1,9 @@
 -- In a round each word that is sent runs, or its request is refused, or its message is returned.
-use Rattle.std.proofs.Common.{◌≡◌, ◌≢◌, ℕ, zero, suc, ◌+◌, ◌%◌, ◌<◌, ◌≤◌, Bool, true, false, ◌&&◌, ◌||◌, not, Option, Some, None, List, [], ◌∷◌, ◌++◌, refl, sym, ap, ◌∙◌, subst, ⊎_elim, length, get_or, count_by, filter_map, nat_lt, if◌then◌else◌, arith}
-use Rattle.std.specs.Prelude.{MatchOption, filter, option_to_list, slice_get}
-use Rattle.std.specs.List.{All, Contains, cons_option, list_all, list_any}
-use Rattle.std.proofs.lemmas.Bool.Decides.{nat_tests}
+use Rattle.std.proofs.Common.{◌≡◌, ◌≢◌, ℕ, zero, suc, ◌+◌, ◌<◌, ◌≤◌, Bool, true, false, ◌&&◌, ◌||◌, Option, Some, None, List, [], ◌∷◌, ◌++◌, refl, sym, ap, ◌∙◌, subst, ⊎_elim, count_by, filter_map, if◌then◌else◌, arith}
+use Rattle.std.specs.Prelude.{MatchOption, filter, slice_get}
+use Rattle.std.specs.List.{Contains, cons_option, list_any}
 use Rattle.std.proofs.lemmas.List.Elements.{Contains-append_cases, Contains-append_left, Contains-append_right, Contains-push, filter_map-append}
-use Rattle.std.proofs.lemmas.List.Sums.{sum_by-append}
-use Rattle.std.proofs.lemmas.Nat.{mod_below}
-use Rattle.std.proofs.lemmas.Option.{get_or_from_slice_get, slice_get-get_or, slice_get_within}
+use Rattle.std.proofs.lemmas.Option.{slice_get-get_or}
 use Rattle.am_lemmas.proofs.Bools.{and_first}
 use Rattle.am_lemmas.proofs.Lists.{count_by-none}
 use Rattle.am_names.specs.declared.Cause.{Cause}
@@ -16,7 +13,6 @@ use Rattle.am_names.specs.declared.Serial.{Serial}
 use Rattle.am_names.specs.declared.Words.{Words}
 use Rattle.am_names.specs.Names.{has_serial, same_serial}
 use Rattle.am_office.specs.declared.Actor.TheVariants.{Thread, Outside}
-use Rattle.am_office.specs.declared.HandlerKind.TheVariants.{Note}
 use Rattle.am_office.specs.declared.Call.{Call}
 use Rattle.am_office.specs.declared.Call.TheVariants as Calls
 use Rattle.am_office.specs.declared.Event.{Event}
@@ -27,12 +23,11 @@ use Rattle.am_office.specs.declared.Refusal.{Refusal}
 use Rattle.am_office.specs.declared.Outcome.{Outcome}
 use Rattle.am_office.specs.declared.Outcome.TheVariants as Out
 use Rattle.am_office.specs.declared.Entry.{Entry}
-use Rattle.am_office.specs.declared.endings.Fate.{Fate}
 use Rattle.am_office.specs.declared.endings.Fate.TheVariants as Fates
 use Rattle.am_office.specs.Entries.{accepted_in, accepted_of, is_serial, passes, returned_in, returned_of, run_of}
-use Rattle.am_office.specs.Fates.{cause_by, cause_if, cause_of, causes_of, fate, fate_by, fate_of_accepted, is_accepted, is_run, is_unknown}
+use Rattle.am_office.specs.Fates.{cause_if, cause_of, causes_of, fate, fate_by, is_accepted, is_run, is_unknown}
 use Rattle.am_model.specs.declared.Mapping.{Mapping}
-use Rattle.am_model.specs.Calls.{new_request, no_words, request_refusal, unless}
+use Rattle.am_model.specs.Calls.{new_request, request_refusal, unless}
 use Rattle.am_model.specs.Endpoint.{entry_at}
 use Rattle.am_model.specs.Layout.{Layout}
 use Rattle.am_model.specs.History.{outcome_of, state_of}
@@ -40,19 +35,19 @@ use Rattle.am_model.specs.PostOffice.{IsAcceptedBy, PostOffice, WasAccepted, map
 use Rattle.am_model.proofs.Each.{over_each}
 use Rattle.am_scenario_types.specs.declared.parts.ScriptCall.{ScriptCall}
 use Rattle.am_scripts.specs.Layout.{layout_of}
-use Rattle.am_scripts.specs.Scripts.{KeepsScripts, call_made}
-use Rattle.am_scripts.specs.Follows.{KeepsToEvents, is_of_run}
+use Rattle.am_scripts.specs.Scripts.{call_made}
+use Rattle.am_scripts.specs.Follows.{is_of_run}
 use Rattle.am_words.specs.declared.codes.CodedWord.{CodedWord}
 use Rattle.am_words.specs.Codes.{word_in}
-use Rattle.am_words.specs.Counts.{same_word, word_asked, words_run}
+use Rattle.am_words.specs.Counts.{same_word, word_asked}
 use Rattle.am_words.specs.Counts as counts
 use Rattle.am_job.specs.Asked.{words_asked}
 use Rattle.am_job.specs.Rounds.{scenario}
-use Rattle.am_job.specs.Scripts.{map_to, maps_below, on_owner, on_sender, opening, openings_below, owner, polls, script, sending, sendings}
-use Rattle.am_count.specs.Left.{AddsUp, is_return, is_returned, refused_in, words_refused, words_returned}
-use Rattle.am_count_laws.specs.Laws.{IsOfRound, IsSettledRound, RoundsAddUp}
+use Rattle.am_job.specs.Scripts.{script}
+use Rattle.am_count.specs.Left.{is_return, is_returned, refused_in, words_refused, words_returned}
+use Rattle.am_count_laws.specs.Laws.{IsOfRound, RoundsAddUp}
 use Rattle.am_count_laws.proofs.Injected.{Once, at_most, count_cons, count_role, none_has, once_tail, own_serial, weight}
-use Rattle.am_count_laws.proofs.Noted.{IsNoted, SendsNoWords, noted_begin, noted_more}
+use Rattle.am_count_laws.proofs.Noted.{IsNoted, noted_begin, noted_more}
 use Rattle.am_count_laws.proofs.Called.{calls_all, made}
 use Rattle.am_count_laws.proofs.Rounds.{Follows, SendsBy, all_accepted, all_follow, asks, bad, carries, count_listed, count_push, holds, no_word, passes_holds, request_as, runs_are, runs_once, script_good, sends_by}
 

@@ -1,6 +1,6 @@
 -- Where every handler is set to note, no reply carries a word.
-use Rattle.std.specs.Prelude.{replicate, slice_set, nat_lt, is_some, option_to_list}
-use Rattle.std.proofs.Common.{◌≡◌, ℕ, ◌+◌, ◌<◌, ◌≤◌, Bool, true, false, List, [], ◌∷◌, ◌++◌, Option, Some, None, refl, sym, ap, ◌∙◌, subst, ⊎_elim, length, arith, ltb-true, ltb-false, if◌then◌else◌}
+use Rattle.std.specs.Prelude.{replicate, slice_set, nat_lt}
+use Rattle.std.proofs.Common.{◌≡◌, ℕ, ◌+◌, ◌<◌, ◌≤◌, Bool, true, false, List, [], ◌∷◌, ◌++◌, Option, Some, None, refl, sym, ap, subst, ⊎_elim, length, arith, ltb-true, ltb-false, if◌then◌else◌}
 use Rattle.std.proofs.lemmas.Bool.{cases_lt}
 use Rattle.std.proofs.lemmas.List.{get_or-set_same, get_or-set_other, set_past, get_or-replicate, get_or_past, length-replicate}
 use Rattle.std.specs.List.{find}
@@ -17,14 +17,13 @@ use Rattle.am_office.specs.declared.Outcome.TheVariants as Out
 use Rattle.am_office.specs.declared.Entry.{Entry}
 use Rattle.am_names.specs.Names.{is_answer}
 use Rattle.am_model.specs.declared.Notice.{Notice}
-use Rattle.am_model.specs.Endpoint.{State, entry_at, replies_held}
+use Rattle.am_model.specs.Endpoint.{State, entry_at}
 use Rattle.am_model.specs.Calls.{answer, no_words, outcome_of_call, poll, poll_received, poll_requests}
 use Rattle.am_model.specs.Changes.{called, changed}
 use Rattle.am_office.specs.Entries.{touches}
 use Rattle.am_model.specs.Layout.{Layout, EndSetting, has_id, opening_by}
-use Rattle.am_model.specs.History.{state_of, MayFollow}
+use Rattle.am_model.specs.History.{state_of}
 use Rattle.am_model.proofs.Each.{state_of_push}
-use Rattle.am_model.proofs.Books.{fits_call}
 use Rattle.am_model.proofs.Own.{Own, own_kept}
 
 abbrev pub IsNote : Option HandlerKind → Type 0

@@ -1,9 +1,9 @@
 -- In a round no word runs more often than it is sent.
-use Rattle.std.proofs.Common.{◌≡◌, ℕ, zero, suc, ◌+◌, ◌*◌, ◌%◌, ◌<◌, ◌≤◌, Bool, true, false, Option, Some, None, List, [], ◌∷◌, ◌++◌, refl, sym, ap, ◌∙◌, subst, ⊎_elim, length, count_by, filter_map, if◌then◌else◌, arith, append-nil}
-use Rattle.std.specs.Prelude.{MatchOption, option_to_list, slice_get}
+use Rattle.std.proofs.Common.{◌≡◌, ℕ, zero, suc, ◌+◌, ◌%◌, ◌≤◌, Bool, true, false, Option, Some, None, List, [], ◌∷◌, ◌++◌, refl, sym, ap, ◌∙◌, subst, ⊎_elim, count_by, filter_map, if◌then◌else◌, arith}
+use Rattle.std.specs.Prelude.{MatchOption, slice_get}
 use Rattle.std.specs.List.{Contains, cons_option, list_all}
 use Rattle.std.specs.Option.{option_and_then}
-use Rattle.std.proofs.lemmas.List.Elements.{Contains-append_left, Contains-append_right, Contains-append_cases, Contains-push, filter_map-append}
+use Rattle.std.proofs.lemmas.List.Elements.{Contains-append_left, Contains-append_cases, filter_map-append}
 use Rattle.std.proofs.lemmas.List.Sums.{sum_by-append}
 use Rattle.std.proofs.lemmas.Option.{get_or_from_slice_get, slice_get_within}
 use Rattle.std.proofs.lemmas.Bool.{and_parts}
@@ -12,8 +12,7 @@ use Rattle.am_names.specs.declared.Message.{Message}
 use Rattle.am_names.specs.declared.MsgKind.TheVariants as Kind
 use Rattle.am_names.specs.declared.Serial.{Serial}
 use Rattle.am_names.specs.declared.Words.{Words}
-use Rattle.am_names.specs.Names.{has_serial, same_end}
-use Rattle.am_office.specs.declared.Actor.{Actor}
+use Rattle.am_names.specs.Names.{has_serial}
 use Rattle.am_office.specs.declared.Actor.TheVariants.{Thread, Outside}
 use Rattle.am_office.specs.declared.HandlerKind.TheVariants.{Note, Echo, Add}
 use Rattle.am_office.specs.declared.Call.{Call}
@@ -27,7 +26,7 @@ use Rattle.am_office.specs.Entries.{accepted_in, accepted_of, passes, run_of}
 use Rattle.am_model.specs.declared.Mapping.{Mapping}
 use Rattle.am_model.specs.Calls.{no_words}
 use Rattle.am_model.specs.Layout.{Layout}
-use Rattle.am_model.specs.History.{EachAfter, IsHistory, MayFollow, outcome_of, state_of}
+use Rattle.am_model.specs.History.{EachAfter, MayFollow, outcome_of}
 use Rattle.am_model.specs.PostOffice.{IsAcceptedAsAsked, IsAcceptedBy, IsFirstRun, IsPutAndRunFirst, PostOffice, WasAccepted, is_from, mapping_of, own_tag, times}
 use Rattle.am_model.proofs.Each.{over_each}
 use Rattle.am_scenario_types.specs.declared.parts.ScriptCall.{ScriptCall}

@@ -1,8 +1,8 @@
 -- Seats that are gathered one after the other.
 use Rattle.std.specs.Prelude.{slice_index_or}
-use Rattle.std.proofs.Common.{◌≡◌, ℕ, zero, suc, ◌<◌, false, Bool, List, [], ◌∷◌, ◌++◌, length, refl, sym, ◌∙◌, subst, arith}
+use Rattle.std.proofs.Common.{◌≡◌, ℕ, zero, suc, List, [], ◌∷◌, ◌++◌, length, refl, ◌∙◌, arith}
 use Rattle.am_office.specs.declared.Entry.{Entry}
-use Rattle.am_places.specs.Rule.{IsOutside, both_known, gathered, known_at, nothing}
+use Rattle.am_places.specs.Rule.{IsOutside, both_known, gathered, nothing}
 use Rattle.am_places.specs.declared.board.Known.{Known}
 use Rattle.am_works.specs.Seats.{EndPass}
 use Rattle.am_crew_laws.proofs.Passes.{both_length}

@@ -2,7 +2,7 @@
 use Rattle.std.specs.Prelude.{slice_get}
 use Rattle.std.specs.Global.{Vec}
 use Rattle.std.specs.Option.{option_map}
-use Rattle.std.proofs.Common.{◌≡◌, ℕ, ◌+◌, ◌<◌, ◌≤◌, Option, List, map, length, Some, refl, sym, ap, ◌∙◌, subst, arith}
+use Rattle.std.proofs.Common.{◌≡◌, ℕ, ◌<◌, ◌≤◌, Option, List, map, length, Some, sym, ap, ◌∙◌, subst, arith}
 use Rattle.std.proofs.lemmas.List.{length-map}
 use Rattle.std.proofs.lemmas.Option.{slice_get-map, slice_get_within}
 use Rattle.am_lemmas.proofs.Lists.{slice_get-Some}
@@ -11,7 +11,6 @@ use Rattle.am_names.specs.declared.Packet.{Packet}
 use Rattle.am_model.specs.Layout.{node_at}
 use Rattle.am_iface.specs.View.{InterfaceView}
 use Rattle.am_journal.specs.View.{receipts}
-use Rattle.am_local.specs.Together.{ends_of}
 use Rattle.am_node.specs.declared.NodePart.{NodePart}
 use Rattle.am_scenario_types.specs.Lists.{ScenarioLists}
 use Rattle.am_scenario_types.specs.Lawful.{IsLawful}
@@ -23,12 +22,11 @@ use Rattle.am_wire.specs.declared.closing.LinkRecord.{LinkRecord}
 use Rattle.am_wire.specs.declared.receiving.LinkIn.{LinkIn}
 use Rattle.am_wire.specs.declared.sending.LinkOut.{LinkOut}
 use Rattle.am_workers.specs.AtWork.{sent_by, taken_by, taken_on}
-use Rattle.am_works.specs.Works.{Hand, held_from}
 use Rattle.am_crew_opening.specs.Crews.{AreCrews, ids_of}
 use Rattle.am_crew_opening.specs.declared.crew.NodeCrew.{NodeCrew}
 use Rattle.am_crew_ends.specs.Ends.{AreBooksOf, AreLeft, IsPartOfCrew}
-use Rattle.am_crew.specs.Closing.{AreClosed, IsRecordOf}
-use Rattle.am_crew.specs.Ending.{AreEnded, IsNodeEndedOf}
+use Rattle.am_crew.specs.Closing.{AreClosed}
+use Rattle.am_crew.specs.Ending.{AreEnded}
 use Rattle.am_crew.specs.Parting.{ArePartsOf, IsPartOf, emitted_in}
 use Rattle.am_crew.specs.declared.ended.AllEnded.{AllEnded}
 use Rattle.am_crew.specs.declared.ended.NodeEnded.{NodeEnded}

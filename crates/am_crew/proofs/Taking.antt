@@ -9,7 +9,7 @@ use Rattle.am_places.specs.Rule.{known_at, nothing, with_known}
 use Rattle.am_places.specs.declared.board.Known.{Known}
 use Rattle.am_places.specs.declared.board.Tenure.{Tenure}
 use Rattle.am_works.specs.Seats.{EndPass}
-use Rattle.am_crew_laws.specs.Ended.{ComesTo, IsTakenOut, KnowsAll}
+use Rattle.am_crew_laws.specs.Ended.{ComesTo, IsTakenOut}
 
 set_elsewhere : (xs : List (Known Entry)) (j k : ℕ) (x : Known Entry) → j ≢ k → slice_index_or (slice_set xs j x) k nothing ≡ slice_index_or xs k nothing
 set_elsewhere [] j k x apart = refl

@@ -2,7 +2,7 @@
 
 ghost use Rattle.am_crew.specs.Closing.{AreClosed, AreLinkedEnds, IsLinkedRow, IsRowClosed};
 ghost use Rattle.am_wire.specs.declared.sending.LinkOut.{LinkOut};
-ghost use Rattle.std.specs.Prelude.{◌≡◌, IfOk, length};
+ghost use Rattle.std.specs.Prelude.{IfOk};
 
 use am_office::NoMemory;
 use am_wire::{LinkIn, LinkOut, LinkRecord, close};

@@ -10,7 +10,7 @@ ghost use Rattle.am_places.specs.declared.board.Tenure.{Tenure};
 ghost use Rattle.am_books.specs.Books.{stands_at};
 ghost use Rattle.am_workers.specs.declared.workers.ThreadWorker.{ThreadWorker};
 ghost use Rattle.am_works.specs.Seats.{IsIdle};
-ghost use Rattle.std.specs.Prelude.{◌≡◌, ◌<◌, ◌≤◌, ℕ, List, [], ◌∷◌, false, IfOk, All, None, length, map, vec_capacity};
+ghost use Rattle.std.specs.Prelude.{◌≡◌, ◌<◌, ◌≤◌, List, [], ◌∷◌, false, IfOk, All, None, length, map, vec_capacity};
 
 use crate::ended::{AllEnded, Ended, NodeEnded};
 use am_books::EndBook;

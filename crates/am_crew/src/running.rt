@@ -9,7 +9,7 @@ ghost use Rattle.am_scenario_types.specs.declared.parts.Network.TheVariants as N
 ghost use Rattle.am_workers.specs.AtWork.{IsDriverAtWork, IsInterfaceAtWork, IsThreadAtWork};
 ghost use Rattle.am_workers.specs.declared.workers.ThreadWorker.{ThreadWorker};
 ghost use Rattle.am_crew_opening.specs.declared.crew.NodeCrew.{NodeCrew};
-ghost use Rattle.std.specs.Prelude.{◌≡◌, ◌+◌, ◌<◌, ◌≤◌, ◌^◌, ℕ, Some, length, slice_get};
+ghost use Rattle.std.specs.Prelude.{◌≡◌, ◌+◌, ◌<◌, ◌≤◌, ℕ, Some, length, slice_get};
 ghost use Rattle.std.specs.List.{list_any};
 ghost use Rattle.std.specs.Thread.{IsSync};
 

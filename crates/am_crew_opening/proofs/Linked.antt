@@ -1,7 +1,7 @@
 -- Crews that are made one after the other, each with its ends of the links.
 use Rattle.std.specs.Prelude.{slice_get}
 use Rattle.std.specs.Global.{Vec}
-use Rattle.std.proofs.Common.{◌≡◌, ◌⊎◌, ⊎_elim, ℕ, ◌+◌, ◌*◌, ◌<◌, ◌≤◌, Some, List, [], ◌∷◌, ◌++◌, length, map, reverse, refl, sym, ap, ◌∙◌, subst, arith}
+use Rattle.std.proofs.Common.{◌≡◌, ℕ, ◌+◌, ◌*◌, ◌<◌, ◌≤◌, Some, List, [], ◌∷◌, ◌++◌, length, map, reverse, refl, sym, ap, ◌∙◌, subst, arith}
 use Rattle.std.proofs.lemmas.List.{length-reverse, length_push}
 use Rattle.am_names.specs.declared.NodeId.{NodeId}
 use Rattle.am_model.specs.Layout.{AllAre, node_at}
@@ -9,12 +9,11 @@ use Rattle.am_scenario_types.specs.Lawful as lawful
 use Rattle.am_scenario_types.specs.Lists.{ScenarioLists}
 use Rattle.am_links.specs.Links.{AreLinks, IsOutOpened}
 use Rattle.am_links.specs.declared.Links.{Links}
-use Rattle.am_links.proofs.Lists.{got_low, got_push}
-use Rattle.am_wire.specs.Links.{IsLink}
+use Rattle.am_links.proofs.Lists.{got_low}
 use Rattle.am_wire.specs.declared.receiving.LinkIn.{LinkIn}
 use Rattle.am_wire.specs.declared.sending.LinkOut.{LinkOut}
 use Rattle.am_workers.specs.declared.workers.ThreadWorker.{ThreadWorker}
-use Rattle.am_opening.specs.Openings.{AreOpenings, IsOpening, thread_ids, threads_of}
+use Rattle.am_opening.specs.Openings.{AreOpenings, IsOpening, threads_of}
 use Rattle.am_opening.specs.declared.opening.Opening.{Opening}
 use Rattle.am_opening.proofs.Fresh.{few_threads}
 use Rattle.am_opening.proofs.Lists.{AreTaking, each_more, length_map, taking_begins, taking_ends, taking_more, taking_next}

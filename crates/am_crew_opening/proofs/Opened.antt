@@ -1,17 +1,15 @@
 -- A crew that is made of what its workers begin with and of its links is at work, with no turn made.
 use Rattle.std.specs.Prelude.{slice_get}
-use Rattle.std.proofs.Common.{◌≡◌, ◌≢◌, ℕ, suc, ◌+◌, ◌<◌, ◌≤◌, Option, None, Some, List, [], ◌∷◌, ◌++◌, length, map, refl, sym, ap, ◌∙◌, subst, arith, append-nil}
+use Rattle.std.proofs.Common.{◌≡◌, ℕ, suc, ◌+◌, ◌<◌, ◌≤◌, Option, None, Some, List, [], ◌∷◌, ◌++◌, length, map, refl, sym, ap, ◌∙◌, subst, arith, append-nil}
 use Rattle.std.specs.Global.{Vec}
 use Rattle.std.proofs.lemmas.List.{length_push}
-use Rattle.atomic_table.specs.Seated.{TableId}
 use Rattle.atomic_table.specs.Table.{Me}
 use Rattle.am_lemmas.proofs.Lists.{slice_get-append_left}
-use Rattle.am_names.specs.declared.EndpointId.{EndpointId}
 use Rattle.am_names.specs.declared.NodeId.{NodeId}
 use Rattle.am_office.specs.declared.Entry.{Entry}
 use Rattle.am_body.specs.declared.settings.EndSettings.{EndSettings}
 use Rattle.am_books.specs.declared.EndBook.{EndBook}
-use Rattle.am_model.specs.Layout.{AllAre, node_at}
+use Rattle.am_model.specs.Layout.{node_at}
 use Rattle.am_places.specs.declared.places.Places.{Places}
 use Rattle.am_scenario_types.specs.declared.parts.ScriptCall.{ScriptCall}
 use Rattle.am_scenario_types.specs.Lawful as lawful
@@ -19,7 +17,7 @@ use Rattle.am_scenario_types.specs.Lists.{ScenarioLists}
 use Rattle.am_scenario_types.specs.declared.parts.Network.TheVariants as Networks
 use Rattle.am_scripts.specs.Layout.{is_direct, layout_of}
 use Rattle.am_scripts.proofs.Lawful.{lawful_layout}
-use Rattle.am_iface.specs.Settings.{AreLawful, SettingsView}
+use Rattle.am_iface.specs.Settings.{AreLawful}
 use Rattle.am_iface.specs.View.{InterfaceView, own}
 use Rattle.am_local.specs.Together.{IsSet}
 use Rattle.am_scripts.specs.Follows.{is_thread}
@@ -28,17 +26,15 @@ use Rattle.am_turns.specs.declared.choices.Waits.{Waits}
 use Rattle.am_opening.proofs.Lists.{all_mapped}
 use Rattle.am_links.specs.Links.{IsOutOpened}
 use Rattle.am_links.proofs.Lists.{got_last, got_low, got_one, got_some}
-use Rattle.am_wire.specs.Links.{emitted, received}
 use Rattle.am_wire.specs.declared.receiving.LinkIn.{LinkIn}
 use Rattle.am_wire.specs.declared.sending.LinkOut.{LinkOut}
 use Rattle.am_works.specs.Seats.{EndPass, Ids}
-use Rattle.am_works.specs.Stands.{fresh_pass}
-use Rattle.am_workers.specs.AtWork.{AreOuts, IsDriverAtWork, IsInterfaceAtWork, IsThreadAtWork}
+use Rattle.am_workers.specs.AtWork.{IsDriverAtWork, IsInterfaceAtWork, IsThreadAtWork}
 use Rattle.am_workers.specs.Begins.{IsNewDisk, IsNewSeat, NewDriversAreAtWork, NewInterfacesAreAtWork, NewThreadsAreAtWork}
 use Rattle.am_workers.specs.declared.workers.ThreadWorker.{ThreadWorker}
 use Rattle.am_opening.specs.Openings.{EndSeat, IsFreshSeat, IsOpenIn, IsOpening, births_of, threads_of}
 use Rattle.am_opening.specs.declared.opening.Opening.{Opening}
-use Rattle.am_crew_opening.specs.Crews.{IsCrew, IsSeatOf, IsThreadOf, IsUnused}
+use Rattle.am_crew_opening.specs.Crews.{IsCrew, IsSeatOf, IsUnused}
 use Rattle.am_crew_opening.specs.Making.{AreNodeLinks, AreThreadsMade, IsThreadMade}
 use Rattle.am_crew_opening.specs.declared.crew.NodeCrew.{NodeCrew}
 use Rattle.am_crew_opening.proofs.Scripted.{is_declared, is_script, is_short}

@@ -1,7 +1,7 @@
 -- The threads of a node are declared, and the numbers of their calls are in range.
 use Rattle.std.specs.Prelude.{slice_get, nat_lt, ◌&&◌, ◌==◌, ◌||◌, filter}
 use Rattle.std.specs.List.{All, list_any}
-use Rattle.std.proofs.Common.{◌≡◌, ℕ, zero, suc, ◌+◌, ◌≤◌, Bool, true, false, cond, List, [], ◌∷◌, ◌++◌, length, Option, Some, None, refl, sym, ap, ◌∙◌, subst, arith, lt-ltb, eqb-true, eq-eqb}
+use Rattle.std.proofs.Common.{◌≡◌, ℕ, zero, suc, ◌≤◌, Bool, true, false, cond, List, [], ◌∷◌, length, Some, refl, sym, ap, ◌∙◌, subst, arith, lt-ltb, eqb-true, eq-eqb}
 use Rattle.std.proofs.lemmas.List.Sums.{count_by-le-length, length-filter}
 use Rattle.am_lemmas.proofs.Lists.{Some-slice_get_map}
 use Rattle.am_names.specs.declared.NodeId.{NodeId}
@@ -20,7 +20,7 @@ use Rattle.am_scripts.specs.Follows.{is_thread}
 use Rattle.am_scripts.specs.Scripts.{is_of_thread, script_of}
 use Rattle.am_scripts.proofs.Declared.{thread_below_64, is_on_declared}
 use Rattle.am_turns.specs.Callers.{IsScript}
-use Rattle.am_opening.specs.Openings.{thread_ids, threads_of}
+use Rattle.am_opening.specs.Openings.{threads_of}
 use Rattle.am_opening.proofs.Lists.{got_kept}
 
 -- ---- a thread of the node is declared

@@ -3,7 +3,6 @@ use Rattle.std.specs.Prelude.{◌≡◌, ℕ, Some, List, [], length, slice_get}
 use Rattle.am_opening.specs.Openings.{EndSeat}
 use Rattle.am_names.specs.declared.NodeId.{NodeId}
 use Rattle.am_model.specs.Layout.{node_at}
-use Rattle.am_books.specs.declared.EndBook.{EndBook}
 use Rattle.am_links.specs.Links.{IsOutOpened}
 use Rattle.am_scenario_types.specs.Lists.{ScenarioLists}
 use Rattle.am_scripts.specs.Scripts.{script_of}

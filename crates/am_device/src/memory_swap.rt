@@ -1,6 +1,6 @@
 ghost use Rattle.am_device.specs.Causes.{FailsAsTold, HoldsSame, IsCaused, IsCounted, Writes, fails_after};
 ghost use Rattle.am_device.specs.Memory.{ReadsSo, WritesSo, counted, faulted, held_for, with_held};
-ghost use Rattle.std.specs.Prelude.{◌≡◌, ◌≤◌, [], IfOk, IsSome, OnErr, OnOk, Some, is_ok};
+ghost use Rattle.std.specs.Prelude.{◌≡◌, ◌≤◌, [], IfOk, IsSome, OnErr, OnOk, Some};
 ghost use Rattle.std.specs.Option.{option_copied};
 
 use crate::kept::{Kept, held_for, hold};

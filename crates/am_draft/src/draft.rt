@@ -1,6 +1,5 @@
 ghost use Rattle.std.specs.Prelude.{◌≡◌, ◌==◌, ◌&&◌, OnOk, IfOk, MatchOption, count_by, map, find, ◌++◌, Some, None};
-ghost use Rattle.std.specs.List.{list_any};
-ghost use Rattle.am_draft.specs.Said.{Said, nothing, with_line, end_of, thread_of, bundle_of, script_call, is_planned, is_faulty};
+ghost use Rattle.am_draft.specs.Said.{nothing, with_line, end_of, thread_of, bundle_of, script_call, is_planned, is_faulty};
 ghost use Rattle.am_draft.specs.Drafts.{said};
 
 use crate::line::Line;

@@ -5,7 +5,7 @@ use Rattle.am_office.specs.declared.Entry.{Entry}
 use Rattle.am_office.specs.declared.Part.{Part}
 use Rattle.am_scenario_types.specs.Lists.{ScenarioLists}
 use Rattle.am_drain.specs.declared.Turn.{Turn}
-use Rattle.am_drain.specs.Cut.{full_for, MeetsNoFullLog, IsDrainCutOff, IsDrainedWithRoom}
+use Rattle.am_drain.specs.Cut.{full_for, MeetsNoFullLog}
 use Rattle.am_drain.specs.Drain.{after_turn, after_turns}
 use Rattle.am_drain.specs.Rules.{next_turn}
 use Rattle.am_drain.proofs.Turns.{Extends, turn_by, turn_extends}

@@ -1,6 +1,6 @@
 -- At rest no accepted message is pending.
-use Rattle.std.specs.Prelude.{◌==◌, ◌≢◌, not, count_by, filter_map, slice_get}
-use Rattle.std.proofs.Common.{◌≡◌, ◌⊎◌, inl, inr, ⊎_elim, ℕ, zero, suc, ◌+◌, ◌≤◌, Bool, true, false, cond, ◌&&◌, ◌||◌, List, [], ◌∷◌, map, length, Option, Some, None, refl, sym, ap, ◌∙◌, subst, arith, true≢false, eqb-true, if◌then◌else◌}
+use Rattle.std.specs.Prelude.{◌==◌, ◌≢◌, count_by, filter_map, slice_get}
+use Rattle.std.proofs.Common.{◌≡◌, ℕ, zero, suc, ◌+◌, ◌≤◌, Bool, true, false, cond, ◌||◌, List, [], ◌∷◌, map, length, Option, Some, None, refl, sym, ap, ◌∙◌, subst, arith, true≢false, eqb-true, if◌then◌else◌}
 use Rattle.std.proofs.lemmas.Bool.{and_parts}
 use Rattle.std.proofs.lemmas.List.Sums.{sum_by-cons}
 use Rattle.std.specs.List.{list_any, list_all, cons_option}
@@ -17,27 +17,24 @@ use Rattle.am_office.specs.declared.Received.TheVariants as Got
 use Rattle.am_office.specs.declared.Outcome.{Outcome}
 use Rattle.am_office.specs.declared.Outcome.TheVariants as Out
 use Rattle.am_office.specs.declared.Entry.{Entry}
-use Rattle.am_office.specs.declared.endings.Fate.{Fate}
 use Rattle.am_office.specs.declared.endings.Fate.TheVariants as Fates
 use Rattle.am_office.specs.Entries.{put_of, run_of, returned_in, returned_of, unknown_of, passes, is_serial}
-use Rattle.am_office.specs.Fates.{cause_if, cause_of, fate_by, causes_of, is_unknown, is_run, is_accepted, fate_of_accepted, fate}
+use Rattle.am_office.specs.Fates.{cause_if, cause_of, fate_by, causes_of, is_unknown, is_run, is_accepted, fate_of_accepted}
 use Rattle.am_model.specs.declared.Queued.{Queued}
 use Rattle.am_model.specs.declared.Flying.{Flying}
 use Rattle.am_model.specs.Endpoint.{Body}
 use Rattle.am_model.specs.Layout.{Layout, EndSetting, AllAre, has_id, declared}
 use Rattle.am_model.specs.History.{IsHistory, state_of}
-use Rattle.am_model.specs.PostOffice.{Gave, WasAccepted, times, times_serial}
-use Rattle.am_model.specs.Cluster.{OneLiveSequence, count_queued, count_flying}
+use Rattle.am_model.specs.PostOffice.{Gave, times, times_serial}
+use Rattle.am_model.specs.Cluster.{count_queued, count_flying}
 use Rattle.am_model.proofs.Names.{same_end-is, same_serial-is}
 use Rattle.am_model.proofs.Received.{bit}
-use Rattle.am_scenario_types.specs.Lawful as lawful
-use Rattle.am_scenario_types.specs.Lists.{ScenarioLists}
 use Rattle.am_scripts.specs.Layout.{layout_of}
 use Rattle.am_scripts.proofs.Lawful.{lawful_layout}
 use Rattle.am_laws_homes.proofs.Homes.{messages_addressed}
 use Rattle.am_laws_messages.proofs.Delivered.{IsIn, delivers}
 use Rattle.am_laws_cluster.proofs.Whole.{cluster_holds}
-use Rattle.am_scripts.specs.Standings.{Standing, standings, messages_in, holds_nothing, IsAtRest}
+use Rattle.am_scripts.specs.Standings.{messages_in, holds_nothing}
 use Rattle.am_drain_laws.specs.Laws.{NonePending}
 use Rattle.am_drain_laws.proofs.Soundness.{standing}
 

@@ -1,6 +1,6 @@
 -- In each history the front messages go to endpoints that there are, and what is in flight is bound to a channel.
 use Rattle.std.specs.Prelude.{◌==◌, not, is_some}
-use Rattle.std.proofs.Common.{◌≡◌, ℕ, zero, suc, ◌+◌, ◌≤◌, ◌<◌, Bool, true, false, cond, ◌&&◌, ◌||◌, List, [], ◌∷◌, map, length, Option, Some, None, refl, sym, ap, ◌∙◌, subst, arith, true≢false, eqb-true, ltb, ltb-true, ltb-false}
+use Rattle.std.proofs.Common.{◌≡◌, ℕ, zero, suc, ◌+◌, ◌≤◌, ◌<◌, Bool, true, false, cond, ◌||◌, List, [], ◌∷◌, map, length, Option, Some, None, refl, sym, ap, ◌∙◌, subst, arith, true≢false, eqb-true, ltb, ltb-true, ltb-false}
 use Rattle.std.proofs.lemmas.Bool.{and_parts, and_from, eqb-false}
 use Rattle.std.specs.List.{list_any, list_all, find, range_with_len, AllByRecursion}
 use Rattle.am_names.specs.declared.EndpointId.{EndpointId}
@@ -10,10 +10,10 @@ use Rattle.am_names.specs.Names.{same_end}
 use Rattle.am_office.specs.declared.Entry.{Entry}
 use Rattle.am_model.specs.declared.Queued.{Queued}
 use Rattle.am_model.specs.declared.Flying.{Flying}
-use Rattle.am_model.specs.Endpoint.{State, front}
-use Rattle.am_model.specs.Layout.{Layout, EndSetting, AllAre, has_id, declared, home, node_at}
+use Rattle.am_model.specs.Endpoint.{front}
+use Rattle.am_model.specs.Layout.{Layout, EndSetting, AllAre, has_id, home, node_at}
 use Rattle.am_model.specs.Channels.{Channel, bound_message}
-use Rattle.am_model.specs.Cluster.{IsHeldOnce, InFlightIsBound}
+use Rattle.am_model.specs.Cluster.{IsHeldOnce}
 use Rattle.am_model.specs.History.{IsHistory, state_of, channel_to, is_bound}
 use Rattle.am_scenario_types.specs.Lawful as lawful
 use Rattle.am_scenario_types.specs.Lists.{ScenarioLists}
@@ -22,10 +22,10 @@ use Rattle.am_scripts.proofs.Lawful.{lawful_layout}
 use Rattle.am_laws_homes.proofs.Homes.{front_addressed, home_below}
 use Rattle.am_laws_messages.proofs.Delivered.{delivers}
 use Rattle.am_laws_cluster.proofs.Bound.{in_flight_bound}
-use Rattle.am_scripts.specs.Links.{first_some, nodes_of}
+use Rattle.am_scripts.specs.Links.{nodes_of}
 use Rattle.am_scripts.specs.Standings.{Standing, standings, is_standing_of, is_idle}
 use Rattle.am_drain.specs.Rules.{next_time_out}
-use Rattle.am_drain.specs.Laws.{is_known, has_known_front, has_no_flight, IsSound}
+use Rattle.am_drain.specs.Laws.{is_known, has_known_front, has_no_flight}
 use Rattle.am_drain.proofs.Rest.{idle_nodes, rests_at_end}
 use Rattle.am_drain.proofs.Follows.{drained_follows}
 use Rattle.am_drain_laws.specs.Laws.{HistoriesAreSound, DrainsFollow, DrainsRest}

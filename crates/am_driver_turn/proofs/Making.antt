@@ -1,18 +1,17 @@
 -- A book that a move's entry was added to is a book again, and what a driver found there.
-use Rattle.std.proofs.Common.{◌≡◌, ◌≢◌, ℕ, suc, ◌+◌, ◌<◌, ◌≤◌, max, true, List, [], ◌∷◌, ◌++◌, length, Result, Ok, Err, sym, refl, ap, ◌∙◌, subst, arith}
+use Rattle.std.proofs.Common.{◌≡◌, ℕ, ◌+◌, ◌<◌, max, true, length, Result, Ok, Err, sym, refl, ap, ◌∙◌, arith}
 use Rattle.am_names.specs.declared.NoMemory.{NoMemory}
 use Rattle.am_office.specs.declared.Event.{Event}
 use Rattle.am_office.specs.declared.Event.TheVariants as Events
 use Rattle.am_office.specs.declared.Outcome.{Outcome}
 use Rattle.am_office.specs.declared.Entry.{Entry}
-use Rattle.am_body.specs.declared.settings.EndSettings.{EndSettings}
 use Rattle.am_books.specs.Books.{IsBook}
 use Rattle.am_device.specs.Memory.{Store}
 use Rattle.am_endpoint.specs.View.{EndpointView, state_after}
 use Rattle.am_model.specs.Parts.{last_stamp}
 use Rattle.am_moves.specs.Logs.{EndLog, kept}
 use Rattle.am_moves.specs.Moves.{CanMove, Moves}
-use Rattle.am_phase.specs.Lying.{keeps_body, keeps_on_disk}
+use Rattle.am_phase.specs.Lying.{keeps_body}
 use Rattle.am_works.proofs.Books.{grown_book, kept_keeps, same_book}
 
 -- a move keeps the body

@@ -1,8 +1,6 @@
 -- The move that a driver makes, and what its turn answers.
-use Rattle.std.specs.Prelude.{not, slice_get, slice_index, slice_set}
-use Rattle.std.proofs.Common.{◌≡◌, ◌≢◌, ◌⊎◌, inl, inr, ⊎_elim, ℕ, zero, suc, ◌+◌, ◌-◌, ◌<◌, ◌≤◌, ◌==◌, ◌^◌, max, Bool, true, false, ◌&&◌, List, [], ◌∷◌, ◌++◌, length, Option, Some, None, Result, Ok, Err, refl, sym, ap, ◌∙◌, subst, arith, append-nil, eq-eqb, eqb-true, true≢false, set-set}
-use lib.ListN.{get_elem?}
-use mathlib.Core.Option.{some}
+use Rattle.std.specs.Prelude.{not, slice_index, slice_set}
+use Rattle.std.proofs.Common.{◌≡◌, ◌≢◌, ◌⊎◌, ⊎_elim, ℕ, zero, suc, ◌+◌, ◌<◌, ◌==◌, true, false, List, [], ◌∷◌, ◌++◌, length, Option, Some, None, Ok, Err, refl, sym, ap, ◌∙◌, subst, arith, append-nil, eq-eqb, eqb-true, true≢false, set-set}
 use Rattle.std.proofs.lemmas.Bool.{not-true}
 use Rattle.am_lemmas.proofs.Bools.{and_first, and_second}
 use Rattle.am_names.specs.declared.EndpointId.{EndpointId}
@@ -27,7 +25,6 @@ use Rattle.am_driver.specs.Shown.{event_of}
 use Rattle.am_driver.specs.declared.EndView.{EndView}
 use Rattle.am_driver.specs.declared.Move.{Move}
 use Rattle.am_driver.specs.declared.Move.TheVariants as Moves
-use Rattle.am_moves.specs.Logs.{EndLog}
 use Rattle.am_moves.specs.Moves.{CanMove, outcome_with, swap_with}
 use Rattle.am_moves.specs.Pages.{IsBodyValid}
 use Rattle.am_books.specs.declared.EndBook.{EndBook}
@@ -35,9 +32,9 @@ use Rattle.am_phase.specs.Lying.{rests}
 use Rattle.am_places.specs.Codes.{frame_at, place_code}
 use Rattle.am_places.specs.Rule.{FrameFits, joined, known_at}
 use Rattle.am_places.specs.declared.board.Tenure.{Tenure}
-use Rattle.am_works.specs.Drives.{CanDrive, IsLook, IsMoved, LiesSo, frames_after, last_after, line_by, log_of, view_after, with_frames, with_line}
+use Rattle.am_works.specs.Drives.{CanDrive, frames_after, last_after, line_by, log_of, with_frames, with_line}
 use Rattle.am_works.specs.Seats.{EndPass, Stays}
-use Rattle.am_works.proofs.Driving.{IsFoundAt, born_at, born_low, free_at, lies_there, line_at, line_there, may_of, moved_id, same_event, suits_here}
+use Rattle.am_works.proofs.Driving.{IsFoundAt, born_at, free_at, lies_there, line_at, line_there, may_of, moved_id, same_event, suits_here}
 use Rattle.am_works.proofs.Keeps.{same_or}
 use Rattle.am_works.proofs.Lies.{low_of, lies_moved, set_length}
 use Rattle.am_works.proofs.Staying.{FoundThere, M, Stands, replay_append}

@@ -8,8 +8,6 @@ use Rattle.am_office.specs.declared.Entry.{Entry}
 use Rattle.am_body.specs.declared.settings.EndSettings.{EndSettings}
 use Rattle.am_device.specs.Memory.{Store}
 use Rattle.am_model.specs.Parts.{last_stamp}
-use Rattle.am_local.specs.Driver.{end_moved}
-use Rattle.am_moves.specs.Logs.{EndLog}
 use Rattle.am_moves.specs.Moves.{outcome_with, swap_with}
 use Rattle.am_moves.specs.Pages.{IsBodyValid}
 use Rattle.am_driver.specs.Lists.{ViewLists}

@@ -1,7 +1,6 @@
 //! The plan of the generated links.
 
 ghost use Rattle.std.specs.Prelude.{◌≡◌, IfOk};
-ghost use Rattle.am_generator.specs.Words.{steps};
 ghost use Rattle.am_generator.specs.Plan.{fault_of, line_of, stands, with_line, plan_after};
 
 use am_names::NodeId;

@@ -1,7 +1,6 @@
 // The packet that an entry emits.
 ghost use Rattle.am_office.specs.Entries as does;
 ghost use Rattle.std.specs.Prelude.{◌≡◌};
-ghost use Rattle.std.specs.Option.{option_map};
 
 use am_names::{AnswerPacket, NodeId, Packet, Parcel, Verdict};
 use am_office::{Entry, Event, Outcome, Received};

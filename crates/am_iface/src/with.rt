@@ -2,7 +2,6 @@
 ghost use Rattle.am_model.specs.Changes.{settled_in};
 ghost use Rattle.am_endpoint.specs.View.{state_after};
 ghost use Rattle.am_iface.specs.Made.{IsMade};
-ghost use Rattle.am_iface.specs.Turns.{IsFull};
 ghost use Rattle.am_iface.specs.View.{FitsAnswer, FitsInterface, FitsParcel, IsChannelOf, own};
 ghost use Rattle.am_iface.specs.With.{IsFlightOf, IsFullOf, KnowsHome, TurnsWith};
 ghost use Rattle.am_local.specs.Granted.{FitsEndpoint, IsInFlight};

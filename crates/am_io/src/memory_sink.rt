@@ -1,4 +1,4 @@
-ghost use Rattle.std.specs.Prelude.{◌≡◌, ◌⊎◌, ◌<◌, ◌+◌, [], Some, Ok, Err, length, min, false, true};
+ghost use Rattle.std.specs.Prelude.{◌≡◌, ◌<◌, [], Some, Ok, Err, min};
 ghost use Rattle.am_io.specs.Causes.{Writes, WriteCause, ShortageCause};
 ghost use Rattle.am_io.specs.Memory.{fails_after, WritesSo};
 

@@ -1,4 +1,4 @@
-ghost use Rattle.std.specs.Prelude.{◌≡◌, ◌+◌, ◌≤◌, ◌<◌, ◌++◌, ◌^◌, Some, false, drop, length, take, nat_lt, min, ◌&&◌, ◌==◌};
+ghost use Rattle.std.specs.Prelude.{◌≡◌, ◌+◌, ◌≤◌, ◌<◌, ◌++◌, Some, false, drop, length, take, nat_lt, min, ◌&&◌, ◌==◌};
 ghost use Rattle.am_io.specs.Causes.{Reads, ReadCause};
 ghost use Rattle.am_io.specs.Memory.{after_read, fails_after, filled, read_answer};
 

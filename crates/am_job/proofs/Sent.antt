@@ -1,15 +1,15 @@
 -- The rounds of a text send its short words.
-use Rattle.std.proofs.Common.{◌≡◌, ℕ, zero, suc, lit<, ◌+◌, ◌-◌, ◌*◌, ◌/◌, ◌%◌, ◌<◌, ◌≤◌, Bool, true, false, Option, Some, None, List, [], ◌∷◌, ◌++◌, refl, sym, ap, ◌∙◌, subst, ⊎_elim, length, take, drop, get_or, map, count_by, filter_map, nat_lt, nat_le, if◌then◌else◌, arith, append_assoc, append-nil, add-one, length-append}
+use Rattle.std.proofs.Common.{◌≡◌, ℕ, zero, suc, lit<, ◌+◌, ◌-◌, ◌*◌, ◌/◌, ◌%◌, ◌<◌, ◌≤◌, Bool, true, false, Option, Some, List, [], ◌∷◌, ◌++◌, refl, sym, ap, ◌∙◌, subst, ⊎_elim, length, take, drop, get_or, map, nat_le, if◌then◌else◌, arith, append-nil, length-append}
 use Rattle.std.specs.Prelude.{filter, option_to_list}
 use Rattle.std.specs.Cmp.Lexicographic.{slice_cmp}
-use Rattle.std.specs.List.{All, flat_map, range_with_len}
+use Rattle.std.specs.List.{All, range_with_len}
 use Rattle.std.specs.List.Sorted.{IsStrictlySortedBy}
 use Rattle.std.specs.Map.{keys_of}
 use Rattle.std.specs.Ordering.{nat_cmp}
 use Rattle.std.proofs.lemmas.Bool.{cases_lt}
 use Rattle.std.proofs.lemmas.Bool.Decides.{nat_tests}
 use Rattle.std.proofs.lemmas.Grind.{flat_map-append}
-use Rattle.std.proofs.lemmas.List.{length-map, take-map, drop-map, drop-take, take-append-drop, take-take, take_all, take_more, length_push}
+use Rattle.std.proofs.lemmas.List.{length-map, take-map, drop-map, drop-take, take-append-drop, take-take, take_all, take_more}
 use Rattle.std.proofs.lemmas.List.Elements.{All-nil, All-cons, All-head, All-tail, All-append, All-take, All-drop, All-filter, filter_map-append, filter_passes}
 use Rattle.std.proofs.lemmas.List.Sums.{count_by-le-length}
 use Rattle.std.proofs.lemmas.List.FromFn.{map-range_with_len_more}
@@ -19,7 +19,7 @@ use Rattle.am_office.specs.declared.HandlerKind.TheVariants.{Note}
 use Rattle.am_scenario_types.specs.declared.parts.ScriptCall.{ScriptCall}
 use Rattle.am_scenario_types.specs.Lists.{ScenarioLists}
 use Rattle.am_words.specs.declared.codes.CodedWord.{CodedWord}
-use Rattle.am_words.specs.Codes.{coded, sent_words, word_in}
+use Rattle.am_words.specs.Codes.{coded, sent_words}
 use Rattle.am_words.specs.Counts.{Counted, IsCountOf, Tells, ask, rows_of, same_word, see_journal, times, word_asked, words_run}
 use Rattle.am_words.specs.Lists.{WordCountLists}
 use Rattle.am_words.specs.Texts.{IsText, closed, is_gap, is_short, short_words, words_after, words_of}

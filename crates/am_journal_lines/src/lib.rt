@@ -2,7 +2,7 @@
 #![tactic(auto)]
 
 ghost use Rattle.am_journal_lines.specs.Grammar.{IsLineOf};
-ghost use Rattle.am_journal_lines.specs.Reading.{Gives, event_of, has_more, is_right_side, words_behind, words_in};
+ghost use Rattle.am_journal_lines.specs.Reading.{Gives, event_of, has_more, is_right_side, words_behind};
 ghost use Rattle.am_journal_lines.specs.Laws.{LinesAreRead, PrintedLinesAreLines};
 ghost use Rattle.am_office.specs.declared.Event.{Event as Happening};
 ghost use Rattle.std.specs.Prelude.{◌≡◌, IfSome, None};
@@ -13,7 +13,7 @@ mod numbers;
 mod words;
 
 use crate::events::take_event;
-use crate::words::{split_word, take_word};
+use crate::words::take_word;
 use am_office::Event;
 pub use numbers::printed_number;
 

@@ -1,6 +1,6 @@
 //! Numbers, endpoints, nodes, tags and serials, as they are printed.
 
-ghost use Rattle.std.specs.Prelude.{◌≡◌, ◌==◌, ◌≤◌};
+ghost use Rattle.std.specs.Prelude.{◌≡◌, ◌==◌};
 ghost use Rattle.std.specs.List.{position};
 ghost use Rattle.am_journal_lines.specs.Reading.{Gives, has_no_leading_zero, printed_number, number_up_to, byte_at, count_at, long_at, end_at, node_at, tag_of, tag_at, serial_of, serial_at, words_behind};
 

@@ -2,7 +2,7 @@
 
 ghost use Rattle.std.specs.Prelude.{◌≡◌, [], ◌∷◌, ◌==◌, MatchOption};
 ghost use Rattle.std.specs.List.{position};
-ghost use Rattle.am_journal_lines.specs.Reading.{words_behind, words_in, word_at};
+ghost use Rattle.am_journal_lines.specs.Reading.{words_behind, words_in};
 
 use am_names::NodeId;
 

@@ -29,7 +29,6 @@ use Rattle.am_office.specs.Entries.{accepted_by, put_of, run_by, ends_touched, t
 use Rattle.am_model.specs.Layout.{Layout, EndSetting, has_id, opening_by}
 use Rattle.am_model.specs.Channels.{attempt}
 use Rattle.am_model.specs.History.{state_of, MayFollow, IsHistory}
-use Rattle.am_model.specs.PostOffice.{times, times_serial, Gave, WasAccepted, is_from, own_tag, mapping_of, is_about, ends_hold, ends_wait, SendsOne, SendsOneReply, IsRequestOf, IsAcceptedBy, asked_in, is_held, held_by, held_at, over_share, held_over, shares_below, IsWithinCredits, HasItsShare, RefusesAboveShare, CreditsHold}
 use Rattle.am_model.proofs.Each.{over_each, each_push, state_of_push}
 use Rattle.am_model.proofs.Received.{one_touched, FitsCall}
 use Rattle.am_model.proofs.Books.{fits_call}

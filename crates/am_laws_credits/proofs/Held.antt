@@ -29,11 +29,11 @@ use Rattle.am_model.specs.declared.Flying.{Flying}
 use Rattle.am_model.specs.Endpoint.{waits_for}
 use Rattle.am_model.specs.Calls.{unless, give_up_refusal}
 use Rattle.am_model.specs.Changes.{flying_of, settled_in}
-use Rattle.am_office.specs.Entries.{accepted_by, accepted_in, accepted_of, put_by, put_in, put_of, run_by, run_in, run_of, returned_by, returned_in, returned_of, unknown_in, unknown_of, given_up_in, given_up_of, requeue_of, refusal_of, ends_touched, touched_by_result, touched_by_expiry, touches, passes, is_serial}
+use Rattle.am_office.specs.Entries.{accepted_in, accepted_of, put_in, put_of, run_in, run_of, returned_in, returned_of, unknown_in, unknown_of, given_up_in, given_up_of, ends_touched, touches, passes, is_serial}
 use Rattle.am_model.specs.Layout.{Layout, AllAre, EndSetting, has_id, opening_by}
 use Rattle.am_model.specs.Channels.{bound_message, sequence, attempt}
 use Rattle.am_model.specs.History.{state_of, MayFollow, IsHistory, outcome_of, judged, channel_to, next_number, expire, is_answered}
-use Rattle.am_model.specs.PostOffice.{times, times_serial, Gave, WasAccepted, is_from, own_tag, mapping_of, is_about, ends_hold, ends_wait, SendsOne, SendsOneReply, IsRequestOf, IsAcceptedBy, asked_in, is_held, held_by, held_at, over_share, held_over, shares_below, IsWithinCredits, HasItsShare, RefusesAboveShare, CreditsHold}
+use Rattle.am_model.specs.PostOffice.{times, WasAccepted, ends_hold, SendsOne, asked_in, is_held, held_by}
 use Rattle.am_model.proofs.Each.{over_each, each_push, state_of_push}
 use Rattle.am_model.proofs.Names.{same_serial-is, same_serial-refl, same_end-refl, same_end-is}
 use Rattle.am_model.proofs.Received.{bit, one_touched}

@@ -7,20 +7,17 @@ use Rattle.am_names.specs.declared.Serial.{Serial}
 use Rattle.am_names.specs.declared.Message.{Message}
 use Rattle.am_office.specs.declared.Event.{Event}
 use Rattle.am_office.specs.declared.Event.TheVariants as Events
-use Rattle.am_office.specs.declared.Received.TheVariants as Got
 use Rattle.am_office.specs.declared.Outcome.{Outcome}
-use Rattle.am_office.specs.declared.Outcome.TheVariants as Out
 use Rattle.am_office.specs.declared.Entry.{Entry}
 use Rattle.am_names.specs.Names.{same_end, same_serial, has_serial}
 use Rattle.am_model.specs.declared.Awaited.{Awaited}
 use Rattle.am_model.specs.declared.Queued.{Queued}
 use Rattle.am_model.specs.declared.Flying.{Flying}
 use Rattle.am_model.specs.Endpoint.{State, Body, front}
-use Rattle.am_model.specs.Calls.{new_serial, answer}
+use Rattle.am_model.specs.Calls.{new_serial}
 use Rattle.am_model.specs.Changes.{changed, with_arrived, with_marked}
 use Rattle.am_office.specs.Entries.{accepted_by, accepted_in, accepted_of, put_in, put_of, ends_touched, touches, passes, is_serial}
 use Rattle.am_model.specs.Layout.{Layout, AllAre, EndSetting, has_id, opening_by}
-use Rattle.am_model.specs.Channels.{attempt}
 use Rattle.am_model.specs.History.{state_of, MayFollow, IsHistory}
 use Rattle.am_model.specs.PostOffice.{times, is_about}
 use Rattle.am_model.proofs.Each.{over_each, each_push, state_of_push}

@@ -22,7 +22,7 @@ use Rattle.am_model.specs.Endpoint.{State, Body, waits_for, entry_at}
 use Rattle.am_model.specs.Calls.{outcome_of_call, unless, request_refusal, new_request, has_no_credit, is_over_share, is_at, records_at, excess_at, excess_from, excess, share_of, shares, map_refusal, unmap_refusal}
 use Rattle.am_model.specs.Changes.{called, changed}
 use Rattle.am_office.specs.Entries.{touches, is_serial}
-use Rattle.am_model.specs.Layout.{Layout, AllAre, EndSetting, has_id, opening_by, opening, home, IsLawful}
+use Rattle.am_model.specs.Layout.{Layout, EndSetting, has_id, opening_by, IsLawful}
 use Rattle.am_model.specs.History.{state_of, MayFollow, IsHistory}
 use Rattle.am_model.proofs.Each.{over_each, each_push, state_of_push}
 use Rattle.am_model.proofs.Received.{bit, FitsCall}

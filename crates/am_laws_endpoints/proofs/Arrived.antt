@@ -30,7 +30,7 @@ use Rattle.am_office.specs.Entries.{put_of, run_by, ends_touched, touched_by_res
 use Rattle.am_model.specs.Layout.{Layout, EndSetting, has_id, opening_by}
 use Rattle.am_model.specs.Channels.{attempt}
 use Rattle.am_model.specs.History.{state_of, MayFollow, IsHistory}
-use Rattle.am_model.specs.PostOffice.{times, times_serial, Gave, WasAccepted, is_from, own_tag, mapping_of, is_about, ends_hold, ends_wait, SendsOne, SendsOneReply, IsRequestOf, IsAcceptedBy, asked_in, is_held, held_by, held_at, over_share, held_over, shares_below, IsWithinCredits, HasItsShare, RefusesAboveShare, CreditsHold}
+use Rattle.am_model.specs.PostOffice.{is_about}
 use Rattle.am_model.proofs.Each.{over_each, each_push, state_of_push}
 use Rattle.am_model.proofs.Names.{same_serial-is, same_serial-refl, same_end-is}
 use Rattle.am_model.specs.Valid.{has_arrived}

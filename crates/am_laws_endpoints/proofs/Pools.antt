@@ -35,7 +35,6 @@ use Rattle.am_office.specs.Entries.{put_of, ends_touched, touched_by_result, tou
 use Rattle.am_model.specs.Layout.{Layout, AllAre, EndSetting, has_id, opening_by}
 use Rattle.am_model.specs.Channels.{attempt}
 use Rattle.am_model.specs.History.{state_of, MayFollow, IsHistory, judged}
-use Rattle.am_model.specs.PostOffice.{times, times_serial, Gave, WasAccepted, is_from, own_tag, mapping_of, is_about, ends_hold, ends_wait, SendsOne, SendsOneReply, IsRequestOf, IsAcceptedBy, asked_in, is_held, held_by, held_at, over_share, held_over, shares_below, IsWithinCredits, HasItsShare, RefusesAboveShare, CreditsHold}
 use Rattle.am_model.proofs.Each.{over_each, each_push, state_of_push}
 use Rattle.am_model.proofs.Received.{bit, one_touched, FitsCall}
 use Rattle.am_model.proofs.Books.{fits_call}
@@ -51,7 +50,7 @@ use Rattle.am_model.proofs.Received.{weight, run_at, put_at, changed_received}
 use Rattle.am_model.proofs.Alls.{all_push}
 use Rattle.am_model.proofs.Names.{same_end-is}
 use Rattle.am_laws_messages.proofs.Alls.{all_tail}
-use Rattle.am_laws_fates.proofs.Aloft.{Weight, aloft, queue_weight, flight_weight, one_weight, as_queued, rebounced, Moves, parts, comes, entry_moves, carry_parts, carry_comes}
+use Rattle.am_laws_fates.proofs.Aloft.{Weight, aloft, queue_weight, one_weight, as_queued, rebounced, parts, comes, entry_moves, carry_parts, carry_comes}
 use Rattle.am_laws_credits.proofs.Shares.{table_holds}
 
 -- the messages that pass, of all that an endpoint is to send, has in flight or has back

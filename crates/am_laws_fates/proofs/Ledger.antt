@@ -17,7 +17,7 @@ use Rattle.am_office.specs.declared.Entry.{Entry}
 use Rattle.am_names.specs.Names.{same_end, same_serial, has_serial}
 use Rattle.am_model.specs.declared.Queued.{Queued}
 use Rattle.am_model.specs.declared.Flying.{Flying}
-use Rattle.am_model.specs.Endpoint.{State, Body}
+use Rattle.am_model.specs.Endpoint.{State}
 use Rattle.am_model.specs.Changes.{flying_of, settled_in}
 use Rattle.am_office.specs.Entries.{accepted_by, ends_touched, touches, touched_by_result, touched_by_expiry, passes}
 use Rattle.am_model.specs.Layout.{Layout}
@@ -32,7 +32,7 @@ use Rattle.am_model.proofs.Chosen.{flying_of-has_serial}
 use Rattle.am_laws_messages.proofs.Sent.{fits_send}
 use Rattle.am_laws_fates.proofs.Aloft.{as_queued, rebounced, carry_parts, carry_comes, parts, comes, Moves, stays, entry_moves}
 use Rattle.am_laws_fates.proofs.Flown.{lands_found}
-use Rattle.am_laws_fates.proofs.Numbers.{some_pair, often, end_in, end_of_entry, Numbers, NumbersOf, quiet, quiet_by, accepted_new, done_with, come_back, go_back, carry_here, carry_away, flight, Tells, TellsResult, entry_tells, OwnAre, own_are}
+use Rattle.am_laws_fates.proofs.Numbers.{some_pair, Numbers, NumbersOf, quiet, quiet_by, accepted_new, done_with, come_back, go_back, carry_here, carry_away, flight, Tells, TellsResult, entry_tells, OwnAre, own_are}
 
 -- what one entry does to the messages of a serial
 pub record SerialMoves (layout : Layout) (past : List Entry) (x : Entry) (s : Serial) : Type 0 where

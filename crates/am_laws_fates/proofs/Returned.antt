@@ -10,7 +10,6 @@ use Rattle.am_office.specs.declared.Outcome.{Outcome}
 use Rattle.am_office.specs.declared.Outcome.TheVariants as Out
 use Rattle.am_office.specs.declared.Entry.{Entry}
 use Rattle.am_names.specs.Names.{same_serial, has_serial}
-use Rattle.am_model.specs.Endpoint.{Body}
 use Rattle.am_office.specs.Entries.{put_in, put_of, returned_in, returned_of, passes}
 use Rattle.am_model.specs.Layout.{Layout}
 use Rattle.am_model.specs.History.{state_of, MayFollow, IsHistory}

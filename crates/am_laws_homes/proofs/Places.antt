@@ -1,5 +1,5 @@
 -- An endpoint's place is that of the direct network where the cluster is one, and nowhere else.
-use Rattle.std.proofs.Common.{◌≡◌, Bool, true, false, cond, ◌||◌, List, [], ◌∷◌, ◌++◌, Option, Some, None, refl, sym, ap, ◌∙◌, subst, if◌then◌else◌}
+use Rattle.std.proofs.Common.{◌≡◌, Bool, true, false, cond, ◌||◌, List, [], ◌∷◌, ◌++◌, Option, Some, None, refl, sym, ap, ◌∙◌, if◌then◌else◌}
 use Rattle.std.specs.Prelude.{◌&&◌, is_some}
 use Rattle.std.specs.List.{find, list_any}
 use Rattle.am_names.specs.declared.EndpointId.{EndpointId}
@@ -14,9 +14,7 @@ use Rattle.am_office.specs.declared.Outcome.TheVariants as Out
 use Rattle.am_office.specs.declared.Received.{Received}
 use Rattle.am_office.specs.declared.Received.TheVariants as Got
 use Rattle.am_office.specs.declared.Entry.{Entry}
-use Rattle.am_office.specs.declared.Place.{Place}
 use Rattle.am_office.specs.Entries.{touches}
-use Rattle.am_names.specs.declared.Cause.{Cause}
 use Rattle.am_names.specs.declared.Cause.TheVariants.{NotResident}
 use Rattle.am_model.specs.Endpoint.{State, is_direct}
 use Rattle.am_model.specs.Changes.{called, left, reached, carried, put, received, expired, bound, paged_out, paged_in, changed}

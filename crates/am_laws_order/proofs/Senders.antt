@@ -17,7 +17,7 @@ use Rattle.am_model.specs.declared.Queued.{Queued}
 use Rattle.am_names.specs.Names.{same_node}
 use Rattle.am_model.specs.Endpoint.{front}
 use Rattle.am_model.specs.Layout.{Layout, home}
-use Rattle.am_model.specs.Channels.{Channel, same_channel, sequence, bound_message, sent_message, attempt, attempt_in, binds, sends, sends_on, frees, frees_by}
+use Rattle.am_model.specs.Channels.{Channel, same_channel, sequence, bound_message, sent_message, attempt, attempt_in, binds, sends, frees, frees_by}
 use Rattle.am_model.specs.Channels as Channel'
 use Rattle.am_model.specs.History.{state_of, MayFollow, outcome_of, bind, bind_to, expire, receive, sent, channel_to, channel_for, is_answered}
 use Rattle.am_model.specs.Changes.{flying_of}

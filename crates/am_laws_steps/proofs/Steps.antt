@@ -18,9 +18,9 @@ use Rattle.am_office.specs.declared.Condition.{Condition}
 use Rattle.am_office.specs.declared.Part.{Part}
 use Rattle.am_office.specs.declared.Entry.{Entry}
 use Rattle.am_office.specs.Entries.{share_part, emitted_of, emitted_in, parcel, answer_packet, answer_by}
-use Rattle.am_model.specs.Layout.{Layout, AllAre}
+use Rattle.am_model.specs.Layout.{Layout}
 use Rattle.am_model.specs.Channels.{emitted}
-use Rattle.am_model.specs.History.{MayFollow, EachAfter, IsHistory, is_in_range, is_later, is_taken_before, is_packet_before, failing, outcome_of}
+use Rattle.am_model.specs.History.{MayFollow, EachAfter, IsHistory, is_in_range, is_taken_before, is_packet_before, failing, outcome_of}
 use Rattle.am_model.specs.Packets.{stamp_of}
 use Rattle.am_model.specs.Steps.{FollowsSteps, Made, Stop, stop, stop_by, full_log, step_entry, made, made_by, made_from}
 use Rattle.am_model.proofs.Each.{each_push}

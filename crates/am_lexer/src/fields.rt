@@ -1,6 +1,6 @@
 //! The words of a line, read from the left.
 
-ghost use Rattle.std.specs.Prelude.{◌≡◌, []};
+ghost use Rattle.std.specs.Prelude.{[]};
 ghost use Rattle.am_lexer.specs.Text.{words_of};
 ghost use Rattle.am_lexer.specs.Fields.{Gives, word_at, number_at, within, ended};
 

@@ -1,7 +1,6 @@
 -- What a line says, its words read from the left, or its first fault.
 use Rattle.std.specs.Prelude.{ℕ, List, Result, Ok}
 use Rattle.am_lexer.specs.declared.what.What.{What}
-use Rattle.am_lexer.specs.Fields.{◌>>=◌}
 use Rattle.am_scenario_types.specs.declared.parts.Form.{Form}
 use Rattle.am_draft.specs.declared.line.Line.{Line}
 use Rattle.am_draft.specs.declared.line.Line.TheVariants as line

@@ -1,6 +1,6 @@
 //! Lines of section 3, bundles aside.
 
-ghost use Rattle.std.specs.Prelude.{◌≡◌, ◌==◌, nat_lt, length};
+ghost use Rattle.std.specs.Prelude.{◌==◌};
 ghost use Rattle.am_lexer.specs.Text.{words_of};
 ghost use Rattle.am_lexer.specs.Fields.{Gives};
 ghost use Rattle.am_draft.specs.Drafts.{said};

@@ -1,6 +1,6 @@
 //! Places in a line: a number below a limit, a node, an endpoint, a bundle, a tag, a serial.
 
-ghost use Rattle.std.specs.Prelude.{◌≡◌, ◌==◌, ℕ, Option};
+ghost use Rattle.std.specs.Prelude.{◌≡◌, ◌==◌, Option};
 ghost use Rattle.std.specs.List.{position};
 ghost use Rattle.am_lexer.specs.Text.{words_of};
 ghost use Rattle.am_lexer.specs.Fields.{Gives};

@@ -1,6 +1,6 @@
 //! Lines of sections 1 and 2.
 
-ghost use Rattle.std.specs.Prelude.{◌≡◌, Option, ℕ};
+ghost use Rattle.std.specs.Prelude.{◌≡◌, Option};
 ghost use Rattle.am_lexer.specs.Text.{words_of};
 ghost use Rattle.am_lexer.specs.Fields.{Gives};
 ghost use Rattle.am_draft.specs.Drafts.{said};

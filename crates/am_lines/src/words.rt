@@ -1,6 +1,5 @@
 //! What a line says, by its first word and the words behind it.
 
-ghost use Rattle.std.specs.Prelude.{◌≡◌};
 ghost use Rattle.am_lexer.specs.Text.{words_of};
 ghost use Rattle.am_draft.specs.Drafts.{said};
 ghost use Rattle.am_lines.specs.Lines.{words_say};

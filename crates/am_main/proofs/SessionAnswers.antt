@@ -7,7 +7,6 @@ use Rattle.am_main.specs.Offers.{IsOffered, IsOr, LacksMemory}
 use Rattle.am_main.specs.Sessions.{IsOfSession, IsSessionGiven, RefusesSession, ReportsSession, answer_as}
 use Rattle.am_main.proofs.Refusals.{own_status, own_text, status_of}
 use Rattle.am_session.specs.Answer as Sessions
-use Rattle.am_session.specs.Answer.{refused_line}
 use Rattle.am_session.specs.Grammar.{grammar}
 use Rattle.am_session.specs.Meaning.{SessionMeans}
 use Rattle.am_session.specs.Scripts.{Script}

@@ -1,6 +1,6 @@
 -- No command but `count` ends with the status 11.
 use Rattle.std.specs.Prelude.{Result, Ok, Err}
-use Rattle.std.proofs.Common.{◌≡◌, ◌≢◌, ◌⊎◌, inl, inr, ℕ, List, Option, Some, None, sym, ◌∙◌, ap, subst, arith}
+use Rattle.std.proofs.Common.{◌≡◌, ◌≢◌, inl, inr, ℕ, List, Option, Some, None, sym, ◌∙◌, ap, arith}
 use Rattle.am_office.specs.declared.Entry.{Entry}
 use Rattle.am_model.specs.Steps.{Stop, NotEnabled, LogFull, made}
 use Rattle.am_scripts.specs.Layout.{events_of, layout_of}
@@ -14,7 +14,7 @@ use Rattle.am_segment.specs.Spelling.{segment_grammar}
 use Rattle.am_main.specs.Answer.{Answer, answer_of, answer_of_stop}
 use Rattle.am_main.specs.Checks.{IsOfCheck}
 use Rattle.am_main.specs.Commands.{AsksForCount}
-use Rattle.am_main.specs.Offers.{Finds, IsAnswered, IsOffered, IsOfMake, IsOr, IsTextOffered, no_memory, read_fault, too_long, usage}
+use Rattle.am_main.specs.Offers.{IsAnswered, IsOffered, IsOfMake, IsOr, IsTextOffered, no_memory, read_fault, too_long, usage}
 use Rattle.am_main.specs.Runs.{RunAnswers}
 use Rattle.am_main.specs.Segments.{IsSegmentsAnswered, SegmentsAnswers}
 use Rattle.am_main.specs.Sessions.{IsOfSession}

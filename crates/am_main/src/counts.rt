@@ -1,6 +1,6 @@
 //! The command `count`: the words of a text from the source, counted over the cluster, to the sink.
 
-ghost use Rattle.std.specs.Prelude.{codes, ◌≡◌, ◌≢◌, ◌⊎◌, ◌+◌, ◌<◌, ◌≤◌, IfOk, length, true, false};
+ghost use Rattle.std.specs.Prelude.{codes, ◌≡◌, ◌≢◌, ◌+◌, ◌<◌, ◌≤◌, IfOk, length, true, false};
 ghost use Rattle.std.specs.Io.KnownBytes.{Appends};
 ghost use Rattle.am_io.specs.Causes.{Rose};
 ghost use Rattle.am_io.specs.Whole.{IsLonger, TakesAtMost};

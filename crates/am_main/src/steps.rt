@@ -1,5 +1,5 @@
 // The steps of a scenario, one after the other.
-ghost use Rattle.std.specs.Prelude.{◌≡◌, IfOk, [], map};
+ghost use Rattle.std.specs.Prelude.{◌≡◌, IfOk, []};
 ghost use Rattle.am_scripts.specs.Layout.{events_of, layout_of};
 ghost use Rattle.am_laws_steps.specs.Laws.{AreInRange};
 ghost use Rattle.am_main.specs.Answer.{GivesText, Makes, TellsText, answer_of, fault_of, ids_of};

@@ -1,6 +1,6 @@
 // The parts of nodes are made of their shells, interfaces and disks.
 ghost use Rattle.am_node.specs.Parts.{part_of, parts_of};
-ghost use Rattle.std.specs.Prelude.{◌≡◌, ◌≤◌, [], length, vec_capacity, vec_len};
+ghost use Rattle.std.specs.Prelude.{◌≡◌, ◌≤◌, [], length, vec_capacity};
 
 use crate::NodePart;
 use crate::shells::Shell;

@@ -1,5 +1,4 @@
 // Endpoints of several nodes are gathered in the order in which they are declared.
-ghost use Rattle.am_endpoint.specs.View.{EndpointView};
 ghost use Rattle.am_scripts.specs.Layout.{setting_of};
 ghost use Rattle.am_node.specs.Gathered.{AreDeclared, AreOfGroups, HasOne, IsLastOf, setting_in};
 ghost use Rattle.std.specs.Prelude.{◌≡◌, ◌<◌, ◌≤◌, [], length, map, vec_capacity};

@@ -1,5 +1,4 @@
 // What a node has beside its endpoints, its interface and its disk.
-ghost use Rattle.am_endpoint.specs.View.{EndpointView};
 ghost use Rattle.am_journal.specs.View.{IsIndexOf};
 ghost use Rattle.am_node.specs.Shells.{AreCopies, AreCounts, AreShells, AreSmall, IsShell, is_at};
 ghost use Rattle.am_office.specs.declared.Entry.{Entry};

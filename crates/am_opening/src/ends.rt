@@ -4,7 +4,7 @@ ghost use Rattle.am_books.specs.declared.EndBook.{EndBook as Book};
 ghost use Rattle.am_endpoint.specs.View.{EndpointView};
 ghost use Rattle.am_model.specs.Layout.{AllAre};
 ghost use Rattle.am_opening.specs.Openings.{lines_of};
-ghost use Rattle.std.specs.Prelude.{◌≡◌, ◌+◌, [], ◌∷◌, ◌++◌, None, IfOk, length, map, vec_capacity};
+ghost use Rattle.std.specs.Prelude.{◌≡◌, [], None, IfOk, map};
 
 use am_books::EndBook;
 use am_driver::View;

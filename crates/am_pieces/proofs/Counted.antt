@@ -1,6 +1,6 @@
 -- The runs of one entry more, and the pieces that ran.
-use Rattle.std.proofs.Common.{◌≡◌, ℕ, ◌<◌, ◌≤◌, ◌+◌, Bool, true, false, ◌&&◌, ◌||◌, cond, Option, Some, None, List, [], ◌∷◌, ◌++◌, refl, sym, ap, ◌∙◌, zero-add, count_by, map, length, take, drop, get_or, nat_eq, if◌then◌else◌, arith, add-one}
-use Rattle.std.specs.List.{list_any, range_with_len}
+use Rattle.std.proofs.Common.{◌≡◌, ℕ, ◌<◌, ◌≤◌, ◌+◌, Bool, true, false, ◌&&◌, ◌||◌, cond, Option, Some, None, List, [], ◌∷◌, ◌++◌, refl, sym, ap, ◌∙◌, zero-add, count_by, map, length, take, drop, get_or, nat_eq, if◌then◌else◌, add-one}
+use Rattle.std.specs.List.{range_with_len}
 use Rattle.std.proofs.lemmas.List.FromFn.{sum_by-map-range_with_len_more}
 use Rattle.std.specs.HashSet.{HashSet, contains}
 use Rattle.std.specs.declared.hash.FoldHasher.{FoldHasher}
@@ -25,7 +25,7 @@ use Rattle.am_pieces.specs.Lists.{TransferLists}
 use Rattle.am_pieces.specs.Pieces.{words_of}
 use Rattle.am_pieces.specs.Blocks.{piece_at, piece_count}
 use Rattle.am_pieces.specs.Runs.{TellsRuns, has_key, is_key, key_in, run_key, same_run}
-use Rattle.am_pieces.specs.Segments.{has_run, has_words, run_words, words_run, same_words, ran_count, ran_of, ran_from}
+use Rattle.am_pieces.specs.Segments.{has_run, has_words, run_words, same_words, ran_count, ran_of, ran_from}
 
 abbrev Set : Type 0
 Set = HashSet Run (BuildHasherDefault FoldHasher)

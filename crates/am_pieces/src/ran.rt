@@ -3,7 +3,7 @@
 ghost use Rattle.std.specs.Prelude.{◌≡◌, ◌≤◌, ◌<◌, ◌+◌, ◌^◌, List, IfOk, if◌then◌else◌, length};
 ghost use Rattle.am_office.specs.declared.Entry.{Entry};
 ghost use Rattle.am_pieces.specs.Pieces.{words_of};
-ghost use Rattle.am_pieces.specs.Segments.{has_run, ran_count, ran_from, ran_in, ran_of, segment_of};
+ghost use Rattle.am_pieces.specs.Segments.{has_run, ran_count, ran_from, ran_of, segment_of};
 ghost use Rattle.am_pieces.specs.Runs.{TellsRuns, key_in, run_key};
 
 use crate::parts::Piece;

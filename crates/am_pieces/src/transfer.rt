@@ -39,7 +39,7 @@ fn padded(bytes: &[u8]) -> [u8; 24]
 }
 
 impl Transfer {
-    ghost use Rattle.std.specs.Prelude.{◌≡◌, ◌≤◌, ◌<◌, ◌+◌, length};
+    ghost use Rattle.std.specs.Prelude.{◌≡◌, ◌<◌, ◌+◌};
     ghost use Rattle.am_pieces.specs.Blocks.{piece_at, piece_count};
 
     /// How many pieces the block is cut into, each of 24 bytes but the last.

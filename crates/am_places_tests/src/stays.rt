@@ -1,6 +1,6 @@
 //! A stay of a seat at a book: it enters, changes the book, and leaves.
 ghost use Rattle.am_places_tests.specs.Stays.{IsInside, IsWaiting};
-ghost use Rattle.std.specs.Prelude.{◌≡◌, ◌+◌, ◌<◌, MatchResult, MatchBool};
+ghost use Rattle.std.specs.Prelude.{◌≡◌, ◌<◌, MatchResult};
 
 use crate::notes::Notes;
 use am_places::{Busy, Entered, Places, Seat};

@@ -2,7 +2,7 @@
 
 ghost use Rattle.std.specs.Prelude.{◌≡◌, ◌<◌, ◌^◌, ◌++◌, IfOk, find};
 ghost use Rattle.std.specs.List.{flat_map};
-ghost use Rattle.am_plan.specs.Shape.{is_line_of, fault_in, fault_at, at_once, stamped, stamp_of, shape, OnePacketMore, BeginsAlike};
+ghost use Rattle.am_plan.specs.Shape.{is_line_of, fault_at, at_once, stamped, stamp_of, shape, OnePacketMore, BeginsAlike};
 ghost use Rattle.am_plan.specs.Held.{held_back, falls_due};
 
 use crate::plan::{LinkFault, PlanLine};

@@ -1,6 +1,6 @@
 //! The stage of a link: what an emission releases at once, what it releases of what was held back, and what it holds back.
 
-ghost use Rattle.std.specs.Prelude.{◌≡◌, ◌+◌, ◌≤◌, ◌<◌, ◌^◌, ◌++◌, [], IfOk, OnOk, length, vec_len, vec_capacity};
+ghost use Rattle.std.specs.Prelude.{◌≡◌, ◌+◌, ◌≤◌, ◌<◌, ◌^◌, ◌++◌, [], OnOk, length, vec_len, vec_capacity};
 ghost use Rattle.std.specs.List.{filter, flat_map};
 ghost use Rattle.am_release.specs.Stages.{copies, falls_due, freed, held_back, held_then, is_later};
 
@@ -27,7 +27,7 @@ pub struct Stage<T: Copy> {
 }
 
 impl<T: Copy> Model for Stage<T> {
-    ghost use Rattle.std.specs.Prelude.{◌+◌, ◌-◌, min, length, vec_len, vec_capacity};
+    ghost use Rattle.std.specs.Prelude.{◌+◌, ◌-◌, min, vec_len, vec_capacity};
     ghost use Rattle.am_release.specs.Staged.{Staged};
 
     ghost Value = { Staged T };

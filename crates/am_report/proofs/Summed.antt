@@ -1,10 +1,9 @@
 -- The summary's lines stand in the report.
-use Rattle.std.proofs.Common.{◌≡◌, ℕ, List, [], ◌∷◌, ◌++◌, length, refl, append_assoc}
+use Rattle.std.proofs.Common.{◌≡◌, ℕ, List, [], ◌∷◌, ◌++◌, length, append_assoc}
 use Rattle.std.specs.Prelude.{codes}
 use Rattle.std.specs.Fmt.{decimal}
 use Rattle.std.specs.List.{flat_map}
 use Rattle.am_names.specs.declared.EndpointId.{EndpointId}
-use Rattle.am_office.specs.declared.Entry.{Entry}
 use Rattle.am_entry_lines.specs.Lines.{line_of}
 use Rattle.am_text.specs.Words.{line}
 use Rattle.am_report.specs.Report.{SummaryIsOfReport, report, journal_part, entries_line, end_part, messages_part, fate_line, told, totals}

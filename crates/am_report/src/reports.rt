@@ -1,6 +1,6 @@
 //! The report of a journal.
 
-ghost use Rattle.std.specs.Prelude.{◌≡◌, List, ◌++◌, OnOk, IfOk, length, count_by};
+ghost use Rattle.std.specs.Prelude.{◌≡◌, List, ◌++◌, OnOk, IfOk};
 ghost use Rattle.std.specs.List.{flat_map};
 ghost use Rattle.am_office.specs.declared.Entry.{Entry};
 ghost use Rattle.am_entry_lines.specs.Lines.{line_of};

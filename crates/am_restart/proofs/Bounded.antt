@@ -1,19 +1,16 @@
 -- The numbers of a session stay bounded.
-use Rattle.std.proofs.Common.{◌≡◌, ℕ, ◌+◌, ◌≤◌, Bool, true, false, ◌==◌, ◌&&◌, Option, Some, None, List, [], ◌∷◌, ◌++◌, length, refl, if◌then◌else◌, arith, length-append}
+use Rattle.std.proofs.Common.{ℕ, ◌+◌, ◌≤◌, Bool, true, false, ◌==◌, ◌&&◌, Option, Some, None, List, [], ◌∷◌, ◌++◌, length, if◌then◌else◌, arith, length-append}
 use Rattle.std.specs.Prelude.{nat_lt, slice_get, All, IfSome}
 use Rattle.std.proofs.lemmas.List.Elements.{All-push}
 use Rattle.am_names.specs.Rules.{is_transient}
-use Rattle.am_names.specs.declared.Verdict.{Verdict}
 use Rattle.am_names.specs.declared.Verdict.TheVariants as Verdicts
 use Rattle.am_model.specs.Channels.{Arrival, arrival}
 use Rattle.am_model.specs.Channels as Arrivals
-use Rattle.am_channel.specs.Sending.{settled, timed_out}
+use Rattle.am_channel.specs.Sending.{settled}
 use Rattle.am_channel.specs.declared.sending.Bound.{Bound}
 use Rattle.am_channel.specs.declared.sending.Settled.{Settled}
 use Rattle.am_channel.specs.declared.sending.Settled.TheVariants as Settles
-use Rattle.am_channel.specs.declared.sending.TimedOut.{TimedOut}
 use Rattle.am_channel.specs.declared.sending.TimedOut.TheVariants as Times
-use Rattle.am_restart.specs.declared.ends.Sender.{Sender}
 use Rattle.am_restart.specs.declared.ends.Receiver.{Receiver}
 use Rattle.am_restart.specs.declared.events.Say.{Say}
 use Rattle.am_restart.specs.declared.events.SessionEvent.{SessionEvent}

@@ -5,7 +5,6 @@ use Rattle.std.proofs.lemmas.List.Elements.{All-get_or}
 use Rattle.std.proofs.lemmas.Option.{slice_get_cases}
 use Rattle.am_channel.specs.declared.sending.Bound.{Bound}
 use Rattle.am_model.specs.Choice.{first_holding}
-use Rattle.am_restart.specs.declared.events.SessionCondition.{SessionCondition}
 use Rattle.am_restart.specs.declared.events.SessionCondition.TheVariants as Needs
 use Rattle.am_restart.specs.declared.events.SessionEvent.TheVariants as Events
 use Rattle.am_restart.specs.declared.packets.SenderPacket.{SenderPacket}

@@ -1,5 +1,5 @@
 -- What bounds the numbers of a session.
-use Rattle.std.specs.Prelude.{ℕ, ◌+◌, ◌≤◌, All, IfSome, length}
+use Rattle.std.specs.Prelude.{◌+◌, ◌≤◌, All, IfSome, length}
 use Rattle.am_restart.specs.declared.packets.SenderPacket.{SenderPacket}
 use Rattle.am_restart.specs.declared.packets.SenderPacket.TheVariants as FromSender
 use Rattle.am_restart.specs.State.{SessionState}

@@ -1,5 +1,5 @@
 -- What each event of a session does, and when it may happen.
-use Rattle.std.specs.Prelude.{ℕ, ◌+◌, Bool, true, false, ◌==◌, ◌&&◌, nat_lt, Option, Some, None, is_none, is_some, List, [], ◌∷◌, length, slice_get, if◌then◌else◌}
+use Rattle.std.specs.Prelude.{ℕ, ◌+◌, Bool, true, false, ◌==◌, ◌&&◌, nat_lt, Option, Some, None, is_none, is_some, [], ◌∷◌, length, slice_get, if◌then◌else◌}
 use Rattle.std.specs.Option.{option_map}
 use Rattle.am_names.specs.Rules.{is_transient}
 use Rattle.am_names.specs.declared.Verdict.{Verdict}
@@ -31,7 +31,7 @@ use Rattle.am_restart.specs.declared.packets.SenderPacket.{SenderPacket}
 use Rattle.am_restart.specs.declared.packets.SenderPacket.TheVariants as FromSender
 use Rattle.am_restart.specs.declared.packets.ReceiverPacket.{ReceiverPacket}
 use Rattle.am_restart.specs.declared.packets.ReceiverPacket.TheVariants as FromReceiver
-use Rattle.am_restart.specs.Ends.{new_sender, new_receiver, met, verdict_of, message_of, slot_of, number_of, parcel_of, answer_of}
+use Rattle.am_restart.specs.Ends.{new_sender, new_receiver, met, verdict_of, message_of, slot_of, number_of, answer_of}
 use Rattle.am_restart.specs.State.{SessionState, packet_at}
 
 -- the first condition that keeps an event from happening

@@ -1,5 +1,5 @@
 -- Worked histories of a session whose messages have two tries each.
-use Rattle.std.specs.Prelude.{ℕ, List, [], ◌∷◌, ◌++◌, Some, None}
+use Rattle.std.specs.Prelude.{List, [], ◌∷◌, ◌++◌, Some, None}
 use Rattle.am_restart.specs.declared.events.Say.TheVariants.{Accept, Full, Bad}
 use Rattle.am_restart.specs.declared.events.SessionEntry.{SessionEntry}
 use Rattle.am_restart.specs.declared.events.SessionEvent.{SessionEvent}

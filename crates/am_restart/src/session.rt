@@ -1,13 +1,12 @@
 //! A session: what each event does is found first, and then done.
 
 ghost use Rattle.am_restart.specs.Bounds.{IsBounded};
-ghost use Rattle.am_restart.specs.Ends as ends;
 ghost use Rattle.am_restart.specs.History.{after, entry_of};
 ghost use Rattle.am_restart.specs.declared.events.Say.TheVariants as Says;
 ghost use Rattle.am_restart.specs.declared.events.SessionCondition.{SessionCondition};
 ghost use Rattle.am_restart.specs.Moves as moves;
 ghost use Rattle.am_restart.specs.State as state;
-ghost use Rattle.std.specs.Prelude.{◌≡◌, ◌≤◌, ◌<◌, ◌^◌, ◌↔◌, Err, IfOk, IsNone, None, OnErr, OnOk, Some, slice_get};
+ghost use Rattle.std.specs.Prelude.{◌≡◌, ◌≤◌, ◌<◌, ◌^◌, ◌↔◌, Err, IfOk, None, OnErr, OnOk, Some, slice_get};
 
 use crate::ends::{Receiver, Sender};
 use crate::events::{SessionCondition, SessionEntry, SessionEvent, SessionFault, SessionOutcome};

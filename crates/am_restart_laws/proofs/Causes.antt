@@ -1,6 +1,6 @@
 -- What leaves a message unknown.
 use Rattle.std.specs.Prelude.{nat_lt}
-use Rattle.std.proofs.Common.{◌≡◌, ℕ, ◌+◌, ◌≤◌, ◌<◌, Bool, true, false, ◌==◌, ◌&&◌, Option, Some, None, refl, sym, ap, ◌∙◌, subst, if◌then◌else◌}
+use Rattle.std.proofs.Common.{◌≡◌, ℕ, ◌+◌, Bool, true, false, ◌==◌, ◌&&◌, Option, Some, None, refl, sym, ap, ◌∙◌, if◌then◌else◌}
 use Rattle.std.specs.Option.{option_map}
 use Rattle.std.proofs.lemmas.Bool.{ltb-true, ltb-false, eqb-true, and_parts}
 use Rattle.am_names.specs.Rules.{is_transient}
@@ -28,7 +28,7 @@ use Rattle.am_restart.specs.declared.packets.ReceiverPacket.TheVariants as FromR
 use Rattle.am_restart.specs.Ends.{met, number_of, answer_of}
 use Rattle.am_restart.specs.Fates.{unknown_in}
 use Rattle.am_restart.specs.History.{MayFollow}
-use Rattle.am_restart.specs.Moves.{move_of, still, bind_of, expire_by, expire_of, forgotten, welcomed, answered, refused, settle_by, sender_receives, welcomes, hello_arrives, arrives, parcel_arrives, receiver_receives, unbound}
+use Rattle.am_restart.specs.Moves.{move_of, still, bind_of, expire_by, expire_of, forgotten, welcomed, answered, refused, settle_by, sender_receives, welcomes, arrives, receiver_receives, unbound}
 use Rattle.am_restart.specs.State.{SessionState, packet_at}
 use Rattle.std.specs.Prelude.{slice_get}
 use Rattle.am_restart_laws.specs.Laws.{IsBound, IsLastTry, MeetsNewer, LeavesUnknown, HasItsCause}

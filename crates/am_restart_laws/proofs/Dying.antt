@@ -1,6 +1,6 @@
 -- Which parcels are dead after a move.
 use Rattle.std.specs.Prelude.{count_by, IfSome}
-use Rattle.std.proofs.Common.{◌≡◌, ℕ, ◌+◌, ◌≤◌, ◌<◌, Bool, true, false, ◌==◌, ◌⊎◌, inl, inr, Option, Some, None, List, [], ◌∷◌, ◌++◌, refl, sym, ap, ◌∙◌, subst, arith}
+use Rattle.std.proofs.Common.{◌≡◌, ℕ, ◌+◌, ◌≤◌, ◌<◌, true, false, ◌==◌, ◌⊎◌, inl, inr, Option, Some, None, List, [], ◌∷◌, ◌++◌, sym, ap, ◌∙◌, subst, arith}
 use Rattle.std.proofs.lemmas.Bool.Decides.{eqb_tells}
 use Rattle.am_channel.specs.declared.sending.Bound.{Bound}
 use Rattle.am_restart.specs.declared.ends.Sender.{Sender}
@@ -9,17 +9,15 @@ use Rattle.am_restart.specs.declared.packets.SessionParcel.{SessionParcel}
 use Rattle.am_restart.specs.declared.packets.SessionAnswer.{SessionAnswer}
 use Rattle.am_restart.specs.declared.packets.SenderPacket.{SenderPacket}
 use Rattle.am_restart.specs.declared.packets.SenderPacket.TheVariants as FromSender
-use Rattle.am_restart.specs.declared.packets.ReceiverPacket.{ReceiverPacket}
-use Rattle.am_restart.specs.declared.packets.ReceiverPacket.TheVariants as FromReceiver
 use Rattle.am_restart.specs.Ends.{number_of}
 use Rattle.am_restart.specs.Fates.{returns}
 use Rattle.am_restart.specs.State.{SessionState}
-use Rattle.am_restart_laws.proofs.Keys.{Point, Numbers, IsClosed, IsSettled, IsSame, earlier_closed}
+use Rattle.am_restart_laws.proofs.Keys.{Point, IsClosed, IsSame, earlier_closed}
 use Rattle.am_restart_laws.proofs.MoveKinds.{Refusal}
 use Rattle.am_restart_laws.proofs.Lists.{Among, bit, count_more}
 use Rattle.am_restart_laws.proofs.Orders.{UpTo, Before, turned, same_then, before_same, before_key, not_before, place}
-use Rattle.am_restart_laws.proofs.Parts.{Emitted, Fits, SenderPart, Dead, DeadPart, ReceiverPart, Refuses, answer_numbers, key, waiting}
-use Rattle.am_restart_laws.proofs.Points.{Stays, numbers, weight, point}
+use Rattle.am_restart_laws.proofs.Parts.{Emitted, SenderPart, Dead, DeadPart, ReceiverPart, Refuses, answer_numbers, key, waiting}
+use Rattle.am_restart_laws.proofs.Points.{Stays, numbers}
 use Rattle.am_restart_laws.proofs.Sending.{IsSent, not_hello, parcel_cases}
 
 -- a parcel that is taken now: it was emitted and wasn't closed

@@ -1,19 +1,16 @@
 -- The kinds of moves that a session makes.
-use Rattle.std.specs.Prelude.{nat_lt, nat_le, is_some, is_none, slice_get, IsNone}
+use Rattle.std.specs.Prelude.{nat_lt, slice_get, IsNone}
 use Rattle.std.specs.Option.{option_map}
-use Rattle.std.proofs.Common.{◌≡◌, ◌≢◌, ℕ, ◌+◌, ◌≤◌, ◌<◌, Bool, true, false, ◌==◌, ◌&&◌, Option, Some, None, List, [], ◌∷◌, refl, sym, ap, ◌∙◌, subst, arith, if◌then◌else◌}
+use Rattle.std.proofs.Common.{◌≡◌, ℕ, ◌+◌, ◌≤◌, ◌<◌, Bool, true, false, ◌==◌, ◌&&◌, Option, Some, None, refl, ap, subst, if◌then◌else◌}
 use Rattle.std.proofs.lemmas.Bool.{ltb-true, ltb-false, eqb-true, and_parts}
 use Rattle.am_names.specs.Rules.{is_transient}
 use Rattle.am_names.specs.declared.Verdict.{Verdict}
 use Rattle.am_names.specs.declared.Verdict.TheVariants as Verdicts
-use Rattle.am_model.specs.Choice.{first_holding}
 use Rattle.am_model.specs.Channels.{Arrival, arrival}
 use Rattle.am_model.specs.Channels as Arrivals
 use Rattle.am_model.specs.History.{counts}
-use Rattle.am_channel.specs.Sending.{settled, settled_if, settled_by, timed_out}
+use Rattle.am_channel.specs.Sending.{settled_if, settled_by}
 use Rattle.am_channel.specs.declared.sending.Bound.{Bound}
-use Rattle.am_channel.specs.declared.sending.Settled.{Settled}
-use Rattle.am_channel.specs.declared.sending.Settled.TheVariants as Settles
 use Rattle.am_channel.specs.declared.sending.TimedOut.TheVariants as Times
 use Rattle.am_restart.specs.declared.ends.Sender.{Sender}
 use Rattle.am_restart.specs.declared.ends.Receiver.{Receiver}
@@ -32,14 +29,14 @@ use Rattle.am_restart.specs.declared.packets.SenderPacket.TheVariants as FromSen
 use Rattle.am_restart.specs.declared.packets.ReceiverPacket.{ReceiverPacket}
 use Rattle.am_restart.specs.declared.packets.ReceiverPacket.TheVariants as FromReceiver
 use Rattle.am_restart.specs.Ends as Ends
-use Rattle.am_restart.specs.Ends.{new_sender, new_receiver, answer_of, number_of, verdict_of}
-use Rattle.am_restart.specs.Fates.{put_in, returned_in, unknown_in, is_of}
+use Rattle.am_restart.specs.Ends.{new_sender, new_receiver, answer_of, number_of}
+use Rattle.am_restart.specs.Fates.{put_in, returned_in, unknown_in}
 use Rattle.am_restart.specs.Moves as Moves
-use Rattle.am_restart.specs.Moves.{failing, move_of, still, bind_of, expire_by, expire_of, welcomed, answered, refused, settle_by, sender_receives, welcomes, hello_arrives, arrives, parcel_arrives, receiver_receives, unbound, keeps, decided, answer_to, next_of_receiver, next_of_sender}
+use Rattle.am_restart.specs.Moves.{failing, move_of, still, bind_of, expire_by, expire_of, welcomed, answered, refused, settle_by, sender_receives, welcomes, hello_arrives, arrives, parcel_arrives, receiver_receives, unbound, next_of_sender}
 use Rattle.am_restart.specs.State.{SessionState, packet_at}
 use Rattle.am_restart.proofs.Enabled.{binds_idle}
-use Rattle.am_restart_laws.proofs.Lists.{Among, among_packets, bit}
-use Rattle.am_restart_laws.proofs.Points.{Stays, HasMet, has_met, point, weight, stays_same, stays_restarted}
+use Rattle.am_restart_laws.proofs.Lists.{Among, among_packets}
+use Rattle.am_restart_laws.proofs.Points.{Stays, has_met, point, weight, stays_same, stays_restarted}
 
 abbrev pub offered_in : SessionOutcome → Option ℕ
 offered_in (Out.Offered m) = Some m

@@ -1,6 +1,6 @@
 -- What holds of a session at every point: where each message is, what its parcels fit, and which of them are dead.
 use Rattle.std.specs.Prelude.{count_by, IfSome}
-use Rattle.std.proofs.Common.{◌≡◌, ℕ, ◌+◌, ◌≤◌, ◌<◌, Bool, true, false, ◌==◌, Option, Some, None, List}
+use Rattle.std.proofs.Common.{◌≡◌, ℕ, ◌+◌, ◌≤◌, ◌<◌, Bool, ◌==◌, Option, Some, None, List}
 use Rattle.am_channel.specs.declared.sending.Bound.{Bound}
 use Rattle.am_restart.specs.declared.ends.Sender.{Sender}
 use Rattle.am_restart.specs.declared.events.SessionEntry.{SessionEntry}

@@ -1,16 +1,15 @@
 -- Where each message is after a move.
 use Rattle.std.specs.Prelude.{count_by, slice_get, drop}
-use Rattle.std.proofs.Common.{◌≡◌, ℕ, ◌+◌, ◌≤◌, ◌<◌, Bool, true, false, ◌==◌, ◌⊎◌, inl, inr, Option, Some, None, List, [], ◌∷◌, ◌++◌, refl, sym, ap, ◌∙◌, subst, arith}
+use Rattle.std.proofs.Common.{◌≡◌, ℕ, ◌+◌, ◌≤◌, Bool, true, false, ◌==◌, ◌⊎◌, inl, inr, Option, Some, None, List, [], ◌∷◌, ◌++◌, ap, ◌∙◌, arith}
 use Rattle.std.proofs.lemmas.Bool.{ne_eqb}
 use Rattle.std.proofs.lemmas.Bool.Decides.{eqb_tells}
 use Rattle.am_channel.specs.declared.sending.Bound.{Bound}
 use Rattle.am_restart.specs.declared.events.SessionEntry.{SessionEntry}
 use Rattle.am_restart.specs.declared.packets.SessionParcel.{SessionParcel}
-use Rattle.am_restart.specs.Ends.{number_of}
 use Rattle.am_restart.specs.Fates.{puts, returns, leaves_unknown, is_of}
 use Rattle.am_restart_laws.proofs.MoveKinds.{Tells}
 use Rattle.am_restart_laws.proofs.Lists.{bit, count_more, count_front, count_first}
-use Rattle.am_restart_laws.proofs.Parts.{Places, Tally, offers, delivers, bound_bit, waiting, is_taken}
+use Rattle.am_restart_laws.proofs.Parts.{Places, Tally, offers, delivers, bound_bit, is_taken}
 
 -- what the entries tell with one more
 pub record Pushed (past next : List SessionEntry) (o p r u d : Option ℕ) : Type 0 where

@@ -1,16 +1,15 @@
 -- The receiver of a session in numbers, and what its arrivals mean.
 use Rattle.std.specs.Prelude.{nat_lt}
-use Rattle.std.proofs.Common.{◌≡◌, ℕ, ◌+◌, ◌≤◌, ◌<◌, Bool, true, false, ◌==◌, ◌⊎◌, inl, inr, refl, sym, ap, ◌∙◌, subst, arith, if◌then◌else◌}
+use Rattle.std.proofs.Common.{◌≡◌, ℕ, ◌≤◌, ◌<◌, Bool, true, false, ◌==◌, refl, sym, ap, ◌∙◌, subst, arith, if◌then◌else◌}
 use Rattle.std.proofs.lemmas.Bool.{ltb-true, ltb-false, eqb-true, eqb-false}
 use Rattle.am_names.specs.declared.Verdict.{Verdict}
 use Rattle.am_names.specs.declared.Verdict.TheVariants as Verdicts
-use Rattle.am_model.specs.Channels.{Mark, Arrival, Stale, Again, Fresh, arrival, arrival_at}
+use Rattle.am_model.specs.Channels.{Mark, Stale, Again, Fresh, arrival, arrival_at}
 use Rattle.am_restart.specs.declared.ends.Receiver.{Receiver}
 use Rattle.am_restart.specs.declared.packets.SessionParcel.{SessionParcel}
 use Rattle.am_restart.specs.Ends as Ends
 use Rattle.am_restart.specs.Ends.{new_receiver}
-use Rattle.am_restart.specs.Moves.{keeps}
-use Rattle.am_restart_laws.proofs.Keys.{Point, Numbers, IsClosed, IsSettled, IsFresh, IsSame, met, kept, restarted, closed_met, settled_met, closed_kept, settled_kept, closed_restarted, settled_restarted}
+use Rattle.am_restart_laws.proofs.Keys.{Point, Numbers, IsClosed, IsSettled, IsFresh, met, kept, restarted, closed_met, settled_met, closed_kept, settled_kept, closed_restarted, settled_restarted}
 
 abbrev pub weight : Verdict → ℕ
 weight Verdicts.Accepted = 1

@@ -1,8 +1,7 @@
 -- What the receiver's moves keep.
 use Rattle.std.specs.Prelude.{count_by}
-use Rattle.std.proofs.Common.{◌≡◌, ℕ, ◌+◌, ◌≤◌, ◌<◌, Bool, true, false, ◌==◌, ◌⊎◌, inl, inr, Option, Some, None, List, [], ◌∷◌, ◌++◌, refl, sym, ap, ◌∙◌, subst, arith}
+use Rattle.std.proofs.Common.{◌≡◌, ℕ, ◌+◌, ◌≤◌, ◌<◌, ◌⊎◌, inl, inr, List, [], ◌∷◌, ◌++◌, refl, sym, ap, ◌∙◌, subst, arith}
 use Rattle.std.proofs.lemmas.Bool.{ne_eqb}
-use Rattle.std.proofs.lemmas.Bool.Decides.{eqb_tells}
 use Rattle.am_names.specs.declared.Verdict.{Verdict}
 use Rattle.am_model.specs.Channels.{arrival}
 use Rattle.am_model.specs.Channels as Arrivals
@@ -15,13 +14,11 @@ use Rattle.am_restart.specs.declared.packets.SenderPacket.{SenderPacket}
 use Rattle.am_restart.specs.declared.packets.ReceiverPacket.{ReceiverPacket}
 use Rattle.am_restart.specs.declared.packets.ReceiverPacket.TheVariants as FromReceiver
 use Rattle.am_restart.specs.Ends as Ends
-use Rattle.am_restart.specs.Moves.{keeps}
-use Rattle.am_restart_laws.proofs.Keys.{Point, Numbers, IsClosed, IsSettled, IsFresh, IsSame, not_fresh, settled_closed, earlier_closed, fresh_closed, fresh_settled}
-use Rattle.am_restart_laws.proofs.Lists.{Among, among_cases, bit, count_first, none_pass}
-use Rattle.am_restart_laws.proofs.Orders.{UpTo, Before, turned, same_then, place, ordered, compared}
+use Rattle.am_restart_laws.proofs.Keys.{Point, Numbers, IsClosed, IsSettled, IsFresh, IsSame, not_fresh, settled_closed, earlier_closed}
+use Rattle.am_restart_laws.proofs.Lists.{Among, among_cases, none_pass}
+use Rattle.am_restart_laws.proofs.Orders.{UpTo, Before, turned, place, ordered, compared}
 use Rattle.am_restart_laws.proofs.Parts.{Emitted, SenderPart, Dead, DeadPart, ReceiverPart, Refuses, answer_numbers, is_taken}
-use Rattle.am_restart_laws.proofs.Points.{Stays, HasMet, has_met, IsAt, again_of, fresh_of, point, numbers, weight, stays_kept, stays_then}
-use Rattle.am_restart_laws.proofs.Dying.{IsNew}
+use Rattle.am_restart_laws.proofs.Points.{Stays, HasMet, has_met, IsAt, again_of, point, numbers, weight}
 
 -- an answer, of which that it refuses tells the truth
 abbrev pub IsTrue' : Point → List SessionParcel → ReceiverPacket → Type 0

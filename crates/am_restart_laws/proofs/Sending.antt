@@ -1,24 +1,17 @@
 -- What the sender's moves keep.
-use Rattle.std.specs.Prelude.{count_by, IfSome}
-use Rattle.std.proofs.Common.{◌≡◌, ℕ, ◌+◌, ◌≤◌, ◌<◌, Bool, true, false, ◌==◌, ◌⊎◌, inl, inr, Option, Some, None, List, [], ◌∷◌, ◌++◌, refl, sym, ap, ◌∙◌, subst, arith}
+use Rattle.std.specs.Prelude.{IfSome}
+use Rattle.std.proofs.Common.{◌≡◌, ℕ, ◌+◌, ◌≤◌, ◌⊎◌, inl, inr, Option, Some, None, List, [], ◌∷◌, ◌++◌, sym, ap, ◌∙◌, subst, arith}
 use Rattle.am_channel.specs.declared.sending.Bound.{Bound}
 use Rattle.am_restart.specs.declared.ends.Sender.{Sender}
-use Rattle.am_restart.specs.declared.events.SessionEntry.{SessionEntry}
 use Rattle.am_restart.specs.declared.packets.SessionParcel.{SessionParcel}
-use Rattle.am_restart.specs.declared.packets.SessionAnswer.{SessionAnswer}
 use Rattle.am_restart.specs.declared.packets.SenderPacket.{SenderPacket}
 use Rattle.am_restart.specs.declared.packets.SenderPacket.TheVariants as FromSender
-use Rattle.am_restart.specs.declared.packets.ReceiverPacket.{ReceiverPacket}
-use Rattle.am_restart.specs.Ends.{number_of, message_of, slot_of, new_sender}
-use Rattle.am_restart.specs.Fates.{returns}
-use Rattle.am_restart.specs.Moves.{unbound}
-use Rattle.am_restart.specs.State.{SessionState}
-use Rattle.am_restart_laws.proofs.Keys.{Point, Numbers, IsClosed, IsSettled, IsSame, earlier_closed}
-use Rattle.am_restart_laws.proofs.MoveKinds.{Refusal, GoesOn, Frees, Meets, Restarts}
-use Rattle.am_restart_laws.proofs.Lists.{Among, among_more, among_cases, bit}
-use Rattle.am_restart_laws.proofs.Orders.{UpTo, Before, turned, same_then, before_same, before_key, not_before, place}
-use Rattle.am_restart_laws.proofs.Parts.{Emitted, Fits, SenderPart, Dead, DeadPart, ReceiverPart, Refuses, answer_numbers, key, waiting}
-use Rattle.am_restart_laws.proofs.Points.{numbers, weight, point}
+use Rattle.am_restart.specs.Ends.{number_of}
+use Rattle.am_restart_laws.proofs.Keys.{Numbers, IsSame}
+use Rattle.am_restart_laws.proofs.Lists.{among_cases}
+use Rattle.am_restart_laws.proofs.Orders.{UpTo, turned, same_then}
+use Rattle.am_restart_laws.proofs.Parts.{Emitted, Fits, SenderPart, key}
+use Rattle.am_restart_laws.proofs.Points.{numbers}
 
 -- the sender as it was
 pub sender_same : (σ : Sender) (life later offered more : ℕ) (out : List SenderPacket) → SenderPart σ life offered out → life ≤ later → offered ≤ more → SenderPart σ later more out

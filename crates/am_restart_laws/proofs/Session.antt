@@ -1,11 +1,11 @@
 -- The laws of every session.
 use Rattle.std.specs.Prelude.{count_by}
-use Rattle.std.proofs.Common.{◌≡◌, ℕ, ◌+◌, ◌≤◌, ◌<◌, Bool, false, ◌==◌, None, List, [], ◌∷◌, ◌++◌, refl, sym, ap, ◌∙◌, subst, append_assoc, arith}
+use Rattle.std.proofs.Common.{◌≡◌, ℕ, ◌+◌, ◌≤◌, List, [], ◌∷◌, ◌++◌, refl, sym, ◌∙◌, subst, append_assoc, arith}
 use Rattle.std.proofs.lemmas.Bool.{ne_eqb}
 use Rattle.std.proofs.lemmas.List.{append-nil}
 use Rattle.am_restart.specs.declared.events.SessionEntry.{SessionEntry}
 use Rattle.am_restart.specs.declared.packets.SessionParcel.{SessionParcel}
-use Rattle.am_restart.specs.Fates.{puts, returns, leaves_unknown}
+use Rattle.am_restart.specs.Fates.{returns}
 use Rattle.am_restart.specs.History.{IsSession, MayFollow, EachAfter, after, replayed, state_of}
 use Rattle.am_restart.specs.Moves.{move_of}
 use Rattle.am_restart.specs.State.{SessionState, opening}

@@ -1,6 +1,6 @@
 -- What holds of a session holds after each move.
-use Rattle.std.specs.Prelude.{count_by, slice_get, drop, nat_lt}
-use Rattle.std.proofs.Common.{◌≡◌, ℕ, ◌+◌, ◌≤◌, ◌<◌, Bool, true, false, ◌==◌, ◌⊎◌, inl, inr, Option, Some, None, List, [], ◌∷◌, ◌++◌, refl, sym, ap, ◌∙◌, subst, arith, eq-eqb}
+use Rattle.std.specs.Prelude.{count_by, slice_get, drop}
+use Rattle.std.proofs.Common.{◌≡◌, ℕ, ◌+◌, ◌≤◌, ◌<◌, ◌==◌, ◌⊎◌, inl, inr, Option, Some, None, List, [], ◌∷◌, ◌++◌, refl, sym, ap, ◌∙◌, subst, arith, eq-eqb}
 use Rattle.am_names.specs.declared.Verdict.{Verdict}
 use Rattle.am_model.specs.Channels.{arrival}
 use Rattle.am_model.specs.Channels as Arrivals
@@ -13,24 +13,22 @@ use Rattle.am_restart.specs.declared.events.Say.TheVariants.{Accept, Full, Bad}
 use Rattle.am_restart.specs.declared.events.SessionEntry.{SessionEntry}
 use Rattle.am_restart.specs.declared.events.SessionOutcome.{SessionOutcome}
 use Rattle.am_restart.specs.declared.events.SessionOutcome.TheVariants as Out
-use Rattle.am_restart.specs.declared.moves.Change.{Change}
 use Rattle.am_restart.specs.declared.moves.Change.TheVariants as Changes
 use Rattle.am_restart.specs.declared.moves.Move.{Move}
 use Rattle.am_restart.specs.declared.packets.SessionParcel.{SessionParcel}
-use Rattle.am_restart.specs.declared.packets.SenderPacket.{SenderPacket}
 use Rattle.am_restart.specs.declared.packets.SenderPacket.TheVariants as FromSender
 use Rattle.am_restart.specs.declared.packets.ReceiverPacket.{ReceiverPacket}
 use Rattle.am_restart.specs.declared.packets.ReceiverPacket.TheVariants as FromReceiver
 use Rattle.am_restart.specs.Ends as Ends
 use Rattle.am_restart.specs.Ends.{number_of, message_of, slot_of, verdict_of}
 use Rattle.am_restart.specs.Fates.{returns, is_of}
-use Rattle.am_restart.specs.Moves.{still, bind_of, expire_by, unbound, welcomes, arrives, keeps, decided, answer_to, next_of_receiver, next_of_sender}
+use Rattle.am_restart.specs.Moves.{still, bind_of, expire_by, unbound, welcomes, arrives, keeps, answer_to, next_of_receiver, next_of_sender}
 use Rattle.am_restart.specs.State.{SessionState, moved}
-use Rattle.am_restart_laws.proofs.Keys.{Point, Numbers, IsClosed, IsSettled, IsFresh, IsSame, not_fresh, settled_closed, fresh_closed, fresh_settled, kept}
+use Rattle.am_restart_laws.proofs.Keys.{IsClosed, IsFresh, not_fresh, settled_closed, fresh_closed, fresh_settled}
 use Rattle.am_restart_laws.proofs.MoveKinds.{Tells, IsMute, Refusal, GoesOn, Frees, Meets, Restarts, turn, go, Kind, Quiet, Offers, Hellos, Binds, Resends, Idles, Loses, Delivers, Returns, Requeues, Turns, Welcomes, Repeats, Decides, mute}
 use Rattle.am_restart_laws.proofs.Lists.{Among, among_more, bit, count_front}
-use Rattle.am_restart_laws.proofs.Orders.{UpTo, Before, place, compared}
-use Rattle.am_restart_laws.proofs.Parts.{Places, Emitted, Fits, SenderPart, Dead, DeadPart, ReceiverPart, Refuses, Tally, Holds, answer_numbers, key, waiting, bound_bit, is_taken, offers}
+use Rattle.am_restart_laws.proofs.Orders.{compared}
+use Rattle.am_restart_laws.proofs.Parts.{Places, Emitted, SenderPart, Holds, waiting, bound_bit, offers}
 use Rattle.am_restart_laws.proofs.Points.{Stays, HasMet, has_met, fresh_of, point, numbers, weight, stays_kept, stays_then, stays_same}
 use Rattle.am_restart_laws.proofs.Sending.{IsSent, sender_same, sender_on, sender_hello, sender_sends, sender_binds, sender_tries}
 use Rattle.am_restart_laws.proofs.Dying.{IsNew, dead_receives, refused_dead, dead_on, dead_returns, dead_requeues, dead_offers, dead_hello, dead_sends}

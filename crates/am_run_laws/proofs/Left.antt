@@ -1,6 +1,4 @@
 -- What a drain leaves at its end.
-use Rattle.std.proofs.Common.{List}
-use Rattle.am_office.specs.declared.Entry.{Entry}
 use Rattle.am_scripts.proofs.Done.{scripts_are_done}
 use Rattle.am_scripts.proofs.Links.{all_is_received}
 use Rattle.am_scripts.specs.Standings.{IsAtRest}

@@ -2,7 +2,7 @@
 use Rattle.std.specs.Prelude.{IsSome, IfSome, IsTrue, is_some, slice_index_or, nat_le, nat_lt, count_by}
 use Rattle.std.specs.List.{All, AllPairs, list_any, find}
 use Rattle.std.specs.Option.{option_map}
-use Rattle.std.proofs.Common.{◌≡◌, ℕ, zero, suc, ◌+◌, ◌<◌, ◌≤◌, ◌^◌, ◌==◌, Bool, true, false, cond, ◌||◌, ◌&&◌, List, [], ◌∷◌, map, length, Option, Some, None, refl, sym, ap, ◌∙◌, subst, arith, eqb-true, lt-ltb}
+use Rattle.std.proofs.Common.{◌≡◌, ℕ, zero, suc, ◌+◌, ◌<◌, ◌≤◌, ◌^◌, ◌==◌, Bool, true, false, cond, ◌||◌, ◌&&◌, List, [], ◌∷◌, map, length, Option, Some, None, refl, sym, ap, ◌∙◌, arith, eqb-true, lt-ltb}
 use Rattle.std.proofs.lemmas.Bool.{le-leb, and_from}
 use Rattle.std.proofs.lemmas.List.Sums.{sum_by-cons}
 use Rattle.am_lemmas.proofs.Numbers.{eqb_less, eqb_commutes}
@@ -11,7 +11,7 @@ use Rattle.am_names.specs.declared.NodeId.{NodeId}
 use Rattle.am_names.specs.declared.Words.{Words}
 use Rattle.am_names.specs.Names.{same_end, same_node}
 use Rattle.am_office.specs.declared.Actor.{Actor}
-use Rattle.am_office.specs.declared.Actor.TheVariants.{Outside, Thread}
+use Rattle.am_office.specs.declared.Actor.TheVariants.{Outside}
 use Rattle.am_office.specs.declared.HandlerKind.{HandlerKind}
 use Rattle.am_office.specs.declared.HandlerKind.TheVariants.{Note, Echo, Add}
 use Rattle.am_office.specs.declared.Call.{Call}
@@ -25,8 +25,8 @@ use Rattle.am_scenario_types.specs.declared.parts.Network.TheVariants as Network
 use Rattle.am_scenario_types.specs.declared.parts.StepLine.{StepLine}
 use Rattle.am_scenario_types.specs.Lists.{ScenarioLists}
 use Rattle.am_scenario_types.specs.Lawful as lawful
-use Rattle.am_model.specs.Layout.{Layout, EndSetting, Fault, AllAre, AreApart, IsSettingLawful, IsFaultLawful, IsPoolLawful, IsLawful, has_id, declared}
-use Rattle.am_model.specs.History.{is_in_range, is_call_in_range, is_actor_in_range, are_words_in_range, are_credits_in_range, is_kind_in_range, is_byte, is_four_bytes, is_eight_bytes}
+use Rattle.am_model.specs.Layout.{EndSetting, Fault, AllAre, AreApart, IsSettingLawful, IsFaultLawful, IsPoolLawful, IsLawful, has_id, declared}
+use Rattle.am_model.specs.History.{is_in_range, is_call_in_range, is_actor_in_range, are_words_in_range, are_credits_in_range, is_kind_in_range, is_byte}
 use Rattle.am_laws_steps.specs.Laws.{AreInRange}
 use Rattle.am_scripts.specs.Layout.{is_direct, setting_of, fault_of, layout_of, events_of}
 

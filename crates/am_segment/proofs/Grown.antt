@@ -1,5 +1,5 @@
 -- Texts of one part more.
-use Rattle.std.proofs.Common.{◌≡◌, ℕ, true, zero, suc, ◌+◌, ◌*◌, List, [], ◌∷◌, ◌++◌, refl, sym, ap, ◌∙◌, length, take, drop, map, add-one, zero-add, replicate, arith, min, ◌-◌, ◌≤◌, ◌^◌}
+use Rattle.std.proofs.Common.{◌≡◌, ℕ, true, ◌+◌, ◌*◌, List, [], ◌∷◌, ◌++◌, refl, sym, ap, ◌∙◌, length, take, drop, map, add-one, zero-add, replicate, arith, min, ◌-◌, ◌≤◌, ◌^◌}
 use Rattle.std.specs.Prelude.{find, ◌==◌}
 use Rattle.std.specs.List.{flat_map, range_with_len}
 use Rattle.std.proofs.lemmas.List.{append_assoc, append-nil, length-drop, take_min}

@@ -3,7 +3,6 @@ use Rattle.std.proofs.Common.{◌≡◌, ℕ, ◌+◌, ◌-◌, ◌*◌, ◌<◌
 use Rattle.std.specs.Prelude.{◌==◌, ◌&&◌, nat_lt, nat_le, find, is_some}
 use Rattle.std.specs.List.{All}
 use Rattle.std.proofs.lemmas.Bool.{leb-true, and_parts, eqb-true}
-use Rattle.std.proofs.lemmas.Bool.Decides.{nat_tests}
 use Rattle.std.proofs.lemmas.List.Elements.{All-weaker, All-push, All-nil}
 use Rattle.am_lexer.specs.declared.what.What.{What}
 use Rattle.am_lexer.specs.declared.what.What.TheVariants.{BadNumber, OutOfRange, Undeclared, Twice, TooMany, OutOfPlace, NotText}
@@ -18,17 +17,15 @@ use Rattle.am_names.specs.declared.EndpointId.{EndpointId}
 use Rattle.am_pieces.specs.declared.segment.SegmentLine.{SegmentLine}
 use Rattle.am_pieces.specs.Lists.{TransferLists}
 use Rattle.am_pieces.specs.Blocks.{piece_count}
-use Rattle.am_pieces.specs.Segments.{segment_of}
 use Rattle.am_segment.specs.declared.own.Own.{Own}
 use Rattle.am_segment.specs.declared.own.Own.TheVariants as own
 use Rattle.am_segment.specs.declared.saying.Sent.{Sent}
-use Rattle.am_segment.specs.declared.saying.Served.{Served}
 use Rattle.am_segment.specs.Lists.{ExpandedLists}
 use Rattle.am_segment.specs.Own.{own_of}
 use Rattle.am_segment.specs.Hex.{digit_value, joined, pair_value, in_front, bytes_of, block_of}
 use Rattle.am_segment.specs.Laid.{Laid, nothing_laid, with_ordinary, with_segment}
-use Rattle.am_segment.specs.Saying.{end_at, segment_at, block_at, fresh, segment_line, if_room, transfer_line, serve_line}
-use Rattle.am_segment.specs.Expansion.{with_transfer, with_serve, after_own, by_kind, after_line, expanded_of, expand_from, expansion}
+use Rattle.am_segment.specs.Saying.{end_at, segment_at, block_at, fresh, segment_line, transfer_line, serve_line}
+use Rattle.am_segment.specs.Expansion.{with_transfer, with_serve, after_own, by_kind, after_line, expanded_of, expand_from}
 use Rattle.am_segment.specs.Lawful.{ExpansionsAreLawful, HasSegment}
 
 -- ---- blocks

@@ -1,5 +1,5 @@
 -- What the code makes of a block's digits.
-use Rattle.std.specs.Prelude.{◌≡◌, ℕ, ◌≤◌, List, length, Option, Some, None}
+use Rattle.std.specs.Prelude.{◌≡◌, ℕ, List, Option, Some, None}
 use Rattle.std.specs.Global.{Vec}
 
 -- a vector of the bytes, or none

@@ -1,6 +1,5 @@
 -- The scenario's text that a text with segments stands for, or the first fault of its own lines.
-use Rattle.std.specs.Prelude.{◌≡◌, ℕ, ◌+◌, ◌*◌, ◌-◌, true, List, [], ◌∷◌, ◌++◌, length, slice_get, if◌then◌else◌, Option, Some, None, Result, Ok, Err}
-use Rattle.am_lexer.specs.Fields.{◌>>=◌}
+use Rattle.std.specs.Prelude.{◌≡◌, ℕ, ◌+◌, ◌*◌, true, List, [], ◌∷◌, ◌++◌, length, if◌then◌else◌, Option, Some, None, Result, Ok, Err}
 use Rattle.am_lexer.specs.declared.what.What.{What}
 use Rattle.am_lexer.specs.declared.what.What.TheVariants.{NotText}
 use Rattle.am_lexer.specs.Text.{lines_of, words_of, is_text_line}
@@ -9,8 +8,6 @@ use Rattle.am_scenario_types.specs.declared.faults.ReadFault.{ReadFault}
 use Rattle.am_scenario_types.specs.declared.faults.ReadFault.TheVariants.{Refused, NoMemory}
 use Rattle.am_draft.specs.declared.line.LineFault.{LineFault}
 use Rattle.am_draft.specs.declared.line.LineFault.TheVariants as faults
-use Rattle.am_pieces.specs.declared.segment.SegmentLine.{SegmentLine}
-use Rattle.am_pieces.specs.Lists.{TransferLists}
 use Rattle.am_pieces.specs.Blocks.{piece_count}
 use Rattle.am_scenario.specs.Grammar.{line_after, on_line}
 use Rattle.am_segment.specs.declared.own.Own.{Own}

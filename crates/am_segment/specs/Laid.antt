@@ -1,9 +1,8 @@
 -- What the lines of a text with segments have said so far.
-use Rattle.std.specs.Prelude.{ℕ, ◌+◌, ◌*◌, Bool, true, false, not, ◌&&◌, ◌||◌, ◌==◌, nat_le, List, [], ◌∷◌, ◌++◌, codes, find, length, replicate, if◌then◌else◌, Option, Some, None}
+use Rattle.std.specs.Prelude.{ℕ, ◌+◌, Bool, false, not, ◌&&◌, ◌||◌, ◌==◌, nat_le, List, [], ◌∷◌, ◌++◌, codes, length, replicate, if◌then◌else◌, Option, Some, None}
 use Rattle.std.specs.List.{flat_map, list_any}
 use Rattle.am_pieces.specs.declared.segment.SegmentLine.{SegmentLine}
 use Rattle.am_pieces.specs.Lists.{TransferLists}
-use Rattle.am_pieces.specs.Blocks.{piece_count}
 use Rattle.am_segment.specs.Own.{declared_by, is_script}
 
 pub record Laid : Type 0 where

@@ -3,9 +3,8 @@
 ghost use Rattle.std.specs.Prelude.{◌≤◌, IsTrue, nat_le, length};
 ghost use Rattle.std.specs.List.{list_all};
 
-use am_names::EndpointId;
 use am_pieces::{SegmentLine, Transfer};
-use std::alloc::{AllocError, Global};
+use std::alloc::Global;
 use std::marker::Model;
 
 /// A text with segments, expanded: the scenario's text that it stands for.
@@ -53,9 +52,9 @@ pub(crate) struct Expansion {
 }
 
 impl Expansion {
-    ghost use Rattle.std.specs.Prelude.{◌≡◌, ◌==◌, ◌<◌, ◌≤◌, ◌+◌, IfSome, OnOk, find, length};
+    ghost use Rattle.std.specs.Prelude.{◌≡◌, ◌==◌, ◌<◌, ◌≤◌, IfSome, find};
     ghost use Rattle.am_segment.specs.Drafts.{laid};
-    ghost use Rattle.am_segment.specs.Laid.{nothing_laid, with_end};
+    ghost use Rattle.am_segment.specs.Laid.{nothing_laid};
 
     /// Nothing was said.
     pub(crate) fn new(alloc: Global) -> Expansion

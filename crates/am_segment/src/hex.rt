@@ -1,6 +1,6 @@
 //! Blocks in hexadecimal.
 
-ghost use Rattle.std.specs.Prelude.{◌≡◌, ◌≤◌, ◌<◌, ◌^◌, ◌∷◌, ◌++◌, IfOk, IfSome, OnOk, length, vec_len, ◌*◌};
+ghost use Rattle.std.specs.Prelude.{◌≡◌, ◌≤◌, ◌<◌, ◌++◌, IfOk, IfSome, OnOk, length, vec_len, ◌*◌};
 ghost use Rattle.am_segment.specs.Hex.{block_of, bytes_of, digit_of, digit_value, digits_of, pair_value};
 ghost use Rattle.am_segment.specs.Blocks.{IsSpelled};
 

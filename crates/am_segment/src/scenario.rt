@@ -1,7 +1,6 @@
 //! The scenario that a text with segments spells.
 
-ghost use Rattle.std.specs.Prelude.{◌≡◌, ◌≤◌, ◌+◌, ◌-◌, ◌^◌, min, IfOk, length};
-ghost use Rattle.am_lexer.specs.Text.{lines_of};
+ghost use Rattle.std.specs.Prelude.{◌≡◌, ◌≤◌, ◌-◌, IfOk, length};
 ghost use Rattle.am_scenario_types.specs.Lawful.{IsLawful, IsOfForm};
 ghost use Rattle.am_scenario_types.specs.declared.parts.Form.TheVariants as Forms;
 ghost use Rattle.am_segment.specs.Expansion.{Answers};

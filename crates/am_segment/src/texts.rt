@@ -1,9 +1,9 @@
 //! The lines that stand in the text for own lines.
 
-ghost use Rattle.std.specs.Prelude.{◌≡◌, ◌++◌, [], ◌∷◌, OnOk, length, replicate};
+ghost use Rattle.std.specs.Prelude.{◌≡◌, ◌++◌, [], ◌∷◌, OnOk, replicate};
 ghost use Rattle.std.specs.List.{flat_map};
 ghost use Rattle.am_segment.specs.Laid.{closed};
-ghost use Rattle.am_segment.specs.Texts.{piece_lines, poll_line, request_line, serve_lines, transfer_lines};
+ghost use Rattle.am_segment.specs.Texts.{poll_line, request_line, serve_lines, transfer_lines};
 
 use crate::saying::{Sent, Served};
 use am_names::{EndpointId, Words};

@@ -1,10 +1,9 @@
 -- Where all pieces of a transfer ran and none of its places was written over later, the segment holds the block.
-use Rattle.std.proofs.Common.{◌≡◌, ℕ, zero, suc, ◌+◌, ◌*◌, ◌/◌, ◌-◌, ◌<◌, ◌≤◌, Bool, true, false, ◌&&◌, ◌||◌, cond, Option, Some, None, List, [], ◌∷◌, ◌++◌, refl, sym, ap, ◌∙◌, length, drop, map, count_by, get_or, slice_index, replicate, nat_le, nat_lt, nat_eq, if◌then◌else◌, arith, add-one, zero-add, min, inl, inr}
+use Rattle.std.proofs.Common.{◌≡◌, ℕ, zero, suc, ◌+◌, ◌*◌, ◌/◌, ◌-◌, ◌<◌, ◌≤◌, Bool, true, false, ◌&&◌, ◌||◌, cond, Option, Some, None, List, [], ◌∷◌, ◌++◌, refl, sym, ap, ◌∙◌, length, drop, map, count_by, get_or, slice_index, replicate, nat_eq, arith, add-one, zero-add, min, inl, inr}
 use Rattle.std.specs.List.{list_any, range_with_len}
-use Rattle.std.specs.Option.{option_and_then}
 use Rattle.std.proofs.lemmas.Bool.{le-leb, lt-ltb, leb-true, ltb-true, eqb-true}
 use Rattle.std.proofs.lemmas.Bool.Decides.{eqb_tells}
-use Rattle.std.proofs.lemmas.List.{get_or-drop, get_or-take, get_or_past, get_or_append_left, get_or-append_right, get_or-replicate, length-take, length-drop, length-append, length-replicate, append_assoc, append-nil}
+use Rattle.std.proofs.lemmas.List.{get_or-drop, get_or-take, get_or_append_left, length-take, length-drop, length-append, length-replicate, append_assoc, append-nil}
 use Rattle.std.proofs.lemmas.List.Folds.{list_any-append}
 use Rattle.std.proofs.lemmas.List.FromFn.{sum_by-map-range_with_len_more, length-map-range_with_len}
 use Rattle.std.proofs.lemmas.List.Sums.{count_by-le-length}
@@ -17,7 +16,7 @@ use Rattle.am_pieces.specs.declared.segment.SegmentLine.{SegmentLine}
 use Rattle.am_pieces.specs.Lists.{TransferLists}
 use Rattle.am_pieces.specs.Pieces.{piece_of, words_of}
 use Rattle.am_pieces.specs.Blocks.{bytes_at, padded, piece_at, piece_count}
-use Rattle.am_pieces.specs.Segments.{after_write, byte_after, byte_at, covers, has_run, has_words, if_within, is_within, ran_count, same_words, words_run, written_by}
+use Rattle.am_pieces.specs.Segments.{after_write, byte_after, byte_at, covers, has_run, has_words, is_within, ran_count, same_words, words_run, written_by}
 use Rattle.am_pieces.proofs.Written.{byte_at_next}
 use Rattle.am_segment_laws.specs.Laws.{BlocksArrive, HasBegun, IsFor, IsOwnPiece, IsPiece, IsUndisturbed}
 use Rattle.am_segment_laws.proofs.RoundTrip.{pieces_are_words}

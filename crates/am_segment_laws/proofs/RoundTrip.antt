@@ -1,13 +1,11 @@
 -- The words that carry a piece are that piece.
-use Rattle.std.proofs.Common.{◌≡◌, ℕ, zero, suc, ◌+◌, ◌*◌, ◌/◌, ◌%◌, ◌^◌, ◌<◌, ◌≤◌, ◌-◌, Bool, true, false, ◌&&◌, ◌==◌, Option, Some, None, List, [], ◌∷◌, refl, drop, get_or, slice_index, nat_le, if◌then◌else◌, arith}
-use Rattle.std.specs.List.{list_all}
-use Rattle.std.proofs.lemmas.Bool.{le-leb, eq-eqb}
-use Rattle.std.proofs.lemmas.List.{get_or-drop, get_or-take, get_or_past}
+use Rattle.std.proofs.Common.{◌≡◌, ℕ, zero, suc, ◌+◌, ◌*◌, ◌/◌, ◌%◌, ◌<◌, ◌≤◌, true, ◌&&◌, Some, None, List, [], ◌∷◌, refl, drop, get_or, nat_le, if◌then◌else◌, arith}
+use Rattle.std.proofs.lemmas.Bool.{le-leb}
+use Rattle.std.proofs.lemmas.List.{get_or-drop}
 use Rattle.am_lemmas.proofs.Bytes.{three_words_back}
-use Rattle.am_names.specs.declared.Words.{Words}
 use Rattle.am_pieces.specs.declared.parts.Piece.{Piece}
-use Rattle.am_pieces.specs.Pieces.{piece_of, words_of, are_zero, offset_in, length_in, transfer_in, bytes_in}
-use Rattle.am_segment_laws.specs.Laws.{IsPiece, PiecesAreWords}
+use Rattle.am_pieces.specs.Pieces.{piece_of, words_of, are_zero}
+use Rattle.am_segment_laws.specs.Laws.{PiecesAreWords}
 
 -- ---- the first word
 

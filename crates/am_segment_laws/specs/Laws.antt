@@ -1,5 +1,5 @@
 -- What cutting and writing come to, in other words.
-use Rattle.std.specs.Prelude.{◌≡◌, ℕ, ◌+◌, ◌*◌, ◌/◌, ◌^◌, ◌<◌, ◌≤◌, true, List, ◌∷◌, ◌++◌, length, slice_index, Some}
+use Rattle.std.specs.Prelude.{◌≡◌, ℕ, ◌+◌, ◌/◌, ◌<◌, ◌≤◌, true, List, ◌∷◌, ◌++◌, length, slice_index, Some}
 use Rattle.std.specs.List.{flat_map, range_with_len}
 use Rattle.am_office.specs.declared.Entry.{Entry}
 use Rattle.am_pieces.specs.declared.parts.Piece.{Piece}

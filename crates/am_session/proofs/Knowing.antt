@@ -14,7 +14,7 @@ use Rattle.am_restart.specs.Fates.{puts, returns, leaves_unknown, is_of, put_in,
 use Rattle.am_session.specs.declared.fates.Known.{Known}
 use Rattle.am_session.specs.declared.fates.News.{News}
 use Rattle.am_session.specs.declared.fates.News.TheVariants as Latest
-use Rattle.am_session.specs.Tables.{news_in, unknown_news, known_with, known_in, known_of, known_after, nothing_known, AreKnown}
+use Rattle.am_session.specs.Tables.{news_in, unknown_news, known_with, known_in, known_of, known_after, AreKnown}
 
 learned_if : (b : Bool) (m n : BTreeMap ℕ Known) (k s : ℕ) (news : News) → b ≡ (s == k) → get nat_cmp n s ≡ cond b (Some (known_with (known_in m k) news)) (get nat_cmp m s) → known_in n s ≡ cond b (known_with (known_in m s) news) (known_in m s)
 learned_if true m n k s news is got = rw (got, eqb-true s k (sym is)) refl

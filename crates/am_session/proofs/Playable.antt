@@ -1,10 +1,10 @@
 -- A session that is spelled is playable.
-use Rattle.std.specs.Prelude.{nat_le, nat_lt, not, is_some, is_none, IfSome}
-use Rattle.std.proofs.Common.{◌≡◌, ℕ, ◌+◌, ◌≤◌, ◌<◌, Bool, true, false, ◌&&◌, ◌==◌, List, [], ◌∷◌, ◌++◌, length, Option, Some, None, Result, Ok, Err, if◌then◌else◌, refl, sym, ap, ◌∙◌, subst, arith, length-append}
+use Rattle.std.specs.Prelude.{nat_le, not, is_some, IfSome}
+use Rattle.std.proofs.Common.{◌≡◌, ℕ, ◌+◌, ◌≤◌, ◌<◌, Bool, true, false, ◌&&◌, ◌==◌, List, [], ◌∷◌, ◌++◌, length, Option, Some, None, Result, Ok, Err, if◌then◌else◌, refl, ap, ◌∙◌, subst, arith, length-append}
 use Rattle.std.specs.List.{slice_index}
 use Rattle.std.proofs.lemmas.Bool.{and_parts, leb-true, leb-false}
 use Rattle.am_lexer.specs.declared.what.What.{What}
-use Rattle.am_lexer.specs.declared.what.What.TheVariants.{UnknownWord, Missing, NotText, OutOfPlace, Twice, TooMany, OutOfRange}
+use Rattle.am_lexer.specs.declared.what.What.TheVariants.{UnknownWord, Missing, NotText, Twice, TooMany, OutOfRange}
 use Rattle.am_lexer.specs.Text.{lines_of, words_of, is_text_line}
 use Rattle.am_lexer.specs.Fields.{◌>>=◌, or_else, word_at, number_at, within, ended}
 use Rattle.am_restart.specs.declared.events.SessionEvent.{SessionEvent}
@@ -12,8 +12,6 @@ use Rattle.am_session.specs.declared.draft.Line.{Line}
 use Rattle.am_session.specs.declared.draft.Line.TheVariants as Lines
 use Rattle.am_session.specs.declared.head.Head.{Head}
 use Rattle.am_session.specs.declared.head.Head.TheVariants as Heads
-use Rattle.am_session.specs.declared.script.SessionStep.{SessionStep}
-use Rattle.am_session.specs.declared.script.SessionTextFault.{SessionTextFault}
 use Rattle.am_session.specs.Grammar.{grammar, read_from, on_line, line_after, whole, after_line, after_words, with_line, placed, words_say, head_of, section_of, session_line, tries_line, sender_line, receiver_line, sender_event, receiver_event, one_more, nothing}
 use Rattle.am_session.specs.Scripts.{Script, Said, IsPlayable}
 

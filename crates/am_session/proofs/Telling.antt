@@ -3,22 +3,20 @@ use Rattle.std.specs.Prelude.{slice_get, Result, Ok, Err, IfOk}
 use Rattle.am_names.specs.declared.NoMemory.{NoMemory}
 use Rattle.am_session.specs.declared.output.SessionOutput.{SessionOutput}
 use Rattle.am_session.specs.Grammar.{grammar}
-use Rattle.std.proofs.Common.{◌≡◌, ◌⊎◌, inl, inr, ℕ, zero, suc, ◌+◌, ◌<◌, ◌≤◌, List, [], ◌∷◌, ◌++◌, length, take, map, Option, Some, None, refl, sym, ap, ◌∙◌, subst, arith, append_assoc}
+use Rattle.std.proofs.Common.{◌≡◌, inl, inr, ℕ, ◌+◌, List, [], ◌∷◌, ◌++◌, length, take, map, Option, Some, None, refl, sym, ap, ◌∙◌, subst, append_assoc}
 use Rattle.std.proofs.lemmas.List.{append-nil, length-map, map-append}
 use Rattle.am_restart.specs.declared.events.SessionCondition.{SessionCondition}
 use Rattle.am_restart.specs.declared.events.SessionEntry.{SessionEntry}
 use Rattle.am_restart.specs.declared.events.SessionEvent.{SessionEvent}
-use Rattle.am_restart.specs.declared.events.SessionOutcome.{SessionOutcome}
 use Rattle.am_restart.specs.History.{IsSession, IsOfEvents, EachAfter, MayFollow, after, entry_of, state_of}
 use Rattle.am_restart.specs.Moves.{failing, move_of}
 use Rattle.am_restart.specs.State.{SessionState, opening}
-use Rattle.am_restart_laws.specs.Laws.{SessionLaws}
 use Rattle.am_restart_laws.proofs.Session.{laws, replayed_push}
 use Rattle.am_session.specs.declared.script.SessionStep.{SessionStep}
 use Rattle.am_session.specs.declared.script.SessionTextFault.{SessionTextFault}
 use Rattle.am_session.specs.declared.stops.Stop.{Stop}
-use Rattle.am_session.specs.Answer.{Answer, answer_of_play, answer_of_played, not_enabled_line, refused_line}
-use Rattle.am_session.specs.Meaning.{PrintsSession, StopsSession, SessionMeans, answer_in}
+use Rattle.am_session.specs.Answer.{Answer, answer_of_play, answer_of_played}
+use Rattle.am_session.specs.Meaning.{SessionMeans, answer_in}
 use Rattle.am_session.specs.Plays.{Played, played, played_by, played_from}
 use Rattle.am_session.specs.Report.{report}
 use Rattle.am_session.specs.Scripts.{Script, events_of}

@@ -3,7 +3,7 @@ use Rattle.std.specs.Prelude.{slice_index_or, Result, Ok, Err, IfOk}
 use Rattle.am_names.specs.declared.NoMemory.{NoMemory}
 use Rattle.am_restart.specs.declared.events.SessionFault.{SessionFault}
 use Rattle.am_restart.specs.declared.events.SessionFault.TheVariants as Faults
-use Rattle.std.proofs.Common.{◌≡◌, ℕ, zero, suc, ◌+◌, ◌<◌, ◌≤◌, List, [], ◌∷◌, ◌++◌, length, take, drop, map, Option, Some, None, refl, sym, ap, ◌∙◌, subst, arith, length-append}
+use Rattle.std.proofs.Common.{◌≡◌, ℕ, zero, suc, ◌+◌, ◌<◌, ◌≤◌, List, [], ◌∷◌, ◌++◌, length, drop, Option, Some, None, refl, sym, ap, ◌∙◌, subst, arith}
 use Rattle.std.proofs.lemmas.List.{drop_all}
 use Rattle.am_restart.specs.declared.events.SessionCondition.{SessionCondition}
 use Rattle.am_restart.specs.declared.events.SessionEntry.{SessionEntry}

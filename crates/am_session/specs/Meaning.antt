@@ -1,5 +1,5 @@
 -- What the answer to a text of a session says.
-use Rattle.std.specs.Prelude.{◌≡◌, ◌⊎◌, ℕ, List, length, take, slice_get, Option, Some, Result, Ok, Err}
+use Rattle.std.specs.Prelude.{◌≡◌, ◌⊎◌, ℕ, List, length, take, slice_get, Some, Result, Ok, Err}
 use Rattle.am_restart.specs.declared.events.SessionEntry.{SessionEntry}
 use Rattle.am_restart.specs.History.{IsSession, IsOfEvents, state_of}
 use Rattle.am_restart.specs.Moves.{failing}

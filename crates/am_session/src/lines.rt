@@ -3,7 +3,6 @@
 ghost use Rattle.am_lexer.specs.Fields.{Gives};
 ghost use Rattle.am_lexer.specs.Text.{words_of};
 ghost use Rattle.am_session.specs.Grammar as grammar;
-ghost use Rattle.std.specs.Prelude.{◌≡◌};
 
 use crate::draft::{Draft, Line};
 use crate::head::Head;

@@ -5,7 +5,7 @@ ghost use Rattle.am_session.specs.Grammar.{grammar};
 ghost use Rattle.am_session.specs.Meaning.{SessionMeans, answer_in};
 ghost use Rattle.am_session.specs.Plays.{played};
 ghost use Rattle.am_session.specs.Scripts.{IsPlayable};
-ghost use Rattle.std.specs.Prelude.{◌≡◌, ◌≢◌, ◌++◌, IfOk};
+ghost use Rattle.std.specs.Prelude.{◌≡◌, ◌≢◌, IfOk};
 
 use crate::playing::{Played, play};
 use crate::printing::condition_word;

@@ -6,7 +6,6 @@ ghost use Rattle.am_model.specs.Calls.{excess, excess_at, has_no_credit, is_over
 ghost use Rattle.am_model.specs.Changes.{without_waiting, without_record, with_arrived};
 ghost use Rattle.am_model.specs.Endpoint.{entry_at};
 ghost use Rattle.am_model.specs.History.{are_credits_in_range};
-ghost use Rattle.am_model.specs.declared.Mapping.{Mapping as Mapped};
 ghost use Rattle.am_translate.specs.Tables.{
   IsTable,
   body_with,

@@ -11,7 +11,7 @@ ghost use Rattle.am_model.specs.Channels.{bound_message};
 ghost use Rattle.am_model.specs.Endpoint.{entry_at, front, is_direct, is_on_disk};
 ghost use Rattle.am_scripts.specs.Follows.{is_bounced_out};
 ghost use Rattle.am_turns.specs.Turns.{InterfaceFound, MayBounce, SettlesHere, worked_in};
-ghost use Rattle.std.specs.Prelude.{◌≡◌, ◌<◌, ◌^◌, ◌++◌, IsTrue, Some, false, length, max};
+ghost use Rattle.std.specs.Prelude.{◌≡◌, ◌<◌, ◌^◌, ◌++◌, IsTrue, Some, false, max};
 
 use crate::calls::is_spent;
 use crate::turns::InterfaceTurn;

@@ -11,7 +11,7 @@ pub struct LinkIn {
 }
 
 impl LinkIn {
-    ghost use Rattle.std.specs.Prelude.{◌≡◌, ◌<◌, [], ◌∷◌, ◌++◌, length, IsSome, IfSome, MatchOption};
+    ghost use Rattle.std.specs.Prelude.{◌≡◌, ◌<◌, [], ◌∷◌, ◌++◌, MatchOption};
     ghost use mathlib.Core.List.{IsPrefix};
     ghost use Rattle.am_wire.specs.Links.{IsLink, SameEnd, SameLink, emitted, known, pumped, received};
 

@@ -1,4 +1,4 @@
-ghost use Rattle.std.specs.Prelude.{◌≡◌, ◌+◌, ◌*◌, ◌<◌};
+ghost use Rattle.std.specs.Prelude.{◌+◌, ◌*◌, ◌<◌};
 ghost use Rattle.am_wire.specs.Links.{SameEnd, SameLink};
 
 use am_names::{AnswerPacket, NoMemory, NodeId, Packet, Verdict};

@@ -61,12 +61,11 @@ fn word_run(entry: &Entry) -> Option<Spelled>
 
 impl Tally {
     ghost use Rattle.std.specs.Prelude.{◌≡◌, [], IfOk, OnOk};
-    ghost use Rattle.std.specs.BTreeMap.{IsOrdered};
     ghost use Rattle.std.specs.Cmp.Lexicographic.{slice_cmp};
     ghost use Rattle.std.specs.List.Sorted.{IsStrictlySortedBy};
     ghost use Rattle.std.specs.Map.{keys_of};
     ghost use Rattle.std.specs.Ordering.{nat_cmp};
-    ghost use Rattle.am_words.specs.Counts.{ask, count_at, one_asked, one_ran, rows_of, see, see_journal, with_count, word_asked, word_run};
+    ghost use Rattle.am_words.specs.Counts.{ask, count_at, rows_of, see, see_journal, with_count, word_asked, word_run};
 
     /// No word yet.
     pub fn new(alloc: Global) -> Tally

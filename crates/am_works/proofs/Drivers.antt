@@ -1,11 +1,9 @@
 -- A look and a move keep what a driver's worker keeps.
 use Rattle.std.specs.Prelude.{nat_lt, not, slice_get}
 use Rattle.std.specs.List.{filter, list_any}
-use Rattle.std.proofs.Common.{◌≡◌, ◌≢◌, ◌⊎◌, inl, inr, ⊎_elim, ℕ, zero, suc, ◌+◌, ◌<◌, ◌≤◌, ◌^◌, ◌==◌, max, Bool, true, false, cond, ◌||◌, ◌&&◌, List, [], ◌∷◌, ◌++◌, map, length, Option, Some, None, refl, sym, ap, ◌∙◌, subst, arith, append_assoc, append-nil, eq-eqb, lt-ltb, true≢false, if◌then◌else◌}
+use Rattle.std.proofs.Common.{◌≡◌, ◌≢◌, ◌⊎◌, ⊎_elim, ℕ, suc, ◌+◌, ◌<◌, ◌≤◌, ◌^◌, ◌==◌, max, Bool, true, false, cond, ◌||◌, ◌&&◌, List, [], ◌∷◌, ◌++◌, map, length, Option, Some, None, refl, sym, ap, ◌∙◌, subst, arith, append_assoc, append-nil, eq-eqb, lt-ltb, true≢false, if◌then◌else◌}
 use Rattle.std.proofs.lemmas.List.{length_push}
 use Rattle.std.proofs.lemmas.List.Sums.{count_by-le-length}
-use lib.ListN.{get_elem?}
-use mathlib.Core.Option.{some}
 use mathlib.Core.Bool.{or-false}
 use Rattle.std.proofs.lemmas.Bool.{and_from, not-true}
 use Rattle.am_lemmas.proofs.Bools.{and_first, and_second}
@@ -13,13 +11,12 @@ use Rattle.am_lemmas.proofs.Options.{some_is}
 use Rattle.am_names.specs.declared.EndpointId.{EndpointId}
 use Rattle.am_names.specs.declared.NodeId.{NodeId}
 use Rattle.am_names.specs.Names.{same_end, same_node}
-use Rattle.am_office.specs.declared.Condition.TheVariants as Needs
 use Rattle.am_office.specs.declared.Event.{Event}
 use Rattle.am_office.specs.declared.Event.TheVariants as Events
 use Rattle.am_office.specs.declared.Outcome.{Outcome}
 use Rattle.am_office.specs.declared.Outcome.TheVariants as Out
 use Rattle.am_office.specs.declared.Entry.{Entry}
-use Rattle.am_office.specs.Entries.{ends_touched, is_node, touches}
+use Rattle.am_office.specs.Entries.{ends_touched, is_node}
 use Rattle.am_body.specs.declared.settings.EndSettings.{EndSettings}
 use Rattle.am_device.specs.Causes.{one_more}
 use Rattle.am_device.specs.Memory.{Store, with_held}
@@ -30,10 +27,10 @@ use Rattle.am_model.specs.Changes.{after, replay}
 use Rattle.am_model.specs.Endpoint.{State, fresh, is_on_disk, is_on_host}
 use Rattle.am_model.specs.History.{is_in_frame, is_in_range, is_page_call, page_calls}
 use Rattle.am_model.specs.Layout.{AllAre, EndSetting, Layout, declared, has_id, opening}
-use Rattle.am_model.proofs.Names.{same_end-is, same_end-refl}
-use Rattle.am_local.specs.Driver.{DriverLog, changes_frame, end_moved, failing_move, is_frame_held_by, lies_in, outcome_move, page_at, page_number}
+use Rattle.am_model.proofs.Names.{same_end-is}
+use Rattle.am_local.specs.Driver.{DriverLog, changes_frame, end_moved, failing_move, is_frame_held_by, lies_in, outcome_move, page_number}
 use Rattle.am_model.proofs.Places.{on_host_in_no_frame, framed_is_resident}
-use Rattle.am_local.specs.Together.{ends_of, faults_of}
+use Rattle.am_local.specs.Together.{faults_of}
 use Rattle.am_local.proofs.Growing.{readings_push}
 use Rattle.am_driver.specs.Chosen.{Suits}
 use Rattle.am_driver.specs.Lists.{ViewLists}
@@ -44,9 +41,8 @@ use Rattle.am_driver.specs.declared.Move.{Move}
 use Rattle.am_driver.specs.declared.Move.TheVariants as Moves
 use Rattle.am_driver.proofs.Found.{not_true}
 use Rattle.am_moves.specs.Logs.{EndLog, state_in}
-use Rattle.am_moves.specs.Pages.{after_page, page_outcome}
 use Rattle.am_phase.specs.Frames.{LiesAsMoved}
-use Rattle.am_phase.specs.Then.{IsFound, StandsAfter}
+use Rattle.am_phase.specs.Then.{IsFound}
 use Rattle.am_phase.proofs.Frames.{frames_are_known}
 use Rattle.am_places.specs.Rule.{Begins, holder_word, joined, known_at, read}
 use Rattle.am_places.specs.declared.board.Known.{Known}
@@ -55,14 +51,14 @@ use Rattle.am_scenario_types.specs.Lists.{ScenarioLists}
 use Rattle.am_driver.proofs.Enabled.{skip}
 use Rattle.am_moves.proofs.Stores.{call_fails, one_more_is, call_calls}
 use Rattle.am_scripts.specs.Layout.{layout_of}
-use Rattle.am_works.specs.Drivers.{DriversGoOn, DriversLook, DriversRest, DriversWait, IsDriverOf}
+use Rattle.am_works.specs.Drivers.{DriversGoOn, DriversLook, DriversRest, DriversWait}
 use Rattle.am_moves.specs.Moves.{outcome_with, swap_with}
-use Rattle.am_works.specs.Drives.{CanDrive, CanWait, IsLook, IsMoved, frames_after, line_by, log_of, with_frames, with_line}
-use Rattle.am_works.specs.Seats.{AreBorn, EndPass, Ids, IsBorn, KnowsNode, Stays, seen_log}
+use Rattle.am_works.specs.Drives.{CanDrive, CanWait, frames_after, line_by, log_of, with_frames, with_line}
+use Rattle.am_works.specs.Seats.{AreBorn, EndPass, Ids, KnowsNode, Stays, seen_log}
 use Rattle.am_works.specs.Stands.{TouchOnly}
 use Rattle.am_works.specs.Works.{DriverWorks, IsMoveThenHere}
-use Rattle.am_works.proofs.Driving.{IsFoundAt, born_at, found_of, free_at, lies_there, line_at, line_there, looks_keep, moves_keep, others_still, same_event, suits_here, unframed}
-use Rattle.am_works.proofs.Keeping.{AreOf, joined_append, known_else, only_of, seen_here, seen_more}
+use Rattle.am_works.proofs.Driving.{IsFoundAt, born_at, found_of, free_at, line_at, line_there, looks_keep, moves_keep, others_still, same_event, suits_here, unframed}
+use Rattle.am_works.proofs.Keeping.{joined_append, known_else, only_of, seen_here, seen_more}
 use Rattle.am_works.proofs.Keeps.{all_push, all_within, begins_then, rising_push, same_or}
 use Rattle.am_works.proofs.Staying.{replay_append}
 use Rattle.am_works.proofs.Stands.{got_any, got_low, stands_on, stays_keep}

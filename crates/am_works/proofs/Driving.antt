@@ -1,7 +1,7 @@
 -- A look and a move keep what a driver keeps.
 use Rattle.std.specs.Prelude.{not, slice_get, slice_index, slice_index_or, slice_set}
 use Rattle.std.specs.List.{list_any}
-use Rattle.std.proofs.Common.{◌≡◌, ◌≢◌, ◌⊎◌, inl, inr, ⊎_elim, ℕ, zero, suc, ◌+◌, ◌<◌, ◌≤◌, ◌==◌, Bool, true, false, cond, ◌||◌, ◌&&◌, List, [], ◌∷◌, ◌++◌, length, drop, Option, Some, None, refl, sym, ap, ◌∙◌, subst, arith, append-nil, eqb-true, length-append, true≢false}
+use Rattle.std.proofs.Common.{◌≡◌, ◌≢◌, ◌⊎◌, ⊎_elim, ℕ, zero, suc, ◌+◌, ◌<◌, ◌≤◌, ◌==◌, Bool, true, false, cond, ◌||◌, ◌&&◌, List, [], ◌∷◌, ◌++◌, length, drop, Option, Some, None, refl, sym, ap, ◌∙◌, subst, arith, append-nil, eqb-true, length-append, true≢false}
 use Rattle.std.proofs.lemmas.Bool.{and_parts}
 use lib.ListN.{get_elem?}
 use mathlib.Core.Option.{some}
@@ -39,7 +39,7 @@ use Rattle.am_places.specs.Rule.{Begins, calm, inside_with, joined, known_at, no
 use Rattle.am_places.specs.declared.board.Known.{Known}
 use Rattle.am_places.specs.declared.board.Tenure.{Tenure}
 use Rattle.am_moves.specs.Moves.{swap_with}
-use Rattle.am_works.specs.Drives.{CanDrive, IsLook, IsMoved, KnowsPlace, LiesSo, LooksKeep, MovesKeep, frames_after, last_after, line_by, log_of, with_frames, with_line}
+use Rattle.am_works.specs.Drives.{CanDrive, KnowsPlace, LiesSo, LooksKeep, MovesKeep, frames_after, last_after, line_by, log_of, with_frames, with_line}
 use Rattle.am_works.specs.Seats.{EndPass, Stays}
 use Rattle.am_works.proofs.Keeping.{joined_append, push_all}
 use Rattle.am_works.proofs.Keeps.{left_log, same_or}

@@ -1,10 +1,7 @@
 -- How an endpoint lies, for its driver, after what others added, and after a move.
-use Rattle.std.specs.Prelude.{nat_lt, not, slice_get, slice_index, slice_set}
-use Rattle.std.specs.List.{list_any}
-use Rattle.std.proofs.Common.{◌≡◌, ◌≢◌, ◌⊎◌, ◌↔◌, inl, inr, ⊎_elim, ℕ, zero, suc, ◌+◌, ◌<◌, ◌≤◌, ◌==◌, Bool, true, false, cond, ◌||◌, ◌&&◌, List, [], ◌∷◌, ◌++◌, length, Option, Some, refl, sym, ap, ◌∙◌, subst, arith, eq-eqb, eqb-true, true≢false, get_or-set_same, get_or-set_other, if◌then◌else◌}
-use Rattle.std.proofs.lemmas.Bool.{and_parts}
+use Rattle.std.specs.Prelude.{slice_index, slice_set}
+use Rattle.std.proofs.Common.{◌≡◌, ◌≢◌, ◌⊎◌, ◌↔◌, inl, inr, ⊎_elim, ℕ, zero, suc, ◌+◌, ◌<◌, ◌≤◌, Bool, true, false, List, [], ◌∷◌, length, Option, Some, refl, sym, ap, ◌∙◌, subst, arith, eq-eqb, eqb-true, true≢false, get_or-set_same, get_or-set_other, if◌then◌else◌}
 use Rattle.am_names.specs.declared.EndpointId.{EndpointId}
-use Rattle.am_names.specs.declared.NodeId.{NodeId}
 use Rattle.am_names.specs.Names.{same_end}
 use Rattle.am_office.specs.declared.Event.{Event}
 use Rattle.am_office.specs.declared.Event.TheVariants as Events
@@ -18,7 +15,6 @@ use Rattle.am_device.specs.Causes.{fails_after}
 use Rattle.am_device.specs.Memory.{Store, counted, faulted, held_for, with_held}
 use Rattle.am_device.proofs.Held.{holds_instead}
 use Rattle.am_image.specs.Image.{image}
-use Rattle.am_image.specs.Valid.{IsValid}
 use Rattle.am_model.specs.Changes.{changed, paged_in, paged_out, replay}
 use Rattle.am_model.specs.Endpoint.{Body, State, is_direct, is_in_a_frame, is_on_disk, is_on_host}
 use Rattle.am_model.specs.History.{is_in_frame}
@@ -26,7 +22,7 @@ use Rattle.am_model.specs.Layout.{AllAre}
 use Rattle.am_model.proofs.Places.{on_host_not_on_disk}
 use Rattle.am_moves.proofs.Stores.{held_other, held_still}
 use Rattle.am_moves.specs.Logs.{EndLog, state_in}
-use Rattle.am_moves.specs.Pages.{HoldsBody, IsBodyValid, after_call, after_page, page_outcome}
+use Rattle.am_moves.specs.Pages.{HoldsBody, IsBodyValid, after_call, after_page}
 use Rattle.am_phase.specs.Lying.{moves_by, rests}
 use Rattle.am_phase.proofs.Lying.{places_are_kept, still}
 use Rattle.am_places.specs.Codes.{place_code}

@@ -1,6 +1,5 @@
 -- How a node's driver keeps what its worker keeps, from its first turn on.
-use Rattle.std.specs.Prelude.{◌≡◌, ℕ, ◌+◌, ◌<◌, ◌^◌, false, List, []}
-use Rattle.am_names.specs.declared.EndpointId.{EndpointId}
+use Rattle.std.specs.Prelude.{◌≡◌, ℕ, ◌+◌, ◌<◌, ◌^◌, false}
 use Rattle.am_names.specs.declared.NodeId.{NodeId}
 use Rattle.am_office.specs.declared.Entry.{Entry}
 use Rattle.am_device.specs.Memory.{Store}

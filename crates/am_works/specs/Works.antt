@@ -8,11 +8,11 @@ use Rattle.am_names.specs.Names.{same_node}
 use Rattle.am_office.specs.declared.Entry.{Entry}
 use Rattle.am_model.specs.Changes.{replay}
 use Rattle.am_model.specs.Channels.{emitted}
-use Rattle.am_model.specs.Endpoint.{State, is_on_disk}
-use Rattle.am_model.specs.History.{is_in_range, is_in_frame, page_calls}
+use Rattle.am_model.specs.Endpoint.{State}
+use Rattle.am_model.specs.History.{is_in_range, page_calls}
 use Rattle.am_model.specs.Packets.{stamp_of}
 use Rattle.am_model.specs.Layout.{AllAre, Layout, opening}
-use Rattle.am_local.specs.Driver.{DriverLog, end_moved, failing_move, lies_in, outcome_move}
+use Rattle.am_local.specs.Driver.{DriverLog, end_moved, failing_move, outcome_move}
 use Rattle.am_model.specs.Parts.{driver_of, is_by_driver}
 use Rattle.am_local.specs.Interface.{InterfaceLog, event_of, failing_at, needs, outcome_at}
 use Rattle.am_local.specs.Together.{IsDriverSet, IsSet, faults_of}

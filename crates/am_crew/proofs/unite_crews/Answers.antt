@@ -1,4 +1,4 @@
-use Rattle.std.proofs.Common.{◌≡◌, ◌∙◌, ℕ, List, [], sym, ap, subst}
+use Rattle.std.proofs.Common.{◌∙◌, ℕ, List, sym, ap, subst}
 use Rattle.am_office.specs.declared.Entry.{Entry}
 use Rattle.am_drain.specs.Follows.{IsGoodPhase}
 use Rattle.am_scenario_types.specs.Lists.{ScenarioLists}

@@ -1,7 +1,7 @@
-use Rattle.std.proofs.Common.{◌≡◌, ℕ, List, arith, subst, sym}
+use Rattle.std.proofs.Common.{subst, sym}
 use Rattle.am_words.specs.Counts.{Counted}
 use Rattle.am_count.specs.Counting.{CountsAll}
-use Rattle.am_count.proofs.Counted.{counts_more, counts_none, round_stopped}
+use Rattle.am_count.proofs.Counted.{counts_more, counts_none}
 use Rattle.am_count.proofs.counting.count_rounds.Goals as goal
 
 pub loop-number-init : goal.loop-number-init

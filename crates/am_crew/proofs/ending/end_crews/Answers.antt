@@ -1,12 +1,8 @@
 use Rattle.std.specs.Prelude.{slice_get}
-use Rattle.std.specs.Global.{Vec}
-use Rattle.std.proofs.Common.{◌≡◌, ◌∙◌, List, [], ◌∷◌, ◌++◌, length, Some, sym, ap, subst}
+use Rattle.std.proofs.Common.{◌≡◌, ◌∙◌, List, ◌∷◌, ◌++◌, length, Some, sym, ap, subst}
 use Rattle.am_names.specs.declared.NodeId.{NodeId}
-use Rattle.am_wire.specs.declared.receiving.LinkIn.{LinkIn}
-use Rattle.am_wire.specs.declared.sending.LinkOut.{LinkOut}
 use Rattle.am_crew_opening.specs.Crews.{IsCrew}
 use Rattle.am_crew_opening.specs.declared.crew.NodeCrew.{NodeCrew}
-use Rattle.am_crew.specs.declared.ended.NodeEnded.{NodeEnded}
 use Rattle.am_crew.proofs.Adding.{at_seam, ended_more, moved_on}
 use Rattle.am_crew.proofs.ending.end_crews.Goals as goal
 

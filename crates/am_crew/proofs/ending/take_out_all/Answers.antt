@@ -4,7 +4,7 @@ use Rattle.am_books.specs.declared.EndBook.{EndBook}
 use Rattle.am_books.specs.Books.{stands_at}
 use Rattle.am_places.specs.Rule.{inside_with, known_at}
 use Rattle.am_works.specs.Seats.{EndPass}
-use Rattle.am_crew.proofs.Taking.{HasTaken, taken_more}
+use Rattle.am_crew.proofs.Taking.{taken_more}
 use Rattle.am_crew.proofs.ending.take_out_all.Goals as goal
 
 pub loop-at-preserved : goal.loop-at-preserved

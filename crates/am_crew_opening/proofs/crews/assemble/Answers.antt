@@ -1,11 +1,9 @@
-use Rattle.std.proofs.Common.{rules, ◌≡◌, ◌+◌, ℕ, Option, List, [], ◌∷◌, ◌++◌, length, ap, ◌∙◌, sym, subst, arith}
+use Rattle.std.proofs.Common.{rules, ◌≡◌, ◌+◌, Option, [], ◌∷◌, ◌++◌, length, ap, ◌∙◌, sym}
 use Rattle.std.specs.Option.{option_to_list}
 use Rattle.std.specs.Global.{Vec}
 use Rattle.am_wire.specs.declared.receiving.LinkIn.{LinkIn}
 use Rattle.am_wire.specs.declared.sending.LinkOut.{LinkOut}
-use Rattle.am_opening.specs.declared.opening.Opening.{Opening}
-use Rattle.am_opening.proofs.Lists.{none_left}
-use Rattle.am_crew_opening.proofs.Linked.{AreMade, crews_are, crews_linked, made_more, next_declared, next_links, next_opening}
+use Rattle.am_crew_opening.proofs.Linked.{AreMade, made_more, next_declared, next_links, next_opening}
 use Rattle.am_crew_opening.proofs.crews.assemble.Goals as goal
 
 pub open_crew-requires-clause-opening : goal.open_crew-requires-clause-opening

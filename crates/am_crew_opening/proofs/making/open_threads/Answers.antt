@@ -1,4 +1,4 @@
-use Rattle.std.proofs.Common.{rules, ◌≡◌, ◌<◌, ℕ, Some, List, length, ap, ◌∙◌, sym, subst, arith}
+use Rattle.std.proofs.Common.{rules, ◌≡◌, ℕ, Some, List, length, sym, subst, arith}
 use Rattle.std.specs.Prelude.{slice_get}
 use Rattle.am_opening.specs.Openings.{EndSeat}
 use Rattle.am_opening.proofs.Lists.{none_left}

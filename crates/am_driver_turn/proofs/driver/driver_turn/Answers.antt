@@ -1,7 +1,5 @@
 use Rattle.std.proofs.Common.{◌≡◌, ◌∙◌, ◌<◌, Some, ap, arith, length, sym}
-use Rattle.am_body.specs.declared.settings.EndSettings.{EndSettings}
 use Rattle.am_driver.specs.declared.EndView.{EndView}
-use Rattle.am_driver.specs.Moves.{next_move}
 use Rattle.am_driver.specs.Shown.{event_of}
 use Rattle.am_local.specs.Driver.{end_moved}
 use Rattle.am_names.specs.declared.EndpointId.{EndpointId}

@@ -1,6 +1,3 @@
-use Rattle.std.proofs.Common.{◌≡◌, length}
-use Rattle.am_works.specs.Drives.{LooksTo}
-use Rattle.am_works.specs.Seats.{IsIdle}
 use Rattle.am_driver_turn.proofs.Looking.{IsLooking}
 use Rattle.am_driver_turn.proofs.looks.look_at_each.Given as goal
 

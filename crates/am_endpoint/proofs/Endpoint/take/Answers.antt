@@ -1,7 +1,6 @@
 use Rattle.std.proofs.Common.{◌≡◌, ◌<◌, [], ◌∷◌, ◌++◌, length, sym, ap, ◌∙◌, subst, arith}
 use Rattle.std.proofs.lemmas.Grind.{common_steps}
 use Rattle.am_model.proofs.Order.{order_bound}
-use Rattle.am_model.specs.Changes.{after}
 use Rattle.am_model.specs.Endpoint.{State}
 use Rattle.am_body.specs.Views.{Fits}
 use Rattle.am_endpoint.specs.Events.{keeps_in_memory}

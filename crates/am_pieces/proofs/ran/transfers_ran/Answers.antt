@@ -1,4 +1,4 @@
-use Rattle.std.proofs.Common.{◌≡◌, ◌∙◌, List, arith, subst}
+use Rattle.std.proofs.Common.{List, arith, subst}
 use Rattle.am_office.specs.declared.Entry.{Entry}
 use Rattle.am_pieces.specs.Runs.{TellsRuns}
 use Rattle.am_pieces.proofs.Counted.{ran_all, ran_step}

@@ -1,7 +1,4 @@
-use Rattle.std.proofs.Common.{rules, arith, ap, ◌∙◌, ◌≡◌, sym, refl, subst, length, length-set, ℕ, ◌<◌}
-use Rattle.std.specs.Prelude.{Some}
-use Rattle.am_places.specs.Codes.{place_code}
-use Rattle.am_places.specs.Rule.{FrameFits}
+use Rattle.std.proofs.Common.{rules, arith, ap, ◌∙◌, length, length-set}
 use Rattle.am_places.proofs.Loads.{unloads_fit}
 use Rattle.am_places_tests.proofs.Staying.{reframes}
 use Rattle.am_places_tests.proofs.tests.give_frame_1_up.Goals as goal

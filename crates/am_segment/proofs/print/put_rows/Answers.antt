@@ -1,4 +1,4 @@
-use Rattle.std.proofs.Common.{◌≡◌, ◌++◌, ◌∙◌, sym, ap, List, ℕ}
+use Rattle.std.proofs.Common.{sym}
 use Rattle.std.proofs.lemmas.List.{append-nil}
 use Rattle.am_segment.proofs.Grown.{more, rows_more, rows_none}
 use Rattle.am_segment.proofs.print.put_rows.Goals as goal

@@ -1,4 +1,4 @@
-use Rattle.std.proofs.Common.{◌≡◌, List, ap, ◌∙◌, Err}
+use Rattle.std.proofs.Common.{◌≡◌, ap, ◌∙◌, Err}
 use Rattle.am_restart.specs.declared.events.SessionEvent.TheVariants as Events
 use Rattle.am_session.specs.Scripts.{Script}
 use Rattle.am_session.specs.declared.script.SessionStep.{SessionStep}

@@ -1,4 +1,4 @@
-use Rattle.std.proofs.Common.{◌≡◌, ◌+◌, ◌<◌, ◌^◌, false, max, subst, sym}
+use Rattle.std.proofs.Common.{◌≡◌, ◌<◌, ◌^◌, false, max, subst, sym}
 use Rattle.am_books.specs.Books.{IsBook}
 use Rattle.am_endpoint.specs.View.{EndpointView, state_after}
 use Rattle.am_model.specs.Parts.{last_stamp}

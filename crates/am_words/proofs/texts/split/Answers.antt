@@ -1,5 +1,4 @@
-use Rattle.std.proofs.Common.{◌≡◌, ◌≤◌, ◌+◌, ℕ, sym, ◌∙◌, arith, length}
-use Rattle.am_words.specs.Texts.{closed}
+use Rattle.std.proofs.Common.{◌+◌, sym, ◌∙◌, arith}
 use Rattle.am_words.proofs.Parted.{long_few, parts_all, parts_byte, parts_gap}
 use Rattle.am_words.proofs.texts.split.Goals as goal
 use Rattle.am_words.proofs.texts.split.Goals.{then-is_gap+in_ok-take_run, else-is_gap}
