@@ -10,10 +10,9 @@ ghost use Rattle.am_names.specs.Names.{same_end};
 ghost use Rattle.am_scripts.specs.Standings.{standings};
 ghost use Rattle.std.specs.Prelude.{◌≡◌, ◌<◌, ◌&&◌, true, not, is_none, option_map, length, filter, find, Some, IfSome};
 
-use crate::{EndHead, Machine};
-use am_model::{EntryFault, Head};
 use crate::pages::{apply_if, off_disk};
-use am_model::{Head, is_in_a_frame, is_on_disk, is_on_host};
+use crate::{EndHead, Machine};
+use am_model::{EntryFault, Head, Head, is_in_a_frame, is_on_disk, is_on_host};
 use am_names::{EndpointId, NodeId};
 use am_office::Event;
 

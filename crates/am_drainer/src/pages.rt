@@ -9,8 +9,7 @@ ghost use Rattle.am_model.specs.Layout as layouts;
 ghost use Rattle.std.specs.Prelude.{◌≡◌, true};
 
 use crate::Machine;
-use am_model::EntryFault;
-use am_model::is_on_disk;
+use am_model::{EntryFault, is_on_disk};
 use am_names::{EndpointId, NodeId};
 use am_office::Event;
 
