@@ -12,12 +12,13 @@ use Rattle.am_office.specs.declared.Outcome.TheVariants as Out
 use Rattle.am_model.specs.Channels.{Channel}
 use Rattle.am_channel.specs.Calls.{Bind, TimeOut, Answer, Arrive}
 use Rattle.am_channel.specs.Folded.{Told}
+use Rattle.am_model.specs.Layout.{node_at}
 
 abbrev pub here : NodeId
-here = record { 0 = 0 }
+here = node_at 0
 
 abbrev pub there : NodeId
-there = record { 0 = 1 }
+there = node_at 1
 
 -- the channel as its sender has it, and as its receiver has it
 abbrev pub outward : Channel

@@ -11,9 +11,10 @@ use Rattle.am_office.specs.declared.Outcome.TheVariants as Out
 use Rattle.am_office.specs.declared.Entry.{Entry}
 use Rattle.am_model.specs.Endpoint.{Body, fresh}
 use Rattle.am_model.specs.Changes.{replay}
+use Rattle.am_model.specs.Layout.{end_at}
 
 abbrev pub zero_end : EndpointId
-zero_end = record { 0 = 0 }
+zero_end = end_at 0
 
 -- the body of a fresh endpoint with tag 7
 abbrev pub fresh_body : Body

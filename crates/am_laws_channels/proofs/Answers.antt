@@ -30,11 +30,11 @@ use Rattle.am_model.proofs.Received.{bit}
 use Rattle.std.proofs.lemmas.Bool.{eqb-false}
 use Rattle.am_office.specs.Entries.{emitted_of, emitted_in, answer_packet, answer_by}
 use Rattle.am_model.specs.Channels.{Mark, same_channel, frees, frees_by, binds}
-use Rattle.am_model.specs.Cluster.{has_put, puts_in, put_on, HasComeTo, AnswerSays, AnswersAreTrue, comes_back, comes_back_by, EndedSequencePutNothing}
+use Rattle.am_model.specs.Cluster.{has_put, puts_in, put_on, HasComeTo, AnswerSays, AnswersAreTrue, comes_back, comes_back_by, EndedSequencePutNothing, answer_channel, parcel_channel}
 use Rattle.am_model.proofs.Ends.{EmittedIn, emitted_more, was_emitted, bound_push, sequence_push}
 use Rattle.am_laws_order.proofs.Senders.{SenderMoves, sender, sender_moves, same_channel-is}
-use Rattle.am_laws_order.proofs.Parcels.{IsOf, IsCurrent, channel_of, new_parcel}
-use Rattle.am_laws_order.proofs.Marks.{IsPast, mark_moves, mark_after, back, end_of, link_of, again_at, Agrees, IsAnswered, ChannelsKept, refusal_marks, no_answer, settle_answers, parcel_no_answer}
+use Rattle.am_laws_order.proofs.Parcels.{IsOf, IsCurrent, new_parcel}
+use Rattle.am_laws_order.proofs.Marks.{IsPast, mark_moves, mark_after, back, link_of, again_at, Agrees, IsAnswered, ChannelsKept, refusal_marks, no_answer, settle_answers, parcel_no_answer}
 use Rattle.am_laws_order.proofs.Effects.{IsRefusal, link_of_answer}
 use Rattle.am_laws_channels.proofs.Sent.{gave_emitted, emitted_gave, emitted_later, sendings}
 use Rattle.am_laws_channels.proofs.Taken.{takes_is, took_push, took_later, mark_then, Takings, takings, come_past, come_on}
@@ -73,10 +73,10 @@ arrive_seq layout past stamp node peer number p reply Fresh is q e = by_verdict 
 record IsReplied (past : List Entry) (new : Channel → Mark) (q : AnswerPacket) : Type 0 where
   pub by : Parcel
   pub emitted : EmittedIn (Packets.Parcel by) past
-  pub on : channel_of by ≡ back (end_of q)
+  pub on : parcel_channel by ≡ back (answer_channel q)
   pub seq : by.seq ≡ q.seq
   pub attempt : by.attempt ≡ q.attempt
-  pub marked : (new (end_of q)).seq ≡ q.seq
+  pub marked : (new (answer_channel q)).seq ≡ q.seq
 
 receive_replied : (layout : Layout) (past : List Entry) (stamp : ℕ) (node peer : NodeId) (number i : ℕ) (p : Option Packet) → slice_get (emitted peer node past) i ≡ p → (q : AnswerPacket) → emitted_in stamp (Events.Receive node peer number) (receive layout node peer past p) ≡ Some (Packets.Answer q) → IsReplied past (λ d. mark_after d (mark d past) (Events.Receive node peer number) (receive layout node peer past p)) q
 receive_replied layout past stamp node peer number i None is q e = absurd (cc)
@@ -84,7 +84,7 @@ receive_replied layout past stamp node peer number i (Some (Packets.Parcel p)) i
     let was = was_emitted peer node past i (Packets.Parcel p) is in
     let link = link_of peer node p was.1 in
     let a = answer_is node peer p.channel p.seq p.attempt stamp (answer_by (arrive layout past p.message (next_number node peer past) (arrival (mark (channel_to node peer p.channel) past) p.seq p.attempt))) q e in
-    let end : end_of q ≡ channel_to node peer p.channel = (λ j. channel_to (a.from j) (a.to j) (a.channel' j)) in
+    let end : answer_channel q ≡ channel_to node peer p.channel = (λ j. channel_to (a.from j) (a.to j) (a.channel' j)) in
     record {
       by = p;
       emitted = was.0;
@@ -133,17 +133,17 @@ accepted_past m a is h = by_test (a.seq == m.seq) refl
 
 -- the receiving end has_put a message in the sequence of the answer, on some attempt
 abbrev pub TookOnSome : List Entry → AnswerPacket → Type 0
-TookOnSome past a = (most : ℕ) × (has_put (end_of a) a.seq most past ≡ true)
+TookOnSome past a = (most : ℕ) × (has_put (answer_channel a) a.seq most past ≡ true)
 
 -- what is known of an answer
 pub record IsKnown (past : List Entry) (a : AnswerPacket) : Type 0 where
   pub by : Parcel
   pub emitted : EmittedIn (Packets.Parcel by) past
-  pub on : channel_of by ≡ back (end_of a)
+  pub on : parcel_channel by ≡ back (answer_channel a)
   pub seq : by.seq ≡ a.seq
   pub attempt : by.attempt ≡ a.attempt
   pub accepts : a.verdict ≡ Verdicts.Accepted → TookOnSome past a
-  pub refuses : (cause : Cause) → a.verdict ≡ Verdicts.Refused cause → has_put (end_of a) a.seq a.attempt past ≡ false
+  pub refuses : (cause : Cause) → a.verdict ≡ Verdicts.Refused cause → has_put (answer_channel a) a.seq a.attempt past ≡ false
 
 pub record Replies (layout : Layout) (past : List Entry) : Type 0 where
   pub history : IsHistory layout past
@@ -158,9 +158,9 @@ now_known layout past x h may a e there =
       seq = r.seq;
       attempt = r.attempt;
       accepts = λ is.
-          let v : (mark (end_of a) (past ++ x ∷ [])).verdict ≡ Verdicts.Accepted = subst (λ (w : Verdict). Agrees w a.attempt (mark (end_of a) (past ++ x ∷ []))) is (said.agrees (sym r.marked)) in
-          ((mark (end_of a) (past ++ x ∷ [])).attempt, subst (λ (k : ℕ). has_put (end_of a) k (mark (end_of a) (past ++ x ∷ [])).attempt (past ++ x ∷ []) ≡ true) r.marked (t.accepted (end_of a) v));
-      refuses = λ cause is. by_took cause is (has_put (end_of a) a.seq a.attempt (past ++ x ∷ [])) refl;
+          let v : (mark (answer_channel a) (past ++ x ∷ [])).verdict ≡ Verdicts.Accepted = subst (λ (w : Verdict). Agrees w a.attempt (mark (answer_channel a) (past ++ x ∷ []))) is (said.agrees (sym r.marked)) in
+          ((mark (answer_channel a) (past ++ x ∷ [])).attempt, subst (λ (k : ℕ). has_put (answer_channel a) k (mark (answer_channel a) (past ++ x ∷ [])).attempt (past ++ x ∷ []) ≡ true) r.marked (t.accepted (answer_channel a) v));
+      refuses = λ cause is. by_took cause is (has_put (answer_channel a) a.seq a.attempt (past ++ x ∷ [])) refl;
     }
   where
     now : IsHistory layout (past ++ x ∷ [])
@@ -172,21 +172,21 @@ now_known layout past x h may a e there =
     t : Takings (past ++ x ∷ [])
     t = takings layout (past ++ x ∷ []) now
 
-    said : IsAnswered (mark (end_of a) (past ++ x ∷ [])) a
+    said : IsAnswered (mark (answer_channel a) (past ++ x ∷ [])) a
     said = (sendings layout (past ++ x ∷ []) now).channels.answers a there
 
-    by_took : (cause : Cause) → a.verdict ≡ Verdicts.Refused cause → (b : Bool) → has_put (end_of a) a.seq a.attempt (past ++ x ∷ []) ≡ b → b ≡ false
+    by_took : (cause : Cause) → a.verdict ≡ Verdicts.Refused cause → (b : Bool) → has_put (answer_channel a) a.seq a.attempt (past ++ x ∷ []) ≡ b → b ≡ false
     by_took cause is false is' = refl
     by_took cause is true is' =
-        let agrees : Agrees (Verdicts.Refused cause) a.attempt (mark (end_of a) (past ++ x ∷ [])) = subst (λ (w : Verdict). Agrees w a.attempt (mark (end_of a) (past ++ x ∷ []))) is (said.agrees (sym r.marked)) in
+        let agrees : Agrees (Verdicts.Refused cause) a.attempt (mark (answer_channel a) (past ++ x ∷ [])) = subst (λ (w : Verdict). Agrees w a.attempt (mark (answer_channel a) (past ++ x ∷ []))) is (said.agrees (sym r.marked)) in
         absurd (⊎_elim
-        (λ (low : a.seq < (mark (end_of a) (past ++ x ∷ [])).seq). omega (arith, low, r.marked))
-        (λ (at : (a.seq ≡ (mark (end_of a) (past ++ x ∷ [])).seq) × ((mark (end_of a) (past ++ x ∷ [])).attempt ≤ a.attempt) × ((mark (end_of a) (past ++ x ∷ [])).verdict ≡ Verdicts.Accepted)).
+        (λ (low : a.seq < (mark (answer_channel a) (past ++ x ∷ [])).seq). omega (arith, low, r.marked))
+        (λ (at : (a.seq ≡ (mark (answer_channel a) (past ++ x ∷ [])).seq) × ((mark (answer_channel a) (past ++ x ∷ [])).attempt ≤ a.attempt) × ((mark (answer_channel a) (past ++ x ∷ [])).verdict ≡ Verdicts.Accepted)).
         ⊎_elim
-        (λ (below : a.attempt < (mark (end_of a) (past ++ x ∷ [])).attempt). omega (arith, below, at.1))
-        (λ (equal : (a.attempt ≡ (mark (end_of a) (past ++ x ∷ [])).attempt) × ((mark (end_of a) (past ++ x ∷ [])).verdict ≡ Verdicts.Refused cause)). let both : Verdicts.Refused cause ≡ Verdicts.Accepted = sym equal.1 ∙ at.2 in cc)
+        (λ (below : a.attempt < (mark (answer_channel a) (past ++ x ∷ [])).attempt). omega (arith, below, at.1))
+        (λ (equal : (a.attempt ≡ (mark (answer_channel a) (past ++ x ∷ [])).attempt) × ((mark (answer_channel a) (past ++ x ∷ [])).verdict ≡ Verdicts.Refused cause)). let both : Verdicts.Refused cause ≡ Verdicts.Accepted = sym equal.1 ∙ at.2 in cc)
         agrees)
-        (t.stands (end_of a) a.seq a.attempt is'))
+        (t.stands (answer_channel a) a.seq a.attempt is'))
 
 later_known : (layout : Layout) (past : List Entry) (x : Entry) → IsHistory layout past → MayFollow layout past x → (a : AnswerPacket) → EmittedIn (Packets.Answer a) past → IsKnown past a → IsKnown (past ++ x ∷ []) a
 later_known layout past x h may a there k =
@@ -196,16 +196,16 @@ later_known layout past x h may a there k =
       on = k.on;
       seq = k.seq;
       attempt = k.attempt;
-      accepts = λ is. let s = k.accepts is in (s.0, took_later (end_of a) a.seq s.0 past x s.1);
-      refuses = λ cause is. took_push (end_of a) a.seq a.attempt past x ∙ ap (λ (b : Bool). b || puts_in (end_of a) a.seq a.attempt x.event x.outcome) (k.refuses cause is) ∙ by_now cause is (puts_in (end_of a) a.seq a.attempt x.event x.outcome) refl;
+      accepts = λ is. let s = k.accepts is in (s.0, took_later (answer_channel a) a.seq s.0 past x s.1);
+      refuses = λ cause is. took_push (answer_channel a) a.seq a.attempt past x ∙ ap (λ (b : Bool). b || puts_in (answer_channel a) a.seq a.attempt x.event x.outcome) (k.refuses cause is) ∙ by_now cause is (puts_in (answer_channel a) a.seq a.attempt x.event x.outcome) refl;
     }
   where
-    by_now : (cause : Cause) → a.verdict ≡ Verdicts.Refused cause → (b : Bool) → puts_in (end_of a) a.seq a.attempt x.event x.outcome ≡ b → b ≡ false
+    by_now : (cause : Cause) → a.verdict ≡ Verdicts.Refused cause → (b : Bool) → puts_in (answer_channel a) a.seq a.attempt x.event x.outcome ≡ b → b ≡ false
     by_now cause is false e = refl
     by_now cause is true e =
-        let g = takes_is layout past x may (end_of a) a.seq a.attempt e in
-        let come = refused_come (mark (end_of a) past) a cause is ((sendings layout past h).channels.answers a there) in
-        absurd (come_past (mark (end_of a) past) a.seq a.attempt g.by.attempt come (subst (λ (k' : ℕ). IsPast (mark (end_of a) past) k' g.by.attempt) (sym g.seq) g.fresh) g.low)
+        let g = takes_is layout past x may (answer_channel a) a.seq a.attempt e in
+        let come = refused_come (mark (answer_channel a) past) a cause is ((sendings layout past h).channels.answers a there) in
+        absurd (come_past (mark (answer_channel a) past) a.seq a.attempt g.by.attempt come (subst (λ (k' : ℕ). IsPast (mark (answer_channel a) past) k' g.by.attempt) (sym g.seq) g.fresh) g.low)
 
 pub replies : (layout : Layout) (past : List Entry) → IsHistory layout past → Replies layout past
 replies layout past h =
@@ -232,18 +232,18 @@ answers_true layout past h a g =
     k : IsKnown past a
     k = (replies layout past h).known a there
 
-    said : IsAnswered (mark (end_of a) past) a
+    said : IsAnswered (mark (answer_channel a) past) a
     said = (sendings layout past h).channels.answers a there
 
-    puts : a.verdict ≡ Verdicts.Accepted → Gave (put_on (end_of a) a.seq) past k.by.message
+    puts : a.verdict ≡ Verdicts.Accepted → Gave (put_on (answer_channel a) a.seq) past k.by.message
     puts is =
         let t = k.accepts is in
-        let p = (takings layout past h).parcel (end_of a) a.seq t.0 t.1 in
-        subst (Gave (put_on (end_of a) a.seq) past) ((sendings layout past h).alike p.by k.by p.emitted k.emitted (p.on ∙ sym k.on) (p.seq ∙ sym k.seq)) p.put_there
+        let p = (takings layout past h).parcel (answer_channel a) a.seq t.0 t.1 in
+        subst (Gave (put_on (answer_channel a) a.seq) past) ((sendings layout past h).alike p.by k.by p.emitted k.emitted (p.on ∙ sym k.on) (p.seq ∙ sym k.seq)) p.put_there
 
     by_verdict : (v : Verdict) → a.verdict ≡ v → AnswerSays past a v
-    by_verdict Verdicts.Accepted is = accepted_past (mark (end_of a) past) a is said
-    by_verdict (Verdicts.Refused cause) is = (refused_come (mark (end_of a) past) a cause is said, k.refuses cause is)
+    by_verdict Verdicts.Accepted is = accepted_past (mark (answer_channel a) past) a is said
+    by_verdict (Verdicts.Refused cause) is = (refused_come (mark (answer_channel a) past) a cause is said, k.refuses cause is)
 
 -- a sequence that ends in a requeue or a return ends by a refusal of its current attempt
 record IsComingBack (past : List Entry) (c : Channel) (k last : ℕ) (event : Event) (o : Outcome) : Type 0 where
@@ -322,7 +322,7 @@ coming_back layout past x may c k last h =
 -- a sequence that is over
 pub record IsDone (past : List Entry) (c : Channel) (k last : ℕ) : Type 0 where
   pub come : HasComeTo (mark (back c) past) k last
-  pub attempts : (q : Parcel) → EmittedIn (Packets.Parcel q) past → channel_of q ≡ c → q.seq ≡ k → q.attempt ≤ last
+  pub attempts : (q : Parcel) → EmittedIn (Packets.Parcel q) past → parcel_channel q ≡ c → q.seq ≡ k → q.attempt ≤ last
   pub nothing : (most : ℕ) → has_put (back c) k most past ≡ false
   pub gone : (k < sequence c past) ⊎ ((k ≡ sequence c past) × (bound_message c past ≡ None))
 
@@ -346,7 +346,7 @@ gone_more layout past x may c k gone =
     by_bound none same (Some m) is = let both : ◌≡◌ {A = Option Message} None (Some m) = sym none ∙ moves.same_message m same is in absurd (cc)
 
 -- no parcel of a sequence that is gone goes out
-attempts_more : (layout : Layout) (past : List Entry) (x : Entry) → MayFollow layout past x → (c : Channel) (k last : ℕ) → (k < sequence c (past ++ x ∷ [])) ⊎ ((k ≡ sequence c (past ++ x ∷ [])) × (bound_message c (past ++ x ∷ []) ≡ None)) → ((q : Parcel) → EmittedIn (Packets.Parcel q) past → channel_of q ≡ c → q.seq ≡ k → q.attempt ≤ last) → (q : Parcel) → EmittedIn (Packets.Parcel q) (past ++ x ∷ []) → channel_of q ≡ c → q.seq ≡ k → q.attempt ≤ last
+attempts_more : (layout : Layout) (past : List Entry) (x : Entry) → MayFollow layout past x → (c : Channel) (k last : ℕ) → (k < sequence c (past ++ x ∷ [])) ⊎ ((k ≡ sequence c (past ++ x ∷ [])) × (bound_message c (past ++ x ∷ []) ≡ None)) → ((q : Parcel) → EmittedIn (Packets.Parcel q) past → parcel_channel q ≡ c → q.seq ≡ k → q.attempt ≤ last) → (q : Parcel) → EmittedIn (Packets.Parcel q) (past ++ x ∷ []) → parcel_channel q ≡ c → q.seq ≡ k → q.attempt ≤ last
 attempts_more layout past x may c k last gone before q there on seq =
     ⊎_elim
     (λ (old : EmittedIn (Packets.Parcel q) past). before q old on seq)
@@ -359,7 +359,7 @@ attempts_more layout past x may c k last gone before q there on seq =
     (emitted_more (Packets.Parcel q) past x there)
 
 -- nothing of it is taken
-nothing_more : (layout : Layout) (past : List Entry) (x : Entry) → MayFollow layout past x → (c : Channel) (k last : ℕ) → HasComeTo (mark (back c) past) k last → ((q : Parcel) → EmittedIn (Packets.Parcel q) past → channel_of q ≡ c → q.seq ≡ k → q.attempt ≤ last) → ((most : ℕ) → has_put (back c) k most past ≡ false) → (most : ℕ) → has_put (back c) k most (past ++ x ∷ []) ≡ false
+nothing_more : (layout : Layout) (past : List Entry) (x : Entry) → MayFollow layout past x → (c : Channel) (k last : ℕ) → HasComeTo (mark (back c) past) k last → ((q : Parcel) → EmittedIn (Packets.Parcel q) past → parcel_channel q ≡ c → q.seq ≡ k → q.attempt ≤ last) → ((most : ℕ) → has_put (back c) k most past ≡ false) → (most : ℕ) → has_put (back c) k most (past ++ x ∷ []) ≡ false
 nothing_more layout past x may c k last come attempts before most = took_push (back c) k most past x ∙ ap (λ (b : Bool). b || puts_in (back c) k most x.event x.outcome) (before most) ∙ by_now (puts_in (back c) k most x.event x.outcome) refl
   where
     by_now : (b : Bool) → puts_in (back c) k most x.event x.outcome ≡ b → b ≡ false
@@ -393,13 +393,13 @@ now_done layout past x h may c k last e =
     channels : ChannelsKept past
     channels = (sendings layout past h).channels
 
-    there : c ≡ back (end_of b.answer)
+    there : c ≡ back (answer_channel b.answer)
     there = sym b.refusal.on
 
-    m : ((mark (end_of b.answer) past).seq ≡ sequence (back (end_of b.answer)) past) × ((mark (end_of b.answer) past).attempt ≡ attempt (back (end_of b.answer)) past) × ((mark (end_of b.answer) past).verdict ≡ Verdicts.Refused b.cause)
+    m : ((mark (answer_channel b.answer) past).seq ≡ sequence (back (answer_channel b.answer)) past) × ((mark (answer_channel b.answer) past).attempt ≡ attempt (back (answer_channel b.answer)) past) × ((mark (answer_channel b.answer) past).verdict ≡ Verdicts.Refused b.cause)
     m = refusal_marks past channels b.answer b.cause b.refusal.emitted b.refusal.verdict (b.refusal.seq ∙ ap (λ (d : Channel). sequence d past) there) (b.refusal.attempt ∙ ap (λ (d : Channel). attempt d past) there)
 
-    at : mark (back c) past ≡ mark (end_of b.answer) past
+    at : mark (back c) past ≡ mark (answer_channel b.answer) past
     at = ap (λ (d : Channel). mark (back d) past) there
 
     seq : k ≡ (mark (back c) past).seq
@@ -414,7 +414,7 @@ now_done layout past x h may c k last e =
     come : HasComeTo (mark (back c) past) k last
     come = inr (seq, omega (arith, last'))
 
-    attempts : (q : Parcel) → EmittedIn (Packets.Parcel q) past → channel_of q ≡ c → q.seq ≡ k → q.attempt ≤ last
+    attempts : (q : Parcel) → EmittedIn (Packets.Parcel q) past → parcel_channel q ≡ c → q.seq ≡ k → q.attempt ≤ last
     attempts q was on at' =
         let of : IsOf (sender c past) q = subst (λ (d : Channel). IsOf (sender d past) q) on (channels.parcels q was) in
         omega (arith, of.attempt (at' ∙ b.seq ∙ b.refusal.seq), b.attempt, b.refusal.attempt)

@@ -26,10 +26,10 @@ use Rattle.am_model.proofs.Each.{over_each}
 use Rattle.am_office.specs.Entries.{emitted_of, emitted_in}
 use Rattle.am_model.specs.Channels.{Mark}
 use Rattle.am_model.specs.History.{bind_to, channel_for, sent}
-use Rattle.am_model.specs.Cluster.{ParcelsFitSender, MarkIsOfParcel, AreOfOneSequence, IsSentAfter}
+use Rattle.am_model.specs.Cluster.{ParcelsFitSender, MarkIsOfParcel, AreOfOneSequence, IsSentAfter, parcel_channel}
 use Rattle.am_model.proofs.Ends.{EmittedIn, emitted_more}
 use Rattle.am_laws_order.proofs.Senders.{SenderMoves, sender, sender_moves}
-use Rattle.am_laws_order.proofs.Parcels.{IsOf, IsCurrent, ParcelsAreOf, channel_of, new_parcel, receive_no_parcel}
+use Rattle.am_laws_order.proofs.Parcels.{IsOf, IsCurrent, ParcelsAreOf, new_parcel, receive_no_parcel}
 use Rattle.am_laws_order.proofs.Marks.{Decides, mark_moves, back, ChannelsKept, channels_more, channels_begin}
 use Rattle.am_laws_credits.proofs.Given.{cons_gave}
 
@@ -55,62 +55,62 @@ emitted_later p [] x h = absurd h
 emitted_later p (y ∷ xs) x h = ⊎_elim (λ (here : emitted_of y ≡ Some p). inl here) (λ (later : EmittedIn p xs). inr (emitted_later p xs x later)) h
 
 -- a parcel that goes out is of a new sequence, or of a later attempt
-bind_new : (past : List Entry) (stamp : ℕ) (node : NodeId) (end : EndpointId) (f : Queued) (peer : Option NodeId) (channel : Option ℕ) (q : Parcel) → emitted_in stamp (Events.Bind node end) (bind_to node past f peer channel) ≡ Some (Packets.Parcel q) → q.seq ≡ sequence (channel_of q) past + 1
+bind_new : (past : List Entry) (stamp : ℕ) (node : NodeId) (end : EndpointId) (f : Queued) (peer : Option NodeId) (channel : Option ℕ) (q : Parcel) → emitted_in stamp (Events.Bind node end) (bind_to node past f peer channel) ≡ Some (Packets.Parcel q) → q.seq ≡ sequence (parcel_channel q) past + 1
 bind_new past stamp node end f (Some peer) (Some channel) q e =
     let is : record { from = node; to = peer; channel = channel; seq = sequence (channel_to node peer channel) past + 1; attempt = 0; number = next_number node peer past; stamp = stamp; message = f.message } ≡ q = cc in
-    subst (λ (w : Parcel). w.seq ≡ sequence (channel_of w) past + 1) is refl
+    subst (λ (w : Parcel). w.seq ≡ sequence (parcel_channel w) past + 1) is refl
 bind_new past stamp node end f (Some peer) None q e = absurd (cc)
 bind_new past stamp node end f None channel q e = absurd (cc)
 
-front_new : (layout : Layout) (past : List Entry) (stamp : ℕ) (node : NodeId) (end : EndpointId) (f : Option Queued) (q : Parcel) → emitted_in stamp (Events.Bind node end) (bind layout node past f) ≡ Some (Packets.Parcel q) → q.seq ≡ sequence (channel_of q) past + 1
+front_new : (layout : Layout) (past : List Entry) (stamp : ℕ) (node : NodeId) (end : EndpointId) (f : Option Queued) (q : Parcel) → emitted_in stamp (Events.Bind node end) (bind layout node past f) ≡ Some (Packets.Parcel q) → q.seq ≡ sequence (parcel_channel q) past + 1
 front_new layout past stamp node end None q e = absurd (cc)
 front_new layout past stamp node end (Some f) q e = bind_new past stamp node end f (home layout f.message.dest) (channel_for layout node past (Some f)) q e
 
-expire_new : (layout : Layout) (past : List Entry) (stamp : ℕ) (node peer : NodeId) (channel : ℕ) (b : Option Message) (q : Parcel) → emitted_in stamp (Events.Expire node peer channel) (expire layout node peer channel past b) ≡ Some (Packets.Parcel q) → q.attempt ≡ attempt (channel_of q) past + 1
+expire_new : (layout : Layout) (past : List Entry) (stamp : ℕ) (node peer : NodeId) (channel : ℕ) (b : Option Message) (q : Parcel) → emitted_in stamp (Events.Expire node peer channel) (expire layout node peer channel past b) ≡ Some (Packets.Parcel q) → q.attempt ≡ attempt (parcel_channel q) past + 1
 expire_new layout past stamp node peer channel None q e = absurd (cc)
 expire_new layout past stamp node peer channel (Some m) q e = by_tries (nat_lt (attempt (channel_to node peer channel) past + 1) layout.tries) (is_answered (flying_of m.serial (state_of layout past m.serial.source).body.in_flight)) e
   where
-    by_tries : (t answered : Bool) → emitted_in stamp (Events.Expire node peer channel) (if t then sent node peer channel past m (sequence (channel_to node peer channel) past) (attempt (channel_to node peer channel) past + 1) else (if answered then Out.Delivered m.serial else Out.Unknown m.serial)) ≡ Some (Packets.Parcel q) → q.attempt ≡ attempt (channel_of q) past + 1
+    by_tries : (t answered : Bool) → emitted_in stamp (Events.Expire node peer channel) (if t then sent node peer channel past m (sequence (channel_to node peer channel) past) (attempt (channel_to node peer channel) past + 1) else (if answered then Out.Delivered m.serial else Out.Unknown m.serial)) ≡ Some (Packets.Parcel q) → q.attempt ≡ attempt (parcel_channel q) past + 1
     by_tries true answered f =
         let is : record { from = node; to = peer; channel = channel; seq = sequence (channel_to node peer channel) past; attempt = attempt (channel_to node peer channel) past + 1; number = next_number node peer past; stamp = stamp; message = m } ≡ q = cc in
-        subst (λ (w : Parcel). w.attempt ≡ attempt (channel_of w) past + 1) is refl
+        subst (λ (w : Parcel). w.attempt ≡ attempt (parcel_channel w) past + 1) is refl
     by_tries false true f = absurd (cc)
     by_tries false false f = absurd (cc)
 
-event_new : (layout : Layout) (past : List Entry) (stamp : ℕ) (event : Event) (q : Parcel) → emitted_in stamp event (outcome_of layout past event) ≡ Some (Packets.Parcel q) → (q.seq ≡ sequence (channel_of q) past + 1) ⊎ (q.attempt ≡ attempt (channel_of q) past + 1)
+event_new : (layout : Layout) (past : List Entry) (stamp : ℕ) (event : Event) (q : Parcel) → emitted_in stamp event (outcome_of layout past event) ≡ Some (Packets.Parcel q) → (q.seq ≡ sequence (parcel_channel q) past + 1) ⊎ (q.attempt ≡ attempt (parcel_channel q) past + 1)
 event_new layout past stamp (Events.Bind node end) q e = inl (front_new layout past stamp node end (front (state_of layout past end)) q e)
 event_new layout past stamp (Events.Expire node peer channel) q e = inr (expire_new layout past stamp node peer channel (bound_message (channel_to node peer channel) past) q e)
 event_new layout past stamp (Events.Receive node peer number) q e = absurd (receive_no_parcel layout past stamp node peer number (slice_get (emitted peer node past) (number - 1)) q e)
 event_new layout past stamp event q e = absurd (cc)
 
-pub is_new : (layout : Layout) (past : List Entry) (x : Entry) → MayFollow layout past x → (q : Parcel) → emitted_of x ≡ Some (Packets.Parcel q) → (q.seq ≡ sequence (channel_of q) past + 1) ⊎ (q.attempt ≡ attempt (channel_of q) past + 1)
+pub is_new : (layout : Layout) (past : List Entry) (x : Entry) → MayFollow layout past x → (q : Parcel) → emitted_of x ≡ Some (Packets.Parcel q) → (q.seq ≡ sequence (parcel_channel q) past + 1) ⊎ (q.attempt ≡ attempt (parcel_channel q) past + 1)
 is_new layout past x may q e = event_new layout past x.stamp x.event q (ap (emitted_in x.stamp x.event) (sym may.outcome) ∙ e)
 
 -- the parcels of one sequence carry one message
 abbrev pub Alike : List Entry → Type 0
-Alike past = (p q : Parcel) → EmittedIn (Packets.Parcel p) past → EmittedIn (Packets.Parcel q) past → channel_of p ≡ channel_of q → p.seq ≡ q.seq → p.message ≡ q.message
+Alike past = (p q : Parcel) → EmittedIn (Packets.Parcel p) past → EmittedIn (Packets.Parcel q) past → parcel_channel p ≡ parcel_channel q → p.seq ≡ q.seq → p.message ≡ q.message
 
 -- an old parcel and the one that goes out now
-with_old : (layout : Layout) (past : List Entry) (x : Entry) → MayFollow layout past x → ParcelsAreOf past → (p q : Parcel) → EmittedIn (Packets.Parcel p) past → emitted_of x ≡ Some (Packets.Parcel q) → channel_of p ≡ channel_of q → p.seq ≡ q.seq → (p.message ≡ q.message) × (p.attempt < q.attempt)
+with_old : (layout : Layout) (past : List Entry) (x : Entry) → MayFollow layout past x → ParcelsAreOf past → (p q : Parcel) → EmittedIn (Packets.Parcel p) past → emitted_of x ≡ Some (Packets.Parcel q) → parcel_channel p ≡ parcel_channel q → p.seq ≡ q.seq → (p.message ≡ q.message) × (p.attempt < q.attempt)
 with_old layout past x may known p q before now on seq =
     ⊎_elim
-    (λ (new : q.seq ≡ sequence (channel_of q) past + 1). absurd (omega (arith, new, seq, of.seq)))
-    (λ (again : q.attempt ≡ attempt (channel_of q) past + 1).
+    (λ (new : q.seq ≡ sequence (parcel_channel q) past + 1). absurd (omega (arith, new, seq, of.seq)))
+    (λ (again : q.attempt ≡ attempt (parcel_channel q) past + 1).
     ⊎_elim
-    (λ (same : sequence (channel_of q) (past ++ x ∷ []) ≡ sequence (channel_of q) past).
+    (λ (same : sequence (parcel_channel q) (past ++ x ∷ []) ≡ sequence (parcel_channel q) past).
     (of.message q.message (seq ∙ current.seq ∙ same) (moves.same_message q.message same current.message), omega (arith, again, of.attempt (seq ∙ current.seq ∙ same))))
-    (λ (up : sequence (channel_of q) (past ++ x ∷ []) ≡ sequence (channel_of q) past + 1). absurd (omega (arith, up, seq, of.seq, current.seq)))
+    (λ (up : sequence (parcel_channel q) (past ++ x ∷ []) ≡ sequence (parcel_channel q) past + 1). absurd (omega (arith, up, seq, of.seq, current.seq)))
     moves.up)
     (is_new layout past x may q now)
   where
-    of : IsOf (sender (channel_of q) past) p
+    of : IsOf (sender (parcel_channel q) past) p
     of = subst (λ (c : Channel). IsOf (sender c past) p) on (known p before)
 
-    current : IsCurrent (sender (channel_of q) (past ++ x ∷ [])) q
+    current : IsCurrent (sender (parcel_channel q) (past ++ x ∷ [])) q
     current = new_parcel layout past x may q now
 
-    moves : SenderMoves (sender (channel_of q) past) (sender (channel_of q) (past ++ x ∷ []))
-    moves = sender_moves layout (channel_of q) past x may
+    moves : SenderMoves (sender (parcel_channel q) past) (sender (parcel_channel q) (past ++ x ∷ []))
+    moves = sender_moves layout (parcel_channel q) past x may
 
 alike_more : (layout : Layout) (past : List Entry) (x : Entry) → ParcelsAreOf past → Alike past → MayFollow layout past x → Alike (past ++ x ∷ [])
 alike_more layout past x known alike may p q hp hq on seq =
@@ -172,7 +172,7 @@ rises_more layout past x known before may i j p q at_i at_j later one' =
 pub record IsOfParcel (past : List Entry) (c : Channel) : Type 0 where
   pub by : Parcel
   pub emitted : EmittedIn (Packets.Parcel by) past
-  pub on : channel_of by ≡ back c
+  pub on : parcel_channel by ≡ back c
   pub seq : (mark c past).seq ≡ by.seq
   pub attempt : (mark c past).attempt ≡ by.attempt
 

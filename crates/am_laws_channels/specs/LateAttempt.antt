@@ -13,19 +13,19 @@ use Rattle.am_office.specs.declared.Event.TheVariants as Events
 use Rattle.am_office.specs.declared.Received.TheVariants as Got
 use Rattle.am_office.specs.declared.Outcome.TheVariants as Out
 use Rattle.am_office.specs.declared.Entry.{Entry}
-use Rattle.am_model.specs.Layout.{Layout}
+use Rattle.am_model.specs.Layout.{Layout, end_at, node_at}
 
 abbrev pub source : EndpointId
-source = record { 0 = 0 }
+source = end_at 0
 
 abbrev pub destination : EndpointId
-destination = record { 0 = 1 }
+destination = end_at 1
 
 abbrev pub here : NodeId
-here = record { 0 = 0 }
+here = node_at 0
 
 abbrev pub there : NodeId
-there = record { 0 = 1 }
+there = node_at 1
 
 abbrev pub layout : Layout
 layout =

@@ -55,7 +55,8 @@ use Rattle.am_laws_credits.proofs.Tables.{flights_kept}
 use Rattle.am_laws_credits.proofs.Marked.{all_both, every, flights_own}
 use Rattle.am_laws_replies.proofs.Gave.{accepted_one}
 use Rattle.am_laws_homes.proofs.Places.{fits_network}
-use Rattle.am_laws_cluster.proofs.Flights.{any_message, flights_of, all_aloft, open_aloft, third_none}
+use Rattle.am_laws_cluster.proofs.Flights.{flights_of, all_aloft, open_aloft, third_none}
+use Rattle.am_model.proofs.Counts.{any}
 
 -- the node that an endpoint is said to be of is its home
 none_same : (e : EndpointId) (s : EndSetting) (node : NodeId) (xs : List EndSetting) → same_end e s.id ≡ true → list_any (λ (t : EndSetting). same_end s.id t.id) xs ≡ false → list_any (λ (t : EndSetting). same_end e t.id && same_node node t.node) xs ≡ true → ⊥
@@ -341,7 +342,7 @@ flies layout packet past h k c m is =
     low : 1 ≤ flown layout past m.serial
     low = (kept_flights layout packet past h).flown c m is
 
-    fewer : (xs : List Flying) → flight_weight (one m.serial) xs ≤ flight_weight (Rattle.am_laws_endpoints.proofs.Pools.passing any_message) xs
+    fewer : (xs : List Flying) → flight_weight (one m.serial) xs ≤ flight_weight (Rattle.am_laws_endpoints.proofs.Pools.passing any) xs
     fewer [] = omega arith
     fewer (f ∷ xs) = omega (arith, fewer xs, most (has_serial m.serial f.message), sum_by-cons (λ (y : Flying). one m.serial y.message y.bounces) f xs, sum_by-cons (λ (y : Flying). 1) f xs)
       where

@@ -49,28 +49,26 @@ use Rattle.am_laws_replies.proofs.Credited.{made}
 use Rattle.am_laws_fates.proofs.Aloft.{queue_weight, flight_weight, one_weight, newly, entry_moves, marked_weighs, landed_weighs}
 use Rattle.am_laws_fates.proofs.Flown.{called_flown, left_flown, reached_flown, out_flown, in_flown}
 use Rattle.am_laws_endpoints.proofs.Pools.{all_of, back_of, passing, no_more}
+use Rattle.am_model.proofs.Counts.{any}
 
 -- A closed endpoint has no messages.
 
-abbrev pub any_message : Message → Bool
-any_message m = true
-
 abbrev IsEmpty : State → Type 0
-IsEmpty s = (all_of any_message s.body ≡ 0) × (count_by any_message s.body.received ≡ 0)
+IsEmpty s = (all_of any s.body ≡ 0) × (count_by any s.body.received ≡ 0)
 
-ones_queue : (xs : List Queued) → queue_weight (passing any_message) xs ≡ length xs
+ones_queue : (xs : List Queued) → queue_weight (passing any) xs ≡ length xs
 ones_queue [] = refl
 ones_queue (q ∷ xs) = omega (arith, ones_queue xs, sum_by-cons (λ (y : Queued). 1) q xs)
 
-ones_flights : (xs : List Flying) → flight_weight (passing any_message) xs ≡ length xs
+ones_flights : (xs : List Flying) → flight_weight (passing any) xs ≡ length xs
 ones_flights [] = refl
 ones_flights (f ∷ xs) = omega (arith, ones_flights xs, sum_by-cons (λ (y : Flying). 1) f xs)
 
-ones_notices : (xs : List Notice) → back_of any_message xs ≡ length xs
+ones_notices : (xs : List Notice) → back_of any xs ≡ length xs
 ones_notices [] = refl
 ones_notices (n ∷ xs) = omega (arith, ones_notices xs, sum_by-cons (λ (y : Notice). 1) n xs)
 
-ones_received : (xs : List Message) → count_by any_message xs ≡ length xs
+ones_received : (xs : List Message) → count_by any xs ≡ length xs
 ones_received [] = refl
 ones_received (m ∷ xs) = omega (arith, ones_received xs, sum_by-cons (λ (y : Message). 1) m xs)
 
@@ -142,11 +140,11 @@ other_closed e s (Events.PageOut node end) o h = paged_out_closed s o
 other_closed e s (Events.PageIn node end) o h = paged_in_closed s o
 
 -- a call leaves no more notices
-called_notices : (s : State) (c : Call) (o : Outcome) → back_of any_message (called s c o).body.notices ≤ back_of any_message s.body.notices
+called_notices : (s : State) (c : Call) (o : Outcome) → back_of any (called s c o).body.notices ≤ back_of any s.body.notices
 called_notices s (Calls.Request index handler words) (Out.Requested m) = omega arith
 called_notices s Calls.Poll (Out.Zero serial why) = fewer s.body.notices
   where
-    fewer : (notices : List Notice) → back_of any_message (drop 1 notices) ≤ back_of any_message notices
+    fewer : (notices : List Notice) → back_of any (drop 1 notices) ≤ back_of any notices
     fewer [] = omega arith
     fewer (n ∷ notices) = omega (arith, sum_by-cons (λ (y : Notice). 1) n notices)
 called_notices s Calls.Poll (Out.Ran m handler None) = omega arith
@@ -160,14 +158,14 @@ called_notices s Calls.Close Out.Done = omega arith
 called_notices s c o = omega arith
 
 -- a closed endpoint without messages accepts none
-accepts_none : (pool : Option ℕ) (end : EndpointId) (s : State) (c : Call) (o : Outcome) → o ≡ outcome_of_call pool end s c → s.head.closed ≡ true → weight any_message (run_by c o) ≡ 0 → one_weight (passing any_message) (newly (accepted_by c o)) ≡ 0
+accepts_none : (pool : Option ℕ) (end : EndpointId) (s : State) (c : Call) (o : Outcome) → o ≡ outcome_of_call pool end s c → s.head.closed ≡ true → weight any (run_by c o) ≡ 0 → one_weight (passing any) (newly (accepted_by c o)) ≡ 0
 accepts_none pool end s (Calls.Request index handler words) (Out.Requested m) fits closed none = absurd (true≢false (sym closed ∙ (made pool end s index handler words m fits).opened))
 accepts_none pool end s Calls.Poll (Out.Ran m handler None) fits closed none = refl
 accepts_none pool end s Calls.Poll (Out.Ran m handler (Some reply)) fits closed none = absurd (omega (arith, none))
 accepts_none pool end s Calls.Poll (Out.Zero serial why) fits closed none = refl
 accepts_none pool end s c o fits closed none = refl
 
-no_call_run : (e : EndpointId) (event : Event) (o : Outcome) → is_call event ≡ false → weight any_message (run_at e event o) ≡ 0
+no_call_run : (e : EndpointId) (event : Event) (o : Outcome) → is_call event ≡ false → weight any (run_at e event o) ≡ 0
 no_call_run e (Events.Call actor end call) o h = absurd (true≢false h)
 no_call_run e event o h = refl
 
@@ -178,8 +176,8 @@ record Closings (layout : Layout) (past : List Entry) : Type 0 where
 closings_more : (layout : Layout) (past : List Entry) (x : Entry) → Closings layout past → MayFollow layout past x → (e : EndpointId) → touches e x ≡ true → (changed e (state_of layout past e) x.event x.outcome).head.closed ≡ true → IsEmpty (changed e (state_of layout past e) x.event x.outcome)
 closings_more layout past x k may e at closed = by_event x.event refl (fits_call layout past e x may at) at closed
   where
-    put_none : (state_of layout past e).head.closed ≡ true → (w : Option Message) → put_at e x.event x.outcome ≡ w → weight any_message (put_at e x.event x.outcome) ≡ 0
-    put_none was None is = ap (weight any_message) is
+    put_none : (state_of layout past e).head.closed ≡ true → (w : Option Message) → put_at e x.event x.outcome ≡ w → weight any (put_at e x.event x.outcome) ≡ 0
+    put_none was None is = ap (weight any) is
     put_none was (Some m) is = absurd (true≢false (sym was ∙ (here m is).open'))
       where
         here : (n : Message) → put_at e x.event x.outcome ≡ Some n → IsWelcome (state_of layout past e) n
@@ -196,18 +194,18 @@ closings_more layout past x k may e at closed = by_event x.event refl (fits_call
             by_put None there f = absurd (cc)
             by_put (Some l) there f = by_test l (same_end e l.dest) refl there f
 
-    got : (state_of layout past e).head.closed ≡ true → count_by any_message (changed e (state_of layout past e) x.event x.outcome).body.received + weight any_message (run_at e x.event x.outcome) ≡ 0
-    got was = omega (arith, (k.empty e was).1, put_none was (put_at e x.event x.outcome) refl, changed_received layout.pool any_message e (state_of layout past e) x.event x.outcome at (fits_call layout past e x may at))
+    got : (state_of layout past e).head.closed ≡ true → count_by any (changed e (state_of layout past e) x.event x.outcome).body.received + weight any (run_at e x.event x.outcome) ≡ 0
+    got was = omega (arith, (k.empty e was).1, put_none was (put_at e x.event x.outcome) refl, changed_received layout.pool any e (state_of layout past e) x.event x.outcome at (fits_call layout past e x may at))
 
     called_empty : (actor : Actor) (end : EndpointId) (call : Call) → x.event ≡ Events.Call actor end call → FitsCall layout.pool (state_of layout past e) (Events.Call actor end call) x.outcome → same_end e end ≡ true → (called (state_of layout past e) call x.outcome).head.closed ≡ true → IsEmpty (called (state_of layout past e) call x.outcome)
     called_empty actor end call ev fits on now =
         ⊎_elim
         (λ (was : (state_of layout past e).head.closed ≡ true).
         let m = entry_moves e (state_of layout past e) (Events.Call actor end call) x.outcome tt in
-        let r : weight any_message (run_at e x.event x.outcome) ≡ weight any_message (run_by call x.outcome) = ap (λ (v : Event). weight any_message (run_at e v x.outcome)) ev ∙ ap (λ (b : Bool). weight any_message (if b then run_by call x.outcome else None)) on in
-        let c : count_by any_message (changed e (state_of layout past e) x.event x.outcome).body.received ≡ count_by any_message (called (state_of layout past e) call x.outcome).body.received = ap (λ (v : Event). count_by any_message (changed e (state_of layout past e) v x.outcome).body.received) ev in
-        let none : one_weight (passing any_message) (newly (accepted_by call x.outcome)) ≡ 0 = accepts_none layout.pool end (state_of layout past e) call x.outcome fits was (omega (arith, got was, r)) in
-        (omega (arith, (k.empty e was).0, m.leaves (passing any_message), m.comes (passing any_message), none, called_notices (state_of layout past e) call x.outcome), omega (arith, got was, c)))
+        let r : weight any (run_at e x.event x.outcome) ≡ weight any (run_by call x.outcome) = ap (λ (v : Event). weight any (run_at e v x.outcome)) ev ∙ ap (λ (b : Bool). weight any (if b then run_by call x.outcome else None)) on in
+        let c : count_by any (changed e (state_of layout past e) x.event x.outcome).body.received ≡ count_by any (called (state_of layout past e) call x.outcome).body.received = ap (λ (v : Event). count_by any (changed e (state_of layout past e) v x.outcome).body.received) ev in
+        let none : one_weight (passing any) (newly (accepted_by call x.outcome)) ≡ 0 = accepts_none layout.pool end (state_of layout past e) call x.outcome fits was (omega (arith, got was, r)) in
+        (omega (arith, (k.empty e was).0, m.leaves (passing any), m.comes (passing any), none, called_notices (state_of layout past e) call x.outcome), omega (arith, got was, c)))
         (λ (closes : (call ≡ Calls.Close) × (x.outcome ≡ Out.Done)).
         let done : Out.Done ≡ outcome_of_call layout.pool end (state_of layout past e) Calls.Close = sym closes.1 ∙ fits ∙ ap (outcome_of_call layout.pool end (state_of layout past e)) closes.0 in
         subst (λ (c : Call). IsEmpty (called (state_of layout past e) c x.outcome)) (sym closes.0)
@@ -218,7 +216,7 @@ closings_more layout past x k may e at closed = by_event x.event refl (fits_call
     other_empty : is_call x.event ≡ false → (changed e (state_of layout past e) x.event x.outcome).head.closed ≡ true → IsEmpty (changed e (state_of layout past e) x.event x.outcome)
     other_empty off now =
         let was : (state_of layout past e).head.closed ≡ true = sym (other_closed e (state_of layout past e) x.event x.outcome off) ∙ now in
-        (omega (arith, (k.empty e was).0, no_more any_message e (state_of layout past e) x.event x.outcome (fits_send layout past e x may at) off), omega (arith, got was, no_call_run e x.event x.outcome off))
+        (omega (arith, (k.empty e was).0, no_more any e (state_of layout past e) x.event x.outcome (fits_send layout past e x may at) off), omega (arith, got was, no_call_run e x.event x.outcome off))
 
     by_event : (event : Event) → x.event ≡ event → FitsCall layout.pool (state_of layout past e) event x.outcome → list_any (same_end e) (ends_touched event x.outcome) ≡ true → (changed e (state_of layout past e) event x.outcome).head.closed ≡ true → IsEmpty (changed e (state_of layout past e) event x.outcome)
     by_event (Events.Call actor end call) ev fits t now = called_empty actor end call ev fits (one_touched (same_end e end) t) now
@@ -243,13 +241,13 @@ closings layout past h =
 -- An endpoint that has a message in flight is in a frame.
 
 abbrev pub flights_of : State → ℕ
-flights_of s = flight_weight (passing any_message) s.body.in_flight
+flights_of s = flight_weight (passing any) s.body.in_flight
 
-landed_fewer : (t : Serial) (b : Body) → flight_weight (passing any_message) (without_flight t b).in_flight ≤ flight_weight (passing any_message) b.in_flight
-landed_fewer t b = omega (arith, landed_weighs (passing any_message) t b.in_flight)
+landed_fewer : (t : Serial) (b : Body) → flight_weight (passing any) (without_flight t b).in_flight ≤ flight_weight (passing any) b.in_flight
+landed_fewer t b = omega (arith, landed_weighs (passing any) t b.in_flight)
 
 received_fewer : (e : EndpointId) (s : State) (r : Received) → flights_of (received e s r) ≤ flights_of s
-received_fewer e s (Got.Accepted m answer) = omega (arith, marked_weighs (passing any_message) m.about s.body.in_flight)
+received_fewer e s (Got.Accepted m answer) = omega (arith, marked_weighs (passing any) m.about s.body.in_flight)
 received_fewer e s (Got.Refused m NotResident answer) = omega arith
 received_fewer e s (Got.Delivered t) = landed_fewer t s.body
 received_fewer e s (Got.Requeued t cause bounces) = landed_fewer t s.body
@@ -310,20 +308,20 @@ touched_aloft layout past x may e at k = by_event x.event x.outcome may.enabled 
 
     out_aloft : (end : EndpointId) (o : Outcome) → end ≡ e → is_on_host (state_of layout past end).head.place ≡ true → IsAloft (paged_out (state_of layout past e) o)
     out_aloft end o same host low =
-        let before : 1 ≤ flights_of (state_of layout past e) = omega (arith, low, out_flown (passing any_message) (state_of layout past e) o) in
+        let before : 1 ≤ flights_of (state_of layout past e) = omega (arith, low, out_flown (passing any) (state_of layout past e) o) in
         absurd (not_both (state_of layout past e).head.place (k before) (subst (λ (w : EndpointId). is_on_host (state_of layout past w).head.place ≡ true) same host))
 
     in_aloft : (end : EndpointId) (o : Outcome) → end ≡ e → is_on_disk (state_of layout past end).head.place ≡ true → IsAloft (paged_in (state_of layout past e) o)
     in_aloft end o same disk low =
-        let before : 1 ≤ flights_of (state_of layout past e) = omega (arith, low, in_flown (passing any_message) (state_of layout past e) o) in
+        let before : 1 ≤ flights_of (state_of layout past e) = omega (arith, low, in_flown (passing any) (state_of layout past e) o) in
         absurd (not_disk (state_of layout past e).head.place (k before) (subst (λ (w : EndpointId). is_on_disk (state_of layout past w).head.place ≡ true) same disk))
 
     by_event : (event : Event) (o : Outcome) → failing layout past event ≡ None → list_any (same_end e) (ends_touched event o) ≡ true → IsAloft (changed e (state_of layout past e) event o)
-    by_event (Events.Call actor end call) o on t = stays_aloft (state_of layout past e) (called (state_of layout past e) call o) (called_place (state_of layout past e) call o) (omega (arith, called_flown (passing any_message) (state_of layout past e) call o)) k
+    by_event (Events.Call actor end call) o on t = stays_aloft (state_of layout past e) (called (state_of layout past e) call o) (called_place (state_of layout past e) call o) (omega (arith, called_flown (passing any) (state_of layout past e) call o)) k
     by_event (Events.Want actor end) o on t = k
     by_event (Events.Carry end) o on t =
         stays_aloft (state_of layout past e) (changed e (state_of layout past e) (Events.Carry end) o) (reached_place e (if same_end e end then left (state_of layout past e) o else state_of layout past e) o ∙ left_place (state_of layout past e) o (same_end e end))
-        (omega (arith, reached_flown (passing any_message) e (if same_end e end then left (state_of layout past e) o else state_of layout past e) o, left_flown (passing any_message) (state_of layout past e) o (same_end e end))) k
+        (omega (arith, reached_flown (passing any) e (if same_end e end then left (state_of layout past e) o else state_of layout past e) o, left_flown (passing any) (state_of layout past e) o (same_end e end))) k
     by_event (Events.Bind node end) o on t = λ low.
         let c = third_none layout.direct (not (is_home layout end node)) (not (is_resident (state_of layout past end).head.place)) Needs.NotPacket Needs.OtherNode Needs.NotResident _ on in
         ap is_resident (bound_place (state_of layout past e) o) ∙ subst (λ (w : EndpointId). is_resident (state_of layout past w).head.place ≡ true) (there end t) (not-false (is_resident (state_of layout past end).head.place) c.1)

@@ -35,7 +35,7 @@ use Rattle.am_model.proofs.Received.{bit}
 use Rattle.am_model.proofs.Books.{role_push, fits_call}
 use Rattle.am_model.proofs.Ends.{EmittedIn, emitted_more, was_emitted, bound_push}
 use Rattle.am_laws_order.proofs.Senders.{same_channel-is}
-use Rattle.am_laws_order.proofs.Parcels.{channel_of, new_parcel}
+use Rattle.am_laws_order.proofs.Parcels.{new_parcel}
 use Rattle.am_laws_order.proofs.Marks.{link_of}
 use Rattle.am_laws_order.proofs.Puts.{settle_puts}
 use Rattle.am_laws_order.proofs.Everywhere.{each_once}
@@ -43,6 +43,7 @@ use Rattle.am_laws_messages.proofs.Alls.{all_map, gave_more, gave_now}
 use Rattle.am_laws_messages.proofs.Sent.{SentAre, fits_send, sent_kept, front_are}
 use Rattle.am_laws_messages.proofs.Held.{IsWelcome, welcome, tag_steady, held_kept, IsRunOf, polled_run}
 use Rattle.am_model.specs.declared.Flying.{Flying}
+use Rattle.am_model.specs.Cluster.{parcel_channel}
 
 pub match_option : {A : Type 0} (o : Option A) (P : A → Type 0) → ((a : A) → o ≡ Some a → P a) → MatchOption o (Unit {0}) P
 match_option None P h = tt
@@ -217,7 +218,7 @@ delivers_more layout past x d may =
     parcels q h =
         ⊎_elim
         (λ before. routed_more q.message q.to (d.parcels q before))
-        (λ now. bound (channel_of q) q.message (new_parcel layout past x may q now).message)
+        (λ now. bound (parcel_channel q) q.message (new_parcel layout past x may q now).message)
         (emitted_more (Packets.Parcel q) past x h)
 
     later : (e : EndpointId) (tag : Tag) (m : Message) → IsIn past e tag m → IsIn (past ++ x ∷ []) e tag m

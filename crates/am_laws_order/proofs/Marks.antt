@@ -29,7 +29,8 @@ use Rattle.am_model.specs.History.{bounced, state_of, MayFollow, outcome_of, rec
 use Rattle.am_model.proofs.Ends.{EmittedIn, emitted_more, was_emitted, mark_push}
 use Rattle.am_model.proofs.Names.{same_node-is, same_channel-refl}
 use Rattle.am_laws_order.proofs.Senders.{Sender, SenderMoves, sender, sender_moves, same_channel-is}
-use Rattle.am_laws_order.proofs.Parcels.{IsOf, ParcelsAreOf, channel_of, parcels_more}
+use Rattle.am_laws_order.proofs.Parcels.{IsOf, ParcelsAreOf, parcels_more}
+use Rattle.am_model.specs.Cluster.{answer_channel, parcel_channel}
 
 -- what a fresh packet is, against the mark
 abbrev pub IsPast : Mark → ℕ → ℕ → Type 0
@@ -65,7 +66,7 @@ back d = channel_to d.peer d.node d.number
 pub record Decides (past : List Entry) (old new : Mark) (d : Channel) : Type 0 where
   pub by : Parcel
   pub emitted : EmittedIn (Packets.Parcel by) past
-  pub on : channel_of by ≡ back d
+  pub on : parcel_channel by ≡ back d
   pub fresh : IsPast old by.seq by.attempt
   pub seq : new.seq ≡ by.seq
   pub attempt : new.attempt ≡ by.attempt
@@ -196,10 +197,6 @@ answer_lasts past d old new a moves is =
     by.fresh)
     moves
 
--- the channel of an answer, as the receiving end that sent it has it
-abbrev pub end_of : AnswerPacket → Channel
-end_of a = channel_to a.from a.to a.channel
-
 pub again_at : (m : Mark) (seq attempt : ℕ) (v w : Verdict) → m.verdict ≡ v → arrival_at m v seq attempt ≡ Again w → (seq ≡ m.seq) × Agrees w attempt m
 again_at m seq attempt Verdicts.Accepted w is e = by_tests (nat_lt seq m.seq) (seq == m.seq) refl e
   where
@@ -221,26 +218,26 @@ agrees_itself Verdicts.Accepted seq attempt = refl
 agrees_itself (Verdicts.Refused cause) seq attempt = inr (refl, refl)
 
 -- a receipt of a data packet sends the answer that the mark is then at
-arrive_answers : (layout : Layout) (past : List Entry) (stamp : ℕ) (node peer : NodeId) (number : ℕ) (p : Parcel) (reply : ℕ) (a : Arrival) → arrival (mark (channel_to node peer p.channel) past) p.seq p.attempt ≡ a → (q : AnswerPacket) → answer_packet node peer p.channel p.seq p.attempt stamp (answer_by (arrive layout past p.message reply a)) ≡ Some (Packets.Answer q) → IsAnswered (mark_after (end_of q) (mark (end_of q) past) (Events.Receive node peer number) (Out.Received p.channel p.seq p.attempt (arrive layout past p.message reply a))) q
+arrive_answers : (layout : Layout) (past : List Entry) (stamp : ℕ) (node peer : NodeId) (number : ℕ) (p : Parcel) (reply : ℕ) (a : Arrival) → arrival (mark (channel_to node peer p.channel) past) p.seq p.attempt ≡ a → (q : AnswerPacket) → answer_packet node peer p.channel p.seq p.attempt stamp (answer_by (arrive layout past p.message reply a)) ≡ Some (Packets.Answer q) → IsAnswered (mark_after (answer_channel q) (mark (answer_channel q) past) (Events.Receive node peer number) (Out.Received p.channel p.seq p.attempt (arrive layout past p.message reply a))) q
 arrive_answers layout past stamp node peer number p reply Stale is q e = absurd (cc)
 arrive_answers layout past stamp node peer number p reply (Again w) is q e =
     let same : record { from = node; to = peer; channel = p.channel; seq = p.seq; attempt = p.attempt; number = reply; stamp = stamp; verdict = w } ≡ q = cc in
     let at = again_at (mark (channel_to node peer p.channel) past) p.seq p.attempt (mark (channel_to node peer p.channel) past).verdict w refl is in
-    subst (λ (u : AnswerPacket). IsAnswered (mark (end_of u) past) u) same (record { seq = omega (arith, at.0); agrees = λ _. at.1 })
+    subst (λ (u : AnswerPacket). IsAnswered (mark (answer_channel u) past) u) same (record { seq = omega (arith, at.0); agrees = λ _. at.1 })
 arrive_answers layout past stamp node peer number p reply Fresh is q e = by_verdict (verdict (state_of layout past p.message.dest) p.message) e
   where
     at : (v : Verdict) (new : Mark) → new ≡ record { seq = p.seq; attempt = p.attempt; verdict = v } → (t : Bool) → t ≡ true → IsAnswered (if t then new else mark (channel_to node peer p.channel) past) (record { from = node; to = peer; channel = p.channel; seq = p.seq; attempt = p.attempt; number = reply; stamp = stamp; verdict = v })
     at v new same true h = subst (λ (m : Mark). IsAnswered m (record { from = node; to = peer; channel = p.channel; seq = p.seq; attempt = p.attempt; number = reply; stamp = stamp; verdict = v })) (sym same) (record { seq = omega arith; agrees = λ _. agrees_itself v p.seq p.attempt })
     at v new same false h = absurd (true≢false (sym h))
 
-    by_verdict : (v : Verdict) → answer_packet node peer p.channel p.seq p.attempt stamp (answer_by (decided p.message reply v)) ≡ Some (Packets.Answer q) → IsAnswered (mark_after (end_of q) (mark (end_of q) past) (Events.Receive node peer number) (Out.Received p.channel p.seq p.attempt (decided p.message reply v))) q
+    by_verdict : (v : Verdict) → answer_packet node peer p.channel p.seq p.attempt stamp (answer_by (decided p.message reply v)) ≡ Some (Packets.Answer q) → IsAnswered (mark_after (answer_channel q) (mark (answer_channel q) past) (Events.Receive node peer number) (Out.Received p.channel p.seq p.attempt (decided p.message reply v))) q
     by_verdict Verdicts.Accepted f =
         let same : record { from = node; to = peer; channel = p.channel; seq = p.seq; attempt = p.attempt; number = reply; stamp = stamp; verdict = Verdicts.Accepted } ≡ q = cc in
-        subst (λ (u : AnswerPacket). IsAnswered (mark_after (end_of u) (mark (end_of u) past) (Events.Receive node peer number) (Out.Received p.channel p.seq p.attempt (Got.Accepted p.message reply))) u) same
+        subst (λ (u : AnswerPacket). IsAnswered (mark_after (answer_channel u) (mark (answer_channel u) past) (Events.Receive node peer number) (Out.Received p.channel p.seq p.attempt (Got.Accepted p.message reply))) u) same
         (at Verdicts.Accepted _ refl (same_channel (channel_to node peer p.channel) node peer p.channel) (same_channel-refl (channel_to node peer p.channel)))
     by_verdict (Verdicts.Refused cause) f =
         let same : record { from = node; to = peer; channel = p.channel; seq = p.seq; attempt = p.attempt; number = reply; stamp = stamp; verdict = Verdicts.Refused cause } ≡ q = cc in
-        subst (λ (u : AnswerPacket). IsAnswered (mark_after (end_of u) (mark (end_of u) past) (Events.Receive node peer number) (Out.Received p.channel p.seq p.attempt (Got.Refused p.message cause reply))) u) same
+        subst (λ (u : AnswerPacket). IsAnswered (mark_after (answer_channel u) (mark (answer_channel u) past) (Events.Receive node peer number) (Out.Received p.channel p.seq p.attempt (Got.Refused p.message cause reply))) u) same
         (at (Verdicts.Refused cause) _ refl (same_channel (channel_to node peer p.channel) node peer p.channel) (same_channel-refl (channel_to node peer p.channel)))
 
 pub settle_answers : (layout : Layout) (c : Channel) (past : List Entry) (a : AnswerPacket) (m : Option Message) → answer_by (settle layout c past a m) ≡ None
@@ -263,7 +260,7 @@ pub no_answer : (node peer : NodeId) (channel seq attempt stamp : ℕ) (a : Opti
 no_answer node peer channel seq attempt stamp None is q e = cc
 no_answer node peer channel seq attempt stamp (Some a) is q e = cc
 
-receive_answers : (layout : Layout) (past : List Entry) (stamp : ℕ) (node peer : NodeId) (number : ℕ) (p : Option Packet) (q : AnswerPacket) → emitted_in stamp (Events.Receive node peer number) (receive layout node peer past p) ≡ Some (Packets.Answer q) → IsAnswered (mark_after (end_of q) (mark (end_of q) past) (Events.Receive node peer number) (receive layout node peer past p)) q
+receive_answers : (layout : Layout) (past : List Entry) (stamp : ℕ) (node peer : NodeId) (number : ℕ) (p : Option Packet) (q : AnswerPacket) → emitted_in stamp (Events.Receive node peer number) (receive layout node peer past p) ≡ Some (Packets.Answer q) → IsAnswered (mark_after (answer_channel q) (mark (answer_channel q) past) (Events.Receive node peer number) (receive layout node peer past p)) q
 receive_answers layout past stamp node peer number None q e = absurd (cc)
 receive_answers layout past stamp node peer number (Some (Packets.Parcel p)) q e =
     arrive_answers layout past stamp node peer number p (next_number node peer past) (arrival (mark (channel_to node peer p.channel) past) p.seq p.attempt) refl q e
@@ -274,26 +271,26 @@ pub parcel_no_answer : (node : NodeId) (stamp : ℕ) (o : Outcome) (q : AnswerPa
 parcel_no_answer node stamp (Out.Sent m peer channel seq attempt number) q e = cc
 parcel_no_answer node stamp o q e = cc
 
-event_answers : (layout : Layout) (past : List Entry) (stamp : ℕ) (event : Event) (q : AnswerPacket) → emitted_in stamp event (outcome_of layout past event) ≡ Some (Packets.Answer q) → IsAnswered (mark_after (end_of q) (mark (end_of q) past) event (outcome_of layout past event)) q
+event_answers : (layout : Layout) (past : List Entry) (stamp : ℕ) (event : Event) (q : AnswerPacket) → emitted_in stamp event (outcome_of layout past event) ≡ Some (Packets.Answer q) → IsAnswered (mark_after (answer_channel q) (mark (answer_channel q) past) event (outcome_of layout past event)) q
 event_answers layout past stamp (Events.Receive node peer number) q e = receive_answers layout past stamp node peer number (slice_get (emitted peer node past) (number - 1)) q e
 event_answers layout past stamp (Events.Bind node end) q e = absurd (parcel_no_answer node stamp (outcome_of layout past (Events.Bind node end)) q e)
 event_answers layout past stamp (Events.Expire node peer channel) q e = absurd (parcel_no_answer node stamp (outcome_of layout past (Events.Expire node peer channel)) q e)
 event_answers layout past stamp event q e = absurd (cc)
 
-new_answer : (layout : Layout) (past : List Entry) (x : Entry) → MayFollow layout past x → (q : AnswerPacket) → emitted_of x ≡ Some (Packets.Answer q) → IsAnswered (mark (end_of q) (past ++ x ∷ [])) q
+new_answer : (layout : Layout) (past : List Entry) (x : Entry) → MayFollow layout past x → (q : AnswerPacket) → emitted_of x ≡ Some (Packets.Answer q) → IsAnswered (mark (answer_channel q) (past ++ x ∷ [])) q
 new_answer layout past x may q e =
     subst (λ (m : Mark). IsAnswered m q)
-    (ap (mark_after (end_of q) (mark (end_of q) past) x.event) (sym may.outcome) ∙ sym (mark_push (end_of q) past x _ refl))
+    (ap (mark_after (answer_channel q) (mark (answer_channel q) past) x.event) (sym may.outcome) ∙ sym (mark_push (answer_channel q) past x _ refl))
     (event_answers layout past x.stamp x.event q (ap (emitted_in x.stamp x.event) (sym may.outcome) ∙ e))
 
 -- every answer that was emitted agrees with the mark, or is of an earlier try or sequence
 abbrev pub AnswersAgree : List Entry → Type 0
-AnswersAgree past = (q : AnswerPacket) → EmittedIn (Packets.Answer q) past → IsAnswered (mark (end_of q) past) q
+AnswersAgree past = (q : AnswerPacket) → EmittedIn (Packets.Answer q) past → IsAnswered (mark (answer_channel q) past) q
 
 pub answers_more : (layout : Layout) (past : List Entry) (x : Entry) → AnswersAgree past → MayFollow layout past x → AnswersAgree (past ++ x ∷ [])
 answers_more layout past x known may = λ q h.
     ⊎_elim
-    (λ before. answer_lasts past (end_of q) (mark (end_of q) past) (mark (end_of q) (past ++ x ∷ [])) q (mark_moves layout (end_of q) past x may) (known q before))
+    (λ before. answer_lasts past (answer_channel q) (mark (answer_channel q) past) (mark (answer_channel q) (past ++ x ∷ [])) q (mark_moves layout (answer_channel q) past x may) (known q before))
     (λ now. new_answer layout past x may q now)
     (emitted_more (Packets.Answer q) past x h)
 
@@ -315,25 +312,25 @@ pub channels_begin : ChannelsKept []
 channels_begin = record { parcels = λ q h. absurd h; marks = λ d. record { seq = omega arith; attempt = λ e. omega arith }; answers = λ q h. absurd h }
 
 -- a refusal of the current try is what the mark says, at the current sequence and try
-pub refusal_marks : (past : List Entry) → ChannelsKept past → (a : AnswerPacket) (cause : Cause) → EmittedIn (Packets.Answer a) past → a.verdict ≡ Verdicts.Refused cause → a.seq ≡ sequence (back (end_of a)) past → a.attempt ≡ attempt (back (end_of a)) past → ((mark (end_of a) past).seq ≡ sequence (back (end_of a)) past) × ((mark (end_of a) past).attempt ≡ attempt (back (end_of a)) past) × ((mark (end_of a) past).verdict ≡ Verdicts.Refused cause)
+pub refusal_marks : (past : List Entry) → ChannelsKept past → (a : AnswerPacket) (cause : Cause) → EmittedIn (Packets.Answer a) past → a.verdict ≡ Verdicts.Refused cause → a.seq ≡ sequence (back (answer_channel a)) past → a.attempt ≡ attempt (back (answer_channel a)) past → ((mark (answer_channel a) past).seq ≡ sequence (back (answer_channel a)) past) × ((mark (answer_channel a) past).attempt ≡ attempt (back (answer_channel a)) past) × ((mark (answer_channel a) past).verdict ≡ Verdicts.Refused cause)
 refusal_marks past k a cause here refused seq try =
     let said = k.answers a here in
-    let of = k.marks (end_of a) in
-    let at : a.seq ≡ (mark (end_of a) past).seq = omega (arith, said.seq, of.seq, seq) in
-    let agrees : Agrees (Verdicts.Refused cause) a.attempt (mark (end_of a) past) = subst (λ (v : Verdict). Agrees v a.attempt (mark (end_of a) past)) refused (said.agrees at) in
-    let low : (mark (end_of a) past).attempt ≤ attempt (back (end_of a)) past = of.attempt (sym at ∙ seq) in
+    let of = k.marks (answer_channel a) in
+    let at : a.seq ≡ (mark (answer_channel a) past).seq = omega (arith, said.seq, of.seq, seq) in
+    let agrees : Agrees (Verdicts.Refused cause) a.attempt (mark (answer_channel a) past) = subst (λ (v : Verdict). Agrees v a.attempt (mark (answer_channel a) past)) refused (said.agrees at) in
+    let low : (mark (answer_channel a) past).attempt ≤ attempt (back (answer_channel a)) past = of.attempt (sym at ∙ seq) in
     ⊎_elim
-    (λ (below : a.attempt < (mark (end_of a) past).attempt). absurd (omega (arith, below, low, try)))
-    (λ (equal : (a.attempt ≡ (mark (end_of a) past).attempt) × ((mark (end_of a) past).verdict ≡ Verdicts.Refused cause)). (sym at ∙ seq, sym equal.0 ∙ try, equal.1))
+    (λ (below : a.attempt < (mark (answer_channel a) past).attempt). absurd (omega (arith, below, low, try)))
+    (λ (equal : (a.attempt ≡ (mark (answer_channel a) past).attempt) × ((mark (answer_channel a) past).verdict ≡ Verdicts.Refused cause)). (sym at ∙ seq, sym equal.0 ∙ try, equal.1))
     agrees
 
 -- a refusal of the current try stands: no packet of the channel that was ever emitted is fresh
-pub refusal_stands : (past : List Entry) → ChannelsKept past → (a : AnswerPacket) (cause : Cause) → EmittedIn (Packets.Answer a) past → a.verdict ≡ Verdicts.Refused cause → a.seq ≡ sequence (back (end_of a)) past → a.attempt ≡ attempt (back (end_of a)) past → (q : Parcel) → EmittedIn (Packets.Parcel q) past → channel_of q ≡ back (end_of a) → IsPast (mark (end_of a) past) q.seq q.attempt → ⊥
+pub refusal_stands : (past : List Entry) → ChannelsKept past → (a : AnswerPacket) (cause : Cause) → EmittedIn (Packets.Answer a) past → a.verdict ≡ Verdicts.Refused cause → a.seq ≡ sequence (back (answer_channel a)) past → a.attempt ≡ attempt (back (answer_channel a)) past → (q : Parcel) → EmittedIn (Packets.Parcel q) past → parcel_channel q ≡ back (answer_channel a) → IsPast (mark (answer_channel a) past) q.seq q.attempt → ⊥
 refusal_stands past k a cause here refused seq try q there on fresh =
     let m = refusal_marks past k a cause here refused seq try in
-    let parcel_of : IsOf (sender (back (end_of a)) past) q = subst (λ (c : Channel). IsOf (sender c past) q) on (k.parcels q there) in
+    let parcel_of : IsOf (sender (back (answer_channel a)) past) q = subst (λ (c : Channel). IsOf (sender c past) q) on (k.parcels q there) in
     ⊎_elim
-    (λ (above : (mark (end_of a) past).seq < q.seq). omega (arith, above, parcel_of.seq, m.0))
-    (λ (same : (q.seq ≡ (mark (end_of a) past).seq) × ((mark (end_of a) past).attempt < q.attempt) × ((mark (end_of a) past).verdict ≢ Verdicts.Accepted)).
-    let last : q.attempt ≤ attempt (back (end_of a)) past = parcel_of.attempt (same.0 ∙ m.0) in omega (arith, m.1, last, same.1))
+    (λ (above : (mark (answer_channel a) past).seq < q.seq). omega (arith, above, parcel_of.seq, m.0))
+    (λ (same : (q.seq ≡ (mark (answer_channel a) past).seq) × ((mark (answer_channel a) past).attempt < q.attempt) × ((mark (answer_channel a) past).verdict ≢ Verdicts.Accepted)).
+    let last : q.attempt ≤ attempt (back (answer_channel a)) past = parcel_of.attempt (same.0 ∙ m.0) in omega (arith, m.1, last, same.1))
     fresh

@@ -13,13 +13,12 @@ use Rattle.am_model.specs.Channels.{Channel, Mark, sequence, bound_message, atte
 use Rattle.am_model.specs.History.{MayFollow}
 use Rattle.am_model.proofs.Ends.{EmittedIn, emitted_more}
 use Rattle.am_laws_order.proofs.Senders.{Sender, sender}
-use Rattle.am_laws_order.proofs.Parcels.{IsOf, channel_of}
+use Rattle.am_laws_order.proofs.Parcels.{IsOf}
 use Rattle.am_names.specs.declared.EndpointId.{EndpointId}
 use Rattle.am_model.proofs.Received.{bit}
 use Rattle.am_office.specs.Entries.{put_in, put_of, passes}
-use Rattle.am_laws_order.proofs.Marks.{back, end_of}
+use Rattle.am_laws_order.proofs.Marks.{back}
 use Rattle.am_laws_order.proofs.Marks.{IsPast}
-use Rattle.am_laws_order.proofs.Parcels.{channel_of}
 use Rattle.am_names.specs.declared.Serial.{Serial}
 use Rattle.am_names.specs.Names.{same_serial, has_serial}
 use Rattle.am_model.specs.PostOffice.{times}
@@ -30,6 +29,7 @@ use Rattle.am_laws_order.proofs.Parcels.{IsOf, IsCurrent, new_parcel}
 use Rattle.am_model.proofs.Ends.{emitted_more}
 use Rattle.am_laws_order.proofs.Puts.{IsFresh, IsPut, fresh_before, put_is}
 use Rattle.am_model.proofs.Books.{role_push}
+use Rattle.am_model.specs.Cluster.{answer_channel, parcel_channel}
 
 -- no fresh parcel has the serial
 abbrev pub NoneFresh : Serial → List Entry → Type 0
@@ -37,7 +37,7 @@ NoneFresh s past = (q : Parcel) → EmittedIn (Packets.Parcel q) past → q.mess
 
 -- fresh parcels of the serial are of this channel and sequence
 abbrev pub FreshOn : Serial → Channel → ℕ → List Entry → Type 0
-FreshOn s c k past = (q : Parcel) → EmittedIn (Packets.Parcel q) past → q.message.serial ≡ s → IsFresh past q → (channel_of q ≡ c) × (q.seq ≡ k)
+FreshOn s c k past = (q : Parcel) → EmittedIn (Packets.Parcel q) past → q.message.serial ≡ s → IsFresh past q → (parcel_channel q ≡ c) × (q.seq ≡ k)
 
 -- no channel has a message of the serial
 abbrev pub IsUnbound : Serial → (Channel → Sender) → Type 0
@@ -70,7 +70,7 @@ put_at_most_once s past w n few (Flies c m is of only fresh put w' n') = ⊎_eli
 put_at_most_once s past w n few (Ended c k unbound fresh put w' n') = ⊎_elim (λ (none : puts s past ≡ 0). omega (arith, none)) (λ (one : (puts s past ≡ 1) × NoneFresh s past). omega (arith, one.0)) put
 
 -- an accepted mark at a sequence leaves nothing fresh there
-none_at_accepted : (past : List Entry) (q : Parcel) (c : Channel) (k : ℕ) → channel_of q ≡ c → q.seq ≡ k → IsAcceptedAt c k past → IsFresh past q → ⊥
+none_at_accepted : (past : List Entry) (q : Parcel) (c : Channel) (k : ℕ) → parcel_channel q ≡ c → q.seq ≡ k → IsAcceptedAt c k past → IsFresh past q → ⊥
 none_at_accepted past q c k on seq at fresh =
     let f : IsPast (mark (back c) past) q.seq q.attempt = subst (λ (d : Channel). IsPast (mark (back d) past) q.seq q.attempt) on fresh in
     ⊎_elim
@@ -79,28 +79,28 @@ none_at_accepted past q c k on seq at fresh =
     f
 
 -- parcels after one entry more: those before, or the one of a channel that then has its message
-pub parcel_more : (layout : Layout) (past : List Entry) (x : Entry) → MayFollow layout past x → (q : Parcel) → EmittedIn (Packets.Parcel q) (past ++ x ∷ []) → EmittedIn (Packets.Parcel q) past ⊎ IsCurrent (sender (channel_of q) (past ++ x ∷ [])) q
+pub parcel_more : (layout : Layout) (past : List Entry) (x : Entry) → MayFollow layout past x → (q : Parcel) → EmittedIn (Packets.Parcel q) (past ++ x ∷ []) → EmittedIn (Packets.Parcel q) past ⊎ IsCurrent (sender (parcel_channel q) (past ++ x ∷ [])) q
 parcel_more layout past x may q h = ⊎_elim (λ before. inl before) (λ now. inr (new_parcel layout past x may q now)) (emitted_more (Packets.Parcel q) past x h)
 
 -- with no channel bound, nothing fresh comes
 pub none_fresh_more : (layout : Layout) (past : List Entry) (x : Entry) → MayFollow layout past x → (s : Serial) → NoneFresh s past → IsUnbound s (sent_by (past ++ x ∷ [])) → NoneFresh s (past ++ x ∷ [])
 none_fresh_more layout past x may s none unbound = λ q h is fresh.
     ⊎_elim (λ before. none q before is (fresh_before layout past x may q fresh))
-    (λ (now : IsCurrent (sender (channel_of q) (past ++ x ∷ [])) q). unbound (channel_of q) q.message now.message is)
+    (λ (now : IsCurrent (sender (parcel_channel q) (past ++ x ∷ [])) q). unbound (parcel_channel q) q.message now.message is)
     (parcel_more layout past x may q h)
 
 fresh_on_unbound : (layout : Layout) (past : List Entry) (x : Entry) → MayFollow layout past x → (s : Serial) (c : Channel) (k : ℕ) → FreshOn s c k past → IsUnbound s (sent_by (past ++ x ∷ [])) → FreshOn s c k (past ++ x ∷ [])
 fresh_on_unbound layout past x may s c k on unbound = λ q h is fresh.
     ⊎_elim (λ before. on q before is (fresh_before layout past x may q fresh))
-    (λ (now : IsCurrent (sender (channel_of q) (past ++ x ∷ [])) q). absurd (unbound (channel_of q) q.message now.message is))
+    (λ (now : IsCurrent (sender (parcel_channel q) (past ++ x ∷ [])) q). absurd (unbound (parcel_channel q) q.message now.message is))
     (parcel_more layout past x may q h)
 
 -- with one channel bound, what comes fresh is its current sequence
 fresh_on_bound : (layout : Layout) (past : List Entry) (x : Entry) → MayFollow layout past x → (s : Serial) (c : Channel) (k : ℕ) → FreshOn s c k past → sequence c (past ++ x ∷ []) ≡ k → IsOnlyOn s c (sent_by (past ++ x ∷ [])) → FreshOn s c k (past ++ x ∷ [])
 fresh_on_bound layout past x may s c k on seq only = λ q h is fresh.
     ⊎_elim (λ before. on q before is (fresh_before layout past x may q fresh))
-    (λ (now : IsCurrent (sender (channel_of q) (past ++ x ∷ [])) q).
-    let same : channel_of q ≡ c = only (channel_of q) q.message now.message is in
+    (λ (now : IsCurrent (sender (parcel_channel q) (past ++ x ∷ [])) q).
+    let same : parcel_channel q ≡ c = only (parcel_channel q) q.message now.message is in
     (same, now.seq ∙ ap (λ (d : Channel). sequence d (past ++ x ∷ [])) same ∙ seq))
     (parcel_more layout past x may q h)
 
@@ -317,20 +317,20 @@ refuses_this layout past x may k s w n w' n' at m held frees a cause r still is 
 refuses_this layout past x may k s w n w' n' at m held frees a cause r still is (Ended c j unbound on put none one) hw hn top = absurd (unbound at m held is)
 refuses_this layout past x may k s w n w' n' at m held frees a cause r still is (Flies c f bound of only on put none one) hw hn top =
     let same : at ≡ c = only at m held is in
-    let there : back (end_of a) ≡ c = r.on ∙ same in
-    let seq : a.seq ≡ sequence (back (end_of a)) past = r.seq ∙ ap (λ (d : Channel). sequence d past) (sym r.on) in
-    let try : a.attempt ≡ attempt (back (end_of a)) past = r.attempt ∙ ap (λ (d : Channel). attempt d past) (sym r.on) in
+    let there : back (answer_channel a) ≡ c = r.on ∙ same in
+    let seq : a.seq ≡ sequence (back (answer_channel a)) past = r.seq ∙ ap (λ (d : Channel). sequence d past) (sym r.on) in
+    let try : a.attempt ≡ attempt (back (answer_channel a)) past = r.attempt ∙ ap (λ (d : Channel). attempt d past) (sym r.on) in
     let marks = refusal_marks past k a cause r.emitted r.verdict seq try in
     let unbound' = unbound_freed s at (sent_by past) (sent_by (past ++ x ∷ [])) frees (λ d g h e. only d g h e ∙ sym same) in
     let nothing : NoneFresh s past = λ q h e fresh.
     let on_c = on q h e fresh in
-    let to_end : channel_of q ≡ back (end_of a) = on_c.0 ∙ sym there in
+    let to_end : parcel_channel q ≡ back (answer_channel a) = on_c.0 ∙ sym there in
     refusal_stands past k a cause r.emitted r.verdict seq try q h to_end (subst (λ (d : Channel). IsPast (mark d past) q.seq q.attempt) (ap back to_end) fresh) in
     Waits
     (⊎_elim
     (λ (z : puts s past ≡ 0). no_puts s past x still ∙ z)
     (λ (o : (puts s past ≡ 1) × IsAcceptedAt c (sequence c past) past).
-    let at_end : (mark (end_of a) past).verdict ≡ Verdicts.Accepted = ap (λ (d : Channel). (mark (back d) past).verdict) there ∙ o.1.1 in
+    let at_end : (mark (answer_channel a) past).verdict ≡ Verdicts.Accepted = ap (λ (d : Channel). (mark (back d) past).verdict) there ∙ o.1.1 in
     let both : Verdicts.Refused cause ≡ Verdicts.Accepted = sym marks.2 ∙ at_end in absurd (cc))
     put)
     (none_fresh_more layout past x may s nothing unbound') unbound' (omega (arith, none, one, hw, hn, top))
@@ -341,19 +341,19 @@ refused_for_good layout past x may k s w n at m held frees a cause r still is (W
 refused_for_good layout past x may k s w n at m held frees a cause r still is (Ended c j unbound on put none one) = absurd (unbound at m held is)
 refused_for_good layout past x may k s w n at m held frees a cause r still is (Flies c f bound of only on put none one) =
     let same : at ≡ c = only at m held is in
-    let there : back (end_of a) ≡ c = r.on ∙ same in
-    let seq : a.seq ≡ sequence (back (end_of a)) past = r.seq ∙ ap (λ (d : Channel). sequence d past) (sym r.on) in
-    let try : a.attempt ≡ attempt (back (end_of a)) past = r.attempt ∙ ap (λ (d : Channel). attempt d past) (sym r.on) in
+    let there : back (answer_channel a) ≡ c = r.on ∙ same in
+    let seq : a.seq ≡ sequence (back (answer_channel a)) past = r.seq ∙ ap (λ (d : Channel). sequence d past) (sym r.on) in
+    let try : a.attempt ≡ attempt (back (answer_channel a)) past = r.attempt ∙ ap (λ (d : Channel). attempt d past) (sym r.on) in
     let marks = refusal_marks past k a cause r.emitted r.verdict seq try in
     let unbound' = unbound_freed s at (sent_by past) (sent_by (past ++ x ∷ [])) frees (λ d g h e. only d g h e ∙ sym same) in
     let nothing : NoneFresh s past = λ q h e fresh.
     let on_c = on q h e fresh in
-    let to_end : channel_of q ≡ back (end_of a) = on_c.0 ∙ sym there in
+    let to_end : parcel_channel q ≡ back (answer_channel a) = on_c.0 ∙ sym there in
     refusal_stands past k a cause r.emitted r.verdict seq try q h to_end (subst (λ (d : Channel). IsPast (mark d past) q.seq q.attempt) (ap back to_end) fresh) in (
       ⊎_elim
           (λ (z : puts s past ≡ 0). no_puts s past x still ∙ z)
           (λ (o : (puts s past ≡ 1) × IsAcceptedAt c (sequence c past) past).
-          let at_end : (mark (end_of a) past).verdict ≡ Verdicts.Accepted = ap (λ (d : Channel). (mark (back d) past).verdict) there ∙ o.1.1 in
+          let at_end : (mark (answer_channel a) past).verdict ≡ Verdicts.Accepted = ap (λ (d : Channel). (mark (back d) past).verdict) there ∙ o.1.1 in
           let both : Verdicts.Refused cause ≡ Verdicts.Accepted = sym marks.2 ∙ at_end in absurd (cc))
           put,
       none_fresh_more layout past x may s nothing unbound',

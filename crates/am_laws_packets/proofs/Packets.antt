@@ -38,13 +38,14 @@ use Rattle.am_model.proofs.Ends.{EmittedIn, bound_push, emitted_more, sequence_p
 use Rattle.am_model.proofs.Received.{bit}
 use Rattle.am_model.proofs.Sound.{answer_formed}
 use Rattle.am_model.proofs.Channels.{free_below, freeing_sends_nothing}
-use Rattle.am_laws_order.proofs.Parcels.{channel_of, new_parcel}
+use Rattle.am_laws_order.proofs.Parcels.{new_parcel}
 use Rattle.am_laws_messages.proofs.Delivered.{delivers}
 use Rattle.am_laws_replies.proofs.Gave.{gave_back}
 use Rattle.am_laws_homes.proofs.Homes.{messages_addressed}
 use Rattle.am_laws_fates.proofs.Aloft.{flight_weight}
 use Rattle.am_laws_fates.proofs.Flown.{kept_flights, one}
 use Rattle.am_laws_packets.specs.Packets.{FitsReceiver, IsAloft}
+use Rattle.am_model.specs.Cluster.{parcel_channel}
 
 -- ---- what is accepted is well formed
 
@@ -207,7 +208,7 @@ sequenced_more layout past x kept may =
           ⊎_elim (kept.from_1 q)
           (λ (now : emitted_of x ≡ Some (Packets.Parcel q)).
           (let is = new_parcel layout past x may q now in
-          let least = bound_counted layout (past ++ x ∷ []) longer (channel_of q) q.message is.message in
+          let least = bound_counted layout (past ++ x ∷ []) longer (parcel_channel q) q.message is.message in
           let seq = is.seq in
           omega (arith, least, seq)))
           (emitted_more (Packets.Parcel q) past x h);

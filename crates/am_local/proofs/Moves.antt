@@ -23,6 +23,7 @@ use Rattle.am_local.specs.Together.{IsDriverPart, IsState, SaysTheSameOfMove}
 use Rattle.am_local.proofs.Within.{count_within}
 use Rattle.am_local.proofs.Homes.{any_mapped, ends_home}
 use Rattle.am_local.proofs.Frames.{held_same}
+use Rattle.am_model.specs.Tables.{page_ended}
 
 page_by_driver : (node : NodeId) (event : Event) → is_page_call node event ≡ true → is_node node (driver_of event) ≡ true
 page_by_driver node (Events.PageOut at end) h = h
@@ -33,12 +34,9 @@ page_by_driver node event h = absurd (cc)
 pub pages_own : (node : NodeId) (past : List Entry) → page_calls node (of_driver node past) ≡ page_calls node past
 pages_own node past = count_within (λ (x : Entry). is_page_call node x.event) (is_by_driver node) (λ x. page_by_driver node x.event) past
 
-abbrev page_by : Bool → Outcome
-page_by fails = if fails then Out.Failed else Out.Done
-
 page_same : (layout : Layout) (past : List Entry) (d : DriverLog) → IsDriverPart layout past d → page layout d.settings.node past ≡ page_at d
 page_same layout past d part =
-    ap page_by
+    ap page_ended
     (sym (any_mapped (λ (f : Fault). f.number) (λ (f : Fault). same_node d.settings.node f.node) (λ (n : ℕ). n == page_calls d.settings.node past + 1) layout.faults)
     ∙ λ i. list_any (λ (n : ℕ). n == number i + 1) (sym part.settings.faults i))
   where

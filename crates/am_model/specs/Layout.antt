@@ -13,6 +13,10 @@ use Rattle.am_model.specs.Endpoint.{State, fresh}
 abbrev pub node_at : ℕ → NodeId
 node_at number = record { 0 = number }
 
+-- the endpoint with this number
+abbrev pub end_at : ℕ → EndpointId
+end_at number = record { 0 = number }
+
 -- an endpoint as it is declared
 pub record EndSetting : Type 0 where
   pub id : EndpointId

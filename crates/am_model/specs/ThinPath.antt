@@ -10,16 +10,16 @@ use Rattle.am_office.specs.declared.Call.TheVariants as Calls
 use Rattle.am_office.specs.declared.Event.TheVariants as Events
 use Rattle.am_office.specs.declared.Outcome.TheVariants as Out
 use Rattle.am_office.specs.declared.Entry.{Entry}
-use Rattle.am_model.specs.Layout.{Layout}
+use Rattle.am_model.specs.Layout.{Layout, end_at, node_at}
 
 abbrev pub zero_end : EndpointId
-zero_end = record { 0 = 0 }
+zero_end = end_at 0
 
 abbrev pub one_end : EndpointId
-one_end = record { 0 = 1 }
+one_end = end_at 1
 
 abbrev pub node : NodeId
-node = record { 0 = 0 }
+node = node_at 0
 
 abbrev pub layout : Layout
 layout =

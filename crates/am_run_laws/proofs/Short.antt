@@ -13,16 +13,13 @@ use Rattle.am_office.specs.declared.Event.TheVariants as Events
 use Rattle.am_office.specs.declared.Outcome.{Outcome}
 use Rattle.am_office.specs.declared.Entry.{Entry}
 use Rattle.am_office.specs.Entries.{ends_touched, node_touched, is_node, reached_by, touches, touches_node}
-use Rattle.am_model.specs.Layout.{Layout, EndSetting, AllAre, IsLawful, IsSettingLawful, has_id, declared, node_at}
+use Rattle.am_model.specs.Layout.{Layout, EndSetting, AllAre, IsLawful, IsSettingLawful, has_id, declared, node_at, end_at}
 use Rattle.am_model.specs.History.{MayFollow, EachAfter, is_in_range, is_actor_in_range, is_call_in_range, is_four_bytes}
 use Rattle.am_model.proofs.Names.{same_end-is, same_end-refl}
 use Rattle.am_run_laws.specs.Short.{IsWithinLogs, JournalsAreShort, JournalsAreNumbered}
 use Rattle.am_run_laws.proofs.Counts.{IsPassed, passed, passed-le, length-le-passed}
 
 -- ---- the tests: a declared endpoint of this number, an interface of the node of this number
-
-abbrev pub end_at : ℕ → EndpointId
-end_at number = record { 0 = number }
 
 abbrev pub is_in_end : Layout → ℕ → Entry → Bool
 is_in_end layout number x = declared layout (end_at number) && touches (end_at number) x

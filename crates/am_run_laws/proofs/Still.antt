@@ -17,7 +17,7 @@ use Rattle.am_model.proofs.Ends.{EmittedIn}
 use Rattle.am_laws_cluster.proofs.Bound.{in_flight_bound}
 use Rattle.am_laws_messages.proofs.Delivered.{delivers}
 use Rattle.am_laws_order.proofs.Puts.{IsFresh}
-use Rattle.am_laws_order.proofs.Marks.{ChannelsKept, channels_more, channels_begin, end_of}
+use Rattle.am_laws_order.proofs.Marks.{ChannelsKept, channels_more, channels_begin}
 use Rattle.am_laws_homes.proofs.Homes.{home_below}
 use Rattle.am_plan.specs.Shape.{number_of}
 use Rattle.am_scenario_types.specs.Lists.{ScenarioLists}
@@ -36,6 +36,7 @@ use Rattle.am_drain_steps.proofs.Nothing.{is_released}
 use Rattle.am_drain_steps.proofs.Unknown.{link_is_received}
 use Rattle.am_run_laws.proofs.Heard.{are_heard}
 use Rattle.am_run_laws.proofs.Zone.{IsBetween, Zone}
+use Rattle.am_model.specs.Cluster.{answer_channel}
 
 -- ---- each packet is released
 
@@ -121,7 +122,7 @@ zone_begins s past k =
       good =
           record {
             marks = λ d above. (let low = kept.marks d in absurd (omega (arith, above, low.seq)));
-            answers = λ a there above. (let said = kept.answers a there in let low = kept.marks (end_of a) in absurd (omega (arith, above, said.seq, low.seq)));
+            answers = λ a there above. (let said = kept.answers a there in let low = kept.marks (answer_channel a) in absurd (omega (arith, above, said.seq, low.seq)));
           };
       since = record { later = λ c. omega arith; bound = λ c m is. absurd (none_bound s past c m k is) };
     }

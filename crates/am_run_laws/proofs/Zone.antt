@@ -25,11 +25,12 @@ use Rattle.am_model.specs.Layout.{Layout}
 use Rattle.am_model.proofs.Each.{state_of_push}
 use Rattle.am_model.proofs.Ends.{EmittedIn, emitted_more, mark_push}
 use Rattle.am_model.proofs.Names.{same_channel-refl}
-use Rattle.am_laws_order.proofs.Marks.{IsPast, back, end_of, parcel_no_answer}
-use Rattle.am_laws_order.proofs.Parcels.{channel_of, receive_no_parcel}
+use Rattle.am_laws_order.proofs.Marks.{IsPast, back, parcel_no_answer}
+use Rattle.am_laws_order.proofs.Parcels.{receive_no_parcel}
 use Rattle.am_laws_order.proofs.Puts.{IsFresh, fresh_before}
 use Rattle.am_laws_order.proofs.Senders.{SenderMoves, sender, sender_moves}
 use Rattle.am_run_laws.proofs.Fits.{fits, IsForGood, received_fits}
+use Rattle.am_model.specs.Cluster.{answer_channel, parcel_channel}
 
 -- ---- what is on its way
 
@@ -50,7 +51,7 @@ pub record OneFresh (layout : Layout) (past : List Entry) (o : Option Parcel) : 
 -- the verdicts on sequences that began since are for good, and so are the answers
 pub record ForGoodSince (from past : List Entry) : Type 0 where
   pub marks : (d : Channel) → sequence (back d) from < (mark d past).seq → IsForGood (mark d past).verdict
-  pub answers : (a : AnswerPacket) → EmittedIn (Packets.Answer a) past → sequence (back (end_of a)) from < a.seq → IsForGood a.verdict
+  pub answers : (a : AnswerPacket) → EmittedIn (Packets.Answer a) past → sequence (back (answer_channel a)) from < a.seq → IsForGood a.verdict
 
 -- a channel that is bound was bound since
 pub record BoundSince (from past : List Entry) : Type 0 where
@@ -183,7 +184,7 @@ room_more layout past x node peer number (Some p) ev none room = by_test (touche
 
 -- what a receipt answers is for good, where it is on a sequence that began since
 abbrev pub AnswersForGood : List Entry → Entry → Type 0
-AnswersForGood from x = (a : AnswerPacket) → emitted_of x ≡ Some (Packets.Answer a) → sequence (back (end_of a)) from < a.seq → IsForGood a.verdict
+AnswersForGood from x = (a : AnswerPacket) → emitted_of x ≡ Some (Packets.Answer a) → sequence (back (answer_channel a)) from < a.seq → IsForGood a.verdict
 
 pub undecided_more : (layout : Layout) (from past : List Entry) (x : Entry) (node peer : NodeId) (number : ℕ) (o : Option Parcel) → Receives layout past x node peer number → undeciding x.outcome ≡ true → AnswersForGood from x → Zone layout from past o → Zone layout from (past ++ x ∷ []) o
 undecided_more layout from past x node peer number o r none answers k =
@@ -217,7 +218,7 @@ undecided_more layout from past x node peer number o r none answers k =
 pub record Comes (layout : Layout) (past : List Entry) (node peer : NodeId) (p : Parcel) : Type 0 where
   pub there : EmittedIn (Packets.Parcel p) past
   pub within : IsBetween layout p
-  pub on : back (channel_of p) ≡ channel_to node peer p.channel
+  pub on : back (parcel_channel p) ≡ channel_to node peer p.channel
   pub fresh : IsFresh past p
 
 pub not_past : (v : Verdict) (seq attempt : ℕ) → IsPast (record { seq = seq; attempt = attempt; verdict = v }) seq attempt → ⊥
@@ -266,11 +267,11 @@ decided_more layout from past x node peer number p n v o k z =
     now : Outcome
     now = Out.Received p.channel p.seq p.attempt (decided p.message n v)
 
-    marked : mark (back (channel_of p)) (past ++ x ∷ []) ≡ record { seq = p.seq; attempt = p.attempt; verdict = v }
+    marked : mark (back (parcel_channel p)) (past ++ x ∷ []) ≡ record { seq = p.seq; attempt = p.attempt; verdict = v }
     marked =
-        mark_push (back (channel_of p)) past x true
-        (ap (λ (w : Event). decides (back (channel_of p)) w x.outcome) k.receives.event'
-        ∙ (ap (decides (back (channel_of p)) (Events.Receive node peer number)) k.outcome'
+        mark_push (back (parcel_channel p)) past x true
+        (ap (λ (w : Event). decides (back (parcel_channel p)) w x.outcome) k.receives.event'
+        ∙ (ap (decides (back (parcel_channel p)) (Events.Receive node peer number)) k.outcome'
         ∙ (ap (λ (c : Channel). decides c (Events.Receive node peer number) (Out.Received p.channel p.seq p.attempt (decided p.message n v))) k.comes.on
         ∙ decides_now node peer number p.channel p.seq p.attempt p.message n v)))
         ∙ (ap mark_in k.outcome' ∙ decided_mark p.channel p.seq p.attempt p.message n v)
@@ -288,7 +289,7 @@ decided_more layout from past x node peer number p n v o k z =
     marks d false is above =
         subst (λ (m : Mark). sequence (back d) from < m.seq → IsForGood m.verdict) (sym (same_mark past x d is)) (z.good.marks d) above
 
-    answers : (a : AnswerPacket) → EmittedIn (Packets.Answer a) (past ++ x ∷ []) → sequence (back (end_of a)) from < a.seq → IsForGood a.verdict
+    answers : (a : AnswerPacket) → EmittedIn (Packets.Answer a) (past ++ x ∷ []) → sequence (back (answer_channel a)) from < a.seq → IsForGood a.verdict
     answers a there above =
         ⊎_elim
         (λ (old : EmittedIn (Packets.Answer a) past). z.good.answers a old above)
