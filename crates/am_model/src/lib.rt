@@ -14,8 +14,10 @@ use am_names::{EndpointId, Message, Serial, Tag, Why};
 use am_office::{Condition, Fate, Part, Place};
 
 mod limits;
+mod places;
 
 pub use limits::{judged, may_bounce};
+pub use places::{is_in_a_frame, is_in_frame, is_on_disk, is_on_host, is_resident};
 
 /// Where the requests of an index go, under which tag, and how many may be out: its credits, or
 /// its least share where the endpoint has a pool.
