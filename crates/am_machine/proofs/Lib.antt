@@ -16,7 +16,7 @@ pub mod Looks
 pub mod Placed
 pub mod Holding
 pub mod Presets
-pub mod PageCalls
+pub mod DiskMoves
 pub mod Short
 pub mod Between
 pub mod PartLogs

@@ -18,7 +18,6 @@ mod interfaces;
 mod logs;
 mod moves;
 mod opening;
-mod paging;
 mod parting;
 mod parts;
 mod settings;
@@ -128,10 +127,9 @@ impl Cluster {
             Event::Receive { node, peer, number } => self.receive(node, peer, number),
             Event::Drain { node, end }
             | Event::Unload { node, end }
-            | Event::Load { node, end, .. } => self.make_move(*event, node, end),
-            Event::PageOut { node, end } | Event::PageIn { node, end } => {
-                self.make_page(*event, node, end)
-            }
+            | Event::Load { node, end, .. }
+            | Event::PageOut { node, end }
+            | Event::PageIn { node, end } => self.make_move(*event, node, end),
         }
     }
 

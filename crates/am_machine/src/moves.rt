@@ -2,7 +2,6 @@
 ghost use Rattle.am_local.specs.Driver.{end_moved};
 ghost use Rattle.am_model.specs.Parts.{driver_of};
 ghost use Rattle.am_machine.specs.View.{Applies};
-ghost use Rattle.am_moves.specs.Pages.{is_page};
 ghost use Rattle.am_model.specs.History.{failing, is_in_range};
 ghost use Rattle.std.specs.Prelude.{◌≡◌, Some, false, true};
 
@@ -10,13 +9,13 @@ use crate::Cluster;
 use crate::ends::{is_full, place_of};
 use crate::frames::{failing_on, is_taken};
 use am_model::EntryFault;
-use am_moves::move_end;
+use am_moves::make_move;
 use am_names::{EndpointId, NodeId};
-use am_office::{Condition, Entry, Event, Outcome, Part};
+use am_office::{Condition, Entry, Event, Part};
 use am_scenario_types::Network;
 
 impl Cluster {
-    /// Makes a move of a node's driver that calls no disk: a drain, an unload or a load.
+    /// Makes a move of a node's driver: a drain, an unload, a load, a page-out or a page-in.
     pub(crate) fn make_move(
         &mut self,
         event: Event,
@@ -25,7 +24,6 @@ impl Cluster {
     ) -> Result<Entry, EntryFault>
         requires driver { driver_of event ≡ Some node }
         requires end { end_moved event ≡ Some end }
-        requires unpaged { is_page event ≡ false }
         requires in_range { is_in_range self.old.layout event ≡ true }
         ensures { Applies self.old self.new event result }
     {
@@ -38,18 +36,15 @@ impl Cluster {
         if is_full(&self.ends[place], self.settings.log) {
             return Err(EntryFault::LogFull(Part::Endpoint(end)));
         }
-        let one = &mut self.ends[place];
-        if one.room().is_err() {
-            return Err(EntryFault::NoMemory);
+        let stamp = self.index.greatest_stamp() + 1;
+        let swap = &mut self.swaps[node.0 as usize];
+        match make_move(self.alloc, swap, &mut self.ends[place], event, stamp) {
+            Ok(entry) => {
+                self.index.log(entry, None);
+                Ok(entry)
+            }
+            Err(_) => Err(EntryFault::NoMemory),
         }
-        let entry = Entry {
-            stamp: self.index.greatest_stamp() + 1,
-            event,
-            outcome: Outcome::Silent,
-        };
-        move_end(one, entry);
-        self.index.log(entry, None);
-        Ok(entry)
     }
 
     /// The first condition that keeps a move from being made.

@@ -4,5 +4,4 @@
 mod moves;
 mod pages;
 
-pub use crate::moves::{make_move, move_end};
-pub use crate::pages::page;
+pub use crate::moves::make_move;

@@ -4,7 +4,7 @@ ghost use Rattle.am_local.specs.Granted.{MayMove};
 ghost use Rattle.am_moves.specs.Logs.{kept};
 ghost use Rattle.am_moves.specs.Moves.{CanMove, Moves};
 ghost use Rattle.am_moves.specs.Pages.{is_page};
-ghost use Rattle.std.specs.Prelude.{◌≡◌, ◌<◌, ◌∷◌, ◌++◌, [], length, false, true};
+ghost use Rattle.std.specs.Prelude.{◌≡◌, ◌<◌, ◌∷◌, ◌++◌, [], IfOk, OnErr, length, false, true};
 
 use crate::pages::page;
 use am_endpoint::Endpoint;
@@ -13,7 +13,7 @@ use am_swap::MemorySwap;
 use std::alloc::Global;
 
 /// Gives the entry of a drain, an unload or a load to the endpoint that it moves.
-pub fn move_end(end: &mut Endpoint, entry: Entry)
+fn move_end(end: &mut Endpoint, entry: Entry)
     requires ready { end.old.ready ≡ true }
     requires room { length end.old.log < end.old.settings.log }
     requires allowed { MayMove end.old.settings.node end.old.settings.id (state_after end.old) entry entry.event }
@@ -30,22 +30,25 @@ pub fn move_end(end: &mut Endpoint, entry: Entry)
 }
 
 /// Makes a drain, an unload or a load: its entry is silent.
-fn make_silent(end: &mut Endpoint, event: Event, stamp: u64) -> Entry
-    requires ready { end.old.ready ≡ true }
+fn make_silent(end: &mut Endpoint, event: Event, stamp: u64) -> Result<Entry, NoMemory>
     requires room { length end.old.log < end.old.settings.log }
     requires unpaged { is_page event ≡ false }
     requires allowed { MayMove end.old.settings.node end.old.settings.id (state_after end.old) (record { stamp = stamp; event = event; outcome = Outcome.Silent }) event }
-    ensures entry { result ≡ record { stamp = stamp; event = event; outcome = Outcome.Silent } }
+    ensures entry { IfOk result (λ x. x ≡ record { stamp = stamp; event = event; outcome = Outcome.Silent }) }
     ensures settings { end.new.settings ≡ end.old.settings }
-    ensures log { end.new.log ≡ end.old.log ++ result ∷ [] }
+    ensures log { IfOk result (λ x. end.new.log ≡ end.old.log ++ x ∷ []) }
+    ensures err { OnErr result (end.new.log ≡ end.old.log) }
 {
+    if end.room().is_err() {
+        return Err(NoMemory);
+    }
     let entry = Entry {
         stamp,
         event,
         outcome: Outcome::Silent,
     };
     move_end(end, entry);
-    entry
+    Ok(entry)
 }
 
 /// Whether the event is a page call.
@@ -58,7 +61,8 @@ fn is_page(event: Event) -> bool
     }
 }
 
-/// Makes a move of an endpoint that is ready for one more entry. Want of memory leaves the disk and the endpoint as they were.
+/// Makes a move of an endpoint whose log has room for one more entry. Want of memory leaves the disk and the endpoint as they
+/// were.
 pub fn make_move(
     alloc: Global,
     swap: &mut MemorySwap,
@@ -67,13 +71,12 @@ pub fn make_move(
     stamp: u64,
 ) -> Result<Entry, NoMemory>
     requires can { CanMove swap.old (kept end.old) event }
-    requires ready { end.old.ready ≡ true }
     requires room { length end.old.log < end.old.settings.log }
     ensures { Moves swap.old swap.new (kept end.old) (kept end.new) event stamp result }
 {
     if is_page(event) {
         page(alloc, swap, end, event, stamp)
     } else {
-        Ok(make_silent(end, event, stamp))
+        make_silent(end, event, stamp)
     }
 }

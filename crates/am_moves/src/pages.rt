@@ -135,7 +135,7 @@ fn page_in(
 
 /// Makes a page call: Ok is its entry, which is failed exactly where the disk's call failed. Want of memory leaves the
 /// disk and the endpoint as they were.
-pub fn page(
+pub(crate) fn page(
     alloc: Global,
     swap: &mut MemorySwap,
     endpoint: &mut Endpoint,

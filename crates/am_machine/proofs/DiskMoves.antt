@@ -1,4 +1,4 @@
--- A page call of a node, in the whole cluster.
+-- A driver's move in the whole cluster, with the disks.
 use Rattle.std.specs.Prelude.{nat_le, slice_index_or, slice_set}
 use Rattle.std.specs.List.{filter, list_any}
 use Rattle.std.proofs.Common.{◌≡◌, ℕ, zero, suc, ◌+◌, ◌<◌, ◌==◌, ◌^◌, Bool, true, false, cond, ◌||◌, ◌&&◌, List, [], ◌∷◌, ◌++◌, map, length, slice_get, Some, refl, sym, ap, ◌∙◌, subst, arith, true≢false, if◌then◌else◌}
@@ -28,12 +28,14 @@ use Rattle.am_moves.specs.Logs.{EndLog, kept}
 use Rattle.am_machine.specs.Ends.{setting_in}
 use Rattle.am_moves.proofs.Stores.{one_more_is}
 use Rattle.am_machine.specs.Kept.{IsOwn}
+use Rattle.am_moves.specs.Moves.{CanMove, IsMovedBy, outcome_with}
 use Rattle.am_moves.specs.Pages.{CanPage, HoldsBody, IsBodyValid, IsPagedBy, after_page, is_page, page_outcome}
 use Rattle.am_machine.specs.Swaps.{AreSwaps, IsSwap}
 use Rattle.am_machine.proofs.Applied.{IsNext, own_here, state_here}
 use Rattle.am_machine.proofs.Moving as moving
 use Rattle.am_machine.proofs.Moving.{Move}
-use Rattle.am_machine.proofs.Holding.{Paging, swaps_paged}
+use Rattle.am_machine.proofs.Holding.{Paging, swaps_paged, swaps_same}
+use Rattle.am_machine.proofs.Joint.{set_got}
 use Rattle.am_machine.proofs.Places.{index_got}
 use Rattle.am_machine.proofs.Tied.{kept_at}
 
@@ -74,25 +76,24 @@ page_moved : (event : Event) (end f : EndpointId) → end_moved event ≡ Some e
 page_moved (Events.PageOut at e) end f is out = same_end-is f e out ∙ some_is e end is
 page_moved event end f is out = absurd (true≢false (sym out))
 
--- ---- the call
+-- ---- the move
 
--- a page call that may be made, with the swaps, of which the one at the node's place is called
-pub record Call : Type 0 where
+-- a driver's move that may be made, with the swaps, of which the one at the node's place is called where it is a page call
+pub record DiskMove : Type 0 where
   pub move : Move
   pub swaps : List Store
   pub s : Store
-  pub paged : is_page move.event ≡ true
   pub at : slice_get swaps move.node.0 ≡ Some s
   pub are : AreSwaps (moving.layout_of move) move.journal swaps
   pub few : page_calls move.node move.journal + 1 < 2 ^ 64
 
-swap_of : (c : Call) → IsSwap (moving.layout_of c.move) c.move.journal c.move.node c.s
+swap_of : (c : DiskMove) → IsSwap (moving.layout_of c.move) c.move.journal c.move.node c.s
 swap_of c = c.are.each c.move.node.0 c.s c.at
 
-own_of : (c : Call) → IsOwn (moving.layout_of c.move) c.move.journal (kept c.move.one)
+own_of : (c : DiskMove) → IsOwn (moving.layout_of c.move) c.move.journal (kept c.move.one)
 own_of c = own_here (moving.layout_of c.move) c.move.ends c.move.journal c.move.end c.move.place c.move.one c.move.tied (moving.move_here c.move)
 
-state_at : (c : Call) → state_after c.move.one ≡ state_of (moving.layout_of c.move) c.move.journal c.move.end
+state_at : (c : DiskMove) → state_after c.move.one ≡ state_of (moving.layout_of c.move) c.move.journal c.move.end
 state_at c = state_here (moving.layout_of c.move) c.move.ends c.move.journal c.move.end c.move.place c.move.one c.move.tied (moving.move_here c.move)
 
 setting_at : (es : List EndLog) (k : ℕ) (e : EndLog) → slice_get es k ≡ Some e → slice_get (map setting_in es) k ≡ Some (setting_in e)
@@ -101,7 +102,7 @@ setting_at (d ∷ es) zero e at = let same : d ≡ e = cc in ap (λ (w : EndLog)
 setting_at (d ∷ es) (suc k) e at = setting_at es k e at
 
 -- what the swap holds of an endpoint on disk
-held_of : (c : Call) → is_on_disk (state_after c.move.one).head.place ≡ true → HoldsBody c.s c.move.one.settings.pool c.move.one.settings.id (state_after c.move.one).body
+held_of : (c : DiskMove) → is_on_disk (state_after c.move.one).head.place ≡ true → HoldsBody c.s c.move.one.settings.pool c.move.one.settings.id (state_after c.move.one).body
 held_of c on =
     let m = c.move in
     let layout = moving.layout_of m in
@@ -112,34 +113,68 @@ held_of c on =
     (ap (λ (s : State). is_on_disk s.head.place) (sym state) ∙ on) in
     coe 0 1 (k. HoldsBody c.s (sym (own_of c).pool k) m.one.settings.id (sym state k).body) held
 
-can_by : (c : Call) (x : Entry) (event : Event) → x.event ≡ event → is_page event ≡ true → MayMove c.move.one.settings.node c.move.one.settings.id (state_after c.move.one) x event → CanPage c.s (kept c.move.one) event
-can_by c x (Events.PageOut at e) ev paged may =
+can_by : (c : DiskMove) (x : Entry) (event : Event) → x.event ≡ event → MayMove c.move.one.settings.node c.move.one.settings.id (state_after c.move.one) x event → CanMove c.s (kept c.move.one) event
+can_by c x (Events.Drain at e) ev may =
+    let same : Events.Drain at e ≡ Events.Drain c.move.one.settings.node c.move.one.settings.id = sym ev ∙ may.event in
+    record { is_node = cc; is_end = cc; framed = may.framed; undrained = may.undrained }
+can_by c x (Events.Unload at e) ev may =
+    let same : Events.Unload at e ≡ Events.Unload c.move.one.settings.node c.move.one.settings.id = sym ev ∙ may.event in
+    record { is_node = cc; is_end = cc; framed = may.framed; draining = may.draining; none_in_flight = may.none_in_flight }
+can_by c x (Events.Load at e frame) ev may =
+    let same : Events.Load at e frame ≡ Events.Load c.move.one.settings.node c.move.one.settings.id may.frame = sym ev ∙ may.event in
+    record { is_node = cc; is_end = cc; on_host = may.on_host; opened = may.unclosed }
+can_by c x (Events.PageOut at e) ev may =
     let same : Events.PageOut at e ≡ Events.PageOut c.move.one.settings.node c.move.one.settings.id = sym ev ∙ may.event in
     record { is_node = cc; is_end = cc; on_host = may.on_host; opened = may.unclosed }
-can_by c x (Events.PageIn at e) ev paged may =
+can_by c x (Events.PageIn at e) ev may =
     let same : Events.PageIn at e ≡ Events.PageIn c.move.one.settings.node c.move.one.settings.id = sym ev ∙ may.event in
     record { is_node = cc; is_end = cc; on_disk = may.on_disk; holds = held_of c may.on_disk }
-can_by c x event ev paged may = absurd (true≢false (sym paged))
+can_by c x event ev may = absurd may
 
-pub can_page : (c : Call) → CanPage c.s (kept c.move.one) c.move.event
-can_page c =
+pub can_move : (c : DiskMove) → CanMove c.s (kept c.move.one) c.move.event
+can_move c =
     let x = next_entry (moving.layout_of c.move) c.move.journal c.move.event in
-    can_by c x c.move.event refl c.paged (moving.move_allowed c.move c.move.one x refl refl refl)
+    can_by c x c.move.event refl (moving.move_allowed c.move c.move.one x refl refl refl)
+
+-- a page call is a move of its own kind
+paged_by : (s t : Store) (e f : EndLog) (event : Event) (stamp : ℕ) (x : Entry) → is_page event ≡ true → IsMovedBy s t e f event stamp x → IsPagedBy s t e f event stamp x
+paged_by s t e f event stamp x paged by =
+    record {
+      entry = by.entry ∙ ap (λ (b : Bool). record { stamp = stamp; event = event; outcome = if b then page_outcome s else Out.Silent }) paged;
+      swap = by.swap ∙ ap (λ (b : Bool). if b then after_page s e event else s) paged;
+      valid = by.valid;
+      settings = by.settings;
+      log = by.log;
+    }
+
+-- what comes of it
+outcome_told : (c : DiskMove) → outcome_of (moving.layout_of c.move) c.move.journal c.move.event ≡ outcome_with c.s c.move.event
+outcome_told c = by_test (is_page c.move.event) refl
+  where
+    by_test : (b : Bool) → is_page c.move.event ≡ b → outcome_of (moving.layout_of c.move) c.move.journal c.move.event ≡ (if b then page_outcome c.s else Out.Silent)
+    by_test true paged =
+        page_outcome_is (moving.layout_of c.move) c.move.journal c.move.event c.move.node c.move.driver paged
+        ∙ page_told (moving.layout_of c.move) c.move.journal c.move.node c.s (swap_of c) c.few
+    by_test false unpaged = sym (moving.moved_silently (moving.layout_of c.move) c.move.journal c.move.event c.move.end c.move.moved unpaged)
 
 -- its entry is the one that the definitions give
-pub page_entry : (c : Call) (t : Store) (f : EndLog) (stamp : ℕ) (x : Entry) → stamp ≡ next_stamp c.move.journal → IsPagedBy c.s t (kept c.move.one) f c.move.event stamp x → x ≡ next_entry (moving.layout_of c.move) c.move.journal c.move.event
-page_entry c t f stamp x at by =
-    let m = c.move in
-    let layout = moving.layout_of m in
-    let outcome : outcome_of layout m.journal m.event ≡ page_outcome c.s = page_outcome_is layout m.journal m.event m.node m.driver c.paged ∙ page_told layout m.journal m.node c.s (swap_of c) c.few in
-    by.entry ∙ λ i. record { stamp = at i; event = m.event; outcome = sym outcome i }
+pub move_entry : (c : DiskMove) (t : Store) (f : EndLog) (stamp : ℕ) (x : Entry) → stamp ≡ next_stamp c.move.journal → IsMovedBy c.s t (kept c.move.one) f c.move.event stamp x → x ≡ next_entry (moving.layout_of c.move) c.move.journal c.move.event
+move_entry c t f stamp x at by =
+    let outcome = outcome_told c in
+    by.entry ∙ λ i. record { stamp = at i; event = c.move.event; outcome = sym outcome i }
 
-pub page_next : (c : Call) (t : Store) (w : EndpointView) (stamp : ℕ) (x : Entry) (longer : List Entry) → stamp ≡ next_stamp c.move.journal → nat_le c.move.settings.log (length c.move.one.log) ≡ false → IsPagedBy c.s t (kept c.move.one) (kept w) c.move.event stamp x → longer ≡ c.move.journal ++ x ∷ [] → IsNext c.move.settings c.move.faults (map kept c.move.ends) c.move.journal c.move.event x (map kept (slice_set c.move.ends c.move.place w)) longer
-page_next c t w stamp x longer at room by more = moving.move_next c.move w x longer room (page_entry c t (kept w) stamp x at by) by.settings by.log more
+pub disk_next : (c : DiskMove) (t : Store) (w : EndpointView) (stamp : ℕ) (x : Entry) (longer : List Entry) → stamp ≡ next_stamp c.move.journal → nat_le c.move.settings.log (length c.move.one.log) ≡ false → IsMovedBy c.s t (kept c.move.one) (kept w) c.move.event stamp x → longer ≡ c.move.journal ++ x ∷ [] → IsNext c.move.settings c.move.faults (map kept c.move.ends) c.move.journal c.move.event x (map kept (slice_set c.move.ends c.move.place w)) longer
+disk_next c t w stamp x longer at room by more = moving.move_next c.move w x longer room (move_entry c t (kept w) stamp x at by) by.settings by.log more
 
--- and the swaps after it
-pub page_swaps : (c : Call) (t : Store) (f : EndLog) (stamp : ℕ) (x : Entry) → stamp ≡ next_stamp c.move.journal → IsPagedBy c.s t (kept c.move.one) f c.move.event stamp x → AreSwaps (moving.layout_of c.move) (c.move.journal ++ x ∷ []) (slice_set c.swaps c.move.node.0 t)
-page_swaps c t f stamp x at by =
+-- its entry may follow
+may_follow : (c : DiskMove) (t : Store) (f : EndLog) (stamp : ℕ) (x : Entry) → stamp ≡ next_stamp c.move.journal → IsMovedBy c.s t (kept c.move.one) f c.move.event stamp x → MayFollow (moving.layout_of c.move) c.move.journal x
+may_follow c t f stamp x at by =
+    subst (MayFollow (moving.layout_of c.move) c.move.journal) (sym (move_entry c t f stamp x at by))
+    (entry_may_follow (moving.layout_of c.move) c.move.journal c.move.event c.move.in_range c.move.enabled)
+
+-- the swaps after a page call
+page_swaps : (c : DiskMove) (t : Store) (f : EndLog) (stamp : ℕ) (x : Entry) → is_page c.move.event ≡ true → MayFollow (moving.layout_of c.move) c.move.journal x → IsPagedBy c.s t (kept c.move.one) f c.move.event stamp x → AreSwaps (moving.layout_of c.move) (c.move.journal ++ x ∷ []) (slice_set c.swaps c.move.node.0 t)
+page_swaps c t f stamp x paged may by =
     let m = c.move in
     let layout = moving.layout_of m in
     let here = moving.move_here m in
@@ -157,15 +192,15 @@ page_swaps c t f stamp x at by =
       packet = moving.move_packet m;
       lawful = m.tied.lawful;
       history = m.tied.history;
-      may = subst (MayFollow layout m.journal) (sym (page_entry c t f stamp x at by)) (entry_may_follow layout m.journal m.event m.in_range m.enabled);
+      may = may;
       home = moving.move_home m;
       id = here.id;
       pool = (own_of c).pool;
       state = state_at c;
       outcome = ap (λ (y : Entry). y.outcome) by.entry;
-      called = λ other. ap (is_page_call other) (sym event) ∙ page_called m.event m.node other m.driver c.paged;
+      called = λ other. ap (is_page_call other) (sym event) ∙ page_called m.event m.node other m.driver paged;
       moved = λ g out. page_moved m.event m.end g m.moved (ap (pages_out g) event ∙ out);
-      can = subst (CanPage c.s (kept m.one)) event (can_page c);
+      can = subst (CanPage c.s (kept m.one)) event (can_page m.event paged (can_move c));
       after = by.swap ∙ ap (after_page c.s (kept m.one)) event;
       valid = subst (IsBodyValid (kept m.one)) event by.valid;
       few = c.few;
@@ -173,6 +208,22 @@ page_swaps c t f stamp x at by =
       are = c.are;
     } in
     swaps_paged p
+  where
+    can_page : (event : Event) → is_page event ≡ true → CanMove c.s (kept c.move.one) event → CanPage c.s (kept c.move.one) event
+    can_page (Events.PageOut at e) paged can = can
+    can_page (Events.PageIn at e) paged can = can
+    can_page event paged can = absurd (true≢false (sym paged))
+
+-- and after any move
+pub move_swaps : (c : DiskMove) (t : Store) (f : EndLog) (stamp : ℕ) (x : Entry) → stamp ≡ next_stamp c.move.journal → IsMovedBy c.s t (kept c.move.one) f c.move.event stamp x → AreSwaps (moving.layout_of c.move) (c.move.journal ++ x ∷ []) (slice_set c.swaps c.move.node.0 t)
+move_swaps c t f stamp x at by = by_test (is_page c.move.event) refl
+  where
+    by_test : (b : Bool) → is_page c.move.event ≡ b → AreSwaps (moving.layout_of c.move) (c.move.journal ++ x ∷ []) (slice_set c.swaps c.move.node.0 t)
+    by_test true paged = page_swaps c t f stamp x paged (may_follow c t f stamp x at by) (paged_by c.s t (kept c.move.one) f c.move.event stamp x paged by)
+    by_test false unpaged =
+        let same : t ≡ c.s = by.swap ∙ ap (λ (b : Bool). if b then after_page c.s (kept c.move.one) c.move.event else c.s) unpaged in
+        subst (AreSwaps (moving.layout_of c.move) (c.move.journal ++ x ∷ [])) (sym (set_got c.swaps c.move.node.0 c.s t c.at same))
+        (swaps_same (moving.layout_of c.move) c.move.journal x c.swaps c.move.tied.lawful c.move.tied.history (may_follow c t f stamp x at by) (ap (λ (y : Entry). is_page y.event) by.entry ∙ unpaged) c.are)
 
 -- ---- what was read
 
