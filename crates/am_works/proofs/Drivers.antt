@@ -30,7 +30,7 @@ use Rattle.am_model.specs.Endpoint.{State, fresh, is_on_disk, is_on_host}
 use Rattle.am_model.specs.History.{is_in_frame, is_in_range, is_page_call}
 use Rattle.am_model.specs.Layout.{AllAre, EndSetting, Layout, declared, has_id, opening}
 use Rattle.am_model.proofs.Names.{same_end-is, same_end-refl}
-use Rattle.am_model.proofs.Places.{on_host_in_no_frame, framed_is_resident}
+use Rattle.am_model.proofs.PlaceKinds.{on_host_in_no_frame, framed_is_resident}
 use Rattle.am_local.specs.Driver.{DriverLog, changes_frame, driver_of, end_moved, failing_move, is_frame_held_by, lies_in, outcome_move, page_at, page_number}
 use Rattle.am_local.specs.Readings.{page_calls}
 use Rattle.am_local.specs.Together.{ends_of, faults_of}
