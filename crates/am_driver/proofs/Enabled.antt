@@ -22,7 +22,7 @@ use Rattle.am_driver.specs.Moves.{has_frame, is_leaving, is_next, is_after, may_
 use Rattle.am_driver.specs.Shown.{ShowsEnd, Shows, is_line_of, IsEnabledWhereShown}
 use Rattle.am_driver.proofs.Found.{IsFound, Finds, found, finds, weaker, is_anything, not_true}
 use Rattle.am_model.proofs.Names.{same_end-is, same_end-refl}
-use Rattle.am_model.proofs.Places.{framed_is_resident}
+use Rattle.am_model.proofs.PlaceKinds.{framed_is_resident}
 use Rattle.am_driver.proofs.Frames.{range_below}
 
 pub skip : (b : Bool) (word : Condition) (rest : Option Condition) → b ≡ false → rest ≡ None → cond b (Some word) rest ≡ None

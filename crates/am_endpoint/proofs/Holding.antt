@@ -22,7 +22,7 @@ use Rattle.am_model.specs.Allowed.{MayArrive, MaySettle, arrival_verdict, arrive
 use Rattle.am_model.specs.Changes.{after, called, changed, flying_of, received}
 use Rattle.am_model.specs.Endpoint.{State, is_direct, is_in_a_frame, is_on_disk, is_on_host, verdict}
 use Rattle.am_model.specs.Order.{IsInOrder}
-use Rattle.am_model.proofs.Places.{framed_not_on_disk}
+use Rattle.am_model.proofs.PlaceKinds.{framed_not_on_disk}
 use Rattle.am_model.proofs.Unchanged.{called_place, carried_place, received_place, expired_place}
 use Rattle.am_endpoint.specs.Events.{is_kept_out, keeps_in_memory}
 use Rattle.am_endpoint.specs.Held.{IsAway, IsHeldOf, IsHere, head_of, held_wanted, with_wanted}

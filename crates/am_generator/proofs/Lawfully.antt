@@ -5,7 +5,7 @@ use Rattle.std.specs.List.{All, AllPairs}
 use Rattle.std.specs.Option.{option_map, option_or}
 use Rattle.std.proofs.Math.Nat.{div-le_self}
 use Rattle.std.proofs.lemmas.Nat.{or_lt}
-use Rattle.std.proofs.lemmas.Bool.{cases_lt, ltb-true, ltb-false, eq-eqb}
+use Rattle.std.proofs.lemmas.Bool.{cases_lt, ltb-true, ltb-false, eq-eqb, both_ways}
 use Rattle.std.proofs.lemmas.Bool.Decides.{nat_tests}
 use Rattle.std.proofs.lemmas.List.{length_push}
 use Rattle.std.proofs.lemmas.List.Elements.{All-nil, All-cons, All-push, All-append, All-weaker}
@@ -300,11 +300,6 @@ fault_at false false w = (omega arith, omega arith)
 a_line : (w : ℕ) → IsLawfulPlanLine 4 (line_of w)
 a_line w = record { from = omega arith; to = omega arith; number = (omega arith, omega arith); fault = fault_at (w / 8192 % 3 == 0) (w / 8192 % 3 == 1) w }
 
-elsewhere : (a b : PlanLine) → ((a.from.0 == b.from.0) && (a.to.0 == b.to.0) && (a.number == b.number)) ≡ false → ¬ IsSamePlace a b
-elsewhere a b e = λ same.
-    let yes_all : ((a.from.0 == b.from.0) && (a.to.0 == b.to.0) && (a.number == b.number)) ≡ true = and_from_three _ _ _ (eq-eqb a.from.0 b.from.0 same.0) (eq-eqb a.to.0 b.to.0 same.1) (eq-eqb a.number b.number same.2) in
-    let never : true ≡ false = sym yes_all ∙ e in cc
-
 -- lawful lines, none of them twice, so many at most
 pub record IsPlan (most : ℕ) (plan : List PlanLine) : Type 0 where
   pub each : All (IsLawfulPlanLine 4) plan
@@ -316,7 +311,7 @@ line_more most plan line true e l h = record { each = h.each; once = h.once; lin
 line_more most plan line false e l h = record {
   each = All-push (IsLawfulPlanLine 4) plan line h.each l;
   once = all_pairs_grow (λ a b. ¬ IsSamePlace a b) plan line h.once
-      (All-weaker (λ other. ((other.from.0 == line.from.0) && (other.to.0 == line.to.0) && (other.number == line.number)) ≡ false) (λ other. ¬ IsSamePlace other line) (λ other e. elsewhere other line e) plan
+      (All-weaker (λ other. ((other.from.0 == line.from.0) && (other.to.0 == line.to.0) && (other.number == line.number)) ≡ false) (λ other. ¬ IsSamePlace other line) (λ other e same. both_ways _ e (and_from_three _ _ _ (eq-eqb other.from.0 line.from.0 same.0) (eq-eqb other.to.0 line.to.0 same.1) (eq-eqb other.number line.number same.2))) plan
       (none_passes (λ other. (other.from.0 == line.from.0) && (other.to.0 == line.to.0) && (other.number == line.number)) plan e));
   lines = omega (arith, h.lines, length_push plan line);
 }

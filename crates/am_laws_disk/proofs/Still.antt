@@ -33,7 +33,7 @@ use Rattle.am_model.specs.Layout.{IsLawful, Layout}
 use Rattle.am_model.proofs.Each.{state_of_push}
 use Rattle.am_model.proofs.Names.{same_end-is}
 use Rattle.am_model.proofs.Received.{one_touched}
-use Rattle.am_model.proofs.Places.{resident_not_on_disk}
+use Rattle.am_model.proofs.PlaceKinds.{resident_not_on_disk}
 use Rattle.am_model.proofs.Unchanged.{paged_out_body, paged_in_body}
 use Rattle.am_local.proofs.Frames.{changed_place, none_holds, place_by, place_given}
 use Rattle.am_laws_messages.proofs.Delivered.{delivers, put_facts}

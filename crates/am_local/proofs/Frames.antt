@@ -32,7 +32,7 @@ use Rattle.am_model.proofs.Ends.{last_such_push}
 use Rattle.am_model.proofs.Names.{same_end-is, same_node-is}
 use Rattle.am_local.specs.Driver.{changes_frame, is_load_into, is_loaded_by, lies_in}
 use Rattle.am_model.specs.Parts.{driver_of, is_by_driver}
-use Rattle.am_model.proofs.Places.{on_host_in_no_frame, on_disk_in_no_frame}
+use Rattle.am_model.proofs.PlaceKinds.{on_host_in_no_frame, on_disk_in_no_frame}
 use Rattle.am_model.proofs.Unchanged.{called_place, carried_place, received_place, expired_place, bound_place}
 use Rattle.am_local.specs.Together.{AreDeclaredOnce, ends_of}
 use Rattle.am_local.proofs.Homes.{IsAmong, all_among, any_mapped, one_home}

@@ -22,7 +22,7 @@ use Rattle.am_model.specs.Endpoint.{State, front, is_direct, is_on_disk, is_resi
 use Rattle.am_model.specs.Layout.{AllAre, EndSetting, IsSettingLawful, Layout, declared, has_id, home, home_by}
 use Rattle.am_model.specs.History.{outcome_of, state_of}
 use Rattle.am_model.specs.Steps.{LogFull, full_by, full_log, is_end_full, least_such, lesser, stop, stop_by}
-use Rattle.am_model.proofs.Places.{resident_not_on_disk}
+use Rattle.am_model.proofs.PlaceKinds.{resident_not_on_disk}
 use Rattle.am_local.specs.declared.work.Work.{Work}
 use Rattle.am_local.specs.declared.work.Work.TheVariants as Works
 use Rattle.am_local.specs.Granted.{FitsEndpoint, IsInFlight}

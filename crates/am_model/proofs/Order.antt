@@ -32,7 +32,7 @@ use Rattle.am_model.specs.Valid.{is_own, is_own_answer, is_own_flight, is_own_re
 use Rattle.am_model.proofs.Valid.{Parts, arrived_parts, bound_parts, called_parts, carried_parts, flight_parts, fresh_parts}
 use Rattle.am_model.proofs.Validity.{all_weaker, own_formed, own_front}
 use Rattle.am_model.proofs.Sound.{IsSound, is_flight_formed, is_queued_answer, is_queued_request, flight_sound, sound_arrived, sound_bound, sound_called, sound_carried, sound_fresh}
-use Rattle.am_model.proofs.Places.{on_disk_unframed}
+use Rattle.am_model.proofs.PlaceKinds.{on_disk_unframed}
 
 -- a change where the endpoint stays put and nothing takes off
 pub record StaysPut (s t : State) : Type 0 where

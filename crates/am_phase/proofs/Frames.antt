@@ -13,7 +13,7 @@ use Rattle.am_model.specs.Changes.{after, changed}
 use Rattle.am_model.specs.Endpoint.{State, is_on_disk, is_on_host}
 use Rattle.am_model.specs.History.{is_in_frame}
 use Rattle.am_model.proofs.Names.{same_end-refl}
-use Rattle.am_model.proofs.Places.{on_host_in_no_frame, on_disk_in_no_frame}
+use Rattle.am_model.proofs.PlaceKinds.{on_host_in_no_frame, on_disk_in_no_frame}
 use Rattle.am_local.specs.Driver.{DriverLog, changes_frame, end_moved, failing_move, is_end_of, is_load_into, lies_in}
 use Rattle.am_local.proofs.Frames.{none_holds}
 use Rattle.am_local.proofs.Growing.{readings_push}

@@ -23,7 +23,7 @@ use Rattle.am_endpoint.specs.View.{EndpointView, state_after}
 use Rattle.am_model.specs.Allowed.{MayArrive, MayBind, arrival_verdict}
 use Rattle.am_model.specs.Choice.{first_holding}
 use Rattle.am_model.specs.Endpoint.{State, entry_at, is_direct, is_on_disk, is_resident, is_waited_for, verdict, verdict_of}
-use Rattle.am_model.proofs.Places.{framed_not_on_disk}
+use Rattle.am_model.proofs.PlaceKinds.{framed_not_on_disk}
 use Rattle.am_local.specs.Granted.{FitsEndpoint, IsWorkAt}
 use Rattle.am_local.specs.Interface.{event_of, failing_at, needs, outcome_at}
 use Rattle.am_local.specs.declared.work.Work.{Work}

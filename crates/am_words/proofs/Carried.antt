@@ -1,21 +1,9 @@
 -- The word that the four words of a word carry is the word.
-use Rattle.std.proofs.Common.{◌≡◌, ℕ, zero, suc, ◌-◌, ◌<◌, ◌≤◌, true, ◌&&◌, Some, None, List, [], ◌∷◌, refl, ap, ◌∙◌, length, take, drop, get_or, replicate, nat_le, if◌then◌else◌, arith, length-append}
-use Rattle.std.specs.Int.{w64, from_be_bytes}
+use Rattle.std.proofs.Common.{◌≡◌, ℕ, zero, suc, ◌-◌, ◌<◌, ◌≤◌, true, ◌&&◌, Some, None, List, refl, ap, ◌∙◌, length, take, drop, get_or, replicate, nat_le, if◌then◌else◌, arith, length-append}
 use Rattle.std.proofs.lemmas.Bool.{le-leb}
 use Rattle.std.proofs.lemmas.List.{length-replicate, take_at, drop_at}
 use Rattle.am_lemmas.proofs.Bytes.{three_words_back, bytes-padded}
 use Rattle.am_words.specs.Codes.{are_zero, bytes_in, code, padded, word_in}
-
-front : (bytes : List ℕ) → from_be_bytes w64 bytes ≡ from_be_bytes w64 (take 8 bytes)
-front [] = refl
-front (a ∷ []) = refl
-front (a ∷ b ∷ []) = refl
-front (a ∷ b ∷ c ∷ []) = refl
-front (a ∷ b ∷ c ∷ d ∷ []) = refl
-front (a ∷ b ∷ c ∷ d ∷ e ∷ []) = refl
-front (a ∷ b ∷ c ∷ d ∷ e ∷ f ∷ []) = refl
-front (a ∷ b ∷ c ∷ d ∷ e ∷ f ∷ g ∷ []) = refl
-front (a ∷ b ∷ c ∷ d ∷ e ∷ f ∷ g ∷ h ∷ rest) = refl
 
 all_zero : (n : ℕ) → are_zero (replicate n 0) ≡ true
 all_zero zero = refl

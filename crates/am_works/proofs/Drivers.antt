@@ -29,8 +29,8 @@ use Rattle.am_model.specs.History.{is_in_frame, is_in_range, is_page_call, page_
 use Rattle.am_model.specs.Layout.{AllAre, EndSetting, Layout, declared, has_id, opening}
 use Rattle.am_model.proofs.Names.{same_end-is}
 use Rattle.am_local.specs.Driver.{DriverLog, changes_frame, end_moved, failing_move, is_frame_held_by, lies_in, outcome_move, page_number}
-use Rattle.am_model.proofs.Places.{on_host_in_no_frame, framed_is_resident}
 use Rattle.am_local.specs.Together.{faults_of}
+use Rattle.am_model.proofs.PlaceKinds.{on_host_in_no_frame, framed_is_resident}
 use Rattle.am_local.proofs.Growing.{readings_push}
 use Rattle.am_driver.specs.Chosen.{Suits}
 use Rattle.am_driver.specs.Lists.{ViewLists}

@@ -19,7 +19,7 @@ use Rattle.am_model.specs.Changes.{changed, paged_in, paged_out, replay}
 use Rattle.am_model.specs.Endpoint.{Body, State, is_direct, is_in_a_frame, is_on_disk, is_on_host}
 use Rattle.am_model.specs.History.{is_in_frame}
 use Rattle.am_model.specs.Layout.{AllAre}
-use Rattle.am_model.proofs.Places.{on_host_not_on_disk}
+use Rattle.am_model.proofs.PlaceKinds.{on_host_not_on_disk}
 use Rattle.am_moves.proofs.Stores.{held_other, held_still}
 use Rattle.am_moves.specs.Logs.{EndLog, state_in}
 use Rattle.am_moves.specs.Pages.{HoldsBody, IsBodyValid, after_call, after_page}

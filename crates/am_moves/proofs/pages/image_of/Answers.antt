@@ -1,5 +1,5 @@
 use Rattle.std.proofs.Common.{ap, ◌∙◌, subst}
-use Rattle.am_model.proofs.Places.{on_host_not_on_disk}
+use Rattle.am_model.proofs.PlaceKinds.{on_host_not_on_disk}
 use Rattle.am_endpoint.specs.View.{state_after}
 use Rattle.am_body.specs.Views.{View}
 use Rattle.am_image.specs.Range.{IsInRange}
