@@ -42,7 +42,7 @@ use Rattle.am_machine.specs.Turned.{CanTurn, IsOfCluster, IsTaken}
 use Rattle.am_machine.proofs.Applied.{all_below, below_filter, last_below, seen}
 use Rattle.am_machine.proofs.Few.{counts_fit, stamp_fits}
 use Rattle.am_machine.proofs.Joint as joint
-use Rattle.am_machine.proofs.Joint.{Joint, event_in, interface_in, joint_failing}
+use Rattle.am_machine.proofs.Joint.{Joint, interface_in, joint_failing}
 
 -- ---- ranges
 

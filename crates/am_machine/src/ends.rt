@@ -4,7 +4,7 @@ ghost use Rattle.am_machine.specs.Carries.{At, ArrivesAt, CarriesFrom, IsReady, 
 ghost use Rattle.am_endpoint.specs.View.{state_after};
 ghost use Rattle.am_model.specs.Endpoint.{is_on_disk};
 ghost use Rattle.am_model.specs.History.{judged};
-ghost use Rattle.std.specs.Prelude.{◌≡◌, ◌≢◌, ◌<◌, ℕ, length, map, nat_le, OnOk, position, slice_get, true, false};
+ghost use Rattle.std.specs.Prelude.{◌≡◌, ◌<◌, ℕ, length, map, nat_le, OnOk, position, slice_get, true, false};
 
 use am_endpoint::{EndFault, Endpoint};
 use am_names::{EndpointId, Message, Verdict};

@@ -1,5 +1,4 @@
 use Rattle.std.proofs.Common.{◌≡◌, [], List, map, refl, sym, ap, ◌∙◌, subst}
-use Rattle.am_model.specs.Layout.{EndSetting, Fault}
 use Rattle.am_model.specs.Layout as model
 use Rattle.am_follow.proofs.Lawful.{lawful_layout}
 use Rattle.am_machine.proofs.Beginnings.{pool_lawful}

@@ -1,6 +1,6 @@
 use Rattle.std.specs.Prelude.{Err, Ok, max}
 use Rattle.std.proofs.Common.{◌≡◌, ◌+◌, ℕ, sym, ap, ◌∙◌, subst, arith}
-use Rattle.am_endpoint.specs.View.{EndpointView, state_after, state_by}
+use Rattle.am_endpoint.specs.View.{state_after}
 use Rattle.am_endpoint.specs.View as endpoints
 use Rattle.am_iface.specs.View.{last_stamp, own}
 use Rattle.am_iface.specs.Turns.{stamp_in}
