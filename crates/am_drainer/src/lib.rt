@@ -16,7 +16,7 @@ ghost use Rattle.am_office.specs.declared.Entry.{Entry};
 ghost use Rattle.am_scenario_types.specs.Lists.{ScenarioLists};
 ghost use Rattle.am_scripts.specs.Links.{due};
 ghost use Rattle.am_scripts.specs.Standings.{standings};
-ghost use Rattle.std.specs.Prelude.{◌≡◌, ◌≤◌, ◌<◌, ◌+◌, ◌^◌, ℕ, List, length, map, slice_get, count_by, option_map, true, IfErr, IfSome, OnOk, Some, None};
+ghost use Rattle.std.specs.Prelude.{◌≡◌, ◌≤◌, ◌<◌, ◌^◌, ℕ, List, length, map, slice_get, count_by, option_map, true, IfErr, IfSome, OnOk, Some, None};
 
 mod frames;
 mod pages;

@@ -3,10 +3,9 @@ ghost use Rattle.am_drain.specs.Rules as rules;
 ghost use Rattle.am_drainer.specs.Choices.{fewer_of, first_read, passes_mail, send_by};
 ghost use Rattle.am_drainer.specs.Reads.{call_event, is_seat, is_turn_in_range, left_of, mail_of};
 ghost use Rattle.am_scripts.specs.Layout.{layout_of};
-ghost use Rattle.am_model.specs.History.{is_in_range};
 ghost use Rattle.am_scripts.specs.Links.{first_some, next_receipt, receipt_at};
 ghost use Rattle.am_scripts.specs.Standings.{is_standing_of, standings};
-ghost use Rattle.std.specs.Prelude.{◌≡◌, ◌<◌, ◌⊎◌, ◌||◌, nat_lt, ◌∷◌, [], true, find, option_map, IfSome, List};
+ghost use Rattle.std.specs.Prelude.{◌≡◌, ◌<◌, ◌⊎◌, ◌||◌, nat_lt, ◌∷◌, [], true, find, option_map, IfSome};
 
 use crate::frames::{HeadTest, first_head};
 use crate::{EndMail, LeftCall, Machine};

@@ -1,6 +1,5 @@
 // Works of interfaces: binds, time-outs and receipts.
 ghost use Rattle.am_local.specs.Interface.{event_of};
-ghost use Rattle.am_local.specs.declared.work.Work.TheVariants as Works;
 ghost use Rattle.am_machine.specs.Turned.{IsTaken};
 ghost use Rattle.am_machine.specs.View.{Applies};
 ghost use Rattle.am_model.specs.Channels.{emitted};

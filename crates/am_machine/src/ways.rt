@@ -1,5 +1,4 @@
 // Where the packet of a work goes.
-ghost use Rattle.am_endpoint.specs.View.{state_after};
 ghost use Rattle.am_iface.specs.View.{FitsInterface};
 ghost use Rattle.am_machine.specs.Ways.{front_node, node_of, way};
 ghost use Rattle.std.specs.Prelude.{◌≡◌};

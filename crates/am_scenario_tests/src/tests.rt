@@ -31,91 +31,57 @@ fn spelled(alloc: Global, form: Form, text: &str) -> Option<Scenario> {
     read(alloc, form, text.as_bytes()).ok()
 }
 
-#[test]
-fn first_lines(rt: HostRuntime) {
-    for (text, line, what) in FIRST_LINES.iter() {
-        let fault = fault_of(rt.alloc(), Form::Step, text);
-        assert!(rt; fault == Some((*line, *what)), "{text}");
+// The number of the first text whose fault is another, if there is one.
+fn first_other(alloc: Global, form: Form, rows: &[(&str, u32, What)]) -> Option<usize> {
+    for (i, (text, line, what)) in rows.iter().enumerate() {
+        if fault_of(alloc, form, text) != Some((*line, *what)) {
+            return Some(i);
+        }
     }
+    None
 }
 
 #[test]
-fn settings(rt: HostRuntime) {
-    for (text, line, what) in SETTINGS.iter() {
-        let fault = fault_of(rt.alloc(), Form::Step, text);
-        assert!(rt; fault == Some((*line, *what)), "{text}");
+fn each_text_has_its_fault(rt: HostRuntime) {
+    for (kind, form, rows) in [
+        ("first lines", Form::Step, FIRST_LINES.as_slice()),
+        ("settings", Form::Step, SETTINGS.as_slice()),
+        ("declarations", Form::Step, DECLARATIONS.as_slice()),
+        ("events", Form::Step, EVENTS.as_slice()),
+        ("runs", Form::Run, RUNS.as_slice()),
+    ] {
+        assert!(rt; first_other(rt.alloc(), form, rows).is_none(), "{kind}");
     }
 }
 
-#[test]
-fn declarations(rt: HostRuntime) {
-    for (text, line, what) in DECLARATIONS.iter() {
-        let fault = fault_of(rt.alloc(), Form::Step, text);
-        assert!(rt; fault == Some((*line, *what)), "{text}");
-    }
-}
-
-#[test]
-fn events(rt: HostRuntime) {
-    for (text, line, what) in EVENTS.iter() {
-        let fault = fault_of(rt.alloc(), Form::Step, text);
-        assert!(rt; fault == Some((*line, *what)), "{text}");
-    }
-}
-
-#[test]
-fn runs(rt: HostRuntime) {
-    for (text, line, what) in RUNS.iter() {
-        let fault = fault_of(rt.alloc(), Form::Run, text);
-        assert!(rt; fault == Some((*line, *what)), "{text}");
-    }
-}
-
-// Whether reading a head and a line gives this fault of the line.
-fn is_fault(
+// The number of the first line that has another fault behind this head, if there is one. It has the number `number`.
+fn first_other_line(
     alloc: Global,
     form: Form,
     head: &str,
-    line: &str,
-    fault: (u32, What),
-) -> Result<bool, Fail> {
-    let mut text = String::from_str(alloc, head)?;
-    text.push_str(line)?;
-    Ok(fault_of(alloc, form, text.as_str()) == Some(fault))
-}
-
-#[test]
-fn lines_of_steps(rt: HostRuntime) -> Result<(), Fail> {
-    for (line, what) in STEP_LINES.iter() {
-        let is = is_fault(rt.alloc(), Form::Step, STEP_HEAD, line, (5, *what))?;
-        assert!(rt; is, "{line}");
+    number: u32,
+    rows: &[(&str, What)],
+) -> Result<Option<usize>, Fail> {
+    for (i, (line, what)) in rows.iter().enumerate() {
+        let mut text = String::from_str(alloc, head)?;
+        text.push_str(line)?;
+        if fault_of(alloc, form, text.as_str()) != Some((number, *what)) {
+            return Ok(Some(i));
+        }
     }
-    Ok(())
+    Ok(None)
 }
 
 #[test]
-fn lines_of_runs(rt: HostRuntime) -> Result<(), Fail> {
-    for (line, what) in RUN_LINES.iter() {
-        let is = is_fault(rt.alloc(), Form::Run, RUN_HEAD, line, (9, *what))?;
-        assert!(rt; is, "{line}");
-    }
-    Ok(())
-}
-
-#[test]
-fn lines_of_plans(rt: HostRuntime) -> Result<(), Fail> {
-    for (line, what) in PLAN_LINES.iter() {
-        let is = is_fault(rt.alloc(), Form::Run, PLAN_HEAD, line, (4, *what))?;
-        assert!(rt; is, "{line}");
-    }
-    Ok(())
-}
-
-#[test]
-fn lines_of_pools(rt: HostRuntime) -> Result<(), Fail> {
-    for (line, what) in POOL_LINES.iter() {
-        let is = is_fault(rt.alloc(), Form::Step, POOL_HEAD, line, (2, *what))?;
-        assert!(rt; is, "{line}");
+fn each_line_has_its_fault(rt: HostRuntime) -> Result<(), Fail> {
+    for (form, head, number, rows) in [
+        (Form::Step, STEP_HEAD, 5, STEP_LINES.as_slice()),
+        (Form::Run, RUN_HEAD, 9, RUN_LINES.as_slice()),
+        (Form::Run, PLAN_HEAD, 4, PLAN_LINES.as_slice()),
+        (Form::Step, POOL_HEAD, 2, POOL_LINES.as_slice()),
+    ] {
+        let other = first_other_line(rt.alloc(), form, head, number, rows)?;
+        assert!(rt; other.is_none(), "{head}");
     }
     Ok(())
 }
@@ -179,33 +145,27 @@ fn a_run_of_version_2(rt: HostRuntime) {
         assert!(rt; false, "refused");
         return;
     };
-    assert_eq!(rt; run.network, Network::Packet);
-    assert_eq!(rt;
-        (run.nodes, run.frames, run.channels, run.tries),
-        (2, 16, 1, 5)
-    );
-    assert_eq!(rt; (run.bounces, run.pool, run.keep), (4, Some(3), 64));
-    assert_eq!(rt; (run.log, run.turns), (65_536, 0));
+    assert!(rt; run.network == Network::Packet);
+    assert!(rt; (run.nodes, run.frames, run.channels, run.tries) == (2, 16, 1, 5));
+    assert!(rt; (run.bounces, run.pool, run.keep) == (4, Some(3), 64));
+    assert!(rt; (run.log, run.turns) == (65_536, 0));
     let mut ends = run
         .ends
         .iter()
         .map(|end| (end.id.0, end.node.0, end.tag.0, end.disk));
-    assert_eq!(rt; ends.next(), Some((2, 0, 0, false)));
-    assert_eq!(rt; ends.next(), Some((7, 1, u64::MAX, true)));
+    assert!(rt; ends.next() == Some((2, 0, 0, false)));
+    assert!(rt; ends.next() == Some((7, 1, u64::MAX, true)));
     let mut threads = run.threads.iter().map(|thread| (thread.id, thread.node.0));
-    assert_eq!(rt; threads.next(), Some((3, 0)));
-    assert_eq!(rt; threads.next(), Some((9, 1)));
-    assert_eq!(rt;
-        (run.plan.len(), run.faults.len(), run.steps.len()),
-        (1, 1, 0)
-    );
+    assert!(rt; threads.next() == Some((3, 0)));
+    assert!(rt; threads.next() == Some((9, 1)));
+    assert!(rt; (run.plan.len(), run.faults.len(), run.steps.len()) == (1, 1, 0));
     let mut plan = run
         .plan
         .iter()
         .map(|line| (line.from.0, line.to.0, line.number));
-    assert_eq!(rt; plan.next(), Some((0, 1, 4)));
+    assert!(rt; plan.next() == Some((0, 1, 4)));
     let mut faults = run.faults.iter().map(|line| (line.node.0, line.number));
-    assert_eq!(rt; faults.next(), Some((1, 6)));
+    assert!(rt; faults.next() == Some((1, 6)));
     let mut script = run
         .script
         .iter()
@@ -238,11 +198,10 @@ fn a_ready_bundle(rt: HostRuntime) -> Result<(), Fail> {
         let mut tests = tests.iter().map(|made| (made.0.0, made.1));
         assert!(rt; tests.next() == Some((2, Call::Test(Mask::NotEmpty))));
         assert!(rt; tests.next() == None);
-        assert_eq!(rt;
-            bundle.ready(&[EndpointId(7), EndpointId(2)]),
-            Readiness::Ready(EndpointId(2))
+        assert!(rt;
+            bundle.ready(&[EndpointId(7), EndpointId(2)]) == Readiness::Ready(EndpointId(2))
         );
-        assert_eq!(rt; bundle.ready(&[EndpointId(7)]), Readiness::NotYet);
+        assert!(rt; bundle.ready(&[EndpointId(7)]) == Readiness::NotYet);
     }
     Ok(())
 }
@@ -250,9 +209,9 @@ fn a_ready_bundle(rt: HostRuntime) -> Result<(), Fail> {
 #[test]
 fn generated(rt: HostRuntime) -> Result<(), Fail> {
     let scenario = generate(rt.alloc(), 0)?;
-    assert_eq!(rt; scenario.script.len(), 1_744);
+    assert!(rt; scenario.script.len() == 1_744);
     assert!(rt; scenario.plan.len() <= 32);
-    assert_eq!(rt; (scenario.ends.len(), scenario.threads.len()), (12, 8));
+    assert!(rt; (scenario.ends.len(), scenario.threads.len()) == (12, 8));
     Ok(())
 }
 
@@ -296,14 +255,14 @@ fn five_packets(rt: HostRuntime) -> Result<(), Fail> {
     let released = shape(rt.alloc(), &plan, NodeId(0), NodeId(1), &emitted)?;
     let mut numbers = released.iter().map(number_of);
     for number in [1, 4, 4, 5, 3] {
-        assert_eq!(rt; numbers.next(), Some(number));
+        assert!(rt; numbers.next() == Some(number));
     }
-    assert_eq!(rt; numbers.next(), None);
+    assert!(rt; numbers.next() == None);
     let four = shape(rt.alloc(), &plan, NodeId(0), NodeId(1), &emitted[..4])?;
     let mut numbers = four.iter().map(number_of);
     for number in [1, 4, 4] {
-        assert_eq!(rt; numbers.next(), Some(number));
+        assert!(rt; numbers.next() == Some(number));
     }
-    assert_eq!(rt; numbers.next(), None);
+    assert!(rt; numbers.next() == None);
     Ok(())
 }

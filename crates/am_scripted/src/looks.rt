@@ -2,10 +2,8 @@
 ghost use Rattle.am_scripted.specs.Scripted.{AreParts};
 ghost use Rattle.am_drain.specs.Rules.{next_page_in};
 ghost use Rattle.am_drainer.specs.Reads.{head_of, is_seat, mail_of};
-ghost use Rattle.am_endpoint.specs.View.{state_after};
 ghost use Rattle.am_scripts.specs.Layout.{layout_of};
 ghost use Rattle.am_machine.specs.Moves.{is_in_frame_of};
-ghost use Rattle.am_model.specs.Endpoint as endpoint;
 ghost use Rattle.am_model.specs.History.{channel_to, is_bound, is_frame_held, state_of};
 ghost use Rattle.am_model.specs.Layout as layouts;
 ghost use Rattle.am_names.specs.Names.{is_request};

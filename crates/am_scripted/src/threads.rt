@@ -3,11 +3,11 @@ ghost use Rattle.am_scripted.specs.Threads.{AreSmall, IsSmallAt, call_in, found_
 ghost use Rattle.am_drainer.specs.Reads.{left_of};
 ghost use Rattle.am_scenario_types.specs.Lawful.{IsLawful};
 ghost use Rattle.am_scripts.specs.Scripts.{call_made, script_of};
-ghost use Rattle.std.specs.Prelude.{◌≡◌, ◌+◌, ◌*◌, ◌≤◌, ◌<◌, ◌^◌, [], All, IfOk, filter, length, map, option_map, vec_len};
+ghost use Rattle.std.specs.Prelude.{◌≡◌, ◌+◌, ◌*◌, ◌≤◌, ◌<◌, ◌^◌, [], IfOk, length, map, option_map, vec_len};
 
 use am_drainer::LeftCall;
 use am_office::{Actor, Entry, Event, NoMemory};
-use am_scenario_types::{Scenario, ScriptCall, ThreadLine};
+use am_scenario_types::{Scenario, ScriptCall};
 use std::alloc::Global;
 
 /// A thread with its script, and how many calls of it were made.

@@ -1,7 +1,6 @@
 // Which entries are left to the end, told before they are made.
 ghost use Rattle.am_scripts.specs.Layout.{layout_of};
-ghost use Rattle.am_model.specs.Endpoint as endpoint;
-ghost use Rattle.am_model.specs.History.{is_in_range, state_of};
+ghost use Rattle.am_model.specs.History.{is_in_range};
 ghost use Rattle.am_model.specs.Layout as layouts;
 ghost use Rattle.am_office.specs.declared.Event.TheVariants as Events;
 ghost use Rattle.am_scripts.specs.Follows as follows;
