@@ -12,6 +12,7 @@ use Rattle.am_office.specs.declared.Outcome.{Outcome}
 use Rattle.am_office.specs.declared.Outcome.TheVariants as Out
 use Rattle.am_office.specs.declared.Entry.{Entry}
 use Rattle.am_office.specs.Entries.{is_node}
+use Rattle.am_model.specs.Tables.{page_ended}
 use Rattle.am_model.specs.Choice.{first_holding}
 use Rattle.am_model.specs.Endpoint.{State, is_resident, is_on_host, is_on_disk}
 use Rattle.am_model.specs.Layout.{Layout, Fault}
@@ -33,12 +34,9 @@ page_by_driver node event h = absurd (cc)
 pub pages_own : (node : NodeId) (past : List Entry) → page_calls node (of_driver node past) ≡ page_calls node past
 pages_own node past = count_within (λ (x : Entry). is_page_call node x.event) (is_by_driver node) (λ x. page_by_driver node x.event) past
 
-abbrev page_by : Bool → Outcome
-page_by fails = if fails then Out.Failed else Out.Done
-
 page_same : (layout : Layout) (past : List Entry) (d : DriverLog) → IsDriverPart layout past d → page layout d.settings.node past ≡ page_at d
 page_same layout past d part =
-    ap page_by
+    ap page_ended
     (sym (any_mapped (λ (f : Fault). f.number) (λ (f : Fault). same_node d.settings.node f.node) (λ (n : ℕ). n == page_calls d.settings.node past + 1) layout.faults)
     ∙ λ i. list_any (λ (n : ℕ). n == number i + 1) (sym part.settings.faults i))
   where
