@@ -10,6 +10,7 @@ use Rattle.am_office.specs.declared.Received.{Received}
 use Rattle.am_office.specs.declared.Received.TheVariants as Got
 use Rattle.am_office.specs.declared.Outcome.TheVariants as Out
 use Rattle.am_office.specs.declared.Entry.{Entry}
+use Rattle.am_model.specs.Tables.{tries_ended}
 use Rattle.am_model.specs.Channels.{Channel, Mark, Arrival, Stale, Again, Fresh, arrival}
 use Rattle.am_model.specs.History.{decided, settle_by}
 use Rattle.am_block.specs.declared.Slot.{Slot}
@@ -73,7 +74,7 @@ pub record TellsResend (c : Channel) (m : Message) (sent : Sent) (x : Entry) : T
 pub record TellsGivenUp (c : Channel) (m : Message) (x : Entry) : Type 0 where
   pub is_answered : Bool
   pub event : x.event ≡ Events.Expire c.node c.peer c.number
-  pub outcome : x.outcome ≡ (if is_answered then Out.Delivered m.serial else Out.Unknown m.serial)
+  pub outcome : x.outcome ≡ tries_ended m.serial is_answered
 
 abbrev pub TellsTimedOut : Channel → Bound → TimedOut → Entry → Type 0
 TellsTimedOut c b (Times.Resend sent) x = TellsResend c b.message sent x

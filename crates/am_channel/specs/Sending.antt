@@ -1,9 +1,10 @@
 -- The sending end of a channel: what its calls answer, and what they leave bound.
-use Rattle.std.specs.Prelude.{◌≢◌, ◌⊎◌, ℕ, ◌+◌, ◌==◌, ◌&&◌, nat_lt, Bool, true, false, Option, Some, None, if◌then◌else◌}
+use Rattle.std.specs.Prelude.{◌≢◌, ◌⊎◌, ℕ, ◌+◌, ◌==◌, ◌&&◌, Bool, true, false, Option, Some, None, if◌then◌else◌}
 use Rattle.am_names.specs.declared.Verdict.{Verdict}
 use Rattle.am_names.specs.declared.Verdict.TheVariants as Verdicts
 use Rattle.am_names.specs.declared.Message.{Message}
 use Rattle.am_names.specs.declared.AnswerPacket.{AnswerPacket}
+use Rattle.am_model.specs.Tables.{may_try}
 use Rattle.am_model.specs.History.{counts}
 use Rattle.am_block.specs.declared.Slot.{Slot}
 use Rattle.am_channel.specs.declared.sending.Bound.{Bound}
@@ -24,7 +25,7 @@ bound_to s m slot = record { seq = s.seq + 1; bound = Some (record { message = m
 -- what comes of a time-out: with so many tries in all, the next one where fewer are used
 abbrev pub timed_out : ℕ → ℕ → Bound → TimedOut
 timed_out tries seq b =
-    if nat_lt (b.attempt + 1) tries then Times.Resend (record { seq = seq; attempt = b.attempt + 1 }) else Times.GaveUp b
+    if may_try tries b.attempt then Times.Resend (record { seq = seq; attempt = b.attempt + 1 }) else Times.GaveUp b
 
 -- what is bound after it
 abbrev pub unanswered : Bound → TimedOut → Option Bound

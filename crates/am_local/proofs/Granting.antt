@@ -23,6 +23,7 @@ use Rattle.am_office.specs.declared.Outcome.{Outcome}
 use Rattle.am_office.specs.declared.Outcome.TheVariants as Out
 use Rattle.am_office.specs.declared.Entry.{Entry}
 use Rattle.am_office.specs.Entries.{emitted_in, parcel}
+use Rattle.am_model.specs.Tables.{tries_ended}
 use Rattle.am_model.specs.declared.Flying.{Flying}
 use Rattle.am_model.specs.declared.Queued.{Queued}
 use Rattle.am_office.specs.declared.Place.{Place}
@@ -144,7 +145,7 @@ gives_up i e s peer channel x w = by_bound (bound_message (channel_in i peer cha
     again m = sent i.settings.node peer channel i.log m (sequence (channel_in i peer channel) i.log) (attempt (channel_in i peer channel) i.log + 1)
 
     ended : Option Flying → Message → Outcome
-    ended g m = if is_answered g then Out.Delivered m.serial else Out.Unknown m.serial
+    ended g m = tries_ended m.serial (is_answered g)
 
     by_tries : (m : Message) (b : Bool) → needs_bound (Some m) (not b) ≡ Some e → IsInFlight s (Some m) → x.outcome ≡ (if b then again m else ended (flying_of m.serial s.body.in_flight) m) → MaySettle i.settings.bounces e s x
     by_tries m true need there is = absurd (cc)
@@ -153,7 +154,7 @@ gives_up i e s peer channel x w = by_bound (bound_message (channel_in i peer cha
         let f = flight s m there in
         settles_so i.settings.bounces e s x m f.0 f.1 own
         (ends_here i.settings.bounces f.0 x (Events.Expire i.settings.node peer channel) (ended (flying_of m.serial s.body.in_flight) m) w.event is
-        (ap (λ (g : Option Flying). ended g m) f.1.found ∙ λ k. if f.0.answered then Out.Delivered (f.1.same k) else Out.Unknown (f.1.same k)))
+        (ap (λ (g : Option Flying). ended g m) f.1.found ∙ λ k. tries_ended (f.1.same k) f.0.answered))
 
     by_bound : (m : Option Message) → needs_bound m (not (has_try_left i (channel_in i peer channel))) ≡ Some e → IsInFlight s m → x.outcome ≡ expire_at i s peer channel m → MaySettle i.settings.bounces e s x
     by_bound None need there is = absurd (cc)

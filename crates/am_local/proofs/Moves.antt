@@ -12,6 +12,7 @@ use Rattle.am_office.specs.declared.Outcome.{Outcome}
 use Rattle.am_office.specs.declared.Outcome.TheVariants as Out
 use Rattle.am_office.specs.declared.Entry.{Entry}
 use Rattle.am_office.specs.Entries.{is_node}
+use Rattle.am_model.specs.Tables.{page_ended}
 use Rattle.am_model.specs.Choice.{first_holding}
 use Rattle.am_model.specs.Endpoint.{State, is_resident, is_on_host, is_on_disk}
 use Rattle.am_model.specs.Layout.{Layout, Fault}

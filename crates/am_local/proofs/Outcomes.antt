@@ -14,6 +14,7 @@ use Rattle.am_office.specs.declared.Outcome.{Outcome}
 use Rattle.am_office.specs.declared.Outcome.TheVariants as Out
 use Rattle.am_office.specs.declared.Condition.TheVariants as Needs
 use Rattle.am_office.specs.declared.Entry.{Entry}
+use Rattle.am_model.specs.Tables.{may_try, tries_ended}
 use Rattle.am_model.specs.declared.Queued.{Queued}
 use Rattle.am_model.specs.Choice.{first_holding}
 use Rattle.am_model.specs.Endpoint.{State, front, verdict, is_resident}
@@ -94,14 +95,14 @@ bind_same layout past i part (Some q) =
 expire_same : (layout : Layout) (past : List Entry) (i : InterfaceLog) (s : State) → IsPart layout past i → (peer : NodeId) (channel : ℕ) (m : Option Message) → IsState layout past s (needs_bound m (not (has_try_left i (channel_in i peer channel)))) → expire layout i.settings.node peer channel past m ≡ expire_at i s peer channel m
 expire_same layout past i s part peer channel None h = refl
 expire_same layout past i s part peer channel (Some m) h =
-    (λ k. if nat_lt (e.attempt k + 1) (sym part.settings.tries k) then Out.Sent m peer channel (e.seq k) (e.attempt k + 1) (same_number layout past i part peer k) else given_up (state_of layout past m.serial.source))
+    (λ k. if may_try (sym part.settings.tries k) (e.attempt k) then Out.Sent m peer channel (e.seq k) (e.attempt k + 1) (same_number layout past i part peer k) else given_up (state_of layout past m.serial.source))
     ∙ by_tries (has_try_left i (channel_in i peer channel)) h
   where
     e : SameEnds past i.log (channel_in i peer channel)
     e = same_ends layout past i part peer channel
 
     given_up : State → Outcome
-    given_up t = if is_answered (flying_of m.serial t.body.in_flight) then Out.Delivered m.serial else Out.Unknown m.serial
+    given_up t = tries_ended m.serial (is_answered (flying_of m.serial t.body.in_flight))
 
     again : Outcome
     again = sent i.settings.node peer channel i.log m (sequence (channel_in i peer channel) i.log) (attempt (channel_in i peer channel) i.log + 1)

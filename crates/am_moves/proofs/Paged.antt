@@ -9,6 +9,7 @@ use Rattle.am_office.specs.declared.Outcome.TheVariants as Out
 use Rattle.am_office.specs.declared.Place.{Place}
 use Rattle.am_office.specs.declared.Place.TheVariants.{Host, Disk, Frame, Direct}
 use Rattle.am_office.specs.declared.Entry.{Entry}
+use Rattle.am_model.specs.Tables.{page_ended}
 use Rattle.am_model.specs.Allowed.{MayPageIn, MayPageOut}
 use Rattle.am_model.specs.Endpoint.{Body, State, is_in_a_frame, is_on_host}
 use Rattle.am_model.specs.Order.{IsInOrder}
@@ -21,7 +22,7 @@ use Rattle.am_image.specs.Range.{IsInRange}
 use Rattle.am_image.specs.Valid.{IsValid}
 use Rattle.am_swap.specs.Decoded.{FindsEach}
 use Rattle.am_moves.specs.Logs.{EndLog, kept, state_in}
-use Rattle.am_moves.specs.Pages.{CanPageIn, CanPageOut, outcome_by, page_outcome}
+use Rattle.am_moves.specs.Pages.{CanPageIn, CanPageOut, page_outcome}
 
 host_no_frame : (p : Place) → is_on_host p ≡ true → is_in_a_frame p ≡ false
 host_no_frame (Frame frame) h = absurd (true≢false (sym h))
@@ -87,12 +88,8 @@ pub is_found : (e : EndpointId) (pool : Option ℕ) (bytes : List ℕ) (b : Body
 is_found e pool bytes b found w is valid each at = let some' = finds e pool bytes b found is valid each in cc
 
 -- what the swap's call says of the outcome
-pub told_outcome : (s : Store) (failed : Bool) (o : Outcome) → o ≡ outcome_by failed → failed ≡ fails_after s.fails s.calls → o ≡ page_outcome s
-told_outcome s failed o is at = is ∙ ap outcome_by at ∙ by_test (fails_after s.fails s.calls)
-  where
-    by_test : (b : Bool) → outcome_by b ≡ (if b then Out.Failed else Out.Done)
-    by_test true = refl
-    by_test false = refl
+pub told_outcome : (s : Store) (failed : Bool) (o : Outcome) → o ≡ page_ended failed → failed ≡ fails_after s.fails s.calls → o ≡ page_outcome s
+told_outcome s failed o is at = is ∙ ap page_ended at
 
 -- what holds of a value holds of what follows from it
 pub if_ok : {T E : Type 0} (r : Result T E) (P Q : T → Type 0) → IfOk r P → ((x : T) → P x → Q x) → IfOk r Q

@@ -6,8 +6,8 @@ use Rattle.am_names.specs.declared.NoMemory.{NoMemory}
 use Rattle.am_office.specs.declared.Event.{Event}
 use Rattle.am_office.specs.declared.Event.TheVariants as Events
 use Rattle.am_office.specs.declared.Outcome.{Outcome}
-use Rattle.am_office.specs.declared.Outcome.TheVariants as Out
 use Rattle.am_office.specs.declared.Entry.{Entry}
+use Rattle.am_model.specs.Tables.{page_ended}
 use Rattle.am_model.specs.Endpoint.{Body, is_on_disk, is_on_host}
 use Rattle.am_device.specs.Causes.{fails_after}
 use Rattle.am_device.specs.Memory.{Store, counted, faulted, held_for, with_held}
@@ -26,14 +26,9 @@ is_page (Events.PageOut node end) = true
 is_page (Events.PageIn node end) = true
 is_page event = false
 
--- what comes of a page call, by whether the call of the swap failed
-abbrev pub outcome_by : Bool → Outcome
-outcome_by true = Out.Failed
-outcome_by false = Out.Done
-
 -- what comes of the next call of a swap that has memory for it
 abbrev pub page_outcome : Store → Outcome
-page_outcome s = if fails_after s.fails s.calls then Out.Failed else Out.Done
+page_outcome s = page_ended (fails_after s.fails s.calls)
 
 -- a swap after a call, which leaves it so where it doesn't fail
 abbrev pub after_call : Store → Store → Store

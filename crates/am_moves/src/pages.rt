@@ -4,7 +4,8 @@ ghost use Rattle.am_endpoint.specs.View.{state_after};
 ghost use Rattle.am_image.specs.Image.{image};
 ghost use Rattle.am_image.specs.Valid.{IsValid};
 ghost use Rattle.am_moves.specs.Logs.{kept};
-ghost use Rattle.am_moves.specs.Pages.{CanPage, CanPageIn, CanPageOut, IsCalled, Pages, outcome_by};
+ghost use Rattle.am_moves.specs.Pages.{CanPage, CanPageIn, CanPageOut, IsCalled, Pages};
+ghost use Rattle.am_model.specs.Tables.{page_ended};
 ghost use Rattle.am_moves.specs.Pages.{HoldsBody};
 ghost use Rattle.am_model.specs.Endpoint.{is_on_host};
 ghost use Rattle.am_office.specs.declared.Event.TheVariants as Events;
@@ -40,8 +41,8 @@ fn read(alloc: Global, swap: &mut MemorySwap, key: EndpointId) -> Result<bool, N
 }
 
 /// What comes of a page call, by whether the disk's call failed.
-fn outcome_by(failed: bool) -> Outcome
-    ensures { result ≡ outcome_by failed }
+fn page_ended(failed: bool) -> Outcome
+    ensures { result ≡ page_ended failed }
 {
     if failed {
         Outcome::Failed
@@ -96,7 +97,7 @@ fn page_out(
     let entry = Entry {
         stamp,
         event: Event::PageOut { node, end },
-        outcome: outcome_by(failed),
+        outcome: page_ended(failed),
     };
     endpoint.page_out(entry);
     Ok(entry)
@@ -123,7 +124,7 @@ fn page_in(
     let entry = Entry {
         stamp,
         event: Event::PageIn { node, end },
-        outcome: outcome_by(failed),
+        outcome: page_ended(failed),
     };
     if failed {
         endpoint.page_failed(entry);

@@ -34,7 +34,7 @@ use Rattle.am_scenario_types.specs.Lists.{ScenarioLists}
 use Rattle.am_scripts.specs.Layout.{layout_of}
 use Rattle.am_model.proofs.Alls.{all_at}
 use Rattle.am_model.proofs.Names.{same_end-is}
-use Rattle.am_scripts.specs.Standings.{Standing, is_missed, standings}
+use Rattle.am_scripts.specs.Standings.{Standing, is_missed, standings, standing_in}
 use Rattle.am_scripts.proofs.Lists.{found_in, found_true, none_all, none_mapped}
 use Rattle.am_drain.specs.Rules.{next_page_in, page_in_of}
 use Rattle.am_drainer.specs.Reads.{head_of, is_seat, mail_of}
@@ -82,9 +82,6 @@ any_later p (y ∷ xs) (suc k) h = by_test (p y) h (any_later p xs k)
 pub record IsSeen (layout : Layout) (past : List Entry) (k : ℕ) (one : EndpointView) : Type 0 where
   pub setting : slice_get layout.ends k ≡ Some (setting_in (kept one))
   pub state : state_after one ≡ state_of layout past one.settings.id
-
-abbrev pub standing_in : Layout → List Entry → EndSetting → Standing
-standing_in layout past s = record { setting = s; state = state_of layout past s.id }
 
 standing_at : (layout : Layout) (past : List Entry) (k : ℕ) (one : EndpointView) → IsSeen layout past k one → slice_get (standings layout past) k ≡ Some (standing_in layout past (setting_in (kept one)))
 standing_at layout past k one seen = slice_get-map_Some (standing_in layout past) layout.ends k (setting_in (kept one)) seen.setting

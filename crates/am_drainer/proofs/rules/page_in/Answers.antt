@@ -1,7 +1,6 @@
 use Rattle.std.specs.Prelude.{find}
 use Rattle.am_scripts.specs.Layout.{layout_of}
-use Rattle.am_scripts.specs.Standings.{standings}
-use Rattle.am_scripts.specs.Standings.{is_missed}
+use Rattle.am_scripts.specs.Standings.{standings, is_missed}
 use Rattle.am_drainer.proofs.Planned.{page_in_some, page_in_none}
 use Rattle.am_drainer.proofs.rules.page_in.Goals as goal
 

@@ -9,15 +9,15 @@ use Rattle.am_moves.proofs.pages.page_out.Goals as goal
 
 pub page_out-requires-clause-allowed : goal.page_out-requires-clause-allowed
 page_out-requires-clause-allowed c =
-    let x : Entry = record { stamp = c.args.stamp; event = Events.PageOut c.args.node c.args.end; outcome = c.outcome_by.result } in
+    let x : Entry = record { stamp = c.args.stamp; event = Events.PageOut c.args.node c.args.end; outcome = c.page_ended.result } in
     may_page_out c.args.endpoint.now c.room.new.self c.args.node c.args.end c.args.swap.now x c.room.ensures.settings c.room.ensures.log c.requires.can refl
-    (told_outcome c.args.swap.now c.in_ok-failed.failed c.outcome_by.result c.outcome_by.ensures c.in_ok-failed.ensures.0)
+    (told_outcome c.args.swap.now c.in_ok-failed.failed c.page_ended.result c.page_ended.ensures c.in_ok-failed.ensures.0)
 
 pub returns : goal.returns
 returns c =
     let s = c.args.swap.now in
-    let x : Entry = record { stamp = c.args.stamp; event = Events.PageOut c.args.node c.args.end; outcome = c.outcome_by.result } in
-    let outcome = told_outcome s c.in_ok-failed.failed c.outcome_by.result c.outcome_by.ensures c.in_ok-failed.ensures.0 in
+    let x : Entry = record { stamp = c.args.stamp; event = Events.PageOut c.args.node c.args.end; outcome = c.page_ended.result } in
+    let outcome = told_outcome s c.in_ok-failed.failed c.page_ended.result c.page_ended.ensures c.in_ok-failed.ensures.0 in
     let key : c.id.result ≡ c.args.endpoint.now.settings.id = c.id.ensures ∙ ap (λ (t : EndSettings). t.id) c.room.ensures.settings in
     let bytes = c.as_slice.ensures.value ∙ c.in_ok-image.ensures.image in
     record {
