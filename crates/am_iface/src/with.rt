@@ -4,7 +4,7 @@ ghost use Rattle.am_endpoint.specs.View.{state_after};
 ghost use Rattle.am_iface.specs.Made.{IsMade};
 ghost use Rattle.am_iface.specs.Turns.{IsFull};
 ghost use Rattle.am_iface.specs.View.{FitsAnswer, FitsInterface, FitsParcel, IsChannelOf, own};
-ghost use Rattle.am_iface.specs.With.{IsFlightOf, IsFullOf, KnowsHome, TurnsWith};
+ghost use Rattle.am_iface.specs.With.{IsFlightOf, IsFullOf, KnowsHome, Lands, TurnsWith};
 ghost use Rattle.am_local.specs.Granted.{FitsEndpoint, IsInFlight};
 ghost use Rattle.am_local.specs.Interface.{channel_in, home_in, needs};
 ghost use Rattle.am_model.specs.Allowed.{MaySettle};
@@ -36,6 +36,7 @@ impl Interface {
         ensures here { OnOk result (length self.now.log < self.now.settings.log) }
         ensures settings { endpoint.new.settings ≡ endpoint.old.settings }
         ensures log { endpoint.new.log ≡ endpoint.old.log }
+        ensures flights { endpoint.new.flights ≡ endpoint.old.flights }
         ensures enabled { (c : Condition) → result ≢ Err (IfaceFault.NotEnabled c) }
         ensures full { (p : Part) → (result ≡ Err (IfaceFault.LogFull p)) ↔ IsFullOf self.now endpoint.old p }
     {
@@ -71,6 +72,7 @@ impl Interface {
         ensures there { OnOk result (length endpoint.new.log < endpoint.new.settings.log) }
         ensures settings { endpoint.new.settings ≡ endpoint.old.settings }
         ensures log { endpoint.new.log ≡ endpoint.old.log }
+        ensures flights { endpoint.new.flights ≡ endpoint.old.flights }
         ensures enabled { (c : Condition) → result ≢ Err (IfaceFault.NotEnabled c) }
         ensures full { (p : Part) → (result ≡ Err (IfaceFault.LogFull p)) ↔ IsFullOf self.old endpoint.old p }
         ensures err { OnErr result (self.new ≡ self.old) }
@@ -296,6 +298,7 @@ fn settle(endpoint: &mut Endpoint, serial: Serial, entry: Entry)
     requires serial { settled_in entry.event entry.outcome ≡ Some serial }
     ensures settings { endpoint.new.settings ≡ endpoint.old.settings }
     ensures log { endpoint.new.log ≡ endpoint.old.log ++ entry ∷ [] }
+    ensures flights { Lands entry endpoint.old endpoint.new }
 {
     let Some(slot) = endpoint.flight_slot(serial) else {
         unreachable!()

@@ -14,15 +14,13 @@ use Rattle.am_office.specs.declared.Event.TheVariants as Events
 use Rattle.am_office.specs.declared.Entry.{Entry}
 use Rattle.am_office.specs.Entries.{emitted_of}
 use Rattle.am_model.specs.Channels.{emitted, is_on_link}
-use Rattle.am_model.specs.History.{is_page_call}
 use Rattle.am_model.proofs.Received.{bit}
 use Rattle.am_local.specs.Interface.{receiver_of}
-use Rattle.am_local.specs.Readings.{page_calls}
 use Rattle.am_local.specs.Together.{from_of}
-use Rattle.am_local.proofs.Growing.{emitted_append, readings_push}
+use Rattle.am_local.proofs.Growing.{emitted_append}
 use Rattle.am_drain.specs.Made.{later_stamp}
 use Rattle.am_journal.specs.Kept.{items_of}
-use Rattle.am_journal.specs.Places.{link, link_of, page_place, receipt_place, counted, delivered}
+use Rattle.am_journal.specs.Places.{link, link_of, receipt_place, counted, delivered}
 use Rattle.am_journal.specs.View.{AreNodes, AreRead, CanCount, HasRoomFor, IndexView, IsIndexOf, Readings, greatest_stamp, is_receipt, node_of, received_in, receipts}
 use Rattle.am_journal.proofs.Lists.{got_set, index_got, got_mapped, got_all, set_length}
 
@@ -61,11 +59,6 @@ counted_got (Some j) ns k n h = ⊎_elim here there (got_set ns j k (slice_index
     there both =
         let none : n ≡ n + one_if false = omega arith in
         (n, both.1, none ∙ ap (λ (b : Bool). n + one_if b) (sym (same_number k j both.0)))
-
-same_page : (node : ℕ) (e : Event) → is_there (page_place e) node ≡ is_page_call (node_of node) e
-same_page node (Events.PageOut at end) = refl
-same_page node (Events.PageIn at end) = refl
-same_page node e = refl
 
 -- two links are one where both nodes are
 pub same_link : (a b c d : ℕ) → b < 16 → d < 16 → ((16 * a + b) == (16 * c + d)) ≡ ((b == d) && (a == c))
@@ -149,14 +142,9 @@ pub delivered_length : (p : Option Packet) (ls : List (List Packet)) → length 
 delivered_length None ls = refl
 delivered_length (Some p) ls = set_length ls (link_of p) (slice_index_or ls (link_of p) [] ++ p ∷ [])
 
-pub read_more : (entries : List Entry) (pages received : List ℕ) (links : List (List Packet)) (x : Entry) (packet : Option Packet) → AreRead entries pages received links → packet ≡ emitted_of x → IsWithin packet → AreNodes x.event → AreRead (entries ++ x ∷ []) (counted (page_place x.event) pages) (counted (receipt_place x.event) received) (delivered packet links)
-read_more entries pages received links x packet are is nodes at =
+pub read_more : (entries : List Entry) (received : List ℕ) (links : List (List Packet)) (x : Entry) (packet : Option Packet) → AreRead entries received links → packet ≡ emitted_of x → IsWithin packet → AreNodes x.event → AreRead (entries ++ x ∷ []) (counted (receipt_place x.event) received) (delivered packet links)
+read_more entries received links x packet are is nodes at =
     record {
-      pages = λ node n h.
-          (let g = counted_got (page_place x.event) pages node n h in
-          g.2
-          ∙ (λ i. are.pages node g.0 g.1 i + one_if (same_page node x.event i))
-          ∙ sym ((readings_push entries x).pages (node_of node)));
       received = λ from to n lt h.
           (let g = counted_got (receipt_place x.event) received (16 * from + to) n h in
           g.2
@@ -168,7 +156,6 @@ read_more entries pages received links x packet are is nodes at =
           ∙ (λ i. are.emitted from to g.0 lt g.1 i ++ put_same from to packet lt nodes i)
           ∙ (λ i. emitted (node_of from) (node_of to) entries ++ on_link (node_of from) (node_of to) (is i))
           ∙ sym (emitted_append (node_of from) (node_of to) entries (x ∷ [])));
-      all_pages = counted_length (page_place x.event) pages ∙ are.all_pages;
       all_received = counted_length (receipt_place x.event) received ∙ are.all_received;
       all_links = delivered_length packet links ∙ are.all_links;
     }
@@ -180,15 +167,13 @@ replicated zero i n h = absurd (cc)
 replicated (suc k) zero n h = cc
 replicated (suc k) (suc i) n h = replicated k i n h
 
-pub read_none : (links : List (Vec Packet)) → length links ≡ 256 → All (λ packets. packets.items ≡ []) links → AreRead [] (replicate 16 0) (replicate 256 0) (map items_of links)
+pub read_none : (links : List (Vec Packet)) → length links ≡ 256 → All (λ packets. packets.items ≡ []) links → AreRead [] (replicate 256 0) (map items_of links)
 read_none links many none =
     record {
-      pages = λ node n h. replicated 16 node n h;
       received = λ from to n lt h. replicated 256 (16 * from + to) n h;
       emitted = λ from to ps lt h.
           (let g = got_mapped items_of links (16 * from + to) ps h in
           sym g.2 ∙ got_all (λ (v : Vec Packet). v.items ≡ []) links (16 * from + to) g.0 none g.1);
-      all_pages = refl;
       all_received = refl;
       all_links = map_length' links ∙ many;
     }
@@ -197,18 +182,13 @@ read_none links many none =
     map_length' [] = refl
     map_length' (v ∷ vs) = ap suc (map_length' vs)
 
--- a number at a place is that of a node
-pub page_count : (entries : List Entry) (pages received : List ℕ) (links : List (List Packet)) (node : NodeId) (n : ℕ) → AreRead entries pages received links → node.0 < 16 → n ≡ slice_index_or pages node.0 n → n ≡ page_calls node entries
-page_count entries pages received links node n are lt at =
-    are.pages node.0 n (index_got pages node.0 n (let all = are.all_pages in omega (arith, lt, all)) ∙ ap (λ (m : ℕ). Some m) (sym at))
-
-pub receipt_count : (entries : List Entry) (pages received : List ℕ) (links : List (List Packet)) (from to : NodeId) (n : ℕ) → AreRead entries pages received links → from.0 < 16 → to.0 < 16 → n ≡ slice_index_or received (link from to) n → n ≡ receipts from to entries
-receipt_count entries pages received links from to n are lt below at =
+pub receipt_count : (entries : List Entry) (received : List ℕ) (links : List (List Packet)) (from to : NodeId) (n : ℕ) → AreRead entries received links → from.0 < 16 → to.0 < 16 → n ≡ slice_index_or received (link from to) n → n ≡ receipts from to entries
+receipt_count entries received links from to n are lt below at =
     are.received from.0 to.0 n below
     (index_got received (link from to) n (let all = are.all_received in omega (arith, lt, below, all)) ∙ ap (λ (m : ℕ). Some m) (sym at))
 
-pub emitted_here : (entries : List Entry) (pages received : List ℕ) (links : List (List Packet)) (from to : NodeId) (ps : List Packet) → AreRead entries pages received links → from.0 < 16 → to.0 < 16 → ps ≡ slice_index_or links (link from to) ps → ps ≡ emitted from to entries
-emitted_here entries pages received links from to ps are lt below at =
+pub emitted_here : (entries : List Entry) (received : List ℕ) (links : List (List Packet)) (from to : NodeId) (ps : List Packet) → AreRead entries received links → from.0 < 16 → to.0 < 16 → ps ≡ slice_index_or links (link from to) ps → ps ≡ emitted from to entries
+emitted_here entries received links from to ps are lt below at =
     are.emitted from.0 to.0 ps below
     (index_got links (link from to) ps (let all = are.all_links in omega (arith, lt, below, all)) ∙ ap (λ (qs : List Packet). Some qs) (sym at))
 
@@ -231,10 +211,6 @@ nodes_at (suc k) = let n = nodes_at k in by_test n.0 n.1 n.2 n.3 (nat_lt (n.1 + 
 pub can_count : (entries : List Entry) (r : Readings) → IsIndexOf entries r → length entries + 1 < 2 ^ 64 → CanCount r
 can_count entries r is few =
     record {
-      pages = λ k d lt.
-          (let same = is.read.pages k (slice_index_or r.pages k d) (index_got r.pages k d lt) in
-          let most = count_by-le-length (λ (x : Entry). is_page_call (node_of k) x.event) entries in
-          omega (arith, same, most, few));
       received = λ k d lt.
           (let n = nodes_at k in
           let at : slice_get r.received (16 * n.0 + n.1) ≡ Some (slice_index_or r.received k d) = ap (slice_get r.received) (sym n.3) ∙ index_got r.received k d lt in
@@ -244,11 +220,6 @@ can_count entries r is few =
     }
 
 -- the count at the place of an event, if it has one
-pub page_small : (pages : List ℕ) (e : Event) → All (λ n. n + 1 < 2 ^ 64) pages → length pages ≡ 16 → AreNodes e → IfSome (page_place e) (λ k. slice_index_or pages k 0 + 1 < 2 ^ 64)
-page_small pages (Events.PageOut node end) small all at = small node.0 0 (omega (arith, all, at))
-page_small pages (Events.PageIn node end) small all at = small node.0 0 (omega (arith, all, at))
-page_small pages e small all at = tt
-
 pub receipt_small : (received : List ℕ) (e : Event) → All (λ n. n + 1 < 2 ^ 64) received → length received ≡ 256 → AreNodes e → IfSome (receipt_place e) (λ k. slice_index_or received k 0 + 1 < 2 ^ 64)
 receipt_small received (Events.Receive node peer number) small all at = let a = at.0 in let b = at.1 in small (link peer node) 0 (omega (arith, all, a, b))
 receipt_small received e small all at = tt
@@ -257,5 +228,5 @@ pub nodes_within : (v : IndexView) (p : Option Packet) → HasRoomFor v p → Is
 nodes_within v None h = tt
 nodes_within v (Some p) h = (h.0, h.1)
 
-pub read_same : (entries : List Entry) (pages received : List ℕ) (links : List (List Packet)) (es : List Entry) (ps rs : List ℕ) (ls : List (List Packet)) → es ≡ entries → ps ≡ pages → rs ≡ received → ls ≡ links → AreRead entries pages received links → AreRead es ps rs ls
-read_same entries pages received links es ps rs ls a b c d are = coe 0 1 (i. AreRead (sym a i) (sym b i) (sym c i) (sym d i)) are
+pub read_same : (entries : List Entry) (received : List ℕ) (links : List (List Packet)) (es : List Entry) (rs : List ℕ) (ls : List (List Packet)) → es ≡ entries → rs ≡ received → ls ≡ links → AreRead entries received links → AreRead es rs ls
+read_same entries received links es rs ls a b c are = coe 0 1 (i. AreRead (sym a i) (sym b i) (sym c i)) are

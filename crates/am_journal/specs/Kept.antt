@@ -14,12 +14,11 @@ items_of v = v.items
 abbrev pub view_of : Inside → IndexView
 view_of j =
     record {
-      read = record { greatest = j.greatest; pages = j.page_calls; received = j.receipts; packets = map items_of j.packets.items };
+      read = record { greatest = j.greatest; received = j.receipts; packets = map items_of j.packets.items };
       links = map has_space j.packets.items;
     }
 
--- it has numbers for each of 16 nodes, and numbers and packets for each link between them
+-- it has a number and packets for each link between 16 nodes
 pub record IsWhole (j : Inside) : Type 0 where
-  pub nodes : length j.page_calls ≡ 16
   pub numbers : length j.receipts ≡ 256
   pub links : length j.packets.items ≡ 256

@@ -1,4 +1,4 @@
--- Where the numbers and packets of a node or a link stand among those of all.
+-- Where the numbers and packets of a link stand among those of all.
 use Rattle.std.specs.Prelude.{ℕ, ◌+◌, ◌*◌, Option, Some, None, List, [], ◌∷◌, ◌++◌, slice_set, slice_index_or}
 use Rattle.am_names.specs.declared.NodeId.{NodeId}
 use Rattle.am_names.specs.declared.Packet.{Packet}
@@ -14,12 +14,6 @@ link from to = 16 * from.0 + to.0
 -- the link that a packet goes over
 abbrev pub link_of : Packet → ℕ
 link_of p = link (from_of p) (receiver_of p)
-
--- the node whose page call it is, if it is one
-abbrev pub page_place : Event → Option ℕ
-page_place (Events.PageOut node end) = Some node.0
-page_place (Events.PageIn node end) = Some node.0
-page_place event = None
 
 -- the link whose packet is received, if one is
 abbrev pub receipt_place : Event → Option ℕ

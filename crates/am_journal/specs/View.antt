@@ -9,16 +9,13 @@ use Rattle.am_office.specs.declared.Event.TheVariants as Events
 use Rattle.am_office.specs.declared.Entry.{Entry}
 use Rattle.am_model.specs.Channels.{emitted}
 use Rattle.am_local.specs.Interface.{receiver_of}
-use Rattle.am_local.specs.Readings.{page_calls}
 use Rattle.am_local.specs.Together.{from_of}
 use Rattle.am_drain.specs.Made.{later_stamp}
 use Rattle.am_journal.specs.Places.{link}
 
--- what an index reads: the greatest stamp, the page calls of each of 16 nodes, and of each link, sixteen to a node, the receipts
--- and the packets
+-- what an index reads: the greatest stamp, and of each link of 16 nodes, sixteen to a node, the receipts and the packets
 pub record Readings : Type 0 where
   pub greatest : ℕ
-  pub pages : List ℕ
   pub received : List ℕ
   pub packets : List (List Packet)
 
@@ -52,11 +49,9 @@ is_receipt from to event = false
 abbrev pub receipts : NodeId → NodeId → List Entry → ℕ
 receipts from to past = count_by (λ (x : Entry). is_receipt from to x.event) past
 
--- the numbers of an event's nodes are those of a cluster
+-- the nodes of a receipt are those of a cluster
 abbrev pub AreNodes : Event → Type 0
 AreNodes (Events.Receive node peer number) = (node.0 < 16) × (peer.0 < 16)
-AreNodes (Events.PageOut node end) = node.0 < 16
-AreNodes (Events.PageIn node end) = node.0 < 16
 AreNodes event = Unit {0}
 
 -- the packet, if there is one, goes over a link of a cluster on which there is room for it
@@ -67,21 +62,18 @@ HasRoomFor v (Some p) = ((from_of p).0 < 16) × ((receiver_of p).0 < 16) × (is_
 abbrev pub node_of : ℕ → NodeId
 node_of n = record { 0 = n }
 
--- the numbers of each node and link, and the packets of each link, are those of the entries
-pub record AreRead (entries : List Entry) (of_nodes of_links : List ℕ) (packets : List (List Packet)) : Type 0 where
-  pub pages : (node n : ℕ) → slice_get of_nodes node ≡ Some n → n ≡ page_calls (node_of node) entries
+-- the number and the packets of each link are those of the entries
+pub record AreRead (entries : List Entry) (of_links : List ℕ) (packets : List (List Packet)) : Type 0 where
   pub received : (from to n : ℕ) → to < 16 → slice_get of_links (16 * from + to) ≡ Some n → n ≡ receipts (node_of from) (node_of to) entries
   pub emitted : (from to : ℕ) (ps : List Packet) → to < 16 → slice_get packets (16 * from + to) ≡ Some ps → ps ≡ emitted (node_of from) (node_of to) entries
-  pub all_pages : length of_nodes ≡ 16
   pub all_received : length of_links ≡ 256
   pub all_links : length packets ≡ 256
 
 -- it reads what the definitions read off these entries
 pub record IsIndexOf (entries : List Entry) (r : Readings) : Type 0 where
   pub greatest : r.greatest ≡ greatest_stamp entries
-  pub read : AreRead entries r.pages r.received r.packets
+  pub read : AreRead entries r.received r.packets
 
 -- each count can be one more
 pub record CanCount (r : Readings) : Type 0 where
-  pub pages : All (λ n. n + 1 < 2 ^ 64) r.pages
   pub received : All (λ n. n + 1 < 2 ^ 64) r.received

@@ -1,10 +1,8 @@
 //! The index of a cluster's journal, which has what its machine reads off the entries, and none of them: the greatest stamp so
-//! far, the packets that each link took, how many of them were received, and how many page calls each node made. So no step
-//! looks through the logs.
+//! far, the packets that each link took, and how many of them were received. So no step looks through the logs.
 #![tactic(auto)]
 
 ghost use Rattle.am_journal.specs.View.{AreNodes, CanCount, HasRoomFor, IsIndexOf, is_ready_on, received_in, receipts};
-ghost use Rattle.am_local.specs.Readings.{page_calls};
 ghost use Rattle.am_model.specs.Channels.{emitted};
 ghost use Rattle.am_office.specs.Entries.{emitted_of};
 ghost use Rattle.am_office.specs.declared.Entry.{Entry};
@@ -14,7 +12,7 @@ mod links;
 mod places;
 
 use crate::links::{deliver, no_packets, space_on};
-use crate::places::{count, link, page_place, receipt_place};
+use crate::places::{count, link, receipt_place};
 use am_names::{NodeId, Packet};
 use am_office::Entry;
 pub use am_office::NoMemory;
@@ -27,8 +25,6 @@ use std::marker::Model;
 pub struct JournalIndex {
     /// The greatest stamp of the entries, and 0 where there are none.
     greatest: u64,
-    /// How many page calls each of 16 nodes made.
-    page_calls: [u64; 16],
     /// How many packets of each link were received: the links from one node stand together, sixteen to a node.
     receipts: [u64; 256],
     /// The packets that each link took, in the same order.
@@ -55,7 +51,6 @@ impl JournalIndex {
         let packets = no_packets(alloc)?;
         Ok(JournalIndex {
             greatest: 0,
-            page_calls: [0; 16],
             receipts: [0; 256],
             packets,
         })
@@ -66,14 +61,6 @@ impl JournalIndex {
         ensures { result ≡ self.now.read.greatest }
     {
         self.greatest
-    }
-
-    /// How many page calls a node made.
-    pub fn page_calls(&self, node: NodeId) -> u64
-        requires { node.0 < 16 }
-        ensures { (past : List Entry) → IsIndexOf past self.now.read → result ≡ page_calls node past }
-    {
-        self.page_calls[node.0 as usize]
     }
 
     /// The packets that a node emitted to another, in order.
@@ -127,7 +114,6 @@ impl JournalIndex {
         requires nodes { AreNodes entry.event }
         ensures { (past : List Entry) → IsIndexOf past self.old.read → IsIndexOf (past ++ entry ∷ []) self.new.read }
     {
-        count(&mut self.page_calls, page_place(entry.event));
         count(&mut self.receipts, receipt_place(entry.event));
         deliver(&mut self.packets, packet);
         self.greatest = self.greatest.max(entry.stamp);

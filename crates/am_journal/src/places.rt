@@ -1,4 +1,4 @@
-// Where the numbers of a node or a link stand among those of all.
+// Where the numbers of a link stand among those of all.
 ghost use Rattle.am_journal.specs.Places as at;
 ghost use Rattle.std.specs.Prelude.{◌≡◌, ◌+◌, ◌<◌, ◌^◌, IfSome, length, slice_index_or};
 
@@ -10,16 +10,6 @@ pub(crate) fn link(from: NodeId, to: NodeId) -> usize
     ensures { result ≡ at.link from to }
 {
     16 * from.0 as usize + to.0 as usize
-}
-
-/// The place of the node whose page call it is, if it is one.
-pub(crate) fn page_place(event: Event) -> Option<usize>
-    ensures { result ≡ at.page_place event }
-{
-    match event {
-        Event::PageOut { node, .. } | Event::PageIn { node, .. } => Some(node.0 as usize),
-        _ => None,
-    }
 }
 
 /// The place of the link whose packet is received, if one is.

@@ -20,4 +20,4 @@ returns c past is =
     ∙ ap (λ (k : ℕ). items_of (slice_index_or links k one)) c.link.ensures
     ∙ sym (index_map items_of links (link c.args.from c.args.to) one one.items within) in
     c.as_slice.ensures.value
-    ∙ emitted_here past j.page_calls j.receipts (map items_of links) c.args.from c.args.to one.items was.read c.requires.from c.requires.to at
+    ∙ emitted_here past j.receipts (map items_of links) c.args.from c.args.to one.items was.read c.requires.from c.requires.to at

@@ -2,20 +2,13 @@ use Rattle.std.specs.Prelude.{max, slice_index_or, IfSome, Option}
 use Rattle.std.proofs.Common.{◌≡◌, ◌<◌, ◌^◌, ◌+◌, ◌++◌, ◌∷◌, [], ℕ, length, map, refl, ap, sym, ◌∙◌, subst}
 use Rattle.am_journal.specs.Kept.{items_of}
 use Rattle.am_journal.specs.View.{CanCount, IndexView, IsIndexOf}
-use Rattle.am_journal.specs.Places.{counted, page_place, receipt_place}
+use Rattle.am_journal.specs.Places.{counted, receipt_place}
 use Rattle.am_journal.proofs.Growing as growing
 use Rattle.am_journal.proofs.Lists.{map_length}
 use Rattle.am_journal.proofs.JournalIndex.log.Goals as goal
 
 pub count-requires-clause-small : goal.count-requires-clause-small
 count-requires-clause-small c =
-    let j = c.self.inside in
-    let can = subst (λ (v : IndexView). CanCount v.read) (sym c.self.view_is) c.requires.counts in
-    subst (λ (place : Option ℕ). IfSome place (λ k. slice_index_or j.page_calls k 0 + 1 < 2 ^ 64)) (sym c.page_place.ensures)
-    (growing.page_small j.page_calls c.args.entry.event can.pages c.self.invariant.nodes c.requires.nodes)
-
-pub count-requires-2-clause-small : goal.count-requires-2-clause-small
-count-requires-2-clause-small c =
     let j = c.self.inside in
     let can = subst (λ (v : IndexView). CanCount v.read) (sym c.self.view_is) c.requires.counts in
     subst (λ (place : Option ℕ). IfSome place (λ k. slice_index_or j.receipts k 0 + 1 < 2 ^ 64)) (sym c.receipt_place.ensures)
@@ -25,8 +18,7 @@ pub invariant_of-self : goal.invariant_of-self
 invariant_of-self c =
     let j = c.self.inside in
     record {
-      nodes = ap length (c.count.ensures ∙ ap (λ p. counted p j.page_calls) c.page_place.ensures) ∙ growing.counted_length (page_place c.args.entry.event) j.page_calls ∙ c.self.invariant.nodes;
-      numbers = ap length (c.count-2.ensures ∙ ap (λ p. counted p j.receipts) c.receipt_place.ensures) ∙ growing.counted_length (receipt_place c.args.entry.event) j.receipts ∙ c.self.invariant.numbers;
+      numbers = ap length (c.count.ensures ∙ ap (λ p. counted p j.receipts) c.receipt_place.ensures) ∙ growing.counted_length (receipt_place c.args.entry.event) j.receipts ∙ c.self.invariant.numbers;
       links =
           sym (map_length items_of c.deliver.new.links.items)
           ∙ ap length c.deliver.ensures
@@ -40,10 +32,9 @@ returns c past is =
     let j = c.self.inside in
     let x = c.args.entry in
     let was = subst (λ (v : IndexView). IsIndexOf past v.read) (sym c.self.view_is) is in
-    let pages : c.count.new.counts ≡ counted (page_place x.event) j.page_calls = c.count.ensures ∙ ap (λ p. counted p j.page_calls) c.page_place.ensures in
-    let received : c.count-2.new.counts ≡ counted (receipt_place x.event) j.receipts = c.count-2.ensures ∙ ap (λ p. counted p j.receipts) c.receipt_place.ensures in
-    let next = growing.read_more past j.page_calls j.receipts (map items_of j.packets.items) x c.args.packet was.read c.requires.packet (growing.nodes_within c.args.self.now c.args.packet c.requires.room) c.requires.nodes in
+    let received : c.count.new.counts ≡ counted (receipt_place x.event) j.receipts = c.count.ensures ∙ ap (λ p. counted p j.receipts) c.receipt_place.ensures in
+    let next = growing.read_more past j.receipts (map items_of j.packets.items) x c.args.packet was.read c.requires.packet (growing.nodes_within c.args.self.now c.args.packet c.requires.room) c.requires.nodes in
     record {
       greatest = c.max-self-inside.ensures ∙ ap (λ (n : ℕ). max n x.stamp) was.greatest ∙ sym (growing.greatest_push past x);
-      read = growing.read_same _ _ _ _ (past ++ x ∷ []) c.count.new.counts c.count-2.new.counts (map items_of c.deliver.new.links.items) refl pages received c.deliver.ensures next;
+      read = growing.read_same _ _ _ (past ++ x ∷ []) c.count.new.counts (map items_of c.deliver.new.links.items) refl received c.deliver.ensures next;
     }

@@ -5,7 +5,7 @@ use Rattle.am_journal.proofs.JournalIndex.new.Goals as goal
 pub invariant_of-result : goal.invariant_of-result
 invariant_of-result c =
     let links = c.in_ok-packets.packets in
-    record { nodes = refl; numbers = refl; links = sym links.ok.0 ∙ c.in_ok-packets.ensures.len }
+    record { numbers = refl; links = sym links.ok.0 ∙ c.in_ok-packets.ensures.len }
 
 pub returns : goal.returns
 returns c =
