@@ -7,3 +7,4 @@ pub mod Marked
 pub mod Copying
 pub mod Refused
 pub mod Slots
+pub mod Fronts

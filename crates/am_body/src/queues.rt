@@ -4,7 +4,7 @@ ghost use Rattle.am_body.specs.Views.{queued_in};
 ghost use Rattle.am_model.specs.Changes.{queued, without_front};
 ghost use Rattle.am_model.specs.Endpoint.{front_of};
 ghost use Rattle.am_names.specs.Names.{is_request};
-ghost use Rattle.std.specs.Prelude.{◌≡◌, ◌<◌};
+ghost use Rattle.std.specs.Prelude.{◌≡◌, ◌↔◌, ◌<◌, [], None};
 
 use crate::Body;
 use crate::moves::{file_free, free_front, front_descriptor};
@@ -32,8 +32,17 @@ fn as_queued(descriptor: Descriptor) -> Queued
 }
 
 impl Body {
-    /// The front message, and how often it bounced: the front of replies, and where there is none the front of requests.
+    /// The front message, and how often it bounced: the front of replies, and where there is none the front of requests. None
+    /// exactly where both are empty.
     pub fn front(&self) -> Option<Queued>
+        ensures value { result ≡ front_of self.now.body.replies self.now.body.requests }
+        ensures none { (result ≡ None) ↔ ((self.now.body.replies ≡ []) × (self.now.body.requests ≡ [])) }
+    {
+        self.first_queued()
+    }
+
+    /// The front of replies, and where there is none the front of requests.
+    fn first_queued(&self) -> Option<Queued>
         ensures { result ≡ front_of self.now.body.replies self.now.body.requests }
     {
         match front_descriptor(&self.block, List::Replies) {

@@ -1,5 +1,5 @@
 -- The calls of a bundle, member by member, and which member is ready.
-use Rattle.std.specs.Prelude.{Bool, ◌==◌, List, map, find, Option, Some, None}
+use Rattle.std.specs.Prelude.{◌≡◌, Bool, false, ◌==◌, List, Contains, map, find, Option, Some, None}
 use Rattle.std.specs.List.{list_any}
 use Rattle.am_names.specs.declared.EndpointId.{EndpointId}
 use Rattle.am_office.specs.declared.Call.{Call}
@@ -18,6 +18,10 @@ test_calls bundle = map (λ member. (member, Test bundle.mask)) bundle.members
 
 abbrev pub is_among : List EndpointId → EndpointId → Bool
 is_among pollable member = list_any (λ other. other.0 == member.0) pollable
+
+-- none of the members is pollable
+abbrev pub NoneIsAmong : List EndpointId → List EndpointId → Type 0
+NoneIsAmong pollable members = (member : EndpointId) → Contains members member → is_among pollable member ≡ false
 
 -- ready at the first that was found
 abbrev pub ready_at : Option EndpointId → Readiness

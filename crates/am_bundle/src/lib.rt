@@ -1,8 +1,8 @@
 //! Bundles: endpoints of one node that are polled together, and which of their events are told.
 #![tactic(auto)]
 
-ghost use Rattle.std.specs.Prelude.{◌≡◌, IfOk, map, find};
-ghost use Rattle.am_bundle.specs.Calls.{poll_calls, test_calls, is_among, readiness};
+ghost use Rattle.std.specs.Prelude.{◌≡◌, ◌↔◌, ◌⊎◌, IfOk, map, find};
+ghost use Rattle.am_bundle.specs.Calls.{NoneIsAmong, poll_calls, test_calls, is_among, readiness};
 
 use am_names::{EndpointId, NoMemory};
 use am_office::{Call, Mask};
@@ -52,9 +52,11 @@ impl Bundle {
         each_with(alloc, &self.members, Call::Test(self.mask))
     }
 
-    /// The first member that is among the pollable endpoints, where the bundle tells that its members aren't empty.
+    /// The first member that is among the pollable endpoints, where the bundle tells that its members aren't empty. `NotYet`
+    /// exactly where the bundle tells no events, or no member is among them.
     pub fn ready(&self, pollable: &[EndpointId]) -> Readiness
-        ensures { result ≡ readiness self.now pollable.now }
+        ensures member { result ≡ readiness self.now pollable.now }
+        ensures not_yet { (result ≡ Readiness.NotYet) ↔ ((self.now.mask ≡ Mask.NoEvents) ⊎ NoneIsAmong pollable.now self.now.members) }
     {
         match self.mask {
             Mask::NoEvents => Readiness::NotYet,

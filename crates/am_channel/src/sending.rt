@@ -74,7 +74,8 @@ impl SendEnd {
 
     /// The message that is bound. None exactly where the end is idle.
     pub fn busy(&self) -> Option<Bound>
-        ensures { result ≡ self.now.bound }
+        ensures bound { result ≡ self.now.bound }
+        ensures idle { (result ≡ None) ↔ IsNone self.now.bound }
     {
         self.bound
     }

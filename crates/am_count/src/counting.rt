@@ -105,7 +105,8 @@ fn count_rounds<T: Threads + Sync, R: Runner>(
 }
 
 /// What is printed of the words of a text, which 1 to 8 nodes count in rounds of 0 to 10,000 turns. The text has at most 1,048,576
-/// bytes. LogFull: a log is full in the run of a round.
+/// bytes. LogFull: a log is full in the run of a round. NoMemory: there is none for a round or for what is printed; the text is as it
+/// was, what was counted is let go, and the runner made the runs of some rounds.
 pub fn count<T: Threads + Sync, R: Runner>(
     rt: &T,
     runner: &R,

@@ -18,7 +18,8 @@ use std::thread::Threads;
 
 /// What is printed of the words of a text, which 1 to 8 nodes count in rounds of 0 to 10,000 turns. The text has at most 1,048,576
 /// bytes. The threads, interfaces and drivers of a round make their turns at the same time, and nothing is asked of the schedule.
-/// LogFull: a log is full in the run of a round. NoMemory: there is no memory.
+/// LogFull: a log is full in the run of a round. NoMemory: there is none for a round or for what is printed; the text is as it was, and
+/// what was counted is let go.
 pub fn count_over_cluster<R: Threads + Sync>(
     rt: &R,
     alloc: Global,

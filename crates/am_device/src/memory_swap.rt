@@ -1,6 +1,6 @@
 ghost use Rattle.am_device.specs.Causes.{FailsAsTold, HoldsSame, IsCaused, IsCounted, Writes, fails_after};
 ghost use Rattle.am_device.specs.Memory.{ReadsSo, WritesSo, counted, faulted, held_for, with_held};
-ghost use Rattle.std.specs.Prelude.{◌≡◌, ◌≤◌, [], IfOk, IsSome, OnErr, OnOk, Some};
+ghost use Rattle.std.specs.Prelude.{◌≡◌, ◌≤◌, [], IfOk, IsSome, OnErr, OnOk, Some, ◌↔◌, None};
 ghost use Rattle.std.specs.Option.{option_copied};
 
 use crate::kept::{Kept, held_for, hold};
@@ -55,7 +55,8 @@ impl MemorySwap {
 
     /// What it holds for the key, and None exactly where the key wasn't written. It isn't counted.
     pub fn held(&self, key: EndpointId) -> Option<&[u8]>
-        ensures { option_copied result ≡ held_for self.now.held key }
+        ensures bytes { option_copied result ≡ held_for self.now.held key }
+        ensures none { (result ≡ None) ↔ (held_for self.now.held key ≡ None) }
     {
         held_for(&self.kept, key)
     }

@@ -1,6 +1,7 @@
 //! What the turns of a driver answer.
 use am_names::EndpointId;
 use am_office::Entry;
+use thiserror::Error;
 
 /// What a turn of a driver did.
 #[derive(Clone, Copy)]
@@ -18,9 +19,12 @@ pub enum DriverTurn {
 }
 
 /// Why a driver makes no further turn.
-#[derive(Clone, Copy)]
+#[derive(Clone, Copy, Debug, Error)]
 pub enum DriverFault {
     /// The log of the endpoint that is to be moved has as many entries as it may.
+    #[error("the endpoint's log is full")]
     LogFull(EndpointId),
+    /// There is no memory for the move.
+    #[error("there is no memory for the move")]
     NoMemory,
 }

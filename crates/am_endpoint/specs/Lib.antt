@@ -3,6 +3,7 @@ pub mod View
 pub mod Seen
 pub mod Held
 pub mod Events
+pub mod Empty
 pub mod Done
 pub mod Flights
 pub mod Kept

@@ -3,6 +3,7 @@
 
 ghost use Rattle.am_block.specs.Pools.{without};
 ghost use Rattle.am_body.specs.Flights.{slot_of};
+ghost use Rattle.am_endpoint.specs.Empty.{HasNoArrivals, HasNoQueued};
 ghost use Rattle.am_endpoint.specs.Events.{is_kept_out, keeps_flights};
 ghost use Rattle.am_endpoint.specs.Flights.{IsSlotOf};
 ghost use Rattle.am_model.specs.Changes.{settled_in};
@@ -204,10 +205,12 @@ impl Endpoint {
         }
     }
 
-    /// The front message, and how often it bounced: the front of replies, and where there is none the front of requests.
+    /// The front message, and how often it bounced: the front of replies, and where there is none the front of requests. None
+    /// exactly where both are empty.
     pub fn front(&self) -> Option<Queued>
         requires { is_on_disk (state_after self.now).head.place ≡ false }
         ensures value { result ≡ front (state_after self.now) }
+        ensures none { (result ≡ None) ↔ HasNoQueued (state_after self.now).body }
         ensures formed { IfSome result (λ queued. is_well_formed queued.message ≡ true) }
     {
         self.fields().front()
@@ -226,7 +229,8 @@ impl Endpoint {
     /// Whether a notice or a received message is there.
     pub fn pollable(&self) -> bool
         requires { is_on_disk (state_after self.now).head.place ≡ false }
-        ensures { result ≡ has_arrivals (state_after self.now).body }
+        ensures value { result ≡ has_arrivals (state_after self.now).body }
+        ensures none { (result ≡ false) ↔ HasNoArrivals (state_after self.now).body }
     {
         self.fields().body.has_arrivals()
     }

@@ -9,6 +9,7 @@ ghost use Rattle.std.specs.Prelude.{◌≡◌, ◌≤◌, ◌⊎◌, ◌↔◌, 
 use am_names::Words;
 use am_office::HandlerKind;
 use std::marker::Model;
+use thiserror::Error;
 
 /// The handlers of an endpoint by their indexes, 0 to 15. Contracts see the list of the 16 kinds, `None` where no
 /// handler is set. Index 0 is the handler of messages that came back, which is always there and has no kind.
@@ -31,11 +32,13 @@ impl Model for Handlers {
 }
 
 /// Why a handler was not set. The first that holds, in this order, is the fault.
-#[derive(Clone, Copy, PartialEq, Eq, Debug)]
+#[derive(Clone, Copy, PartialEq, Eq, Debug, Error)]
 pub enum HandlerFault {
     /// The index is 16 or more.
+    #[error("the index is 16 or more")]
     BadIndex,
     /// The index is 0, whose handler is always there and can't be set.
+    #[error("index 0 is always set")]
     Reserved,
 }
 

@@ -11,4 +11,6 @@ pub mod Settling
 pub mod GivingUp
 pub mod Binding
 pub mod Touching
+pub mod Untouched
+pub mod Flown
 pub mod Settled

@@ -1,6 +1,6 @@
 -- What a turn with an endpoint answers, by what logging its entry answers.
 use Rattle.std.specs.Prelude.{◌↔◌, Result, Ok, Err, IfOk, OnOk, OnErr}
-use Rattle.std.proofs.Common.{◌≡◌, ◌≢◌, ⊎_elim, ℕ, ◌<◌, [], ◌∷◌, ◌++◌, length, Some, None, refl, sym, ap, ◌∙◌, arith}
+use Rattle.std.proofs.Common.{◌≡◌, ◌≢◌, ⊎_elim, ℕ, ◌<◌, [], ◌∷◌, ◌++◌, length, Some, None, refl, sym, ap, ◌∙◌, subst, arith}
 use Rattle.am_office.specs.declared.Condition.{Condition}
 use Rattle.am_office.specs.declared.Part.{Part}
 use Rattle.am_office.specs.declared.Entry.{Entry}
@@ -12,7 +12,7 @@ use Rattle.am_iface.specs.declared.Turned.{Turned}
 use Rattle.am_model.specs.declared.EntryFault.{EntryFault}
 use Rattle.am_model.specs.declared.EntryFault.TheVariants as Faults
 use Rattle.am_iface.specs.View.{InterfaceView, own}
-use Rattle.am_iface.specs.With.{IsFullOf, TurnsWith}
+use Rattle.am_iface.specs.With.{Flies, IsFullOf, TurnsWith}
 use Rattle.am_iface.proofs.Turning.{IsEntryOf}
 
 -- no log is full where both have room
@@ -29,12 +29,14 @@ pub record EntersWith (old new : InterfaceView) (e : EndpointView) (x : Entry) (
   pub err : OnErr result (new ≡ old)
 
 -- what becomes of the endpoint
-pub record Follows (e f : EndpointView) (x : Entry) (result : Result Turned EntryFault) : Type 0 where
+pub record Follows (e f : EndpointView) (w : Work) (x : Entry) (result : Result Turned EntryFault) : Type 0 where
   pub same : f.settings ≡ e.settings
   pub there : OnOk result (f.log ≡ e.log ++ x ∷ [])
+  pub flies : OnOk result (Flies w x e f)
   pub err : OnErr result (f.log ≡ e.log)
+  pub err_flights : OnErr result (f.flights ≡ e.flights)
 
-pub turns_with : (old new : InterfaceView) (e f : EndpointView) (stamp : ℕ) (w : Work) (x : Entry) (result : Result Turned EntryFault) → IsEntryOf old (state_after e) stamp w x → EntersWith old new e x result → Follows e f x result → TurnsWith old new e f stamp w result
+pub turns_with : (old new : InterfaceView) (e f : EndpointView) (stamp : ℕ) (w : Work) (x : Entry) (result : Result Turned EntryFault) → IsEntryOf old (state_after e) stamp w x → EntersWith old new e x result → Follows e f w x result → TurnsWith old new e f stamp w result
 turns_with old new e f stamp w x (Ok t) is enters follows =
     let entry : t.entry ≡ x = ap (λ (u : Turned). u.entry) enters.turned in
     record {
@@ -44,11 +46,13 @@ turns_with old new e f stamp w x (Ok t) is enters follows =
       out = ap (λ (u : Turned). u.out) enters.turned ∙ ap emitted_of (sym entry);
       logged = enters.logged ∙ ap (λ (y : Entry). record old { log = old.log ++ y ∷ [] }) (sym entry);
       there = follows.there ∙ ap (λ (y : Entry). e.log ++ y ∷ []) (sym entry);
+      flies = subst (λ (y : Entry). Flies w y e f) (sym entry) follows.flies;
       same = follows.same;
       disabled = λ c. ((λ h. absurd (enters.enabled c h)), (λ h. absurd (let both : None ≡ Some c = sym is.enabled ∙ h in cc)));
       full = λ p. ((λ h. (is.enabled, (enters.full p).0 h)), (λ h. (enters.full p).1 h.1));
       err = tt;
       err_there = tt;
+      err_flights = tt;
     }
 turns_with old new e f stamp w x (Err fault) is enters follows =
     record {
@@ -58,11 +62,13 @@ turns_with old new e f stamp w x (Err fault) is enters follows =
       out = tt;
       logged = tt;
       there = tt;
+      flies = tt;
       same = follows.same;
       disabled = λ c. ((λ h. absurd (enters.enabled c h)), (λ h. absurd (let both : None ≡ Some c = sym is.enabled ∙ h in cc)));
       full = λ p. ((λ h. (is.enabled, (enters.full p).0 h)), (λ h. (enters.full p).1 h.1));
       err = enters.err;
       err_there = follows.err;
+      err_flights = follows.err_flights;
     }
 
 -- a turn that a condition keeps from being made
@@ -75,9 +81,11 @@ turns_with_by_failing old e stamp w why fails =
       out = tt;
       logged = tt;
       there = tt;
+      flies = tt;
       same = refl;
       disabled = λ c. ((λ h. fails ∙ ap (λ (k : Condition). Some k) (let same : why ≡ c = cc in same)), (λ h. let same : why ≡ c = (let both : Some why ≡ Some c = sym fails ∙ h in cc) in ap (λ (k : Condition). Err (Faults.NotEnabled k)) same));
       full = λ p. ((λ h. absurd (cc)), (λ h. absurd (let both : Some why ≡ None = sym fails ∙ h.0 in cc)));
       err = refl;
       err_there = refl;
+      err_flights = refl;
     }

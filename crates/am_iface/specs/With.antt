@@ -1,9 +1,14 @@
 -- What a turn of an interface with an endpoint answers, and what it leaves of both.
-use Rattle.std.specs.Prelude.{◌≡◌, ◌≢◌, ◌⊎◌, ◌↔◌, ℕ, Option, Some, None, Result, Err, IfOk, OnErr, IsSome, [], ◌∷◌, ◌++◌, length}
+use Rattle.std.specs.Prelude.{◌≡◌, ◌≢◌, ◌⊎◌, ◌↔◌, ℕ, Option, Some, None, Result, Err, IfOk, OnErr, IsSome, List, [], ◌∷◌, ◌++◌, length}
 use Rattle.am_office.specs.declared.Condition.{Condition}
 use Rattle.am_office.specs.declared.Part.{Part}
 use Rattle.am_office.specs.declared.Part.TheVariants as Parts
 use Rattle.am_office.specs.Entries.{emitted_of}
+use Rattle.am_office.specs.declared.Entry.{Entry}
+use Rattle.am_names.specs.declared.Serial.{Serial}
+use Rattle.am_block.specs.Pools.{without}
+use Rattle.am_body.specs.Flights.{slot_of}
+use Rattle.am_endpoint.specs.Flights.{settled_in}
 use Rattle.am_endpoint.specs.View.{EndpointView, state_after}
 use Rattle.am_local.specs.declared.work.Work.{Work}
 use Rattle.am_local.specs.declared.work.Work.TheVariants as Works
@@ -23,6 +28,26 @@ use Rattle.am_iface.specs.Turns.{IsFull}
 abbrev pub IsFullOf : InterfaceView → EndpointView → Part → Type 0
 IsFullOf v e part = ((part ≡ Parts.Endpoint e.settings.id) × (length e.log ≡ e.settings.log)) ⊎ ((length e.log ≢ e.settings.log) × IsFull v part)
 
+abbrev pub slots_without : Option ℕ → List ℕ → List ℕ
+slots_without None slots = slots
+slots_without (Some slot) slots = without slot slots
+
+-- the slots in flight without that of the first message in flight that has the serial, where there is a serial
+abbrev pub flights_without : Option Serial → List Flying → List ℕ → List ℕ
+flights_without None flying slots = slots
+flights_without (Some serial) flying slots = slots_without (slot_of serial flying slots) slots
+
+-- the slots in flight without that of the message that an entry settles or gives up; the others stay, as all do where a
+-- parcel arrives
+abbrev pub Lands : Entry → EndpointView → EndpointView → Type 0
+Lands x e f = f.flights ≡ flights_without (settled_in x.event x.outcome) (state_after e).body.in_flight e.flights
+
+-- what a work's entry makes of the slots in flight: the message of a bind has one more behind the others
+abbrev pub Flies : Work → Entry → EndpointView → EndpointView → Type 0
+Flies (Works.Bind end) x e f = (slot : ℕ) × (f.flights ≡ e.flights ++ slot ∷ [])
+Flies (Works.Receive p) x e f = Lands x e f
+Flies (Works.Expire peer channel) x e f = Lands x e f
+
 pub record TurnsWith (old new : InterfaceView) (e f : EndpointView) (stamp : ℕ) (w : Work) (result : Result Turned EntryFault) : Type 0 where
   pub event : IfOk result (λ t. t.entry.event ≡ event_of old.settings.node w)
   pub outcome : IfOk result (λ t. t.entry.outcome ≡ outcome_at (own old) (state_after e) w)
@@ -30,11 +55,13 @@ pub record TurnsWith (old new : InterfaceView) (e f : EndpointView) (stamp : ℕ
   pub out : IfOk result (λ t. t.out ≡ emitted_of t.entry)
   pub logged : IfOk result (λ t. new ≡ record old { log = old.log ++ t.entry ∷ [] })
   pub there : IfOk result (λ t. f.log ≡ e.log ++ t.entry ∷ [])
+  pub flies : IfOk result (λ t. Flies w t.entry e f)
   pub same : f.settings ≡ e.settings
   pub disabled : (c : Condition) → (result ≡ Err (Faults.NotEnabled c)) ↔ (failing_at (own old) (state_after e) w ≡ Some c)
   pub full : (p : Part) → (result ≡ Err (Faults.LogFull p)) ↔ ((failing_at (own old) (state_after e) w ≡ None) × IsFullOf old e p)
   pub err : OnErr result (new ≡ old)
   pub err_there : OnErr result (f.log ≡ e.log)
+  pub err_flights : OnErr result (f.flights ≡ e.flights)
 
 -- the front message, if there is one, goes to an endpoint whose home is known and one of the nodes
 abbrev pub IsHomeKnown : InterfaceLog → Option Queued → Type 0

@@ -15,7 +15,7 @@ ghost use Rattle.am_model.specs.History.{free_from};
 ghost use Rattle.am_office.specs.Entries.{emitted_of};
 ghost use Rattle.am_office.specs.declared.Condition.{Condition};
 ghost use Rattle.am_office.specs.declared.Part.{Part};
-ghost use Rattle.std.specs.Prelude.{◌≡◌, ◌≢◌, ◌↔◌, ◌-◌, ◌<◌, ◌^◌, [], ◌∷◌, ◌++◌, Err, None, Some, false, IfOk, IfSome, IsNone, OnErr, OnOk};
+ghost use Rattle.std.specs.Prelude.{◌≡◌, ◌≢◌, ◌↔◌, ◌-◌, ◌<◌, ◌^◌, ℕ, [], ◌∷◌, ◌++◌, Err, None, Some, false, IfOk, IfSome, IsNone, OnErr, OnOk};
 
 use crate::by_ends::{bind, first_try};
 use crate::entries::{bind_entry, sent};
@@ -121,11 +121,13 @@ impl Interface {
         ensures turned { IfOk result (λ t. t ≡ record { entry = entry; out = emitted_of entry }) }
         ensures logged { OnOk result (self.new ≡ record self.old { log = self.old.log ++ entry ∷ [] }) }
         ensures there { OnOk result (endpoint.new.log ≡ endpoint.old.log ++ entry ∷ []) }
+        ensures flights { OnOk result ((slot : ℕ) × (endpoint.new.flights ≡ endpoint.old.flights ++ slot ∷ [])) }
         ensures settings { endpoint.new.settings ≡ endpoint.old.settings }
         ensures enabled { (c : Condition) → result ≢ Err (EntryFault.NotEnabled c) }
         ensures full { (p : Part) → (result ≡ Err (EntryFault.LogFull p)) ↔ IsFullOf self.old endpoint.old p }
         ensures err { OnErr result (self.new ≡ self.old) }
         ensures err_there { OnErr result (endpoint.new.log ≡ endpoint.old.log) }
+        ensures err_flights { OnErr result (endpoint.new.flights ≡ endpoint.old.flights) }
     {
         if let Err(fault) = self.room_with(endpoint) {
             return Err(fault);

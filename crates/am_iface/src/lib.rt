@@ -7,14 +7,15 @@ ghost use Rattle.am_endpoint.specs.View.{state_after};
 ghost use Rattle.am_iface.specs.Turns.{IsFull, Turns, stamp_after, stamp_in};
 ghost use Rattle.am_iface.specs.View.{FitsAnswer, FitsInterface, FitsParcel, InterfaceView, IsChannelOf, own};
 ghost use Rattle.am_model.specs.Parts.{last_stamp};
-ghost use Rattle.am_iface.specs.With.{IsFullOf, KnowsHome};
+ghost use Rattle.am_iface.specs.With.{IsFullOf, KnowsHome, Flies};
+ghost use Rattle.am_iface.specs.Touches.{EmitsNone, TouchesNone};
 ghost use Rattle.am_channel.specs.declared.sending.Bound.{Bound};
 ghost use Rattle.am_channel.specs.Counted.{AreCounted};
 ghost use Rattle.am_local.specs.Granted.{FitsEndpoint};
 ghost use Rattle.am_local.specs.Interface.{arrival_in, channel_in, emits_to, event_of, failing_at, home_in, needs, needs_arrival, outcome_at};
 ghost use Rattle.am_local.specs.declared.work.Work.TheVariants as Works;
 ghost use Rattle.am_model.specs.Endpoint.{State, is_direct};
-ghost use Rattle.am_model.specs.History.{next_number};
+ghost use Rattle.am_model.specs.History.{is_bound, next_number};
 ghost use Rattle.am_names.specs.declared.Packet.TheVariants as Packets;
 ghost use Rattle.am_model.specs.Channels.{attempt, bound_message, emitted};
 ghost use Rattle.std.specs.Option.{option_map};
@@ -183,6 +184,7 @@ impl Interface {
         requires channel { channel < self.now.settings.channels }
         ensures message { option_map (λ (b : Bound). b.message) result ≡ bound_message (channel_in (own self.now) peer channel) self.now.log }
         ensures attempt { IfSome result (λ b. b.attempt ≡ attempt (channel_in (own self.now) peer channel) self.now.log) }
+        ensures idle { (result ≡ None) ↔ (is_bound (channel_in (own self.now) peer channel) self.now.log ≡ false) }
     {
         self.ends(peer, channel).sending.busy()
     }
@@ -190,6 +192,15 @@ impl Interface {
     /// The endpoint that a work touches: the destination of a fresh parcel, the source of a bound message that settles or
     /// is given up, the endpoint of a bind, and none otherwise.
     pub fn needs(&self, work: &Work) -> Option<EndpointId>
+        requires { FitsInterface self.now work.now }
+        ensures value { result ≡ needs (own self.now) work.now }
+        ensures none { (result ≡ None) ↔ TouchesNone (own self.now) work.now }
+    {
+        self.touched(work)
+    }
+
+    /// The endpoint that a work touches, by the ends of its channel.
+    fn touched(&self, work: &Work) -> Option<EndpointId>
         requires { FitsInterface self.now work.now }
         ensures { result ≡ needs (own self.now) work.now }
     {
@@ -208,6 +219,15 @@ impl Interface {
     /// stale, and the peer of a time-out with a try left. None exactly where the work is a bind, can't be done, or emits no
     /// packet.
     pub fn emits_to(&self, work: &Work) -> Option<NodeId>
+        requires { FitsInterface self.now work.now }
+        ensures value { result ≡ emits_to (own self.now) work.now }
+        ensures none { (result ≡ None) ↔ EmitsNone (own self.now) work.now }
+    {
+        self.receiver(work)
+    }
+
+    /// The peer of the packet that the work's entry would emit, by the ends of its channel.
+    fn receiver(&self, work: &Work) -> Option<NodeId>
         requires { FitsInterface self.now work.now }
         ensures { result ≡ emits_to (own self.now) work.now }
     {
@@ -411,7 +431,7 @@ impl Interface {
     }
 
     /// Does a work that touches this endpoint, and logs its entry here and in the endpoint. Room is made in both logs first.
-    /// Where it answers no entry, neither log has changed.
+    /// Where it answers no entry, neither log has changed, nor what the endpoint has in flight.
     pub fn turn_with(
         &mut self,
         floor: u64,
@@ -437,6 +457,7 @@ impl Interface {
         ensures out { IfOk result (λ t. t.out ≡ emitted_of t.entry) }
         ensures logged { IfOk result (λ t. self.new ≡ record self.old { log = self.old.log ++ t.entry ∷ [] }) }
         ensures logged_there { IfOk result (λ t. endpoint.new.log ≡ endpoint.old.log ++ t.entry ∷ []) }
+        ensures flights_there { IfOk result (λ t. Flies work.now t.entry endpoint.old endpoint.new) }
         ensures settings_there { endpoint.new.settings ≡ endpoint.old.settings }
 
         // the first condition that fails, or the first full log where none does
@@ -444,6 +465,7 @@ impl Interface {
         ensures full { (p : Part) → (result ≡ Err (EntryFault.LogFull p)) ↔ ((failing_at (own self.old) (state_after endpoint.old) work.now ≡ None) × IsFullOf self.old endpoint.old p) }
         ensures err { OnErr result (self.new ≡ self.old) }
         ensures err_there { OnErr result (endpoint.new.log ≡ endpoint.old.log) }
+        ensures err_flights { OnErr result (endpoint.new.flights ≡ endpoint.old.flights) }
     {
         let stamp = self.stamp_with(floor, work, endpoint);
         self.work_with(stamp, work, endpoint)

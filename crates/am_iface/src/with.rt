@@ -3,7 +3,7 @@ ghost use Rattle.am_model.specs.Changes.{settled_in};
 ghost use Rattle.am_endpoint.specs.View.{state_after};
 ghost use Rattle.am_iface.specs.Made.{IsMade};
 ghost use Rattle.am_iface.specs.View.{FitsAnswer, FitsInterface, FitsParcel, IsChannelOf, own};
-ghost use Rattle.am_iface.specs.With.{IsFlightOf, IsFullOf, KnowsHome, TurnsWith};
+ghost use Rattle.am_iface.specs.With.{IsFlightOf, IsFullOf, KnowsHome, Lands, TurnsWith};
 ghost use Rattle.am_local.specs.Granted.{FitsEndpoint, IsInFlight};
 ghost use Rattle.am_local.specs.Interface.{channel_in, home_in, needs};
 ghost use Rattle.am_model.specs.Allowed.{MaySettle};
@@ -35,6 +35,7 @@ impl Interface {
         ensures here { OnOk result (length self.now.log < self.now.settings.log) }
         ensures settings { endpoint.new.settings ≡ endpoint.old.settings }
         ensures log { endpoint.new.log ≡ endpoint.old.log }
+        ensures flights { endpoint.new.flights ≡ endpoint.old.flights }
         ensures enabled { (c : Condition) → result ≢ Err (EntryFault.NotEnabled c) }
         ensures full { (p : Part) → (result ≡ Err (EntryFault.LogFull p)) ↔ IsFullOf self.now endpoint.old p }
     {
@@ -70,6 +71,7 @@ impl Interface {
         ensures there { OnOk result (length endpoint.new.log < endpoint.new.settings.log) }
         ensures settings { endpoint.new.settings ≡ endpoint.old.settings }
         ensures log { endpoint.new.log ≡ endpoint.old.log }
+        ensures flights { endpoint.new.flights ≡ endpoint.old.flights }
         ensures enabled { (c : Condition) → result ≢ Err (EntryFault.NotEnabled c) }
         ensures full { (p : Part) → (result ≡ Err (EntryFault.LogFull p)) ↔ IsFullOf self.old endpoint.old p }
         ensures err { OnErr result (self.new ≡ self.old) }
@@ -295,6 +297,7 @@ fn settle(endpoint: &mut Endpoint, serial: Serial, entry: Entry)
     requires serial { settled_in entry.event entry.outcome ≡ Some serial }
     ensures settings { endpoint.new.settings ≡ endpoint.old.settings }
     ensures log { endpoint.new.log ≡ endpoint.old.log ++ entry ∷ [] }
+    ensures flights { Lands entry endpoint.old endpoint.new }
 {
     let Some(slot) = endpoint.flight_slot(serial) else {
         unreachable!()

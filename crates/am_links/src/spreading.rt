@@ -2,7 +2,7 @@
 ghost use Rattle.am_links.specs.Links.{AreSpread};
 ghost use Rattle.am_wire.specs.declared.receiving.LinkIn.{LinkIn as End};
 ghost use Rattle.std.specs.Global.{Vec as Column};
-ghost use Rattle.std.specs.Prelude.{◌≡◌, ℕ, Some, [], ◌∷◌, ◌++◌, IfOk, OnOk, length, slice_get};
+ghost use Rattle.std.specs.Prelude.{◌≡◌, ℕ, Some, [], ◌∷◌, ◌++◌, IfOk, OnErr, OnOk, length, slice_get};
 
 use am_names::NoMemory;
 use am_wire::LinkIn;
@@ -20,15 +20,17 @@ pub(crate) fn open_columns(alloc: Global, nodes: u8) -> Result<Vec<Vec<LinkIn>>,
     Ok(columns)
 }
 
-/// Puts an end last.
+/// Puts an end last. Without memory it is dropped, and the list is as it was.
 fn put(column: &mut Vec<LinkIn>, end: LinkIn) -> Result<(), NoMemory>
-    ensures { OnOk result (column.new.items ≡ column.old.items ++ end ∷ []) }
+    ensures ok { OnOk result (column.new.items ≡ column.old.items ++ end ∷ []) }
+    ensures err { OnErr result (column.new.items ≡ column.old.items) }
 {
     column.push(end)?;
     Ok(())
 }
 
-/// Puts each end last in the list with its place.
+/// Puts each end last in the list with its place. Without memory some of them were put, and the others are dropped: the lists are
+/// of no further use.
 pub(crate) fn spread(mut ends: Vec<LinkIn>, columns: &mut Vec<Vec<LinkIn>>) -> Result<(), NoMemory>
     requires { length ends.items ≡ length columns.old.items }
     ensures { OnOk result (AreSpread ends.items columns.old.items columns.new.items) }

@@ -1,7 +1,8 @@
 -- What is seen of a cluster's parts.
-use Rattle.std.specs.Prelude.{slice_get, slice_index_or}
+use Rattle.std.specs.Prelude.{◌↔◌, is_some, slice_get, slice_index_or}
+use Rattle.std.specs.Option.{option_map}
 use Rattle.std.specs.List.{filter, find, list_any, position}
-use Rattle.std.proofs.Common.{◌≡◌, ℕ, zero, suc, ◌+◌, ◌<◌, ◌≤◌, Bool, true, false, cond, ◌||◌, List, [], ◌∷◌, map, length, Option, Some, None, refl, sym, ap, ◌∙◌, arith}
+use Rattle.std.proofs.Common.{◌≡◌, ℕ, zero, suc, ◌+◌, ◌<◌, ◌≤◌, Bool, true, false, cond, ◌||◌, List, [], ◌∷◌, map, length, Option, Some, None, refl, sym, ap, ◌∙◌, arith, true≢false}
 use Rattle.std.proofs.lemmas.Bool.{and_parts}
 use Rattle.std.proofs.lemmas.List.Sums.{sum_by-cons}
 use Rattle.am_lemmas.proofs.Lists.{slice_get-None}
@@ -13,14 +14,16 @@ use Rattle.am_office.specs.declared.Event.TheVariants as Events
 use Rattle.am_office.specs.declared.Entry.{Entry}
 use Rattle.am_office.specs.Entries.{is_node, node_touched, touches, touches_node}
 use Rattle.am_model.specs.History.{state_of}
-use Rattle.am_model.specs.Layout.{EndSetting, Layout, declared, has_id, home, home_by}
+use Rattle.am_model.specs.Endpoint.{State, is_on_disk}
+use Rattle.am_model.specs.Layout.{EndSetting, Layout, declared, has_id, home, home_by, opening, opening_by, opening_place}
 use Rattle.am_model.proofs.Names.{same_end-refl}
 use Rattle.am_endpoint.specs.View.{EndpointView, state_after}
 use Rattle.am_iface.specs.View.{InterfaceView}
 use Rattle.am_journal.specs.View.{is_receipt, receipts}
 use Rattle.am_journal.proofs.Lists.{index_got}
 use Rattle.am_moves.specs.Logs.{kept}
-use Rattle.am_machine.specs.Ends.{is_of, setting_in}
+use Rattle.am_machine.specs.Ends.{is_of, setting_in, EndLog, settings_by}
+use Rattle.am_body.specs.declared.settings.EndSettings.{EndSettings}
 use Rattle.am_machine.specs.Interfaces.{AreInterfaces, IsInterface}
 use Rattle.am_machine.specs.Kept.{IsTied}
 use Rattle.am_machine.proofs.Applied.{found_here, own_here, state_here}
@@ -43,10 +46,21 @@ stands_declared (v ∷ vs) (suc k) one e at id = either (has_id e (setting_in (k
     either true b h = refl
     either false b h = h
 
+-- what the layout says an endpoint begins with is what it began with
+settings_here : (layout : Layout) (e : EndLog) → opening_place layout.direct (is_on_disk e.settings.place) ≡ e.settings.place → e.settings.log ≡ layout.log → e.settings.bounces ≡ layout.bounces → e.settings.pool ≡ layout.pool → settings_by layout (setting_in e) ≡ e.settings
+settings_here layout e place limit bounces pool =
+    λ j. record { id = e.settings.id; node = e.settings.node; tag = e.settings.tag; place = place j; log = sym limit j; bounces = sym bounces j; pool = sym pool j }
+
+-- an endpoint is not found where it isn't known
+pub unknown_is : {X : Type 0} (r : Option X) (b : Bool) → is_some r ≡ b → (r ≡ None) ↔ (b ≡ false)
+unknown_is None b is = ((λ h. sym is), (λ h. refl))
+unknown_is (Some x) b is = ((λ h. absurd (let both : Some x ≡ None = h in cc)), (λ h. absurd (true≢false (is ∙ h))))
+
 -- an endpoint that was looked for and found at this place
 pub record IsFoundAt (layout : Layout) (journal : List Entry) (e : EndpointId) (one : EndpointView) : Type 0 where
   pub known : true ≡ declared layout e
   pub id : one.settings.id ≡ e
+  pub settings : option_map (settings_by layout) (find (has_id e) layout.ends) ≡ Some one.settings
   pub node : home layout e ≡ Some one.settings.node
   pub log : one.log ≡ filter (touches e) journal
   pub state : state_after one ≡ state_of layout journal e
@@ -57,6 +71,11 @@ end_found layout vs journal e k one ends tied found value =
     record {
       known = sym (ap (list_any (has_id e)) ends ∙ stands_declared vs k one e here.at here.id);
       id = here.id;
+      settings =
+          (let own = own_here layout vs journal e k one tied here in
+          let setting = ap (find (has_id e)) ends ∙ setting_found vs e one (ap (slice_get vs) (position_at vs e k found) ∙ here.at) in
+          let place = sym (ap (λ (o : Option EndSetting). (opening_by layout o).head.place) setting) ∙ ap (λ (d : EndpointId). (opening layout d).head.place) (sym here.id) ∙ ap (λ (s : State). s.head.place) own.opening in
+          ap (option_map (settings_by layout)) setting ∙ ap (λ (s : EndSettings). Some s) (settings_here layout (kept one) place own.limit own.bounces own.pool));
       node = ap (λ (ss : List EndSetting). home_by (find (has_id e) ss)) ends ∙ ap home_by (setting_found vs e one (ap (slice_get vs) (position_at vs e k found) ∙ here.at));
       log = (own_here layout vs journal e k one tied here).log ∙ ap (λ (d : EndpointId). filter (touches d) journal) here.id;
       state = state_here layout vs journal e k one tied here;

@@ -5,7 +5,7 @@ use Rattle.am_names.specs.Names.{same_end}
 use Rattle.am_office.specs.declared.Entry.{Entry}
 use Rattle.am_office.specs.Entries.{touches}
 use Rattle.am_model.specs.Endpoint.{is_on_disk}
-use Rattle.am_model.specs.Layout.{EndSetting}
+use Rattle.am_model.specs.Layout.{EndSetting, Layout, opening_place}
 use Rattle.am_local.specs.Readings.{with_entry}
 use Rattle.am_endpoint.specs.View.{EndpointView}
 use Rattle.am_moves.specs.Logs.{EndLog}
@@ -17,6 +17,19 @@ is_of id v = same_end id v.settings.id
 -- how an endpoint is declared that has these settings
 abbrev pub setting_in : EndLog → EndSetting
 setting_in e = record { id = e.settings.id; node = e.settings.node; tag = e.settings.tag; disk = is_on_disk e.settings.place }
+
+-- what an endpoint begins with that is declared so
+abbrev pub settings_by : Layout → EndSetting → EndSettings
+settings_by layout s =
+    record {
+      id = s.id;
+      node = s.node;
+      tag = s.tag;
+      place = opening_place layout.direct s.disk;
+      log = layout.log;
+      bounces = layout.bounces;
+      pool = layout.pool;
+    }
 
 -- an endpoint after an entry, which stands in its log where it touches it
 abbrev pub grown : Entry → EndLog → EndLog

@@ -2,17 +2,18 @@
 ghost use Rattle.am_endpoint.specs.View.{state_after};
 ghost use Rattle.am_journal.specs.View.{receipts};
 ghost use Rattle.am_moves.specs.Logs.{kept};
-ghost use Rattle.am_machine.specs.Ends.{setting_in};
+ghost use Rattle.am_machine.specs.Ends.{setting_in, settings_by};
 ghost use Rattle.am_machine.specs.Interfaces.{IsInterface};
 ghost use Rattle.am_model.specs.Channels.{emitted};
 ghost use Rattle.am_model.specs.History.{IsHistory, state_of};
-ghost use Rattle.am_model.specs.Layout.{IsLawful, declared, home};
+ghost use Rattle.am_model.specs.Layout.{IsLawful, declared, has_id, home};
 ghost use Rattle.am_model.specs.PostOffice.{PostOffice};
 ghost use Rattle.am_names.specs.declared.EndpointId.{EndpointId};
 ghost use Rattle.am_names.specs.declared.NodeId.{NodeId};
 ghost use Rattle.am_office.specs.Entries.{touches, touches_node};
-ghost use Rattle.std.specs.List.{filter};
-ghost use Rattle.std.specs.Prelude.{◌≡◌, ◌<◌, ◌≤◌, All, IfSome, Some, false, is_some, length, slice_get, true};
+ghost use Rattle.std.specs.List.{filter, find};
+ghost use Rattle.std.specs.Option.{option_map};
+ghost use Rattle.std.specs.Prelude.{◌≡◌, ◌↔◌, ◌<◌, ◌≤◌, All, IfSome, None, Some, false, is_some, length, slice_get, true};
 
 use crate::Cluster;
 use crate::ends::place_of;
@@ -22,9 +23,12 @@ use am_laws::post_office;
 use am_names::{EndpointId, NodeId, Packet};
 
 impl Cluster {
-    /// The endpoint with this number: its log is its part of the journal. None exactly where it isn't declared.
+    /// The endpoint with this number: its log is its part of the journal, and it began as the layout says. None exactly where it
+    /// isn't declared.
     pub fn end(&self, id: EndpointId) -> Option<&Endpoint>
         ensures known { is_some result ≡ declared self.now.layout id }
+        ensures none { (result ≡ None) ↔ (declared self.now.layout id ≡ false) }
+        ensures settings { IfSome result (λ end. option_map (settings_by self.now.layout) (find (has_id id) self.now.layout.ends) ≡ Some end.now.settings) }
         ensures id { IfSome result (λ end. end.now.settings.id ≡ id) }
         ensures node { IfSome result (λ end. home self.now.layout id ≡ Some end.now.settings.node) }
         ensures log { IfSome result (λ end. end.now.log ≡ filter (touches id) self.now.journal) }

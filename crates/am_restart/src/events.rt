@@ -1,5 +1,7 @@
 //! What may happen in a session, and what came of it: plain data.
 
+use thiserror::Error;
+
 /// What the receiver says of a fresh parcel.
 #[derive(Clone, Copy, PartialEq, Eq, Debug)]
 pub enum Say {
@@ -110,10 +112,12 @@ pub enum SessionCondition {
 }
 
 /// Why an event didn't happen.
-#[derive(Clone, Copy, PartialEq, Eq, Debug)]
+#[derive(Clone, Copy, PartialEq, Eq, Debug, Error)]
 pub enum SessionFault {
     /// This is the first of the event's conditions that fails.
+    #[error("the event can't happen")]
     NotEnabled(SessionCondition),
     /// There is no memory for what it emits or queues.
+    #[error("there is no memory for the event")]
     NoMemory,
 }

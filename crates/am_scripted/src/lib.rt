@@ -45,7 +45,7 @@ fn tell_of(scenario: &Scenario, cluster: &Cluster, threads: &[ThreadScript], mad
     tell_made(threads, made);
 }
 
-/// No log of the scenario's cluster has more entries than it may. It looks once at each endpoint.
+/// No log of the scenario's cluster has more entries than it may: the cluster keeps that, and nothing is looked at.
 pub fn tell_logs(cluster: &Cluster, scenario: &Scenario)
     requires lawful { IsLawful scenario.now }
     requires packet { scenario.now.network ≡ Packet }

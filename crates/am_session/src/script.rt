@@ -7,6 +7,7 @@ use am_lexer::What;
 use am_restart::SessionEvent;
 use std::alloc::AllocFailed;
 use std::marker::Model;
+use thiserror::Error;
 
 /// An event, and the line in which it stands, from 1.
 #[derive(Clone, Copy, PartialEq, Eq, Debug)]
@@ -31,7 +32,8 @@ impl Model for SessionScript {
 }
 
 /// Where a text spells no session, and why.
-#[derive(Clone, Copy, PartialEq, Eq, Debug)]
+#[derive(Clone, Copy, PartialEq, Eq, Debug, Error)]
+#[error("the text spells no session: line {line}")]
 pub struct SessionTextFault {
     /// The line, from 1; one more than there are lines where something is missing after the last.
     pub line: u32,
@@ -39,11 +41,13 @@ pub struct SessionTextFault {
 }
 
 /// Why no session was read.
-#[derive(Clone, Copy, PartialEq, Eq, Debug)]
+#[derive(Clone, Copy, PartialEq, Eq, Debug, Error)]
 pub enum ReadFault {
     /// The text spells none.
+    #[error("the text spells no session")]
     Refused(SessionTextFault),
     /// There was no memory.
+    #[error("there is no memory for the session")]
     NoMemory,
 }
 

@@ -1,7 +1,8 @@
 -- What decoding finds.
-use Rattle.std.specs.Prelude.{◌≡◌, ℕ, Option, Some, List, [], IfSome}
+use Rattle.std.specs.Prelude.{◌≡◌, ◌≢◌, ℕ, Option, Some, List, [], IfSome}
 use Rattle.am_names.specs.declared.EndpointId.{EndpointId}
 use Rattle.am_body.specs.Views.{View}
+use Rattle.am_model.specs.Endpoint.{Body}
 use Rattle.am_image.specs.Image.{image}
 use Rattle.am_image.specs.Valid.{IsValid}
 
@@ -19,3 +20,7 @@ IsImaged e pool bytes found = IfSome found (IsImagedBy e pool bytes)
 -- each such body is what is found: so there is one at most, and nothing is found only where there is none
 abbrev pub FindsEach : EndpointId → Option ℕ → List ℕ → Option View → Type 0
 FindsEach e pool bytes found = (v : View) → IsImagedBy e pool bytes v → found ≡ Some v
+
+-- no body that the endpoint e may have with this pool or none has the bytes as its image
+abbrev pub NoBodyHas : EndpointId → Option ℕ → List ℕ → Type 0
+NoBodyHas e pool bytes = (b : Body) → IsValid e pool b → image b ≢ bytes

@@ -7,9 +7,9 @@ ghost use Rattle.am_image.specs.Range.{IsInRange};
 ghost use Rattle.am_image.specs.Valid.{IsValid};
 ghost use Rattle.am_model.specs.Endpoint.{Body as Held};
 ghost use Rattle.am_names.specs.declared.EndpointId.{EndpointId as Id};
-ghost use Rattle.am_swap.specs.Decoded.{FindsEach, IsImaged};
+ghost use Rattle.am_swap.specs.Decoded.{FindsEach, IsImaged, NoBodyHas};
 ghost use Rattle.am_swap.specs.Laws.{DamageIsSeen};
-ghost use Rattle.std.specs.Prelude.{◌≡◌, ◌<◌, [], IfOk, length};
+ghost use Rattle.std.specs.Prelude.{◌≡◌, ◌↔◌, ◌<◌, [], IfOk, None, length};
 
 mod listed;
 mod made;
@@ -47,6 +47,7 @@ pub fn decode(
 ) -> Result<Option<Body>, NoMemory>
     ensures imaged { IfOk result (IsImaged id pool bytes.now) }
     ensures each { IfOk result (FindsEach id pool bytes.now) }
+    ensures none { IfOk result (λ found. (found ≡ None) ↔ NoBodyHas id pool bytes.now) }
 {
     match BodyLists::decoded(alloc, id, pool, bytes)? {
         None => Ok(None),

@@ -1,5 +1,5 @@
 -- A translation table: where the requests of each index go, and the records of the requests whose replies are awaited.
-use Rattle.std.specs.Prelude.{◌≡◌, ℕ, ◌≤◌, ◌==◌, Bool, true, false, not, nat_le, Option, None, is_none, is_some, List, [], ◌∷◌, ◌++◌, length, replicate, slice_set, count_by}
+use Rattle.std.specs.Prelude.{◌≡◌, ℕ, ◌<◌, ◌≤◌, ◌==◌, Bool, true, false, not, nat_le, Option, None, is_none, is_some, IsSome, List, [], ◌∷◌, ◌++◌, length, replicate, slice_set, count_by}
 use Rattle.std.specs.List.{list_all, list_any}
 use Rattle.std.specs.Option.{option_map}
 use Rattle.am_names.specs.declared.Serial.{Serial}
@@ -64,6 +64,37 @@ credit_fault t index =
     ∷ (has_no_credit t.pool (body_with t) index (entry_at t.mapped index), CreditFaults.NoCredit)
     ∷ (nat_le 32 (length t.awaited), CreditFaults.TableFull)
     ∷ [])
+
+-- the index is one of the 16, and is mapped
+abbrev pub IsMapped : Table → ℕ → Type 0
+IsMapped t index = (index < 16) × IsSome (entry_at t.mapped index)
+
+-- the index is one of the 16, and is not mapped
+abbrev pub IsUnmapped : Table → ℕ → Type 0
+IsUnmapped t index = (index < 16) × (entry_at t.mapped index ≡ None)
+
+-- the index is free, and the shares of the mapped indexes, which come to this sum, leave no room for the new one
+pub record IsOverShare (t : Table) (index share sum : ℕ) : Type 0 where
+  pub unmapped : IsUnmapped t index
+  pub sum_is : sum ≡ shares (body_with t)
+  pub over : is_over_share t.pool (body_with t) share ≡ true
+
+-- the index is mapped, and has so many records, one at least
+pub record HasRecords (t : Table) (index count : ℕ) : Type 0 where
+  pub mapped : IsMapped t index
+  pub count_is : count ≡ records_at t index
+  pub some : 1 ≤ count
+
+-- the index is mapped, and has no credit left: its own, or its share with the pool empty
+pub record HasNoCredit (t : Table) (index : ℕ) : Type 0 where
+  pub mapped : IsMapped t index
+  pub spent : has_no_credit t.pool (body_with t) index (entry_at t.mapped index) ≡ true
+
+-- the index is mapped and has a credit left, and there are 32 records
+pub record IsFullFor (t : Table) (index : ℕ) : Type 0 where
+  pub mapped : IsMapped t index
+  pub credit : has_no_credit t.pool (body_with t) index (entry_at t.mapped index) ≡ false
+  pub full : 32 ≤ length t.awaited
 
 abbrev pub target_of : Mapping → Target
 target_of mapping = record { name = mapping.name; tag = mapping.tag }

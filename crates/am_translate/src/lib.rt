@@ -7,7 +7,13 @@ ghost use Rattle.am_model.specs.Changes.{without_waiting, without_record, with_a
 ghost use Rattle.am_model.specs.Endpoint.{entry_at};
 ghost use Rattle.am_model.specs.History.{are_credits_in_range};
 ghost use Rattle.am_translate.specs.Tables.{
+  HasNoCredit,
+  HasRecords,
+  IsFullFor,
+  IsMapped,
+  IsOverShare,
   IsTable,
+  IsUnmapped,
   body_with,
   credit_fault,
   empty_table,
@@ -24,7 +30,7 @@ ghost use Rattle.am_translate.specs.Tables.{
   with_mapping,
   with_record,
 };
-ghost use Rattle.std.specs.Prelude.{◌≡◌, ◌≤◌, ◌<◌, ◌↔◌, length, true, false, None, Some, IfOk, IsErr, OnErr, OnOk, slice_get, sum_by};
+ghost use Rattle.std.specs.Prelude.{◌≡◌, ◌≤◌, ◌<◌, ◌↔◌, length, true, false, ℕ, None, Some, Err, IfOk, IsErr, OnErr, OnOk, slice_get, sum_by};
 ghost use Rattle.std.specs.Result.{result_err};
 
 mod parts;
@@ -35,6 +41,7 @@ pub use am_model::Awaited as Held;
 use am_model::{Awaited, Mapping};
 use am_names::{EndpointId, Serial, Tag};
 use std::marker::Model;
+use thiserror::Error;
 
 /// Where the requests of an index go, and the tag that they carry.
 #[derive(Clone, Copy, PartialEq, Eq, Debug)]
@@ -44,45 +51,56 @@ pub struct Target {
 }
 
 /// Why an index was not mapped. The first that holds, in this order, is the fault (`map_fault` of `specs/Tables.antt`).
-#[derive(Clone, Copy, PartialEq, Eq, Debug)]
+#[derive(Clone, Copy, PartialEq, Eq, Debug, Error)]
 pub enum MapFault {
     /// The index is 16 or more.
+    #[error("the index is 16 or more")]
     BadIndex,
     /// The index is mapped.
+    #[error("the index is mapped")]
     InUse,
     /// There is a pool, and the sum of the shares of the mapped indexes, which this carries, the new share and the pool
     /// are together more than 32.
+    #[error("the shares and the pool are more than 32")]
     OverShare(u8),
 }
 
 /// Why an index was not unmapped. The first that holds, in this order, is the fault (`unmap_fault` of
 /// `specs/Tables.antt`).
-#[derive(Clone, Copy, PartialEq, Eq, Debug)]
+#[derive(Clone, Copy, PartialEq, Eq, Debug, Error)]
 pub enum UnmapFault {
     /// The index is 16 or more.
+    #[error("the index is 16 or more")]
     BadIndex,
     /// The index is not mapped.
+    #[error("the index is not mapped")]
     NotMapped,
     /// The index has so many records.
+    #[error("the index has records")]
     Outstanding(u8),
 }
 
 /// Why no credit was taken. The first that holds, in this order, is the fault (`credit_fault` of `specs/Tables.antt`).
-#[derive(Clone, Copy, PartialEq, Eq, Debug)]
+#[derive(Clone, Copy, PartialEq, Eq, Debug, Error)]
 pub enum CreditFault {
     /// The index is 16 or more.
+    #[error("the index is 16 or more")]
     BadIndex,
     /// The index is not mapped.
+    #[error("the index is not mapped")]
     NotMapped,
     /// Without a pool the index has as many records as credits. With one it has at least as many as its share, and the
     /// records above the shares, over all indexes, are as many as the pool.
+    #[error("the index has no credit left")]
     NoCredit,
     /// There are 32 records.
+    #[error("there are 32 records")]
     TableFull,
 }
 
 /// No record of the request is in the state that was asked for.
-#[derive(Clone, Copy, PartialEq, Eq, Debug)]
+#[derive(Clone, Copy, PartialEq, Eq, Debug, Error)]
+#[error("no record of the request is in this state")]
 pub struct NoRequest;
 
 /// The table of an endpoint. Contracts see the pool, what each of the 16 indexes is mapped to, and the records in order
@@ -175,6 +193,9 @@ impl Translate {
     ) -> Result<(), MapFault>
         requires { are_credits_in_range self.old.pool credits ≡ true }
         ensures fault { result_err result ≡ map_fault self.old index credits }
+        ensures bad_index { (result ≡ Err MapFault.BadIndex) ↔ (16 ≤ index) }
+        ensures in_use { (result ≡ Err MapFault.InUse) ↔ IsMapped self.old index }
+        ensures over_share { (sum : ℕ) → (result ≡ Err (MapFault.OverShare sum)) ↔ IsOverShare self.old index credits sum }
         ensures ok { OnOk result (self.new ≡ with_mapping self.old index (Some (record { name = name; tag = tag; credits = credits }))) }
         ensures err { OnErr result (self.new ≡ self.old) }
         ensures table { OnOk result (IsTable self.new) }
@@ -195,6 +216,9 @@ impl Translate {
     /// Takes an index's mapping away. After a fault the table is as it was.
     pub fn unmap(&mut self, index: u8) -> Result<(), UnmapFault>
         ensures fault { result_err result ≡ unmap_fault self.old index }
+        ensures bad_index { (result ≡ Err UnmapFault.BadIndex) ↔ (16 ≤ index) }
+        ensures not_mapped { (result ≡ Err UnmapFault.NotMapped) ↔ IsUnmapped self.old index }
+        ensures outstanding { (count : ℕ) → (result ≡ Err (UnmapFault.Outstanding count)) ↔ HasRecords self.old index count }
         ensures ok { OnOk result (self.new ≡ with_mapping self.old index None) }
         ensures err { OnErr result (self.new ≡ self.old) }
         ensures table { OnOk result (IsTable self.new) }
@@ -216,6 +240,10 @@ impl Translate {
     /// Whether a request may be made by an index, and where it would go.
     pub fn can_take(&self, index: u8) -> Result<Target, CreditFault>
         ensures fault { result_err result ≡ credit_fault self.now index }
+        ensures bad_index { (result ≡ Err CreditFault.BadIndex) ↔ (16 ≤ index) }
+        ensures not_mapped { (result ≡ Err CreditFault.NotMapped) ↔ IsUnmapped self.now index }
+        ensures no_credit { (result ≡ Err CreditFault.NoCredit) ↔ HasNoCredit self.now index }
+        ensures table_full { (result ≡ Err CreditFault.TableFull) ↔ IsFullFor self.now index }
         ensures target { IfOk result (λ target. target_at self.now index ≡ Some target) }
     {
         if index >= 16 {
@@ -238,6 +266,10 @@ impl Translate {
     pub fn take_credit(&mut self, index: u8, serial: Serial) -> Result<Target, CreditFault>
         requires { is_known self.old serial ≡ false }
         ensures fault { result_err result ≡ credit_fault self.old index }
+        ensures bad_index { (result ≡ Err CreditFault.BadIndex) ↔ (16 ≤ index) }
+        ensures not_mapped { (result ≡ Err CreditFault.NotMapped) ↔ IsUnmapped self.old index }
+        ensures no_credit { (result ≡ Err CreditFault.NoCredit) ↔ HasNoCredit self.old index }
+        ensures table_full { (result ≡ Err CreditFault.TableFull) ↔ IsFullFor self.old index }
         ensures target { IfOk result (λ target. target_at self.old index ≡ Some target) }
         ensures ok { OnOk result (self.new ≡ with_record self.old index serial) }
         ensures err { OnErr result (self.new ≡ self.old) }

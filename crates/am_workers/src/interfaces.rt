@@ -9,7 +9,7 @@ ghost use Rattle.am_workers.specs.Ways.{HaveRoom, HaveRoomBut, Prepares, Serves}
 ghost use Rattle.am_workers.specs.Stops.{stop_after_work};
 ghost use Rattle.am_workers.specs.declared.workers.Stop.{Stop};
 ghost use Rattle.am_works.specs.Seats.{IsIdle, SameSeat};
-ghost use Rattle.std.specs.Prelude.{◌≡◌, ◌≢◌, ◌+◌, ◌<◌, ◌≤◌, ℕ, OnOk, Some, length, slice_get};
+ghost use Rattle.std.specs.Prelude.{◌≡◌, ◌≢◌, ◌+◌, ◌<◌, ◌≤◌, ℕ, OnErr, OnOk, Some, length, slice_get};
 ghost use lib.ListN.{get_elem?};
 ghost use mathlib.Core.Option.{some};
 
@@ -24,12 +24,15 @@ use am_scenario_types::Scenario;
 use am_turns::{InterfaceTurn, next_work, serve};
 
 /// Makes room on each link for a packet more, pumps the links, and takes the first packet that they have, if none is in hand.
-/// `NoMemory` comes only where there is no room: no packet is taken then.
+/// `NoMemory` comes only where there is no room: no packet is taken then, and the hand and the ends that receive stay as they were.
 fn prepare(worker: &mut InterfaceWorker) -> Result<(), NoMemory>
     requires from { worker.old.from < length worker.old.ins.items }
     requires few { length worker.old.ins.items ≤ 16 }
     ensures prepared { Prepares worker.old worker.new }
     ensures room { HaveRoomBut worker.old.last worker.old.outs.items → OnOk result (HaveRoom worker.new.outs.items) }
+    ensures hand { OnErr result (worker.new.hand ≡ worker.old.hand) }
+    ensures ins { OnErr result (worker.new.ins ≡ worker.old.ins) }
+    ensures from { OnErr result (worker.new.from ≡ worker.old.from) }
 {
     make_room(&mut worker.outs, worker.last)?;
     pump_all(&mut worker.outs);

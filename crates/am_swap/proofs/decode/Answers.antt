@@ -1,4 +1,4 @@
-use Rattle.am_swap.proofs.Decoding.{finds_each, found_lists}
+use Rattle.am_swap.proofs.Decoding.{finds_each, found_lists, some_has}
 use Rattle.am_swap.proofs.Making.{can_be_made}
 use Rattle.am_swap.proofs.decode.Goals as goal
 
@@ -11,3 +11,8 @@ returns-in_ok-body_of-in-Some-clause-each c =
     finds_each c.args.id c.args.pool c.args.bytes.now c.in-Some.lists c.in_ok-body_of-in-Some.field-0
     (found_lists c.args.id c.args.pool c.args.bytes.now c.in_ok-decoded.field-0 c.in-Some.lists c.in-Some.is c.in_ok-decoded.ensures)
     c.in_ok-body_of-in-Some.ensures
+
+pub returns-in_ok-body_of-in-Some-clause-none : goal.returns-in_ok-body_of-in-Some-clause-none
+returns-in_ok-body_of-in-Some-clause-none c =
+    some_has c.args.id c.args.pool c.args.bytes.now c.in-Some.lists c.in_ok-body_of-in-Some.field-0
+    (found_lists c.args.id c.args.pool c.args.bytes.now c.in_ok-decoded.field-0 c.in-Some.lists c.in-Some.is c.in_ok-decoded.ensures)

@@ -6,6 +6,7 @@ use Rattle.am_model.specs.Allowed.{is_well_formed}
 use Rattle.am_model.specs.Endpoint.{State, front}
 use Rattle.am_model.specs.Order.{IsInOrder}
 use Rattle.am_model.proofs.Order.{front_formed}
+use Rattle.am_body.proofs.Fronts.{no_front}
 use Rattle.am_endpoint.specs.View.{state_after}
 use Rattle.am_endpoint.proofs.Endpoint.front.Goals as goal
 
@@ -17,3 +18,7 @@ pub returns-clause-formed : goal.returns-clause-formed
 returns-clause-formed c =
     let v = c.args.self.now in
     formed_if v.settings.pool v.settings.id (state_after v) c.front.result c.fields.ensures.order (sym (c.front.ensures ∙ ap front c.fields.ensures.state))
+
+pub returns-clause-none : goal.returns-clause-none
+returns-clause-none c =
+    let s = state_after c.args.self.now in no_front s.body.replies s.body.requests c.front.result (c.front.ensures ∙ ap front c.fields.ensures.state)

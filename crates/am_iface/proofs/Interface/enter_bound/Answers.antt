@@ -29,3 +29,6 @@ invariant_of-self-2 c =
     let made = subst (λ (ends : Ends). IsMade (channel_in (own v) c.args.peer c.args.channel) v.log ends c.args.entry) (sym c.bind.ensures) (c.requires.made c.take.result) in
     entering.entered_seen c.self.inside v c.args.peer c.args.channel c.bind.new.ends c.args.entry c.is_some.result c.write.new.all.items c.write.new.emissions.items c.push.new.self.items c.self.view_is c.self.invariant c.requires.peer c.requires.channel room made
     (record { emits = c.is_some.ensures ∙ ap is_some c.emitted_of-out.ensures; ends = c.write.ensures.ends; emissions = c.write.ensures.emissions; log = items })
+
+pub returns-clause-flights : goal.returns-clause-flights
+returns-clause-flights c = (c.take.result.0, c.take.ensures.flights ∙ ap (λ xs. xs ++ c.take.result.0 ∷ []) c.room_with.ensures.flights)

@@ -17,7 +17,7 @@ use Rattle.am_iface.proofs.Interface.expire_alone.Goals as goal
 pub enter-requires-clause-made : goal.enter-requires-clause-made
 enter-requires-clause-made c =
     let e = c.ends-ends.result in
-    let bound : e.sending.bound ≡ Some c.in-Some.bound = sym c.busy.ensures ∙ c.in-Some.is in
+    let bound : e.sending.bound ≡ Some c.in-Some.bound = sym c.busy.ensures.bound ∙ c.in-Some.is in
     let timed : timed_out c.args.self.now.settings.tries e.sending.seq c.in-Some.bound ≡ Times.Resend c.in-Resend.sent =
     telling.timed_is e.sending.bound c.in-Some.bound c.tries.result c.args.self.now.settings.tries e.sending.seq c.time_out.result c.in-Resend.sent bound c.tries.ensures c.time_out.ensures.answer c.in-Resend.is in
     subst (λ (new : Ends). IsMade (channel_in (own c.args.self.now) c.args.peer c.args.channel) c.args.self.now.log new c.resend-entry.result)
@@ -29,7 +29,7 @@ enter-requires-clause-made c =
 pub returns : goal.returns
 returns c s =
     let e = c.ends-ends.result in
-    let bound : e.sending.bound ≡ Some c.in-Some.bound = sym c.busy.ensures ∙ c.in-Some.is in
+    let bound : e.sending.bound ≡ Some c.in-Some.bound = sym c.busy.ensures.bound ∙ c.in-Some.is in
     let timed : timed_out c.args.self.now.settings.tries e.sending.seq c.in-Some.bound ≡ Times.Resend c.in-Resend.sent =
     telling.timed_is e.sending.bound c.in-Some.bound c.tries.result c.args.self.now.settings.tries e.sending.seq c.time_out.result c.in-Resend.sent bound c.tries.ensures c.time_out.ensures.answer c.in-Resend.is in
     turning.turns_by_entering c.args.self.now c.enter.new.self s c.args.stamp (Works.Expire c.args.peer c.args.channel) c.resend-entry.result c.enter.result

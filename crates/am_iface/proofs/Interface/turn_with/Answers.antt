@@ -13,9 +13,11 @@ returns c =
       out = turns.out;
       logged = turns.logged;
       logged_there = turns.there;
+      flights_there = turns.flies;
       settings_there = turns.same;
       disabled = turns.disabled;
       full = turns.full;
       err = turns.err;
       err_there = turns.err_there;
+      err_flights = turns.err_flights;
     }

@@ -41,7 +41,7 @@ invariant_of-self c =
     let j : Joint =
     fitting.joint_at c.self.inside.settings c.self.inside.faults.items c.self.inside.ends.items (journal_by (map kept c.self.inside.ends.items) c.self.inside.interfaces.items) c.self.inside.interfaces.items c.self.inside.swaps.items c.args.self.now
     c.args.node one c.args.work c.self.invariant.kept' c.self.view_is c.requires.packet c.requires.in_range c.index_mut-interface.ensures.value c.requires.taken in
-    let none = sym c.needs.ensures ∙ c.in_default.is in
+    let none = sym c.needs.ensures.value ∙ c.in_default.is in
     indexed c.self.inside.settings c.self.inside.faults.items (map kept c.self.inside.ends.items) (entries_after (journal_by (map kept c.self.inside.ends.items) c.self.inside.interfaces.items) c.turn_alone.result) (slice_set c.self.inside.interfaces.items c.args.node.0 c.turn_alone.new.interface) c.self.inside.swaps.items c.turn_alone.new.index.read
     (joint.alone_keeps j c.turn_alone.new.interface c.turn_alone.result none (c.turn_alone.ensures.turns (journal_by (map kept c.self.inside.ends.items) c.self.inside.interfaces.items) j.state c.self.invariant.index'))
     (c.turn_alone.ensures.index (journal_by (map kept c.self.inside.ends.items) c.self.inside.interfaces.items) c.self.invariant.index')
@@ -52,7 +52,7 @@ returns-in_default c =
     let j : Joint =
     fitting.joint_at c.self.inside.settings c.self.inside.faults.items c.self.inside.ends.items (journal_by (map kept c.self.inside.ends.items) c.self.inside.interfaces.items) c.self.inside.interfaces.items c.self.inside.swaps.items c.args.self.now
     c.args.node one c.args.work c.self.invariant.kept' c.self.view_is c.requires.packet c.requires.in_range c.index_mut-interface.ensures.value c.requires.taken in
-    let none = sym c.needs.ensures ∙ c.in_default.is in
+    let none = sym c.needs.ensures.value ∙ c.in_default.is in
     applied_by c.self.inside.settings c.self.inside.faults.items (map kept c.self.inside.ends.items) (entries_after (journal_by (map kept c.self.inside.ends.items) c.self.inside.interfaces.items) c.turn_alone.result) (slice_set c.self.inside.interfaces.items c.args.node.0 c.turn_alone.new.interface) c.self.inside.swaps.items c.args.self.now (joint.event_in j) c.turn_alone.result
     (joint.alone_keeps j c.turn_alone.new.interface c.turn_alone.result none (c.turn_alone.ensures.turns (journal_by (map kept c.self.inside.ends.items) c.self.inside.interfaces.items) j.state c.self.invariant.index'))
     (joint.alone_applies j c.args.self.now c.turn_alone.new.interface c.turn_alone.result c.self.view_is none (c.turn_alone.ensures.turns (journal_by (map kept c.self.inside.ends.items) c.self.inside.interfaces.items) j.state c.self.invariant.index'))
@@ -65,7 +65,7 @@ unreachable-requires c =
     c.args.node one c.args.work c.self.invariant.kept' c.self.view_is c.requires.packet c.requires.in_range c.index_mut-interface.ensures.value c.requires.taken in
     let end = c.in-Some.end in
     not_found c.self.inside.ends.items end (sym (c.place_of.ensures ∙ ap (position (is_of end)) c.deref.ensures.value) ∙ c.in_default-place_of.is)
-    (fitting.needed_declared j end (sym c.needs.ensures ∙ c.in-Some.is))
+    (fitting.needed_declared j end (sym c.needs.ensures.value ∙ c.in-Some.is))
 
 pub way-to-requires : goal.way-to-requires
 way-to-requires c =
@@ -86,7 +86,7 @@ turn_with-requires-clause-can c =
     let place = c.in-Some-place_of.place in
     let endpoint = c.index_mut.result.now in
     let found = sym (c.place_of.ensures ∙ ap (position (is_of end)) c.deref.ensures.value) ∙ c.in-Some-place_of.is in
-    let b : Beside j = beside.beside_of j end place endpoint refl (sym c.needs.ensures ∙ c.in-Some.is) found c.index_mut.ensures.value in
+    let b : Beside j = beside.beside_of j end place endpoint refl (sym c.needs.ensures.value ∙ c.in-Some.is) found c.index_mut.ensures.value in
     beside.beside_can j b c.self.inside.index.read c.self.invariant.index'
 
 pub turn_with-requires-clause-within : goal.turn_with-requires-clause-within
@@ -100,7 +100,7 @@ turn_with-requires-clause-within c =
     let place = c.in-Some-place_of.place in
     let endpoint = c.index_mut.result.now in
     let found = sym (c.place_of.ensures ∙ ap (position (is_of end)) c.deref.ensures.value) ∙ c.in-Some-place_of.is in
-    let b : Beside j = beside.beside_of j end place endpoint refl (sym c.needs.ensures ∙ c.in-Some.is) found c.index_mut.ensures.value in
+    let b : Beside j = beside.beside_of j end place endpoint refl (sym c.needs.ensures.value ∙ c.in-Some.is) found c.index_mut.ensures.value in
     let same : c.index.result.now ≡ endpoint =
     applied.same_here vs end place endpoint c.index.result.now (applied.found_here vs end place endpoint found c.index_mut.ensures.value) (applied.found_here vs end place c.index.result.now found c.index.ensures) in
     let to : c.way-to.result ≡ way one vs endpoint c.args.work = c.way-to.ensures ∙ λ i. way one (c.deref-2.ensures.value i) (same i) c.args.work in
@@ -117,7 +117,7 @@ turn_with-requires-clause-goes c =
     let place = c.in-Some-place_of.place in
     let endpoint = c.index_mut.result.now in
     let found = sym (c.place_of.ensures ∙ ap (position (is_of end)) c.deref.ensures.value) ∙ c.in-Some-place_of.is in
-    let b : Beside j = beside.beside_of j end place endpoint refl (sym c.needs.ensures ∙ c.in-Some.is) found c.index_mut.ensures.value in
+    let b : Beside j = beside.beside_of j end place endpoint refl (sym c.needs.ensures.value ∙ c.in-Some.is) found c.index_mut.ensures.value in
     let same : c.index.result.now ≡ endpoint =
     applied.same_here vs end place endpoint c.index.result.now (applied.found_here vs end place endpoint found c.index_mut.ensures.value) (applied.found_here vs end place c.index.result.now found c.index.ensures) in
     let to : c.way-to.result ≡ way one vs endpoint c.args.work = c.way-to.ensures ∙ λ i. way one (c.deref-2.ensures.value i) (same i) c.args.work in
@@ -134,7 +134,7 @@ invariant_of-self-2 c =
     let place = c.in-Some-place_of.place in
     let endpoint = c.index_mut.result.now in
     let found = sym (c.place_of.ensures ∙ ap (position (is_of end)) c.deref.ensures.value) ∙ c.in-Some-place_of.is in
-    let b : Beside j = beside.beside_of j end place endpoint refl (sym c.needs.ensures ∙ c.in-Some.is) found c.index_mut.ensures.value in
+    let b : Beside j = beside.beside_of j end place endpoint refl (sym c.needs.ensures.value ∙ c.in-Some.is) found c.index_mut.ensures.value in
     indexed c.self.inside.settings c.self.inside.faults.items (map kept (slice_set vs place c.turn_with.new.endpoint)) (entries_after (journal_by (map kept c.self.inside.ends.items) c.self.inside.interfaces.items) c.turn_with.result) (slice_set c.self.inside.interfaces.items c.args.node.0 c.turn_with.new.interface) c.self.inside.swaps.items c.turn_with.new.index.read
     (beside.beside_keeps j b c.turn_with.new.interface c.turn_with.new.endpoint c.turn_with.result (c.turn_with.ensures.turns (journal_by (map kept c.self.inside.ends.items) c.self.inside.interfaces.items) c.self.invariant.index'))
     (c.turn_with.ensures.index (journal_by (map kept c.self.inside.ends.items) c.self.inside.interfaces.items) c.self.invariant.index')
@@ -150,7 +150,7 @@ returns c =
     let place = c.in-Some-place_of.place in
     let endpoint = c.index_mut.result.now in
     let found = sym (c.place_of.ensures ∙ ap (position (is_of end)) c.deref.ensures.value) ∙ c.in-Some-place_of.is in
-    let b : Beside j = beside.beside_of j end place endpoint refl (sym c.needs.ensures ∙ c.in-Some.is) found c.index_mut.ensures.value in
+    let b : Beside j = beside.beside_of j end place endpoint refl (sym c.needs.ensures.value ∙ c.in-Some.is) found c.index_mut.ensures.value in
     applied_by c.self.inside.settings c.self.inside.faults.items (map kept (slice_set vs place c.turn_with.new.endpoint)) (entries_after (journal_by (map kept c.self.inside.ends.items) c.self.inside.interfaces.items) c.turn_with.result) (slice_set c.self.inside.interfaces.items c.args.node.0 c.turn_with.new.interface) c.self.inside.swaps.items c.args.self.now (joint.event_in j) c.turn_with.result
     (beside.beside_keeps j b c.turn_with.new.interface c.turn_with.new.endpoint c.turn_with.result (c.turn_with.ensures.turns (journal_by (map kept c.self.inside.ends.items) c.self.inside.interfaces.items) c.self.invariant.index'))
     (beside.beside_applies j b c.args.self.now c.turn_with.new.interface c.turn_with.new.endpoint c.turn_with.result c.self.view_is (c.turn_with.ensures.turns (journal_by (map kept c.self.inside.ends.items) c.self.inside.interfaces.items) c.self.invariant.index'))
