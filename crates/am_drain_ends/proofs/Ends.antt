@@ -21,9 +21,8 @@ use Rattle.am_model.proofs.Each.{state_of_push}
 use Rattle.am_model.proofs.Names.{same_end-is, same_end-refl}
 use Rattle.am_scenario_types.specs.Lists.{ScenarioLists}
 use Rattle.am_scripts.specs.Layout.{layout_of}
-use Rattle.am_scripts.specs.Standings.{standings}
+use Rattle.am_scripts.specs.Standings.{standings, standing}
 use Rattle.am_drain_steps.specs.Work.{queued_work, received_work, end_work}
-use Rattle.am_drain_steps.proofs.Enabled.{stand}
 use Rattle.am_drain_ends.proofs.Sums.{one_more, ends_one}
 
 -- what an endpoint's lists are still to cause
@@ -41,7 +40,7 @@ sum_mapped w f [] = refl
 sum_mapped {X} w f (x ∷ xs) = omega (arith, sum_mapped w f xs, sum_by-cons w (f x) (map f xs), sum_by-cons (λ (y : X). w (f y)) x xs)
 
 ends_mapped : (s : ScenarioLists) (past : List Entry) → ends_work s past ≡ sum_by (λ (x : EndSetting). work_at s past x.id) (layout_of s).ends
-ends_mapped s past = sum_mapped (end_work s) (stand (layout_of s) past) (layout_of s).ends
+ends_mapped s past = sum_mapped (end_work s) (standing (layout_of s) past) (layout_of s).ends
 
 -- where the work of one endpoint changes
 ends_more : (s : ScenarioLists) (past next : List Entry) (e : EndpointId) (a b : ℕ) → IsLawful (layout_of s) → declared (layout_of s) e ≡ true → ((f : EndpointId) → same_end e f ≡ false → work_at s next f ≤ work_at s past f) → work_at s next e + a ≤ work_at s past e + b → ends_work s next + a ≤ ends_work s past + b

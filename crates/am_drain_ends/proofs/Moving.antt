@@ -20,14 +20,13 @@ use Rattle.am_model.proofs.Received.{bit}
 use Rattle.am_scenario_types.specs.Lists.{ScenarioLists}
 use Rattle.am_scripts.specs.Layout.{layout_of}
 use Rattle.am_scripts.specs.Scripts.{call_made}
-use Rattle.am_scripts.specs.Standings.{Standing, standings}
+use Rattle.am_scripts.specs.Standings.{Standing, standings, standing}
 use Rattle.am_drain.specs.Made.{next_entry, after_event, after_event_if}
 use Rattle.am_drain.specs.Ready.{paged_in as page_ins, off_disk, off_disk_at, is_draining_in_frame, not_draining, free_frame, may_leave, unloaded, paged_out, spare, emptied, emptied_if, with_frame, loaded_into, ready, ready_at, ready_dest_if, ready_dest}
 use Rattle.am_drain.proofs.LastTries.{emitted_same, received_same}
 use Rattle.am_drain.proofs.Quiet.{is_driven}
 use Rattle.am_drain.proofs.Scripts.{calls_same}
 use Rattle.am_drain_steps.specs.Work.{is_standing_on_disk, work}
-use Rattle.am_drain_steps.proofs.Enabled.{stand}
 use Rattle.am_drain_steps.proofs.Falling.{IsStill, ends_same, nodes_same, threads_same, IsOnDiskBefore, on_disk_bit, disk_fewer}
 use Rattle.am_drain_steps.proofs.Moves.{moves, Spares, spares, move_keeps, after_move}
 use Rattle.am_drain_ends.proofs.Sums.{most_more, ends_most}
@@ -137,7 +136,7 @@ page_out_work s past node e ok = still_work s past e (Events.PageOut node e) 1 r
     on_disk xs x = bit (is_on_disk (state_of (layout_of s) xs x.id).head.place)
 
     mapped : (xs : List Entry) → disk_count s xs ≡ sum_by (on_disk xs) (layout_of s).ends
-    mapped xs = sum_mapped on_disk_bit (stand (layout_of s) xs) (layout_of s).ends
+    mapped xs = sum_mapped on_disk_bit (standing (layout_of s) xs) (layout_of s).ends
 
     other : (f : EndpointId) → same_end e f ≡ false → same_end f e ≡ false
     other f apart = by_test (same_end f e) refl

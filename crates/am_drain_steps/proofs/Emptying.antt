@@ -18,11 +18,11 @@ use Rattle.am_model.specs.Changes.{paged_out}
 use Rattle.am_model.specs.Layout.{Layout, AllAre, IsLawful, declared}
 use Rattle.am_model.specs.History.{IsHistory, state_of, is_home, is_in_frame}
 use Rattle.am_model.proofs.Names.{same_end-is, same_node-is}
-use Rattle.am_scripts.specs.Standings.{Standing, standings}
+use Rattle.am_scripts.specs.Standings.{Standing, standings, standing}
 use Rattle.am_scripts.proofs.Lists.{none_all, found_true}
 use Rattle.am_drain.specs.Made.{next_entry, after_event, after_event_if}
 use Rattle.am_drain.specs.Ready.{holds_frame, free_frame, is_neither, may_leave, unloaded, is_open_on_host, paged_out as page_out, spare_of, spare, kept, emptied}
-use Rattle.am_drain_steps.proofs.Enabled.{no_fail, event_follows, IsSeated, IsSeatedSetting, all_seated, IsStanding, is_standing, seat_in_range, stand}
+use Rattle.am_drain_steps.proofs.Enabled.{no_fail, event_follows, IsSeated, IsSeatedSetting, all_seated, IsStanding, is_standing, seat_in_range}
 use Rattle.am_drain_steps.proofs.Frames.{frames_are_apart, frames_are_used}
 use Rattle.am_drain_steps.proofs.Moves.{Keeps, keeps_same, keeps_then, after_move, move_keeps, Spares, spares_same, spares, spares_then}
 
@@ -164,7 +164,7 @@ must_be source dest e own framed o f h = by_tests own framed (same_end source e)
 
 held_by_named : (layout : Layout) (past : List Entry) (node : NodeId) (source dest : EndpointId) (frame : ℕ) → list_any (holds_frame node frame) (standings layout past) ≡ true → find (may_leave node source dest) (standings layout past) ≡ None → Holder layout past source dest frame
 held_by_named layout past node source dest frame held none =
-    let at = any_all (holds_frame node frame) (λ (st : Standing). not (may_leave node source dest st)) (stand layout past) layout.ends held (none_all (may_leave node source dest) (standings layout past) none) in
+    let at = any_all (holds_frame node frame) (λ (st : Standing). not (may_leave node source dest st)) (standing layout past) layout.ends held (none_all (may_leave node source dest) (standings layout past) none) in
     let both = and_parts (same_node node at.0.node) (is_in_frame frame (state_of layout past at.0.id).head.place) at.1 in
     record {
       end = at.0.id;
@@ -216,7 +216,7 @@ free_found layout past node frame ok low free = by_test (list_any (holds_frame n
   where
     by_test : (b : Bool) → list_any (holds_frame node frame) (standings layout past) ≡ b → is_none (free_frame layout node (standings layout past)) ≡ false
     by_test true is =
-        let at = any_of (IsSeatedSetting layout) (holds_frame node frame) (stand layout past) layout.ends (all_seated layout ok) is in
+        let at = any_of (IsSeatedSetting layout) (holds_frame node frame) (standing layout past) layout.ends (all_seated layout ok) is in
         let both = and_parts (same_node node at.0.node) (is_in_frame frame (state_of layout past at.0.id).head.place) at.2 in
         absurd (free at.0.id (ap (is_home layout at.0.id) (same_node-is node at.0.node both.0) ∙ at.1.home) both.1)
     by_test false is =

@@ -27,7 +27,7 @@ use Rattle.am_scenario_types.specs.Lists.{ScenarioLists}
 use Rattle.am_scripts.specs.Layout.{is_direct, layout_of}
 use Rattle.am_scripts.proofs.Lawful.{lawful_layout}
 use Rattle.am_scripts.specs.Links.{first_some, nodes_of}
-use Rattle.am_scripts.specs.Standings.{Standing, standings, is_missed}
+use Rattle.am_scripts.specs.Standings.{Standing, standings, is_missed, standing}
 use Rattle.am_scripts.proofs.Lists.{some_mapped, none_mapped, none_all, found_in, found_true}
 use Rattle.am_drain.specs.declared.Turn.{Turn}
 use Rattle.am_drain.specs.declared.Turn.TheVariants.{Once}
@@ -104,12 +104,9 @@ pub record IsStanding (layout : Layout) (past : List Entry) (st : Standing) : Ty
   pub state : st.state ≡ state_of layout past st.setting.id
   pub seated : IsSeated layout st.setting.id st.setting.node
 
-abbrev pub stand : Layout → List Entry → EndSetting → Standing
-stand layout past s = record { setting = s; state = state_of layout past s.id }
-
 pub is_standing : (layout : Layout) (past : List Entry) (p : Standing → Bool) (st : Standing) → IsLawful layout → find p (standings layout past) ≡ Some st → IsStanding layout past st
 is_standing layout past p st lawful e =
-    let at = found_mapped (IsSeatedSetting layout) p (stand layout past) layout.ends st (all_seated layout lawful) e in
+    let at = found_mapped (IsSeatedSetting layout) p (standing layout past) layout.ends st (all_seated layout lawful) e in
     subst (λ (t : Standing). IsStanding layout past t) at.1 (record { state = refl; seated = at.2 })
 
 pub seat_in_range : (layout : Layout) (e : EndpointId) (node : NodeId) → IsSeated layout e node → (declared layout e && nat_lt node.0 layout.nodes) ≡ true

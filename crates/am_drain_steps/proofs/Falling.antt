@@ -26,7 +26,7 @@ use Rattle.am_scripts.specs.Layout.{layout_of}
 use Rattle.am_scripts.proofs.Lawful.{lawful_layout}
 use Rattle.am_scripts.specs.Links.{nodes_of, received}
 use Rattle.am_scripts.specs.Scripts.{calls_of, script_of}
-use Rattle.am_scripts.specs.Standings.{Standing, standings, is_missed}
+use Rattle.am_scripts.specs.Standings.{Standing, standings, is_missed, standing}
 use Rattle.am_scripts.proofs.Links.{emitted_push, received_push}
 use Rattle.am_scripts.proofs.Lists.{some_mapped, found_true}
 use Rattle.am_drain.specs.declared.Turn.{Turn}
@@ -36,7 +36,7 @@ use Rattle.am_drain.specs.Drain.{after_turn}
 use Rattle.am_drain.proofs.Scripts.{calls_same}
 use Rattle.am_drain_steps.specs.Work.{time_outs, bindings, copy_of, packet_copy, queued_work, received_work, end_work, bound_work, channel_work, still_late, link_work, node_work, thread_work, new_request, is_fault_left, is_standing_on_disk, work}
 use Rattle.am_drain_steps.specs.Endings.{PageInsFall}
-use Rattle.am_drain_steps.proofs.Enabled.{IsStanding, is_standing, stand}
+use Rattle.am_drain_steps.proofs.Enabled.{IsStanding, is_standing}
 use Rattle.am_drain_steps.proofs.Paging.{after_page_in}
 use Rattle.am_drain_steps.proofs.Moves.{Spares, spares, move_keeps}
 
@@ -66,12 +66,12 @@ page_in_still layout past node e =
 
 -- ---- the work of the messages
 
-pub ends_same : (s : ScenarioLists) (past next : List Entry) → IsStill (layout_of s) past next → (xs : List EndSetting) → sum_by (end_work s) (map (stand (layout_of s) next) xs) ≡ sum_by (end_work s) (map (stand (layout_of s) past) xs)
+pub ends_same : (s : ScenarioLists) (past next : List Entry) → IsStill (layout_of s) past next → (xs : List EndSetting) → sum_by (end_work s) (map (standing (layout_of s) next) xs) ≡ sum_by (end_work s) (map (standing (layout_of s) past) xs)
 ends_same s past next k [] = refl
 ends_same s past next k (x ∷ xs) =
-    sum_by-cons (end_work s) (stand (layout_of s) next x) (map (stand (layout_of s) next) xs)
+    sum_by-cons (end_work s) (standing (layout_of s) next x) (map (standing (layout_of s) next) xs)
     ∙ ((λ i. (sum_by (queued_work s) (k.body' x.id i).requests + sum_by (queued_work s) (k.body' x.id i).replies + length (k.body' x.id i).notices + sum_by (received_work s) (k.body' x.id i).received) + ends_same s past next k xs i)
-    ∙ sym (sum_by-cons (end_work s) (stand (layout_of s) past x) (map (stand (layout_of s) past) xs)))
+    ∙ sym (sum_by-cons (end_work s) (standing (layout_of s) past x) (map (standing (layout_of s) past) xs)))
 
 bound_same : (s : ScenarioLists) (past next : List Entry) → IsStill (layout_of s) past next → (c : Channel) (o : Option Message) → bound_work s next c o ≡ bound_work s past c o
 bound_same s past next k c None = refl
@@ -106,22 +106,22 @@ IsOnDiskBefore layout past next =
 abbrev pub on_disk_bit : Standing → ℕ
 on_disk_bit st = cond (is_standing_on_disk st) 1 0
 
-pub disk_fewer : (layout : Layout) (past next : List Entry) → IsOnDiskBefore layout past next → (xs : List EndSetting) → count_by is_standing_on_disk (map (stand layout next) xs) ≤ count_by is_standing_on_disk (map (stand layout past) xs)
+pub disk_fewer : (layout : Layout) (past next : List Entry) → IsOnDiskBefore layout past next → (xs : List EndSetting) → count_by is_standing_on_disk (map (standing layout next) xs) ≤ count_by is_standing_on_disk (map (standing layout past) xs)
 disk_fewer layout past next h [] = omega arith
 disk_fewer layout past next h (x ∷ xs) =
-    omega (arith, sum_by-cons on_disk_bit (stand layout next x) (map (stand layout next) xs), sum_by-cons on_disk_bit (stand layout past x) (map (stand layout past) xs), bit_le (is_on_disk (state_of layout next x.id).head.place) (is_on_disk (state_of layout past x.id).head.place) (h x.id), disk_fewer layout past next h xs)
+    omega (arith, sum_by-cons on_disk_bit (standing layout next x) (map (standing layout next) xs), sum_by-cons on_disk_bit (standing layout past x) (map (standing layout past) xs), bit_le (is_on_disk (state_of layout next x.id).head.place) (is_on_disk (state_of layout past x.id).head.place) (h x.id), disk_fewer layout past next h xs)
 
-disk_less : (layout : Layout) (past next : List Entry) (e : EndpointId) → IsOnDiskBefore layout past next → is_on_disk (state_of layout past e).head.place ≡ true → is_on_disk (state_of layout next e).head.place ≡ false → (xs : List EndSetting) → list_any (has_id e) xs ≡ true → count_by is_standing_on_disk (map (stand layout next) xs) + 1 ≤ count_by is_standing_on_disk (map (stand layout past) xs)
+disk_less : (layout : Layout) (past next : List Entry) (e : EndpointId) → IsOnDiskBefore layout past next → is_on_disk (state_of layout past e).head.place ≡ true → is_on_disk (state_of layout next e).head.place ≡ false → (xs : List EndSetting) → list_any (has_id e) xs ≡ true → count_by is_standing_on_disk (map (standing layout next) xs) + 1 ≤ count_by is_standing_on_disk (map (standing layout past) xs)
 disk_less layout past next e h on off [] known = absurd (true≢false (sym known))
 disk_less layout past next e h on off (x ∷ xs) known = by_test (same_end e x.id) refl known (disk_less layout past next e h on off xs)
   where
-    by_test : (b : Bool) → same_end e x.id ≡ b → (b || list_any (has_id e) xs) ≡ true → (list_any (has_id e) xs ≡ true → count_by is_standing_on_disk (map (stand layout next) xs) + 1 ≤ count_by is_standing_on_disk (map (stand layout past) xs)) → count_by is_standing_on_disk (map (stand layout next) (x ∷ xs)) + 1 ≤ count_by is_standing_on_disk (map (stand layout past) (x ∷ xs))
+    by_test : (b : Bool) → same_end e x.id ≡ b → (b || list_any (has_id e) xs) ≡ true → (list_any (has_id e) xs ≡ true → count_by is_standing_on_disk (map (standing layout next) xs) + 1 ≤ count_by is_standing_on_disk (map (standing layout past) xs)) → count_by is_standing_on_disk (map (standing layout next) (x ∷ xs)) + 1 ≤ count_by is_standing_on_disk (map (standing layout past) (x ∷ xs))
     by_test true is k later =
-        let here : on_disk_bit (stand layout past x) ≡ bit true = ap (λ (i : EndpointId). bit (is_on_disk (state_of layout past i).head.place)) (sym (same_end-is e x.id is)) ∙ ap bit on in
-        let gone : on_disk_bit (stand layout next x) ≡ bit false = ap (λ (i : EndpointId). bit (is_on_disk (state_of layout next i).head.place)) (sym (same_end-is e x.id is)) ∙ ap bit off in
-        omega (arith, here, gone, sum_by-cons on_disk_bit (stand layout next x) (map (stand layout next) xs), sum_by-cons on_disk_bit (stand layout past x) (map (stand layout past) xs), disk_fewer layout past next h xs)
+        let here : on_disk_bit (standing layout past x) ≡ bit true = ap (λ (i : EndpointId). bit (is_on_disk (state_of layout past i).head.place)) (sym (same_end-is e x.id is)) ∙ ap bit on in
+        let gone : on_disk_bit (standing layout next x) ≡ bit false = ap (λ (i : EndpointId). bit (is_on_disk (state_of layout next i).head.place)) (sym (same_end-is e x.id is)) ∙ ap bit off in
+        omega (arith, here, gone, sum_by-cons on_disk_bit (standing layout next x) (map (standing layout next) xs), sum_by-cons on_disk_bit (standing layout past x) (map (standing layout past) xs), disk_fewer layout past next h xs)
     by_test false is k later =
-        omega (arith, sum_by-cons on_disk_bit (stand layout next x) (map (stand layout next) xs), sum_by-cons on_disk_bit (stand layout past x) (map (stand layout past) xs), bit_le (is_on_disk (state_of layout next x.id).head.place) (is_on_disk (state_of layout past x.id).head.place) (h x.id), later k)
+        omega (arith, sum_by-cons on_disk_bit (standing layout next x) (map (standing layout next) xs), sum_by-cons on_disk_bit (standing layout past x) (map (standing layout past) xs), bit_le (is_on_disk (state_of layout next x.id).head.place) (is_on_disk (state_of layout past x.id).head.place) (h x.id), later k)
 
 -- ---- faults that are left
 

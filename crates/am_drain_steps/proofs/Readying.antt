@@ -14,13 +14,13 @@ use Rattle.am_office.specs.declared.Entry.{Entry}
 use Rattle.am_model.specs.Endpoint.{State, Body, is_in_a_frame, is_on_host, is_on_disk}
 use Rattle.am_model.specs.Layout.{Layout, IsLawful, declared}
 use Rattle.am_model.specs.History.{IsHistory, state_of, is_home, is_frame_held}
-use Rattle.am_scripts.specs.Standings.{standings}
+use Rattle.am_scripts.specs.Standings.{standings, standing}
 use Rattle.am_scripts.proofs.Lists.{found_true}
 use Rattle.am_drain.specs.Made.{after_event, after_event_if}
 use Rattle.am_drain.specs.Ready.{paged_in as page_ins, off_disk, is_draining_in_frame, not_draining, holds_frame, free_frame, emptied, emptied_if, with_frame, loaded_into, loaded, ready}
 use Rattle.am_drain_steps.specs.Away.{is_settled_at}
 use Rattle.am_drain_steps.proofs.Away.{away_is_settled}
-use Rattle.am_drain_steps.proofs.Enabled.{no_fail, event_follows, IsSeated, seat_in_range, stand}
+use Rattle.am_drain_steps.proofs.Enabled.{no_fail, event_follows, IsSeated, seat_in_range}
 use Rattle.am_drain_steps.proofs.Paging.{leaves_disk}
 use Rattle.am_drain_steps.proofs.Moves.{Keeps, keeps_same, keeps_then, after_move, move_keeps, move_if_keeps, Spares, spares, spares_then}
 use Rattle.am_drain_steps.proofs.Emptying.{IsNamed, Aside, found_below, unload_may, unloads_to_host, IsGrounded, IsEmptied, empties}
@@ -86,7 +86,7 @@ loads layout past node e packet h seated host opened some = by_frame (free_frame
     into : (frame : ℕ) → free_frame layout node (standings layout past) ≡ Some frame → IsLoaded layout e past (after_event layout (Events.Load node e frame) past)
     into frame is =
         let free : not (list_any (holds_frame node frame) (standings layout past)) ≡ true = found_true (λ (k : ℕ). not (list_any (holds_frame node k) (standings layout past))) (range_with_len 0 layout.frames) frame is in
-        let held : is_frame_held layout past node frame ≡ false = any_mapped (holds_frame node frame) (stand layout past) layout.ends ∙ not-true (list_any (holds_frame node frame) (standings layout past)) free in
+        let held : is_frame_held layout past node frame ≡ false = any_mapped (holds_frame node frame) (standing layout past) layout.ends ∙ not-true (list_any (holds_frame node frame) (standings layout past)) free in
         let low : frame < 0 + layout.frames = found_below (λ (k : ℕ). not (list_any (holds_frame node k) (standings layout past))) 0 layout.frames frame is in
         record {
           history =

@@ -22,7 +22,7 @@ use Rattle.am_scenario_types.specs.Lists.{ScenarioLists}
 use Rattle.am_scripts.specs.Layout.{layout_of}
 use Rattle.am_scripts.proofs.Lawful.{lawful_layout}
 use Rattle.am_scripts.specs.Links.{first_some}
-use Rattle.am_scripts.specs.Standings.{Standing, standings}
+use Rattle.am_scripts.specs.Standings.{Standing, standings, standing}
 use Rattle.am_drain.specs.declared.Turn.{Turn}
 use Rattle.am_drain.specs.declared.Turn.TheVariants.{Send}
 use Rattle.am_drain.specs.Made.{after_event}
@@ -32,7 +32,7 @@ use Rattle.am_drain.specs.Laws.{has_no_flight}
 use Rattle.am_drain_laws.proofs.Soundness.{histories_are_sound, none_bound}
 use Rattle.am_drain_steps.specs.Enabled.{IsOfRun, SendsMayFollow}
 use Rattle.am_drain_steps.specs.Readied.{OffDiskIsOff, ReadyIsReady}
-use Rattle.am_drain_steps.proofs.Enabled.{MakesHistory, no_fail, event_follows, of_packets, IsSeated, IsStanding, is_standing, seat_in_range, stand}
+use Rattle.am_drain_steps.proofs.Enabled.{MakesHistory, no_fail, event_follows, of_packets, IsSeated, IsStanding, is_standing, seat_in_range}
 use Rattle.am_drain_steps.proofs.Calls.{home_seated, declared_home}
 use Rattle.am_drain_steps.proofs.Paging.{leaves_disk}
 use Rattle.am_drain_steps.proofs.Moves.{Spares, spares_then}
@@ -41,10 +41,10 @@ use Rattle.am_drain_steps.proofs.Readying.{IsReady, readies, spared_ground}
 
 -- ---- nothing is in flight
 
-grounded_at : (layout : Layout) (past : List Entry) (e : EndpointId) (settings : List EndSetting) → list_any (has_id e) settings ≡ true → list_all has_no_flight (map (stand layout past) settings) ≡ true → (length (state_of layout past e).body.in_flight == 0) ≡ true
+grounded_at : (layout : Layout) (past : List Entry) (e : EndpointId) (settings : List EndSetting) → list_any (has_id e) settings ≡ true → list_all has_no_flight (map (standing layout past) settings) ≡ true → (length (state_of layout past e).body.in_flight == 0) ≡ true
 grounded_at layout past e [] known all = absurd (true≢false (sym known))
 grounded_at layout past e (x ∷ xs) known all =
-    let parts = and_parts (has_no_flight (stand layout past x)) (list_all has_no_flight (map (stand layout past) xs)) all in
+    let parts = and_parts (has_no_flight (standing layout past x)) (list_all has_no_flight (map (standing layout past) xs)) all in
     by_test (same_end e x.id) refl known parts.0 (λ more. grounded_at layout past e xs more parts.1)
   where
     by_test : (b : Bool) → same_end e x.id ≡ b → (b || list_any (has_id e) xs) ≡ true → (length (state_of layout past x.id).body.in_flight == 0) ≡ true → (list_any (has_id e) xs ≡ true → (length (state_of layout past e).body.in_flight == 0) ≡ true) → (length (state_of layout past e).body.in_flight == 0) ≡ true

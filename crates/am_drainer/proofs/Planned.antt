@@ -14,11 +14,11 @@ use Rattle.am_model.specs.Layout.{Layout, EndSetting, has_id, home_by, home, dec
 use Rattle.am_model.specs.History.{state_of, is_frame_held}
 use Rattle.am_scenario_types.specs.Lists.{ScenarioLists}
 use Rattle.am_scripts.specs.Layout.{layout_of}
-use Rattle.am_scripts.specs.Standings.{Standing, standings, is_standing_of}
+use Rattle.am_scripts.specs.Standings.{Standing, standings, is_standing_of, standing}
 use Rattle.am_drain.specs.declared.Turn.{Turn}
 use Rattle.am_drain.specs.declared.Turn.TheVariants.{Once, Make}
 use Rattle.am_drain.specs.Rules.{Left, make_of, has_room, page_in_of, poll_of}
-use Rattle.am_drain.specs.Ready.{ready, ready_at, ready_dest_if, ready_dest, off_disk_at, unloaded, paged_out, emptied, emptied_if, free_frame, loaded_into, loaded, holds_frame, spare, spare_of, is_open_on_host, is_neither}
+use Rattle.am_drain.specs.Ready.{ready, ready_at, ready_dest_if, ready_dest, off_disk_at, unloaded, paged_out, emptied, emptied_if, holds_frame, spare, spare_of, is_open_on_host, is_neither}
 use Rattle.am_drainer.specs.declared.EndHead.{EndHead}
 use Rattle.am_drainer.specs.declared.EndMail.{EndMail}
 use Rattle.am_drainer.specs.declared.LeftCall.{LeftCall}
@@ -125,16 +125,13 @@ dest_nowhere layout keep source dest past same = dest_none (is_needed layout sou
 
 -- ---- room at a destination
 
-abbrev stand : Layout → List Entry → EndSetting → Standing
-stand layout past s = record { setting = s; state = state_of layout past s.id }
-
-found_cond : (layout : Layout) (past : List Entry) (b : Bool) (s : EndSetting) (o : Option Standing) (r : Option EndSetting) → o ≡ option_map (λ (t : EndSetting). stand layout past t) r → cond b (Some (stand layout past s)) o ≡ option_map (λ (t : EndSetting). stand layout past t) (cond b (Some s) r)
+found_cond : (layout : Layout) (past : List Entry) (b : Bool) (s : EndSetting) (o : Option Standing) (r : Option EndSetting) → o ≡ option_map (λ (t : EndSetting). standing layout past t) r → cond b (Some (standing layout past s)) o ≡ option_map (λ (t : EndSetting). standing layout past t) (cond b (Some s) r)
 found_cond layout past true s o r e = refl
 found_cond layout past false s o r e = e
 
-found_so : (layout : Layout) (past : List Entry) (e : EndpointId) (settings : List EndSetting) → find (is_standing_of e) (map (stand layout past) settings) ≡ option_map (λ (s : EndSetting). stand layout past s) (find (has_id e) settings)
+found_so : (layout : Layout) (past : List Entry) (e : EndpointId) (settings : List EndSetting) → find (is_standing_of e) (map (standing layout past) settings) ≡ option_map (λ (s : EndSetting). standing layout past s) (find (has_id e) settings)
 found_so layout past e [] = refl
-found_so layout past e (s ∷ ss) = found_cond layout past (has_id e s) s (find (is_standing_of e) (map (stand layout past) ss)) (find (has_id e) ss) (found_so layout past e ss)
+found_so layout past e (s ∷ ss) = found_cond layout past (has_id e s) s (find (is_standing_of e) (map (standing layout past) ss)) (find (has_id e) ss) (found_so layout past e ss)
 
 -- whether an endpoint has room
 abbrev pub is_roomy : Layout → List Entry → EndpointId → Bool
@@ -155,7 +152,7 @@ ends_equal e f same =
     let number : e.0 ≡ f.0 = eqb-true e.0 f.0 same in
     ap (λ (n : ℕ). let x : EndpointId = record { 0 = n } in x) number
 
-roomy_by : (layout : Layout) (past : List Entry) (e : EndpointId) (o : Option EndSetting) (node : NodeId) → find (has_id e) layout.ends ≡ o → Some node ≡ home_by o → has_room (option_map (λ (s : EndSetting). stand layout past s) o) ≡ is_roomy layout past e
+roomy_by : (layout : Layout) (past : List Entry) (e : EndpointId) (o : Option EndSetting) (node : NodeId) → find (has_id e) layout.ends ≡ o → Some node ≡ home_by o → has_room (option_map (λ (s : EndSetting). standing layout past s) o) ≡ is_roomy layout past e
 roomy_by layout past e None node f same = absurd (cc)
 roomy_by layout past e (Some s) node f same = ap (is_roomy layout past) (sym (ends_equal e s.id (found_id e layout.ends s f)))
 
@@ -163,7 +160,7 @@ pub room_at : (layout : Layout) (past : List Entry) (e : EndpointId) (node : Nod
 room_at layout past e node same =
     sym (ap has_room (found_so layout past e layout.ends) ∙ roomy_by layout past e (find (has_id e) layout.ends) node refl same)
 
-roomless_by : (layout : Layout) (past : List Entry) (o : Option EndSetting) → None ≡ home_by o → has_room (option_map (λ (s : EndSetting). stand layout past s) o) ≡ false
+roomless_by : (layout : Layout) (past : List Entry) (o : Option EndSetting) → None ≡ home_by o → has_room (option_map (λ (s : EndSetting). standing layout past s) o) ≡ false
 roomless_by layout past None same = refl
 roomless_by layout past (Some s) same = absurd (cc)
 

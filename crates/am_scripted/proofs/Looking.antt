@@ -34,7 +34,7 @@ use Rattle.am_scenario_types.specs.Lists.{ScenarioLists}
 use Rattle.am_scripts.specs.Layout.{layout_of}
 use Rattle.am_model.proofs.Alls.{all_at}
 use Rattle.am_model.proofs.Names.{same_end-is}
-use Rattle.am_scripts.specs.Standings.{Standing, is_missed, standings}
+use Rattle.am_scripts.specs.Standings.{Standing, is_missed, standings, standing}
 use Rattle.am_scripts.proofs.Lists.{found_in, found_true, none_all, none_mapped}
 use Rattle.am_drain.specs.Rules.{next_page_in, page_in_of}
 use Rattle.am_drainer.specs.Reads.{head_of, is_seat, mail_of}
@@ -83,11 +83,8 @@ pub record IsSeen (layout : Layout) (past : List Entry) (k : ℕ) (one : Endpoin
   pub setting : slice_get layout.ends k ≡ Some (setting_in (kept one))
   pub state : state_after one ≡ state_of layout past one.settings.id
 
-abbrev pub standing_in : Layout → List Entry → EndSetting → Standing
-standing_in layout past s = record { setting = s; state = state_of layout past s.id }
-
-standing_at : (layout : Layout) (past : List Entry) (k : ℕ) (one : EndpointView) → IsSeen layout past k one → slice_get (standings layout past) k ≡ Some (standing_in layout past (setting_in (kept one)))
-standing_at layout past k one seen = slice_get-map_Some (standing_in layout past) layout.ends k (setting_in (kept one)) seen.setting
+standing_at : (layout : Layout) (past : List Entry) (k : ℕ) (one : EndpointView) → IsSeen layout past k one → slice_get (standings layout past) k ≡ Some (standing layout past (setting_in (kept one)))
+standing_at layout past k one seen = slice_get-map_Some (standing layout past) layout.ends k (setting_in (kept one)) seen.setting
 
 -- what the cluster of a scenario tells of an endpoint at a place
 pub seen_in : (s : ScenarioLists) (v : ClusterView) (k : ℕ) (one : EndpointView) → v.layout ≡ layout_of s → slice_get v.layout.ends k ≡ Some (setting_in (kept one)) → state_after one ≡ state_of v.layout v.journal one.settings.id → IsSeen (layout_of s) v.journal k one
@@ -101,13 +98,13 @@ seat_at layout past k one node id ok seen at of =
 
 pub head_read : (layout : Layout) (past : List Entry) (k : ℕ) (one : EndpointView) (id : EndpointId) (node : NodeId) (h : Head) → IsSeen layout past k one → id ≡ one.settings.id → node ≡ one.settings.node → h ≡ (state_after one).head → slice_get (map head_of (standings layout past)) k ≡ Some (record { id = id; node = node; head = h })
 head_read layout past k one id node h seen of at is =
-    slice_get-map_Some head_of (standings layout past) k (standing_in layout past (setting_in (kept one))) (standing_at layout past k one seen)
+    slice_get-map_Some head_of (standings layout past) k (standing layout past (setting_in (kept one))) (standing_at layout past k one seen)
     ∙ sym same
   where
     heads : h ≡ (state_of layout past one.settings.id).head
     heads = is ∙ ap (λ (s : State). s.head) seen.state
 
-    same : Some (record { id = id; node = node; head = h }) ≡ Some (head_of (standing_in layout past (setting_in (kept one))))
+    same : Some (record { id = id; node = node; head = h }) ≡ Some (head_of (standing layout past (setting_in (kept one))))
     same = λ i. Some (record { id = of i; node = at i; head = heads i })
 
 -- ---- what is on disk holds nothing, while no wanted endpoint is there
@@ -174,7 +171,7 @@ quiet_where s settled missed at = settled_on_disk s settled (by_test s.head.want
 pub quiet_at : (layout : Layout) (past : List Entry) (k : ℕ) (one : EndpointView) → AwayIsSettled → layout.direct ≡ false → IsHistory layout past → next_page_in (standings layout past) ≡ None → IsSeen layout past k one → IsQuietOnDisk (state_of layout past one.settings.id)
 quiet_at layout past k one away packet history none seen =
     quiet_where (state_of layout past one.settings.id) (away layout past packet history one.settings.id)
-    (all_got (λ (s : Standing). not (is_missed s)) (standings layout past) k (standing_in layout past (setting_in (kept one)))
+    (all_got (λ (s : Standing). not (is_missed s)) (standings layout past) k (standing layout past (setting_in (kept one)))
     (none_all is_missed (standings layout past) (none_mapped page_in_of (find is_missed (standings layout past)) none))
     (standing_at layout past k one seen))
 
@@ -203,7 +200,7 @@ pub record ReadsMail (one : EndpointView) (front' : Option Queued) (reply arriva
 
 pub mail_read : (layout : Layout) (past : List Entry) (k : ℕ) (one : EndpointView) (id : EndpointId) (node : NodeId) (f : Option Queued) (r a : Bool) → IsSeen layout past k one → IsQuietOnDisk (state_of layout past one.settings.id) → id ≡ one.settings.id → node ≡ one.settings.node → ReadsMail one f r a → slice_get (map mail_of (standings layout past)) k ≡ Some (record { id = id; node = node; front = f; has_reply = r; has_arrivals = a })
 mail_read layout past k one id node f r a seen still of at read =
-    slice_get-map_Some mail_of (standings layout past) k (standing_in layout past (setting_in (kept one))) (standing_at layout past k one seen)
+    slice_get-map_Some mail_of (standings layout past) k (standing layout past (setting_in (kept one))) (standing_at layout past k one seen)
     ∙ sym same
   where
     s : State
@@ -218,7 +215,7 @@ mail_read layout past k one id node f r a seen still of at read =
     arrived : a ≡ has_arrivals s.body
     arrived = read.arrivals_is ∙ ap (λ (t : State). if is_on_disk t.head.place then false else has_arrivals t.body) seen.state ∙ arrivals_read s (is_on_disk s.head.place) still
 
-    same : Some (record { id = id; node = node; front = f; has_reply = r; has_arrivals = a }) ≡ Some (mail_of (standing_in layout past (setting_in (kept one))))
+    same : Some (record { id = id; node = node; front = f; has_reply = r; has_arrivals = a }) ≡ Some (mail_of (standing layout past (setting_in (kept one))))
     same = λ i. Some (record { id = of i; node = at i; front = fronts i; has_reply = replies i; has_arrivals = arrived i })
 
 -- ---- an endpoint by its number
@@ -249,7 +246,7 @@ quiet_of layout past e away packet history none known =
     let found = found_at e layout.ends known in
     let own : e ≡ found.0.id = same_end-is e found.0.id (found_true (has_id e) layout.ends found.0 found.1) in
     let all = none_all is_missed (standings layout past) (none_mapped page_in_of (find is_missed (standings layout past)) none) in
-    let free = found_in (has_id e) (λ (s : EndSetting). not (is_missed (standing_in layout past s))) layout.ends found.0 found.1 (all_mapped (standing_in layout past) (λ (s : Standing). not (is_missed s)) layout.ends ∙ all) in
+    let free = found_in (has_id e) (λ (s : EndSetting). not (is_missed (standing layout past s))) layout.ends found.0 found.1 (all_mapped (standing layout past) (λ (s : Standing). not (is_missed s)) layout.ends ∙ all) in
     quiet_where (state_of layout past e) (away layout past packet history e)
     (subst (λ (d : EndpointId). not ((state_of layout past d).head.wanted && is_on_disk (state_of layout past d).head.place) ≡ true) (sym own) free)
 

@@ -17,9 +17,13 @@ pub record Standing : Type 0 where
   pub setting : EndSetting
   pub state : State
 
+-- the endpoint of this setting, as it stands
+abbrev pub standing : Layout → List Entry → EndSetting → Standing
+standing layout past s = record { setting = s; state = state_of layout past s.id }
+
 -- the endpoints as they stand, in ascending order
 abbrev pub standings : Layout → List Entry → List Standing
-standings layout past = map (λ (s : EndSetting). record { setting = s; state = state_of layout past s.id }) layout.ends
+standings layout past = map (standing layout past) layout.ends
 
 abbrev pub is_standing_of : EndpointId → Standing → Bool
 is_standing_of e s = same_end e s.setting.id
