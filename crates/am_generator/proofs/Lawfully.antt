@@ -300,7 +300,7 @@ fault_at false false w = (omega arith, omega arith)
 a_line : (w : ℕ) → IsLawfulPlanLine 4 (line_of w)
 a_line w = record { from = omega arith; to = omega arith; number = (omega arith, omega arith); fault = fault_at (w / 8192 % 3 == 0) (w / 8192 % 3 == 1) w }
 
-elsewhere : (a b : PlanLine) → ((a.from.0 == b.from.0) && (a.to.0 == b.to.0) && (a.number == b.number)) ≡ false → ¬ IsSamePlace a b
+pub elsewhere : (a b : PlanLine) → ((a.from.0 == b.from.0) && (a.to.0 == b.to.0) && (a.number == b.number)) ≡ false → ¬ IsSamePlace a b
 elsewhere a b e = λ same.
     let yes_all : ((a.from.0 == b.from.0) && (a.to.0 == b.to.0) && (a.number == b.number)) ≡ true = and_from_three _ _ _ (eq-eqb a.from.0 b.from.0 same.0) (eq-eqb a.to.0 b.to.0 same.1) (eq-eqb a.number b.number same.2) in
     let never : true ≡ false = sym yes_all ∙ e in cc

@@ -9,7 +9,6 @@ use Rattle.std.proofs.lemmas.List.Elements.{All-nil, All-cons, All-push, All-app
 use Rattle.std.proofs.lemmas.List.Sums.{sum_by_push}
 use Rattle.std.proofs.lemmas.List.Folds.{find-append}
 use Rattle.std.proofs.lemmas.Bool.{and_from, eqb-true, eq-eqb}
-use Rattle.am_lemmas.proofs.Bools.{and_from_three}
 use Rattle.am_lemmas.proofs.Lists.{none_passes, all_pairs_none, all_pairs_grow}
 use Rattle.am_lemmas.proofs.Options.{option_map-option_or}
 use Rattle.am_names.specs.declared.EndpointId.{EndpointId}
@@ -34,6 +33,7 @@ use Rattle.am_lines.specs.Calls.{least_share}
 use Rattle.am_lines_laws.specs.LineLaws.{network_of, fits_form, IsLawfulSetting}
 use Rattle.am_lines_laws.specs.Sound.{SettingsAreSound, EndsAreSound, BundlesAreSound, ThreadsAreSound, PlanIsSound, FaultsAreSound, ScriptIsSound, StepsAreSound, DeclaresNothing, DoesNothing, HasForm, IsSound}
 use Rattle.am_lines_laws.specs.Growth.{StaysSound, BeginsSound}
+use Rattle.am_generator.proofs.Lawfully.{elsewhere}
 
 -- ---- nothing
 
@@ -165,11 +165,6 @@ threads_more said thread nodes h lawful new room = record {
       (All-weaker (λ other. (other.id == thread.id) ≡ false) (λ other. other.id ≢ thread.id) (λ other e. apart other.id thread.id e) said.threads (not_found (λ other. other.id == thread.id) said.threads new));
   of_a_node = still_few (λ other. other.node.0) 4 said.threads thread h.of_a_node room;
 }
-
-elsewhere : (a b : PlanLine) → ((a.from.0 == b.from.0) && (a.to.0 == b.to.0) && (a.number == b.number)) ≡ false → ¬ IsSamePlace a b
-elsewhere a b e = λ same.
-    let yes_all : ((a.from.0 == b.from.0) && (a.to.0 == b.to.0) && (a.number == b.number)) ≡ true = and_from_three _ _ _ (eq-eqb a.from.0 b.from.0 same.0) (eq-eqb a.to.0 b.to.0 same.1) (eq-eqb a.number b.number same.2) in
-    let never : true ≡ false = sym yes_all ∙ e in cc
 
 plan_more : (said : Said) (planned : PlanLine) (nodes : ℕ) → PlanIsSound nodes said.plan → IsLawfulPlanLine nodes planned → is_planned said.plan planned.from planned.to planned.number ≡ false
     → length said.plan < 4096 → PlanIsSound nodes (said.plan ++ planned ∷ [])

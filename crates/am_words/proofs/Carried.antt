@@ -4,7 +4,8 @@ use Rattle.std.specs.Int.{w64, from_be_bytes}
 use Rattle.std.proofs.lemmas.Bool.{le-leb}
 use Rattle.std.proofs.lemmas.List.{length-replicate, take_at, drop_at}
 use Rattle.am_lemmas.proofs.Bytes.{three_words_back, bytes-padded}
-use Rattle.am_words.specs.Codes.{are_zero, bytes_in, code, padded, word_in}
+use Rattle.am_words.specs.Codes.{code, padded, word_in}
+use Rattle.am_pieces.specs.Pieces.{bytes_in, are_zero}
 
 front : (bytes : List ℕ) → from_be_bytes w64 bytes ≡ from_be_bytes w64 (take 8 bytes)
 front [] = refl
