@@ -1,17 +1,11 @@
 -- A cluster that follows the steps of its scenario, as the checker sees it.
-use Rattle.std.specs.Prelude.{◌≡◌, List, length}
-use Rattle.am_office.specs.declared.Entry.{Entry}
+use Rattle.std.specs.Prelude.{◌≡◌, length}
 use Rattle.am_scenario_types.specs.Lawful.{IsLawful}
-use Rattle.am_scenario_types.specs.Lists.{ScenarioLists}
 use Rattle.am_scripts.specs.Layout.{layout_of}
 use Rattle.am_check.specs.declared.step_cluster.StepCluster.TheInside.{Inside}
+use Rattle.am_scripted.specs.Scripted.{RunView}
 
--- a scenario, and the journal that was made of it
-pub record StepView : Type 0 where
-  pub scenario : ScenarioLists
-  pub journal : List Entry
-
-abbrev pub view_of : Inside → StepView
+abbrev pub view_of : Inside → RunView
 view_of m = record { scenario = m.scenario.now; journal = m.cluster.journal }
 
 -- the scenario is lawful, the cluster is that of the scenario, and its entries are counted

@@ -27,9 +27,9 @@ pub(crate) struct StepCluster<'a> {
 }
 
 impl<'a> Model for StepCluster<'a> {
-    ghost use Rattle.am_check.specs.Steps.{StepView};
+    ghost use Rattle.am_scripted.specs.Scripted.{RunView};
 
-    ghost Value = { StepView };
+    ghost Value = { RunView };
 
     ghost use Rattle.am_check.specs.Steps.{IsStepCluster, view_of};
 

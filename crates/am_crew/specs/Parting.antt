@@ -2,15 +2,11 @@
 use Rattle.std.specs.Prelude.{◌≡◌, ℕ, ◌≤◌, Some, List, length, map, slice_get}
 use Rattle.std.specs.Global.{Vec}
 use Rattle.am_names.specs.declared.Packet.{Packet}
-use Rattle.am_endpoint.specs.View.{EndpointView}
-use Rattle.am_books.specs.declared.EndBook.{EndBook}
 use Rattle.am_node.specs.Shells.{AreCounts}
 use Rattle.am_node.specs.declared.NodePart.{NodePart}
 use Rattle.am_wire.specs.declared.closing.LinkRecord.{LinkRecord}
 use Rattle.am_crew.specs.declared.ended.NodeEnded.{NodeEnded}
-
-abbrev pub end_in : EndBook → EndpointView
-end_in b = b.end.value
+use Rattle.am_books.specs.Ends.{end_in}
 
 abbrev pub emitted_in : LinkRecord → Vec Packet
 emitted_in r = r.emitted

@@ -23,7 +23,7 @@ use Rattle.am_workers.specs.declared.workers.ThreadWorker.{ThreadWorker}
 use Rattle.am_crew_laws.specs.Ended.{IsTakenOut}
 use Rattle.am_crew_opening.specs.Crews.{AreCrews, IsCrew, ids_of}
 use Rattle.am_crew_opening.specs.declared.crew.NodeCrew.{NodeCrew}
-use Rattle.am_unite_laws.specs.Ended.{end_of}
+use Rattle.am_books.specs.Ends.{end_in}
 
 -- ---- the seats
 
@@ -54,7 +54,7 @@ pub record AreBooksOf (c : NodeCrew) (books : List EndBook) : Type 0 where
 -- many packets that were taken out of the link from it are not in hand
 pub record IsPartOfCrew (s : ScenarioLists) (node : NodeId) (c : NodeCrew) (books : List EndBook) (p : NodePart) : Type 0 where
   pub is_node : p.node ≡ node
-  pub ends' : p.ends.items ≡ map end_of books
+  pub ends' : p.ends.items ≡ map end_in books
   pub interface : p.iface ≡ c.interface.interface
   pub few : length p.iface.log ≤ s.log
   pub disk : p.swap ≡ c.driver.swap

@@ -32,12 +32,13 @@ use Rattle.am_works.specs.Seats.{EndPass, Ids}
 use Rattle.am_workers.specs.AtWork.{IsDriverAtWork, IsInterfaceAtWork, IsThreadAtWork}
 use Rattle.am_workers.specs.Begins.{IsNewDisk, IsNewSeat, NewDriversAreAtWork, NewInterfacesAreAtWork, NewThreadsAreAtWork}
 use Rattle.am_workers.specs.declared.workers.ThreadWorker.{ThreadWorker}
-use Rattle.am_opening.specs.Openings.{EndSeat, IsFreshSeat, IsOpenIn, IsOpening, births_of, threads_of}
+use Rattle.am_opening.specs.Openings.{EndSeat, IsFreshSeat, IsOpening, births_of, threads_of}
 use Rattle.am_opening.specs.declared.opening.Opening.{Opening}
 use Rattle.am_crew_opening.specs.Crews.{IsCrew, IsSeatOf, IsUnused}
 use Rattle.am_crew_opening.specs.Making.{AreNodeLinks, AreThreadsMade, IsThreadMade}
 use Rattle.am_crew_opening.specs.declared.crew.NodeCrew.{NodeCrew}
 use Rattle.am_crew_opening.proofs.Scripted.{is_declared, is_script, is_short}
+use Rattle.am_works.specs.Begins.{IsOpenIn}
 
 abbrev EndPlaces : Type 0
 EndPlaces = Places EndBook Entry EndSettings

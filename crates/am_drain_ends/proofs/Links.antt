@@ -29,8 +29,8 @@ use Rattle.am_scripts.proofs.Links.{emitted_push, received_push}
 use Rattle.am_scripts.proofs.Lists.{some_mapped}
 use Rattle.am_drain_steps.specs.Work.{packet_copy, is_still_late, still_late}
 use Rattle.am_drain_steps.proofs.Counted.{counted}
-use Rattle.am_drain_steps.proofs.Receipts.{from_of, to_of}
 use Rattle.am_drain_ends.proofs.Sums.{pairs_more}
+use Rattle.am_model.specs.Packets.{from_of, receiver_of}
 
 -- what the packets of a link are still to cause, of which so many were received
 abbrev pub link_left : ScenarioLists → NodeId → NodeId → List Packet → ℕ → ℕ
@@ -204,7 +204,7 @@ stamped_is_copy : (s : ScenarioLists) (sent : List Packet) (stamp : ℕ) (p : Pa
 stamped_is_copy s sent stamp (Packets.Parcel p) h = h
 stamped_is_copy s sent stamp (Packets.Answer p) h = h
 
-on_link : (from to : NodeId) (p : Packet) → is_on_link from to p ≡ true → (from ≡ from_of p) × (to ≡ to_of p)
+on_link : (from to : NodeId) (p : Packet) → is_on_link from to p ≡ true → (from ≡ from_of p) × (to ≡ receiver_of p)
 on_link from to (Packets.Parcel p) h =
     let both = and_parts (same_node from p.from) (same_node to p.to) h in (same_node-is from p.from both.0, same_node-is to p.to both.1)
 on_link from to (Packets.Answer p) h =
@@ -217,8 +217,8 @@ all_copies s layout past from to h = all_by_place (IsCopy s (emitted from to pas
     at k p e =
         let was = was_emitted from to past k p e in
         let link = on_link from to p was.1 in
-        let there : slice_get (emitted (from_of p) (to_of p) past) (number_of p - 1) ≡ Some p = (counted layout past h).placed p was.0 in
-        let same : emitted from to past ≡ emitted (from_of p) (to_of p) past = λ i. emitted (link.0 i) (link.1 i) past in
+        let there : slice_get (emitted (from_of p) (receiver_of p) past) (number_of p - 1) ≡ Some p = (counted layout past h).placed p was.0 in
+        let same : emitted from to past ≡ emitted (from_of p) (receiver_of p) past = λ i. emitted (link.0 i) (link.1 i) past in
         ap (λ (ps : List Packet). option_map (packet_copy s) (slice_get ps (number_of p - 1))) same ∙ ap (option_map (packet_copy s)) there
 
 number_at : (ps : List Packet) (k n : ℕ) → slice_get (map number_of ps) k ≡ Some n → (r : Packet) × (slice_get ps k ≡ Some r) × (number_of r ≡ n)
@@ -264,42 +264,42 @@ sent_by past from to = emitted from to past
 abbrev pub taken_by : List Entry → NodeId → NodeId → ℕ
 taken_by past from to = length (received from to past)
 
-emitted_own : (past : List Entry) (x : Entry) (p : Packet) → emitted_of x ≡ Some p → emitted (from_of p) (to_of p) (past ++ x ∷ []) ≡ emitted (from_of p) (to_of p) past ++ p ∷ []
+emitted_own : (past : List Entry) (x : Entry) (p : Packet) → emitted_of x ≡ Some p → emitted (from_of p) (receiver_of p) (past ++ x ∷ []) ≡ emitted (from_of p) (receiver_of p) past ++ p ∷ []
 emitted_own past x p is =
-    emitted_push (from_of p) (to_of p) past x
-    ∙ ap (λ (ps : List Packet). emitted (from_of p) (to_of p) past ++ ps)
-    (ap (λ (o : Option Packet). filter (is_on_link (from_of p) (to_of p)) (cons_option o [])) is ∙ ap (λ (b : Bool). cond b (p ∷ []) []) (own p))
+    emitted_push (from_of p) (receiver_of p) past x
+    ∙ ap (λ (ps : List Packet). emitted (from_of p) (receiver_of p) past ++ ps)
+    (ap (λ (o : Option Packet). filter (is_on_link (from_of p) (receiver_of p)) (cons_option o [])) is ∙ ap (λ (b : Bool). cond b (p ∷ []) []) (own p))
   where
-    own : (q : Packet) → is_on_link (from_of q) (to_of q) q ≡ true
+    own : (q : Packet) → is_on_link (from_of q) (receiver_of q) q ≡ true
     own (Packets.Parcel q) = and_from (same_node q.from q.from) (same_node q.to q.to) (same_node-refl q.from) (same_node-refl q.to)
     own (Packets.Answer q) = and_from (same_node q.from q.from) (same_node q.to q.to) (same_node-refl q.from) (same_node-refl q.to)
 
-emitted_other : (from to : NodeId) (past : List Entry) (x : Entry) (p : Packet) → emitted_of x ≡ Some p → (same_node from (from_of p) && same_node to (to_of p)) ≡ false → emitted from to (past ++ x ∷ []) ≡ emitted from to past
+emitted_other : (from to : NodeId) (past : List Entry) (x : Entry) (p : Packet) → emitted_of x ≡ Some p → (same_node from (from_of p) && same_node to (receiver_of p)) ≡ false → emitted from to (past ++ x ∷ []) ≡ emitted from to past
 emitted_other from to past x p is apart =
     emitted_push from to past x
     ∙ (ap (λ (ps : List Packet). emitted from to past ++ ps)
     (ap (λ (o : Option Packet). filter (is_on_link from to) (cons_option o [])) is ∙ ap (λ (b : Bool). cond b (p ∷ []) []) (other p apart))
     ∙ append-nil (emitted from to past))
   where
-    other : (q : Packet) → (same_node from (from_of q) && same_node to (to_of q)) ≡ false → is_on_link from to q ≡ false
+    other : (q : Packet) → (same_node from (from_of q) && same_node to (receiver_of q)) ≡ false → is_on_link from to q ≡ false
     other (Packets.Parcel q) h = h
     other (Packets.Answer q) h = h
 
 -- an emission makes at most two copies more
-pub links_emit : (s : ScenarioLists) (past : List Entry) (x : Entry) (p : Packet) (taken : NodeId → NodeId → ℕ) → emitted_of x ≡ Some p → (from_of p).0 < s.nodes → (to_of p).0 < s.nodes → links_work s (sent_by (past ++ x ∷ [])) taken ≤ links_work s (sent_by past) taken + 2 * packet_copy s p
+pub links_emit : (s : ScenarioLists) (past : List Entry) (x : Entry) (p : Packet) (taken : NodeId → NodeId → ℕ) → emitted_of x ≡ Some p → (from_of p).0 < s.nodes → (receiver_of p).0 < s.nodes → links_work s (sent_by (past ++ x ∷ [])) taken ≤ links_work s (sent_by past) taken + 2 * packet_copy s p
 links_emit s past x p taken is low high =
-    let more = pairs_more s (λ (a b : NodeId). link_left s a b (sent_by past a b) (taken a b)) (λ (a b : NodeId). link_left s a b (sent_by (past ++ x ∷ []) a b) (taken a b)) 0 (2 * packet_copy s p) (from_of p) (to_of p) low high others here in
+    let more = pairs_more s (λ (a b : NodeId). link_left s a b (sent_by past a b) (taken a b)) (λ (a b : NodeId). link_left s a b (sent_by (past ++ x ∷ []) a b) (taken a b)) 0 (2 * packet_copy s p) (from_of p) (receiver_of p) low high others here in
     omega (arith, more)
   where
-    others : (a b : NodeId) → (same_node a (from_of p) && same_node b (to_of p)) ≡ false → link_left s a b (sent_by (past ++ x ∷ []) a b) (taken a b) ≤ link_left s a b (sent_by past a b) (taken a b)
+    others : (a b : NodeId) → (same_node a (from_of p) && same_node b (receiver_of p)) ≡ false → link_left s a b (sent_by (past ++ x ∷ []) a b) (taken a b) ≤ link_left s a b (sent_by past a b) (taken a b)
     others a b apart =
         let same = ap (λ (ps : List Packet). link_left s a b ps (taken a b)) (emitted_other a b past x p is apart) in
         omega (arith, same)
 
-    here : link_left s (from_of p) (to_of p) (sent_by (past ++ x ∷ []) (from_of p) (to_of p)) (taken (from_of p) (to_of p)) + 0 ≤ link_left s (from_of p) (to_of p) (sent_by past (from_of p) (to_of p)) (taken (from_of p) (to_of p)) + 2 * packet_copy s p
+    here : link_left s (from_of p) (receiver_of p) (sent_by (past ++ x ∷ []) (from_of p) (receiver_of p)) (taken (from_of p) (receiver_of p)) + 0 ≤ link_left s (from_of p) (receiver_of p) (sent_by past (from_of p) (receiver_of p)) (taken (from_of p) (receiver_of p)) + 2 * packet_copy s p
     here =
-        let same = ap (λ (ps : List Packet). link_left s (from_of p) (to_of p) ps (taken (from_of p) (to_of p))) (emitted_own past x p is) in
-        omega (arith, same, emits s (from_of p) (to_of p) (sent_by past (from_of p) (to_of p)) p (taken (from_of p) (to_of p)))
+        let same = ap (λ (ps : List Packet). link_left s (from_of p) (receiver_of p) ps (taken (from_of p) (receiver_of p))) (emitted_own past x p is) in
+        omega (arith, same, emits s (from_of p) (receiver_of p) (sent_by past (from_of p) (receiver_of p)) p (taken (from_of p) (receiver_of p)))
 
 -- without an emission nothing changes
 pub links_still : (s : ScenarioLists) (past : List Entry) (x : Entry) (taken : NodeId → NodeId → ℕ) → emitted_of x ≡ None → links_work s (sent_by (past ++ x ∷ [])) taken ≡ links_work s (sent_by past) taken

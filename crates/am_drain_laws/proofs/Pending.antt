@@ -34,9 +34,8 @@ use Rattle.am_scripts.proofs.Lawful.{lawful_layout}
 use Rattle.am_laws_homes.proofs.Homes.{messages_addressed}
 use Rattle.am_laws_messages.proofs.Delivered.{IsIn, delivers}
 use Rattle.am_laws_cluster.proofs.Whole.{cluster_holds}
-use Rattle.am_scripts.specs.Standings.{messages_in, holds_nothing}
+use Rattle.am_scripts.specs.Standings.{messages_in, holds_nothing, standing_in}
 use Rattle.am_drain_laws.specs.Laws.{NonePending}
-use Rattle.am_drain_laws.proofs.Soundness.{standing}
 
 -- ---- what a fate of Pending says
 
@@ -116,15 +115,15 @@ nothing_held b h =
     let none : messages_in b ≡ 0 = eqb-true (messages_in b) 0 h in
     record { requests = omega (arith, none); replies = omega (arith, none); in_flight = omega (arith, none); received = omega (arith, none) }
 
-rests_step : (layout : Layout) (past : List Entry) (e : EndpointId) (setting : EndSetting) (b more : Bool) → same_end e setting.id ≡ b → (b || more) ≡ true → holds_nothing (standing layout past setting) ≡ true → (more ≡ true → Holds (state_of layout past e).body) → Holds (state_of layout past e).body
+rests_step : (layout : Layout) (past : List Entry) (e : EndpointId) (setting : EndSetting) (b more : Bool) → same_end e setting.id ≡ b → (b || more) ≡ true → holds_nothing (standing_in layout past setting) ≡ true → (more ≡ true → Holds (state_of layout past e).body) → Holds (state_of layout past e).body
 rests_step layout past e setting true more is there here later =
     subst (λ (d : EndpointId). Holds (state_of layout past d).body) (sym (same_end-is e setting.id is)) (nothing_held (state_of layout past setting.id).body here)
 rests_step layout past e setting false more is there here later = later there
 
-rests_at : (layout : Layout) (past : List Entry) (e : EndpointId) (settings : List EndSetting) → list_any (has_id e) settings ≡ true → list_all holds_nothing (map (standing layout past) settings) ≡ true → Holds (state_of layout past e).body
+rests_at : (layout : Layout) (past : List Entry) (e : EndpointId) (settings : List EndSetting) → list_any (has_id e) settings ≡ true → list_all holds_nothing (map (standing_in layout past) settings) ≡ true → Holds (state_of layout past e).body
 rests_at layout past e [] there all = absurd (true≢false (sym there))
 rests_at layout past e (setting ∷ settings) there all =
-    let parts = and_parts (holds_nothing (standing layout past setting)) (list_all holds_nothing (map (standing layout past) settings)) all in
+    let parts = and_parts (holds_nothing (standing_in layout past setting)) (list_all holds_nothing (map (standing_in layout past) settings)) all in
     rests_step layout past e setting (same_end e setting.id) (list_any (has_id e) settings) refl there parts.0 (λ more. rests_at layout past e settings more parts.1)
 
 -- an endpoint that has received a message is declared

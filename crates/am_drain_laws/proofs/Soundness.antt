@@ -23,7 +23,7 @@ use Rattle.am_laws_homes.proofs.Homes.{front_addressed, home_below}
 use Rattle.am_laws_messages.proofs.Delivered.{delivers}
 use Rattle.am_laws_cluster.proofs.Bound.{in_flight_bound}
 use Rattle.am_scripts.specs.Links.{nodes_of}
-use Rattle.am_scripts.specs.Standings.{Standing, standings, is_standing_of, is_idle}
+use Rattle.am_scripts.specs.Standings.{Standing, standings, standing_in, is_standing_of, is_idle}
 use Rattle.am_drain.specs.Rules.{next_time_out}
 use Rattle.am_drain.specs.Laws.{is_known, has_known_front, has_no_flight}
 use Rattle.am_drain.proofs.Rest.{idle_nodes, rests_at_end}
@@ -31,28 +31,25 @@ use Rattle.am_drain.proofs.Follows.{drained_follows}
 use Rattle.am_drain_laws.specs.Laws.{HistoriesAreSound, DrainsFollow, DrainsRest}
 use Rattle.am_drain_laws.proofs.Channels.{channels_below}
 
-abbrev pub standing : Layout → List Entry → EndSetting → Standing
-standing layout past setting = record { setting = setting; state = state_of layout past setting.id }
-
 -- ---- the front messages go to endpoints that there are
 
 some_step : (b : Bool) (s : Standing) (rest : Option Standing) (more : Bool) → (b || more) ≡ true → (more ≡ true → is_some rest ≡ true) → is_some (cond b (Some s) rest) ≡ true
 some_step true s rest more h k = refl
 some_step false s rest more h k = k h
 
-stands : (layout : Layout) (past : List Entry) (e : EndpointId) (settings : List EndSetting) → list_any (has_id e) settings ≡ true → is_some (find (is_standing_of e) (map (standing layout past) settings)) ≡ true
+stands : (layout : Layout) (past : List Entry) (e : EndpointId) (settings : List EndSetting) → list_any (has_id e) settings ≡ true → is_some (find (is_standing_of e) (map (standing_in layout past) settings)) ≡ true
 stands layout past e [] h = absurd (true≢false (sym h))
 stands layout past e (setting ∷ settings) h =
-    some_step (same_end e setting.id) (standing layout past setting) (find (is_standing_of e) (map (standing layout past) settings)) (list_any (has_id e) settings) h (stands layout past e settings)
+    some_step (same_end e setting.id) (standing_in layout past setting) (find (is_standing_of e) (map (standing_in layout past) settings)) (list_any (has_id e) settings) h (stands layout past e settings)
 
 front_known : (layout : Layout) (past : List Entry) → IsHistory layout past → (e : EndpointId) (o : Option Queued) → front (state_of layout past e) ≡ o → is_known (standings layout past) o ≡ true
 front_known layout past h e None is = refl
 front_known layout past h e (Some q) is = stands layout past q.message.dest layout.ends (front_addressed layout past h e q is).dest
 
-all_known : (layout : Layout) (past : List Entry) → IsHistory layout past → (settings : List EndSetting) → list_all (has_known_front (standings layout past)) (map (standing layout past) settings) ≡ true
+all_known : (layout : Layout) (past : List Entry) → IsHistory layout past → (settings : List EndSetting) → list_all (has_known_front (standings layout past)) (map (standing_in layout past) settings) ≡ true
 all_known layout past h [] = refl
 all_known layout past h (setting ∷ settings) =
-    and_from (is_known (standings layout past) (front (state_of layout past setting.id))) (list_all (has_known_front (standings layout past)) (map (standing layout past) settings))
+    and_from (is_known (standings layout past) (front (state_of layout past setting.id))) (list_all (has_known_front (standings layout past)) (map (standing_in layout past) settings))
     (front_known layout past h setting.id (front (state_of layout past setting.id)) refl) (all_known layout past h settings)
 
 -- ---- what is in flight is bound to a channel
@@ -106,11 +103,11 @@ no_flight s past ok h none e (f ∷ fs) held =
     let model = lawful_layout s ok in
     absurd (none_bound s past c f.message none (home_below layout model e c.node once.node) (home_below layout model f.message.dest c.peer routed.home) (channels_below layout past h c f.message once.bound) once.bound)
 
-all_grounded : (s : ScenarioLists) (past : List Entry) → lawful.IsLawful s → IsHistory (layout_of s) past → next_time_out s past ≡ None → (settings : List EndSetting) → list_all has_no_flight (map (standing (layout_of s) past) settings) ≡ true
+all_grounded : (s : ScenarioLists) (past : List Entry) → lawful.IsLawful s → IsHistory (layout_of s) past → next_time_out s past ≡ None → (settings : List EndSetting) → list_all has_no_flight (map (standing_in (layout_of s) past) settings) ≡ true
 all_grounded s past ok h none [] = refl
 all_grounded s past ok h none (setting ∷ settings) =
     let flying : List Flying = (state_of (layout_of s) past setting.id).body.in_flight in
-    and_from (length flying == 0) (list_all has_no_flight (map (standing (layout_of s) past) settings))
+    and_from (length flying == 0) (list_all has_no_flight (map (standing_in (layout_of s) past) settings))
     (no_flight s past ok h none setting.id flying ((in_flight_bound (layout_of s) (lawful_layout s ok) past h).held setting.id)) (all_grounded s past ok h none settings)
 
 pub histories_are_sound : HistoriesAreSound

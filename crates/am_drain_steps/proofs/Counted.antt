@@ -24,7 +24,8 @@ use Rattle.am_plan.specs.Shape.{number_of}
 use Rattle.am_scripts.specs.Links.{number_received, received}
 use Rattle.am_scripts.proofs.Links.{emitted_push, received_push}
 use Rattle.am_drain_steps.specs.Endings.{is_among}
-use Rattle.am_drain_steps.proofs.Receipts.{from_of, to_of, packet_next}
+use Rattle.am_drain_steps.proofs.Receipts.{packet_next}
+use Rattle.am_model.specs.Packets.{from_of, receiver_of}
 
 -- ---- among
 
@@ -46,25 +47,25 @@ slice_last (y ∷ xs) (suc k) x h = slice_last xs k x (omega (arith, h))
 
 -- the packets of a link stand at their numbers, and a number that was received there was emitted
 pub record IsCounted (past : List Entry) : Type 0 where
-  pub placed : (p : Packet) → EmittedIn p past → slice_get (emitted (from_of p) (to_of p) past) (number_of p - 1) ≡ Some p
+  pub placed : (p : Packet) → EmittedIn p past → slice_get (emitted (from_of p) (receiver_of p) past) (number_of p - 1) ≡ Some p
   pub below : (from to : NodeId) (n : ℕ) → is_among n (received from to past) ≡ true → n ≤ length (emitted from to past)
 
 -- what an entry emits on the packet's link, where it emits the packet
-own_emission : (p : Packet) (x : Entry) → emitted_of x ≡ Some p → emitted (from_of p) (to_of p) (x ∷ []) ≡ p ∷ []
+own_emission : (p : Packet) (x : Entry) → emitted_of x ≡ Some p → emitted (from_of p) (receiver_of p) (x ∷ []) ≡ p ∷ []
 own_emission p x is =
-    ap (λ (o : Option Packet). filter (is_on_link (from_of p) (to_of p)) (cons_option o [])) is ∙ ap (λ (b : Bool). cond b (p ∷ []) []) (own p)
+    ap (λ (o : Option Packet). filter (is_on_link (from_of p) (receiver_of p)) (cons_option o [])) is ∙ ap (λ (b : Bool). cond b (p ∷ []) []) (own p)
   where
-    own : (q : Packet) → is_on_link (from_of q) (to_of q) q ≡ true
+    own : (q : Packet) → is_on_link (from_of q) (receiver_of q) q ≡ true
     own (Packets.Parcel q) = and_from (same_node q.from q.from) (same_node q.to q.to) (same_node-refl q.from) (same_node-refl q.to)
     own (Packets.Answer q) = and_from (same_node q.from q.from) (same_node q.to q.to) (same_node-refl q.from) (same_node-refl q.to)
 
-placed_more : (layout : Layout) (past : List Entry) (x : Entry) → MayFollow layout past x → IsCounted past → (p : Packet) → EmittedIn p (past ++ x ∷ []) → slice_get (emitted (from_of p) (to_of p) (past ++ x ∷ [])) (number_of p - 1) ≡ Some p
+placed_more : (layout : Layout) (past : List Entry) (x : Entry) → MayFollow layout past x → IsCounted past → (p : Packet) → EmittedIn p (past ++ x ∷ []) → slice_get (emitted (from_of p) (receiver_of p) (past ++ x ∷ [])) (number_of p - 1) ≡ Some p
 placed_more layout past x may k p h =
-    ap (λ (ps : List Packet). slice_get ps (number_of p - 1)) (emitted_push (from_of p) (to_of p) past x)
-    ∙ ⊎_elim (λ (old : EmittedIn p past). slice_get-append_left (emitted (from_of p) (to_of p) past) (emitted (from_of p) (to_of p) (x ∷ [])) (number_of p - 1) p (k.placed p old))
+    ap (λ (ps : List Packet). slice_get ps (number_of p - 1)) (emitted_push (from_of p) (receiver_of p) past x)
+    ∙ ⊎_elim (λ (old : EmittedIn p past). slice_get-append_left (emitted (from_of p) (receiver_of p) past) (emitted (from_of p) (receiver_of p) (x ∷ [])) (number_of p - 1) p (k.placed p old))
     (λ (new : emitted_of x ≡ Some p).
-    let number : number_of p ≡ next_number (from_of p) (to_of p) past = packet_next layout past x may p new in
-    ap (λ (ps : List Packet). slice_get (emitted (from_of p) (to_of p) past ++ ps) (number_of p - 1)) (own_emission p x new) ∙ slice_last (emitted (from_of p) (to_of p) past) (number_of p - 1) p (omega (arith, number)))
+    let number : number_of p ≡ next_number (from_of p) (receiver_of p) past = packet_next layout past x may p new in
+    ap (λ (ps : List Packet). slice_get (emitted (from_of p) (receiver_of p) past ++ ps) (number_of p - 1)) (own_emission p x new) ∙ slice_last (emitted (from_of p) (receiver_of p) past) (number_of p - 1) p (omega (arith, number)))
     (emitted_more p past x h)
 
 -- a number that an event receives was emitted
@@ -105,19 +106,19 @@ counted layout past h =
     (record { placed = λ p h. absurd h; below = λ from to n h. absurd (true≢false (sym h)) }) h
 
 -- a number that goes out now was not received before, nor is received now
-pub not_yet : (layout : Layout) (past : List Entry) (x : Entry) → IsHistory layout past → MayFollow layout past x → (p : Packet) → emitted_of x ≡ Some p → is_among (number_of p) (received (from_of p) (to_of p) (past ++ x ∷ [])) ≡ true → ⊥
+pub not_yet : (layout : Layout) (past : List Entry) (x : Entry) → IsHistory layout past → MayFollow layout past x → (p : Packet) → emitted_of x ≡ Some p → is_among (number_of p) (received (from_of p) (receiver_of p) (past ++ x ∷ [])) ≡ true → ⊥
 not_yet layout past x h may p new got =
-    by_test (is_among (number_of p) (received (from_of p) (to_of p) past)) refl
-    (sym (ap (is_among (number_of p)) (received_push (from_of p) (to_of p) past x) ∙ among_append (number_of p) (received (from_of p) (to_of p) past) (cons_option (number_received (from_of p) (to_of p) x.event) [])) ∙ got)
+    by_test (is_among (number_of p) (received (from_of p) (receiver_of p) past)) refl
+    (sym (ap (is_among (number_of p)) (received_push (from_of p) (receiver_of p) past x) ∙ among_append (number_of p) (received (from_of p) (receiver_of p) past) (cons_option (number_received (from_of p) (receiver_of p) x.event) [])) ∙ got)
   where
-    is_above : number_of p ≤ length (emitted (from_of p) (to_of p) past) → ⊥
+    is_above : number_of p ≤ length (emitted (from_of p) (receiver_of p) past) → ⊥
     is_above low =
-        let number : number_of p ≡ next_number (from_of p) (to_of p) past = packet_next layout past x may p new in
+        let number : number_of p ≡ next_number (from_of p) (receiver_of p) past = packet_next layout past x may p new in
         omega (arith, number, low)
 
-    by_test : (b : Bool) → is_among (number_of p) (received (from_of p) (to_of p) past) ≡ b → (b || is_among (number_of p) (cons_option (number_received (from_of p) (to_of p) x.event) [])) ≡ true → ⊥
-    by_test true is j = is_above ((counted layout past h).below (from_of p) (to_of p) (number_of p) is)
-    by_test false is j = is_above (receipt_below layout past (from_of p) (to_of p) (number_of p) x.event may.enabled j)
+    by_test : (b : Bool) → is_among (number_of p) (received (from_of p) (receiver_of p) past) ≡ b → (b || is_among (number_of p) (cons_option (number_received (from_of p) (receiver_of p) x.event) [])) ≡ true → ⊥
+    by_test true is j = is_above ((counted layout past h).below (from_of p) (receiver_of p) (number_of p) is)
+    by_test false is j = is_above (receipt_below layout past (from_of p) (receiver_of p) (number_of p) x.event may.enabled j)
 
 -- what receives a number now is its receipt
 pub received_now : (from to : NodeId) (n : ℕ) (event : Event) → is_among n (cons_option (number_received from to event) []) ≡ true → event ≡ Events.Receive to from n

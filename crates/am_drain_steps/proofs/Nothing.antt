@@ -29,10 +29,10 @@ use Rattle.am_scenario_types.specs.Lists.{ScenarioLists}
 use Rattle.am_scripts.specs.Layout.{layout_of}
 use Rattle.am_scripts.specs.Links.{numbers_released}
 use Rattle.am_drain_steps.specs.Endings.{is_among, IsAnsweredInVain, IsKeptBack, IsOrderly, IsWithheld, WithholdsNothing, NoneIsUnknown}
-use Rattle.am_drain_steps.proofs.Receipts.{from_of, to_of}
 use Rattle.am_drain_steps.proofs.Withheld.{among_left, among_right, among_first}
 use Rattle.am_drain_steps.proofs.Counted.{counted}
 use Rattle.am_drain_steps.proofs.Unknown.{expired}
+use Rattle.am_model.specs.Packets.{from_of, receiver_of}
 
 -- ---- each packet is released
 
@@ -65,9 +65,9 @@ all_come fault passes before (q ∷ qs) zero p h =
 all_come fault passes before (q ∷ qs) (suc i) p h =
     among_right (number_of p) (released_by fault before q) (shape_after fault (before ++ q ∷ []) qs) (all_come fault passes (before ++ q ∷ []) qs i p h)
 
-pub is_released : (s : ScenarioLists) (past : List Entry) → WithholdsNothing s → IsHistory (layout_of s) past → (p : Packet) → EmittedIn p past → is_among (number_of p) (numbers_released s (from_of p) (to_of p) past) ≡ true
+pub is_released : (s : ScenarioLists) (past : List Entry) → WithholdsNothing s → IsHistory (layout_of s) past → (p : Packet) → EmittedIn p past → is_among (number_of p) (numbers_released s (from_of p) (receiver_of p) past) ≡ true
 is_released s past nothing h p there =
-    all_come (fault_at s.plan (from_of p) (to_of p)) (λ (k : ℕ). fault_found s.plan (is_line_of (from_of p) (to_of p) k) nothing) [] (emitted (from_of p) (to_of p) past) (number_of p - 1) p ((counted (layout_of s) past h).placed p there)
+    all_come (fault_at s.plan (from_of p) (receiver_of p)) (λ (k : ℕ). fault_found s.plan (is_line_of (from_of p) (receiver_of p) k) nothing) [] (emitted (from_of p) (receiver_of p) past) (number_of p - 1) p ((counted (layout_of s) past h).placed p there)
 
 -- ---- an entry that leaves a message unknown
 

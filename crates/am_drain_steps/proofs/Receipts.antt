@@ -45,17 +45,9 @@ use Rattle.am_drain.specs.Drain.{after_turn}
 use Rattle.am_drain.proofs.TurnKinds.{Maybe, is_so}
 use Rattle.am_drain_steps.specs.Enabled.{IsOfRun, DuesAreCounted, ReceiptsMayFollow}
 use Rattle.am_drain_steps.proofs.Enabled.{no_fail, event_follows, of_packets, nodes_so}
+use Rattle.am_model.specs.Packets.{from_of, receiver_of}
 
 -- ---- the number of a packet that is emitted
-
--- the nodes of a packet's link
-abbrev pub from_of : Packet → NodeId
-from_of (Packets.Parcel p) = p.from
-from_of (Packets.Answer p) = p.from
-
-abbrev pub to_of : Packet → NodeId
-to_of (Packets.Parcel p) = p.to
-to_of (Packets.Answer p) = p.to
 
 -- a packet has the next number of its link
 abbrev IsNext : List Entry → Packet → Type 0
@@ -114,10 +106,10 @@ event_next layout past stamp (Events.Receive node peer number) = receive_next la
 event_next layout past stamp event = tt
 
 -- a packet that an entry emits has the next number of its link
-pub packet_next : (layout : Layout) (past : List Entry) (x : Entry) → MayFollow layout past x → (p : Packet) → emitted_of x ≡ Some p → number_of p ≡ next_number (from_of p) (to_of p) past
+pub packet_next : (layout : Layout) (past : List Entry) (x : Entry) → MayFollow layout past x → (p : Packet) → emitted_of x ≡ Some p → number_of p ≡ next_number (from_of p) (receiver_of p) past
 packet_next layout past x may p is = of_kind p (subst (λ (o : Option Packet). AreNext past o) is (subst (λ (o : Outcome). AreNext past (emitted_in x.stamp x.event o)) (sym may.outcome) (event_next layout past x.stamp x.event)))
   where
-    of_kind : (q : Packet) → IsNext past q → number_of q ≡ next_number (from_of q) (to_of q) past
+    of_kind : (q : Packet) → IsNext past q → number_of q ≡ next_number (from_of q) (receiver_of q) past
     of_kind (Packets.Parcel q) h = h
     of_kind (Packets.Answer q) h = h
 

@@ -26,7 +26,7 @@ use Rattle.am_model.specs.History.{MayFollow, IsHistory, channel_to, expire, is_
 use Rattle.am_model.specs.PostOffice.{Gave}
 use Rattle.am_model.proofs.Each.{each_front, each_at}
 use Rattle.am_model.proofs.Ends.{EmittedIn}
-use Rattle.am_model.specs.Packets.{number_of as own_number}
+use Rattle.am_model.specs.Packets.{number_of as own_number, from_of, receiver_of}
 use Rattle.am_local.proofs.Numbering.{history_numbered, numbered_place}
 use Rattle.am_laws_channels.proofs.Sent.{emitted_gave, gave_emitted}
 use Rattle.am_laws_cluster.proofs.Flights.{second_none}
@@ -44,7 +44,6 @@ use Rattle.am_drain_laws.proofs.Soundness.{node_holds}
 use Rattle.am_drain_steps.specs.Enabled.{IsOfRun}
 use Rattle.am_drain_steps.specs.Endings.{is_among, IsAnswerTo, IsAnsweredInVain, IsFaultOf, IsKeptBack, IsOrderly, IsWithheld, UnknownIsWithheld}
 use Rattle.am_drain_steps.proofs.Counted.{counted}
-use Rattle.am_drain_steps.proofs.Receipts.{from_of, to_of}
 use Rattle.am_drain_steps.proofs.Withheld.{unreleased_is_planned}
 use Rattle.am_drain_steps.proofs.Answered.{LastSent, last_are_sent, HasAnswer, last_are_answered}
 use Rattle.am_drain_steps.proofs.Unheard.{asked, unheard}
@@ -75,23 +74,23 @@ late_found nodes (l ∷ ls) p by all is = by_test (p l) is (late_found nodes ls 
         (subst (λ (f : LinkFault). IsLawfulFault f) same lawful.fault).0
     by_test false at later = later at
 
-kept_back : (s : ScenarioLists) (past : List Entry) → IsOfRun s past → (p : Packet) → EmittedIn p past → is_among (number_of p) (numbers_released s (from_of p) (to_of p) past) ≡ false → IsKeptBack s past (from_of p) (to_of p) (number_of p)
+kept_back : (s : ScenarioLists) (past : List Entry) → IsOfRun s past → (p : Packet) → EmittedIn p past → is_among (number_of p) (numbers_released s (from_of p) (receiver_of p) past) ≡ false → IsKeptBack s past (from_of p) (receiver_of p) (number_of p)
 kept_back s past run p there none = record { unreleased = none; planned = planned }
   where
     sent' : List Packet
-    sent' = emitted (from_of p) (to_of p) past
+    sent' = emitted (from_of p) (receiver_of p) past
 
     placed : (i : ℕ) (q : Packet) → slice_get sent' i ≡ Some q → number_of q ≡ i + 1
-    placed i q at = sym (same_number q) ∙ (numbered_place past (history_numbered (layout_of s) past run.history) (from_of p) (to_of p) i q at).number
+    placed i q at = sym (same_number q) ∙ (numbered_place past (history_numbered (layout_of s) past run.history) (from_of p) (receiver_of p) i q at).number
 
     at : slice_get sent' (number_of p - 1) ≡ Some p
     at = (counted (layout_of s) past run.history).placed p there
 
-    planned : IsFaultOf (length sent') (number_of p) (fault_at s.plan (from_of p) (to_of p) (number_of p))
+    planned : IsFaultOf (length sent') (number_of p) (fault_at s.plan (from_of p) (receiver_of p) (number_of p))
     planned =
         let mine : number_of p ≡ number_of p - 1 + 1 = placed (number_of p - 1) p at in
         let inside : number_of p - 1 < length sent' = slice_get_within sent' (number_of p - 1) p at in
-        unreleased_is_planned s.plan (from_of p) (to_of p) sent' (number_of p) placed (λ (k by : ℕ) is. late_found s.nodes s.plan (is_line_of (from_of p) (to_of p) k) by run.lawful.plan is) (omega (arith, mine)) (omega (arith, mine, inside)) none
+        unreleased_is_planned s.plan (from_of p) (receiver_of p) sent' (number_of p) placed (λ (k by : ℕ) is. late_found s.nodes s.plan (is_line_of (from_of p) (receiver_of p) k) by run.lawful.plan is) (omega (arith, mine)) (omega (arith, mine, inside)) none
 
 -- ---- a time-out that leaves a message unknown
 

@@ -18,7 +18,7 @@ use Rattle.am_scripts.specs.Standings.{Standing, standings, is_standing_of, stan
 use Rattle.am_drain.specs.declared.Turn.{Turn}
 use Rattle.am_drain.specs.declared.Turn.TheVariants.{Once, Make}
 use Rattle.am_drain.specs.Rules.{Left, make_of, has_room, page_in_of, poll_of}
-use Rattle.am_drain.specs.Ready.{ready, ready_at, ready_dest_if, ready_dest, off_disk_at, unloaded, paged_out, emptied, emptied_if, free_frame, loaded_into, loaded, holds_frame, spare, spare_of, is_open_on_host, is_neither}
+use Rattle.am_drain.specs.Ready.{ready, ready_at, ready_dest_if, ready_dest, off_disk_at, unloaded, paged_out, emptied, emptied_if, holds_frame, spare, spare_of, is_open_on_host, is_neither}
 use Rattle.am_drainer.specs.declared.EndHead.{EndHead}
 use Rattle.am_drainer.specs.declared.EndMail.{EndMail}
 use Rattle.am_drainer.specs.declared.LeftCall.{LeftCall}

@@ -25,10 +25,7 @@ use Rattle.am_channel.specs.Sending.{timed_out, settled}
 use Rattle.am_channel.specs.Calls.{Call, Bind, TimeOut, Answer, Arrive, Tells, TellsTimedOut, TellsTimeOut, settled_as, arrived_as}
 use Rattle.am_channel.proofs.Pushes.{entry_is}
 use Rattle.am_iface.specs.Made.{bit}
-
--- the packets that an entry emits on a link: the one that it emits, if it goes from the node to the peer
-abbrev on_link : NodeId → NodeId → Option Packet → List Packet
-on_link node peer p = filter (is_on_link node peer) (cons_option p [])
+use Rattle.am_local.proofs.Growing.{on_link}
 
 pub emitted_push : (node peer : NodeId) (xs : List Entry) (x : Entry) → emitted node peer (xs ++ x ∷ []) ≡ emitted node peer xs ++ on_link node peer (emitted_of x)
 emitted_push node peer xs x =

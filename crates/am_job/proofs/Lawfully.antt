@@ -27,8 +27,9 @@ use Rattle.am_scenario_types.specs.declared.parts.ScriptCall.{ScriptCall}
 use Rattle.am_scenario_types.specs.Lawful.{node_of, thread_node, IsDeclared, IsOn, IsLawfulEnd, IsLawfulBundle, IsLawfulThread, IsLawfulPlanLine, IsSamePlace, IsLawfulFaultLine, IsSamePageCall, IsLawfulCall, IsLawfulScriptCall, IsLawfulEvent, IsLawful, IsOfForm}
 use Rattle.am_words.specs.declared.codes.CodedWord.{CodedWord}
 use Rattle.am_words.specs.Codes.{Fits}
-use Rattle.am_job.specs.Scripts.{call_on, map_to, maps_below, on_owner, on_sender, opening, openings_below, owner, polls, script, sending, sendings}
+use Rattle.am_job.specs.Scripts.{map_to, maps_below, on_owner, on_sender, opening, openings_below, owner, polls, script, sending, sendings}
 use Rattle.am_job.specs.Rounds.{end_line, ends_below, round_at, round_size, round_words, scenario, thread_line, threads_below}
+use Rattle.am_generator.specs.Calls.{call_on}
 
 -- ---- tests and lists
 

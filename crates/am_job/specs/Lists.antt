@@ -5,9 +5,3 @@ use Rattle.am_scenario_types.specs.Lists.{ScenarioLists}
 pub record JobLists : Type 0 where
   pub rounds : List ScenarioLists
   pub long : ℕ
-
--- a word's counts, with the word as a list
-pub record WordCountLists : Type 0 where
-  pub word : List ℕ
-  pub ran : ℕ
-  pub left : ℕ

@@ -5,9 +5,7 @@ use Rattle.am_office.specs.declared.Call.TheVariants.{Request, Poll, Map, SetHan
 use Rattle.am_office.specs.declared.HandlerKind.TheVariants.{Note}
 use Rattle.am_scenario_types.specs.declared.parts.ScriptCall.{ScriptCall}
 use Rattle.am_words.specs.declared.codes.CodedWord.{CodedWord}
-
-abbrev pub call_on : ℕ → ℕ → Call → ScriptCall
-call_on thread end call = record { thread = thread; endpoint = record { 0 = end }; call = call }
+use Rattle.am_generator.specs.Calls.{call_on}
 
 -- a thread's call on the endpoint of its node that owns, and on the one that sends
 abbrev pub on_owner : ℕ → Call → ScriptCall

@@ -1,7 +1,7 @@
 -- What is read off a journal, one entry more.
 use Rattle.std.specs.Prelude.{max, nat_lt, slice_get, slice_set, slice_index_or, replicate, IfSome}
-use Rattle.std.specs.List.{filter, cons_option, All}
-use Rattle.std.proofs.Common.{◌≡◌, ⊎_elim, ℕ, zero, suc, ◌+◌, ◌*◌, ◌<◌, ◌^◌, ◌==◌, Bool, true, false, cond, ◌&&◌, List, [], ◌∷◌, ◌++◌, map, length, Option, Some, None, true≢false, refl, sym, ap, ◌∙◌, arith, eq-eqb, eqb-true, ltb-true, ltb-false, if◌then◌else◌}
+use Rattle.std.specs.List.{All}
+use Rattle.std.proofs.Common.{◌≡◌, ⊎_elim, ℕ, zero, suc, ◌+◌, ◌*◌, ◌<◌, ◌^◌, ◌==◌, Bool, true, false, cond, ◌&&◌, List, [], ◌∷◌, ◌++◌, map, length, Option, Some, None, true≢false, refl, sym, ap, ◌∙◌, arith, eq-eqb, eqb-true, ltb-true, ltb-false}
 use Rattle.std.proofs.lemmas.List.{append-nil, length-set}
 use Rattle.std.proofs.lemmas.List.Sums.{fold-append, sum_by_push, count_by-le-length}
 use Rattle.std.proofs.lemmas.Option.{slice_get_within}
@@ -15,16 +15,14 @@ use Rattle.am_office.specs.declared.Event.{Event}
 use Rattle.am_office.specs.declared.Event.TheVariants as Events
 use Rattle.am_office.specs.declared.Entry.{Entry}
 use Rattle.am_office.specs.Entries.{emitted_of}
-use Rattle.am_model.specs.Channels.{emitted, is_on_link}
-use Rattle.am_model.specs.History.{page_calls}
+use Rattle.am_model.specs.Channels.{emitted}
 use Rattle.am_model.proofs.Received.{bit}
-use Rattle.am_model.specs.Packets.{receiver_of, from_of}
 use Rattle.am_model.specs.Layout.{node_at}
-use Rattle.am_local.proofs.Growing.{emitted_append}
+use Rattle.am_local.proofs.Growing.{emitted_append, on_link}
 use Rattle.am_drain.specs.Made.{later_stamp}
 use Rattle.am_journal.specs.Kept.{items_of}
 use Rattle.am_journal.specs.Places.{link, link_of, receipt_place, counted, delivered}
-use Rattle.am_journal.specs.View.{AreNodes, AreRead, CanCount, HasRoomFor, IndexView, IsIndexOf, Readings, greatest_stamp, is_receipt, received_in, receipts}
+use Rattle.am_journal.specs.View.{AreNodes, AreRead, CanCount, HasRoomFor, IndexView, IsIndexOf, Readings, greatest_stamp, is_receipt, received_in, receipts, IsBetweenNodes}
 use Rattle.am_journal.proofs.Lists.{index_got, got_all}
 
 -- the greatest stamp, one entry more
@@ -37,9 +35,6 @@ abbrev is_there : Option ℕ → ℕ → Bool
 is_there None k = false
 is_there (Some j) k = k == j
 
-abbrev one_if : Bool → ℕ
-one_if b = if b then 1 else 0
-
 same_number : (k j : ℕ) → (k ≡ j → ⊥) → (k == j) ≡ false
 same_number k j apart = by_test (k == j) refl
   where
@@ -47,21 +42,21 @@ same_number k j apart = by_test (k == j) refl
     by_test true is = absurd (apart (eqb-true k j is))
     by_test false is = refl
 
-counted_got : (place : Option ℕ) (ns : List ℕ) (k n : ℕ) → slice_get (counted place ns) k ≡ Some n → (m : ℕ) × (slice_get ns k ≡ Some m) × (n ≡ m + one_if (is_there place k))
+counted_got : (place : Option ℕ) (ns : List ℕ) (k n : ℕ) → slice_get (counted place ns) k ≡ Some n → (m : ℕ) × (slice_get ns k ≡ Some m) × (n ≡ m + bit (is_there place k))
 counted_got None ns k n h = (n, h, omega arith)
 counted_got (Some j) ns k n h = ⊎_elim here there (slice_get-set_cases ns j k (slice_index_or ns j 0 + 1) n h)
   where
     within : k < length ns
     within = let lt = slice_get_within (slice_set ns j (slice_index_or ns j 0 + 1)) k n h in let same = length-set ns j (slice_index_or ns j 0 + 1) in omega (arith, lt, same)
 
-    here : (k ≡ j) × (n ≡ slice_index_or ns j 0 + 1) → (m : ℕ) × (slice_get ns k ≡ Some m) × (n ≡ m + one_if (k == j))
+    here : (k ≡ j) × (n ≡ slice_index_or ns j 0 + 1) → (m : ℕ) × (slice_get ns k ≡ Some m) × (n ≡ m + bit (k == j))
     here both =
-        (slice_index_or ns k 0, index_got ns k 0 within, both.1 ∙ ap (λ (i : ℕ). slice_index_or ns i 0 + 1) (sym both.0) ∙ ap (λ (b : Bool). slice_index_or ns k 0 + one_if b) (sym (eq-eqb k j both.0)))
+        (slice_index_or ns k 0, index_got ns k 0 within, both.1 ∙ ap (λ (i : ℕ). slice_index_or ns i 0 + 1) (sym both.0) ∙ ap (λ (b : Bool). slice_index_or ns k 0 + bit b) (sym (eq-eqb k j both.0)))
 
-    there : (k ≡ j → ⊥) × (slice_get ns k ≡ Some n) → (m : ℕ) × (slice_get ns k ≡ Some m) × (n ≡ m + one_if (k == j))
+    there : (k ≡ j → ⊥) × (slice_get ns k ≡ Some n) → (m : ℕ) × (slice_get ns k ≡ Some m) × (n ≡ m + bit (k == j))
     there both =
-        let none : n ≡ n + one_if false = omega arith in
-        (n, both.1, none ∙ ap (λ (b : Bool). n + one_if b) (sym (same_number k j both.0)))
+        let none : n ≡ n + bit false = omega arith in
+        (n, both.1, none ∙ ap (λ (b : Bool). n + bit b) (sym (same_number k j both.0)))
 
 -- two links are one where both nodes are
 pub same_link : (a b c d : ℕ) → b < 16 → d < 16 → ((16 * a + b) == (16 * c + d)) ≡ ((b == d) && (a == c))
@@ -87,9 +82,6 @@ same_receipt from to (Events.Receive node peer number) lt nodes = same_link from
 same_receipt from to e lt nodes = refl
 
 -- ---- packets
-
-abbrev on_link : NodeId → NodeId → Option Packet → List Packet
-on_link node peer p = filter (is_on_link node peer) (cons_option p [])
 
 abbrev put_on : Option Packet → ℕ → List Packet
 put_on None k = []
@@ -117,11 +109,6 @@ delivered_got (Some p) ls k ps h = ⊎_elim here there (slice_get-set_cases ls (
     there : (k ≡ link_of p → ⊥) × (slice_get ls k ≡ Some ps) → (qs : List Packet) × (slice_get ls k ≡ Some qs) × (ps ≡ qs ++ cond (k == link_of p) (p ∷ []) [])
     there both = (ps, both.1, sym (append-nil ps) ∙ ap (λ (b : Bool). ps ++ cond b (p ∷ []) []) (sym (same_number k (link_of p) both.0)))
 
--- the nodes of a packet, if there is one
-abbrev pub IsBetweenNodes : Option Packet → Type 0
-IsBetweenNodes None = Unit {0}
-IsBetweenNodes (Some p) = ((from_of p).0 < 16) × ((receiver_of p).0 < 16)
-
 put_same : (from to : ℕ) (p : Option Packet) → to < 16 → IsBetweenNodes p → put_on p (16 * from + to) ≡ on_link (node_at from) (node_at to) p
 put_same from to None lt nodes = refl
 put_same from to (Some (Packets.Parcel p)) lt nodes =
@@ -145,7 +132,7 @@ read_more entries received links x packet are is nodes at =
       received = λ from to n lt h.
           (let g = counted_got (receipt_place x.event) received (16 * from + to) n h in
           g.2
-          ∙ (λ i. are.received from to g.0 lt g.1 i + one_if (same_receipt from to x.event lt at i))
+          ∙ (λ i. are.received from to g.0 lt g.1 i + bit (same_receipt from to x.event lt at i))
           ∙ sym (sum_by_push (λ (y : Entry). bit (is_receipt (node_at from) (node_at to) y.event)) entries x));
       emitted = λ from to ps lt h.
           (let g = delivered_got packet links (16 * from + to) ps h in

@@ -10,7 +10,6 @@ use Rattle.am_office.specs.declared.Entry.{Entry}
 use Rattle.am_model.specs.Channels.{emitted}
 use Rattle.am_model.specs.Packets.{receiver_of, from_of}
 use Rattle.am_model.specs.Layout.{node_at}
-use Rattle.am_model.specs.History.{page_calls}
 use Rattle.am_drain.specs.Made.{later_stamp}
 use Rattle.am_journal.specs.Places.{link}
 
@@ -56,6 +55,11 @@ AreNodes (Events.Receive node peer number) = (node.0 < 16) × (peer.0 < 16)
 AreNodes (Events.PageOut node end) = node.0 < 16
 AreNodes (Events.PageIn node end) = node.0 < 16
 AreNodes event = Unit {0}
+
+-- the packet, if there is one, goes between two of 16 nodes
+abbrev pub IsBetweenNodes : Option Packet → Type 0
+IsBetweenNodes None = Unit {0}
+IsBetweenNodes (Some p) = ((from_of p).0 < 16) × ((receiver_of p).0 < 16)
 
 -- the packet, if there is one, goes over a link of a cluster on which there is room for it
 abbrev pub HasRoomFor : IndexView → Option Packet → Type 0

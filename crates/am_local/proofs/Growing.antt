@@ -1,10 +1,11 @@
 -- Which entries each reading reads, and what one entry more makes of it.
-use Rattle.std.proofs.Common.{◌≡◌, ℕ, Bool, true, false, List, [], ◌∷◌, ◌++◌, Some, refl, ap, ◌∙◌, if◌then◌else◌, ◌||◌}
-use Rattle.std.specs.List.{filter, filter_map}
+use Rattle.std.proofs.Common.{◌≡◌, ℕ, Bool, true, false, List, [], ◌∷◌, ◌++◌, Option, Some, refl, ap, ◌∙◌, if◌then◌else◌, ◌||◌}
+use Rattle.std.specs.List.{filter, filter_map, cons_option}
 use Rattle.std.proofs.lemmas.List.Elements.{filter-append, filter_map-append}
 use Rattle.std.proofs.lemmas.List.Sums.{sum_by_push}
 use Rattle.am_names.specs.declared.EndpointId.{EndpointId}
 use Rattle.am_names.specs.declared.NodeId.{NodeId}
+use Rattle.am_names.specs.declared.Packet.{Packet}
 use Rattle.am_office.specs.declared.Entry.{Entry}
 use Rattle.am_office.specs.Entries.{emitted_of, touches}
 use Rattle.am_model.specs.Channels.{binds, frees, sends, decides, emitted, is_on_link, last_such}
@@ -28,6 +29,10 @@ reads_own node past =
       channels = λ peer k more. free_own node peer past k more;
       pages = pages_own node past;
     }
+
+-- the packets that an entry emits on a link: the one that it emits, if it goes from the node to the peer
+abbrev pub on_link : NodeId → NodeId → Option Packet → List Packet
+on_link node peer p = filter (is_on_link node peer) (cons_option p [])
 
 -- what more entries emit
 pub emitted_append : (node peer : NodeId) (xs ys : List Entry) → emitted node peer (xs ++ ys) ≡ emitted node peer xs ++ emitted node peer ys

@@ -27,7 +27,8 @@ use Rattle.am_node.specs.Parts.{all_logs, log_of, logs_of_part}
 use Rattle.am_moves.specs.Logs.{kept}
 use Rattle.am_machine.specs.Ends.{setting_in}
 use Rattle.am_machine.specs.Kept.{IsOwn}
-use Rattle.am_machine.specs.Parts.{AreNodeParts, IsNodePart, is_declared_at}
+use Rattle.am_machine.specs.Parts.{AreNodeParts, IsNodePart}
+use Rattle.am_node.specs.Gathered.{is_declared_at}
 
 -- ---- each log is a part of the journal
 

@@ -20,8 +20,9 @@ use Rattle.am_moves.specs.Logs.{kept}
 use Rattle.am_machine.specs.Ends.{setting_in}
 use Rattle.am_machine.specs.Interfaces.{AreInterfaces}
 use Rattle.am_machine.specs.Kept.{IsOwn}
-use Rattle.am_machine.specs.Parts.{AreNodeParts, IsNodePart, is_declared_at}
+use Rattle.am_machine.specs.Parts.{AreNodeParts, IsNodePart}
 use Rattle.am_machine.specs.Swaps.{AreSwaps}
+use Rattle.am_node.specs.Gathered.{is_declared_at}
 
 -- ---- there is room for all endpoints
 

@@ -22,7 +22,7 @@ use Rattle.am_endpoint.specs.View.{EndpointView}
 use Rattle.am_iface.specs.View.{InterfaceView}
 use Rattle.am_device.specs.Memory.{Store}
 use Rattle.am_scripts.specs.Layout.{fault_of, layout_of, setting_of}
-use Rattle.am_journal.specs.View.{AreNodes, IsEarly}
+use Rattle.am_journal.specs.View.{AreNodes, IsEarly, IsBetweenNodes}
 use Rattle.am_journal.proofs.Lists.{got_all as all_got}
 use Rattle.am_join.proofs.Standing.{behind}
 use Rattle.am_merge.specs.Logs.{IsRising}
@@ -33,7 +33,7 @@ use Rattle.am_join.proofs.OneJournal.{are_one}
 use Rattle.am_node.specs.declared.NodePart.{NodePart}
 use Rattle.am_node.specs.Gathered.{AreDeclared, AreOfGroups}
 use Rattle.am_node.specs.Gathered as gathered
-use Rattle.am_node.specs.Packets.{GoesWithin, IsBetweenNodes}
+use Rattle.am_node.specs.Packets.{GoesWithin}
 use Rattle.am_node.specs.Parts.{all_logs, journal_of}
 use Rattle.am_node.specs.Taken.{ends_of, iface_of, swap_of, turned}
 use Rattle.am_scenario_types.specs.declared.parts.EndLine.{EndLine}

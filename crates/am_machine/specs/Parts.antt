@@ -1,14 +1,13 @@
 -- A cluster taken apart into its nodes: each has its endpoints, its interface, its disk, what it emitted and what it received.
-use Rattle.std.specs.Prelude.{◌≡◌, ℕ, ◌≤◌, ◌^◌, Bool, Some, List, map, length, slice_get}
+use Rattle.std.specs.Prelude.{◌≡◌, ℕ, ◌≤◌, ◌^◌, Some, List, map, length, slice_get}
 use Rattle.std.specs.List.{filter}
 use Rattle.std.specs.Global.{Vec}
 use Rattle.am_names.specs.declared.NodeId.{NodeId}
 use Rattle.am_names.specs.declared.Packet.{Packet}
-use Rattle.am_names.specs.Names.{same_node}
 use Rattle.am_office.specs.declared.Entry.{Entry}
 use Rattle.am_model.specs.Channels.{emitted}
 use Rattle.am_model.specs.History.{IsHistory}
-use Rattle.am_model.specs.Layout.{AllAre, EndSetting, Layout, node_at}
+use Rattle.am_model.specs.Layout.{AllAre, Layout, node_at}
 use Rattle.am_endpoint.specs.View.{EndpointView}
 use Rattle.am_scenario_types.specs.Lists.{ScenarioLists}
 use Rattle.am_scripts.specs.Layout.{layout_of}
@@ -21,10 +20,7 @@ use Rattle.am_machine.specs.Ends.{setting_in}
 use Rattle.am_machine.specs.Interfaces.{IsInterface}
 use Rattle.am_machine.specs.Kept.{IsOwn}
 use Rattle.am_machine.specs.Swaps.{IsSwap}
-
--- whether an endpoint of the node is declared so
-abbrev pub is_declared_at : NodeId → EndSetting → Bool
-is_declared_at node s = same_node node s.node
+use Rattle.am_node.specs.Gathered.{is_declared_at}
 
 -- the part of a node in a journal: its endpoints as they are declared, in order, each with its part of the journal
 pub record IsNodePart (layout : Layout) (journal : List Entry) (node : NodeId) (p : NodePart) : Type 0 where

@@ -8,13 +8,13 @@ use Rattle.am_check.specs.Exact.{IsExact, IsOnly}
 use Rattle.am_check.specs.Verdict.{Checks}
 use Rattle.am_check_laws.specs.Laws.{IsTrueReport, YesIsTrue}
 use Rattle.am_io.specs.Causes.{Rose}
-use Rattle.am_main.specs.Answer.{Answer}
 use Rattle.am_main.specs.Checks.{CheckAnswers, CompletesCheck, IsCheckAnswered, IsCheckGiven, IsCheckOffered, IsOfCheckedText, IsTold, IsVerdict, IsWholeCheck, TellsLine, TellsPart, TellsScenario, TellsYes, answer_for}
 use Rattle.am_main.specs.Offers.{IsOffered, IsOr, IsWhole, no_memory, too_long}
 use Rattle.am_main.proofs.Complete.{memory_alone, memory_given, not_eight, offered_whole}
 use Rattle.am_main.proofs.Refusals.{status_of}
 use Rattle.am_main.proofs.RunAnswers.{Earned, earned, out_of_memory}
 use Rattle.am_scenario_types.specs.declared.parts.Form.{Form}
+use Rattle.am_session.specs.Answer.{Answer}
 
 -- ---- what the checker says is so
 

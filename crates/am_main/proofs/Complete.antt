@@ -4,10 +4,11 @@ use Rattle.std.proofs.Common.{◌≡◌, ◌≢◌, ◌⊎◌, inl, inr, ⊎_eli
 use Rattle.am_scenario.specs.Grammar.{grammar}
 use Rattle.am_scenario_types.specs.declared.parts.Form.{Form}
 use Rattle.am_scenario_types.specs.declared.parts.Form.TheVariants as Forms
-use Rattle.am_main.specs.Answer.{Answer, answer_of}
+use Rattle.am_main.specs.Answer.{answer_of}
 use Rattle.am_io.specs.Causes.{Rose}
 use Rattle.am_main.specs.Offers.{Completes, CompletesMake, Finds, IsAnswered, IsMakeGiven, IsOffered, IsTextOffered, IsWhole, IsWholeText, no_memory, too_long}
 use Rattle.am_main.proofs.Refusals.{status_of}
+use Rattle.am_session.specs.Answer.{Answer}
 
 -- the status of a fault of the sink or of want of memory is the latter
 pub memory_alone : (status : ℕ) → (status ≡ 5 → ⊥) → (status ≡ 5) ⊎ (status ≡ 8) → status ≡ 8

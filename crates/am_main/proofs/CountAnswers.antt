@@ -14,13 +14,14 @@ use Rattle.am_count.specs.Stops.{IsCountStop}
 use Rattle.am_count.specs.declared.counting.CountStop.TheVariants as Stop
 use Rattle.am_counting.specs.Rounds.{IsRoundRun}
 use Rattle.am_main.specs.declared.commands.Command.TheVariants as Commands
-use Rattle.am_main.specs.Answer.{Answer, full_line, ids_of}
+use Rattle.am_main.specs.Answer.{full_line, ids_of}
 use Rattle.am_main.specs.Commands.{Asks, command_of}
 use Rattle.am_main.specs.Offers.{Finds, IsOffered, IsOr, no_memory, too_long}
 use Rattle.am_main.specs.Counts.{CompletesCount, CountAnswers, IsCountAnswer, IsCountAnswered, IsCountGiven, IsCountOffered, IsOfCount, ReportsCount, ReportsFullCount, TellsTooLong, text_too_long}
 use Rattle.am_main.proofs.Complete.{memory_alone, memory_given, not_eight, offered_whole}
 use Rattle.am_main.proofs.Refusals.{status_of}
 use Rattle.am_main.proofs.RunAnswers.{Earned, earned, out_of_memory}
+use Rattle.am_session.specs.Answer.{Answer}
 
 -- ---- the answers
 

@@ -28,8 +28,9 @@ use Rattle.am_machine.specs.View.{ClusterView, Applies}
 use Rattle.am_machine.proofs.Applied.{enabled_of}
 use Rattle.am_main.specs.declared.faults.StepFault.{StepFault}
 use Rattle.am_main.specs.declared.faults.StepFault.TheVariants as Faults
-use Rattle.am_main.specs.Answer.{Answer, GivesText, Makes, TellsText, answer_of, answer_of_made, answer_of_stop, fault_of, ids_of, line_at, not_enabled_line}
+use Rattle.am_main.specs.Answer.{GivesText, Makes, TellsText, answer_of, answer_of_made, answer_of_stop, fault_of, ids_of, line_at, not_enabled_line}
 use Rattle.am_main.specs.Meaning.{PrintsHistory, IsStepStopped, IsNotEnabled, TextMeans}
+use Rattle.am_session.specs.Answer.{Answer}
 
 pub step_made : (layout : Layout) (past : List Entry) (step : StepLine) (steps : List StepLine) → stop layout past step.event ≡ None → made_from layout past (events_of (step ∷ steps)) ≡ made_from layout (past ++ step_entry layout past step.event ∷ []) (events_of steps)
 step_made layout past step steps runs = ap (λ (s : Option Stop). made_by s past (made_from layout (past ++ step_entry layout past step.event ∷ []) (events_of steps))) runs

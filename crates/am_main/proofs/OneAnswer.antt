@@ -9,8 +9,9 @@ use Rattle.am_scenario_types.specs.Lists.{ScenarioLists}
 use Rattle.am_drain.specs.Cut.{IsDrainCutOff}
 use Rattle.am_drain.proofs.CutOff.{cut_is_determined}
 use Rattle.am_cluster.specs.Runs.{IsRunCutOff}
-use Rattle.am_main.specs.Answer.{Answer, full_line, ids_of}
+use Rattle.am_main.specs.Answer.{full_line, ids_of}
 use Rattle.am_main.specs.Runs.{HasNoTurns, HaveOneAnswer, IsDrainedAlone, IsRunAnswer, MakeAnswers, PrintsCutRun, PrintsRun, RunAnswers, Summarizes, TellsCutRun, make_text, scenario_of}
+use Rattle.am_session.specs.Answer.{Answer}
 
 same_answer : (a b : Answer) (n : ℕ) → a.status ≡ n → b.status ≡ n → a.text ≡ b.text → a ≡ b
 same_answer a b n one other text =

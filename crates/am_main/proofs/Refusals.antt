@@ -8,10 +8,11 @@ use Rattle.am_scenario_types.specs.declared.faults.ScenarioFault.{ScenarioFault}
 use Rattle.am_scenario_types.specs.Lists.{ScenarioLists}
 use Rattle.am_main.specs.declared.faults.StepFault.{StepFault}
 use Rattle.am_main.specs.declared.faults.StepFault.TheVariants as Faults
-use Rattle.am_main.specs.Answer.{Answer, answer_of_fault, refused_line}
+use Rattle.am_main.specs.Answer.{answer_of_fault, refused_line}
 use Rattle.am_main.specs.Meaning.{TextMeans}
 use Rattle.am_main.specs.Offers.{IsOffered, IsOr, LacksMemory, Refuses, TellsFullLog}
 use Rattle.am_io.specs.Causes.{Rose}
+use Rattle.am_session.specs.Answer.{Answer}
 
 -- the status is the answer's, where it is none that a sink's fault or want of memory gives
 pub own_status : (answer number n : ℕ) → IsOr answer number → number ≡ n → n ≢ 5 → n ≢ 8 → answer ≡ n

@@ -6,10 +6,10 @@ use Rattle.am_scenario.specs.Grammar.{grammar}
 use Rattle.am_scenario_types.specs.declared.parts.Form.TheVariants as Forms
 use Rattle.am_scenario_types.specs.declared.faults.ScenarioFault.{ScenarioFault}
 use Rattle.am_scenario_types.specs.Lists.{ScenarioLists}
-use Rattle.am_main.specs.Answer.{Answer}
 use Rattle.am_main.specs.Offers.{IsGiven, IsMakeGiven, IsOfMake, IsOffered, IsOr, ReportsFullLog, ReportsRun, TellsFault, TellsMadeLog, TellsSummary, no_memory}
 use Rattle.am_main.specs.Runs.{MakeAnswers, RunAnswers}
 use Rattle.am_main.proofs.Refusals.{own_status, own_text, status_of}
+use Rattle.am_session.specs.Answer.{Answer}
 
 pub run_given : (bytes : List ℕ) (answer : Answer) (status : ℕ) (old new : Option (List ℕ)) → RunAnswers (grammar Forms.Run bytes) answer → IsOffered answer status old new → IsGiven Forms.Run bytes status old new
 run_given bytes answer status old new answers offered = inl (record { answer = answer; answers = answers; offered = offered })

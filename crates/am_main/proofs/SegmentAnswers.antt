@@ -6,12 +6,12 @@ use Rattle.am_scenario_types.specs.declared.faults.ScenarioFault.{ScenarioFault}
 use Rattle.am_io.specs.Causes.{Rose}
 use Rattle.am_segment.specs.declared.scenario.SegmentScenario.{SegmentScenario}
 use Rattle.am_segment.specs.Spelling.{segment_grammar}
-use Rattle.am_main.specs.Answer.{Answer}
 use Rattle.am_main.specs.Offers.{Finds, IsOffered, too_long}
 use Rattle.am_main.specs.Segments.{CompletesSegments, IsSegmentsAnswered, IsSegmentsGiven, IsSegmentsOffered, ReportsFullSegments, ReportsSegments, SegmentsAnswers, TellsSegmentFault}
 use Rattle.am_main.proofs.Complete.{memory_alone, memory_given, not_eight, offered_whole}
 use Rattle.am_main.proofs.Refusals.{status_of}
 use Rattle.am_main.proofs.RunAnswers.{Earned, earned, out_of_memory}
+use Rattle.am_session.specs.Answer.{Answer}
 
 pub segments_given : (bytes : List ℕ) (answer : Answer) (status : ℕ) (old new : Option (List ℕ)) → SegmentsAnswers (segment_grammar bytes) answer → IsOffered answer status old new → IsSegmentsGiven bytes status old new
 segments_given bytes answer status old new answers offered = inl (record { answer = answer; answers = answers; offered = offered })

@@ -11,7 +11,7 @@ use Rattle.am_scenario_types.specs.declared.parts.Form.TheVariants as Forms
 use Rattle.am_scenario_types.specs.Lists.{ScenarioLists}
 use Rattle.am_segment.specs.declared.scenario.SegmentScenario.{SegmentScenario}
 use Rattle.am_segment.specs.Spelling.{segment_grammar}
-use Rattle.am_main.specs.Answer.{Answer, answer_of, answer_of_stop}
+use Rattle.am_main.specs.Answer.{answer_of, answer_of_stop}
 use Rattle.am_main.specs.Checks.{IsOfCheck}
 use Rattle.am_main.specs.Commands.{AsksForCount}
 use Rattle.am_main.specs.Offers.{IsAnswered, IsOffered, IsOfMake, IsOr, IsTextOffered, no_memory, read_fault, too_long, usage}
@@ -19,6 +19,7 @@ use Rattle.am_main.specs.Runs.{RunAnswers}
 use Rattle.am_main.specs.Segments.{IsSegmentsAnswered, SegmentsAnswers}
 use Rattle.am_main.specs.Sessions.{IsOfSession}
 use Rattle.am_main.proofs.Refusals.{status_of}
+use Rattle.am_session.specs.Answer.{Answer}
 
 or_other : (answer status : ℕ) → answer ≢ 11 → IsOr answer status → status ≢ 11
 or_other answer status other (inl same) = λ (e : status ≡ 11). other (sym same ∙ e)

@@ -18,10 +18,7 @@ use Rattle.am_model.specs.declared.EntryFault.TheVariants as EntryFaults
 use Rattle.am_main.specs.declared.faults.StepFault.{StepFault}
 use Rattle.am_main.specs.declared.faults.StepFault.TheVariants as Faults
 use Rattle.am_main.specs.Words.{what_word, condition_word, part_word}
-
-pub record Answer : Type 0 where
-  pub status : ℕ
-  pub text : List ℕ
+use Rattle.am_session.specs.Answer.{Answer}
 
 unfoldable pub refused_line : ScenarioFault → List ℕ
 refused_line fault = codes "refused line " ++ decimal fault.line ++ codes " " ++ what_word fault.what ++ codes "\n"

@@ -11,12 +11,13 @@ use Rattle.am_check.specs.Verdict.{Checks}
 use Rattle.am_check_laws.specs.Laws.{IsTrueReport}
 use Rattle.am_io.specs.Causes.{Rose}
 use Rattle.am_io.specs.Whole.{IsLonger}
-use Rattle.am_main.specs.Answer.{Answer, full_line, refused_line}
+use Rattle.am_main.specs.Answer.{full_line, refused_line}
 use Rattle.am_main.specs.Offers.{Finds, IsOffered, IsWhole, no_memory, read_fault, too_long}
 use Rattle.am_main.specs.Words.{condition_word}
 use Rattle.am_office.specs.declared.Part.{Part}
 use Rattle.am_scenario_types.specs.declared.faults.ScenarioFault.{ScenarioFault}
 use Rattle.am_scenario_types.specs.declared.parts.Form.{Form}
+use Rattle.am_session.specs.Answer.{Answer}
 
 -- the line that tells what is wrong with a line of a report
 unfoldable pub check_line : ℕ → CheckWhat → List ℕ

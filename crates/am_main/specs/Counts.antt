@@ -9,9 +9,9 @@ use Rattle.am_words.specs.Codes.{sent_words}
 use Rattle.am_count.specs.Counting.{PrintsCount}
 use Rattle.am_count.specs.Stops.{IsRoundOf}
 use Rattle.am_counting.specs.Rounds.{IsRoundRun}
-use Rattle.am_main.specs.Answer.{Answer}
 use Rattle.am_main.specs.Offers.{Finds, IsOffered, IsWhole, no_memory, read_fault, too_long}
 use Rattle.am_main.specs.Runs.{PrintsCutRun}
+use Rattle.am_session.specs.Answer.{Answer}
 
 -- THE HEADLINE, for the command `count`: each round of the text's words was run over the cluster, and the text that is printed tells the
 -- words of the source's text of at most 24 bytes, each once and in ascending order of bytes, with how often it ran and how often it is

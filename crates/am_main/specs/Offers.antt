@@ -6,7 +6,7 @@ use Rattle.am_scenario_types.specs.declared.parts.Form.{Form}
 use Rattle.am_scenario_types.specs.declared.parts.Form.TheVariants as Forms
 use Rattle.am_io.specs.Causes.{Rose}
 use Rattle.am_io.specs.Whole.{IsAll, IsLonger}
-use Rattle.am_main.specs.Answer.{Answer, answer_of, full_line, not_enabled_line, refused_line}
+use Rattle.am_main.specs.Answer.{answer_of, full_line, not_enabled_line, refused_line}
 use Rattle.am_main.specs.Meaning.{PrintsHistory, IsNotEnabled, IsStepStopped}
 use Rattle.am_main.specs.Runs.{MakeAnswers, PrintsCutRun, PrintsRun, RunAnswers, Summarizes, TellsCutRun}
 use Rattle.am_model.specs.Steps.{LogFull}
@@ -14,6 +14,7 @@ use Rattle.am_office.specs.declared.Condition.{Condition}
 use Rattle.am_office.specs.declared.Part.{Part}
 use Rattle.am_scenario_types.specs.declared.faults.ScenarioFault.{ScenarioFault}
 use Rattle.am_scenario_types.specs.Lists.{ScenarioLists}
+use Rattle.am_session.specs.Answer.{Answer}
 
 -- the status is this one, or that of a fault of the sink or of want of memory
 abbrev pub IsOr : ℕ → ℕ → Type 0

@@ -17,7 +17,8 @@ use Rattle.am_drain.specs.Drain.{IsDrained}
 use Rattle.am_drain.specs.Follows.{FollowsScripts}
 use Rattle.am_cluster.specs.Runs.{IsAloneCutOff, IsRunCutOff, IsRunDone, ObeysRunLaws}
 use Rattle.am_main.specs.declared.outputs.Output.{Output}
-use Rattle.am_main.specs.Answer.{Answer, full_line, ids_of, refused_line}
+use Rattle.am_main.specs.Answer.{full_line, ids_of, refused_line}
+use Rattle.am_session.specs.Answer.{Answer}
 
 -- without threads a run is what the drain makes of the empty journal, which makes no other
 pub record IsDrainedAlone (s : ScenarioLists) (journal : List Entry) : Type 0 where

@@ -23,9 +23,10 @@ use Rattle.am_segment.specs.Lists.{ExpandedLists}
 use Rattle.am_segment.specs.Printed.{segments_text}
 use Rattle.am_segment.specs.Spelling.{segment_grammar}
 use Rattle.am_segment_laws.specs.Laws.{IsUndisturbed}
-use Rattle.am_main.specs.Answer.{Answer, ids_of, refused_line}
+use Rattle.am_main.specs.Answer.{ids_of, refused_line}
 use Rattle.am_main.specs.Offers.{Finds, IsOffered, IsWhole, no_memory, read_fault, too_long}
 use Rattle.am_main.specs.Runs.{IsRunOf, PrintsCutRun}
+use Rattle.am_session.specs.Answer.{Answer}
 
 -- Where all pieces of a transfer ran, and after the first of these runs no other piece was written over one of its places, the
 -- segment holds the block at its places.

@@ -3,7 +3,6 @@ use Rattle.std.specs.Prelude.{◌≡◌, ◌⊎◌, ℕ, List, Option, Ok, Err}
 use Rattle.std.specs.Io.KnownBytes.{Appends}
 use Rattle.am_io.specs.Causes.{Rose}
 use Rattle.am_io.specs.Whole.{IsLonger}
-use Rattle.am_main.specs.Answer.{Answer}
 use Rattle.am_main.specs.Offers.{Finds, IsOffered, IsWhole, no_memory, read_fault, too_long}
 use Rattle.am_session.specs.Answer as Sessions
 use Rattle.am_session.specs.Answer.{refused_line}
@@ -12,13 +11,9 @@ use Rattle.am_session.specs.Meaning.{PrintsSession, StopsSession}
 use Rattle.am_session.specs.Scripts.{Script}
 use Rattle.am_session.specs.declared.script.SessionTextFault.{SessionTextFault}
 
--- an answer of a session as one of the program's
-abbrev pub answer_as : Sessions.Answer → Answer
-answer_as a = record { status = a.status; text = a.text }
-
 -- the answer to the bytes was offered
 abbrev pub IsSessionOffered : List ℕ → ℕ → Option (List ℕ) → Option (List ℕ) → Type 0
-IsSessionOffered bytes status old new = IsOffered (answer_as (Sessions.session_answer bytes)) status old new
+IsSessionOffered bytes status old new = IsOffered (Sessions.session_answer bytes) status old new
 
 -- The answer to the bytes was offered, or the line that says that the program found no memory.
 abbrev pub IsSessionGiven : List ℕ → ℕ → Option (List ℕ) → Option (List ℕ) → Type 0
@@ -66,4 +61,4 @@ IsOfSession status = (status ≡ 0) ⊎ ((status ≡ 3) ⊎ ((status ≡ 4) ⊎ 
 -- The status and the whole text are those of the answer to the bytes, unless there are too many bytes or memory ran out.
 abbrev pub CompletesSession : ℕ → ℕ → Option (List ℕ) → Option (List ℕ) → Option (List ℕ) → Type 0
 CompletesSession most status left old new =
-    (status ≡ 7) ⊎ ((status ≡ 8) ⊎ Finds most left (λ bytes. IsWhole (answer_as (Sessions.session_answer bytes)) status old new))
+    (status ≡ 7) ⊎ ((status ≡ 8) ⊎ Finds most left (λ bytes. IsWhole (Sessions.session_answer bytes) status old new))

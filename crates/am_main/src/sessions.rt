@@ -5,7 +5,7 @@ ghost use Rattle.std.specs.Io.KnownBytes.{Appends};
 ghost use Rattle.am_io.specs.Causes.{Rose};
 ghost use Rattle.am_io.specs.Whole.{IsLonger, TakesAtMost};
 ghost use Rattle.am_main.specs.Offers.{Finds, IsOffered, IsOfText, LacksMemory};
-ghost use Rattle.am_main.specs.Sessions.{IsOfSession, IsSessionAnswered, IsSessionGiven, RefusesSession, ReportsSession, answer_as};
+ghost use Rattle.am_main.specs.Sessions.{IsOfSession, IsSessionAnswered, IsSessionGiven, RefusesSession, ReportsSession};
 ghost use Rattle.am_session.specs.Meaning.{answer_in};
 
 use crate::top::{NO_MEMORY, READ_FAULT, Status, TOO_LONG, offer};
@@ -15,7 +15,7 @@ use std::alloc::Global;
 
 // Offers what a session gives to print.
 fn offer_session<K: Sink>(sink: &mut K, output: &SessionOutput) -> Status
-    ensures offered { IsOffered (answer_as (answer_in output.now)) result.number (K.held sink.old) (K.held sink.new) }
+    ensures offered { IsOffered (answer_in output.now) result.number (K.held sink.old) (K.held sink.new) }
     ensures cause { output.now.status ≢ 5 → result.number ≡ 5 → Rose (K.count sink.old) (K.count sink.new) }
     ensures kept { result.number ≢ 5 → K.count sink.new ≡ K.count sink.old }
     ensures shortage { output.now.status ≢ 8 → result.number ≡ 8 → Rose (K.shortages sink.old) (K.shortages sink.new) }

@@ -13,7 +13,7 @@ use Rattle.am_scripts.specs.Layout.{setting_of}
 use Rattle.am_scenario_types.specs.declared.parts.EndLine.{EndLine}
 use Rattle.am_journal.proofs.Lists.{index_got}
 use Rattle.am_join.proofs.Standing.{behind, first_or_behind, in_front}
-use Rattle.am_node.specs.Gathered.{AreDeclared, AreOfGroups, HasOne, IsLastOf, is_of_node, setting_in}
+use Rattle.am_node.specs.Gathered.{AreDeclared, AreOfGroups, HasOne, IsLastOf, is_declared_at, setting_in}
 
 -- the endpoints of the first lines are gathered, and those of the others are still in their groups
 pub record AreGathering (lines : List EndLine) (count : ℕ) (groups now : List (Vec EndpointView)) (ends : List EndpointView) : Type 0 where
@@ -35,11 +35,11 @@ begins lines groups declared =
 pub has_one : (line : EndLine) (rest : List EndLine) (now : List (Vec EndpointView)) → AreDeclared (line ∷ rest) now → HasOne now line.node
 has_one line rest now d g at = by_items g.items (d.each line.node.0 g at)
   where
-    own : is_of_node (node_at line.node.0) (setting_of line) ≡ true
+    own : is_declared_at (node_at line.node.0) (setting_of line) ≡ true
     own = eq-eqb line.node.0 line.node.0 refl
 
-    by_items : (vs : List EndpointView) → map setting_in (reverse vs) ≡ filter (is_of_node (node_at line.node.0)) (map setting_of (line ∷ rest)) → 0 < length vs
-    by_items [] e = absurd (none (e ∙ ap (λ (b : Bool). cond b (setting_of line ∷ filter (is_of_node (node_at line.node.0)) (map setting_of rest)) (filter (is_of_node (node_at line.node.0)) (map setting_of rest))) own))
+    by_items : (vs : List EndpointView) → map setting_in (reverse vs) ≡ filter (is_declared_at (node_at line.node.0)) (map setting_of (line ∷ rest)) → 0 < length vs
+    by_items [] e = absurd (none (e ∙ ap (λ (b : Bool). cond b (setting_of line ∷ filter (is_declared_at (node_at line.node.0)) (map setting_of rest)) (filter (is_declared_at (node_at line.node.0)) (map setting_of rest))) own))
       where
         none : {x : EndSetting} {xs : List EndSetting} → [] ≡ x ∷ xs → ⊥
         none e = (cc)
@@ -97,10 +97,10 @@ module _ (line : EndLine) (rest : List EndLine) (groups now new : List (Vec Endp
       some_at (g ∷ gs) zero lt = (g, refl)
       some_at (g ∷ gs) (suc n) lt = some_at gs n (omega (arith, lt))
 
-      own : filter (is_of_node (node_at line.node.0)) (map setting_of (line ∷ rest)) ≡ setting_of line ∷ filter (is_of_node (node_at line.node.0)) (map setting_of rest)
-      own = ap (λ (b : Bool). cond b (setting_of line ∷ filter (is_of_node (node_at line.node.0)) (map setting_of rest)) (filter (is_of_node (node_at line.node.0)) (map setting_of rest))) (eq-eqb line.node.0 line.node.0 refl)
+      own : filter (is_declared_at (node_at line.node.0)) (map setting_of (line ∷ rest)) ≡ setting_of line ∷ filter (is_declared_at (node_at line.node.0)) (map setting_of rest)
+      own = ap (λ (b : Bool). cond b (setting_of line ∷ filter (is_declared_at (node_at line.node.0)) (map setting_of rest)) (filter (is_declared_at (node_at line.node.0)) (map setting_of rest))) (eq-eqb line.node.0 line.node.0 refl)
 
-      first : (ss : List EndSetting) → setting_in x ∷ ss ≡ setting_of line ∷ filter (is_of_node (node_at line.node.0)) (map setting_of rest) → setting_in x ≡ setting_of line
+      first : (ss : List EndSetting) → setting_in x ∷ ss ≡ setting_of line ∷ filter (is_declared_at (node_at line.node.0)) (map setting_of rest) → setting_in x ≡ setting_of line
       first ss e = (cc)
 
   -- the rest is still declared
@@ -111,19 +111,19 @@ module _ (line : EndLine) (rest : List EndLine) (groups now new : List (Vec Endp
         each = λ k h at. (let g = was k h at in by_test k g.0 h g.1 at (k == line.node.0) refl);
       }
     where
-      by_test : (k : ℕ) (g h : Vec EndpointView) → slice_get now k ≡ Some g → slice_get new k ≡ Some h → (b : Bool) → (k == line.node.0) ≡ b → map setting_in (reverse h.items) ≡ filter (is_of_node (node_at k)) (map setting_of rest)
+      by_test : (k : ℕ) (g h : Vec EndpointView) → slice_get now k ≡ Some g → slice_get new k ≡ Some h → (b : Bool) → (k == line.node.0) ≡ b → map setting_in (reverse h.items) ≡ filter (is_declared_at (node_at k)) (map setting_of rest)
       by_test k g h before at true is =
           let items = same_group k g h before at true is in
           behind (map setting_in (reverse h.items))
           (ap (map setting_in) (sym (reverse-append h.items (x ∷ [])) ∙ ap (λ (l : List EndpointView). reverse l) (sym items)) ∙ declared.each k g before
-          ∙ ap (λ (b : Bool). cond b (setting_of line ∷ filter (is_of_node (node_at k)) (map setting_of rest)) (filter (is_of_node (node_at k)) (map setting_of rest))) is)
+          ∙ ap (λ (b : Bool). cond b (setting_of line ∷ filter (is_declared_at (node_at k)) (map setting_of rest)) (filter (is_declared_at (node_at k)) (map setting_of rest))) is)
         where
-          behind : (ss : List EndSetting) → setting_in x ∷ ss ≡ setting_of line ∷ filter (is_of_node (node_at k)) (map setting_of rest) → ss ≡ filter (is_of_node (node_at k)) (map setting_of rest)
+          behind : (ss : List EndSetting) → setting_in x ∷ ss ≡ setting_of line ∷ filter (is_declared_at (node_at k)) (map setting_of rest) → ss ≡ filter (is_declared_at (node_at k)) (map setting_of rest)
           behind ss e = (cc)
       by_test k g h before at false is =
           let items = same_group k g h before at false is ∙ append-nil h.items in
           ap (λ (l : List EndpointView). map setting_in (reverse l)) (sym items) ∙ declared.each k g before
-          ∙ ap (λ (b : Bool). cond b (setting_of line ∷ filter (is_of_node (node_at k)) (map setting_of rest)) (filter (is_of_node (node_at k)) (map setting_of rest))) is
+          ∙ ap (λ (b : Bool). cond b (setting_of line ∷ filter (is_declared_at (node_at k)) (map setting_of rest)) (filter (is_declared_at (node_at k)) (map setting_of rest))) is
 
   module _ (left : (k : ℕ) (h : Vec EndpointView) (v : EndpointView) → slice_get now k ≡ Some h → Contains h.items v → (g : Vec EndpointView) × ((slice_get groups k ≡ Some g) × Contains g.items v)) where
     left_now : (k : ℕ) (h : Vec EndpointView) (v : EndpointView) → slice_get new k ≡ Some h → Contains h.items v → (g : Vec EndpointView) × ((slice_get groups k ≡ Some g) × Contains g.items v)

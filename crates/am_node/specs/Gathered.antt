@@ -15,13 +15,13 @@ abbrev pub setting_in : EndpointView → EndSetting
 setting_in v = record { id = v.settings.id; node = v.settings.node; tag = v.settings.tag; disk = is_on_disk v.settings.place }
 
 -- whether an endpoint of the node is declared so
-abbrev pub is_of_node : NodeId → EndSetting → Bool
-is_of_node node s = same_node node s.node
+abbrev pub is_declared_at : NodeId → EndSetting → Bool
+is_declared_at node s = same_node node s.node
 
 -- the endpoints of each node are those that are declared there, from the last to the first
 pub record AreDeclared (lines : List EndLine) (groups : List (Vec EndpointView)) : Type 0 where
   pub nodes : AllAre (λ (line : EndLine). line.node.0 < length groups) lines
-  pub each : (k : ℕ) (g : Vec EndpointView) → slice_get groups k ≡ Some g → map setting_in (reverse g.items) ≡ filter (is_of_node (node_at k)) (map setting_of lines)
+  pub each : (k : ℕ) (g : Vec EndpointView) → slice_get groups k ≡ Some g → map setting_in (reverse g.items) ≡ filter (is_declared_at (node_at k)) (map setting_of lines)
 
 -- each of the endpoints is one of a node's
 abbrev pub AreOfGroups : List (Vec EndpointView) → List EndpointView → Type 0

@@ -6,7 +6,8 @@ ghost use Rattle.am_merge.specs.Logs.{IsRising};
 ghost use Rattle.am_merge.specs.Merged.{entries_of};
 ghost use Rattle.am_model.specs.Layout.{AllAre};
 ghost use Rattle.am_node.specs.Parts.{all_logs, journal_of, logs_of_part};
-ghost use Rattle.am_node.specs.Packets.{GoesWithin, IsBetweenNodes};
+ghost use Rattle.am_journal.specs.View.{IsBetweenNodes};
+ghost use Rattle.am_node.specs.Packets.{GoesWithin};
 ghost use Rattle.am_office.specs.declared.Entry.{Entry};
 ghost use Rattle.std.specs.Prelude.{◌≡◌, ◌+◌, ◌<◌, ◌^◌, ◌∷◌, ◌++◌, [], length, IfOk, List, OnOk};
 

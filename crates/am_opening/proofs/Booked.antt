@@ -8,9 +8,7 @@ use Rattle.am_driver.specs.declared.EndView.{EndView}
 use Rattle.am_endpoint.specs.View.{EndpointView, state_after}
 use Rattle.am_model.specs.Layout.{AllAre}
 use Rattle.am_opening.proofs.Lists.{all_front, all_last, all_reversed, map_push}
-
-abbrev end_of : EndBook → EndpointView
-end_of b = b.end.value
+use Rattle.am_books.specs.Ends.{end_in}
 
 -- the line of an endpoint as it is now
 abbrev pub line_now : EndpointView → EndView
@@ -19,7 +17,7 @@ line_now e = line_of e.settings.id (state_after e)
 -- these books were made, and of these endpoints books are still to be made, the last first
 pub record AreBooked (whole rest : List EndpointView) (books : List EndBook) : Type 0 where
   pub fine : AllAre IsBook rest
-  pub made : map end_of books ++ reverse rest ≡ whole
+  pub made : map end_in books ++ reverse rest ≡ whole
 
 pub booked_begins : (whole : List EndpointView) → AllAre IsBook whole → AreBooked whole (reverse whole) []
 booked_begins whole fine = record { fine = all_reversed IsBook whole fine; made = reverse-reverse whole }
@@ -32,11 +30,11 @@ booked_more whole rest x books b so is =
     record {
       fine = all_front IsBook rest x so.fine;
       made =
-          ap (λ (l : List EndpointView). l ++ reverse rest) (map_push end_of books b ∙ ap (λ (y : EndpointView). map end_of books ++ y ∷ []) is)
-          ∙ append_assoc (map end_of books) (x ∷ []) (reverse rest)
-          ∙ ap (λ (l : List EndpointView). map end_of books ++ l) (sym (reverse-append rest (x ∷ [])))
+          ap (λ (l : List EndpointView). l ++ reverse rest) (map_push end_in books b ∙ ap (λ (y : EndpointView). map end_in books ++ y ∷ []) is)
+          ∙ append_assoc (map end_in books) (x ∷ []) (reverse rest)
+          ∙ ap (λ (l : List EndpointView). map end_in books ++ l) (sym (reverse-append rest (x ∷ [])))
           ∙ so.made;
     }
 
-pub booked_ends : (whole : List EndpointView) (books : List EndBook) → AreBooked whole [] books → map end_of books ≡ whole
-booked_ends whole books b = sym (append-nil (map end_of books)) ∙ b.made
+pub booked_ends : (whole : List EndpointView) (books : List EndBook) → AreBooked whole [] books → map end_in books ≡ whole
+booked_ends whole books b = sym (append-nil (map end_in books)) ∙ b.made

@@ -19,7 +19,7 @@ use Rattle.am_moves.specs.Logs.{kept}
 use Rattle.am_moves.specs.Pages.{HoldsBody}
 use Rattle.am_machine.specs.Ends.{setting_in}
 use Rattle.am_machine.specs.Kept.{IsOwn}
-use Rattle.am_machine.specs.Parts.{IsNodePart, is_declared_at}
+use Rattle.am_machine.specs.Parts.{IsNodePart}
 use Rattle.am_node.specs.declared.NodePart.{NodePart}
 use Rattle.am_phase.specs.Lying.{rests}
 use Rattle.am_places.specs.Codes.{place_code}
@@ -27,8 +27,10 @@ use Rattle.am_scenario_types.specs.declared.parts.ThreadLine.{ThreadLine}
 use Rattle.am_scenario_types.specs.Lawful as lawful
 use Rattle.am_scenario_types.specs.Lists.{ScenarioLists}
 use Rattle.am_works.specs.Seats.{IsBorn}
-use Rattle.am_opening.specs.Openings.{IsFreshDisk, IsOpenIn, births_of, thread_ids}
+use Rattle.am_opening.specs.Openings.{IsFreshDisk, births_of, thread_ids}
 use Rattle.am_opening.proofs.Lists.{all_got, got_all, got_kept, got_map, length_map, map_all}
+use Rattle.am_node.specs.Gathered.{is_declared_at}
+use Rattle.am_works.specs.Begins.{IsOpenIn}
 
 -- ---- an endpoint
 

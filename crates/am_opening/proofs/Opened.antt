@@ -36,9 +36,7 @@ use Rattle.am_opening.specs.Openings.{AreDeclared, AreOpenings, EndSeat, IsFresh
 use Rattle.am_opening.specs.declared.opening.Opening.{Opening}
 use Rattle.am_opening.proofs.Fresh.{is_born, is_homely, no_log, part_at, part_books, part_disk, part_few, part_home, part_ids}
 use Rattle.am_opening.proofs.Lists.{AreTaking, all_got, each_more, elem_got, got_elem, got_map, length_map, map_all, taking_begins, taking_ends, taking_more, taking_next}
-
-abbrev end_of : EndBook → EndpointView
-end_of b = b.end.value
+use Rattle.am_books.specs.Ends.{end_in}
 
 -- what Places::new says of the seats
 abbrev pub AreSeats : TableId → List EndBook → List EndpointId → ℕ → ℕ → List (EndSeat) → Type 0
@@ -52,15 +50,15 @@ module _ (s : ScenarioLists) (p : NodePart) (ok : lawful.IsLawful s) (packet : s
   pub books_fine : AllAre IsBook p.ends.items
   books_fine = part_books (layout_of s) p.node p (lawful_layout s ok) part
 
-  module _ (books : List EndBook) (are : map end_of books ≡ p.ends.items) where
+  module _ (books : List EndBook) (are : map end_in books ≡ p.ends.items) where
     books_ids : ids_of books ≡ map (λ (e : EndpointView). e.settings.id) p.ends.items
-    books_ids = sym (map_twice end_of (λ (e : EndpointView). e.settings.id) books) ∙ ap (map (λ (e : EndpointView). e.settings.id)) are
+    books_ids = sym (map_twice end_in (λ (e : EndpointView). e.settings.id) books) ∙ ap (map (λ (e : EndpointView). e.settings.id)) are
 
     books_named : ids_of books ≡ ends_of (layout_of s) p.node
     books_named = books_ids ∙ part_ids (layout_of s) p.node p (lawful_layout s ok) part
 
     end_at : (k : ℕ) (b : EndBook) → slice_get books k ≡ Some b → slice_get p.ends.items k ≡ Some b.end.value
-    end_at k b at = subst (λ (l : List EndpointView). slice_get l k ≡ Some b.end.value) are (got_map end_of books k b at)
+    end_at k b at = subst (λ (l : List EndpointView). slice_get l k ≡ Some b.end.value) are (got_map end_in books k b at)
 
     books_born : AllAre (λ (b : EndBook). IsBorn (layout_of s) b.end.value.settings) books
     books_born = all_got (λ (b : EndBook). IsBorn (layout_of s) b.end.value.settings) books (λ k b at. is_born (layout_of s) (lawful_layout s ok) b.end.value (part_at (layout_of s) p.node p (lawful_layout s ok) part k b.end.value (end_at k b at)))
@@ -81,7 +79,7 @@ module _ (s : ScenarioLists) (p : NodePart) (ok : lawful.IsLawful s) (packet : s
         record {
           declared =
               map_twice (λ (b : EndBook). b.end.value.settings) setting_by books
-              ∙ sym (map_twice end_of (λ (e : EndpointView). setting_in (kept e)) books)
+              ∙ sym (map_twice end_in (λ (e : EndpointView). setting_in (kept e)) books)
               ∙ ap (map (λ (e : EndpointView). setting_in (kept e))) are
               ∙ part.ends';
           each = map_all (λ (b : EndBook). b.end.value.settings) (IsBorn (layout_of s)) books books_born;
@@ -92,8 +90,8 @@ module _ (s : ScenarioLists) (p : NodePart) (ok : lawful.IsLawful s) (packet : s
 
     pub books_few : length books < 2 ^ 32
     books_few =
-        let mapped = length_map end_of books in
-        let same : length (map end_of books) ≡ length p.ends.items = ap length are in
+        let mapped = length_map end_in books in
+        let same : length (map end_in books) ≡ length p.ends.items = ap length are in
         let few = part_few (layout_of s) p.node p (lawful_layout s ok) part in
         omega (arith, mapped, same, few)
 
@@ -101,7 +99,7 @@ module _ (s : ScenarioLists) (p : NodePart) (ok : lawful.IsLawful s) (packet : s
     books_all ids named = ap length (named ∙ sym books_ids) ∙ length_map (λ (b : EndBook). b.end.value.settings.id) books
 
     books_lines : lines_of p.ends.items ≡ map (λ (b : EndBook). line_of b.end.value.settings.id (state_after b.end.value)) books
-    books_lines = ap lines_of (sym are) ∙ map_twice end_of (λ (e : EndpointView). line_of e.settings.id (state_after e)) books
+    books_lines = ap lines_of (sym are) ∙ map_twice end_in (λ (e : EndpointView). line_of e.settings.id (state_after e)) books
 
     pub opening_is : (o : Opening) (count : ℕ) → o.node ≡ p.node → o.places.ids.items ≡ map (λ (e : EndpointView). e.settings.id) p.ends.items → o.places.frames ≡ s.frames → o.threads.items ≡ thread_ids s.threads p.node → count ≡ length o.threads.items + 2
         → AreSeats o.places.board.shared.table_id books o.places.ids.items count s.frames o.seats.items → o.interface ≡ p.iface → o.set ≡ p.iface.settings → AreLawful p.iface.settings → o.swap ≡ p.swap

@@ -1,5 +1,5 @@
 -- What the workers of a node begin with.
-use Rattle.std.specs.Prelude.{◌≡◌, ℕ, ◌+◌, true, None, Some, List, [], filter, length, map, slice_get}
+use Rattle.std.specs.Prelude.{◌≡◌, ℕ, ◌+◌, None, Some, List, [], filter, length, map, slice_get}
 use Rattle.atomic_table.specs.Seated.{TableId}
 use Rattle.am_names.specs.declared.EndpointId.{EndpointId}
 use Rattle.am_names.specs.declared.NodeId.{NodeId}
@@ -12,17 +12,15 @@ use Rattle.am_device.specs.Memory.{Store}
 use Rattle.am_driver.specs.Views.{line_of}
 use Rattle.am_driver.specs.declared.EndView.{EndView}
 use Rattle.am_endpoint.specs.View.{EndpointView, state_after}
-use Rattle.am_model.specs.Endpoint.{fresh, is_on_disk}
 use Rattle.am_model.specs.Layout.{AllAre, EndSetting, Layout, node_at}
 use Rattle.am_local.specs.Together.{ends_of, faults_of}
-use Rattle.am_moves.specs.Pages.{HoldsBody}
 use Rattle.am_places.specs.declared.places.Seat.{Seat}
 use Rattle.am_scenario_types.specs.declared.parts.ThreadLine.{ThreadLine}
 use Rattle.am_scenario_types.specs.Lists.{ScenarioLists}
 use Rattle.am_scripts.specs.Layout.{layout_of}
 use Rattle.am_iface.specs.Settings.{AreLawful}
 use Rattle.am_machine.specs.Interfaces.{IsInterface}
-use Rattle.am_works.specs.Begins.{AreFresh}
+use Rattle.am_works.specs.Begins.{AreFresh, IsOpenIn}
 use Rattle.am_works.specs.Stands.{fresh_pass}
 use Rattle.am_works.specs.Seats.{IsBorn, setting_by}
 use Rattle.am_opening.specs.declared.opening.Opening.{Opening}
@@ -36,10 +34,6 @@ pub record AreDeclared (layout : Layout) (node : NodeId) (births : List EndSetti
 
 abbrev pub births_of : List EndBook → List EndSettings
 births_of books = map (λ (b : EndBook). b.end.value.settings) books
-
--- where an endpoint begins on disk, the swap holds the image of the body that it begins with
-abbrev pub IsOpenIn : Store → EndSettings → Type 0
-IsOpenIn swap set = is_on_disk set.place ≡ true → HoldsBody swap set.pool set.id (fresh set.tag set.place).body
 
 -- the lines of these endpoints in a driver's view
 abbrev pub lines_of : List EndpointView → List EndView

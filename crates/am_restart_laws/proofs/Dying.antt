@@ -14,11 +14,12 @@ use Rattle.am_restart.specs.Fates.{returns}
 use Rattle.am_restart.specs.State.{SessionState}
 use Rattle.am_restart_laws.proofs.Keys.{Point, IsClosed, IsSame, earlier_closed}
 use Rattle.am_restart_laws.proofs.MoveKinds.{Refusal}
-use Rattle.am_restart_laws.proofs.Lists.{Among, bit, count_more}
+use Rattle.am_restart_laws.proofs.Lists.{Among, count_more}
 use Rattle.am_restart_laws.proofs.Orders.{UpTo, Before, turned, same_then, before_same, before_key, not_before, place}
 use Rattle.am_restart_laws.proofs.Parts.{Emitted, SenderPart, Dead, DeadPart, ReceiverPart, Refuses, answer_numbers, key, waiting}
 use Rattle.am_restart_laws.proofs.Points.{Stays, numbers}
 use Rattle.am_restart_laws.proofs.Sending.{IsSent, not_hello, parcel_cases}
+use Rattle.am_model.proofs.Received.{bit}
 
 -- a parcel that is taken now: it was emitted and wasn't closed
 pub record IsNew (out : List SenderPacket) (o : Point) (d : SessionParcel) : Type 0 where

@@ -1,8 +1,9 @@
 -- What stands in a list, and how much of it passes a test.
-use Rattle.std.proofs.Common.{◌≡◌, ℕ, zero, suc, ◌+◌, ◌-◌, Bool, true, false, cond, ◌==◌, ◌⊎◌, inl, inr, Option, Some, None, List, [], ◌∷◌, ◌++◌, refl, sym, ap, subst, arith, if◌then◌else◌}
+use Rattle.std.proofs.Common.{◌≡◌, ℕ, zero, suc, ◌+◌, ◌-◌, Bool, true, false, ◌==◌, ◌⊎◌, inl, inr, Option, Some, None, List, [], ◌∷◌, ◌++◌, refl, sym, ap, subst, arith, if◌then◌else◌}
 use Rattle.std.specs.Prelude.{count_by, slice_get, drop}
 use Rattle.std.proofs.lemmas.List.Sums.{sum_by_push, sum_by-cons}
 use Rattle.am_restart.specs.State.{packet_at}
+use Rattle.am_model.proofs.Received.{bit}
 
 -- x is an element of the list
 abbrev pub Among : {X : Type 0} → X → List X → Type 0
@@ -40,9 +41,6 @@ among_packets {X = X} x xs number e = by_test (number == 0) e
     by_test : (b : Bool) → ◌≡◌ {A = Option X} (if b then None else slice_get xs (number - 1)) (Some x) → Among x xs
     by_test true h = absurd (cc)
     by_test false h = among_got x xs (number - 1) h
-
-abbrev pub bit : Bool → ℕ
-bit b = cond b 1 0
 
 pub count_more : {X : Type 0} (p : X → Bool) (xs : List X) (x : X) → count_by p (xs ++ x ∷ []) ≡ count_by p xs + bit (p x)
 count_more p xs x = sum_by_push (λ y. bit (p y)) xs x

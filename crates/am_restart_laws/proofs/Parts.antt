@@ -15,9 +15,10 @@ use Rattle.am_restart.specs.Fates.{puts, returns, leaves_unknown, is_of}
 use Rattle.am_restart.specs.State.{SessionState}
 use Rattle.am_restart_laws.proofs.Keys.{Point, Numbers, IsClosed, IsSettled, IsSame}
 use Rattle.am_restart_laws.proofs.MoveKinds.{offered_in, delivered_in}
-use Rattle.am_restart_laws.proofs.Lists.{Among, bit}
+use Rattle.am_restart_laws.proofs.Lists.{Among}
 use Rattle.am_restart_laws.proofs.Orders.{UpTo, Before}
 use Rattle.am_restart_laws.proofs.Points.{point, numbers, weight}
+use Rattle.am_model.proofs.Received.{bit}
 
 abbrev pub offers : ℕ → SessionEntry → Bool
 offers m x = is_of m (offered_in x.outcome)

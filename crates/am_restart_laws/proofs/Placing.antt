@@ -8,8 +8,9 @@ use Rattle.am_restart.specs.declared.events.SessionEntry.{SessionEntry}
 use Rattle.am_restart.specs.declared.packets.SessionParcel.{SessionParcel}
 use Rattle.am_restart.specs.Fates.{puts, returns, leaves_unknown, is_of}
 use Rattle.am_restart_laws.proofs.MoveKinds.{Tells}
-use Rattle.am_restart_laws.proofs.Lists.{bit, count_more, count_front, count_first}
+use Rattle.am_restart_laws.proofs.Lists.{count_more, count_front, count_first}
 use Rattle.am_restart_laws.proofs.Parts.{Places, Tally, offers, delivers, bound_bit, is_taken}
+use Rattle.am_model.proofs.Received.{bit}
 
 -- what the entries tell with one more
 pub record Pushed (past next : List SessionEntry) (o p r u d : Option ℕ) : Type 0 where

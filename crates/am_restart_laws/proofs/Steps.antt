@@ -26,7 +26,7 @@ use Rattle.am_restart.specs.Moves.{still, bind_of, expire_by, unbound, welcomes,
 use Rattle.am_restart.specs.State.{SessionState, moved}
 use Rattle.am_restart_laws.proofs.Keys.{IsClosed, IsFresh, not_fresh, settled_closed, fresh_closed, fresh_settled}
 use Rattle.am_restart_laws.proofs.MoveKinds.{Tells, IsMute, Refusal, GoesOn, Frees, Meets, Restarts, turn, go, Kind, Quiet, Offers, Hellos, Binds, Resends, Idles, Loses, Delivers, Returns, Requeues, Turns, Welcomes, Repeats, Decides, mute}
-use Rattle.am_restart_laws.proofs.Lists.{Among, among_more, bit, count_front}
+use Rattle.am_restart_laws.proofs.Lists.{Among, among_more, count_front}
 use Rattle.am_restart_laws.proofs.Orders.{compared}
 use Rattle.am_restart_laws.proofs.Parts.{Places, Emitted, SenderPart, Holds, waiting, bound_bit, offers}
 use Rattle.am_restart_laws.proofs.Points.{Stays, HasMet, has_met, fresh_of, point, numbers, weight, stays_kept, stays_then, stays_same}
@@ -34,6 +34,7 @@ use Rattle.am_restart_laws.proofs.Sending.{IsSent, sender_same, sender_on, sende
 use Rattle.am_restart_laws.proofs.Dying.{IsNew, dead_receives, refused_dead, dead_on, dead_returns, dead_requeues, dead_offers, dead_hello, dead_sends}
 use Rattle.am_restart_laws.proofs.Receiving.{IsTrue', receiver_goes, receiver_emits, receiver_more, receiver_takes, untaken_before, repeats_true}
 use Rattle.am_restart_laws.proofs.Placing.{Pushed, pushed, places_same, places_free, places_requeue, places_bind, places_offer, tally_same, tally_put}
+use Rattle.am_model.proofs.Received.{bit}
 
 -- what holds after a move, with what is taken then
 pub record After (s : SessionState) (m : Move) (next : List SessionEntry) : Type 0 where

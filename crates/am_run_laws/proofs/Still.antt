@@ -30,13 +30,13 @@ use Rattle.am_drain.specs.Rules.{time_out, time_out_to, time_out_at, next_time_o
 use Rattle.am_drain_steps.specs.Enabled.{IsOfRun}
 use Rattle.am_drain_steps.specs.Endings.{WithholdsNothing, is_among}
 use Rattle.am_drain_steps.proofs.Answered.{LastSent, last_are_sent, HasAnswer, last_are_answered}
-use Rattle.am_drain_steps.proofs.Receipts.{from_of, to_of}
 use Rattle.am_drain_steps.proofs.Unheard.{asked, unheard}
 use Rattle.am_drain_steps.proofs.Nothing.{is_released}
 use Rattle.am_drain_steps.proofs.Unknown.{link_is_received}
 use Rattle.am_run_laws.proofs.Heard.{are_heard}
 use Rattle.am_run_laws.proofs.Zone.{IsBetween, Zone}
 use Rattle.am_model.specs.Cluster.{answer_channel}
+use Rattle.am_model.specs.Packets.{from_of, receiver_of}
 
 -- ---- each packet is released
 
@@ -50,9 +50,9 @@ pub record IsStill (s : ScenarioLists) (past : List Entry) : Type 0 where
   pub none : next_receipt s past ≡ None
 
 -- each packet that went out was received
-all_got : (s : ScenarioLists) (past : List Entry) → IsStill s past → (p : Packet) → EmittedIn p past → (from_of p).0 < s.nodes → (to_of p).0 < s.nodes → is_among (number_of p) (received (from_of p) (to_of p) past) ≡ true
+all_got : (s : ScenarioLists) (past : List Entry) → IsStill s past → (p : Packet) → EmittedIn p past → (from_of p).0 < s.nodes → (receiver_of p).0 < s.nodes → is_among (number_of p) (received (from_of p) (receiver_of p) past) ≡ true
 all_got s past k p there from to =
-    ap (is_among (number_of p)) (link_is_received s past (from_of p) (to_of p) (all_is_received s past k.order k.none) from to)
+    ap (is_among (number_of p)) (link_is_received s past (from_of p) (receiver_of p) (all_is_received s past k.order k.none) from to)
     ∙ is_released s past k.nothing k.run.history p there
 
 none_fresh : (s : ScenarioLists) (past : List Entry) → IsStill s past → (q : Parcel) → IsBetween (layout_of s) q → EmittedIn (Packets.Parcel q) past → IsFresh past q → ⊥

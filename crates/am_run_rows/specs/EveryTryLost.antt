@@ -1,7 +1,5 @@
 -- Every try of a message is lost.
 use Rattle.std.specs.Prelude.{false, None, List, [], ◌∷◌}
-use Rattle.am_names.specs.declared.Message.{Message}
-use Rattle.am_names.specs.declared.MsgKind.TheVariants as Kind
 use Rattle.am_names.specs.declared.Why.TheVariants as Whys
 use Rattle.am_office.specs.declared.HandlerKind.TheVariants.{Note}
 use Rattle.am_office.specs.declared.Actor.TheVariants.{Thread, Outside}
@@ -12,6 +10,7 @@ use Rattle.am_office.specs.declared.Entry.{Entry}
 use Rattle.am_scenario_types.specs.declared.parts.Network.TheVariants as Networks
 use Rattle.am_plan.specs.declared.plan.LinkFault.TheVariants.{Lose}
 use Rattle.am_scenario_types.specs.Lists.{ScenarioLists}
+use Rattle.am_run_rows.specs.Asked.{message_0_1}
 
 abbrev pub scenario : ScenarioLists
 scenario =
@@ -45,19 +44,6 @@ scenario =
           ∷ record { thread = 0; endpoint = record { 0 = 0 }; call = Calls.Request 0 1 (record { a = 9; b = 0; c = 0; d = 0 }) }
           ∷ [];
       steps = [];
-    }
-
-abbrev pub message_0_1 : Message
-message_0_1 =
-    record {
-      serial = record { source = record { 0 = 0 }; count = 1 };
-      kind = Kind.Request;
-      dest = record { 0 = 1 };
-      tag = record { 0 = 7 };
-      reply_tag = record { 0 = 5 };
-      handler = 1;
-      words = record { a = 9; b = 0; c = 0; d = 0 };
-      about = None;
     }
 
 abbrev pub journal : List Entry

@@ -1,3 +1,4 @@
+pub mod Asked
 pub mod ClientsAndServer
 pub mod PagingOut
 pub mod FailedPageOut

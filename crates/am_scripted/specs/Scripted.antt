@@ -16,15 +16,15 @@ use Rattle.am_scripted.specs.Threads.{scripted_in, scripted_of}
 use Rattle.am_scripted.specs.declared.scripted.ScriptedCluster.TheInside.{Inside}
 
 -- a scenario, and the journal that was made of it
-pub record ScriptedView : Type 0 where
+pub record RunView : Type 0 where
   pub scenario : ScenarioLists
   pub journal : List Entry
 
-abbrev pub view_of : Inside → ScriptedView
+abbrev pub view_of : Inside → RunView
 view_of m = record { scenario = m.scenario.now; journal = m.cluster.journal }
 
 -- its cluster, as callers of a cluster see it
-abbrev pub cluster_of : ScriptedView → ClusterView
+abbrev pub cluster_of : RunView → ClusterView
 cluster_of v = record { layout = layout_of v.scenario; journal = v.journal }
 
 -- how many entries the logs of a cluster hold together at most: those of 256 endpoints and 16 interfaces

@@ -45,9 +45,9 @@ pub struct ScriptedCluster<'a> {
 }
 
 impl<'a> Model for ScriptedCluster<'a> {
-    ghost use Rattle.am_scripted.specs.Scripted.{ScriptedView};
+    ghost use Rattle.am_scripted.specs.Scripted.{RunView};
 
-    ghost Value = { ScriptedView };
+    ghost Value = { RunView };
 
     ghost use Rattle.am_scripted.specs.Scripted.{IsScripted, view_of};
 

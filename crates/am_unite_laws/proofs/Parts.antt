@@ -25,7 +25,7 @@ use Rattle.am_local.proofs.Within.{count_within}
 use Rattle.am_moves.specs.Logs.{kept}
 use Rattle.am_machine.specs.Ends.{setting_in}
 use Rattle.am_machine.specs.Kept.{IsOwn}
-use Rattle.am_machine.specs.Parts.{IsNodePart, is_declared_at}
+use Rattle.am_machine.specs.Parts.{IsNodePart}
 use Rattle.am_machine.specs.Swaps.{IsSwap}
 use Rattle.am_merge.specs.Merged.{merged}
 use Rattle.am_node.specs.declared.NodePart.{NodePart}
@@ -43,8 +43,10 @@ use Rattle.am_crew_laws.proofs.Homes.{any_end}
 use Rattle.am_crew_laws.proofs.Books.{knows}
 use Rattle.am_crew_laws.proofs.Done.{IsDriverAt, iface, log_is}
 use Rattle.am_crew_laws.proofs.Ends.{ends_are_a_phase, in_got}
-use Rattle.am_unite_laws.specs.Ended.{IsPartEnd, end_of}
+use Rattle.am_unite_laws.specs.Ended.{IsPartEnd}
 use Rattle.am_unite_laws.proofs.Disk.{held_at_end}
+use Rattle.am_books.specs.Ends.{end_in}
+use Rattle.am_node.specs.Gathered.{is_declared_at}
 
 -- ---- words on lists
 
@@ -72,7 +74,7 @@ births_are s r end node d k b at =
 
 same_logs : (s : ScenarioLists) (r : RunEnd) (node : NodeId) (p : NodePart) → IsPartEnd s r node p → logs_of_part p ≡ node_lists r node
 same_logs s r node p e =
-    λ i. (ap (map log_of) e.ends' ∙ map_twice end_of log_of (r.nodes node).books) i ++ e.log i ∷ []
+    λ i. (ap (map log_of) e.ends' ∙ map_twice end_in log_of (r.nodes node).books) i ++ e.log i ∷ []
 
 pub same_lists : (s : ScenarioLists) (r : RunEnd) (ps : List NodePart) (a n : ℕ) → length ps ≡ n → ((k : ℕ) (p : NodePart) → slice_get ps k ≡ Some p → (m : ℕ) → m ≡ a + k → IsPartEnd s r (node_at m) p) → all_logs ps ≡ lists_of r (map node_at (range_with_len a n))
 same_lists s r [] a zero all each = refl
@@ -162,13 +164,13 @@ module _ (s : ScenarioLists) (r : RunEnd) (end : IsEnded s r) (node : NodeId) (d
         is_node = e.is_node;
         ends' =
             ap (map (λ (v : EndpointView). setting_in (kept v))) e.ends'
-            ∙ map_twice end_of (λ (v : EndpointView). setting_in (kept v)) (r.nodes node).books
+            ∙ map_twice end_in (λ (v : EndpointView). setting_in (kept v)) (r.nodes node).books
             ∙ sym (map_twice (λ (b : EndBook). b.end.value.settings) setting_by (r.nodes node).books)
             ∙ ap (map setting_by) settings
             ∙ e.declared;
         own =
             subst (AllAre (λ (v : EndpointView). IsOwn (layout_of s) journal (kept v))) (sym e.ends')
-            (all_mapped end_of (λ (v : EndpointView). IsOwn (layout_of s) journal (kept v)) (r.nodes node).books all_own);
+            (all_mapped end_in (λ (v : EndpointView). IsOwn (layout_of s) journal (kept v)) (r.nodes node).books all_own);
         interface =
             record {
               is_node = e.set.is_node;

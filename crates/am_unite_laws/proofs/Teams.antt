@@ -12,7 +12,6 @@ use Rattle.am_model.specs.Layout.{AllAre, node_at}
 use Rattle.am_model.proofs.Alls.{all_push}
 use Rattle.am_local.specs.Together.{ends_of}
 use Rattle.am_journal.specs.View.{receipts}
-use Rattle.am_machine.specs.Parts.{is_declared_at}
 use Rattle.am_node.specs.declared.NodePart.{NodePart}
 use Rattle.am_plan.specs.Shape.{shape}
 use Rattle.am_scenario_types.specs.Lists.{ScenarioLists}
@@ -27,11 +26,13 @@ use Rattle.am_crew_laws.proofs.Passes.{IsIn}
 use Rattle.am_crew_laws.proofs.Homes.{got_in}
 use Rattle.am_crew_laws.proofs.Ends.{in_got, in_map, in_first, in_last}
 use Rattle.am_works.specs.Seats.{setting_by}
-use Rattle.am_unite_laws.specs.Ended.{ArePartEnds, IsPartEnd, end_of}
+use Rattle.am_unite_laws.specs.Ended.{ArePartEnds, IsPartEnd}
 use Rattle.am_unite_laws.specs.Teams.{ArePartsOfTeams, AreTeams, IsPartOfTeam, IsTeam, Team, TeamThread, TeamsEnd, TeamsUnite, all_threads, driven_in, gathered_in, keeper_in, log_in, node_end, node_in, run_of, sent_in, taken_in, worker_of_thread}
 use Rattle.am_unite_laws.proofs.Seated.{IsSeatedTeam, seated_team, teams_gather}
 use Rattle.am_unite_laws.proofs.Threads.{IsFirst, IsNone, first_of, in_team, made_is}
 use Rattle.am_unite_laws.proofs.Unite.{are_a_phase, ends_unite, keep_calls, no_journal}
+use Rattle.am_books.specs.Ends.{end_in}
+use Rattle.am_node.specs.Gathered.{is_declared_at}
 
 -- ---- words on lists
 
@@ -202,7 +203,7 @@ part_end : (s : ScenarioLists) (teams : List Team) (parts : List NodePart) → A
 part_end s teams parts ps k t p at_t at_p =
     record {
       is_node = h.is_node;
-      ends' = h.ends' ∙ ap (λ (n : NodeEnd). map end_of n.books) (sym is);
+      ends' = h.ends' ∙ ap (λ (n : NodeEnd). map end_in n.books) (sym is);
       declared = subst (λ (n : NodeEnd). map setting_by n.keeper.pass.births ≡ filter (is_declared_at (node_at k)) (layout_of s).ends) (sym is) h.declared;
       log = h.log ∙ ap log_in (sym at_t);
       set = h.set;

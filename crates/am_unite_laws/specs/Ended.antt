@@ -5,11 +5,10 @@ use Rattle.std.specs.Global.{Vec}
 use Rattle.am_names.specs.declared.EndpointId.{EndpointId}
 use Rattle.am_names.specs.declared.NodeId.{NodeId}
 use Rattle.am_names.specs.declared.Packet.{Packet}
-use Rattle.am_endpoint.specs.View.{EndpointView}
 use Rattle.am_iface.specs.View.{InterfaceView, own}
 use Rattle.am_journal.specs.View.{receipts}
 use Rattle.am_local.specs.Interface.{home_in}
-use Rattle.am_machine.specs.Parts.{CanUnite, is_declared_at}
+use Rattle.am_machine.specs.Parts.{CanUnite}
 use Rattle.am_merge.specs.Merged.{merged}
 use Rattle.am_model.specs.Layout.{Layout, home, node_at}
 use Rattle.am_node.specs.declared.NodePart.{NodePart}
@@ -19,15 +18,13 @@ use Rattle.am_scenario_types.specs.Lists.{ScenarioLists}
 use Rattle.am_scripts.specs.Scripts.{calls_of}
 use Rattle.am_drain.specs.Follows.{IsGoodPhase}
 use Rattle.am_scripts.specs.Layout.{layout_of}
-use Rattle.am_books.specs.declared.EndBook.{EndBook}
 use Rattle.am_phase.specs.Makers.{Driver, Interface, Thread}
 use Rattle.am_works.specs.Seats.{setting_by}
 use Rattle.am_crew_laws.specs.Ended.{IsAtWork, IsEnded, RunEnd, all_lists}
+use Rattle.am_books.specs.Ends.{end_in}
+use Rattle.am_node.specs.Gathered.{is_declared_at}
 
 -- ---- a part
-
-abbrev pub end_of : EndBook → EndpointView
-end_of b = b.end.value
 
 -- the interface has the settings of the layout's at this node, and its log is within its limit
 pub record IsSetTo (layout : Layout) (node : NodeId) (i : InterfaceView) : Type 0 where
@@ -44,7 +41,7 @@ pub record IsSetTo (layout : Layout) (node : NodeId) (i : InterfaceView) : Type 
 -- how many packets it received
 pub record IsPartEnd (s : ScenarioLists) (r : RunEnd) (node : NodeId) (p : NodePart) : Type 0 where
   pub is_node : p.node ≡ node
-  pub ends' : p.ends.items ≡ map end_of (r.nodes node).books
+  pub ends' : p.ends.items ≡ map end_in (r.nodes node).books
   pub declared : map setting_by (r.nodes node).keeper.pass.births ≡ filter (is_declared_at node) (layout_of s).ends
   pub log : p.iface.log ≡ r.made (Interface node)
   pub set : IsSetTo (layout_of s) node p.iface

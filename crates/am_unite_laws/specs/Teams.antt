@@ -9,7 +9,7 @@ use Rattle.am_office.specs.declared.Entry.{Entry}
 use Rattle.am_device.specs.Memory.{Store}
 use Rattle.am_journal.specs.View.{receipts}
 use Rattle.am_local.specs.Together.{ends_of}
-use Rattle.am_machine.specs.Parts.{CanUnite, is_declared_at}
+use Rattle.am_machine.specs.Parts.{CanUnite}
 use Rattle.am_model.specs.Layout.{AllAre, node_at}
 use Rattle.am_node.specs.declared.NodePart.{NodePart}
 use Rattle.am_node.specs.Parts.{journal_of}
@@ -27,7 +27,9 @@ use Rattle.am_phase.specs.Makers.{Driver, Interface, Maker, Thread}
 use Rattle.am_works.specs.Seats.{EndPass, Ids, setting_by}
 use Rattle.am_works.specs.Works.{Hand, InterfaceWorks, held_from}
 use Rattle.am_crew_laws.specs.Ended.{DriverEnd, InterfaceEnd, IsEnded, IsTakenOut, NodeEnd, RunEnd, ThreadEnd, Worker, whole_pass}
-use Rattle.am_unite_laws.specs.Ended.{IsSetTo, end_of}
+use Rattle.am_unite_laws.specs.Ended.{IsSetTo}
+use Rattle.am_books.specs.Ends.{end_in}
+use Rattle.am_node.specs.Gathered.{is_declared_at}
 
 -- ---- what there is
 
@@ -159,7 +161,7 @@ pub record AreTeams (s : ScenarioLists) (teams : List Team) : Type 0 where
 -- the part has what the team of the node has
 pub record IsPartOfTeam (s : ScenarioLists) (node : NodeId) (t : Team) (p : NodePart) : Type 0 where
   pub is_node : p.node ≡ node
-  pub ends' : p.ends.items ≡ map end_of t.books
+  pub ends' : p.ends.items ≡ map end_in t.books
   pub declared : map setting_by t.driver.births ≡ filter (is_declared_at node) (layout_of s).ends
   pub log : p.iface.log ≡ t.log
   pub set : IsSetTo (layout_of s) node p.iface

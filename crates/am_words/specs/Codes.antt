@@ -1,18 +1,13 @@
 -- A word in the four words of a request: its length, and its bytes with zeros after them.
-use Rattle.std.specs.Prelude.{ℕ, ◌-◌, ◌^◌, ◌<◌, Bool, ◌&&◌, ◌==◌, nat_le, List, ◌++◌, length, take, drop, map, sum, replicate, if◌then◌else◌, Option, Some, None}
-use Rattle.std.specs.List.{list_all}
-use Rattle.std.specs.Int.{w64, to_be_bytes, from_be_bytes}
+use Rattle.std.specs.Prelude.{ℕ, ◌-◌, ◌^◌, ◌<◌, ◌&&◌, nat_le, List, ◌++◌, length, take, drop, map, sum, replicate, if◌then◌else◌, Option, Some, None}
 use Rattle.am_names.specs.declared.Words.{Words}
 use Rattle.am_words.specs.declared.codes.CodedWord.{CodedWord}
 use Rattle.am_words.specs.Texts.{short_words}
+use Rattle.am_pieces.specs.Pieces.{word_at, bytes_in, are_zero}
 
 -- 24 bytes: these, and zeros after them
 abbrev pub padded : List ℕ → List ℕ
 padded word = word ++ replicate (24 - length word) 0
-
--- the word that eight bytes are, the first the greatest
-abbrev pub word_at : List ℕ → ℕ → ℕ
-word_at bytes at = from_be_bytes w64 (drop at bytes)
 
 -- the four words that carry a word
 unfoldable pub code : List ℕ → Words
@@ -22,13 +17,6 @@ code word = record {
   c = word_at (padded word) 8;
   d = word_at (padded word) 16;
 }
-
--- The bytes of the last three words, the first of each the greatest.
-abbrev pub bytes_in : Words → List ℕ
-bytes_in words = to_be_bytes w64 words.b ++ to_be_bytes w64 words.c ++ to_be_bytes w64 words.d
-
-abbrev pub are_zero : List ℕ → Bool
-are_zero bytes = list_all (λ byte. byte == 0) bytes
 
 -- The word that four words carry, if they carry one: the first is its length, 1 to 24, and each byte behind so many is 0.
 unfoldable pub word_in : Words → Option (List ℕ)

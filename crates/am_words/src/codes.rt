@@ -1,7 +1,8 @@
 //! A word in the four words of a request.
 
 ghost use Rattle.std.specs.Prelude.{◌≡◌, ◌<◌, ◌≤◌, ◌^◌, length, sum};
-ghost use Rattle.am_words.specs.Codes.{Fits, code, coded, padded, word_at};
+ghost use Rattle.am_pieces.specs.Pieces.{word_at};
+ghost use Rattle.am_words.specs.Codes.{Fits, code, coded, padded};
 
 use am_names::Words;
 

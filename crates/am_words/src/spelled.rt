@@ -2,7 +2,8 @@
 
 ghost use Rattle.std.specs.Prelude.{◌≡◌, ◌≤◌, IfSome};
 ghost use Rattle.std.specs.Option.{option_map};
-ghost use Rattle.am_words.specs.Codes.{are_zero, bytes_in, word_in};
+ghost use Rattle.am_pieces.specs.Pieces.{are_zero, bytes_in};
+ghost use Rattle.am_words.specs.Codes.{word_in};
 ghost use Rattle.am_words.specs.Spelled.{spelled};
 
 use am_names::Words;

@@ -33,15 +33,15 @@ use Rattle.am_places.specs.declared.board.Known.{Known}
 use Rattle.am_scenario_types.specs.Lists.{ScenarioLists}
 use Rattle.am_wire.specs.declared.receiving.LinkIn.{LinkIn}
 use Rattle.am_wire.specs.declared.sending.LinkOut.{LinkOut}
-use Rattle.am_works.specs.Begins.{ids_of}
+use Rattle.am_works.specs.Begins.{ids_of, IsOpenIn}
 use Rattle.am_works.specs.Drives.{CanDrive, KnowsPlace, LiesSo, line_by}
 use Rattle.am_works.specs.Seats.{EndPass, IsBorn, IsIdle, KnowsNode}
 use Rattle.am_works.specs.Stands.{fresh_pass}
 use Rattle.am_works.specs.Works.{DriverWorks, InterfaceWorks, ThreadWorks}
 use Rattle.am_works.proofs.Begins.{interfaces_begin, threads_begin}
-use Rattle.am_works.proofs.Fresh.{fresh_know}
+use Rattle.am_works.proofs.Fresh.{fresh_know, known_of}
 use Rattle.am_workers.specs.AtWork.{sent_by, sent_on, taken_by, taken_on}
-use Rattle.am_workers.specs.Begins.{AreOfNode, AreUnused, BooksAreHomely, DriversBegin, IsNewDisk, IsNewSeat, IsOpenIn, NewDriversAreAtWork, NewInterfacesAreAtWork, NewThreadsAreAtWork, view_of}
+use Rattle.am_workers.specs.Begins.{AreOfNode, AreUnused, BooksAreHomely, DriversBegin, IsNewDisk, IsNewSeat, NewDriversAreAtWork, NewInterfacesAreAtWork, NewThreadsAreAtWork, view_of}
 
 -- ---- where an endpoint of the packet network begins
 
@@ -93,9 +93,6 @@ fits_nowhere frames k place h =
 
 abbrev pub line_now : EndBook → EndView
 line_now b = line_of b.end.value.settings.id (state_after b.end.value)
-
-abbrev known_of : EndBook → Known Entry
-known_of b = record { seen = tenure 0 b.end.value.log ∷ []; made = []; others = []; inside = false; place = 0 }
 
 record IsBookAt (Holds : EndBook → Type 0) (books : List EndBook) (k : ℕ) (set : EndSettings) : Type 0 where
   pub b : EndBook

@@ -4,7 +4,6 @@ use Rattle.atomic_table.specs.Seated.{TableId}
 use Rattle.atomic_table.specs.declared.shared.Seat.{Seat}
 use Rattle.am_names.specs.declared.EndpointId.{EndpointId}
 use Rattle.am_names.specs.declared.NodeId.{NodeId}
-use Rattle.am_body.specs.declared.settings.EndSettings.{EndSettings}
 use Rattle.am_books.specs.Books.{stands_at}
 use Rattle.am_books.specs.declared.EndBook.{EndBook}
 use Rattle.am_device.specs.Memory.{Store}
@@ -15,16 +14,14 @@ use Rattle.am_scripts.specs.Layout.{layout_of}
 use Rattle.am_iface.specs.Settings.{AreLawful}
 use Rattle.am_iface.specs.View.{own}
 use Rattle.am_local.specs.Together.{IsSet, faults_of}
-use Rattle.am_model.specs.Endpoint.{fresh, is_on_disk}
 use Rattle.am_model.specs.Layout.{AllAre}
-use Rattle.am_moves.specs.Pages.{HoldsBody}
 use Rattle.am_scenario_types.specs.Lists.{ScenarioLists}
 use Rattle.am_scripts.specs.Follows.{is_thread}
 use Rattle.am_turns.specs.Callers.{IsScript}
 use Rattle.am_wire.specs.Links.{emitted, received}
 use Rattle.am_wire.specs.declared.receiving.LinkIn.{LinkIn}
 use Rattle.am_wire.specs.declared.sending.LinkOut.{LinkOut}
-use Rattle.am_works.specs.Begins.{AreFresh, ids_of}
+use Rattle.am_works.specs.Begins.{AreFresh, ids_of, IsOpenIn}
 use Rattle.am_works.specs.Seats.{EndPass}
 use Rattle.am_works.specs.Stands.{fresh_pass}
 use Rattle.am_works.specs.Works.{DriverWorks}
@@ -46,10 +43,6 @@ pub record IsNewSeat (table : TableId) (books : List EndBook) (named : List Endp
 abbrev pub view_of : List EndBook → ℕ → ℕ → ViewLists
 view_of books frames keep =
     record { ends = map (λ (b : EndBook). line_of b.end.value.settings.id (state_after b.end.value)) books; frames = frames; keep = keep; last = None }
-
--- where an endpoint begins on disk, the swap holds the image of the body that it begins with
-abbrev pub IsOpenIn : Store → EndSettings → Type 0
-IsOpenIn swap set = is_on_disk set.place ≡ true → HoldsBody swap set.pool set.id (fresh set.tag set.place).body
 
 -- the disk of a node before its first page call
 pub record IsNewDisk (s : ScenarioLists) (node : NodeId) (books : List EndBook) (swap : Store) : Type 0 where

@@ -4,7 +4,7 @@ use Rattle.am_scripts.specs.Layout.{layout_of}
 use Rattle.am_scripts.proofs.Lawful.{lawful_layout}
 use Rattle.am_machine.specs.View.{Applies}
 use Rattle.am_scripted.specs.Links.{released_in}
-use Rattle.am_scripted.specs.Scripted.{ScriptedView, cluster_of}
+use Rattle.am_scripted.specs.Scripted.{RunView, cluster_of}
 use Rattle.am_scripted.specs.Threads.{scripted_in}
 use Rattle.am_scripted.proofs.Applying.{applies_to, of_layout, short_of, step_called, step_fed, step_of, step_parts}
 use Rattle.am_scripted.proofs.Growing.{goes_from, goes_to, made_small}
@@ -54,7 +54,7 @@ returns-in-Ok-clause-applies c =
     let s = c.self.inside.scenario.now in
     let old = c.self.inside.cluster in
     let new = c.apply.new.self in
-    subst (λ (w : ScriptedView). Applies (cluster_of w) (of_layout s new) c.args.event (Ok c.in-Ok.entry)) c.self.view_is
+    subst (λ (w : RunView). Applies (cluster_of w) (of_layout s new) c.args.event (Ok c.in-Ok.entry)) c.self.view_is
     (applies_to s old new c.args.event (Ok c.in-Ok.entry) c.self.invariant.parts.layout c.in-Ok.ensures)
 
 pub returns-in-Ok-clause-short : goal.returns-in-Ok-clause-short
@@ -70,5 +70,5 @@ returns-in-Err-clause-applies c =
     let s = c.self.inside.scenario.now in
     let old = c.self.inside.cluster in
     let new = c.apply.new.self in
-    subst (λ (w : ScriptedView). Applies (cluster_of w) (of_layout s new) c.args.event (Err c.in-Err.fault)) c.self.view_is
+    subst (λ (w : RunView). Applies (cluster_of w) (of_layout s new) c.args.event (Err c.in-Err.fault)) c.self.view_is
     (applies_to s old new c.args.event (Err c.in-Err.fault) c.self.invariant.parts.layout c.in-Err.ensures)

@@ -8,7 +8,7 @@ use Rattle.am_scripts.specs.Layout.{layout_of}
 use Rattle.am_drain.specs.Rules.{left_to}
 use Rattle.am_drainer.specs.declared.LeftCall.{LeftCall}
 use Rattle.am_drainer.specs.Reads.{call_event, left_of}
-use Rattle.am_scripted.specs.Scripted.{ScriptedView}
+use Rattle.am_scripted.specs.Scripted.{RunView}
 use Rattle.am_scripted.specs.Threads.{Scripted, scripted_in, scripted_of}
 use Rattle.am_scripted.proofs.Leaving.{left_ranged, left_read}
 use Rattle.am_scripted.proofs.scripted.ScriptedClusterMachine.left.Goals as goal
@@ -22,10 +22,10 @@ returns-clause-value c =
     let first = length-map ts scripted_in in
     let later = length-map s.threads (scripted_of s past) in
     let same = ap (λ (l : List Scripted). length l) c.self.invariant.threads in
-    let seen = ap (λ (w : ScriptedView). length w.scenario.threads) c.self.view_is in
+    let seen = ap (λ (w : RunView). length w.scenario.threads) c.self.view_is in
     let less = c.requires in
     let within : c.args.index < length ts = omega (arith, first, later, same, seen, less) in
-    subst (λ (w : ScriptedView). slice_get (map (left_to w.scenario w.journal) w.scenario.threads) c.args.index ≡ Some (option_map left_of c.left_to.result)) c.self.view_is
+    subst (λ (w : RunView). slice_get (map (left_to w.scenario w.journal) w.scenario.threads) c.args.index ≡ Some (option_map left_of c.left_to.result)) c.self.view_is
     (left_read s past (map scripted_in ts) c.args.index (scripted_in one) c.self.invariant.threads (slice_get-map_Some scripted_in ts c.args.index one (index_got ts c.args.index one within ∙ ap Some (sym c.index.ensures)))
     ∙ ap Some (sym c.left_to.ensures))
 
@@ -38,8 +38,8 @@ returns-clause-in_range c =
     let first = length-map ts scripted_in in
     let later = length-map s.threads (scripted_of s past) in
     let same = ap (λ (l : List Scripted). length l) c.self.invariant.threads in
-    let seen = ap (λ (w : ScriptedView). length w.scenario.threads) c.self.view_is in
+    let seen = ap (λ (w : RunView). length w.scenario.threads) c.self.view_is in
     let less = c.requires in
     let within : c.args.index < length ts = omega (arith, first, later, same, seen, less) in
-    subst (λ (w : ScriptedView). IfSome c.left_to.result (λ (l : LeftCall). is_in_range (layout_of w.scenario) (call_event l.call) ≡ true)) c.self.view_is
+    subst (λ (w : RunView). IfSome c.left_to.result (λ (l : LeftCall). is_in_range (layout_of w.scenario) (call_event l.call) ≡ true)) c.self.view_is
     (left_ranged s past (map scripted_in ts) c.args.index (scripted_in one) c.left_to.result c.self.invariant.parts.lawful c.self.invariant.threads (slice_get-map_Some scripted_in ts c.args.index one (index_got ts c.args.index one within ∙ ap Some (sym c.index.ensures))) c.left_to.ensures)
