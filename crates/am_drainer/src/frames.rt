@@ -12,7 +12,7 @@ ghost use Rattle.std.specs.Prelude.{◌≡◌, ◌<◌, ◌&&◌, true, not, is_
 
 use crate::pages::{apply_if, off_disk};
 use crate::{EndHead, Machine};
-use am_model::{EntryFault, Head, Head, is_in_a_frame, is_on_disk, is_on_host};
+use am_model::{EntryFault, Head, is_in_a_frame, is_on_disk, is_on_host};
 use am_names::{EndpointId, NodeId};
 use am_office::Event;
 

@@ -14,11 +14,11 @@ use Rattle.am_office.specs.declared.Entry.{Entry}
 use Rattle.am_block.specs.Pools.{without}
 use Rattle.am_block.specs.declared.Slot.{Slot}
 use Rattle.am_body.specs.Flights.{slot_of}
-use Rattle.am_endpoint.specs.Flights.{settled_by, settled_in}
 use Rattle.am_endpoint.specs.View.{EndpointView, state_after, state_by}
 use Rattle.am_model.specs.History.{decided}
 use Rattle.am_model.specs.declared.Flying.{Flying}
 use Rattle.am_iface.specs.With.{Lands, flights_without, slots_without}
+use Rattle.am_model.specs.Changes.{settled_in, settled_by}
 
 -- the slot of the message that is settled is out
 pub landed : (settled : Option Serial) (serial : Serial) (flying : List Flying) (slots new : List ℕ) (found : Option Slot) (slot : Slot) → settled ≡ Some serial → option_map (λ (s : Slot). s.0) found ≡ slot_of serial flying slots → found ≡ Some slot → new ≡ without slot.0 slots → new ≡ flights_without settled flying slots

@@ -8,14 +8,13 @@ use Rattle.am_office.specs.declared.Entry.{Entry}
 use Rattle.am_names.specs.declared.Serial.{Serial}
 use Rattle.am_block.specs.Pools.{without}
 use Rattle.am_body.specs.Flights.{slot_of}
-use Rattle.am_endpoint.specs.Flights.{settled_in}
 use Rattle.am_endpoint.specs.View.{EndpointView, state_after}
 use Rattle.am_local.specs.declared.work.Work.{Work}
 use Rattle.am_local.specs.declared.work.Work.TheVariants as Works
 use Rattle.am_names.specs.declared.Message.{Message}
 use Rattle.am_model.specs.declared.Flying.{Flying}
 use Rattle.am_model.specs.declared.Queued.{Queued}
-use Rattle.am_model.specs.Changes.{flying_of}
+use Rattle.am_model.specs.Changes.{flying_of, settled_in}
 use Rattle.am_model.specs.Endpoint.{State, front}
 use Rattle.am_local.specs.Interface.{InterfaceLog, event_of, failing_at, home_in, outcome_at}
 use Rattle.am_iface.specs.declared.Turned.{Turned}

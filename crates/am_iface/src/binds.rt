@@ -23,7 +23,7 @@ use crate::packets::emitted_of;
 use crate::{Interface, Turned, write};
 use am_channel::Ends;
 use am_endpoint::Endpoint;
-use am_model::{EntryFault, Queued, Queued, is_resident};
+use am_model::{EntryFault, Queued, is_resident};
 use am_names::{EndpointId, Message, NodeId};
 use am_office::{Condition, Entry, Part};
 

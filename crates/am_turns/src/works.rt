@@ -18,7 +18,7 @@ use crate::turns::InterfaceTurn;
 use am_books::EndBook;
 use am_endpoint::Endpoint;
 use am_iface::{IfaceSettings, Interface, Work};
-use am_model::{EntryFault, Queued, Queued, is_on_disk};
+use am_model::{EntryFault, Queued, is_on_disk};
 use am_names::{EndpointId, NodeId, Packet};
 use am_office::Place;
 

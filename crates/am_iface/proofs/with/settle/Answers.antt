@@ -1,7 +1,7 @@
-use Rattle.am_endpoint.specs.Flights.{settled_in}
 use Rattle.am_endpoint.specs.View.{state_after}
 use Rattle.am_iface.proofs.Flown.{landed}
 use Rattle.am_iface.proofs.with.settle.Goals as goal
+use Rattle.am_model.specs.Changes.{settled_in}
 
 pub returns-clause-flights : goal.returns-clause-flights
 returns-clause-flights c =
