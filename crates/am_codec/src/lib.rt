@@ -13,6 +13,3 @@ mod writing;
 
 pub use fault::ReadFault;
 pub use lists::BodyLists;
-
-#[cfg(test)]
-mod tests;

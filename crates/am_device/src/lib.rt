@@ -7,6 +7,3 @@ mod swap;
 
 pub use memory_swap::MemorySwap;
 pub use swap::{Swap, SwapFault};
-
-#[cfg(test)]
-mod tests;

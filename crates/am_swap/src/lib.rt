@@ -60,6 +60,3 @@ pub fn decode(
 pub fn damage_is_seen()
     ensures { DamageIsSeen }
 {}
-
-#[cfg(test)]
-mod tests;
