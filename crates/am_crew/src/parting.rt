@@ -1,7 +1,8 @@
 //! The parts of all nodes when their phase is over.
 
 ghost use Rattle.am_crew.specs.Closing.{AreClosed, AreLinkedEnds};
-ghost use Rattle.am_crew.specs.Parting.{ArePartsOf, IsPartOf, emitted_in, end_in};
+ghost use Rattle.am_books.specs.Ends.{end_in};
+ghost use Rattle.am_crew.specs.Parting.{ArePartsOf, IsPartOf, emitted_in};
 ghost use Rattle.am_journal.specs.View as journals;
 ghost use Rattle.am_node.specs.Shells.{AreCounts};
 ghost use Rattle.am_wire.specs.declared.closing.LinkRecord.{LinkRecord};

@@ -22,7 +22,8 @@ use Rattle.am_iface.specs.View.{InterfaceView}
 use Rattle.am_journal.specs.View.{is_receipt, receipts}
 use Rattle.am_journal.proofs.Lists.{index_got}
 use Rattle.am_moves.specs.Logs.{kept}
-use Rattle.am_machine.specs.Ends.{is_of, setting_in, EndLog, settings_by}
+use Rattle.am_moves.specs.Logs.{EndLog}
+use Rattle.am_machine.specs.Ends.{is_of, setting_in, settings_by}
 use Rattle.am_body.specs.declared.settings.EndSettings.{EndSettings}
 use Rattle.am_machine.specs.Interfaces.{AreInterfaces, IsInterface}
 use Rattle.am_machine.specs.Kept.{IsTied}

@@ -14,7 +14,7 @@ use Rattle.am_office.specs.Entries.{emitted_of, is_node, node_touched, touches_n
 use Rattle.am_model.specs.Layout.{AllAre}
 use Rattle.am_model.specs.Channels.{emitted, is_on_link}
 use Rattle.am_model.specs.Merge.{is_ordered}
-use Rattle.am_model.specs.History as model
+use Rattle.am_model.specs.Packets as model
 use Rattle.am_model.proofs.Names.{same_node-refl}
 use Rattle.am_local.proofs.Following.{emitted_stamp, stamp_in}
 use Rattle.am_local.proofs.Growing.{emitted_append}
