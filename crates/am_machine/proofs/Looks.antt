@@ -21,8 +21,7 @@ use Rattle.am_endpoint.specs.View.{EndpointView, state_after}
 use Rattle.am_iface.specs.View.{InterfaceView}
 use Rattle.am_journal.specs.View.{is_receipt, receipts}
 use Rattle.am_journal.proofs.Lists.{index_got}
-use Rattle.am_moves.specs.Logs.{kept}
-use Rattle.am_moves.specs.Logs.{EndLog}
+use Rattle.am_moves.specs.Logs.{EndLog, kept}
 use Rattle.am_machine.specs.Ends.{is_of, setting_in, settings_by}
 use Rattle.am_body.specs.declared.settings.EndSettings.{EndSettings}
 use Rattle.am_machine.specs.Interfaces.{AreInterfaces, IsInterface}
