@@ -10,7 +10,7 @@ pub returns : goal.returns
 returns c =
     let v = c.args.end.now in
     let bytes : c.in-Some.image.now ≡ image (state_after v).body =
-    image_told c.in-Some.image.now (image (state_after v).body) (c.in-Some.ensures ∙ ap (held_for c.args.swap.now.held) c.id.ensures ∙ c.requires.held) in
+    image_told c.in-Some.image.now (image (state_after v).body) (c.in-Some.ensures.bytes ∙ ap (held_for c.args.swap.now.held) c.id.ensures ∙ c.requires.held) in
     let each : FindsEach v.settings.id v.settings.pool c.in-Some.image.now c.in_ok-found.found = coe 0 1 (k. FindsEach (c.id-2.ensures k) (c.pool.ensures k) c.in-Some.image.now c.in_ok-found.found) c.in_ok-found.ensures.each in
     is_found v.settings.id v.settings.pool c.in-Some.image.now (state_after v).body c.in_ok-found.found c.in-Some-found.body bytes c.requires.valid each c.in-Some-found.is
 
@@ -18,6 +18,6 @@ pub unreachable-requires-in_default-found : goal.unreachable-requires-in_default
 unreachable-requires-in_default-found c =
     let v = c.args.end.now in
     let bytes : c.in-Some.image.now ≡ image (state_after v).body =
-    image_told c.in-Some.image.now (image (state_after v).body) (c.in-Some.ensures ∙ ap (held_for c.args.swap.now.held) c.id.ensures ∙ c.requires.held) in
+    image_told c.in-Some.image.now (image (state_after v).body) (c.in-Some.ensures.bytes ∙ ap (held_for c.args.swap.now.held) c.id.ensures ∙ c.requires.held) in
     let each : FindsEach v.settings.id v.settings.pool c.in-Some.image.now c.in_ok-found.found = coe 0 1 (k. FindsEach (c.id-2.ensures k) (c.pool.ensures k) c.in-Some.image.now c.in_ok-found.found) c.in_ok-found.ensures.each in
     never_none v.settings.id v.settings.pool c.in-Some.image.now (state_after v).body c.in_ok-found.found bytes c.requires.valid each c.in_default-found.is
