@@ -5,7 +5,7 @@ use Rattle.std.specs.List.{list_any}
 use Rattle.std.specs.Str.{bytes_eq}
 use Rattle.am_lexer.specs.declared.what.What.{What}
 use Rattle.am_lexer.specs.declared.what.What.TheVariants.{UnknownWord, OutOfRange, Twice, TooMany}
-use Rattle.am_lexer.specs.Fields.{word_at, within, ended}
+use Rattle.am_lexer.specs.Fields.{◌>>=◌, word_at, within, ended}
 use Rattle.am_names.specs.declared.EndpointId.{EndpointId}
 use Rattle.am_names.specs.declared.NodeId.{NodeId}
 use Rattle.am_office.specs.declared.Mask.{Mask}

@@ -11,6 +11,7 @@ use Rattle.am_lines.specs.Settings.{version_line, setting_line}
 use Rattle.am_lines.specs.Declarations.{endpoint_line, bundle_line, thread_line, plan_line, swap_fault_line}
 use Rattle.am_lines.specs.Script.{script_line}
 use Rattle.am_lines.specs.Steps.{outside_line, interface_line, driver_line}
+use Rattle.am_lexer.specs.Fields.{◌>>=◌}
 
 unfoldable pub words_say : Form → Said → Head → List (List ℕ) → Result Line What
 words_say form said head.Version words = version_line said words

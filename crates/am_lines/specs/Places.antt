@@ -5,7 +5,7 @@ use Rattle.std.specs.Str.{bytes_eq}
 use Rattle.am_lexer.specs.declared.what.What.{What}
 use Rattle.am_lexer.specs.declared.what.What.TheVariants.{BadNumber, OutOfRange, Undeclared}
 use Rattle.am_lexer.specs.Text.{number_of}
-use Rattle.am_lexer.specs.Fields.{or_else, word_at, number_at}
+use Rattle.am_lexer.specs.Fields.{◌>>=◌, or_else, word_at, number_at}
 use Rattle.am_names.specs.declared.EndpointId.{EndpointId}
 use Rattle.am_names.specs.declared.NodeId.{NodeId}
 use Rattle.am_names.specs.declared.Tag.{Tag}

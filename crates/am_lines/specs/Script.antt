@@ -3,7 +3,7 @@ use Rattle.std.specs.Prelude.{ℕ, ◌+◌, nat_lt, nat_le, List, length, codes,
 use Rattle.std.specs.Str.{bytes_eq}
 use Rattle.am_lexer.specs.declared.what.What.{What}
 use Rattle.am_lexer.specs.declared.what.What.TheVariants.{Undeclared, TooMany}
-use Rattle.am_lexer.specs.Fields.{or_else, word_at, ended}
+use Rattle.am_lexer.specs.Fields.{◌>>=◌, or_else, word_at, ended}
 use Rattle.am_names.specs.declared.EndpointId.{EndpointId}
 use Rattle.am_office.specs.declared.Call.{Call}
 use Rattle.am_bundle.specs.Calls.{poll_calls, test_calls}

@@ -4,7 +4,7 @@ use Rattle.std.specs.Option.{is_some}
 use Rattle.std.specs.Str.{bytes_eq}
 use Rattle.am_lexer.specs.declared.what.What.{What}
 use Rattle.am_lexer.specs.declared.what.What.TheVariants.{UnknownWord, OutOfRange, Twice}
-use Rattle.am_lexer.specs.Fields.{word_at, within, ended}
+use Rattle.am_lexer.specs.Fields.{◌>>=◌, word_at, within, ended}
 use Rattle.am_scenario_types.specs.declared.parts.Form.{Form}
 use Rattle.am_scenario_types.specs.declared.parts.Form.TheVariants.{Step, Run}
 use Rattle.am_scenario_types.specs.declared.parts.Network.{Network}

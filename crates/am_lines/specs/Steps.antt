@@ -3,7 +3,7 @@ use Rattle.std.specs.Prelude.{ℕ, nat_lt, List, length, codes, if◌then◌else
 use Rattle.std.specs.Str.{bytes_eq}
 use Rattle.am_lexer.specs.declared.what.What.{What}
 use Rattle.am_lexer.specs.declared.what.What.TheVariants.{UnknownWord, OutOfRange, TooMany}
-use Rattle.am_lexer.specs.Fields.{word_at, within, ended}
+use Rattle.am_lexer.specs.Fields.{◌>>=◌, word_at, within, ended}
 use Rattle.am_names.specs.declared.NodeId.{NodeId}
 use Rattle.am_office.specs.declared.Actor.TheVariants.{Outside}
 use Rattle.am_office.specs.declared.Event.{Event}

@@ -89,8 +89,8 @@ pub moved_nodes : (layout : Layout) (event : Event) (end : EndpointId) → layou
 moved_nodes layout (Events.Drain at e) end few range is = tt
 moved_nodes layout (Events.Unload at e) end few range is = tt
 moved_nodes layout (Events.Load at e frame) end few range is = tt
-moved_nodes layout (Events.PageOut at e) end few range is = tt
-moved_nodes layout (Events.PageIn at e) end few range is = tt
+moved_nodes layout (Events.PageOut at e) end few range is = let below = node_below layout (Events.PageOut at e) at range refl in omega (arith, few, below)
+moved_nodes layout (Events.PageIn at e) end few range is = let below = node_below layout (Events.PageIn at e) at range refl in omega (arith, few, below)
 moved_nodes layout event end few range is = absurd (cc)
 
 -- ---- what keeps a move from being made

@@ -69,6 +69,8 @@ event_nodes layout (Events.Receive node peer number) few h =
     let a = ltb-true node.0 layout.nodes nodes.0 in
     let b = ltb-true peer.0 layout.nodes nodes.1 in
     (omega (arith, a, few), omega (arith, b, few))
+event_nodes layout (Events.PageOut node end) few h = let a = ltb-true node.0 layout.nodes (and_parts (declared layout end) _ h).1 in omega (arith, a, few)
+event_nodes layout (Events.PageIn node end) few h = let a = ltb-true node.0 layout.nodes (and_parts (declared layout end) _ h).1 in omega (arith, a, few)
 event_nodes layout event few h = tt
 
 entry_within : (layout : Layout) (past : List Entry) (x : Entry) → IsLawful layout → MayFollow layout past x → GoesWithin x

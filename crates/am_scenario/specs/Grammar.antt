@@ -4,7 +4,7 @@ use Rattle.std.specs.Option.{unwrap_or, option_to_list}
 use Rattle.am_lexer.specs.declared.what.What.{What}
 use Rattle.am_lexer.specs.declared.what.What.TheVariants.{Missing}
 use Rattle.am_lexer.specs.Text.{lines_of}
-use Rattle.am_lexer.specs.Fields.{or_else}
+use Rattle.am_lexer.specs.Fields.{◌>>=◌, or_else}
 use Rattle.am_scenario_types.specs.declared.parts.Form.{Form}
 use Rattle.am_scenario_types.specs.declared.parts.EndLine.{EndLine}
 use Rattle.am_scenario_types.specs.declared.parts.ThreadLine.{ThreadLine}

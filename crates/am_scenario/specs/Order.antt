@@ -5,7 +5,7 @@ use Rattle.std.specs.List.{slice_index}
 use Rattle.am_lexer.specs.declared.what.What.{What}
 use Rattle.am_lexer.specs.declared.what.What.TheVariants.{UnknownWord, Missing, NotText, OutOfPlace}
 use Rattle.am_lexer.specs.Text.{words_of, is_text_line}
-use Rattle.am_lexer.specs.Fields.{or_else}
+use Rattle.am_lexer.specs.Fields.{◌>>=◌, or_else}
 use Rattle.am_scenario_types.specs.declared.parts.Form.{Form}
 use Rattle.am_draft.specs.Said.{Said, with_line}
 use Rattle.am_lines.specs.declared.head.Head.{Head}

@@ -19,6 +19,7 @@ use Rattle.am_segment.specs.Own.{own_of}
 use Rattle.am_segment.specs.Laid.{Laid, nothing_laid, with_lines, with_ordinary, with_segment}
 use Rattle.am_segment.specs.Saying.{segment_line, transfer_line, serve_line}
 use Rattle.am_segment.specs.Texts.{transfer_lines, serve_lines}
+use Rattle.am_lexer.specs.Fields.{◌>>=◌}
 
 -- The transfer's number is its place among the lines of transfers, from 1.
 abbrev pub with_transfer : ℕ → ℕ → Laid → Sent → Laid

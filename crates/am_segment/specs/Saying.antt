@@ -3,7 +3,7 @@ use Rattle.std.specs.Prelude.{ℕ, ◌+◌, ◌*◌, ◌==◌, nat_le, nat_lt, L
 use Rattle.std.specs.Option.{is_some}
 use Rattle.am_lexer.specs.declared.what.What.{What}
 use Rattle.am_lexer.specs.declared.what.What.TheVariants.{BadNumber, OutOfRange, Undeclared, Twice, TooMany, OutOfPlace}
-use Rattle.am_lexer.specs.Fields.{or_else, word_at, number_at, within, ended}
+use Rattle.am_lexer.specs.Fields.{◌>>=◌, or_else, word_at, number_at, within, ended}
 use Rattle.am_names.specs.declared.EndpointId.{EndpointId}
 use Rattle.am_pieces.specs.declared.segment.SegmentLine.{SegmentLine}
 use Rattle.am_pieces.specs.Lists.{TransferLists}

@@ -5,7 +5,7 @@ use Rattle.std.specs.Str.{bytes_eq}
 use Rattle.am_lexer.specs.declared.what.What.{What}
 use Rattle.am_lexer.specs.declared.what.What.TheVariants.{UnknownWord, Missing, NotText, OutOfPlace, Twice, TooMany}
 use Rattle.am_lexer.specs.Text.{lines_of, words_of, is_text_line}
-use Rattle.am_lexer.specs.Fields.{or_else, word_at, within, ended}
+use Rattle.am_lexer.specs.Fields.{◌>>=◌, or_else, word_at, within, ended}
 use Rattle.am_restart.specs.declared.events.Say.{Say}
 use Rattle.am_restart.specs.declared.events.Say.TheVariants as Says
 use Rattle.am_restart.specs.declared.events.SessionEvent.{SessionEvent}

@@ -19,10 +19,10 @@ log-requires-clause-room c =
     let w = c.args.work.now in
     let s : State = fresh (record { 0 = 0 }) Host in
     turning.out_has_room c.room_to.new.self i s w c.in-Ok.turned.entry c.in-Ok.turned.out c.emits_to-to.result
-    (subst (GoesTo (own i) s w) (sym c.emits_to-to.ensures) (turning.goes_alone (own i) s w c.requires.alone))
+    (subst (GoesTo (own i) s w) (sym c.emits_to-to.ensures.value) (turning.goes_alone (own i) s w c.requires.alone))
     (turning.enabled_by i s w c.in-Ok.turned c.turn_alone.result c.in-Ok.is (λ k. (c.turn_alone.ensures.disabled s k).1))
     c.requires.can.nodes.0
-    (subst (λ (o : Option NodeId). IfSome o (λ (n : NodeId). n.0 < 16)) (sym c.emits_to-to.ensures) (turning.emits_within i w c.requires.can.fits c.requires.can.nodes.1))
+    (subst (λ (o : Option NodeId). IfSome o (λ (n : NodeId). n.0 < 16)) (sym c.emits_to-to.ensures.value) (turning.emits_within i w c.requires.can.fits c.requires.can.nodes.1))
     (turning.ready_from c.room_to.new.self c.node.result i.settings.node c.emits_to-to.result c.node.ensures
     (turning.ok_then c.room_to.result _ (sym c.is_err.ensures.value ∙ c.if-is_err.false) c.room_to.ensures.link))
     c.in-Ok.ensures.out c.in-Ok.ensures.event (c.in-Ok.ensures.outcome s)
