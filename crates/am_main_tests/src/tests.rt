@@ -1,7 +1,7 @@
 use crate::answers::{SOUND, answer_of, words_of};
 use crate::scripts;
 use crate::tables::{Device, PATH, PATH_REPORT};
-use crate::texts::{CHECKS, CONDITIONS, COUNTS, IDLE, NO_FORMS, RUNS, Row, STEPS};
+use crate::texts::{CHECKS, CONDITIONS, COUNTS, DIRECT, FAULTS, IDLE, NO_FORMS, PACKET, RUNS, Row};
 use am_main::{Command, StepFault, command_of, step_text};
 use am_office::Condition;
 use std::alloc::{AllocError, Global};
@@ -29,18 +29,44 @@ fn first_other<R: Threads + Sync>(
 }
 
 #[test]
-fn each_text_is_answered(rt: HostRuntime) -> Result<(), Fail> {
-    for (line, rows) in [
-        ("step", STEPS.as_slice()),
-        ("step", CONDITIONS.as_slice()),
-        ("run", RUNS.as_slice()),
-        ("check step", CHECKS.as_slice()),
-    ] {
-        assert!(rt;
-            first_other(&rt, rt.alloc(), line, rows)?.is_none(),
-            "{line}"
-        );
-    }
+fn each_direct_script_is_answered(rt: HostRuntime) -> Result<(), Fail> {
+    let other = first_other(&rt, rt.alloc(), "step", DIRECT.as_slice())?;
+    assert!(rt; other.is_none());
+    Ok(())
+}
+
+#[test]
+fn each_fault_of_a_text_is_named(rt: HostRuntime) -> Result<(), Fail> {
+    let other = first_other(&rt, rt.alloc(), "step", FAULTS.as_slice())?;
+    assert!(rt; other.is_none());
+    Ok(())
+}
+
+#[test]
+fn each_packet_script_is_answered(rt: HostRuntime) -> Result<(), Fail> {
+    let other = first_other(&rt, rt.alloc(), "step", PACKET.as_slice())?;
+    assert!(rt; other.is_none());
+    Ok(())
+}
+
+#[test]
+fn each_condition_is_told(rt: HostRuntime) -> Result<(), Fail> {
+    let other = first_other(&rt, rt.alloc(), "step", CONDITIONS.as_slice())?;
+    assert!(rt; other.is_none());
+    Ok(())
+}
+
+#[test]
+fn each_run_is_answered(rt: HostRuntime) -> Result<(), Fail> {
+    let other = first_other(&rt, rt.alloc(), "run", RUNS.as_slice())?;
+    assert!(rt; other.is_none());
+    Ok(())
+}
+
+#[test]
+fn each_report_is_checked(rt: HostRuntime) -> Result<(), Fail> {
+    let other = first_other(&rt, rt.alloc(), "check step", CHECKS.as_slice())?;
+    assert!(rt; other.is_none());
     Ok(())
 }
 
@@ -69,20 +95,28 @@ fn long_texts_are_not_read_to_their_end(rt: HostRuntime) -> Result<(), Fail> {
     Ok(())
 }
 
+fn is_report(told: &Result<Vec<u8>, StepFault>) -> bool {
+    match told {
+        Ok(text) => text.as_slice() == PATH_REPORT.as_bytes(),
+        Err(_fault) => false,
+    }
+}
+
+fn is_idle(told: &Result<Vec<u8>, StepFault>) -> bool {
+    match told {
+        Err(StepFault::NotEnabled { line, condition }) => {
+            *line == 5 && *condition == Condition::NoMessage
+        }
+        _other => false,
+    }
+}
+
 #[test]
 fn a_text_without_a_sink(rt: HostRuntime) {
     let path = step_text(rt.alloc(), PATH.as_bytes());
-    assert!(rt; matches!(path, Ok(text) if text.as_slice() == PATH_REPORT.as_bytes()));
+    assert!(rt; is_report(&path));
     let idle = step_text(rt.alloc(), IDLE.as_bytes());
-    assert!(rt;
-        matches!(
-            idle,
-            Err(StepFault::NotEnabled {
-                line: 5,
-                condition: Condition::NoMessage
-            })
-        )
-    );
+    assert!(rt; is_idle(&idle));
 }
 
 // The scenario with each of 4096 packets late by 16 emissions.

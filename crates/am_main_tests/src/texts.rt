@@ -25,8 +25,8 @@ const LOADED: &str = "am2 1\nnetwork direct\nnodes 1\nendpoint 0 0 5\nx poll 0\n
 const THREADS: &str =
     "am2 1\nnetwork packet\nnodes 1\nthread 0 0\nthread 1 0\nthread 2 0\nthread 3 0\nthread 4 0\n";
 
-/// Under `step`.
-pub static STEPS: [Row; 48] = [
+/// Under `step`, on the direct network.
+pub static DIRECT: [Row; 17] = [
     (EMPTY, "", 0, EMPTY_REPORT),
     (PATH, "", 0, PATH_REPORT),
     (FULL, "", 6, "log full e0\n"),
@@ -54,6 +54,10 @@ pub static STEPS: [Row; 48] = [
         3,
         "refused line 45 not-enabled no-message\n",
     ),
+];
+
+/// Under `step`: the first fault of a text.
+pub static FAULTS: [Row; 11] = [
     ("", "", 3, "refused line 1 missing\n"),
     (
         "am2 1\nnetwork direct\nnodes 17\n",
@@ -90,6 +94,10 @@ pub static STEPS: [Row; 48] = [
         "refused line 5 out-of-place\n",
     ),
     (THREADS, "", 3, "refused line 8 too-many\n"),
+];
+
+/// Under `step`, on the packet network.
+pub static PACKET: [Row; 20] = [
     (
         packet::LOST_ACKNOWLEDGEMENT,
         "",
