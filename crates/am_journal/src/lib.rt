@@ -108,14 +108,14 @@ impl JournalIndex {
 
     /// Reads an entry, and the packet that it emits, for which there is room: of whichever entries it was the index, it is now
     /// that of these and the new one.
-    pub fn log(&mut self, entry: Entry, packet: Option<Packet>)
-        requires packet { packet ≡ emitted_of entry }
+    pub fn log(&mut self, entry: &Entry, packet: Option<Packet>)
+        requires packet { packet ≡ emitted_of entry.now }
         requires counts { CanCount self.old.read }
         requires room { HasRoomFor self.old packet }
-        requires nodes { AreNodes entry.event }
-        ensures { (past : List Entry) → IsIndexOf past self.old.read → IsIndexOf (past ++ entry ∷ []) self.new.read }
+        requires nodes { AreNodes entry.now.event }
+        ensures { (past : List Entry) → IsIndexOf past self.old.read → IsIndexOf (past ++ entry.now ∷ []) self.new.read }
     {
-        count(&mut self.receipts, receipt_place(entry.event));
+        count(&mut self.receipts, receipt_place(&entry.event));
         deliver(&mut self.packets, packet);
         self.greatest = self.greatest.max(entry.stamp);
     }

@@ -13,11 +13,11 @@ pub(crate) fn link(from: NodeId, to: NodeId) -> usize
 }
 
 /// The place of the link whose packet is received, if one is.
-pub(crate) fn receipt_place(event: Event) -> Option<usize>
-    ensures { result ≡ at.receipt_place event }
+pub(crate) fn receipt_place(event: &Event) -> Option<usize>
+    ensures { result ≡ at.receipt_place event.now }
 {
     match event {
-        Event::Receive { node, peer, .. } => Some(link(peer, node)),
+        Event::Receive { node, peer, .. } => Some(link(*peer, *node)),
         _ => None,
     }
 }

@@ -70,12 +70,12 @@ fn make_room(index: &mut JournalIndex, packet: Option<Packet>) -> Result<(), NoM
 }
 
 /// Reads an entry, with the packet that it emits.
-fn add_entry(index: &mut JournalIndex, entry: Entry) -> Result<(), NoMemory>
-    requires within { GoesWithin entry }
+fn add_entry(index: &mut JournalIndex, entry: &Entry) -> Result<(), NoMemory>
+    requires within { GoesWithin entry.now }
     requires counts { CanCount index.old.read }
-    ensures { OnOk result ((past : List Entry) → IsIndexOf past index.old.read → IsIndexOf (past ++ entry ∷ []) index.new.read) }
+    ensures { OnOk result ((past : List Entry) → IsIndexOf past index.old.read → IsIndexOf (past ++ entry.now ∷ []) index.new.read) }
 {
-    let packet = emitted_of(&entry);
+    let packet = emitted_of(entry);
     make_room(index, packet)?;
     index.log(entry, packet);
     Ok(())
@@ -89,7 +89,7 @@ pub fn index_of(alloc: Global, entries: &[Entry]) -> Result<JournalIndex, NoMemo
 {
     let mut index = JournalIndex::new(alloc)?;
     for entry in entries {
-        add_entry(&mut index, *entry)?;
+        add_entry(&mut index, entry)?;
     }
     Ok(index)
 }
