@@ -1,19 +1,34 @@
 -- Lists and their places.
 use Rattle.std.specs.Prelude.{not}
-use Rattle.std.proofs.Common.{◌≡◌, ℕ, zero, suc, ◌+◌, ◌<◌, ◌≤◌, Bool, true, false, cond, ◌||◌, List, [], ◌∷◌, ◌++◌, length, take, Option, Some, None, refl, sym, ap, ◌∙◌, arith, ltb, ltb-true}
+use Rattle.std.proofs.Common.{◌≡◌, ℕ, zero, suc, ◌+◌, ◌<◌, ◌≤◌, Bool, true, false, cond, ◌||◌, List, [], ◌∷◌, ◌++◌, length, map, take, drop, Option, Some, None, refl, sym, ap, ◌∙◌, arith, ltb, ltb-true}
 use Rattle.std.specs.List.{list_any, position, position_or_len, remove}
 use Rattle.std.proofs.lemmas.Bool.{lt-ltb}
 use Rattle.std.proofs.lemmas.Grind.{common_steps}
-use Rattle.std.proofs.lemmas.List.{take-append-le}
+use Rattle.std.proofs.lemmas.List.{append_assoc, length-map, length-take-le}
+use Rattle.std.proofs.Math.Seq.{take-append_seam}
 use Rattle.am_model.specs.Choice.{without_first}
 use Rattle.am_model.proofs.Lists.{without_first-position}
 
--- what is left of the first places, where the one at a place went to the end of all
-pub take-removed : {X : Type 0} (xs : List X) (n a : ℕ) (y : X) → a ≤ n → suc n ≤ length xs → take n (remove xs a ++ y ∷ []) ≡ remove (take (suc n) xs) a
-take-removed [] n a y le lt = absurd (omega (arith, lt))
-take-removed (x ∷ xs) n zero y le lt = take-append-le n xs (y ∷ []) (omega (arith, lt))
-take-removed (x ∷ xs) zero (suc a) y le lt = absurd (omega (arith, le))
-take-removed (x ∷ xs) (suc n) (suc a) y le lt = ap (λ ys. x ∷ ys) (take-removed xs n a y (omega (arith, le)) (omega (arith, lt)))
+-- what is left of the first places, where the one at a place went behind those after it
+pub take-rotated : {X : Type 0} (xs ys : List X) (a m k : ℕ) → a + k ≡ suc m → a ≤ m → suc m ≤ length xs → ys ≡ drop 1 (take k (drop a xs)) ++ take 1 (take k (drop a xs)) → take m (take a xs ++ (ys ++ drop k (drop a xs))) ≡ remove (take (suc m) xs) a
+take-rotated [] ys a m k sum le lt is = absurd (omega (arith, lt))
+take-rotated {X} (x ∷ xs) ys zero m k sum le lt is =
+    let whole : k ≡ suc m = omega (arith, sum) in
+    let same : ys ≡ take m xs ++ x ∷ [] = is ∙ ap (λ (j : ℕ). drop 1 (take j (x ∷ xs)) ++ take 1 (take j (x ∷ xs))) whole in
+    let rest : List X = drop k (x ∷ xs) in
+    let size : length (take m xs) ≡ m = length-take-le m xs (omega (arith, lt)) in
+    ap (λ (zs : List X). take m (zs ++ rest)) same
+    ∙ ap (take m) (append_assoc (take m xs) (x ∷ []) rest)
+    ∙ ap (λ (j : ℕ). take j (take m xs ++ (x ∷ rest))) (sym size)
+    ∙ take-append_seam (take m xs) (x ∷ rest)
+take-rotated (x ∷ xs) ys (suc a) zero k sum le lt is = absurd (omega (arith, le))
+take-rotated (x ∷ xs) ys (suc a) (suc m) k sum le lt is = ap (λ zs. x ∷ zs) (take-rotated xs ys a m k (omega (arith, sum)) (omega (arith, le)) (omega (arith, lt)) is)
+
+-- the first elements, where a function was written over each of them and others follow
+pub take-mapped : {X : Type 0} (f : X → X) (n : ℕ) (xs ys rest : List X) → n ≤ length xs → ys ≡ map f (take n xs) → take n (ys ++ rest) ≡ map f (take n xs)
+take-mapped f n xs ys rest few is =
+    let size : length ys ≡ n = ap length is ∙ length-map (take n xs) f ∙ length-take-le n xs few in
+    ap (λ (j : ℕ). take j (ys ++ rest)) (sym size) ∙ take-append_seam ys rest ∙ is
 
 -- whether an element passes, by the place of the first that does
 pub any-place : {X : Type 0} (p : X → Bool) (xs : List X) → list_any p xs ≡ ltb (position_or_len p xs) (length xs)

@@ -79,16 +79,17 @@ impl Records {
         requires { place < length self.old }
         ensures { self.new ≡ remove self.old place }
     {
-        let left = self.count - 1;
-        self.places[place..].rotate_left(1);
-        self.count = left;
+        let count = self.count;
+        self.places[place..count].rotate_left(1);
+        self.count = count - 1;
     }
 
     /// Marks the record of a request as arrived.
     pub(crate) fn mark_arrived(&mut self, request: Serial)
         ensures { self.new ≡ map (arrived request) self.old }
     {
-        mark(&mut self.places, request);
+        let count = self.count;
+        mark(&mut self.places[..count], request);
     }
 }
 
