@@ -1,6 +1,6 @@
 //! The words that a line is put together from.
 
-ghost use Rattle.std.specs.Prelude.{◌≡◌, ◌++◌, OnOk, codes, map};
+ghost use Rattle.std.specs.Prelude.{◌≡◌, ◌<◌, ◌∷◌, ◌++◌, OnOk, codes, map};
 ghost use Rattle.std.specs.Fmt.{decimal};
 ghost use Rattle.am_text.specs.declared.pieces.Piece.TheVariants as Pieces;
 ghost use Rattle.am_text.specs.Words as text;
@@ -41,6 +41,80 @@ fn put_bytes(out: &mut Vec<u8>, bytes: &[u8]) -> Result<(), AllocError>
     out.extend_from_slice(bytes)
 }
 
+// Appends a byte and a text.
+#[tactic(auto, using(crate::proofs::Extended::extension))]
+fn put_text_after(out: &mut Vec<u8>, lead: u8, text: &str) -> Result<(), AllocError>
+    ensures ok { OnOk result (out.new.items ≡ out.old.items ++ lead ∷ text.now) }
+    ensures kept { Extends out.old.items out.new.items }
+{
+    out.reserve(text.len() + 1)?;
+    out.push_reserved(lead);
+    out.extend_from_slice(text.as_bytes())
+}
+
+// Appends a byte and a number of one digit.
+#[tactic(auto, using(crate::proofs::Extended::extension, std::proofs::lemmas::Fmt::decimal_digit))]
+#[inline]
+fn put_digit_after(out: &mut Vec<u8>, lead: u8, number: u64) -> Result<(), AllocError>
+    requires { number < 10 }
+    ensures ok { OnOk result (out.new.items ≡ out.old.items ++ lead ∷ decimal number) }
+    ensures kept { Extends out.old.items out.new.items }
+{
+    out.reserve(2)?;
+    out.push_reserved(lead);
+    out.push_reserved(b'0' + number as u8);
+    Ok(())
+}
+
+// Appends a byte and a number.
+fn put_number_after(out: &mut Vec<u8>, lead: u8, number: u64) -> Result<(), AllocError>
+    ensures ok { OnOk result (out.new.items ≡ out.old.items ++ lead ∷ decimal number) }
+    ensures kept { Extends out.old.items out.new.items }
+{
+    if number < 10 {
+        return put_digit_after(out, lead, number);
+    }
+    let mut buffer = Buffer::new();
+    put_text_after(out, lead, buffer.format(number))
+}
+
+// Appends a space and a serial.
+#[tactic(auto, using(crate::proofs::Extended::extension), unfolding(crate::specs::Words::serial))]
+fn put_spaced_serial(out: &mut Vec<u8>, serial: Serial) -> Result<(), AllocError>
+    ensures ok { OnOk result (out.new.items ≡ out.old.items ++ codes " " ++ text.serial serial) }
+    ensures kept { Extends out.old.items out.new.items }
+{
+    put_number_after(out, b' ', u64::from(serial.source.0))?;
+    put_number_after(out, b'.', u64::from(serial.count))
+}
+
+// Appends a space and a tag.
+#[tactic(auto, unfolding(crate::specs::Words::tag))]
+fn put_spaced_tag(out: &mut Vec<u8>, tag: Tag) -> Result<(), AllocError>
+    ensures ok { OnOk result (out.new.items ≡ out.old.items ++ codes " " ++ text.tag tag) }
+    ensures kept { Extends out.old.items out.new.items }
+{
+    match tag {
+        Tag::NONE => put_bytes(out, b" none"),
+        Tag::ALL => put_bytes(out, b" all"),
+        Tag(number) => put_number_after(out, b' ', number),
+    }
+}
+
+// Appends a space and a word.
+#[inline]
+fn put_spaced_word(out: &mut Vec<u8>, word: Piece) -> Result<(), AllocError>
+    ensures ok { OnOk result (out.new.items ≡ out.old.items ++ codes " " ++ word_of word) }
+    ensures kept { Extends out.old.items out.new.items }
+{
+    match word {
+        Piece::Text(text) => put_text_after(out, b' ', text),
+        Piece::Number(number) => put_number_after(out, b' ', number),
+        Piece::Serial(serial) => put_spaced_serial(out, serial),
+        Piece::Tag(tag) => put_spaced_tag(out, tag),
+    }
+}
+
 fn put_number(out: &mut Vec<u8>, number: u64) -> Result<(), AllocError>
     ensures ok { OnOk result (out.new.items ≡ out.old.items ++ decimal number) }
     ensures kept { Extends out.old.items out.new.items }
@@ -55,8 +129,7 @@ fn put_serial(out: &mut Vec<u8>, serial: Serial) -> Result<(), AllocError>
     ensures kept { Extends out.old.items out.new.items }
 {
     put_number(out, u64::from(serial.source.0))?;
-    put_bytes(out, b".")?;
-    put_number(out, u64::from(serial.count))
+    put_number_after(out, b'.', u64::from(serial.count))
 }
 
 #[tactic(auto, unfolding(crate::specs::Words::tag))]
@@ -101,8 +174,7 @@ pub fn put_spaced(out: &mut Vec<u8>, words: &[Piece]) -> Result<(), AllocError>
     ensures kept { Extends out.old.items out.new.items }
 {
     for word in words {
-        put_bytes(out, b" ")?;
-        put_word(out, *word)?;
+        put_spaced_word(out, *word)?;
     }
     Ok(())
 }
