@@ -39,12 +39,12 @@ unfolding spaced
 spaced_push ws w = spaced_append ws (w ∷ []) ∙ ap (λ (x : List ℕ). spaced ws ++ x) (append-nil (codes " " ++ w)) ∙ sym (append_assoc (spaced ws) (codes " ") w)
 
 -- the word of one item more
-pub next_word : {X : Type 0} (f : X → Word) (xs : List X) (i : ℕ) (d : X) (out mid space new : List ℕ) → i < length xs → mid ≡ out ++ spaced (map f (take i xs)) → space ≡ mid ++ codes " " → new ≡ space ++ f (get_or xs i d) → new ≡ out ++ spaced (map f (take (i + 1) xs))
-next_word {X} f xs i d out mid space new below e1 e2 e3 =
+pub next_word : {X : Type 0} (f : X → Word) (xs : List X) (i : ℕ) (d : X) (out mid new : List ℕ) → i < length xs → mid ≡ out ++ spaced (map f (take i xs)) → new ≡ mid ++ codes " " ++ f (get_or xs i d) → new ≡ out ++ spaced (map f (take (i + 1) xs))
+next_word {X} f xs i d out mid new below e1 e2 =
     let words : List Word = map f (take i xs) in
     let word : Word = f (get_or xs i d) in
     let taken : map f (take (i + 1) xs) ≡ words ++ word ∷ [] = rw (add-one, take-suc xs i d below) (map_push f (take i xs) (get_or xs i d)) in
     let grown : spaced (map f (take (i + 1) xs)) ≡ spaced words ++ codes " " ++ word = ap spaced taken ∙ spaced_push words word in
-    e3 ∙ ap (λ (l : List ℕ). l ++ word) (e2 ∙ ap (λ (l : List ℕ). l ++ codes " ") e1) ∙ ap (λ (l : List ℕ). l ++ word) (append_assoc out (spaced words) (codes " ")) ∙ append_assoc out (spaced words ++ codes " ") word ∙ ap (λ (l : List ℕ). out ++ l) (sym grown)
+    e2 ∙ ap (λ (l : List ℕ). l ++ codes " " ++ word) e1 ∙ ap (λ (l : List ℕ). l ++ word) (append_assoc out (spaced words) (codes " ")) ∙ append_assoc out (spaced words ++ codes " ") word ∙ ap (λ (l : List ℕ). out ++ l) (sym grown)
 
 pub ruleset extension = (append_assoc, extends_same, extends_append, extends_through, spaced_append)

@@ -1,6 +1,10 @@
 //! The words that a line is put together from.
+//!
+//! Most calls give a list whose texts are known there. So what stands between such a call and the bytes is inlined: then
+//! no list, no loop over it and no copy of unknown length is left, and a text is a store or two. A number of two or more
+//! digits is a call.
 
-ghost use Rattle.std.specs.Prelude.{◌≡◌, ◌++◌, OnOk, codes, map};
+ghost use Rattle.std.specs.Prelude.{◌≡◌, ◌<◌, ◌∷◌, ◌++◌, OnOk, codes, map};
 ghost use Rattle.std.specs.Fmt.{decimal};
 ghost use Rattle.am_text.specs.declared.pieces.Piece.TheVariants as Pieces;
 ghost use Rattle.am_text.specs.Words as text;
@@ -34,6 +38,7 @@ pub fn count(number: u32) -> Piece
 }
 
 #[tactic(auto, using(crate::proofs::Extended::extension))]
+#[inline(always)]
 fn put_bytes(out: &mut Vec<u8>, bytes: &[u8]) -> Result<(), AllocError>
     ensures ok { OnOk result (out.new.items ≡ out.old.items ++ bytes.now) }
     ensures kept { Extends out.old.items out.new.items }
@@ -41,10 +46,110 @@ fn put_bytes(out: &mut Vec<u8>, bytes: &[u8]) -> Result<(), AllocError>
     out.extend_from_slice(bytes)
 }
 
+// Appends a byte and a text.
+#[tactic(auto, using(crate::proofs::Extended::extension))]
+#[inline(always)]
+fn put_text_after(out: &mut Vec<u8>, lead: u8, text: &str) -> Result<(), AllocError>
+    ensures ok { OnOk result (out.new.items ≡ out.old.items ++ lead ∷ text.now) }
+    ensures kept { Extends out.old.items out.new.items }
+{
+    out.reserve(text.len() + 1)?;
+    out.push_reserved(lead);
+    out.extend_from_slice(text.as_bytes())
+}
+
+// Appends a byte and a number of one digit.
+#[tactic(auto, using(crate::proofs::Extended::extension, std::proofs::lemmas::Fmt::decimal_digit))]
+#[inline(always)]
+fn put_digit_after(out: &mut Vec<u8>, lead: u8, number: u64) -> Result<(), AllocError>
+    requires { number < 10 }
+    ensures ok { OnOk result (out.new.items ≡ out.old.items ++ lead ∷ decimal number) }
+    ensures kept { Extends out.old.items out.new.items }
+{
+    out.reserve(2)?;
+    out.push_reserved(lead);
+    out.push_reserved(b'0' + number as u8);
+    Ok(())
+}
+
+// Appends a byte and a number, however many digits it has.
+fn put_digits_after(out: &mut Vec<u8>, lead: u8, number: u64) -> Result<(), AllocError>
+    ensures ok { OnOk result (out.new.items ≡ out.old.items ++ lead ∷ decimal number) }
+    ensures kept { Extends out.old.items out.new.items }
+{
+    let mut buffer = Buffer::new();
+    put_text_after(out, lead, buffer.format(number))
+}
+
+// Appends a byte and a number.
+#[inline(always)]
+fn put_number_after(out: &mut Vec<u8>, lead: u8, number: u64) -> Result<(), AllocError>
+    ensures ok { OnOk result (out.new.items ≡ out.old.items ++ lead ∷ decimal number) }
+    ensures kept { Extends out.old.items out.new.items }
+{
+    if number < 10 {
+        return put_digit_after(out, lead, number);
+    }
+    put_digits_after(out, lead, number)
+}
+
+// Appends a space and a serial.
+#[tactic(auto, using(crate::proofs::Extended::extension), unfolding(crate::specs::Words::serial))]
+fn put_spaced_serial(out: &mut Vec<u8>, serial: Serial) -> Result<(), AllocError>
+    ensures ok { OnOk result (out.new.items ≡ out.old.items ++ codes " " ++ text.serial serial) }
+    ensures kept { Extends out.old.items out.new.items }
+{
+    put_number_after(out, b' ', u64::from(serial.source.0))?;
+    put_number_after(out, b'.', u64::from(serial.count))
+}
+
+// Appends a space and a tag.
+#[tactic(auto, unfolding(crate::specs::Words::tag))]
+fn put_spaced_tag(out: &mut Vec<u8>, tag: Tag) -> Result<(), AllocError>
+    ensures ok { OnOk result (out.new.items ≡ out.old.items ++ codes " " ++ text.tag tag) }
+    ensures kept { Extends out.old.items out.new.items }
+{
+    match tag {
+        Tag::NONE => put_bytes(out, b" none"),
+        Tag::ALL => put_bytes(out, b" all"),
+        Tag(number) => put_number_after(out, b' ', number),
+    }
+}
+
+// Appends a space and a word.
+#[inline(always)]
+fn put_spaced_word(out: &mut Vec<u8>, word: Piece) -> Result<(), AllocError>
+    ensures ok { OnOk result (out.new.items ≡ out.old.items ++ codes " " ++ word_of word) }
+    ensures kept { Extends out.old.items out.new.items }
+{
+    match word {
+        Piece::Text(text) => put_text_after(out, b' ', text),
+        Piece::Number(number) => put_number_after(out, b' ', number),
+        Piece::Serial(serial) => put_spaced_serial(out, serial),
+        Piece::Tag(tag) => put_spaced_tag(out, tag),
+    }
+}
+
+// Appends a number of one digit.
+#[tactic(auto, using(crate::proofs::Extended::extension, std::proofs::lemmas::Fmt::decimal_digit))]
+#[inline(always)]
+fn put_digit(out: &mut Vec<u8>, number: u64) -> Result<(), AllocError>
+    requires { number < 10 }
+    ensures ok { OnOk result (out.new.items ≡ out.old.items ++ decimal number) }
+    ensures kept { Extends out.old.items out.new.items }
+{
+    out.reserve(1)?;
+    out.push_reserved(b'0' + number as u8);
+    Ok(())
+}
+
 fn put_number(out: &mut Vec<u8>, number: u64) -> Result<(), AllocError>
     ensures ok { OnOk result (out.new.items ≡ out.old.items ++ decimal number) }
     ensures kept { Extends out.old.items out.new.items }
 {
+    if number < 10 {
+        return put_digit(out, number);
+    }
     let mut buffer = Buffer::new();
     put_bytes(out, buffer.format(number).as_bytes())
 }
@@ -55,8 +160,7 @@ fn put_serial(out: &mut Vec<u8>, serial: Serial) -> Result<(), AllocError>
     ensures kept { Extends out.old.items out.new.items }
 {
     put_number(out, u64::from(serial.source.0))?;
-    put_bytes(out, b".")?;
-    put_number(out, u64::from(serial.count))
+    put_number_after(out, b'.', u64::from(serial.count))
 }
 
 #[tactic(auto, unfolding(crate::specs::Words::tag))]
@@ -72,6 +176,7 @@ fn put_tag(out: &mut Vec<u8>, tag: Tag) -> Result<(), AllocError>
 }
 
 /// Appends a word.
+#[inline(always)]
 pub fn put_word(out: &mut Vec<u8>, word: Piece) -> Result<(), AllocError>
     ensures ok { OnOk result (out.new.items ≡ out.old.items ++ word_of word) }
     ensures kept { Extends out.old.items out.new.items }
@@ -86,6 +191,7 @@ pub fn put_word(out: &mut Vec<u8>, word: Piece) -> Result<(), AllocError>
 
 /// Appends a letter and a number.
 #[tactic(auto, using(crate::proofs::Extended::extension))]
+#[inline(always)]
 pub fn put_numbered(out: &mut Vec<u8>, letter: &str, number: u8) -> Result<(), AllocError>
     ensures ok { OnOk result (out.new.items ≡ out.old.items ++ letter.now ++ decimal number) }
     ensures kept { Extends out.old.items out.new.items }
@@ -96,18 +202,19 @@ pub fn put_numbered(out: &mut Vec<u8>, letter: &str, number: u8) -> Result<(), A
 
 /// Appends each of the words after a space. What was there stays, also after an error.
 #[tactic(auto, using(crate::proofs::Extended::extension))]
+#[inline(always)]
 pub fn put_spaced(out: &mut Vec<u8>, words: &[Piece]) -> Result<(), AllocError>
     ensures ok { OnOk result (out.new.items ≡ out.old.items ++ text.spaced (map word_of words.now)) }
     ensures kept { Extends out.old.items out.new.items }
 {
     for word in words {
-        put_bytes(out, b" ")?;
-        put_word(out, *word)?;
+        put_spaced_word(out, *word)?;
     }
     Ok(())
 }
 
 /// Appends the end of a line.
+#[inline(always)]
 pub fn put_end(out: &mut Vec<u8>) -> Result<(), AllocError>
     ensures ok { OnOk result (out.new.items ≡ out.old.items ++ codes "\n") }
     ensures kept { Extends out.old.items out.new.items }
@@ -117,6 +224,7 @@ pub fn put_end(out: &mut Vec<u8>) -> Result<(), AllocError>
 
 /// Appends a line: its words with one space between them, and its end.
 #[tactic(auto, using(crate::proofs::Extended::extension))]
+#[inline(always)]
 pub fn put_line(out: &mut Vec<u8>, first: &'static str, rest: &[Piece]) -> Result<(), AllocError>
     ensures ok { OnOk result (out.new.items ≡ out.old.items ++ text.line first.now (map word_of rest.now)) }
     ensures kept { Extends out.old.items out.new.items }

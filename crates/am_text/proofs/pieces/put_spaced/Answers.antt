@@ -8,4 +8,4 @@ loop-word-init c = rw (spaced_nil, append-nil c.args.out.now.items)
 
 pub loop-word-preserved : goal.loop-word-preserved
 loop-word-preserved c =
-    next_word word_of _ _ _ _ _ _ _ c.loop-word-test.true c.loop-word.invariant c.in_ok-put_bytes.ensures.ok c.in_ok-put_word.ensures.ok
+    next_word word_of _ _ _ _ _ _ c.loop-word-test.true c.loop-word.invariant c.in_ok-put_spaced_word.ensures.ok
