@@ -1,12 +1,7 @@
 -- Taking the first of the heads again and again gives the journal.
-use Rattle.std.specs.Prelude.{Contains, nat_lt, sum_by, slice_get, IsPermutation}
-use Rattle.std.specs.BinaryHeap.{IsUpperBound}
-use Rattle.std.specs.List.{AllByRecursion}
-use Rattle.std.specs.Ordering.{is_lt, ordering_then}
-use Rattle.std.specs.declared.cmp.Ordering.{Ordering}
-use Rattle.std.specs.declared.cmp.Ordering.TheVariants.{Less, Equal, Greater}
+use Rattle.std.specs.Prelude.{Contains, sum_by, slice_get, IsPermutation}
 use Rattle.std.specs.declared.cmp.Reverse.{Reverse}
-use Rattle.std.proofs.Common.{◌≡◌, ◌⊎◌, inl, inr, ⊎_elim, ℕ, zero, suc, ◌+◌, ◌-◌, ◌<◌, ◌≤◌, ◌==◌, Bool, true, false, cond, Option, Some, None, List, [], ◌∷◌, ◌++◌, length, refl, sym, ap, ◌∙◌, subst, arith, true≢false, ltb-false, eqb-true, eq-eqb}
+use Rattle.std.proofs.Common.{◌≡◌, ◌⊎◌, inl, inr, ⊎_elim, ℕ, zero, suc, ◌+◌, ◌-◌, ◌<◌, ◌≤◌, ◌==◌, Bool, true, false, Option, Some, None, List, [], ◌∷◌, ◌++◌, length, refl, sym, ap, ◌∙◌, subst, arith, true≢false, eqb-true, eq-eqb}
 use Rattle.std.proofs.lemmas.Bool.{and_from, eqb-false}
 use Rattle.std.proofs.lemmas.List.Sorted.{Contains-permutation, IsPermutation-sym, sum_by-IsPermutation}
 use Rattle.std.proofs.lemmas.List.Sums.{sum_by-cons}
@@ -19,16 +14,10 @@ use Rattle.am_merge.specs.Merged.{entries_of, is_same, merged}
 use Rattle.am_merge.proofs.Sorted.{Has, IsEarlier, before_from, earlier, has_contains, same_list}
 use Rattle.am_merge.proofs.Inserting.{has_sorted, sorted_has, sorted_ordered}
 use Rattle.am_join.specs.declared.heads.Head.{Head}
-use Rattle.am_join.specs.Heads.{AreFirst, IsHead, IsLeft, head_cmp, head_of, log_at, next_head, option_reversed}
+use Rattle.am_join.specs.Heads.{AreFirst, IsFirst, IsHead, IsLeft, IsNoLater, head_of, log_at, next_head, option_reversed}
 use Rattle.am_join.specs.Joined.{AreOne, added}
+use Rattle.am_join.proofs.Firsts.{reversed}
 use Rattle.am_join.proofs.Standing.{log_has, added_has, added_keeps, added_new, behind, entry_there, first_or_behind, in_front, last_after, log_rises, none_there, ordered_added, rising_next, some_last, there_entry}
-
-abbrev pub reversed : Head → Reverse Head
-reversed h = record { 0 = h }
-
--- an entry stands no later in a journal than a head
-abbrev pub IsNoLater : ℕ → ℕ → Head → Type 0
-IsNoLater stamp part h = (stamp < h.stamp) ⊎ ((stamp ≡ h.stamp) × (part ≤ h.rank))
 
 -- what was put into the journal so far: in order, and what is not in it is left
 pub record IsReached (logs : List (List Entry)) (heads : List (Reverse Head)) (out : List Entry) : Type 0 where
@@ -65,34 +54,15 @@ shows logs log place h e = by_option (slice_get (log_at logs log) place) refl e
           place' = sym (ap (λ (k : Head). k.place) same);
         }
 
--- a head that is not above another in the heap stands no later
-pub no_later : (h g : Head) → is_lt (head_cmp g h) ≡ false → IsNoLater h.stamp h.rank g
-no_later h g e =
-    by_tests (nat_lt g.stamp h.stamp) refl (g.stamp == h.stamp) refl (nat_lt g.rank h.rank) refl (cond (g.rank == h.rank) Equal Greater)
-    (ordering_then (cond (nat_lt g.log h.log) Less (cond (g.log == h.log) Equal Greater)) (cond (nat_lt g.place h.place) Less (cond (g.place == h.place) Equal Greater)))
-    e
-  where
-    by_tests : (a : Bool) → nat_lt g.stamp h.stamp ≡ a → (b : Bool) → (g.stamp == h.stamp) ≡ b → (c : Bool) → nat_lt g.rank h.rank ≡ c → (o p : Ordering) → is_lt (ordering_then (cond a Less (cond b Equal Greater)) (ordering_then (cond c Less o) p)) ≡ false → IsNoLater h.stamp h.rank g
-    by_tests true less b same c lower o p f = absurd (true≢false f)
-    by_tests false less true same true lower o p f = absurd (true≢false f)
-    by_tests false less true same false lower o p f = inr (sym (eqb-true g.stamp h.stamp same), ltb-false g.rank h.rank lower)
-    by_tests false less false same c lower o p f =
-        inl (let a = ltb-false g.stamp h.stamp less in let b = eqb-false g.stamp h.stamp same in omega (arith, a, b))
-
-each : {X : Type 0} (P : X → Type 0) (xs : List X) (x : X) → AllByRecursion P xs → Contains xs x → P x
-each P [] x all c = absurd (let lt = c.1 in omega (arith, lt))
-each P (y ∷ ys) x all c =
-    ⊎_elim (λ (here : y ≡ x). subst P here all.0) (λ (there : Contains ys x). each P ys x all.1 there) (first_or_behind y ys x c)
-
 -- ---- one entry taken
 
 module _ (logs : List (List Entry)) (heads rest more : List (Reverse Head)) (out : List Entry) (h : Head) (x : Entry) where
-  -- the head on top is taken, and the next of its log put in its place
+  -- the first head is taken, and the next of its log put among the others
   pub record IsTaken : Type 0 where
     pub rising : AllAre IsRising logs
     pub one : AreOne (entries_of logs)
     pub popped : IsPermutation heads (reversed h ∷ rest)
-    pub top : IsUpperBound (λ (a b : Reverse Head). head_cmp b.0 a.0) (reversed h) rest
+    pub top : IsFirst h rest
     pub here : slice_get (log_at logs h.log) h.place ≡ Some x
     pub pushed : IsPermutation (option_reversed (next_head logs h.log (h.place + 1)) ++ rest) more
 
@@ -208,7 +178,7 @@ module _ (logs : List (List Entry)) (heads rest more : List (Reverse Head)) (out
             ⊎_elim
             (λ (a : h.stamp < g.0.stamp). inl (omega (arith, a, same_stamp)))
             (λ (a : (h.stamp ≡ g.0.stamp) × (h.rank ≤ g.0.rank)). inr (sym same_stamp ∙ a.0, omega (arith, a.1, same_part)))
-            (no_later h g.0 (each (λ (y : Reverse Head). is_lt (head_cmp y.0 h) ≡ false) rest g t.top c)))
+            (t.top g c))
             (next_or_rest g among)
 
     heads_now : (g : Reverse Head) → Contains more g → IsHead logs g.0
@@ -291,10 +261,6 @@ module _ (logs : List (List Entry)) (heads rest more : List (Reverse Head)) (out
           let log : length (log_at logs n.log) ≡ length (log_at logs h.log) = ap (λ (k : ℕ). length (log_at logs k)) s.log' in
           let first : sum_by (left_of logs) (reversed n ∷ rest) ≡ left_of logs (reversed n) + sum_by (left_of logs) rest = sum_by-cons (left_of logs) (reversed n) rest in
           omega (arith, within, place, log, first)
-
--- the head that was popped is one
-pub popped_head : (logs : List (List Entry)) (heads rest : List (Reverse Head)) (out : List Entry) (h : Reverse Head) → IsReached logs heads out → IsPermutation heads (h ∷ rest) → IsHead logs h.0
-popped_head logs heads rest out h r p = r.heads' h (Contains-permutation (h ∷ rest) heads h (IsPermutation-sym heads (h ∷ rest) p) (in_front h rest))
 
 -- a head is an entry of its log
 pub head_within : (logs : List (List Entry)) (h : Head) → IsHead logs h → (x : Entry) × (slice_get (log_at logs h.log) h.place ≡ Some x)

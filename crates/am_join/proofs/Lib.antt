@@ -1,4 +1,5 @@
 pub mod Standing
+pub mod Firsts
 pub mod Joining
 pub mod Starting
 pub mod OneJournal

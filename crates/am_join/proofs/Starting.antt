@@ -12,7 +12,8 @@ use Rattle.am_join.specs.Heads.{AreFirst, IsHead, IsLeft, head_of, log_at, next_
 use Rattle.am_join.specs.Joined.{lists_of}
 use Rattle.am_join.proofs.Standing.{behind, first_or_behind, in_front, none_there}
 use Rattle.std.proofs.lemmas.Option.{slice_get_within}
-use Rattle.am_join.proofs.Joining.{head_within, reversed, shows}
+use Rattle.am_join.proofs.Firsts.{reversed}
+use Rattle.am_join.proofs.Joining.{head_within, shows}
 
 -- each is a head, and all entries of the first logs are left
 pub record AreBegun (logs : List (List Entry)) (n : ℕ) (heads : List (Reverse Head)) : Type 0 where

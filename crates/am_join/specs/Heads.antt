@@ -1,5 +1,5 @@
 -- The next entries of logs.
-use Rattle.std.specs.Prelude.{◌≡◌, ℕ, ◌<◌, ◌≤◌, Option, Some, None, List, [], ◌∷◌, Contains, length, slice_get, slice_index_or}
+use Rattle.std.specs.Prelude.{◌≡◌, ◌⊎◌, ℕ, ◌<◌, ◌≤◌, ◌==◌, ◌&&◌, ◌||◌, Bool, Option, Some, None, List, [], ◌∷◌, Contains, length, nat_lt, slice_get, slice_index_or}
 use Rattle.std.specs.BinaryHeap.{IsHeap}
 use Rattle.std.specs.Ordering.{nat_cmp, ordering_then}
 use Rattle.std.specs.declared.cmp.Ordering.{Ordering}
@@ -31,6 +31,23 @@ head_cmp x y = ordering_then (nat_cmp x.stamp y.stamp) (ordering_then (nat_cmp x
 -- a heap in which the least head is on top
 abbrev pub IsLeastFirst : List (Reverse Head) → Type 0
 IsLeastFirst heads = IsHeap (λ (x y : Reverse Head). head_cmp y.0 x.0) heads
+
+-- whether a head stands after another in the journal
+abbrev pub is_later : Head → Head → Bool
+is_later x y = nat_lt y.stamp x.stamp || ((y.stamp == x.stamp) && nat_lt y.rank x.rank)
+
+-- an entry stands no later in the journal than a head
+abbrev pub IsNoLater : ℕ → ℕ → Head → Type 0
+IsNoLater stamp part h = (stamp < h.stamp) ⊎ ((stamp ≡ h.stamp) × (part ≤ h.rank))
+
+-- the head stands no later than any of the others
+abbrev pub IsFirst : Head → List (Reverse Head) → Type 0
+IsFirst h heads = (g : Reverse Head) → Contains heads g → IsNoLater h.stamp h.rank g.0
+
+-- the first of all heads, if there is one, where these are the others
+abbrev pub IsFirstOf : Option Head → List (Reverse Head) → Type 0
+IsFirstOf None heads = heads ≡ []
+IsFirstOf (Some h) heads = IsFirst h heads
 
 -- the head is the entry at its place
 pub record IsHead (logs : List (List Entry)) (h : Head) : Type 0 where

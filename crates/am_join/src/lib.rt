@@ -12,11 +12,10 @@ ghost use Rattle.std.specs.Prelude.{◌≡◌, true, List, IfOk};
 mod heads;
 mod parts;
 
-use crate::heads::{entry_of, first_heads, push_head};
+use crate::heads::{entry_of, first_heads, first_of, next_head, taken};
 use crate::parts::is_same;
 use am_office::{Entry, Journal, NoMemory};
 use std::alloc::Global;
-use std::cmp::Reverse;
 
 /// The journal that the logs merge into: it has the entries of all logs, each once, by stamp and then by part. In a log
 /// stamps rise, and where two logs have entries with one stamp and one part, these are one entry, which stands in both.
@@ -29,9 +28,11 @@ pub fn join(alloc: Global, logs: &[&[Entry]]) -> Result<Journal, NoMemory>
 {
     let mut entries = Vec::with_capacity(alloc, total(logs))?;
     let mut heads = first_heads(alloc, logs)?;
-    while let Some(Reverse(head)) = heads.pop() {
+    let mut first = taken(&mut heads);
+    while let Some(head) = first {
         add(&mut entries, entry_of(logs, head))?;
-        push_head(logs, head.log, head.place + 1, &mut heads)?;
+        let next = next_head(logs, head.log, head.place + 1);
+        first = first_of(next, &mut heads);
     }
     Ok(Journal { entries })
 }
@@ -53,15 +54,15 @@ fn total(logs: &[&[Entry]]) -> usize {
 }
 
 /// Adds an entry to those of the journal, unless it is the last of them.
-fn add(entries: &mut Vec<Entry>, entry: Entry) -> Result<(), NoMemory>
-    ensures { IfOk result (λ _. entries.new.items ≡ added entry entries.old.items) }
+fn add(entries: &mut Vec<Entry>, entry: &Entry) -> Result<(), NoMemory>
+    ensures { IfOk result (λ _. entries.new.items ≡ added entry.now entries.old.items) }
 {
     let again = match entries.last() {
-        Some(last) => is_same(last, &entry),
+        Some(last) => is_same(last, entry),
         None => false,
     };
     if !again {
-        entries.push(entry)?;
+        entries.push(*entry)?;
     }
     Ok(())
 }

@@ -4,7 +4,7 @@ ghost use Rattle.am_model.specs.Merge as order;
 ghost use Rattle.am_office.specs.Entries.{ends_touched, touched_by_result};
 ghost use Rattle.std.specs.Prelude.{◌≡◌, slice_get};
 
-use am_names::EndpointId;
+use am_names::{EndpointId, NodeId};
 use am_office::{Entry, Event, Outcome, Received, node_touched};
 
 /// The endpoint that a receipt touches.
@@ -51,10 +51,19 @@ fn first_end(entry: &Entry) -> Option<EndpointId>
 pub(crate) fn rank(entry: &Entry) -> u16
     ensures { result ≡ order.rank entry.now }
 {
-    match (first_end(entry), node_touched(entry)) {
-        (Some(end), _) => u16::from(end.0),
-        (None, Some(node)) => 256 + u16::from(node.0),
-        (None, None) => 0,
+    match first_end(entry) {
+        Some(end) => u16::from(end.0),
+        None => node_rank(node_touched(entry)),
+    }
+}
+
+/// The number of an interface as a part, if the entry touches one.
+fn node_rank(touched: Option<NodeId>) -> u16
+    ensures { result ≡ order.rank_of_node touched }
+{
+    match touched {
+        Some(node) => 256 + u16::from(node.0),
+        None => 0,
     }
 }
 

@@ -1,52 +1,66 @@
-use Rattle.std.proofs.Common.{◌≡◌, List, [], arith, sym, subst}
+use Rattle.std.proofs.Common.{◌<◌, ◌++◌, ◌∷◌, Option, List, sym, subst}
+use Rattle.std.specs.Prelude.{IsPermutation, sum_by}
 use Rattle.std.specs.BinaryHeap.{heap_items}
 use Rattle.std.specs.declared.cmp.Reverse.{Reverse}
-use Rattle.std.proofs.lemmas.List.{nil_from_length}
+use Rattle.std.proofs.lemmas.List.Sorted.{IsPermutation-refl}
 use Rattle.am_join.specs.declared.heads.Head.{Head}
+use Rattle.am_join.specs.Heads.{IsFirstOf, option_reversed}
 use Rattle.am_join.specs.Joined.{lists_of}
-use Rattle.am_join.proofs.Joining.{IsReached, IsTaken, begins, ends, fewer, goes_on, popped_head}
+use Rattle.am_join.proofs.Firsts.{first_again, none_left, reversed}
+use Rattle.am_join.proofs.Joining.{IsReached, IsTaken, begins, ends, fewer, goes_on, left_of}
+use Rattle.am_join.proofs.Standing.{in_front}
 use Rattle.am_join.proofs.join.Goals as goal
 
-pub loop-head-init : goal.loop-head-init
-loop-head-init c =
+pub loop-first-init : goal.loop-first-init
+loop-first-init c =
+    let all = option_reversed c.taken-first.result ++ heap_items c.taken-first.new.heads in
     record {
       reached =
-          subst (IsReached (lists_of c.args.logs.now) (heap_items c.in_ok-heads.heads)) (sym c.in_ok-entries.ensures.items)
-          (begins (lists_of c.args.logs.now) (heap_items c.in_ok-heads.heads) c.in_ok-heads.ensures.first);
-      order = c.in_ok-heads.ensures.order;
+          subst (IsReached (lists_of c.args.logs.now) all) (sym c.in_ok-entries.ensures.items)
+          (begins (lists_of c.args.logs.now) all (first_again (lists_of c.args.logs.now) (heap_items c.in_ok-heads.heads) all c.taken-first.ensures.same c.in_ok-heads.ensures.first));
+      order = c.taken-first.ensures.order c.in_ok-heads.ensures.order;
+      first = c.taken-first.ensures.first c.in_ok-heads.ensures.order;
     }
 
 pub entry_of-requires : goal.entry_of-requires
 entry_of-requires c =
-    popped_head (lists_of c.args.logs.now) (heap_items c.loop-head.heads) (heap_items c.pop.new.self) c.loop-head.entries.items c.in-Some.field-0 c.loop-head.invariant.reached c.in-Some.ensures.permutation
+    (subst (λ (o : Option Head). IsReached (lists_of c.args.logs.now) (option_reversed o ++ heap_items c.loop-first.heads) c.loop-first.entries.items) c.in-Some.is c.loop-first.invariant.reached).heads' (reversed c.in-Some.head) (in_front (reversed c.in-Some.head) (heap_items c.loop-first.heads))
 
--- the head on top is taken
-taken : (c : goal.In_ok-push_head) → IsTaken (lists_of c.args.logs.now) (heap_items c.loop-head.heads) (heap_items c.pop.new.self) (heap_items c.push_head.new.heads) c.loop-head.entries.items c.in-Some.field-0.0 c.entry_of.result
-taken c =
+-- the first head is taken
+taken_first : (c : goal.After-first_of-first) → IsTaken (lists_of c.args.logs.now) (reversed c.in-Some.head ∷ heap_items c.loop-first.heads) (heap_items c.loop-first.heads) (option_reversed c.first_of-first.result ++ heap_items c.first_of-first.new.heads) c.loop-first.entries.items c.in-Some.head c.entry_of.result.now
+taken_first c =
     record {
       rising = c.requires.rising;
       one = c.requires.one;
-      popped = c.in-Some.ensures.permutation;
-      top = c.in-Some.ensures.below_top c.loop-head.invariant.order;
+      popped = IsPermutation-refl (reversed c.in-Some.head ∷ heap_items c.loop-first.heads);
+      top = subst (λ (o : Option Head). IsFirstOf o (heap_items c.loop-first.heads)) c.in-Some.is c.loop-first.invariant.first;
       here = c.entry_of.ensures.shown;
-      pushed = c.in_ok-push_head.ensures.pushed;
+      pushed =
+          subst (λ (o : Option Head). IsPermutation (option_reversed o ++ heap_items c.loop-first.heads) (option_reversed c.first_of-first.result ++ heap_items c.first_of-first.new.heads)) c.next_head-next.ensures
+          c.first_of-first.ensures.same;
     }
 
-pub loop-head-smaller : goal.loop-head-smaller
-loop-head-smaller c =
-    fewer (lists_of c.args.logs.now) (heap_items c.loop-head.heads) (heap_items c.pop.new.self) (heap_items c.push_head.new.heads) c.loop-head.entries.items c.in-Some.field-0.0 c.entry_of.result (taken c)
+pub loop-first-smaller : goal.loop-first-smaller
+loop-first-smaller c =
+    let more = option_reversed c.first_of-first.result ++ heap_items c.first_of-first.new.heads in
+    let logs = lists_of c.args.logs.now in
+    subst (λ (o : Option Head). sum_by (left_of logs) more < sum_by (left_of logs) (option_reversed o ++ heap_items c.loop-first.heads)) (sym c.in-Some.is)
+    (fewer logs (reversed c.in-Some.head ∷ heap_items c.loop-first.heads) (heap_items c.loop-first.heads) more c.loop-first.entries.items c.in-Some.head c.entry_of.result.now (taken_first c))
 
-pub loop-head-preserved : goal.loop-head-preserved
-loop-head-preserved c =
+pub loop-first-preserved : goal.loop-first-preserved
+loop-first-preserved c =
+    let more = option_reversed c.first_of-first.result ++ heap_items c.first_of-first.new.heads in
+    let logs = lists_of c.args.logs.now in
+    let reached = subst (λ (o : Option Head). IsReached logs (option_reversed o ++ heap_items c.loop-first.heads) c.loop-first.entries.items) c.in-Some.is c.loop-first.invariant.reached in
     record {
       reached =
-          subst (IsReached (lists_of c.args.logs.now) (heap_items c.push_head.new.heads)) (sym c.in_ok-add.ensures)
-          (goes_on (lists_of c.args.logs.now) (heap_items c.loop-head.heads) (heap_items c.pop.new.self) (heap_items c.push_head.new.heads) c.loop-head.entries.items c.in-Some.field-0.0 c.entry_of.result c.loop-head.invariant.reached (taken c));
-      order = c.in_ok-push_head.ensures.order (c.in-Some.ensures.heap_order c.loop-head.invariant.order).0;
+          subst (IsReached logs more) (sym c.in_ok-add.ensures)
+          (goes_on logs (reversed c.in-Some.head ∷ heap_items c.loop-first.heads) (heap_items c.loop-first.heads) more c.loop-first.entries.items c.in-Some.head c.entry_of.result.now reached (taken_first c));
+      order = c.first_of-first.ensures.order c.loop-first.invariant.order;
+      first = c.first_of-first.ensures.first c.loop-first.invariant.order;
     }
 
 pub returns : goal.returns
 returns c =
-    let empty = c.in_default.ensures.none in
-    let none : heap_items c.loop-head.heads ≡ [] = nil_from_length (heap_items c.loop-head.heads) (let items = c.loop-head.heads.data.ok.0 in omega (arith, items, empty)) in
-    ends (lists_of c.args.logs.now) c.loop-head.entries.items c.requires.one (subst (λ (hs : List (Reverse Head)). IsReached (lists_of c.args.logs.now) hs c.loop-head.entries.items) none c.loop-head.invariant.reached)
+    let none = none_left c.loop-first.first (heap_items c.loop-first.heads) c.in_default.is c.loop-first.invariant.first in
+    ends (lists_of c.args.logs.now) c.loop-first.entries.items c.requires.one (subst (λ (hs : List (Reverse Head)). IsReached (lists_of c.args.logs.now) hs c.loop-first.entries.items) none c.loop-first.invariant.reached)

@@ -1,16 +1,21 @@
-use Rattle.std.proofs.Common.{◌-◌, length}
+use Rattle.std.proofs.Common.{◌-◌, ◌++◌, length}
 use Rattle.std.specs.Prelude.{sum_by}
 use Rattle.std.specs.BinaryHeap.{heap_items}
 use Rattle.std.specs.declared.cmp.Reverse.{Reverse}
 use Rattle.am_join.specs.declared.heads.Head.{Head}
 use Rattle.am_join.specs.Joined.{lists_of}
-use Rattle.am_join.specs.Heads.{IsLeastFirst, log_at}
+use Rattle.am_join.specs.Heads.{IsFirstOf, IsLeastFirst, log_at, option_reversed}
 use Rattle.am_join.proofs.Joining.{IsReached}
 use Rattle.am_join.proofs.join.Given as goal
 
-abbrev pub invariant-loop-head : goal.invariant-loop-head
-invariant-loop-head l = record { reached : IsReached (lists_of l.logs) (heap_items l.heads) l.entries.items; order : IsLeastFirst (heap_items l.heads) }
+abbrev pub invariant-loop-first : goal.invariant-loop-first
+invariant-loop-first l =
+    record {
+      reached : IsReached (lists_of l.logs) (option_reversed l.first ++ heap_items l.heads) l.entries.items;
+      order : IsLeastFirst (heap_items l.heads);
+      first : IsFirstOf l.first (heap_items l.heads);
+    }
 
 -- how many entries the heads leave
-abbrev pub decreases-loop-head : goal.decreases-loop-head
-decreases-loop-head l = sum_by (λ (h : Reverse Head). length (log_at (lists_of l.logs) h.0.log) - h.0.place) (heap_items l.heads)
+abbrev pub decreases-loop-first : goal.decreases-loop-first
+decreases-loop-first l = sum_by (λ (h : Reverse Head). length (log_at (lists_of l.logs) h.0.log) - h.0.place) (option_reversed l.first ++ heap_items l.heads)
