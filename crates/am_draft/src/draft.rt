@@ -55,6 +55,18 @@ fn find_bundle(bundles: &[Bundle], id: u64) -> Option<&Bundle>
     None
 }
 
+// Most lines differ in the number, so it is compared first.
+#[tactic(auto, using(crate::proofs::Plans::other_number, crate::proofs::Plans::same_number))]
+fn is_line_of(line: &PlanLine, from: NodeId, to: NodeId, number: u32) -> bool
+    ensures { result ≡ ((line.now.from.0 == from.0) && (line.now.to.0 == to.0) && (line.now.number == number)) }
+{
+    if line.number == number {
+        line.from.0 == from.0 && line.to.0 == to.0
+    } else {
+        false
+    }
+}
+
 impl Draft {
     /// Nothing was said.
     pub fn new(alloc: Global) -> Draft
@@ -105,9 +117,9 @@ impl Draft {
     pub fn is_planned(&self, from: NodeId, to: NodeId, number: u32) -> bool
         ensures { result ≡ is_planned (said self.now).plan from to number }
     {
-        self.plan.iter().any(|line| line.from.0 == from.0
-            && line.to.0 == to.0
-            && line.number == number)
+        self.plan
+            .iter()
+            .any(|line| is_line_of(line, from, to, number))
     }
 
     /// Whether a node's page call has a fault line.
