@@ -1,6 +1,6 @@
 -- The journal of a run obeys the laws of runs, whether it came to its end or met a full log.
 use Rattle.std.specs.Prelude.{length}
-use Rattle.std.proofs.Common.{◌≡◌, ◌≤◌, ◌<◌, ◌^◌, List, [], arith, sym, subst}
+use Rattle.std.proofs.Common.{◌≡◌, ◌≤◌, ◌<◌, ◌^◌, List, [], arith, refl, sym, subst}
 use Rattle.am_names.specs.declared.Cause.{Cause}
 use Rattle.am_names.specs.declared.Serial.{Serial}
 use Rattle.am_office.specs.declared.Entry.{Entry}
@@ -25,7 +25,9 @@ use Rattle.am_run_laws.specs.Drained.{HasShortLogs, IsShortHistory}
 use Rattle.am_run_laws.proofs.Drained.{cut_offs_are_short, drains_are_short, empty_is_good_phase, far_below, no_logs}
 use Rattle.am_run_laws.proofs.Returns.{returns_are_for_good}
 use Rattle.am_run_laws.proofs.Stopped.{stopped_returns_are_for_good, stopped_runs_are_orderly}
-use Rattle.am_cluster.specs.Runs.{IsAloneCutOff, IsPhaseOfRun, IsRunCutOff, ObeysRunLaws}
+use Rattle.am_cluster.specs.Runs.{IsAloneCutOff, IsAloneStopped, IsPhaseOfRun, IsRunCutOff, IsRunDone, IsRunStopped, ObeysRunLaws}
+use Rattle.am_cluster.specs.declared.RunFault.{RunFault}
+use Rattle.am_cluster.specs.declared.RunFault.TheVariants as Runs
 
 pub whole_obeys : (s : ScenarioLists) (journal : List Entry) → IsLawful s → s.network ≡ Packet → IsWholeRun s journal → PostOffice (layout_of s) journal → ObeysRunLaws s journal
 whole_obeys s journal lawful packet whole laws =
@@ -81,6 +83,17 @@ run_is_cut_off : (s : ScenarioLists) (phase : List Entry) (part : Part) (journal
 run_is_cut_off s phase part journal lawful packet made c laws =
     let k : IsCutOffOf s part journal = cut_off_obeys s phase part journal lawful packet made.good made.logs c laws in
     record { phase = phase; made = made; cut = c; obeys = k.obeys; stopped = k.stopped }
+
+-- the phase of a run without turns is empty
+pub empty_phase : (s : ScenarioLists) → IsPhaseOfRun s []
+empty_phase s = record { good = empty_is_good_phase s; logs = no_logs s; none = λ (without : s.turns ≡ 0). refl }
+
+pub alone_is_done : (s : ScenarioLists) (journal : List Entry) → IsDrainedWithRoom s [] journal → IsRunDone s journal
+alone_is_done s journal d = record { phase = []; made = empty_phase s; drained = d }
+
+pub alone_is_stopped : (s : ScenarioLists) (fault : RunFault) → IsAloneStopped s fault → IsRunStopped s fault
+alone_is_stopped s (Runs.LogFull part journal) c = record { phase = []; made = empty_phase s; cut = c.cut; obeys = c.obeys; stopped = c.stopped }
+alone_is_stopped s Runs.NoMemory c = c
 
 -- ---- the same of a copy of the journal that a drain left
 

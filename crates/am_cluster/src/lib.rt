@@ -179,6 +179,19 @@ fn drain_phase(
     }
 }
 
+/// The run of a scenario without turns: its phase is empty, so the drain is all of it, and no crew is opened.
+#[tactic(auto, using(crate::proofs::Obeying::alone_is_done, crate::proofs::Obeying::alone_is_stopped))]
+fn run_without_turns(alloc: Global, scenario: &Scenario) -> Result<Finished, RunFault>
+    requires lawful { IsLawful scenario.now }
+    requires packet { scenario.now.network ≡ Packet }
+    ensures done { IfOk result (λ finished. IsRunDone scenario.now finished.journal) }
+    ensures whole { IfOk result (λ finished. IsWholeRun scenario.now finished.journal) }
+    ensures obeys { IfOk result (λ finished. ObeysRunLaws scenario.now finished.journal) }
+    ensures stopped { IfErr result (IsRunStopped scenario.now) }
+{
+    alone(alloc, scenario)
+}
+
 /// Runs a scenario of the packet network: its threads, interfaces and drivers at the same time, each for the scenario's number of
 /// turns, and then the drain. Nothing is asked of the turns or of the schedule. Ok: the journal is a good phase, which is empty
 /// where there are no turns, and what the drain makes of it with no entry meeting a full log. It is a history that follows the
@@ -198,6 +211,9 @@ pub fn run<R: Threads + Sync, G: Gate + Sync>(
     ensures obeys { IfOk result (λ finished. ObeysRunLaws scenario.now finished.journal) }
     ensures stopped { IfErr result (IsRunStopped scenario.now) }
 {
+    if scenario.turns == 0 {
+        return run_without_turns(alloc, scenario);
+    }
     let Ok(cluster) = make_phase(rt, alloc, scenario, gate) else {
         return Err(RunFault::NoMemory);
     };

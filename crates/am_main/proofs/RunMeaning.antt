@@ -8,8 +8,8 @@ use Rattle.am_drain.specs.Cut.{IsDrainedWithRoom}
 use Rattle.am_drain.specs.Drain.{IsDrained}
 use Rattle.am_drain.proofs.Determined.{drain_is_determined}
 use Rattle.am_drain_steps.specs.Runs.{IsWholeRun}
-use Rattle.am_run_laws.proofs.Drained.{empty_is_good_phase, no_logs}
-use Rattle.am_cluster.specs.Runs.{IsAloneCutOff, IsPhaseOfRun, IsRunCutOff, IsRunDone, ObeysRunLaws}
+use Rattle.am_cluster.proofs.Obeying.{alone_is_done}
+use Rattle.am_cluster.specs.Runs.{IsAloneCutOff, IsRunCutOff, IsRunDone, ObeysRunLaws}
 use Rattle.am_main.specs.Answer.{full_line, ids_of}
 use Rattle.am_main.specs.Runs.{IsDrainedAlone, IsRunAnswer, IsRunOf, MakeAnswers, make_text, scenario_of}
 
@@ -20,13 +20,6 @@ drained_alone s journal drained =
 -- without turns the phase is empty
 done_alone : (s : ScenarioLists) (journal : List Entry) → IsRunDone s journal → s.turns ≡ 0 → IsDrainedAlone s journal
 done_alone s journal done none = drained_alone s journal (subst (λ (phase : List Entry). IsDrainedWithRoom s phase journal) (done.made.none none) done.drained)
-
--- the empty phase is one of every run
-empty_phase : (s : ScenarioLists) → IsPhaseOfRun s []
-empty_phase s = record { good = empty_is_good_phase s; logs = no_logs s; none = λ (without : s.turns ≡ 0). refl }
-
-done_of : (s : ScenarioLists) (journal : List Entry) → IsDrainedWithRoom s [] journal → IsRunDone s journal
-done_of s journal drained = record { phase = []; made = empty_phase s; drained = drained }
 
 pub is_run_of : (s : ScenarioLists) (journal : List Entry) → IsRunDone s journal → IsWholeRun s journal → ObeysRunLaws s journal → IsRunOf s journal
 is_run_of s journal done whole obeys =
@@ -51,7 +44,7 @@ run_cut s part journal text cut printed = inr (refl, (part, record { journal = j
 -- so of a generated scenario without threads
 pub make_reported : (n calls : ℕ) (s : ScenarioLists) (journal : List Entry) (text : List ℕ) → s ≡ scenario_of n → IsDrainedWithRoom s [] journal → IsWholeRun s journal → ObeysRunLaws s journal → calls ≡ length s.script → length s.script ≡ 1744 → text ≡ make_text n calls journal → MakeAnswers n (record { status = 0; text = text })
 make_reported n calls s journal text is drained whole obeys counted many printed =
-    let run = subst (λ (g : ScenarioLists). IsRunOf g journal) is (is_run_of s journal (done_of s journal drained) whole obeys) in
+    let run = subst (λ (g : ScenarioLists). IsRunOf g journal) is (is_run_of s journal (alone_is_done s journal drained) whole obeys) in
     let alone = subst (λ (g : ScenarioLists). IsDrainedAlone g journal) is (drained_alone s journal drained) in
     let many' = subst (λ (g : ScenarioLists). length g.script ≡ 1744) is many in
     let all : calls ≡ 1744 = cc in
