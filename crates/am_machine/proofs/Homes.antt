@@ -1,11 +1,12 @@
 -- The homes of endpoints, as an interface is told.
-use Rattle.std.specs.Prelude.{slice_get, slice_index_or, IfSome}
+use Rattle.std.specs.Prelude.{slice_get, slice_set, slice_index_or, replicate, IfSome}
 use Rattle.std.specs.List.{All, find}
 use Rattle.std.specs.Option.{option_map}
-use Rattle.std.proofs.Common.{◌≡◌, ⊎_elim, ℕ, zero, suc, ◌+◌, ◌<◌, ◌≤◌, ◌==◌, Bool, true, false, cond, List, [], ◌∷◌, ◌++◌, map, length, Option, Some, None, refl, sym, ap, ◌∙◌, subst, arith, eqb-true}
-use Rattle.std.proofs.lemmas.List.{length_push}
+use Rattle.std.proofs.Common.{◌≡◌, ⊎_elim, ℕ, zero, suc, ◌+◌, ◌<◌, ◌≤◌, ◌==◌, Bool, true, false, cond, List, [], ◌∷◌, ◌++◌, map, length, take, Option, Some, None, refl, sym, ap, ◌∙◌, subst, arith, eq-eqb, eqb-true}
+use Rattle.std.proofs.lemmas.Bool.{ne_eqb}
+use Rattle.std.proofs.lemmas.List.{length-set, length_push, take_more}
 use Rattle.std.proofs.lemmas.Option.{get_or_from_slice_get}
-use Rattle.am_lemmas.proofs.Lists.{slice_get-push_cases}
+use Rattle.am_lemmas.proofs.Lists.{slice_get-push_cases, slice_get-set_cases}
 use Rattle.am_names.specs.declared.EndpointId.{EndpointId}
 use Rattle.am_names.specs.declared.NodeId.{NodeId}
 use Rattle.am_model.specs.Endpoint.{entry_at}
@@ -17,25 +18,56 @@ use Rattle.am_scripts.specs.Layout.{setting_of}
 use Rattle.am_iface.specs.View.{InterfaceView}
 use Rattle.am_journal.proofs.Lists.{index_got}
 use Rattle.am_machine.specs.declared.settings.Settings.{Settings}
-use Rattle.am_machine.specs.Homes.{AreFreshUpTo, AreHomes, IsFresh, home_line}
+use Rattle.am_machine.specs.Homes.{AreFreshUpTo, AreHomes, IsFresh, first_told, home_line}
 
--- the homes so far
-pub record AreHomesUpTo (lines : List EndLine) (count : ℕ) (homes : List (Option NodeId)) : Type 0 where
-  pub all : length homes ≡ count
-  pub each : (k : ℕ) (home : Option NodeId) → slice_get homes k ≡ Some home → home ≡ home_line lines k
+-- ---- one line more
 
-pub homes_begin : (lines : List EndLine) → AreHomesUpTo lines 0 []
-homes_begin lines = record { all = refl; each = λ k home h. absurd (cc) }
+home_push : (lines : List EndLine) (line : EndLine) (k : ℕ) → (k == line.id.0) ≡ true → home_line (lines ++ line ∷ []) k ≡ first_told (home_line lines k) line.node
+home_push [] line k is = ap (λ (b : Bool). option_map (λ (l : EndLine). l.node) (cond b (Some line) None)) is
+home_push (first ∷ lines) line k is = by_test (k == first.id.0) (home_push lines line k is)
+  where
+    by_test : (b : Bool) → home_line (lines ++ line ∷ []) k ≡ first_told (home_line lines k) line.node → option_map (λ (l : EndLine). l.node) (cond b (Some first) (find (λ (l : EndLine). k == l.id.0) (lines ++ line ∷ []))) ≡ first_told (option_map (λ (l : EndLine). l.node) (cond b (Some first) (find (λ (l : EndLine). k == l.id.0) lines))) line.node
+    by_test true more = refl
+    by_test false more = more
 
-pub homes_more : (lines : List EndLine) (count : ℕ) (homes : List (Option NodeId)) (next : Option NodeId) → AreHomesUpTo lines count homes → next ≡ home_line lines count → AreHomesUpTo lines (count + 1) (homes ++ next ∷ [])
-homes_more lines count homes next are is =
+home_other : (lines : List EndLine) (line : EndLine) (k : ℕ) → (k == line.id.0) ≡ false → home_line (lines ++ line ∷ []) k ≡ home_line lines k
+home_other [] line k is = ap (λ (b : Bool). option_map (λ (l : EndLine). l.node) (cond b (Some line) None)) is
+home_other (first ∷ lines) line k is = by_test (k == first.id.0) (home_other lines line k is)
+  where
+    by_test : (b : Bool) → home_line (lines ++ line ∷ []) k ≡ home_line lines k → option_map (λ (l : EndLine). l.node) (cond b (Some first) (find (λ (l : EndLine). k == l.id.0) (lines ++ line ∷ []))) ≡ option_map (λ (l : EndLine). l.node) (cond b (Some first) (find (λ (l : EndLine). k == l.id.0) lines))
+    by_test true more = refl
+    by_test false more = more
+
+homes_next : (lines : List EndLine) (line : EndLine) (homes : List (Option NodeId)) → AreHomes lines homes → line.id.0 < 256 → AreHomes (lines ++ line ∷ []) (slice_set homes line.id.0 (first_told (slice_index_or homes line.id.0 None) line.node))
+homes_next lines line homes are low =
+    let told = first_told (slice_index_or homes line.id.0 None) line.node in
+    let within : line.id.0 < length homes = omega (arith, low, are.all) in
+    let was : slice_index_or homes line.id.0 None ≡ home_line lines line.id.0 = are.each line.id.0 (slice_index_or homes line.id.0 None) (index_got homes line.id.0 None within) in
     record {
-      all = length_push homes next ∙ ap (λ (n : ℕ). n + 1) are.all;
+      all = length-set homes line.id.0 told ∙ are.all;
       each = λ k home h.
-          ⊎_elim (are.each k home)
-          (λ (last : (k ≡ length homes) × (home ≡ next)). last.1 ∙ is ∙ ap (home_line lines) (sym (last.0 ∙ are.all)))
-          (slice_get-push_cases homes next k home h);
+          ⊎_elim
+          (λ (here : (k ≡ line.id.0) × (home ≡ told)).
+          here.1 ∙ ap (λ (o : Option NodeId). first_told o line.node) (was ∙ ap (home_line lines) (sym here.0)) ∙ sym (home_push lines line k (eq-eqb k line.id.0 here.0)))
+          (λ (there : (k ≡ line.id.0 → ⊥) × (slice_get homes k ≡ Some home)). are.each k home there.1 ∙ sym (home_other lines line k (ne_eqb k line.id.0 there.0)))
+          (slice_get-set_cases homes line.id.0 k told home h);
     }
+
+pub homes_told : (lines : List EndLine) (line : EndLine) (homes : List (Option NodeId)) (home : Option NodeId) → AreHomes lines homes → line.id.0 < 256 → home ≡ first_told (slice_index_or homes line.id.0 None) line.node → AreHomes (lines ++ line ∷ []) (slice_set homes line.id.0 home)
+homes_told lines line homes home are low told = subst (λ (o : Option NodeId). AreHomes (lines ++ line ∷ []) (slice_set homes line.id.0 o)) (sym told) (homes_next lines line homes are low)
+
+pub homes_taken : (lines : List EndLine) (k : ℕ) (one : EndLine) (homes : List (Option NodeId)) → k < length lines → AreHomes (take k lines ++ slice_index_or lines k one ∷ []) homes → AreHomes (take (k + 1) lines) homes
+homes_taken lines k one homes within are = subst (λ (ls : List EndLine). AreHomes ls homes) (sym (take_more lines k one within)) are
+
+none_told : (n k : ℕ) (home : Option NodeId) → slice_get (replicate n None) k ≡ Some home → home ≡ None
+none_told zero k home h = absurd (cc)
+none_told (suc n) zero home h = cc
+none_told (suc n) (suc k) home h = none_told n k home h
+
+pub homes_none : AreHomes [] (replicate 256 None)
+homes_none = record { all = refl; each = λ k home h. none_told 256 k home h }
+
+-- ---- the interfaces so far
 
 pub fresh_begin : (s : Settings) (lines : List EndLine) → AreFreshUpTo s lines 0 []
 fresh_begin s lines = record { all = refl; each = λ k i h. absurd (cc) }

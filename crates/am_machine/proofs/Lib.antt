@@ -25,3 +25,4 @@ pub mod PartsUnited
 pub mod Merging
 pub mod Few
 pub mod Indexed
+pub mod Apart

@@ -1,5 +1,5 @@
 -- Where endpoints live, as an interface is told, and how an interface begins.
-use Rattle.std.specs.Prelude.{◌≡◌, ℕ, ◌≤◌, ◌==◌, Option, Some, List, [], length, find, slice_get, if◌then◌else◌}
+use Rattle.std.specs.Prelude.{◌≡◌, ℕ, ◌≤◌, ◌==◌, Option, Some, None, List, [], length, find, slice_get, if◌then◌else◌}
 use Rattle.std.specs.Option.{option_map}
 use Rattle.std.specs.List.{All}
 use Rattle.am_names.specs.declared.NodeId.{NodeId}
@@ -13,6 +13,11 @@ use Rattle.am_machine.specs.Beginnings.{CanOpen}
 -- the node of the endpoint with this number, if it is declared
 abbrev pub home_line : List EndLine → ℕ → Option NodeId
 home_line lines id = option_map (λ (line : EndLine). line.node) (find (λ (line : EndLine). id == line.id.0) lines)
+
+-- the home that was told first
+abbrev pub first_told : Option NodeId → NodeId → Option NodeId
+first_told None node = Some node
+first_told (Some home) node = Some home
 
 -- the node of the endpoint with each number below 256
 pub record AreHomes (lines : List EndLine) (homes : List (Option NodeId)) : Type 0 where

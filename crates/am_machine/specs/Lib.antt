@@ -1,5 +1,6 @@
 pub mod Carries
 pub mod Ends
+pub mod Apart
 pub mod Homes
 pub mod Swaps
 pub mod Presets

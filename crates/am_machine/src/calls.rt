@@ -32,7 +32,7 @@ impl Cluster {
         }
         match self.ends[place].call(self.index.greatest_stamp(), actor, call) {
             Ok(entry) => {
-                self.index.log(entry, None);
+                self.index.log(&entry, None);
                 Ok(entry)
             }
             Err(_) => Err(EntryFault::NoMemory),
@@ -55,7 +55,7 @@ impl Cluster {
         }
         match self.ends[place].want(self.index.greatest_stamp(), actor) {
             Ok(entry) => {
-                self.index.log(entry, None);
+                self.index.log(&entry, None);
                 Ok(entry)
             }
             Err(_) => Err(EntryFault::NoMemory),

@@ -55,7 +55,7 @@ impl Cluster {
             outcome: judged(self.settings.bounces, message, front.bounces, verdict),
         };
         carry_between(&mut self.ends, source, dest, entry);
-        self.index.log(entry, None);
+        self.index.log(&entry, None);
         Ok(entry)
     }
 }

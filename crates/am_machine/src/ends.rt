@@ -1,5 +1,6 @@
 // What a cluster does with its endpoints, each found by its place among them.
 ghost use Rattle.am_moves.specs.Logs.{kept};
+ghost use Rattle.am_machine.specs.Apart.{AreApart, is_at};
 ghost use Rattle.am_machine.specs.Ends.{is_of};
 ghost use Rattle.am_machine.specs.Carries.{At, ArrivesAt, CarriesFrom, IsReady, carried_at, is_place, least_full};
 ghost use Rattle.am_endpoint.specs.View.{state_after};
@@ -10,11 +11,34 @@ use am_endpoint::{EndFault, Endpoint};
 use am_names::EndpointId;
 use am_office::Entry;
 
-/// The place of an endpoint among others.
-pub fn place_of(ends: &[Endpoint], id: EndpointId) -> Option<usize>
+/// Whether the endpoint with this number stands at the place.
+fn is_at(ends: &[Endpoint], place: usize, id: EndpointId) -> bool
+    ensures { result ≡ is_at (slice_get ends.now place) id }
+{
+    match ends.get(place) {
+        Some(end) => id.0 == end.id().0,
+        None => false,
+    }
+}
+
+/// The place of an endpoint among others, wherever it stands.
+fn search(ends: &[Endpoint], id: EndpointId) -> Option<usize>
     ensures { result ≡ position (is_of id) ends.now }
 {
     ends.iter().position(|end| id.0 == end.id().0)
+}
+
+/// The place of an endpoint among others. Mostly it stands at the place of its own number, where it is found in one step.
+pub fn place_of(ends: &[Endpoint], id: EndpointId) -> Option<usize>
+    requires { AreApart (map kept ends.now) }
+    ensures { result ≡ position (is_of id) ends.now }
+{
+    let own = id.0 as usize;
+    if is_at(ends, own, id) {
+        Some(own)
+    } else {
+        search(ends, id)
+    }
 }
 
 /// Whether it is on disk.

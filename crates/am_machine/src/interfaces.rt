@@ -1,7 +1,8 @@
 // The interfaces of a cluster, as they begin.
 ghost use Rattle.am_scripts.specs.Layout.{is_direct};
-ghost use Rattle.am_machine.specs.Homes.{AreFresh, AreHomes, CanConnect, IsFresh, home_line};
-ghost use Rattle.std.specs.Prelude.{◌≡◌, ◌<◌, if◌then◌else◌, IfOk};
+ghost use Rattle.am_machine.specs.Homes.{AreFresh, AreHomes, CanConnect, IsFresh, first_told};
+ghost use Rattle.am_scenario_types.specs.declared.parts.EndLine.{EndLine};
+ghost use Rattle.std.specs.Prelude.{◌≡◌, ◌<◌, [], ◌∷◌, ◌++◌, length, if◌then◌else◌, IfOk, List};
 
 use crate::settings::Settings;
 use am_iface::{IfaceSettings, Interface};
@@ -10,27 +11,44 @@ use am_office::NoMemory;
 use am_scenario_types::{EndLine, Network};
 use std::alloc::Global;
 
-/// The node of the endpoint with this number, if it is declared.
-fn home_line(lines: &[EndLine], id: u16) -> Option<NodeId>
-    ensures { result ≡ home_line lines.now id }
+/// The home that was told first.
+fn first_told(home: Option<NodeId>, node: NodeId) -> Option<NodeId>
+    ensures { result ≡ first_told home node }
 {
-    match lines.iter().find(|line| id == u16::from(line.id.0)) {
-        Some(line) => Some(line.node),
-        None => None,
+    match home {
+        Some(first) => Some(first),
+        None => Some(node),
     }
+}
+
+/// Tells the home of the endpoint that is declared here, unless a line before told one.
+fn tell(homes: &mut [Option<NodeId>], line: &EndLine)
+    requires { length homes.old ≡ 256 }
+    ensures { (before : List EndLine) → AreHomes before homes.old → AreHomes (before ++ line.now ∷ []) homes.new }
+{
+    let id = line.id.0 as usize;
+    homes[id] = first_told(homes[id], line.node);
+}
+
+/// The homes where no endpoint is declared.
+fn no_homes() -> [Option<NodeId>; 256]
+    ensures { AreHomes [] result }
+{
+    [None; 256]
 }
 
 /// The node of the endpoint with each number, 0 to 255.
 fn all_homes(alloc: Global, lines: &[EndLine]) -> Result<Vec<Option<NodeId>>, NoMemory>
     ensures { IfOk result (λ homes. AreHomes lines.now homes.items) }
 {
-    let mut homes = Vec::new(alloc);
-    for id in 0..256u16 {
-        if homes.push(home_line(lines, id)).is_err() {
-            return Err(NoMemory);
-        }
+    let mut homes = no_homes();
+    for line in lines {
+        tell(&mut homes, line);
     }
-    Ok(homes)
+    match Vec::from_slice(alloc, &homes) {
+        Ok(homes) => Ok(homes),
+        Err(_) => Err(NoMemory),
+    }
 }
 
 /// A fresh interface of a node.

@@ -40,7 +40,7 @@ impl Cluster {
         let swap = &mut self.swaps[node.0 as usize];
         match make_move(self.alloc, swap, &mut self.ends[place], event, stamp) {
             Ok(entry) => {
-                self.index.log(entry, None);
+                self.index.log(&entry, None);
                 Ok(entry)
             }
             Err(_) => Err(EntryFault::NoMemory),

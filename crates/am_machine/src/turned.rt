@@ -34,7 +34,7 @@ pub(crate) fn turn_alone(
     }
     match interface.turn_alone(index.greatest_stamp(), work) {
         Ok(turned) => {
-            index.log(turned.entry, turned.out);
+            index.log(&turned.entry, turned.out);
             Ok(turned.entry)
         }
         Err(fault) => Err(fault),
@@ -74,7 +74,7 @@ pub(crate) fn turn_with(
     }
     match interface.turn_with(index.greatest_stamp(), work, endpoint) {
         Ok(turned) => {
-            index.log(turned.entry, turned.out);
+            index.log(&turned.entry, turned.out);
             Ok(turned.entry)
         }
         Err(fault) => Err(fault),

@@ -16,7 +16,22 @@ use Rattle.am_machine.proofs.Carriages.{Carriage, IsEntryOf}
 use Rattle.am_machine.proofs.Events.{carry_idle, carry_stop, stop_of}
 use Rattle.am_machine.proofs.Indexed.{applied_by, indexed, indexed_counts, indexed_stamp, indexed_still, seen_still}
 use Rattle.am_machine.proofs.Places.{lent_back, not_found, still_at}
+use Rattle.am_machine.proofs.Apart.{apart_in}
 use Rattle.am_machine.proofs.Cluster.carry_front.Goals as goal
+
+pub place_of-requires : goal.place_of-requires
+place_of-requires c =
+    let vs = c.self.inside.ends.items in
+    let journal = journal_by (map kept vs) c.self.inside.interfaces.items in
+    let layout = layout_in c.self.inside.settings c.self.inside.faults.items (map kept vs) in
+    apart_in layout vs c.deref.result.now journal c.self.invariant.kept'.tied c.deref.ensures.value
+
+pub place_of-requires-2 : goal.place_of-requires-2
+place_of-requires-2 c =
+    let vs = c.self.inside.ends.items in
+    let journal = journal_by (map kept vs) c.self.inside.interfaces.items in
+    let layout = layout_in c.self.inside.settings c.self.inside.faults.items (map kept vs) in
+    apart_in layout vs c.deref-2.result.now journal c.self.invariant.kept'.tied c.deref-2.ensures.value
 
 pub unreachable-requires : goal.unreachable-requires
 unreachable-requires c =

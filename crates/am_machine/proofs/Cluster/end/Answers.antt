@@ -6,7 +6,15 @@ use Rattle.am_machine.specs.Ends.{is_of}
 use Rattle.am_machine.specs.Kept.{journal_by, layout_in}
 use Rattle.am_machine.specs.View.{ClusterView}
 use Rattle.am_machine.proofs.Looks.{IsFoundAt, end_found, end_unknown, unknown_is}
+use Rattle.am_machine.proofs.Apart.{apart_in}
 use Rattle.am_machine.proofs.Cluster.end.Goals as goal
+
+pub place_of-requires : goal.place_of-requires
+place_of-requires c =
+    let vs = c.self.inside.ends.items in
+    let journal = journal_by (map kept vs) c.self.inside.interfaces.items in
+    let layout = layout_in c.self.inside.settings c.self.inside.faults.items (map kept vs) in
+    apart_in layout vs c.deref.result.now journal c.self.invariant.kept'.tied c.deref.ensures.value
 
 pub returns-in-Some-clause-known : goal.returns-in-Some-clause-known
 returns-in-Some-clause-known c =

@@ -10,7 +10,15 @@ use Rattle.am_machine.specs.View.{ClusterView}
 use Rattle.am_machine.proofs.Applied as applied
 use Rattle.am_machine.proofs.Moving as moving
 use Rattle.am_machine.proofs.Places.{not_found}
+use Rattle.am_machine.proofs.Apart.{apart_in}
 use Rattle.am_machine.proofs.Cluster.failing_packet_move.Goals as goal
+
+pub place_of-requires : goal.place_of-requires
+place_of-requires c =
+    let vs = c.self.inside.ends.items in
+    let journal = journal_by (map kept vs) c.self.inside.interfaces.items in
+    let layout = layout_in c.self.inside.settings c.self.inside.faults.items (map kept vs) in
+    apart_in layout vs c.deref.result.now journal c.self.invariant.kept'.tied c.deref.ensures.value
 
 pub unreachable-requires : goal.unreachable-requires
 unreachable-requires c =

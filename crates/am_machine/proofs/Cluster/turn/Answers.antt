@@ -6,7 +6,7 @@ use Rattle.am_endpoint.specs.View.{state_after}
 use Rattle.am_iface.specs.View.{own}
 use Rattle.am_moves.specs.Logs.{kept}
 use Rattle.am_machine.specs.Ends.{is_of}
-use Rattle.am_machine.specs.Kept.{journal_by}
+use Rattle.am_machine.specs.Kept.{journal_by, layout_in}
 use Rattle.am_machine.specs.Turned.{entries_after}
 use Rattle.am_machine.specs.Ways.{GoesTo, way}
 use Rattle.am_machine.proofs.Applied as applied
@@ -17,7 +17,15 @@ use Rattle.am_machine.proofs.Indexed.{applied_by, indexed}
 use Rattle.am_machine.proofs.Joint as joint
 use Rattle.am_machine.proofs.Joint.{Joint}
 use Rattle.am_machine.proofs.Places.{not_found}
+use Rattle.am_machine.proofs.Apart.{apart_in}
 use Rattle.am_machine.proofs.Cluster.turn.Goals as goal
+
+pub place_of-requires : goal.place_of-requires
+place_of-requires c =
+    let vs = c.self.inside.ends.items in
+    let journal = journal_by (map kept vs) c.self.inside.interfaces.items in
+    let layout = layout_in c.self.inside.settings c.self.inside.faults.items (map kept vs) in
+    apart_in layout vs c.deref.result.now journal c.self.invariant.kept'.tied c.deref.ensures.value
 
 pub needs-requires : goal.needs-requires
 needs-requires c =
@@ -67,8 +75,15 @@ unreachable-requires c =
     not_found c.self.inside.ends.items end (sym (c.place_of.ensures ∙ ap (position (is_of end)) c.deref.ensures.value) ∙ c.in_default-place_of.is)
     (fitting.needed_declared j end (sym c.needs.ensures.value ∙ c.in-Some.is))
 
-pub way-to-requires : goal.way-to-requires
-way-to-requires c =
+pub way-to-requires-clause-apart : goal.way-to-requires-clause-apart
+way-to-requires-clause-apart c =
+    let vs = c.self.inside.ends.items in
+    let journal = journal_by (map kept vs) c.self.inside.interfaces.items in
+    let layout = layout_in c.self.inside.settings c.self.inside.faults.items (map kept vs) in
+    apart_in layout vs c.deref-2.result.now journal c.self.invariant.kept'.tied c.deref-2.ensures.value
+
+pub way-to-requires-clause-fits : goal.way-to-requires-clause-fits
+way-to-requires-clause-fits c =
     let one = c.index_mut-interface.result.now in
     let j : Joint =
     fitting.joint_at c.self.inside.settings c.self.inside.faults.items c.self.inside.ends.items (journal_by (map kept c.self.inside.ends.items) c.self.inside.interfaces.items) c.self.inside.interfaces.items c.self.inside.swaps.items c.args.self.now

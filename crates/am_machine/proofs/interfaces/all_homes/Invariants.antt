@@ -1,5 +1,6 @@
-use Rattle.am_machine.proofs.Homes.{AreHomesUpTo}
+use Rattle.std.proofs.Common.{take}
+use Rattle.am_machine.specs.Homes.{AreHomes}
 use Rattle.am_machine.proofs.interfaces.all_homes.Given as goal
 
-abbrev pub invariant-loop-id : goal.invariant-loop-id
-invariant-loop-id l = AreHomesUpTo l.lines l.id l.homes.items
+abbrev pub invariant-loop-line : goal.invariant-loop-line
+invariant-loop-line l = AreHomes (take l.line-index l.lines) l.homes
