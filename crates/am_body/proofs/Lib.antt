@@ -8,3 +8,4 @@ pub mod Copying
 pub mod Refused
 pub mod Slots
 pub mod Fronts
+pub mod Nothing

@@ -13,8 +13,8 @@ use am_block::{Descriptor, List, Slot};
 use am_model::Flying;
 use am_names::{Message, Serial, Why};
 
-fn as_flying(descriptor: Descriptor) -> Flying
-    ensures { result ≡ flying_in descriptor }
+fn as_flying(descriptor: &Descriptor) -> Flying
+    ensures { result ≡ flying_in descriptor.now }
 {
     Flying {
         message: descriptor.message,
@@ -36,7 +36,7 @@ impl Body {
         ensures { result ≡ flying_of serial self.now.body.in_flight }
     {
         match find(&self.block, List::InFlight, Sought::Of(serial)) {
-            Some(slot) => Some(as_flying(*self.block.get(slot))),
+            Some(slot) => Some(as_flying(self.block.get(slot))),
             None => None,
         }
     }
@@ -56,7 +56,7 @@ impl Body {
         ensures flying { Some result ≡ flying_of serial self.old.body.in_flight }
         ensures landed { self.new ≡ record self.old { body = without_flight serial self.old.body; flights = without slot.0 self.old.flights } }
     {
-        let flying = as_flying(*self.block.get(slot));
+        let flying = as_flying(self.block.get(slot));
         self.block.move_slot(slot, List::Free);
         flying
     }

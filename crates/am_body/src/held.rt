@@ -3,7 +3,7 @@ ghost use Rattle.am_body.specs.Views.{on_host};
 ghost use Rattle.am_model.specs.Calls.{busy_refusal, messages_held};
 ghost use Rattle.am_model.specs.Changes.{has_arrivals, has_queued};
 ghost use Rattle.am_model.specs.Endpoint.{replies_held, requests_held};
-ghost use Rattle.std.specs.Prelude.{◌≡◌, ◌+◌, ◌≤◌, ◌==◌, length, not};
+ghost use Rattle.std.specs.Prelude.{◌≡◌, ◌↔◌, ◌+◌, ◌≤◌, ◌==◌, [], false, length, not};
 
 use crate::Body;
 use crate::walks::{Sought, count};
@@ -57,8 +57,16 @@ impl Body {
         self.block.len(List::Replies) != 0
     }
 
-    /// Whether a notice or a received message is there.
+    /// Whether a notice or a received message is there. False exactly where there is neither.
     pub fn has_arrivals(&self) -> bool
+        ensures value { result ≡ has_arrivals self.now.body }
+        ensures none { (result ≡ false) ↔ ((self.now.body.notices ≡ []) × (self.now.body.received ≡ [])) }
+    {
+        self.may_poll()
+    }
+
+    /// Whether a notice or a received message is there, by the lengths of their lists.
+    fn may_poll(&self) -> bool
         ensures { result ≡ has_arrivals self.now.body }
     {
         self.block.len(List::Notices) != 0 || self.block.len(List::Received) != 0

@@ -2,6 +2,7 @@
 ghost use Rattle.am_block.specs.Pools.{IsBlock, size, slots};
 ghost use Rattle.am_body.specs.Moves.{filed};
 ghost use Rattle.am_body.specs.Moves.{first_of, freed};
+ghost use Rattle.std.specs.Option.{option_map};
 ghost use Rattle.std.specs.Prelude.{◌≡◌, [], ◌∷◌, MatchOption, drop};
 
 use am_block::{Block, Descriptor, List, Slot};
@@ -32,11 +33,11 @@ pub(crate) fn free_front(block: &mut Block, from: List)
 }
 
 /// The descriptor of the first slot of a list, if it has one.
-pub(crate) fn front_descriptor(block: &Block, list: List) -> Option<Descriptor>
-    ensures { result ≡ first_of block.now (slots block.now list) }
+pub(crate) fn front_descriptor(block: &Block, list: List) -> Option<&Descriptor>
+    ensures { option_map (λ d. d.now) result ≡ first_of block.now (slots block.now list) }
 {
     match block.front(list) {
         None => None,
-        Some(slot) => Some(*block.get(slot)),
+        Some(slot) => Some(block.get(slot)),
     }
 }

@@ -8,8 +8,8 @@ use am_block::{Descriptor, List};
 use am_model::Notice;
 use am_names::{Message, Why};
 
-fn as_notice(descriptor: Descriptor) -> Notice
-    ensures { result ≡ notice_in descriptor }
+fn as_notice(descriptor: &Descriptor) -> Notice
+    ensures { result ≡ notice_in descriptor.now }
 {
     Notice {
         message: descriptor.message,

@@ -1,7 +1,7 @@
 // Messages of its own that an endpoint has to send.
 ghost use Rattle.am_body.specs.Views.{slots_held};
 ghost use Rattle.am_body.specs.Views.{queued_in};
-ghost use Rattle.am_model.specs.Changes.{queued, without_front};
+ghost use Rattle.am_model.specs.Changes.{bounces_of, queued, without_front};
 ghost use Rattle.am_model.specs.Endpoint.{front_of};
 ghost use Rattle.am_names.specs.Names.{is_request};
 ghost use Rattle.std.specs.Prelude.{◌≡◌, ◌↔◌, ◌<◌, [], None};
@@ -22,8 +22,8 @@ pub fn is_request(message: &Message) -> bool
     }
 }
 
-fn as_queued(descriptor: Descriptor) -> Queued
-    ensures { result ≡ queued_in descriptor }
+fn as_queued(descriptor: &Descriptor) -> Queued
+    ensures { result ≡ queued_in descriptor.now }
 {
     Queued {
         message: descriptor.message,
@@ -45,12 +45,25 @@ impl Body {
     fn first_queued(&self) -> Option<Queued>
         ensures { result ≡ front_of self.now.body.replies self.now.body.requests }
     {
-        match front_descriptor(&self.block, List::Replies) {
-            Some(reply) => Some(as_queued(reply)),
-            None => match front_descriptor(&self.block, List::Requests) {
-                Some(request) => Some(as_queued(request)),
-                None => None,
-            },
+        if let Some(reply) = front_descriptor(&self.block, List::Replies) {
+            return Some(as_queued(reply));
+        }
+        match front_descriptor(&self.block, List::Requests) {
+            Some(request) => Some(as_queued(request)),
+            None => None,
+        }
+    }
+
+    /// How often the front message bounced, and 0 where there is none.
+    pub fn front_bounces(&self) -> u8
+        ensures { result ≡ bounces_of self.now.body.replies self.now.body.requests }
+    {
+        if let Some(first) = front_descriptor(&self.block, List::Replies) {
+            return first.used;
+        }
+        match front_descriptor(&self.block, List::Requests) {
+            Some(first) => first.used,
+            None => 0,
         }
     }
 

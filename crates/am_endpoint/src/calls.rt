@@ -176,6 +176,7 @@ impl Fields {
 
 impl Fields {
     /// Makes a call of the endpoint `e`, and tells what comes of it.
+    #[inline(never)]
     pub fn call(&mut self, e: EndpointId, call: Call) -> Outcome
         requires count { self.old.body.body.accepted + 1 < 2 ^ 32 }
         requires order { IsInOrder self.old.body.pool e (state_in self.old) }

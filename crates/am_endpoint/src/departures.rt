@@ -16,10 +16,7 @@ impl Fields {
     fn front_bounces(&self) -> u8
         ensures { result ≡ bounces_of self.now.body.body.replies self.now.body.body.requests }
     {
-        match self.front() {
-            None => 0,
-            Some(queued) => queued.bounces,
-        }
+        self.body.front_bounces()
     }
 
     /// A message arrives and is accepted.
@@ -68,13 +65,13 @@ impl Fields {
     }
 
     /// The source after a carry with this outcome.
-    fn leave(&mut self, outcome: Outcome)
-        requires { Fits (left (state_in self.old) outcome).body }
-        ensures state { state_in self.new ≡ left (state_in self.old) outcome }
+    fn leave(&mut self, outcome: &Outcome)
+        requires { Fits (left (state_in self.old) outcome.now).body }
+        ensures state { state_in self.new ≡ left (state_in self.old) outcome.now }
         ensures pool { self.new.body.pool ≡ self.old.body.pool }
         ensures flights { self.new.body.flights ≡ self.old.body.flights }
     {
-        match outcome {
+        match *outcome {
             Outcome::Accepted(_) => self.body.drop_front(),
             Outcome::Requeued { message, used, .. } => self.requeue_front(message, used),
             Outcome::Returned { message, cause } => self.return_front(message, Why::Refused(cause)),
@@ -83,9 +80,9 @@ impl Fields {
     }
 
     /// The endpoint `e` after a carry from `from` with this outcome, but for what reaches it.
-    fn leave_from(&mut self, e: EndpointId, from: EndpointId, outcome: Outcome)
-        requires { Fits (cond (same_end e from) (left (state_in self.old) outcome) (state_in self.old)).body }
-        ensures state { state_in self.new ≡ cond (same_end e from) (left (state_in self.old) outcome) (state_in self.old) }
+    fn leave_from(&mut self, e: EndpointId, from: EndpointId, outcome: &Outcome)
+        requires { Fits (cond (same_end e from) (left (state_in self.old) outcome.now) (state_in self.old)).body }
+        ensures state { state_in self.new ≡ cond (same_end e from) (left (state_in self.old) outcome.now) (state_in self.old) }
         ensures pool { self.new.body.pool ≡ self.old.body.pool }
         ensures flights { self.new.body.flights ≡ self.old.body.flights }
     {
@@ -95,24 +92,24 @@ impl Fields {
     }
 
     /// The destination after a carry with this outcome.
-    fn reach(&mut self, e: EndpointId, outcome: Outcome)
-        requires { Fits (reached e (state_in self.old) outcome).body }
-        ensures state { state_in self.new ≡ reached e (state_in self.old) outcome }
+    fn reach(&mut self, e: EndpointId, outcome: &Outcome)
+        requires { Fits (reached e (state_in self.old) outcome.now).body }
+        ensures state { state_in self.new ≡ reached e (state_in self.old) outcome.now }
         ensures pool { self.new.body.pool ≡ self.old.body.pool }
         ensures flights { self.new.body.flights ≡ self.old.body.flights }
     {
         match outcome {
             Outcome::Accepted(m) => if e.0 == m.dest.0 {
-                self.put(m);
+                self.put(*m);
             },
             _ => {}
         }
     }
 
     /// After a carry from the endpoint `from` with this outcome.
-    pub fn carry(&mut self, e: EndpointId, from: EndpointId, outcome: Outcome)
-        requires { Fits (carried e from (state_in self.old) outcome).body }
-        ensures state { state_in self.new ≡ carried e from (state_in self.old) outcome }
+    pub fn carry(&mut self, e: EndpointId, from: EndpointId, outcome: &Outcome)
+        requires { Fits (carried e from (state_in self.old) outcome.now).body }
+        ensures state { state_in self.new ≡ carried e from (state_in self.old) outcome.now }
         ensures pool { self.new.body.pool ≡ self.old.body.pool }
         ensures flights { self.new.body.flights ≡ self.old.body.flights }
     {

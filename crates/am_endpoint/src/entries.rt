@@ -29,15 +29,15 @@ impl Fields {
     }
 
     /// After a receipt of a message with this result.
-    fn arrive(&mut self, e: EndpointId, what: Received)
-        requires message { is_some (message_in what) ≡ true }
-        requires fits { Fits (received e (state_in self.old) what).body }
-        ensures state { state_in self.new ≡ received e (state_in self.old) what }
+    fn arrive(&mut self, e: EndpointId, what: &Received)
+        requires message { is_some (message_in what.now) ≡ true }
+        requires fits { Fits (received e (state_in self.old) what.now).body }
+        ensures state { state_in self.new ≡ received e (state_in self.old) what.now }
         ensures pool { self.new.body.pool ≡ self.old.body.pool }
         ensures flights { self.new.body.flights ≡ self.old.body.flights }
     {
         match what {
-            Received::Accepted { message, .. } => self.put(message),
+            Received::Accepted { message, .. } => self.put(*message),
             Received::Refused {
                 cause: Cause::NotResident,
                 ..
@@ -48,17 +48,16 @@ impl Fields {
     }
 
     /// After an entry that touches it, and is no call, where it stays in memory with its messages in flight.
-    pub fn apply(&mut self, e: EndpointId, entry: Entry)
-        requires keeps { keeps_flights entry.event entry.outcome ≡ true }
-        requires fits { Fits (after e (state_in self.old) entry).body }
-        ensures state { state_in self.new ≡ after e (state_in self.old) entry }
+    pub fn apply(&mut self, e: EndpointId, entry: &Entry)
+        requires keeps { keeps_flights entry.now.event entry.now.outcome ≡ true }
+        requires fits { Fits (after e (state_in self.old) entry.now).body }
+        ensures state { state_in self.new ≡ after e (state_in self.old) entry.now }
         ensures pool { self.new.body.pool ≡ self.old.body.pool }
         ensures flights { self.new.body.flights ≡ self.old.body.flights }
     {
-        let outcome = entry.outcome;
         match entry.event {
-            Event::Carry { end } => self.carry(e, end, outcome),
-            Event::Receive { .. } => match outcome {
+            Event::Carry { end } => self.carry(e, end, &entry.outcome),
+            Event::Receive { .. } => match &entry.outcome {
                 Outcome::Received { result: what, .. } => self.arrive(e, what),
                 _ => unreachable!(),
             },

@@ -39,14 +39,14 @@ impl Fields {
     }
 
     /// After a receipt with this result, which settles the message in flight at this slot.
-    fn settle_answered(&mut self, e: EndpointId, what: Received, slot: Slot)
-        requires slot { IsSlotOf (settled_by what) self.old.body.body.in_flight self.old.body.flights slot.0 }
-        requires fits { Fits (received e (state_in self.old) what).body }
-        ensures state { state_in self.new ≡ received e (state_in self.old) what }
+    fn settle_answered(&mut self, e: EndpointId, what: &Received, slot: Slot)
+        requires slot { IsSlotOf (settled_by what.now) self.old.body.body.in_flight self.old.body.flights slot.0 }
+        requires fits { Fits (received e (state_in self.old) what.now).body }
+        ensures state { state_in self.new ≡ received e (state_in self.old) what.now }
         ensures pool { self.new.body.pool ≡ self.old.body.pool }
         ensures flights { self.new.body.flights ≡ without slot.0 self.old.body.flights }
     {
-        match what {
+        match *what {
             Received::Delivered(serial) => {
                 self.body.land(serial, slot);
             }
@@ -59,14 +59,14 @@ impl Fields {
     }
 
     /// After a time-out with this outcome, which gives up the message in flight at this slot.
-    fn expire(&mut self, outcome: Outcome, slot: Slot)
-        requires slot { IsSlotOf (given_up_by outcome) self.old.body.body.in_flight self.old.body.flights slot.0 }
-        requires fits { Fits (expired (state_in self.old) outcome).body }
-        ensures state { state_in self.new ≡ expired (state_in self.old) outcome }
+    fn expire(&mut self, outcome: &Outcome, slot: Slot)
+        requires slot { IsSlotOf (given_up_by outcome.now) self.old.body.body.in_flight self.old.body.flights slot.0 }
+        requires fits { Fits (expired (state_in self.old) outcome.now).body }
+        ensures state { state_in self.new ≡ expired (state_in self.old) outcome.now }
         ensures pool { self.new.body.pool ≡ self.old.body.pool }
         ensures flights { self.new.body.flights ≡ without slot.0 self.old.body.flights }
     {
-        match outcome {
+        match *outcome {
             Outcome::Delivered(serial) => {
                 self.body.land(serial, slot);
             }
@@ -76,20 +76,19 @@ impl Fields {
     }
 
     /// After an entry that settles the message in flight at this slot, or gives it up.
-    pub fn settle(&mut self, e: EndpointId, entry: Entry, slot: Slot)
-        requires slot { IsSlotOf (settled_in entry.event entry.outcome) self.old.body.body.in_flight self.old.body.flights slot.0 }
-        requires fits { Fits (after e (state_in self.old) entry).body }
-        ensures state { state_in self.new ≡ after e (state_in self.old) entry }
+    pub fn settle(&mut self, e: EndpointId, entry: &Entry, slot: Slot)
+        requires slot { IsSlotOf (settled_in entry.now.event entry.now.outcome) self.old.body.body.in_flight self.old.body.flights slot.0 }
+        requires fits { Fits (after e (state_in self.old) entry.now).body }
+        ensures state { state_in self.new ≡ after e (state_in self.old) entry.now }
         ensures pool { self.new.body.pool ≡ self.old.body.pool }
         ensures flights { self.new.body.flights ≡ without slot.0 self.old.body.flights }
     {
-        let outcome = entry.outcome;
         match entry.event {
-            Event::Receive { .. } => match outcome {
+            Event::Receive { .. } => match &entry.outcome {
                 Outcome::Received { result: what, .. } => self.settle_answered(e, what, slot),
                 _ => unreachable!(),
             },
-            Event::Expire { .. } => self.expire(outcome, slot),
+            Event::Expire { .. } => self.expire(&entry.outcome, slot),
             _ => unreachable!(),
         }
     }

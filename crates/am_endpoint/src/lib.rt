@@ -327,8 +327,8 @@ impl Endpoint {
         let Held::Here(fields) = &mut self.held else {
             unreachable!()
         };
-        fields.apply(end, entry);
-        self.log.push(entry).unwrap();
+        fields.apply(end, &entry);
+        self.log.push_reserved(entry);
     }
 
     /// Logs an entry that changes at most whether the endpoint is wanted.
@@ -343,7 +343,7 @@ impl Endpoint {
         ensures same { (state_after self.new).body ≡ (state_after self.old).body }
     {
         self.held.set_wanted(wanted);
-        self.log.push(entry).unwrap();
+        self.log.push_reserved(entry);
     }
 }
 
@@ -380,7 +380,7 @@ impl Endpoint {
             event: Event::Call { actor, end, call },
             outcome,
         };
-        self.log.push(made).unwrap();
+        self.log.push_reserved(made);
         made
     }
 
@@ -500,7 +500,7 @@ impl Endpoint {
             unreachable!()
         };
         let slot = fields.fly_front(message);
-        self.log.push(entry).unwrap();
+        self.log.push_reserved(entry);
         slot
     }
 
@@ -519,8 +519,8 @@ impl Endpoint {
         let Held::Here(fields) = &mut self.held else {
             unreachable!()
         };
-        fields.settle(end, entry, slot);
-        self.log.push(entry).unwrap();
+        fields.settle(end, &entry, slot);
+        self.log.push_reserved(entry);
     }
 
     /// It binds no more messages, and still receives.
@@ -575,7 +575,7 @@ impl Endpoint {
         let Held::Here(fields) = replace(&mut self.held, Held::OnDisk(head)) else {
             unreachable!()
         };
-        self.log.push(entry).unwrap();
+        self.log.push_reserved(entry);
         fields.body
     }
 
@@ -620,7 +620,7 @@ impl Endpoint {
             ..self.head()
         };
         self.held = Held::Here(Fields { head, body });
-        self.log.push(entry).unwrap();
+        self.log.push_reserved(entry);
     }
 
     /// Logs that it was not paged in. Its body, which is elsewhere, stays what it is.

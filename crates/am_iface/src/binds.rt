@@ -109,18 +109,18 @@ impl Interface {
         channel: u8,
         idle: Ends,
         message: Message,
-        entry: Entry,
+        entry: &Entry,
         endpoint: &mut Endpoint,
     ) -> Result<Turned, EntryFault>
         requires peer { peer.0 < self.old.settings.nodes }
         requires channel { channel < self.old.settings.channels }
         requires idle { IsNone idle.sending.bound }
         requires sequence { idle.sending.seq < 2 ^ 32 - 1 }
-        requires made { (slot : Slot) → IsMade (channel_in (own self.old) peer channel) self.old.log (after idle (Calls.Bind message slot)) entry }
-        requires allowed { MayBind endpoint.old.settings.node endpoint.old.settings.id (state_after endpoint.old) entry }
-        ensures turned { IfOk result (λ t. t ≡ record { entry = entry; out = emitted_of entry }) }
-        ensures logged { OnOk result (self.new ≡ record self.old { log = self.old.log ++ entry ∷ [] }) }
-        ensures there { OnOk result (endpoint.new.log ≡ endpoint.old.log ++ entry ∷ []) }
+        requires made { (slot : Slot) → IsMade (channel_in (own self.old) peer channel) self.old.log (after idle (Calls.Bind message slot)) entry.now }
+        requires allowed { MayBind endpoint.old.settings.node endpoint.old.settings.id (state_after endpoint.old) entry.now }
+        ensures turned { IfOk result (λ t. t ≡ record { entry = entry.now; out = emitted_of entry.now }) }
+        ensures logged { OnOk result (self.new ≡ record self.old { log = self.old.log ++ entry.now ∷ [] }) }
+        ensures there { OnOk result (endpoint.new.log ≡ endpoint.old.log ++ entry.now ∷ []) }
         ensures flights { OnOk result ((slot : ℕ) × (endpoint.new.flights ≡ endpoint.old.flights ++ slot ∷ [])) }
         ensures settings { endpoint.new.settings ≡ endpoint.old.settings }
         ensures enabled { (c : Condition) → result ≢ Err (EntryFault.NotEnabled c) }
@@ -136,8 +136,8 @@ impl Interface {
             return Err(EntryFault::NoMemory);
         }
         let mut ends = idle;
-        bind(&mut ends, message, endpoint.take(entry));
-        let out = emitted_of(&entry);
+        bind(&mut ends, message, endpoint.take(*entry));
+        let out = emitted_of(entry);
         write(
             &mut self.ends,
             &mut self.emissions,
@@ -146,8 +146,8 @@ impl Interface {
             ends,
             out.is_some(),
         );
-        self.log.push(entry).unwrap();
-        Ok(Turned { entry, out })
+        self.log.push_reserved(*entry);
+        Ok(Turned { entry: *entry, out })
     }
 
     /// Binds the front message to the lowest free channel to its destination's node.
@@ -173,7 +173,7 @@ impl Interface {
         let number = self.next_number(peer);
         let outcome = sent(queued.message, peer, channel, numbers, number);
         let entry = bind_entry(self.node(), stamp, endpoint.id(), outcome);
-        self.enter_bound(peer, channel, ends, queued.message, entry, endpoint)
+        self.enter_bound(peer, channel, ends, queued.message, &entry, endpoint)
     }
 
     /// Binds the front message, which nothing keeps from being bound.

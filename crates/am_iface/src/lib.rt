@@ -248,14 +248,14 @@ impl Interface {
         &mut self,
         peer: NodeId,
         channel: u8,
-        ends: Ends,
-        entry: Entry,
+        ends: &Ends,
+        entry: &Entry,
     ) -> Result<Turned, EntryFault>
         requires peer { peer.0 < self.old.settings.nodes }
         requires channel { channel < self.old.settings.channels }
-        requires made { IsMade (channel_in (own self.old) peer channel) self.old.log ends entry }
-        ensures turned { IfOk result (λ t. t ≡ record { entry = entry; out = emitted_of entry }) }
-        ensures logged { OnOk result (self.new ≡ record self.old { log = self.old.log ++ entry ∷ [] }) }
+        requires made { IsMade (channel_in (own self.old) peer channel) self.old.log ends.now entry.now }
+        ensures turned { IfOk result (λ t. t ≡ record { entry = entry.now; out = emitted_of entry.now }) }
+        ensures logged { OnOk result (self.new ≡ record self.old { log = self.old.log ++ entry.now ∷ [] }) }
         ensures enabled { (c : Condition) → result ≢ Err (EntryFault.NotEnabled c) }
         ensures full { (p : Part) → (result ≡ Err (EntryFault.LogFull p)) ↔ ((p ≡ Part.Interface self.old.settings.node) × (length self.old.log ≡ self.old.settings.log)) }
         ensures err { OnErr result (self.new ≡ self.old) }
@@ -266,17 +266,17 @@ impl Interface {
         if self.log.reserve(1).is_err() {
             return Err(EntryFault::NoMemory);
         }
-        let out = packets::emitted_of(&entry);
+        let out = packets::emitted_of(entry);
         write(
             &mut self.ends,
             &mut self.emissions,
             peer,
             channel,
-            ends,
+            *ends,
             out.is_some(),
         );
-        self.log.push(entry).unwrap();
-        Ok(Turned { entry, out })
+        self.log.push_reserved(*entry);
+        Ok(Turned { entry: *entry, out })
     }
 
     /// How often a message may bounce.
@@ -318,7 +318,7 @@ impl Interface {
         let answer = self.next_number(p.from);
         let came = repeat(&ends, answer, p);
         let entry = parcel_receipt(self.node(), stamp, p, came);
-        self.enter(p.from, p.channel, ends, entry)
+        self.enter(p.from, p.channel, &ends, &entry)
     }
 
     /// Receives an answer that counts for nothing.
@@ -329,7 +329,7 @@ impl Interface {
     {
         let ends = self.ends(p.from, p.channel);
         let entry = answer_receipt(self.node(), stamp, p, Received::Nothing);
-        self.enter(p.from, p.channel, ends, entry)
+        self.enter(p.from, p.channel, &ends, &entry)
     }
 
     /// The stamp of an entry that is made now.
@@ -375,7 +375,7 @@ impl Interface {
                     sent,
                     number,
                 );
-                self.enter(peer, channel, ends, entry)
+                self.enter(peer, channel, &ends, &entry)
             }
             TimedOut::GaveUp(_) => unreachable!(),
         }

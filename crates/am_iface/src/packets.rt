@@ -1,15 +1,15 @@
 // The packet that an entry emits.
 ghost use Rattle.am_office.specs.Entries as does;
-ghost use Rattle.std.specs.Prelude.{◌≡◌};
+ghost use Rattle.std.specs.Prelude.{◌≡◌, ℕ};
 
 use am_names::{AnswerPacket, NodeId, Packet, Parcel, Verdict};
 use am_office::{Entry, Event, Outcome, Received};
 
 /// The answer in a receipt, if it sends one.
-fn answer_by(received: Received) -> Option<(u32, Verdict)>
-    ensures { result ≡ does.answer_by received }
+fn answer_by(received: &Received) -> Option<(u32, Verdict)>
+    ensures { result ≡ does.answer_by received.now }
 {
-    match received {
+    match *received {
         Received::Accepted { answer, .. } => Some((answer, Verdict::Accepted)),
         Received::Refused { cause, answer, .. } => Some((answer, Verdict::Refused(cause))),
         Received::Again {
@@ -22,10 +22,10 @@ fn answer_by(received: Received) -> Option<(u32, Verdict)>
 }
 
 /// The parcel that an entry of this node emits, if its outcome is one that sends a message.
-fn parcel(node: NodeId, stamp: u64, outcome: Outcome) -> Option<Packet>
-    ensures { result ≡ does.parcel node stamp outcome }
+fn parcel(node: NodeId, stamp: u64, outcome: &Outcome) -> Option<Packet>
+    ensures { result ≡ does.parcel node stamp outcome.now }
 {
-    match outcome {
+    match *outcome {
         Outcome::Sent {
             message,
             peer,
@@ -47,34 +47,41 @@ fn parcel(node: NodeId, stamp: u64, outcome: Outcome) -> Option<Packet>
     }
 }
 
-/// The packet that an entry emits.
-pub fn emitted_of(entry: &Entry) -> Option<Packet>
-    ensures { result ≡ does.emitted_of entry.now }
+/// The answer that the receipt of a packet from this peer emits, if it sends one.
+fn answer(node: NodeId, peer: NodeId, stamp: u64, outcome: &Outcome) -> Option<Packet>
+    ensures { (number : ℕ) → result ≡ does.emitted_in stamp (Event.Receive node peer number) outcome.now }
 {
-    match (entry.event, entry.outcome) {
-        (Event::Bind { node, .. }, outcome) => parcel(node, entry.stamp, outcome),
-        (Event::Expire { node, .. }, outcome) => parcel(node, entry.stamp, outcome),
-        (
-            Event::Receive { node, peer, .. },
-            Outcome::Received {
-                channel,
-                seq,
-                attempt,
-                result: received,
-            },
-        ) => match answer_by(received) {
+    match outcome {
+        Outcome::Received {
+            channel,
+            seq,
+            attempt,
+            result: received,
+        } => match answer_by(received) {
             Some((number, verdict)) => Some(Packet::Answer(AnswerPacket {
                 from: node,
                 to: peer,
-                channel,
-                seq,
-                attempt,
+                channel: *channel,
+                seq: *seq,
+                attempt: *attempt,
                 number,
-                stamp: entry.stamp,
+                stamp,
                 verdict,
             })),
             None => None,
         },
+        _ => None,
+    }
+}
+
+/// The packet that an entry emits.
+pub fn emitted_of(entry: &Entry) -> Option<Packet>
+    ensures { result ≡ does.emitted_of entry.now }
+{
+    match entry.event {
+        Event::Bind { node, .. } => parcel(node, entry.stamp, &entry.outcome),
+        Event::Expire { node, .. } => parcel(node, entry.stamp, &entry.outcome),
+        Event::Receive { node, peer, .. } => answer(node, peer, entry.stamp, &entry.outcome),
         _ => None,
     }
 }

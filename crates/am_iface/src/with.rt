@@ -58,15 +58,15 @@ impl Interface {
         &mut self,
         peer: NodeId,
         channel: u8,
-        ends: Ends,
-        entry: Entry,
+        ends: &Ends,
+        entry: &Entry,
         endpoint: &mut Endpoint,
     ) -> Result<Turned, EntryFault>
         requires peer { peer.0 < self.old.settings.nodes }
         requires channel { channel < self.old.settings.channels }
-        requires made { IsMade (channel_in (own self.old) peer channel) self.old.log ends entry }
-        ensures turned { IfOk result (λ t. t ≡ record { entry = entry; out = emitted_of entry }) }
-        ensures logged { OnOk result (self.new ≡ record self.old { log = self.old.log ++ entry ∷ [] }) }
+        requires made { IsMade (channel_in (own self.old) peer channel) self.old.log ends.now entry.now }
+        ensures turned { IfOk result (λ t. t ≡ record { entry = entry.now; out = emitted_of entry.now }) }
+        ensures logged { OnOk result (self.new ≡ record self.old { log = self.old.log ++ entry.now ∷ [] }) }
         ensures ready { OnOk result (endpoint.new.ready ≡ true) }
         ensures there { OnOk result (length endpoint.new.log < endpoint.new.settings.log) }
         ensures settings { endpoint.new.settings ≡ endpoint.old.settings }
@@ -76,10 +76,10 @@ impl Interface {
         ensures full { (p : Part) → (result ≡ Err (EntryFault.LogFull p)) ↔ IsFullOf self.old endpoint.old p }
         ensures err { OnErr result (self.new ≡ self.old) }
     {
-        match self.room_with(endpoint) {
-            Ok(()) => self.enter(peer, channel, ends, entry),
-            Err(fault) => Err(fault),
+        if let Err(fault) = self.room_with(endpoint) {
+            return Err(fault);
         }
+        self.enter(peer, channel, ends, entry)
     }
 
     /// Receives a fresh parcel, which gets its destination's verdict.
@@ -99,7 +99,7 @@ impl Interface {
         decide(&mut ends, p, verdict);
         let came = decided(p.message, self.next_number(p.from), verdict);
         let entry = parcel_receipt(self.node(), stamp, p, came);
-        match self.enter_with(p.from, p.channel, ends, entry, endpoint) {
+        match self.enter_with(p.from, p.channel, &ends, &entry, endpoint) {
             Ok(turned) => {
                 endpoint.put(entry);
                 Ok(turned)
@@ -143,9 +143,9 @@ impl Interface {
             unreachable!()
         };
         let entry = self.settling_entry(stamp, p, bound.message, flight, verdict);
-        match self.enter_with(p.from, p.channel, ends, entry, endpoint) {
+        match self.enter_with(p.from, p.channel, &ends, &entry, endpoint) {
             Ok(turned) => {
-                settle(endpoint, bound.message.serial, entry);
+                settle(endpoint, bound.message.serial, &entry);
                 Ok(turned)
             }
             Err(fault) => Err(fault),
@@ -183,9 +183,9 @@ impl Interface {
             bound.message,
             flight.answered,
         );
-        match self.enter_with(peer, channel, ends, entry, endpoint) {
+        match self.enter_with(peer, channel, &ends, &entry, endpoint) {
             Ok(turned) => {
-                settle(endpoint, bound.message.serial, entry);
+                settle(endpoint, bound.message.serial, &entry);
                 Ok(turned)
             }
             Err(fault) => Err(fault),
@@ -290,17 +290,17 @@ impl Interface {
 }
 
 /// The message in flight with this serial is settled or given up, by this entry.
-fn settle(endpoint: &mut Endpoint, serial: Serial, entry: Entry)
+fn settle(endpoint: &mut Endpoint, serial: Serial, entry: &Entry)
     requires ready { endpoint.old.ready ≡ true }
     requires room { length endpoint.old.log < endpoint.old.settings.log }
-    requires allowed { MaySettle endpoint.old.settings.bounces endpoint.old.settings.id (state_after endpoint.old) entry }
-    requires serial { settled_in entry.event entry.outcome ≡ Some serial }
+    requires allowed { MaySettle endpoint.old.settings.bounces endpoint.old.settings.id (state_after endpoint.old) entry.now }
+    requires serial { settled_in entry.now.event entry.now.outcome ≡ Some serial }
     ensures settings { endpoint.new.settings ≡ endpoint.old.settings }
-    ensures log { endpoint.new.log ≡ endpoint.old.log ++ entry ∷ [] }
-    ensures flights { Lands entry endpoint.old endpoint.new }
+    ensures log { endpoint.new.log ≡ endpoint.old.log ++ entry.now ∷ [] }
+    ensures flights { Lands entry.now endpoint.old endpoint.new }
 {
     let Some(slot) = endpoint.flight_slot(serial) else {
         unreachable!()
     };
-    endpoint.settle(entry, slot);
+    endpoint.settle(*entry, slot);
 }

@@ -37,10 +37,10 @@ invariant_of-self c =
     let i = c.self.inside in
     let here = here_of i.settings.pool (replayed i) i.held c.in-Here.fields c.self.invariant.held c.in-Here.is in
     let x : Entry = record { stamp = c.args.stamp; event = Events.Call c.args.actor i.settings.id c.args.call; outcome = c.call-outcome.result } in
-    let items : c.push.new.self.items ≡ i.log.items ++ x ∷ [] = grind (arith, common_steps) in
+    let items : c.push_reserved.new.self.items ≡ i.log.items ++ x ∷ [] = grind (arith, common_steps) in
     let room : length i.log.items < i.settings.log = subst (λ (v : EndpointView). length v.log < v.settings.log) (sym c.self.view_is) c.requires.room in
     let range : are_numbers_in_range i.settings.pool c.args.call ≡ true =
     subst (λ (v : EndpointView). are_numbers_in_range v.settings.pool c.args.call ≡ true) (sym c.self.view_is) c.requires.numbers in
-    entered i (Here c.call-outcome.new.self) c.push.new.self x c.self.invariant items room
+    entered i (Here c.call-outcome.new.self) c.push_reserved.new.self x c.self.invariant items room
     (here_called i c.in-Here.fields c.call-outcome.new.self c.args.call c.call-outcome.result here c.call-outcome.ensures.state c.call-outcome.ensures.pool)
     (order_made i c.in-Here.fields c.args.call c.call-outcome.result c.self.invariant here range c.call-outcome.ensures.outcome)

@@ -33,9 +33,9 @@ invariant_of-self c =
     let v = c.args.self.now in
     let x = c.args.entry in
     let f = c.in-Here.fields in
-    let items : c.push.new.self.items ≡ i.log.items ++ x ∷ [] = grind (arith, common_steps) in
+    let items : c.push_reserved.new.self.items ≡ i.log.items ++ x ∷ [] = grind (arith, common_steps) in
     let room : length i.log.items < i.settings.log = subst (λ (w : EndpointView). length w.log < w.settings.log) (sym c.self.view_is) c.requires.room in
-    entered i (Here c.settle.new.self) c.push.new.self x c.self.invariant items room
+    entered i (Here c.settle.new.self) c.push_reserved.new.self x c.self.invariant items room
     (here_after i f c.settle.new.self x (settling_keeps v.settings.bounces v.settings.id (state_after v) x c.requires.allowed)
     (here_of i.settings.pool (replayed i) i.held f c.self.invariant.held c.in-Here.is) c.settle.ensures.state c.settle.ensures.pool)
     (order_next i v x c.self.view_is c.self.invariant (order_settled v.settings.bounces v.settings.pool v.settings.id (state_after v) x c.requires.allowed))

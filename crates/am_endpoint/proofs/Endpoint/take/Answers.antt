@@ -34,9 +34,9 @@ invariant_of-self c =
     let o = c.in-Sent in
     let here = here_of i.settings.pool (replayed i) i.held f c.self.invariant.held c.in-Here.is in
     let order = order_next i v x c.self.view_is c.self.invariant (order_bound v.settings.bounces v.settings.pool v.settings.node v.settings.id (state_after v) x c.requires.allowed) in
-    let items : c.push.new.self.items ≡ i.log.items ++ x ∷ [] = grind (arith, common_steps) in
+    let items : c.push_reserved.new.self.items ≡ i.log.items ++ x ∷ [] = grind (arith, common_steps) in
     let room : length i.log.items < i.settings.log = subst (λ (w : EndpointView). length w.log < w.settings.log) (sym c.self.view_is) c.requires.room in
-    entered i (Here c.fly_front-slot.new.self) c.push.new.self x c.self.invariant items room
+    entered i (Here c.fly_front-slot.new.self) c.push_reserved.new.self x c.self.invariant items room
     (here_after i f c.fly_front-slot.new.self x (ap keeps_in_memory c.requires.allowed.event) here
     (c.fly_front-slot.ensures.state ∙ sym (bound_so i.settings.id (state_in f) x v.settings.node v.settings.id o.message o.peer o.channel o.seq o.attempt o.number c.requires.allowed.event o.is))
     c.fly_front-slot.ensures.pool)

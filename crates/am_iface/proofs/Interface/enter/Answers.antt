@@ -10,7 +10,7 @@ write-requires-clause-count c =
 
 pub invariant_of-self-2 : goal.invariant_of-self-2
 invariant_of-self-2 c =
-    let items : c.push.new.self.items ≡ c.self.inside.log.items ++ c.args.entry ∷ [] = grind (arith, common_steps) in
+    let items : c.push_reserved.new.self.items ≡ c.self.inside.log.items ++ c.args.entry.now ∷ [] = grind (arith, common_steps) in
     let room : length c.self.inside.log.items < c.self.inside.limits.log = omega (arith, c.len.ensures) in
-    entering.entered_seen c.self.inside c.args.self.now c.args.peer c.args.channel c.args.ends c.args.entry c.is_some.result c.write.new.all.items c.write.new.emissions.items c.push.new.self.items c.self.view_is c.self.invariant c.requires.peer c.requires.channel room c.requires.made
+    entering.entered_seen c.self.inside c.args.self.now c.args.peer c.args.channel c.args.ends.now c.args.entry.now c.is_some.result c.write.new.all.items c.write.new.emissions.items c.push_reserved.new.self.items c.self.view_is c.self.invariant c.requires.peer c.requires.channel room c.requires.made
     (record { emits = c.is_some.ensures ∙ ap is_some c.emitted_of-out.ensures; ends = c.write.ensures.ends; emissions = c.write.ensures.emissions; log = items })

@@ -24,10 +24,10 @@ write-requires-clause-count c =
 pub invariant_of-self-2 : goal.invariant_of-self-2
 invariant_of-self-2 c =
     let v = c.args.self.now in
-    let items : c.push.new.self.items ≡ c.self.inside.log.items ++ c.args.entry ∷ [] = grind (arith, common_steps) in
+    let items : c.push_reserved.new.self.items ≡ c.self.inside.log.items ++ c.args.entry.now ∷ [] = grind (arith, common_steps) in
     let room : length c.self.inside.log.items < c.self.inside.limits.log = subst (λ (w : InterfaceView). length w.log < w.settings.log) (sym c.self.view_is) c.in_default.ensures.here in
-    let made = subst (λ (ends : Ends). IsMade (channel_in (own v) c.args.peer c.args.channel) v.log ends c.args.entry) (sym c.bind.ensures) (c.requires.made c.take.result) in
-    entering.entered_seen c.self.inside v c.args.peer c.args.channel c.bind.new.ends c.args.entry c.is_some.result c.write.new.all.items c.write.new.emissions.items c.push.new.self.items c.self.view_is c.self.invariant c.requires.peer c.requires.channel room made
+    let made = subst (λ (ends : Ends). IsMade (channel_in (own v) c.args.peer c.args.channel) v.log ends c.args.entry.now) (sym c.bind.ensures) (c.requires.made c.take.result) in
+    entering.entered_seen c.self.inside v c.args.peer c.args.channel c.bind.new.ends c.args.entry.now c.is_some.result c.write.new.all.items c.write.new.emissions.items c.push_reserved.new.self.items c.self.view_is c.self.invariant c.requires.peer c.requires.channel room made
     (record { emits = c.is_some.ensures ∙ ap is_some c.emitted_of-out.ensures; ends = c.write.ensures.ends; emissions = c.write.ensures.emissions; log = items })
 
 pub returns-clause-flights : goal.returns-clause-flights

@@ -5,12 +5,12 @@ use Rattle.am_model.specs.declared.EntryFault.TheVariants as Faults
 use Rattle.am_iface.proofs.TurningWith as turning
 use Rattle.am_iface.proofs.Interface.enter_with.Goals as goal
 
-pub returns-in-Ok-clause-full : goal.returns-in-Ok-clause-full
-returns-in-Ok-clause-full c =
-    let there : length c.args.endpoint.now.log < c.args.endpoint.now.settings.log = omega (arith, c.in-Ok.ensures.there, ap length c.in-Ok.ensures.log, ap (λ (s : EndSettings). s.log) c.in-Ok.ensures.settings) in
+pub returns-clause-full : goal.returns-clause-full
+returns-clause-full c =
+    let there : length c.args.endpoint.now.log < c.args.endpoint.now.settings.log = omega (arith, c.in_default.ensures.there, ap length c.in_default.ensures.log, ap (λ (s : EndSettings). s.log) c.in_default.ensures.settings) in
     λ p. (
-      (λ h. absurd (omega (arith, ((c.enter.ensures.full p).0 h).1, c.in-Ok.ensures.here))),
-      (λ h. absurd (turning.no_full_log c.args.self.now c.args.endpoint.now p c.in-Ok.ensures.here there h)),
+      (λ h. absurd (omega (arith, ((c.enter.ensures.full p).0 h).1, c.in_default.ensures.here))),
+      (λ h. absurd (turning.no_full_log c.args.self.now c.args.endpoint.now p c.in_default.ensures.here there h)),
     )
 
 pub returns-in-Err-clause-full : goal.returns-in-Err-clause-full

@@ -11,7 +11,7 @@ use Rattle.am_endpoint.proofs.fields.Fields.carry.Goals as goal
 pub leave_from-requires : goal.leave_from-requires
 leave_from-requires c =
     let s = state_in c.args.self.now in
-    fits_before c.args.e (cond (same_end c.args.e c.args.from) (left s c.args.outcome) s) c.args.outcome c.requires
+    fits_before c.args.e (cond (same_end c.args.e c.args.from) (left s c.args.outcome.now) s) c.args.outcome.now c.requires
 
 pub reach-requires : goal.reach-requires
-reach-requires c = subst (λ (s : State). Fits (reached c.args.e s c.args.outcome).body) (sym c.leave_from.ensures.state) c.requires
+reach-requires c = subst (λ (s : State). Fits (reached c.args.e s c.args.outcome.now).body) (sym c.leave_from.ensures.state) c.requires

@@ -4,7 +4,6 @@ use Rattle.std.proofs.Common.{◌≡◌, ℕ, Bool, true, false, List, [], ◌�
 use Rattle.std.proofs.lemmas.Bool.{eqb-true}
 use Rattle.am_model.specs.Changes.{has_arrivals}
 use Rattle.am_model.specs.Endpoint.{Body}
-use Rattle.am_endpoint.specs.Empty.{HasNoArrivals}
 
 -- a list of no element is empty
 empty : {X : Type 0} (xs : List X) → (length xs == 0) ≡ true → xs ≡ []
@@ -19,7 +18,7 @@ both_none xs ys true false p q h = absurd (true≢false h)
 none_there : {X Y : Type 0} (xs : List X) (ys : List Y) → xs ≡ [] → ys ≡ [] → (not (length xs == 0) || not (length ys == 0)) ≡ false
 none_there {X} {Y} xs ys e f = λ j. not (length (e j) == 0) || not (length (f j) == 0)
 
-pub nothing_arrived : (b : Body) (r : Bool) → r ≡ has_arrivals b → (r ≡ false) ↔ HasNoArrivals b
+pub nothing_arrived : (b : Body) (r : Bool) → r ≡ has_arrivals b → (r ≡ false) ↔ ((b.notices ≡ []) × (b.received ≡ []))
 nothing_arrived b r is = (
   (λ h. both_none b.notices b.received (length b.notices == 0) (length b.received == 0) refl refl (sym is ∙ h)),
   (λ h. is ∙ none_there b.notices b.received h.0 h.1),
