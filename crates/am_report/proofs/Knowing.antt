@@ -1,12 +1,10 @@
 -- What is known of a message after one entry more.
-use Rattle.std.proofs.Common.{◌≡◌, ℕ, ◌<◌, ◌+◌, Bool, true, false, ◌||◌, cond, Option, Some, None, List, [], ◌∷◌, ◌++◌, refl, sym, ap, ◌∙◌, length, take, get_or, slice_get, add-one}
+use Rattle.std.proofs.Common.{◌≡◌, Bool, true, false, ◌||◌, cond, Option, Some, None, List, [], ◌∷◌, ◌++◌, refl, sym, ap, ◌∙◌, slice_get}
 use Rattle.std.specs.Option.{option_or}
 use Rattle.std.specs.List.{cons_option}
 use Rattle.std.specs.Ordering.{is_eq, nat_cmp}
 use Rattle.std.specs.Cmp.{tied_then}
-use Rattle.std.specs.BTreeMap.{BTreeMap, get, Updates}
 use Rattle.std.proofs.lemmas.List.Elements.{filter_map-append}
-use Rattle.std.proofs.Math.Seq.{take-suc}
 use mathlib.Core.Bool.{or-false, or-true}
 use Rattle.am_lemmas.proofs.Numbers.{nat_cmp-is_eq}
 use Rattle.am_lemmas.proofs.Lists.{list_any-push}
@@ -22,25 +20,15 @@ use Rattle.am_office.specs.declared.Outcome.{Outcome}
 use Rattle.am_office.specs.declared.Outcome.TheVariants as Out
 use Rattle.am_office.specs.declared.Entry.{Entry}
 use Rattle.am_report.specs.declared.known.Known.{Known}
-use Rattle.am_report.specs.declared.known.News.{News}
 use Rattle.am_report.specs.declared.known.News.TheVariants as Latest
 use Rattle.am_office.specs.Entries.{passes, is_serial, run_in, unknown_in, run_of, unknown_of}
 use Rattle.am_office.specs.Fates.{cause_of, cause_by, cause_if, causes_of, is_unknown, is_run}
-use Rattle.am_report.specs.Tables.{news_in, news_by, known_with, known_in, known_of, known_after, nothing_known, AreKnown}
-use Rattle.am_model.proofs.Names.{same_serial-is}
+use Rattle.am_report.specs.Tables.{news_in, news_by, known_with, known_of, known_after}
 
 pub order_same : (about s : Serial) → is_eq (serial_order about s) ≡ same_serial s about
 order_same about s =
     sym (tied_then (nat_cmp about.source.0 s.source.0) (nat_cmp about.count s.count))
     ∙ rw (nat_cmp-is_eq about.source.0 s.source.0, nat_cmp-is_eq about.count s.count) refl
-
-learned_if : (b : Bool) (m n : BTreeMap Serial Known) (k s : Serial) (news : News) → b ≡ same_serial s k → get serial_order n s ≡ cond b (Some (known_with (known_in m k) news)) (get serial_order m s) → known_in n s ≡ cond b (known_with (known_in m s) news) (known_in m s)
-learned_if true m n k s news is got = rw (got, same_serial-is s k (sym is)) refl
-learned_if false m n k s news is got = rw got refl
-
-pub learned : (m n : BTreeMap Serial Known) (k : Serial) (news : News) → Updates serial_order m n k (Some (known_with (known_in m k) news)) → (s : Serial) → known_in n s ≡ known_after s (known_in m s) (Some (k, news))
-learned m n k news updates s =
-    rw (← order_same k s) (learned_if (is_eq (serial_order k s)) m n k s news (order_same k s) (updates.0 s))
 
 or_none : {X : Type 0} (o : Option X) → option_or o None ≡ o
 or_none None = refl
@@ -89,7 +77,7 @@ first_append [] None = refl
 first_append [] (Some y) = refl
 first_append (y ∷ ys) o = refl
 
-known_append : (s : Serial) (past : List Entry) (x : Entry) → known_of (past ++ x ∷ []) s ≡ known_after s (known_of past s) (news_in x.event x.outcome)
+pub known_append : (s : Serial) (past : List Entry) (x : Entry) → known_of (past ++ x ∷ []) s ≡ known_after s (known_of past s) (news_in x.event x.outcome)
 known_append s past x =
     let cause : slice_get (causes_of (past ++ x ∷ []) s) 0 ≡ option_or (slice_get (causes_of past s) 0) (cause_of s x.event x.outcome) =
     ap (λ (causes : List Cause). slice_get causes 0) (filter_map-append (λ (y : Entry). cause_of s y.event y.outcome) past (x ∷ []))
@@ -99,17 +87,3 @@ known_append s past x =
     let ran : is_run (past ++ x ∷ []) s ≡ (is_run past s || passes (has_serial s) (run_of x)) = list_any-push (λ (y : Entry). passes (has_serial s) (run_of y)) past x in
     let all : known_of (past ++ x ∷ []) s ≡ grown (known_of past s) (cause_of s x.event x.outcome) (is_serial s (unknown_of x)) (passes (has_serial s) (run_of x)) = grown_parts _ _ _ _ _ _ _ cause unknown ran in
     all ∙ grown_by s (known_of past s) x.event x.outcome
-
-pub known_next : (old new : BTreeMap Serial Known) (xs : List Entry) (i : ℕ) (d : Entry) → i < length xs → AreKnown old (take i xs) → ((s : Serial) → known_in new s ≡ known_after s (known_in old s) (news_in (get_or xs i d).event (get_or xs i d).outcome)) → AreKnown new (take (i + 1) xs)
-known_next old new xs i d below are step =
-    let taken : take (i + 1) xs ≡ take i xs ++ get_or xs i d ∷ [] = rw add-one (take-suc xs i d below) in
-    record {
-      each = λ (s : Serial).
-          step s
-          ∙ ap (λ (k : Known). known_after s k (news_in (get_or xs i d).event (get_or xs i d).outcome)) (are.each s)
-          ∙ sym (known_append s (take i xs) (get_or xs i d))
-          ∙ ap (λ (past : List Entry). known_of past s) (sym taken);
-    }
-
-pub known_none : (s : Serial) → known_of [] s ≡ nothing_known
-known_none s = refl

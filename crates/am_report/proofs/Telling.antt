@@ -1,34 +1,89 @@
--- The fates that a table gives are those of the journal.
-use Rattle.std.proofs.Common.{◌≡◌, ℕ, ◌+◌, ◌<◌, List, [], ◌∷◌, ◌++◌, refl, ap, ◌∙◌, map, length, take, get_or, option_to_list, add-one}
+-- The table of a journal's messages, entry by entry, and the fates that it gives.
+use Rattle.std.proofs.Common.{◌≡◌, ℕ, ◌+◌, ◌<◌, Option, Some, None, List, [], ◌∷◌, ◌++◌, refl, sym, ap, ◌∙◌, map, length, take, get_or, add-one}
 use Rattle.std.specs.List.{fold}
-use Rattle.std.specs.BTreeMap.{BTreeMap}
+use Rattle.std.specs.BTreeMap.{insert_entry}
+use Rattle.std.specs.Ordering.{match_ordering}
 use Rattle.std.proofs.Math.Seq.{take-suc}
-use Rattle.am_lemmas.proofs.Lists.{map_alike}
+use Rattle.am_lemmas.proofs.Lists.{map_alike, map_twice}
 use Rattle.am_names.specs.declared.Serial.{Serial}
 use Rattle.am_names.specs.declared.MsgKind.{MsgKind}
+use Rattle.am_names.specs.declared.Message.{Message}
+use Rattle.am_names.specs.Names.{serial_order}
 use Rattle.am_office.specs.declared.Entry.{Entry}
+use Rattle.am_report.specs.declared.sources.MessageState.{MessageState}
 use Rattle.am_report.specs.declared.known.Known.{Known}
+use Rattle.am_report.specs.declared.known.News.{News}
 use Rattle.am_office.specs.Entries.{accepted_of}
-use Rattle.am_office.specs.Fates.{fate_by, causes_of, is_unknown, is_run, fate_of_accepted}
+use Rattle.am_office.specs.Fates.{causes_of, is_unknown, is_run, fate_of_accepted}
 use Rattle.am_report.specs.Report.{told, listed, listed_with}
-use Rattle.am_report.specs.Tables.{told_by, known_in, known_of, AreKnown}
+use Rattle.am_report.specs.Tables.{accepted_state, accepted_with, heard_with, messages_in, state_after, entry_after, fate_of_entry, known_of, known_after, news_in}
 use Rattle.am_office.proofs.Causes.{fate_by_first}
+use Rattle.am_report.proofs.Flat.{match_map}
+use Rattle.am_report.proofs.Knowing.{known_append}
+
+abbrev Listed : Type 0
+Listed = List (Serial × MsgKind)
+
+abbrev Entries : Type 0
+Entries = List (Serial × MessageState)
 
 fold_append : {A B : Type 0} (f : B → A → B) (a : B) (xs : List A) (x : A) → fold f a (xs ++ x ∷ []) ≡ f (fold f a xs) x
 fold_append f a [] x = refl
 fold_append f a (y ∷ ys) x = fold_append f (f a y) ys x
 
-pub listed_next : (xs : List Entry) (i : ℕ) (d : Entry) → i < length xs → listed (take (i + 1) xs) ≡ listed_with (listed (take i xs)) (accepted_of (get_or xs i d))
+listed_next : (xs : List Entry) (i : ℕ) (d : Entry) → i < length xs → listed (take (i + 1) xs) ≡ listed_with (listed (take i xs)) (accepted_of (get_or xs i d))
 listed_next xs i d below =
     let taken : take (i + 1) xs ≡ take i xs ++ get_or xs i d ∷ [] = rw add-one (take-suc xs i d below) in
     ap listed taken
     ∙ fold_append (λ (messages : List (Serial × MsgKind)) (x : Entry). listed_with messages (accepted_of x)) [] (take i xs) (get_or xs i d)
 
-fate_from : (journal : List Entry) (s : Serial) (k : Known) → k ≡ known_of journal s → fate_by (option_to_list k.cause) k.unknown k.ran ≡ fate_of_accepted journal s
-fate_from journal s k is = rw is (fate_by_first (causes_of journal s) (is_unknown journal s) (is_run journal s))
+accepted_next : (listed : Listed) (s : Serial) (kind : MsgKind) → insert_entry serial_order (map (state_after []) listed) s (accepted_state kind) ≡ map (state_after []) (insert_entry serial_order listed s kind)
+accepted_next [] s kind = refl
+accepted_next (m ∷ ms) s kind =
+    let less : Entries = (s, accepted_state kind) ∷ map (state_after []) (m ∷ ms) in
+    let same : Entries = (m.0, accepted_state kind) ∷ map (state_after []) ms in
+    ap (λ (rest : Entries). match_ordering (serial_order s m.0) less same (state_after [] m ∷ rest)) (accepted_next ms s kind)
+    ∙ match_map (state_after []) (serial_order s m.0) ((s, kind) ∷ m ∷ ms) ((m.0, kind) ∷ ms) (m ∷ insert_entry serial_order ms s kind)
 
-one_told : (table : BTreeMap Serial Known) (journal : List Entry) → AreKnown table journal → (m : Serial × MsgKind) → told_by table m ≡ record { serial = m.0; kind = m.1; fate = fate_of_accepted journal m.0 }
-one_told table journal are m = rw (fate_from journal m.0 (known_in table m.0) (are.each m.0)) refl
+abbrev state_of : Serial × MsgKind → Known → Serial × MessageState
+state_of m k = (m.0, record { kind = m.1; known = k })
 
-pub told_as_known : (table : BTreeMap Serial Known) (journal : List Entry) → AreKnown table journal → map (told_by table) (listed journal) ≡ told journal
-told_as_known table journal are = map_alike (told_by table) _ (one_told table journal are) (listed journal)
+heard_each : (f : Serial × MsgKind → Known) (news : Option (Serial × News)) (listed : Listed) → heard_with (map (λ (m : Serial × MsgKind). state_of m (f m)) listed) news ≡ map (λ (m : Serial × MsgKind). state_of m (known_after m.0 (f m) news)) listed
+heard_each f None listed = refl
+heard_each f (Some (about, news)) listed = map_twice (λ (m : Serial × MsgKind). state_of m (f m)) (entry_after about news) listed
+
+one_next : (xs : List Entry) (i : ℕ) (d : Entry) → i < length xs → (m : Serial × MsgKind) → state_of m (known_after m.0 (known_of (take i xs) m.0) (news_in (get_or xs i d).event (get_or xs i d).outcome)) ≡ state_after (take (i + 1) xs) m
+one_next xs i d below m =
+    let taken : take (i + 1) xs ≡ take i xs ++ get_or xs i d ∷ [] = rw add-one (take-suc xs i d below) in
+    ap (λ (k : Known). state_of m k) (sym (known_append m.0 (take i xs) (get_or xs i d)) ∙ ap (λ (past : List Entry). known_of past m.0) (sym taken))
+
+-- one entry more of those whose news are noted
+pub all_next : (old new : List (List (ℕ × MessageState))) (xs : List Entry) (i : ℕ) (d : Entry) (news : Option (Serial × News)) (listed : Listed) → i < length xs → messages_in old ≡ map (state_after (take i xs)) listed → news ≡ news_in (get_or xs i d).event (get_or xs i d).outcome → messages_in new ≡ heard_with (messages_in old) news → messages_in new ≡ map (state_after (take (i + 1) xs)) listed
+all_next old new xs i d news listed below before is step =
+    let said : Option (Serial × News) = news_in (get_or xs i d).event (get_or xs i d).outcome in
+    step
+    ∙ ap (λ (es : Entries). heard_with es news) before
+    ∙ ap (λ (n : Option (Serial × News)). heard_with (map (state_after (take i xs)) listed) n) is
+    ∙ heard_each (λ (m : Serial × MsgKind). known_of (take i xs) m.0) said listed
+    ∙ map_alike (λ (m : Serial × MsgKind). state_of m (known_after m.0 (known_of (take i xs) m.0) said)) (state_after (take (i + 1) xs)) (one_next xs i d below) listed
+
+accepted_listed : (listed : Listed) (accepted : Option Message) → accepted_with (map (state_after []) listed) accepted ≡ map (state_after []) (listed_with listed accepted)
+accepted_listed listed None = refl
+accepted_listed listed (Some m) = accepted_next listed m.serial m.kind
+
+-- one entry more of those whose accepted messages are listed
+pub of_next : (old new : List (List (ℕ × MessageState))) (xs : List Entry) (i : ℕ) (d : Entry) (accepted : Option Message) → i < length xs → messages_in old ≡ map (state_after []) (listed (take i xs)) → accepted ≡ accepted_of (get_or xs i d) → messages_in new ≡ accepted_with (messages_in old) accepted → messages_in new ≡ map (state_after []) (listed (take (i + 1) xs))
+of_next old new xs i d accepted below before is step =
+    step
+    ∙ ap (λ (es : Entries). accepted_with es accepted) before
+    ∙ ap (λ (a : Option Message). accepted_with (map (state_after []) (listed (take i xs))) a) is
+    ∙ accepted_listed (listed (take i xs)) (accepted_of (get_or xs i d))
+    ∙ ap (λ (ms : Listed). map (state_after []) ms) (sym (listed_next xs i d below))
+
+one_told : (journal : List Entry) (m : Serial × MsgKind) → fate_of_entry (state_after journal m) ≡ record { serial = m.0; kind = m.1; fate = fate_of_accepted journal m.0 }
+one_told journal m = rw (fate_by_first (causes_of journal m.0) (is_unknown journal m.0) (is_run journal m.0)) refl
+
+pub told_as_known : (journal : List Entry) → map fate_of_entry (map (state_after journal) (listed journal)) ≡ told journal
+told_as_known journal =
+    map_twice (state_after journal) fate_of_entry (listed journal)
+    ∙ map_alike (λ (m : Serial × MsgKind). fate_of_entry (state_after journal m)) _ (one_told journal) (listed journal)

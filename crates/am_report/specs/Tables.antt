@@ -1,10 +1,11 @@
 -- The tables from which a report is made.
-use Rattle.std.specs.Prelude.{◌≡◌, ◌<◌, true, false, if◌then◌else◌, Option, Some, None, unwrap_or, option_to_list, List, [], ◌∷◌, ◌++◌, length, slice_set, slice_get, slice_index_or}
+use Rattle.std.specs.Prelude.{◌≡◌, ◌<◌, ◌≤◌, ◌+◌, ◌==◌, ℕ, Bool, map, true, false, if◌then◌else◌, Option, Some, None, option_to_list, List, [], ◌∷◌, ◌++◌, length, slice_set, slice_get, slice_index_or}
 use Rattle.std.specs.Option.{option_or}
-use Rattle.std.specs.BTreeMap.{BTreeMap, get}
+use Rattle.std.specs.BTreeMap.{insert_entry}
 use Rattle.am_names.specs.declared.EndpointId.{EndpointId}
 use Rattle.am_names.specs.declared.Serial.{Serial}
 use Rattle.am_names.specs.declared.MsgKind.{MsgKind}
+use Rattle.am_names.specs.declared.Message.{Message}
 use Rattle.am_names.specs.Names.{same_serial, serial_order}
 use Rattle.am_office.specs.declared.Call.TheVariants as Calls
 use Rattle.am_office.specs.declared.Event.{Event}
@@ -19,6 +20,7 @@ use Rattle.am_report.specs.declared.known.Known.{Known}
 use Rattle.am_report.specs.declared.known.News.{News}
 use Rattle.am_report.specs.declared.known.News.TheVariants as Latest
 use Rattle.am_report.specs.declared.messages.MessageFate.{MessageFate}
+use Rattle.am_report.specs.declared.sources.MessageState.{MessageState}
 use Rattle.am_office.specs.Fates.{fate_by, causes_of, is_unknown, is_run}
 use Rattle.am_report.specs.Report.{runs_at}
 
@@ -54,27 +56,77 @@ known_with k (Latest.Returned c) = record k { cause = option_or k.cause (Some c)
 abbrev pub nothing_known : Known
 nothing_known = record { cause = None; unknown = false; ran = false }
 
--- what a table knows of a message
-abbrev pub known_in : BTreeMap Serial Known → Serial → Known
-known_in table s = unwrap_or (get serial_order table s) nothing_known
-
 -- what a journal says of a message
 abbrev pub known_of : List Entry → Serial → Known
 known_of journal s = record { cause = slice_get (causes_of journal s) 0; unknown = is_unknown journal s; ran = is_run journal s }
-
--- the table knows of each message what the journal says
-pub record AreKnown (table : BTreeMap Serial Known) (journal : List Entry) : Type 0 where
-  pub each : (s : Serial) → known_in table s ≡ known_of journal s
-
--- a listed message with the fate that the table gives
-abbrev pub told_by : BTreeMap Serial Known → Serial × MsgKind → MessageFate
-told_by table m = record {
-  serial = m.0;
-  kind = m.1;
-  fate = fate_by (option_to_list (known_in table m.0).cause) (known_in table m.0).unknown (known_in table m.0).ran;
-}
 
 -- what is known of a message after news of some message
 abbrev pub known_after : Serial → Known → Option (Serial × News) → Known
 known_after s k None = k
 known_after s k (Some (about, news)) = if same_serial s about then known_with k news else k
+
+-- a message of which nothing is known but its kind
+abbrev pub accepted_state : MsgKind → MessageState
+accepted_state kind = record { kind = kind; known = nothing_known }
+
+-- the place of a count among a source's messages: those in front have lower counts, those behind it higher ones
+pub record IsPlace (rows : List (ℕ × MessageState)) (count place : ℕ) : Type 0 where
+  pub within : place ≤ length rows
+  pub below : (k : ℕ) (d : ℕ × MessageState) → k < place → (slice_index_or rows k d).0 < count
+  pub there : (d : ℕ × MessageState) → place < length rows → count ≤ (slice_index_or rows place d).0
+  pub above : (k : ℕ) (d : ℕ × MessageState) → place < k → k < length rows → count < (slice_index_or rows k d).0
+
+-- the row at a place has this count
+pub record IsThere (rows : List (ℕ × MessageState)) (count place : ℕ) : Type 0 where
+  pub within : place < length rows
+  pub same : (d : ℕ × MessageState) → (slice_index_or rows place d).0 ≡ count
+
+-- no row with this count is at a place
+pub record IsMissing (rows : List (ℕ × MessageState)) (count place : ℕ) : Type 0 where
+  pub other : (d : ℕ × MessageState) → place < length rows → (slice_index_or rows place d).0 ≡ count → ⊥
+
+abbrev pub heard_if : Bool → News → MessageState → MessageState
+heard_if b news state = record { kind = state.kind; known = if b then known_with state.known news else state.known }
+
+-- a source's message after news of the one with this count
+abbrev pub heard : ℕ → News → ℕ × MessageState → ℕ × MessageState
+heard count news row = (row.0, heard_if (row.0 == count) news row.1)
+
+-- a source's message under its serial
+abbrev pub source_entry : ℕ → ℕ × MessageState → Serial × MessageState
+source_entry source row = (record { source = record { 0 = source }; count = row.0 }, row.1)
+
+-- the messages of the sources from this one on, under their serials
+abbrev pub entries_from : ℕ → List (List (ℕ × MessageState)) → List (Serial × MessageState)
+entries_from source [] = []
+entries_from source (rows ∷ sources) = map (source_entry source) rows ++ entries_from (source + 1) sources
+
+-- the messages of a table in order
+abbrev pub messages_in : List (List (ℕ × MessageState)) → List (Serial × MessageState)
+messages_in sources = entries_from 0 sources
+
+-- a message after news of some message
+abbrev pub entry_after : Serial → News → Serial × MessageState → Serial × MessageState
+entry_after about news entry = (entry.0, heard_if (same_serial entry.0 about) news entry.1)
+
+-- the messages with one more, if it was accepted
+abbrev pub accepted_with : List (Serial × MessageState) → Option Message → List (Serial × MessageState)
+accepted_with entries None = entries
+accepted_with entries (Some m) = insert_entry serial_order entries m.serial (accepted_state m.kind)
+
+-- the messages after news of some message
+abbrev pub heard_with : List (Serial × MessageState) → Option (Serial × News) → List (Serial × MessageState)
+heard_with entries None = entries
+heard_with entries (Some (about, news)) = map (entry_after about news) entries
+
+-- a listed message with what a journal says of it
+abbrev pub state_after : List Entry → Serial × MsgKind → Serial × MessageState
+state_after journal m = (m.0, record { kind = m.1; known = known_of journal m.0 })
+
+-- a message with its fate
+abbrev pub fate_of_entry : Serial × MessageState → MessageFate
+fate_of_entry entry = record {
+  serial = entry.0;
+  kind = entry.1.kind;
+  fate = fate_by (option_to_list entry.1.known.cause) entry.1.known.unknown entry.1.known.ran;
+}

@@ -1,14 +1,10 @@
-//! What the entries of a journal say of each message's fate.
+//! What an entry of a journal says of a message's fate.
 
-ghost use Rattle.std.specs.Prelude.{◌≡◌, OnOk, IfOk};
-ghost use Rattle.am_names.specs.declared.Serial.{Serial};
+ghost use Rattle.std.specs.Prelude.{◌≡◌};
 ghost use Rattle.am_report.specs.Tables as tables;
-ghost use Rattle.am_report.specs.Tables.{AreKnown};
 
 use am_names::{Cause, Serial};
 use am_office::{Entry, Fate, return_of, run_of, unknown_of};
-use std::alloc::{AllocError, Global};
-use std::collections::BTreeMap;
 
 /// What an entry says of a message's fate.
 #[derive(Clone, Copy)]
@@ -31,7 +27,8 @@ impl Known {
     ghost use Rattle.am_office.specs.Fates as fates;
     ghost use Rattle.am_report.specs.Tables.{nothing_known, known_with};
 
-    fn nothing() -> Self
+    /// What is known of a message of which no entry says anything.
+    pub(crate) fn nothing() -> Self
         ensures { result ≡ nothing_known }
     {
         Known {
@@ -41,7 +38,8 @@ impl Known {
         }
     }
 
-    fn with(self, news: News) -> Self
+    /// What is known after the news; the first cause stays.
+    pub(crate) fn with(self, news: News) -> Self
         ensures { result ≡ known_with self news }
     {
         match news {
@@ -71,8 +69,8 @@ impl Known {
     }
 }
 
-// What an entry says of a message's fate, and of which message.
-fn news_in(entry: &Entry) -> Option<(Serial, News)>
+/// What an entry says of a message's fate, and of which message.
+pub(crate) fn news_in(entry: &Entry) -> Option<(Serial, News)>
     ensures { result ≡ tables.news_in entry.now.event entry.now.outcome }
 {
     if let Some(message) = run_of(entry) {
@@ -85,45 +83,4 @@ fn news_in(entry: &Entry) -> Option<(Serial, News)>
         Some((serial, cause)) => Some((serial, News::Returned(cause))),
         None => None,
     }
-}
-
-/// What the table knows of a message.
-pub(crate) fn known_in(table: &BTreeMap<Serial, Known>, serial: Serial) -> Known
-    ensures { result ≡ tables.known_in table.now serial }
-{
-    match table.get(&serial) {
-        Some(known) => *known,
-        None => Known::nothing(),
-    }
-}
-
-fn learn(table: &mut BTreeMap<Serial, Known>, serial: Serial, news: News) -> Result<(), AllocError>
-    ensures { OnOk result ((s : Serial) → tables.known_in table.new s ≡ tables.known_after s (tables.known_in table.old s) (Some (serial, news))) }
-{
-    let known = known_in(table, serial).with(news);
-    table.insert(serial, known)?;
-    Ok(())
-}
-
-fn learn_from(table: &mut BTreeMap<Serial, Known>, entry: &Entry) -> Result<(), AllocError>
-    ensures { OnOk result ((s : Serial) → tables.known_in table.new s ≡ tables.known_after s (tables.known_in table.old s) (tables.news_in entry.now.event entry.now.outcome)) }
-{
-    match news_in(entry) {
-        None => Ok(()),
-        Some((serial, news)) => learn(table, serial, news),
-    }
-}
-
-/// What the journal's entries say of each message's fate.
-pub(crate) fn known_of(
-    alloc: Global,
-    entries: &[Entry],
-) -> Result<BTreeMap<Serial, Known>, AllocError>
-    ensures { IfOk result (λ table. AreKnown table entries.now) }
-{
-    let mut table = BTreeMap::new(alloc);
-    for entry in entries {
-        learn_from(&mut table, entry)?;
-    }
-    Ok(table)
 }

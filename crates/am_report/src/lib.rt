@@ -7,6 +7,7 @@ mod laws;
 mod messages;
 mod reports;
 mod runs;
+mod sources;
 
 pub use laws::{messages_are_in_order, summary_is_of_report};
 pub use reports::{report, summary};

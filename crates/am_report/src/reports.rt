@@ -255,7 +255,8 @@ fn text(alloc: Global, ends: &[EndpointId], entries: &[Entry]) -> Result<Vec<u8>
 /// how many messages have each fate (`report` of `specs/Report.antt`). It is exact for every journal, also for one that
 /// is no history: a serial that is accepted twice has one line there, with the kind of its last acceptance.
 /// It goes over the entries four times, whatever the number of endpoints and messages, with a table of the runs of
-/// each endpoint and tables from serials to what is known of them. Where there is no memory it answers `NoMemory`.
+/// each endpoint and one of the messages of each source, in ascending order of count. In a history each message's place
+/// there is known from its count; in another journal it is searched. Where there is no memory it answers `NoMemory`.
 pub fn report(alloc: Global, ends: &[EndpointId], journal: &Journal) -> Result<Vec<u8>, NoMemory>
     ensures { IfOk result (λ bytes. bytes.items ≡ text.report ends.now journal.now) }
 {
