@@ -5,7 +5,7 @@ ghost use Rattle.std.specs.Fmt.{decimal};
 ghost use Rattle.am_text.specs.Words as words;
 ghost use Rattle.am_entry_lines.specs.Lines as text;
 ghost use Rattle.am_text.specs.Words.{spaced};
-ghost use Rattle.am_text.specs.Pieces.{Extends, word_of};
+ghost use Rattle.am_text.specs.Pieces.{Extends};
 
 use am_names::{EndpointId, Message, NoMemory, NodeId, Serial};
 use am_office::{Actor, Call, Entry, Event, HandlerKind, Mask, Outcome, Received, Refusal};
@@ -153,6 +153,7 @@ fn put_what(out: &mut Vec<u8>, event: Event) -> Result<(), AllocError>
 }
 
 #[tactic(auto, unfolding(crate::specs::Lines::refusal))]
+#[inline(never)]
 fn put_refusal(out: &mut Vec<u8>, refusal: Refusal) -> Result<(), AllocError>
     ensures ok { OnOk result (out.new.items ≡ out.old.items ++ spaced (text.refusal refusal)) }
     ensures kept { Extends out.old.items out.new.items }
@@ -209,6 +210,7 @@ fn put_message_with(
 }
 
 // The arrow, a word, a message, a second word, and the number of the answer that goes back.
+#[inline(never)]
 fn put_answered(
     out: &mut Vec<u8>,
     word: &'static str,
@@ -235,6 +237,7 @@ fn put_answered(
 
 // The arrow and what came of the receipt of a packet.
 #[tactic(auto, unfolding(crate::specs::Lines::received))]
+#[inline(never)]
 fn put_received(out: &mut Vec<u8>, received: Received) -> Result<(), AllocError>
     ensures ok { OnOk result (out.new.items ≡ out.old.items ++ spaced (text.after_arrow (text.received received))) }
     ensures kept { Extends out.old.items out.new.items }
@@ -286,17 +289,30 @@ fn put_sends(out: &mut Vec<u8>, sends: Option<Message>) -> Result<(), AllocError
     }
 }
 
+// The handler that ran, or a dash.
 #[tactic(auto, unfolding(crate::specs::Lines::handler))]
-fn handler_word(handler: Option<u8>) -> Piece
-    ensures { word_of result ≡ text.handler handler }
+fn put_handler(out: &mut Vec<u8>, handler: Option<u8>) -> Result<(), AllocError>
+    ensures ok { OnOk result (out.new.items ≡ out.old.items ++ spaced (text.handler handler ∷ [])) }
+    ensures kept { Extends out.old.items out.new.items }
 {
     match handler {
-        None => Text("-"),
-        Some(handler) => small(handler),
+        None => put_spaced(out, &[Text("-")]),
+        Some(handler) => put_spaced(out, &[small(handler)]),
     }
 }
 
+// The arrow, the message that ran and its handler.
+#[tactic(auto, using(am_text::proofs::Extended::extension))]
+fn put_ran(out: &mut Vec<u8>, serial: Serial, handler: Option<u8>) -> Result<(), AllocError>
+    ensures ok { OnOk result (out.new.items ≡ out.old.items ++ spaced (codes "->" ∷ codes "ran" ∷ words.serial serial ∷ text.handler handler ∷ [])) }
+    ensures kept { Extends out.old.items out.new.items }
+{
+    put_message(out, "ran", serial)?;
+    put_handler(out, handler)
+}
+
 // The arrow and the emission of a parcel.
+#[inline(never)]
 fn put_sent(
     out: &mut Vec<u8>,
     serial: Serial,
@@ -346,8 +362,7 @@ fn put_outcome(out: &mut Vec<u8>, outcome: Outcome) -> Result<(), AllocError>
             handler,
             sends,
         } => {
-            let (serial, handler) = (Piece::Serial(message.serial), handler_word(handler));
-            put_spaced(out, &[Text("->"), Text("ran"), serial, handler])?;
+            put_ran(out, message.serial, handler)?;
             put_sends(out, sends)
         }
         Outcome::Blocked => put_spaced(out, &[Text("->"), Text("blocked")]),

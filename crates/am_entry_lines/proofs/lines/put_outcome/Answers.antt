@@ -8,7 +8,7 @@ unfolding outcome
 returns-in_ok-put_spaced-in-Refused-clause-ok c =
     rw c.in-Refused.is (appended_words _ _ _ _ _ _ c.in_ok-put_spaced-in-Refused.ensures.ok c.put_refusal.ensures.ok)
 
-pub returns-in_ok-put_spaced-in-Ran-clause-ok : goal.returns-in_ok-put_spaced-in-Ran-clause-ok
+pub returns-in_ok-put_ran-in-Ran-clause-ok : goal.returns-in_ok-put_ran-in-Ran-clause-ok
 unfolding outcome
-returns-in_ok-put_spaced-in-Ran-clause-ok c =
-    rw (c.in-Ran.is, ← c.handler_word-handler.ensures) (appended_words _ _ _ _ _ _ c.in_ok-put_spaced-in-Ran.ensures.ok c.put_sends.ensures.ok)
+returns-in_ok-put_ran-in-Ran-clause-ok c =
+    rw c.in-Ran.is (appended_words _ _ _ _ _ _ c.in_ok-put_ran-in-Ran.ensures.ok c.put_sends.ensures.ok)
