@@ -7,6 +7,7 @@ ghost use Rattle.am_draft.specs.Drafts.{said};
 ghost use Rattle.am_lines.specs.Calls.{least_share, request_at, poll_at, set_tag_at, map_at, unmap_at, kind_at, set_handler_at, give_up_at, close_at, test_at, call_at};
 
 use crate::bundle::take_mask;
+use crate::keyword::is_word;
 use crate::places::{take_end_of, take_serial, take_tag};
 use am_draft::{Draft, Version};
 use am_lexer::{What, take_byte, take_number, take_word};
@@ -167,23 +168,23 @@ pub fn take_call<'a>(
 ) -> Result<Called<'a>, What>
     ensures { Gives (λ found. (found.0, words_of found.1.now)) result (call_at (said draft.now) wanted verb.now (words_of rest.now)) }
 {
-    if verb == b"request".as_slice() {
+    if is_word(verb, b"request".as_slice()) {
         take_request(draft, wanted, rest)
-    } else if verb == b"poll".as_slice() {
+    } else if is_word(verb, b"poll".as_slice()) {
         take_poll(draft, wanted, rest)
-    } else if verb == b"tag".as_slice() {
+    } else if is_word(verb, b"tag".as_slice()) {
         take_set_tag(draft, wanted, rest)
-    } else if verb == b"map".as_slice() {
+    } else if is_word(verb, b"map".as_slice()) {
         take_map(draft, wanted, rest)
-    } else if verb == b"unmap".as_slice() {
+    } else if is_word(verb, b"unmap".as_slice()) {
         take_unmap(draft, wanted, rest)
-    } else if verb == b"handler".as_slice() {
+    } else if is_word(verb, b"handler".as_slice()) {
         take_set_handler(draft, wanted, rest)
-    } else if verb == b"giveup".as_slice() {
+    } else if is_word(verb, b"giveup".as_slice()) {
         take_give_up(draft, wanted, rest)
-    } else if verb == b"close".as_slice() {
+    } else if is_word(verb, b"close".as_slice()) {
         take_close(draft, wanted, rest)
-    } else if verb == b"event".as_slice() {
+    } else if is_word(verb, b"event".as_slice()) {
         take_test(draft, wanted, rest)
     } else {
         Err(What::UnknownWord)

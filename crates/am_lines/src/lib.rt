@@ -5,6 +5,7 @@ mod bundle;
 mod calls;
 mod declarations;
 mod head;
+mod keyword;
 mod places;
 mod script;
 mod settings;

@@ -6,6 +6,7 @@ ghost use Rattle.am_draft.specs.Drafts.{said};
 ghost use Rattle.am_lines.specs.Steps.{step, outside_line, bind_line, expire_line, receive_line, interface_line, load_line, drive_line, driver_line, head_node};
 
 use crate::calls::take_call;
+use crate::keyword::is_word;
 use crate::places::{take_below, take_end_of, take_node};
 use am_draft::{Draft, Line};
 use am_lexer::{What, take_end, take_u32, take_word};
@@ -32,10 +33,10 @@ pub fn outside_line(draft: &Draft, rest: &[u8]) -> Result<Line, What>
 {
     let actor = Actor::Outside;
     let (verb, rest) = take_word(rest)?;
-    if verb == b"carry".as_slice() {
+    if is_word(verb, b"carry".as_slice()) {
         let (end, rest) = take_end_of(draft, None, rest)?;
         step(draft, Event::Carry { end }, rest)
-    } else if verb == b"want".as_slice() {
+    } else if is_word(verb, b"want".as_slice()) {
         let (end, rest) = take_end_of(draft, None, rest)?;
         step(draft, Event::Want { actor, end }, rest)
     } else {
@@ -94,11 +95,11 @@ pub fn interface_line(draft: &Draft, number: u64, rest: &[u8]) -> Result<Line, W
 {
     let node = head_node(draft, number)?;
     let (verb, rest) = take_word(rest)?;
-    if verb == b"bind".as_slice() {
+    if is_word(verb, b"bind".as_slice()) {
         bind_line(draft, node, rest)
-    } else if verb == b"expire".as_slice() {
+    } else if is_word(verb, b"expire".as_slice()) {
         expire_line(draft, node, rest)
-    } else if verb == b"receive".as_slice() {
+    } else if is_word(verb, b"receive".as_slice()) {
         receive_line(draft, node, rest)
     } else {
         Err(What::UnknownWord)
@@ -118,18 +119,18 @@ fn load_line(draft: &Draft, node: NodeId, rest: &[u8]) -> Result<Line, What>
 fn drive_line(draft: &Draft, node: NodeId, verb: &[u8], rest: &[u8]) -> Result<Line, What>
     ensures { Gives (λ line. line) result (drive_line (said draft.now) node verb.now (words_of rest.now)) }
 {
-    if verb == b"drain".as_slice() {
+    if is_word(verb, b"drain".as_slice()) {
         let (end, rest) = take_end_of(draft, None, rest)?;
         step(draft, Event::Drain { node, end }, rest)
-    } else if verb == b"unload".as_slice() {
+    } else if is_word(verb, b"unload".as_slice()) {
         let (end, rest) = take_end_of(draft, None, rest)?;
         step(draft, Event::Unload { node, end }, rest)
-    } else if verb == b"load".as_slice() {
+    } else if is_word(verb, b"load".as_slice()) {
         load_line(draft, node, rest)
-    } else if verb == b"pageout".as_slice() {
+    } else if is_word(verb, b"pageout".as_slice()) {
         let (end, rest) = take_end_of(draft, None, rest)?;
         step(draft, Event::PageOut { node, end }, rest)
-    } else if verb == b"pagein".as_slice() {
+    } else if is_word(verb, b"pagein".as_slice()) {
         let (end, rest) = take_end_of(draft, None, rest)?;
         step(draft, Event::PageIn { node, end }, rest)
     } else {

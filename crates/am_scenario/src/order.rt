@@ -1,9 +1,10 @@
 //! The order of refusals of one line.
 
+ghost use Rattle.std.specs.Prelude.{◌≡◌, ◌==◌, not, find};
 ghost use Rattle.am_lexer.specs.Text.{words_of};
 ghost use Rattle.am_lexer.specs.Fields.{Gives};
 ghost use Rattle.am_draft.specs.Drafts.{said};
-ghost use Rattle.am_scenario.specs.Order.{placed, after_words, after_line};
+ghost use Rattle.am_scenario.specs.Order.{placed, is_comment, after_named, after_words, after_line};
 ghost use Rattle.am_scenario.specs.Answers.{Changes};
 
 use am_draft::{Draft, LineFault};
@@ -29,7 +30,42 @@ fn placed(form: Form, draft: &Draft, head: Head) -> Result<Head, What>
     Ok(head)
 }
 
-#[tactic(auto, unfolding(crate::specs::Order::after_words))]
+fn first_letter(line: &[u8]) -> Option<u8>
+    ensures { result ≡ find (λ byte. not (byte == 32)) line.now }
+{
+    line.iter().copied().find(|byte| *byte != b' ')
+}
+
+// Whether the first word begins with `#`: one look, however long the word is.
+fn is_comment(line: &[u8]) -> bool
+    ensures { result ≡ is_comment (words_of line.now) }
+{
+    match first_letter(line) {
+        Some(byte) => byte == b'#',
+        None => false,
+    }
+}
+
+fn take_named(
+    alloc: Global,
+    form: Form,
+    number: u32,
+    draft: &mut Draft,
+    first: &[u8],
+    rest: &[u8],
+) -> Result<(), LineFault>
+    ensures { Changes result (said draft.new) (after_named form number (said draft.old) first.now (words_of rest.now)) }
+{
+    let Some(named) = head_of(draft.version, first) else {
+        return Err(LineFault::What(What::UnknownWord));
+    };
+    let head = placed(form, draft, named)?;
+    let line = words_say(alloc, form, draft, head, rest)?;
+    draft.section = head.section();
+    draft.add(number, line)?;
+    Ok(())
+}
+
 fn take_words(
     alloc: Global,
     form: Form,
@@ -39,20 +75,13 @@ fn take_words(
 ) -> Result<(), LineFault>
     ensures { Changes result (said draft.new) (after_words form number (said draft.old) (words_of line.now)) }
 {
-    let Some((first, rest)) = next_word(line) else {
-        return Ok(());
-    };
-    if first.first() == Some(&b'#') {
+    if is_comment(line) {
         return Ok(());
     }
-    let Some(named) = head_of(draft.version, first) else {
-        return Err(LineFault::What(What::UnknownWord));
-    };
-    let head = placed(form, draft, named)?;
-    let line = words_say(alloc, form, draft, head, rest)?;
-    draft.section = head.section();
-    draft.add(number, line)?;
-    Ok(())
+    match next_word(line) {
+        Some((first, rest)) => take_named(alloc, form, number, draft, first, rest),
+        None => Ok(()),
+    }
 }
 
 /// Takes one line.
