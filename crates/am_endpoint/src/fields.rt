@@ -1,12 +1,11 @@
 // Where an endpoint in memory lies, and its body.
 ghost use Rattle.am_endpoint.specs.Seen.{state_in};
 ghost use Rattle.am_model.specs.Changes.{paged_out, wanted_on_host};
-ghost use Rattle.am_model.specs.Endpoint.{front};
 ghost use Rattle.am_office.specs.declared.Outcome.TheVariants as Out;
 ghost use Rattle.std.specs.Prelude.{◌≡◌};
 
 use am_body::Body;
-use am_model::{Head, Queued};
+use am_model::Head;
 use am_office::Place;
 
 /// The state of an endpoint in memory.
@@ -17,13 +16,6 @@ pub struct Fields {
 }
 
 impl Fields {
-    /// The front message, and how often it bounced.
-    pub fn front(&self) -> Option<Queued>
-        ensures { result ≡ front (state_in self.now) }
-    {
-        self.body.front()
-    }
-
     /// What is known of it once it goes from here to disk.
     pub fn head_away(&self) -> Head
         ensures { result ≡ (paged_out (state_in self.now) Out.Done).head }

@@ -213,7 +213,7 @@ impl Endpoint {
         ensures none { (result ≡ None) ↔ HasNoQueued (state_after self.now).body }
         ensures formed { IfSome result (λ queued. is_well_formed queued.message ≡ true) }
     {
-        self.fields().front()
+        self.fields().body.front()
     }
 
     /// The verdict on a message that arrives.
@@ -313,22 +313,22 @@ impl Endpoint {
     }
 
     /// Does what the entry makes of the endpoint, which is in memory and stays there with its messages in flight, and logs it.
-    fn enter(&mut self, entry: Entry)
+    fn enter(&mut self, entry: &Entry)
         requires ready { self.old.ready ≡ true }
         requires room { length self.old.log < self.old.settings.log }
         requires here { is_on_disk (state_after self.old).head.place ≡ false }
-        requires stays { keeps_flights entry.event entry.outcome ≡ true }
-        requires keeps { KeepsOrder self.old.settings.bounces self.old.settings.pool self.old.settings.id (state_after self.old) entry }
+        requires stays { keeps_flights entry.now.event entry.now.outcome ≡ true }
+        requires keeps { KeepsOrder self.old.settings.bounces self.old.settings.pool self.old.settings.id (state_after self.old) entry.now }
         ensures settings { self.new.settings ≡ self.old.settings }
-        ensures log { self.new.log ≡ self.old.log ++ entry ∷ [] }
+        ensures log { self.new.log ≡ self.old.log ++ entry.now ∷ [] }
         ensures flights { self.new.flights ≡ self.old.flights }
     {
         let end = self.settings.id;
         let Held::Here(fields) = &mut self.held else {
             unreachable!()
         };
-        fields.apply(end, &entry);
-        self.log.push_reserved(entry);
+        fields.apply(end, entry);
+        self.log.push_reserved(*entry);
     }
 
     /// Logs an entry that changes at most whether the endpoint is wanted.
@@ -431,7 +431,7 @@ impl Endpoint {
             let wanted = self.wanted_after(entry.outcome);
             self.note(entry, wanted);
         } else {
-            self.enter(entry);
+            self.enter(&entry);
         }
     }
 
@@ -445,7 +445,7 @@ impl Endpoint {
         ensures log { self.new.log ≡ self.old.log ++ entry ∷ [] }
         ensures flights { self.new.flights ≡ self.old.flights }
     {
-        self.enter(entry);
+        self.enter(&entry);
     }
 }
 
@@ -532,7 +532,7 @@ impl Endpoint {
         ensures log { self.new.log ≡ self.old.log ++ entry ∷ [] }
         ensures flights { self.new.flights ≡ self.old.flights }
     {
-        self.enter(entry);
+        self.enter(&entry);
     }
 
     /// It leaves its frame for the host.
@@ -544,7 +544,7 @@ impl Endpoint {
         ensures log { self.new.log ≡ self.old.log ++ entry ∷ [] }
         ensures flights { self.new.flights ≡ self.old.flights }
     {
-        self.enter(entry);
+        self.enter(&entry);
     }
 
     /// It comes from the host into a frame, neither wanted nor draining.
@@ -556,7 +556,7 @@ impl Endpoint {
         ensures log { self.new.log ≡ self.old.log ++ entry ∷ [] }
         ensures flights { self.new.flights ≡ self.old.flights }
     {
-        self.enter(entry);
+        self.enter(&entry);
     }
 
     /// It goes to disk, and its body is given away.

@@ -11,15 +11,15 @@ use Rattle.am_endpoint.proofs.Endpoint.enter.Goals as goal
 pub apply-requires-clause-fits : goal.apply-requires-clause-fits
 apply-requires-clause-fits c =
     let i = c.self.inside in
-    fits_next i c.in-Here.fields c.args.entry (here_of i.settings.pool (replayed i) i.held c.in-Here.fields c.self.invariant.held c.in-Here.is)
-    (order_next i c.args.self.now c.args.entry c.self.view_is c.self.invariant c.requires.keeps)
+    fits_next i c.in-Here.fields c.args.entry.now (here_of i.settings.pool (replayed i) i.held c.in-Here.fields c.self.invariant.held c.in-Here.is)
+    (order_next i c.args.self.now c.args.entry.now c.self.view_is c.self.invariant c.requires.keeps)
 
 pub invariant_of-self : goal.invariant_of-self
 invariant_of-self c =
     let i = c.self.inside in
     let here = here_of i.settings.pool (replayed i) i.held c.in-Here.fields c.self.invariant.held c.in-Here.is in
-    let items : c.push_reserved.new.self.items ≡ i.log.items ++ c.args.entry ∷ [] = grind (arith, common_steps) in
+    let items : c.push_reserved.new.self.items ≡ i.log.items ++ c.args.entry.now ∷ [] = grind (arith, common_steps) in
     let room : length i.log.items < i.settings.log = subst (λ (v : EndpointView). length v.log < v.settings.log) (sym c.self.view_is) c.requires.room in
-    entered i (Here c.apply.new.self) c.push_reserved.new.self c.args.entry c.self.invariant items room
-    (here_after i c.in-Here.fields c.apply.new.self c.args.entry (flights_stay c.args.entry c.requires.stays) here c.apply.ensures.state c.apply.ensures.pool)
-    (order_next i c.args.self.now c.args.entry c.self.view_is c.self.invariant c.requires.keeps)
+    entered i (Here c.apply.new.self) c.push_reserved.new.self c.args.entry.now c.self.invariant items room
+    (here_after i c.in-Here.fields c.apply.new.self c.args.entry.now (flights_stay c.args.entry.now c.requires.stays) here c.apply.ensures.state c.apply.ensures.pool)
+    (order_next i c.args.self.now c.args.entry.now c.self.view_is c.self.invariant c.requires.keeps)

@@ -17,8 +17,8 @@ formed_if pool e s (Some q) order is = front_formed pool e s q order is
 pub returns-clause-formed : goal.returns-clause-formed
 returns-clause-formed c =
     let v = c.args.self.now in
-    formed_if v.settings.pool v.settings.id (state_after v) c.front.result c.fields.ensures.order (sym (c.front.ensures ∙ ap front c.fields.ensures.state))
+    formed_if v.settings.pool v.settings.id (state_after v) c.front.result c.fields.ensures.order (sym (c.front.ensures.value ∙ ap front c.fields.ensures.state))
 
 pub returns-clause-none : goal.returns-clause-none
 returns-clause-none c =
-    let s = state_after c.args.self.now in no_front s.body.replies s.body.requests c.front.result (c.front.ensures ∙ ap front c.fields.ensures.state)
+    let s = state_after c.args.self.now in no_front s.body.replies s.body.requests c.front.result (c.front.ensures.value ∙ ap front c.fields.ensures.state)
