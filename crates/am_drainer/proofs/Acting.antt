@@ -1,6 +1,6 @@
 -- What acts one after the other, and one step more of a drain, whole or stopped.
 use Rattle.std.proofs.Common.{◌≡◌, ℕ, suc, List, [], ◌∷◌, ◌++◌, Option, Some, None, Result, Ok, Err, ap, sym, ◌∙◌, subst, refl, append_assoc, append-nil}
-use Rattle.std.specs.Prelude.{option_map}
+use Rattle.std.specs.Prelude.{◌<◌, option_map}
 use Rattle.am_office.specs.declared.Entry.{Entry}
 use Rattle.am_model.proofs.Each.{each_append}
 use Rattle.am_scenario_types.specs.Lists.{ScenarioLists}
@@ -13,6 +13,7 @@ use Rattle.am_drain.proofs.Quiet.{Quiet}
 use Rattle.am_drain.proofs.Turns.{Extends}
 use Rattle.am_model.specs.declared.EntryFault.{EntryFault}
 use Rattle.am_model.specs.declared.EntryFault.TheVariants.{NotEnabled, LogFull, NoMemory}
+use Rattle.am_drainer.specs.Falling.{TurnFalls}
 use Rattle.am_drainer.specs.Stops.{Reaches, IsCutShort, Does, Acts, IsDrainStopped}
 
 -- ---- room
@@ -146,3 +147,8 @@ ended s s0 past now same (n, made) reached e =
 
 pub begun : (s : ScenarioLists) (past : List Entry) → Made s past past
 begun s past = (0, refl)
+
+-- a turn that was made leaves less work
+pub falls : (work : ScenarioLists → List Entry → ℕ) (s s0 : ScenarioLists) (past next : List Entry) (t : Turn) → TurnFalls work s0 past → next_turn s0 past ≡ Some t → s ≡ s0 → next ≡ after_turn s0 past t → work s next < work s0 past
+falls work s s0 past next t less e same made =
+    subst (λ (x : ScenarioLists). work x next < work s0 past) (sym same) (subst (λ (xs : List Entry). work s0 xs < work s0 past) (sym made) (less t e))

@@ -1,18 +1,17 @@
 -- Finding by reading one after the other.
 use Rattle.std.proofs.Common.{◌≡◌, ℕ, zero, suc, ◌+◌, ◌≤◌, List, [], ◌∷◌, Option, Some, None, Bool, true, false, cond, map, length, drop, refl, sym, ◌∙◌, ap, subst, eqb-true, arith, rules}
-use Rattle.std.specs.Prelude.{◌&&◌, ◌==◌, not, find, filter, filter_map, fold, slice_get, option_map, IfSome}
-use Rattle.std.specs.List.{cons_option}
+use Rattle.std.specs.Prelude.{◌&&◌, ◌==◌, not, find, filter, slice_get, option_map, IfSome}
 use Rattle.am_model.specs.Endpoint.{front, front_of}
 use Rattle.am_scripts.specs.Links.{first_some}
 use Rattle.am_scripts.specs.Standings.{Standing}
 use Rattle.am_scripts.proofs.Lists.{none_mapped}
 use Rattle.am_drain.specs.declared.Turn.{Turn}
-use Rattle.am_drain.specs.Rules.{Left, fewer, has_reply, has_request, finds_room, next_sender, send_front, send_of, next_send}
+use Rattle.am_drain.specs.Rules.{has_reply, has_request, finds_room, next_sender, send_front, send_of, next_send}
 use Rattle.am_model.specs.declared.Queued.{Queued}
 use Rattle.am_drainer.specs.declared.EndMail.{EndMail}
 use Rattle.am_model.specs.Layout.{Layout}
 use Rattle.am_drainer.specs.Reads.{mail_of, is_seat, is_turn_in_range}
-use Rattle.am_drainer.specs.Choices.{send_by, fewer_of}
+use Rattle.am_drainer.specs.Choices.{send_by}
 
 -- ---- one element more
 
@@ -172,26 +171,6 @@ send_some ends m e = ap send_read e ∙ sends_read (next_sender ends)
 
 pub send_none : (ends : List Standing) → None ≡ option_map mail_of (next_sender ends) → None ≡ next_send ends
 send_none ends e = ap send_read e ∙ sends_read (next_sender ends)
-
--- ---- the thread that made the fewest
-
-abbrev pub fewest_from : {T : Type 0} → (T → Option Left) → Option Left → ℕ → List T → Option Left
-fewest_from left best i ts = fold fewer best (filter_map left (drop i ts))
-
-fewest_step : (best o : Option Left) (ls : List Left) → fold fewer best (cons_option o ls) ≡ fold fewer (fewer_of best o) ls
-fewest_step best None ls = refl
-fewest_step best (Some l) ls = refl
-
-pub fewest_more : {T : Type 0} (left : T → Option Left) (best o : Option Left) (ts : List T) (i : ℕ) → slice_get (map left ts) i ≡ Some o → fewest_from left (fewer_of best o) (i + 1) ts ≡ fewest_from left best i ts
-fewest_more left best o ts i e =
-    let next = next_in left ts i o e in
-    sym (ap (λ zs. fold fewer best (filter_map left zs)) next.drops
-    ∙ (fewest_step best (left next.x) (filter_map left (drop (suc i) ts))
-    ∙ (ap (λ (l : Option Left). fold fewer (fewer_of best l) (filter_map left (drop (suc i) ts))) next.reads
-    ∙ ap (λ zs. fold fewer (fewer_of best o) (filter_map left zs)) (drop_more ts i))))
-
-pub fewest_past : {T : Type 0} (left : T → Option Left) (best : Option Left) (ts : List T) (i : ℕ) → length ts ≤ i → fewest_from left best i ts ≡ best
-fewest_past left best ts i h = ap (λ zs. fold fewer best (filter_map left zs)) (drop_past i ts h)
 
 -- a send has its numbers in range where its endpoint has
 pub sent_in_range : (layout : Layout) (m : EndMail) (o : Option Queued) (r : Option Turn) → is_seat layout m.node m.id ≡ true → r ≡ send_by m o → IfSome r (λ t. is_turn_in_range layout t ≡ true)

@@ -1,6 +1,6 @@
 -- What is planned, as the drain tells it from what it reads.
-use Rattle.std.proofs.Common.{◌≡◌, ◌⊎◌, ⊎_elim, subst, ℕ, List, [], ◌∷◌, ◌++◌, Option, Some, None, Bool, true, false, cond, map, length, refl, sym, ◌∙◌, ap, append_assoc, eqb-true, ltb-true, arith}
-use Rattle.std.specs.Prelude.{◌&&◌, ◌||◌, ◌≤◌, not, nat_lt, find, filter, option_map, count_by, IfSome}
+use Rattle.std.proofs.Common.{◌≡◌, ℕ, List, [], ◌∷◌, ◌++◌, Option, Some, None, Bool, true, false, cond, map, length, refl, sym, ◌∙◌, ap, append_assoc, eqb-true, ltb-true, arith}
+use Rattle.std.specs.Prelude.{◌&&◌, ◌||◌, ◌≤◌, not, nat_lt, find, filter, option_map, count_by}
 use Rattle.std.specs.List.{list_any}
 use Rattle.std.proofs.lemmas.Bool.{and_parts}
 use Rattle.am_names.specs.declared.EndpointId.{EndpointId}
@@ -213,10 +213,6 @@ make_some o l e = ap make_reads e
 
 pub make_none : (o : Option Left) → None ≡ o → None ≡ option_map make_of o
 make_none o e = ap make_reads e
-
-pub either_in_range : {X : Type 0} (P : X → Type 0) (o a b : Option X) → (o ≡ a) ⊎ (o ≡ b) → IfSome a P → IfSome b P → IfSome o P
-either_in_range P o a b one f h =
-    ⊎_elim (λ (e : o ≡ a). subst (λ (t : Option _). IfSome t P) (sym e) f) (λ (e : o ≡ b). subst (λ (t : Option _). IfSome t P) (sym e) h) one
 
 pub not_below : (m n : ℕ) → n ≤ m → nat_lt m n ≡ false
 not_below m n h = by_test (nat_lt m n) refl

@@ -6,7 +6,7 @@ use Rattle.am_names.specs.Names.{same_end, same_node}
 use Rattle.am_office.specs.declared.Event.TheVariants as Events
 use Rattle.am_office.specs.declared.Entry.{Entry}
 use Rattle.am_model.specs.declared.Queued.{Queued}
-use Rattle.am_model.specs.Endpoint.{is_on_disk, is_on_host, is_in_a_frame}
+use Rattle.am_model.specs.Endpoint.{is_on_host, is_in_a_frame}
 use Rattle.am_model.specs.Layout.{Layout}
 use Rattle.am_scenario_types.specs.Lists.{ScenarioLists}
 use Rattle.am_scripts.specs.Layout.{layout_of}
@@ -15,13 +15,11 @@ use Rattle.am_drain.specs.declared.Turn.{Turn}
 use Rattle.am_drain.specs.declared.Turn.TheVariants.{Send}
 use Rattle.am_drain.specs.Made.{after_event, after_event_if}
 use Rattle.am_drain.specs.Ready.{ready_dest}
-use Rattle.am_drain.specs.Rules.{Left, finds_room, fewer}
+use Rattle.am_drain.specs.Rules.{finds_room}
 use Rattle.am_drainer.specs.declared.EndHead.{EndHead}
 use Rattle.am_drainer.specs.declared.EndMail.{EndMail}
 use Rattle.am_drainer.specs.declared.frames.HeadTest.{HeadTest}
-use Rattle.am_drainer.specs.declared.frames.HeadTest.TheVariants.{Missed, Leaver, Spare}
-use Rattle.am_drainer.specs.declared.rules.MailTest.{MailTest}
-use Rattle.am_drainer.specs.declared.rules.MailTest.TheVariants.{Reply, Request, Arrival}
+use Rattle.am_drainer.specs.declared.frames.HeadTest.TheVariants.{Leaver, Spare}
 
 abbrev pub is_open_on_host : NodeId → EndHead → Bool
 is_open_on_host node h = same_node node h.node && (is_on_host h.head.place && not h.head.closed)
@@ -30,14 +28,12 @@ abbrev pub is_neither : EndpointId → EndpointId → EndHead → Bool
 is_neither source dest h = not (same_end source h.id) && not (same_end dest h.id)
 
 abbrev pub passes_head : HeadTest → EndHead → Bool
-passes_head Missed h = h.head.wanted && is_on_disk h.head.place
 passes_head (Leaver node source dest) h = same_node node h.node && (is_in_a_frame h.head.place && is_neither source dest h)
 passes_head (Spare node source dest) h = is_open_on_host node h && is_neither source dest h
 
-abbrev pub passes_mail : List Standing → MailTest → EndMail → Bool
-passes_mail ends Reply m = m.has_reply
-passes_mail ends Request m = finds_room ends m.front
-passes_mail ends Arrival m = m.has_arrivals
+-- whether the front message of an endpoint finds room where it goes
+abbrev pub sends_request : List Standing → EndMail → Bool
+sends_request ends m = finds_room ends m.front
 
 -- what is read of the first endpoint that passes
 abbrev pub first_read : {X : Type 0} → (Standing → X) → (X → Bool) → List Standing → Option X
@@ -57,11 +53,6 @@ unloaded_by layout (Some h) past =
 abbrev pub paged_out_by : Layout → Option EndHead → List Entry → List Entry
 paged_out_by layout None past = past
 paged_out_by layout (Some h) past = after_event layout (Events.PageOut h.node h.id) past
-
--- the call of the thread that made fewer, where there is another
-abbrev pub fewer_of : Option Left → Option Left → Option Left
-fewer_of best None = best
-fewer_of best (Some l) = fewer best l
 
 -- the journal after the front message of an endpoint was sent, once the destination is ready
 abbrev pub sent_to : ScenarioLists → NodeId → EndpointId → EndpointId → List Entry → List Entry

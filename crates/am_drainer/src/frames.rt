@@ -19,8 +19,6 @@ use am_office::Event;
 /// What an endpoint is looked for.
 #[derive(Clone, Copy)]
 pub(crate) enum HeadTest {
-    /// It is wanted and on disk.
-    Missed,
     /// It is in a frame of the node, and neither the source nor the destination.
     Leaver {
         node: NodeId,
@@ -51,7 +49,6 @@ fn passes(test: HeadTest, head: EndHead) -> bool
     ensures { result ≡ passes_head test head }
 {
     match test {
-        HeadTest::Missed => head.head.wanted && is_on_disk(head.head.place),
         HeadTest::Leaver { node, source, dest } => {
             node.0 == head.node.0
                 && (is_in_a_frame(head.head.place) && is_neither(head, source, dest))
@@ -139,7 +136,6 @@ fn stop_draining<M: Machine>(
 ) -> Result<(), EntryFault>
     requires { is_seat (layout_of (M.scenario machine.old)) node end ≡ true }
     ensures scenario { M.scenario machine.new ≡ M.scenario machine.old }
-    ensures capacity { M.capacity machine.new ≡ M.capacity machine.old }
     ensures acts { Acts (M.scenario machine.old) result (M.journal machine.old) (plan.not_draining (layout_of (M.scenario machine.old)) node end (M.journal machine.old)) (M.journal machine.new) }
 {
     let drains = is_draining(machine.head_by(end));
@@ -150,7 +146,6 @@ fn stop_draining<M: Machine>(
 fn unload<M: Machine>(machine: &mut M, leaver: EndHead) -> Result<(), EntryFault>
     requires { is_seat (layout_of (M.scenario machine.old)) leaver.node leaver.id ≡ true }
     ensures scenario { M.scenario machine.new ≡ M.scenario machine.old }
-    ensures capacity { M.capacity machine.new ≡ M.capacity machine.old }
     ensures acts { Acts (M.scenario machine.old) result (M.journal machine.old) (unloaded_by (layout_of (M.scenario machine.old)) (Some leaver) (M.journal machine.old)) (M.journal machine.new) }
 {
     let node = leaver.node;
@@ -169,7 +164,6 @@ fn unload_leaver<M: Machine>(
     dest: EndpointId,
 ) -> Result<(), EntryFault>
     ensures scenario { M.scenario machine.new ≡ M.scenario machine.old }
-    ensures capacity { M.capacity machine.new ≡ M.capacity machine.old }
     ensures acts { let s = M.scenario machine.old in let layout = layout_of s in let past = M.journal machine.old in Acts s result past (plan.unloaded layout (find (plan.may_leave node source dest) (standings layout past)) past) (M.journal machine.new) }
 {
     match first_head(machine, HeadTest::Leaver { node, source, dest }) {
@@ -186,7 +180,6 @@ fn page_out_spare<M: Machine>(
     dest: EndpointId,
 ) -> Result<(), EntryFault>
     ensures scenario { M.scenario machine.new ≡ M.scenario machine.old }
-    ensures capacity { M.capacity machine.new ≡ M.capacity machine.old }
     ensures acts { let s = M.scenario machine.old in Acts s result (M.journal machine.old) (plan.kept (layout_of s) s.keep node source dest (M.journal machine.old)) (M.journal machine.new) }
 {
     match spare(machine, node, source, dest) {
@@ -206,7 +199,6 @@ fn empty_frame<M: Machine>(
     dest: EndpointId,
 ) -> Result<(), EntryFault>
     ensures scenario { M.scenario machine.new ≡ M.scenario machine.old }
-    ensures capacity { M.capacity machine.new ≡ M.capacity machine.old }
     ensures acts { let s = M.scenario machine.old in Acts s result (M.journal machine.old) (plan.emptied (layout_of s) s.keep node source dest (M.journal machine.old)) (M.journal machine.new) }
 {
     match unload_leaver(machine, node, source, dest) {
@@ -233,7 +225,6 @@ fn make_frame<M: Machine>(
 ) -> Result<(), EntryFault>
     requires { is_seat (layout_of (M.scenario machine.old)) node end ≡ true }
     ensures scenario { M.scenario machine.new ≡ M.scenario machine.old }
-    ensures capacity { M.capacity machine.new ≡ M.capacity machine.old }
     ensures acts { let s = M.scenario machine.old in Acts s result (M.journal machine.old) (plan.with_frame (layout_of s) s.keep node end source dest (M.journal machine.old)) (M.journal machine.new) }
 {
     if lacks_frame(machine, node, end) {
@@ -247,7 +238,6 @@ fn make_frame<M: Machine>(
 fn load<M: Machine>(machine: &mut M, node: NodeId, end: EndpointId) -> Result<(), EntryFault>
     requires { is_seat (layout_of (M.scenario machine.old)) node end ≡ true }
     ensures scenario { M.scenario machine.new ≡ M.scenario machine.old }
-    ensures capacity { M.capacity machine.new ≡ M.capacity machine.old }
     ensures acts { Acts (M.scenario machine.old) result (M.journal machine.old) (plan.loaded (layout_of (M.scenario machine.old)) node end (M.journal machine.old)) (M.journal machine.new) }
 {
     if !is_on_host(machine.head_by(end).place) {
@@ -269,7 +259,6 @@ fn fill_frame<M: Machine>(
 ) -> Result<(), EntryFault>
     requires { is_seat (layout_of (M.scenario machine.old)) node end ≡ true }
     ensures scenario { M.scenario machine.new ≡ M.scenario machine.old }
-    ensures capacity { M.capacity machine.new ≡ M.capacity machine.old }
     ensures acts { let s = M.scenario machine.old in let layout = layout_of s in Acts s result (M.journal machine.old) (plan.loaded layout node end (plan.with_frame layout s.keep node end source dest (M.journal machine.old))) (M.journal machine.new) }
 {
     match make_frame(machine, node, end, source, dest) {
@@ -288,7 +277,6 @@ fn seat<M: Machine>(
 ) -> Result<(), EntryFault>
     requires { is_seat (layout_of (M.scenario machine.old)) node end ≡ true }
     ensures scenario { M.scenario machine.new ≡ M.scenario machine.old }
-    ensures capacity { M.capacity machine.new ≡ M.capacity machine.old }
     ensures acts { let s = M.scenario machine.old in let layout = layout_of s in let past = M.journal machine.old in Acts s result past (plan.loaded layout node end (plan.with_frame layout s.keep node end source dest (plan.not_draining layout node end past))) (M.journal machine.new) }
 {
     match stop_draining(machine, node, end) {
@@ -307,7 +295,6 @@ pub(crate) fn ready<M: Machine>(
 ) -> Result<(), EntryFault>
     requires { is_seat (layout_of (M.scenario machine.old)) node end ≡ true }
     ensures scenario { M.scenario machine.new ≡ M.scenario machine.old }
-    ensures capacity { M.capacity machine.new ≡ M.capacity machine.old }
     ensures acts { let s = M.scenario machine.old in Acts s result (M.journal machine.old) (plan.ready (layout_of s) s.keep node end source dest (M.journal machine.old)) (M.journal machine.new) }
 {
     match off_disk(machine, node, end) {
@@ -330,7 +317,6 @@ pub(crate) fn ready_dest<M: Machine>(
     dest: EndpointId,
 ) -> Result<(), EntryFault>
     ensures scenario { M.scenario machine.new ≡ M.scenario machine.old }
-    ensures capacity { M.capacity machine.new ≡ M.capacity machine.old }
     ensures acts { let s = M.scenario machine.old in Acts s result (M.journal machine.old) (plan.ready_dest (layout_of s) s.keep source dest (M.journal machine.old)) (M.journal machine.new) }
 {
     match machine.home(dest) {

@@ -1,10 +1,12 @@
 //! The drain as code, over any machine that makes the entry of an event: turns until no rule applies, or the machine makes no
-//! entry. Each choice is made from what the machine tells of its links, channels, endpoints and threads as they stand, so
-//! a turn costs what the numbers of these ask, and nothing for the entries that were made before.
+//! entry. For each choice the machine is asked for the first one there is, or for the next one behind it, so a turn looks at what
+//! it chooses from and at nothing else: neither at all endpoints, links, channels and threads, nor at the entries that were made.
 #![tactic(auto)]
 
 ghost use Rattle.am_drain.specs.Cut.{IsDrainedWithRoom};
 ghost use Rattle.am_drain.specs.Made.{after_event};
+ghost use Rattle.am_drainer.specs.Falling.{TurnFalls};
+ghost use Rattle.am_drainer.specs.Firsts.{IsFewest, IsFirstPair, IsNext, has_bound, has_due, shows};
 ghost use Rattle.am_drainer.specs.Reads.{call_event, head_of, is_seat, left_of, mail_of};
 ghost use Rattle.am_drainer.specs.Stops.{Acts, IsDrainStopped};
 ghost use Rattle.am_drain.specs.Rules.{left_to, next_page_in};
@@ -15,7 +17,7 @@ ghost use Rattle.am_names.specs.Names.{is_request};
 ghost use Rattle.am_office.specs.declared.Entry.{Entry};
 ghost use Rattle.am_scenario_types.specs.Lists.{ScenarioLists};
 ghost use Rattle.am_scripts.specs.Links.{due};
-ghost use Rattle.am_scripts.specs.Standings.{standings};
+ghost use Rattle.am_scripts.specs.Standings.{is_missed, standings};
 ghost use Rattle.std.specs.Prelude.{◌≡◌, ◌≤◌, ◌<◌, ◌^◌, ℕ, List, length, map, slice_get, count_by, option_map, true, IfErr, IfSome, OnOk, Some, None};
 
 mod frames;
@@ -51,6 +53,24 @@ pub struct EndMail {
     pub has_arrivals: bool,
 }
 
+/// What an endpoint is looked for, while no wanted endpoint is on disk.
+#[derive(Clone, Copy, PartialEq, Eq, Debug)]
+pub enum EndTest {
+    /// A reply is queued.
+    Reply,
+    /// It has a message to send.
+    Front,
+    /// There is something to poll.
+    Arrival,
+}
+
+/// A node, and a peer that it receives from or has channels to.
+#[derive(Clone, Copy, PartialEq, Eq, Debug)]
+pub struct NodePair {
+    pub node: NodeId,
+    pub peer: NodeId,
+}
+
 /// The next call of a thread, and how many it has made.
 #[derive(Clone, Copy, PartialEq, Eq, Debug)]
 pub struct LeftCall {
@@ -64,11 +84,8 @@ pub trait Machine {
 
     ghost journal: { Self → List Entry };
 
-    /// How many entries its logs may hold together.
-    ghost capacity: { Self → ℕ };
-
-    fn nodes(&self) -> u8
-        ensures { result ≡ (scenario self.now).nodes };
+    /// How much work is left to a drain of a scenario after these entries.
+    ghost work: { ScenarioLists → List Entry → ℕ };
 
     fn channels(&self) -> u8
         ensures { result ≡ (scenario self.now).channels };
@@ -91,6 +108,14 @@ pub trait Machine {
         ensures value { result ≡ due (scenario self.now) peer node (journal self.now) }
         ensures counted { IfSome result (λ number. 1 ≤ number) };
 
+    /// The least node, and then the least peer, with something due on the link to the node.
+    fn first_due(&self) -> Option<NodePair>
+        ensures { IsFirstPair (scenario self.now) (has_due (scenario self.now) (journal self.now)) result };
+
+    /// The least node, and then the least peer, with a bound channel from the node.
+    fn first_bound(&self) -> Option<NodePair>
+        ensures { IsFirstPair (scenario self.now) (has_bound (scenario self.now) (journal self.now)) result };
+
     /// Whether a channel from a node to a peer is bound, of those of the scenario.
     fn is_bound(&self, node: NodeId, peer: NodeId, channel: u8) -> bool
         requires node { node.0 < (scenario self.now).nodes }
@@ -101,6 +126,15 @@ pub trait Machine {
     /// How many endpoints there are.
     fn ends_len(&self) -> usize
         ensures { result ≡ length (standings (layout_of (scenario self.now)) (journal self.now)) };
+
+    /// The place of the least endpoint that is wanted and on disk.
+    fn first_missed(&self) -> Option<usize>
+        ensures { IsNext is_missed (standings (layout_of (scenario self.now)) (journal self.now)) 0 result };
+
+    /// The place of the least endpoint at or behind a place that passes, while no wanted endpoint is on disk.
+    fn next_end(&self, test: EndTest, from: usize) -> Option<usize>
+        requires { next_page_in (standings (layout_of (scenario self.now)) (journal self.now)) ≡ None }
+        ensures { IsNext (shows test) (standings (layout_of (scenario self.now)) (journal self.now)) from result };
 
     /// The endpoint at a place of their order.
     fn head(&self, index: usize) -> EndHead
@@ -135,26 +169,23 @@ pub trait Machine {
     fn is_frame_held(&self, node: NodeId, frame: u8) -> bool
         ensures { result ≡ is_frame_held (layout_of (scenario self.now)) (journal self.now) node frame };
 
-    /// How many threads there are.
-    fn threads_len(&self) -> usize
-        ensures { result ≡ length (scenario self.now).threads };
-
-    /// The call that is left to the thread at a place of their order.
-    fn left(&self, index: usize) -> Option<LeftCall>
-        requires { index < length (scenario self.now).threads }
-        ensures value { slice_get (map (left_to (scenario self.now) (journal self.now)) (scenario self.now).threads) index ≡ Some (option_map left_of result) }
+    /// The next call of the thread that has made the fewest, the least among equals, of those to which a call is left.
+    fn fewest(&self) -> Option<LeftCall>
+        ensures value { IsFewest (left_to (scenario self.now) (journal self.now)) (scenario self.now).threads (option_map left_of result) }
         ensures in_range { IfSome result (λ left. is_in_range (layout_of (scenario self.now)) (call_event left.call) ≡ true) };
 
     /// Makes the entry of an event. A fault changes nothing.
     fn apply(&mut self, event: Event) -> Result<(), EntryFault>
         requires { is_in_range (layout_of (scenario self.old)) event ≡ true }
         ensures scenario { scenario self.new ≡ scenario self.old }
-        ensures capacity { capacity self.new ≡ capacity self.old }
-        ensures acts { Acts (scenario self.old) result (journal self.old) (after_event (layout_of (scenario self.old)) event (journal self.old)) (journal self.new) }
-        ensures fits { OnOk result (length (journal self.new) ≤ capacity self.old) };
+        ensures acts { Acts (scenario self.old) result (journal self.old) (after_event (layout_of (scenario self.old)) event (journal self.old)) (journal self.new) };
+
+    /// The next turn leaves less work.
+    fn turns_fall(&self)
+        ensures { TurnFalls work (scenario self.now) (journal self.now) };
 }
 
-/// Does turns until no rule applies. It ends, since each turn makes an entry and the logs are limited. Ok: the journal is
+/// Does turns until no rule applies. It ends, since each turn leaves less work. Ok: the journal is
 /// what the drain makes of the one before, and no entry met a full log. LogFull: it is what the drain makes before the first
 /// entry that meets a full log, which is the part's. NotEnabled: before the first entry whose event has this condition
 /// against it. NoMemory: it is a beginning of what the drain makes.
@@ -164,6 +195,7 @@ pub fn drain<M: Machine>(machine: &mut M) -> Result<(), EntryFault>
     ensures stopped { IfErr result (λ fault. IsDrainStopped (M.scenario machine.old) (M.journal machine.old) fault (M.journal machine.new)) }
 {
     'turns: loop {
+        machine.turns_fall();
         match rules::next_turn(machine) {
             None => return Ok(()),
             Some(turn) => match turns::do_turn(machine, turn) {

@@ -21,7 +21,6 @@ pub(crate) fn apply_if<M: Machine>(
 ) -> Result<(), EntryFault>
     requires { is_in_range (layout_of (M.scenario machine.old)) event ≡ true }
     ensures scenario { M.scenario machine.new ≡ M.scenario machine.old }
-    ensures capacity { M.capacity machine.new ≡ M.capacity machine.old }
     ensures acts { Acts (M.scenario machine.old) result (M.journal machine.old) (after_event_if condition (layout_of (M.scenario machine.old)) event (M.journal machine.old)) (M.journal machine.new) }
 {
     if condition {
@@ -39,7 +38,6 @@ pub(crate) fn off_disk<M: Machine>(
 ) -> Result<(), EntryFault>
     requires { is_seat (layout_of (M.scenario machine.old)) node end ≡ true }
     ensures scenario { M.scenario machine.new ≡ M.scenario machine.old }
-    ensures capacity { M.capacity machine.new ≡ M.capacity machine.old }
     ensures acts { Acts (M.scenario machine.old) result (M.journal machine.old) (plan.off_disk (layout_of (M.scenario machine.old)) node end (M.journal machine.old)) (M.journal machine.new) }
 {
     let most = machine.faults() + 1;
@@ -59,7 +57,6 @@ pub(crate) fn off_disk_at_home<M: Machine>(
     end: EndpointId,
 ) -> Result<(), EntryFault>
     ensures scenario { M.scenario machine.new ≡ M.scenario machine.old }
-    ensures capacity { M.capacity machine.new ≡ M.capacity machine.old }
     ensures acts { let layout = layout_of (M.scenario machine.old) in Acts (M.scenario machine.old) result (M.journal machine.old) (plan.off_disk_at (layouts.home layout end) layout end (M.journal machine.old)) (M.journal machine.new) }
 {
     match machine.home(end) {

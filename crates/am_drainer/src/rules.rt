@@ -1,65 +1,28 @@
 // The six rules, and the turn of the first that applies.
 ghost use Rattle.am_drain.specs.Rules as rules;
-ghost use Rattle.am_drainer.specs.Choices.{fewer_of, first_read, passes_mail, send_by};
-ghost use Rattle.am_drainer.specs.Reads.{call_event, is_seat, is_turn_in_range, left_of, mail_of};
+ghost use Rattle.am_drainer.specs.Choices.{first_read, send_by, sends_request};
+ghost use Rattle.am_drainer.specs.Firsts.{shows};
+ghost use Rattle.am_drainer.specs.Reads.{is_seat, is_turn_in_range, mail_of};
 ghost use Rattle.am_scripts.specs.Layout.{layout_of};
-ghost use Rattle.am_scripts.specs.Links.{first_some, next_receipt, receipt_at};
+ghost use Rattle.am_scripts.specs.Links.{first_some, next_receipt};
 ghost use Rattle.am_scripts.specs.Standings.{is_standing_of, standings};
-ghost use Rattle.std.specs.Prelude.{◌≡◌, ◌<◌, ◌⊎◌, ◌||◌, nat_lt, ◌∷◌, [], true, find, option_map, IfSome};
+ghost use Rattle.std.specs.Prelude.{◌≡◌, ◌<◌, ◌||◌, nat_lt, ◌∷◌, [], true, find, option_map, IfSome};
 
-use crate::frames::{HeadTest, first_head};
-use crate::{EndMail, LeftCall, Machine};
+use crate::{EndMail, EndTest, Machine, NodePair};
 use am_drain::Turn;
 use am_model::{Head, Queued};
 use am_names::{EndpointId, NodeId};
 use am_office::{Actor, Call, Event};
 
-/// What an endpoint is looked for, while no wanted endpoint is on disk.
-#[derive(Clone, Copy)]
-pub(crate) enum MailTest {
-    /// A reply is queued.
-    Reply,
-    /// Its front message goes to an endpoint that is closed or has room for a request.
-    Request,
-    /// There is something to poll.
-    Arrival,
-}
-
-/// The receipt at a node that is due, from the least peer.
-fn receipt_at<M: Machine>(machine: &M, node: NodeId) -> Option<Turn>
-    requires { node.0 < (M.scenario machine.now).nodes }
-    ensures turn { result ≡ option_map Turn.Once (receipt_at (M.scenario machine.now) (M.journal machine.now) node) }
-    ensures in_range { IfSome result (λ turn. is_turn_in_range (layout_of (M.scenario machine.now)) turn ≡ true) }
-{
-    let nodes = machine.nodes();
-    'peers: for peer in 0..nodes {
-        match machine.due(node, NodeId(peer)) {
-            Some(number) => {
-                return Some(Turn::Once(Event::Receive {
-                    node,
-                    peer: NodeId(peer),
-                    number,
-                }));
-            }
-            None => {}
-        }
-    }
-    None
-}
-
-/// The receipt that is due, at the least node. None exactly where all that was released on any link was received.
+/// The receipt that is due, at the least node and from the least peer there. None exactly where all that was released on any link
+/// was received.
 pub fn receipt<M: Machine>(machine: &M) -> Option<Turn>
     ensures turn { result ≡ option_map Turn.Once (next_receipt (M.scenario machine.now) (M.journal machine.now)) }
     ensures in_range { IfSome result (λ turn. is_turn_in_range (layout_of (M.scenario machine.now)) turn ≡ true) }
 {
-    let nodes = machine.nodes();
-    'nodes: for node in 0..nodes {
-        match receipt_at(machine, NodeId(node)) {
-            Some(turn) => return Some(turn),
-            None => {}
-        }
-    }
-    None
+    let NodePair { node, peer } = machine.first_due()?;
+    let number = machine.due(node, peer)?;
+    Some(Turn::Once(Event::Receive { node, peer, number }))
 }
 
 /// The time-out of the least bound channel from a node to a peer.
@@ -82,35 +45,13 @@ fn time_out_to<M: Machine>(machine: &M, node: NodeId, peer: NodeId) -> Option<Tu
     None
 }
 
-/// The time-out of the least bound channel from a node.
-fn time_out_at<M: Machine>(machine: &M, node: NodeId) -> Option<Turn>
-    requires { node.0 < (M.scenario machine.now).nodes }
-    ensures turn { result ≡ rules.time_out_at (M.scenario machine.now) (M.journal machine.now) node }
-    ensures in_range { IfSome result (λ turn. is_turn_in_range (layout_of (M.scenario machine.now)) turn ≡ true) }
-{
-    let nodes = machine.nodes();
-    'peers: for peer in 0..nodes {
-        match time_out_to(machine, node, NodeId(peer)) {
-            Some(turn) => return Some(turn),
-            None => {}
-        }
-    }
-    None
-}
-
 /// The time-out of the least bound channel.
 fn time_out<M: Machine>(machine: &M) -> Option<Turn>
     ensures turn { result ≡ rules.next_time_out (M.scenario machine.now) (M.journal machine.now) }
     ensures in_range { IfSome result (λ turn. is_turn_in_range (layout_of (M.scenario machine.now)) turn ≡ true) }
 {
-    let nodes = machine.nodes();
-    'nodes: for node in 0..nodes {
-        match time_out_at(machine, NodeId(node)) {
-            Some(turn) => return Some(turn),
-            None => {}
-        }
-    }
-    None
+    let NodePair { node, peer } = machine.first_bound()?;
+    time_out_to(machine, node, peer)
 }
 
 /// The page-in of the least endpoint on disk that is wanted.
@@ -118,13 +59,12 @@ fn page_in<M: Machine>(machine: &M) -> Option<Turn>
     ensures turn { result ≡ rules.next_page_in (standings (layout_of (M.scenario machine.now)) (M.journal machine.now)) }
     ensures in_range { IfSome result (λ turn. is_turn_in_range (layout_of (M.scenario machine.now)) turn ≡ true) }
 {
-    match first_head(machine, HeadTest::Missed) {
-        Some(head) => Some(Turn::Once(Event::PageIn {
-            node: head.node,
-            end: head.id,
-        })),
-        None => None,
-    }
+    let place = machine.first_missed()?;
+    let head = machine.head(place);
+    Some(Turn::Once(Event::PageIn {
+        node: head.node,
+        end: head.id,
+    }))
 }
 
 /// Whether an endpoint that has this head and so many received requests takes one more, or refuses it for good.
@@ -155,29 +95,31 @@ fn finds_room<M: Machine>(machine: &M, front: Option<Queued>) -> bool
     }
 }
 
-fn passes<M: Machine>(machine: &M, test: MailTest, mail: EndMail) -> bool
+/// The least endpoint that passes.
+fn first_mail<M: Machine>(machine: &M, test: EndTest) -> Option<EndMail>
     requires { rules.next_page_in (standings (layout_of (M.scenario machine.now)) (M.journal machine.now)) ≡ None }
-    ensures { result ≡ passes_mail (standings (layout_of (M.scenario machine.now)) (M.journal machine.now)) test mail }
+    ensures value { result ≡ option_map mail_of (find (shows test) (standings (layout_of (M.scenario machine.now)) (M.journal machine.now))) }
+    ensures seat { IfSome result (λ mail. is_seat (layout_of (M.scenario machine.now)) mail.node mail.id ≡ true) }
 {
-    match test {
-        MailTest::Reply => mail.has_reply,
-        MailTest::Request => finds_room(machine, mail.front),
-        MailTest::Arrival => mail.has_arrivals,
-    }
+    let place = machine.next_end(test, 0)?;
+    Some(machine.mail(place))
 }
 
-/// The least endpoint that passes.
-fn first_mail<M: Machine>(machine: &M, test: MailTest) -> Option<EndMail>
+/// The least endpoint whose front message goes to an endpoint that is closed or has room for a request.
+fn first_request<M: Machine>(machine: &M) -> Option<EndMail>
     requires { rules.next_page_in (standings (layout_of (M.scenario machine.now)) (M.journal machine.now)) ≡ None }
-    ensures value { let ends = standings (layout_of (M.scenario machine.now)) (M.journal machine.now) in result ≡ first_read mail_of (passes_mail ends test) ends }
+    ensures value { let ends = standings (layout_of (M.scenario machine.now)) (M.journal machine.now) in result ≡ first_read mail_of (sends_request ends) ends }
     ensures seat { IfSome result (λ mail. is_seat (layout_of (M.scenario machine.now)) mail.node mail.id ≡ true) }
 {
     let count = machine.ends_len();
-    'ends: for index in 0..count {
-        let mail = machine.mail(index);
-        if passes(machine, test, mail) {
+    let mut from = 0;
+    'ends: while from < count {
+        let place = machine.next_end(EndTest::Front, from)?;
+        let mail = machine.mail(place);
+        if finds_room(machine, mail.front) {
             return Some(mail);
         }
+        from = place + 1;
     }
     None
 }
@@ -202,9 +144,9 @@ fn sender<M: Machine>(machine: &M) -> Option<EndMail>
     ensures value { result ≡ option_map mail_of (rules.next_sender (standings (layout_of (M.scenario machine.now)) (M.journal machine.now))) }
     ensures seat { IfSome result (λ mail. is_seat (layout_of (M.scenario machine.now)) mail.node mail.id ≡ true) }
 {
-    match first_mail(machine, MailTest::Reply) {
+    match first_mail(machine, EndTest::Reply) {
         Some(mail) => Some(mail),
-        None => first_mail(machine, MailTest::Request),
+        None => first_request(machine),
     }
 }
 
@@ -220,40 +162,13 @@ fn send<M: Machine>(machine: &M) -> Option<Turn>
     }
 }
 
-/// The call of the thread that made fewer, or the first one.
-fn fewer(best: Option<LeftCall>, left: Option<LeftCall>) -> Option<LeftCall>
-    ensures value { option_map left_of result ≡ fewer_of (option_map left_of best) (option_map left_of left) }
-    ensures one { (result ≡ best) ⊎ (result ≡ left) }
-{
-    match left {
-        None => best,
-        Some(other) => match best {
-            None => left,
-            Some(first) => {
-                if other.after < first.after {
-                    left
-                } else {
-                    best
-                }
-            }
-        },
-    }
-}
-
 /// The next call of the thread that has made the fewest, the least among equals.
 fn script<M: Machine>(machine: &M) -> Option<Turn>
     ensures turn { result ≡ rules.next_call (M.scenario machine.now) (M.journal machine.now) }
     ensures in_range { IfSome result (λ turn. is_turn_in_range (layout_of (M.scenario machine.now)) turn ≡ true) }
 {
-    let mut best = None;
-    let count = machine.threads_len();
-    'threads: for index in 0..count {
-        best = fewer(best, machine.left(index));
-    }
-    match best {
-        Some(left) => Some(Turn::Make(left.call)),
-        None => None,
-    }
+    let left = machine.fewest()?;
+    Some(Turn::Make(left.call))
 }
 
 /// The poll of the least endpoint with something to poll.
@@ -262,7 +177,7 @@ fn poll<M: Machine>(machine: &M) -> Option<Turn>
     ensures turn { result ≡ rules.next_poll (standings (layout_of (M.scenario machine.now)) (M.journal machine.now)) }
     ensures in_range { IfSome result (λ turn. is_turn_in_range (layout_of (M.scenario machine.now)) turn ≡ true) }
 {
-    match first_mail(machine, MailTest::Arrival) {
+    match first_mail(machine, EndTest::Arrival) {
         Some(mail) => Some(Turn::Once(Event::Call {
             actor: Actor::Outside,
             end: mail.id,

@@ -5,7 +5,7 @@ ghost use Rattle.am_drainer.specs.Reads.{call_event, is_seat, is_turn_in_range};
 ghost use Rattle.am_drainer.specs.Stops.{Acts};
 ghost use Rattle.am_scripts.specs.Layout.{layout_of};
 ghost use Rattle.am_model.specs.History.{is_in_range};
-ghost use Rattle.std.specs.Prelude.{◌≡◌, ◌≤◌, length, true, OnOk};
+ghost use Rattle.std.specs.Prelude.{◌≡◌, true};
 
 use crate::Machine;
 use crate::frames::{ready, ready_dest};
@@ -25,9 +25,7 @@ fn send_to<M: Machine>(
 ) -> Result<(), EntryFault>
     requires { is_seat (layout_of (M.scenario machine.old)) node end ≡ true }
     ensures scenario { M.scenario machine.new ≡ M.scenario machine.old }
-    ensures capacity { M.capacity machine.new ≡ M.capacity machine.old }
     ensures acts { let s = M.scenario machine.old in Acts s result (M.journal machine.old) (sent_to s node end dest (M.journal machine.old)) (M.journal machine.new) }
-    ensures fits { OnOk result (length (M.journal machine.new) ≤ M.capacity machine.old) }
 {
     match ready_dest(machine, end, dest) {
         Ok(()) => machine.apply(Event::Bind { node, end }),
@@ -44,9 +42,7 @@ fn send<M: Machine>(
 ) -> Result<(), EntryFault>
     requires { is_seat (layout_of (M.scenario machine.old)) node end ≡ true }
     ensures scenario { M.scenario machine.new ≡ M.scenario machine.old }
-    ensures capacity { M.capacity machine.new ≡ M.capacity machine.old }
     ensures acts { Acts (M.scenario machine.old) result (M.journal machine.old) (after_turn (M.scenario machine.old) (M.journal machine.old) (Turn.Send node end message)) (M.journal machine.new) }
-    ensures fits { OnOk result (length (M.journal machine.new) ≤ M.capacity machine.old) }
 {
     match ready(machine, node, end, end, message.dest) {
         Ok(()) => send_to(machine, node, end, message.dest),
@@ -58,9 +54,7 @@ fn send<M: Machine>(
 fn make<M: Machine>(machine: &mut M, call: ScriptCall) -> Result<(), EntryFault>
     requires { is_in_range (layout_of (M.scenario machine.old)) (call_event call) ≡ true }
     ensures scenario { M.scenario machine.new ≡ M.scenario machine.old }
-    ensures capacity { M.capacity machine.new ≡ M.capacity machine.old }
     ensures acts { Acts (M.scenario machine.old) result (M.journal machine.old) (after_turn (M.scenario machine.old) (M.journal machine.old) (Turn.Make call)) (M.journal machine.new) }
-    ensures fits { OnOk result (length (M.journal machine.new) ≤ M.capacity machine.old) }
 {
     match off_disk_at_home(machine, call.endpoint) {
         Ok(()) => machine.apply(Event::Call {
@@ -76,9 +70,7 @@ fn make<M: Machine>(machine: &mut M, call: ScriptCall) -> Result<(), EntryFault>
 pub(crate) fn do_turn<M: Machine>(machine: &mut M, turn: Turn) -> Result<(), EntryFault>
     requires { is_turn_in_range (layout_of (M.scenario machine.old)) turn ≡ true }
     ensures scenario { M.scenario machine.new ≡ M.scenario machine.old }
-    ensures capacity { M.capacity machine.new ≡ M.capacity machine.old }
     ensures acts { Acts (M.scenario machine.old) result (M.journal machine.old) (after_turn (M.scenario machine.old) (M.journal machine.old) turn) (M.journal machine.new) }
-    ensures fits { OnOk result (length (M.journal machine.new) ≤ M.capacity machine.old) }
 {
     match turn {
         Turn::Once(event) => machine.apply(event),

@@ -1,13 +1,11 @@
-use Rattle.std.proofs.Common.{sym, ◌∙◌, ap, length, arith}
-use Rattle.am_drain.proofs.Turns.{turn_longer}
-use Rattle.am_drainer.proofs.Acting.{turned, stopped, ended, reaches_then}
+use Rattle.std.proofs.Common.{sym, ◌∙◌}
+use Rattle.am_drainer.proofs.Acting.{turned, stopped, ended, falls, reaches_then}
 use Rattle.am_drainer.proofs.drain.Goals as goal
 
 pub turns-preserved : goal.turns-preserved
 turns-preserved g c =
     record {
       scenario = c.in-Ok.ensures.scenario ∙ c.turns.invariant.scenario;
-      capacity = c.in-Ok.ensures.capacity ∙ c.turns.invariant.capacity;
       made = turned _ _ _ _ _ c.in-Some.turn c.turns.invariant.scenario c.turns.invariant.made (sym c.in-Some.ensures.turn) c.in-Ok.ensures.acts.does;
       reaches = reaches_then _ _ _ _ _ c.turns.invariant.scenario c.turns.invariant.reaches c.in-Ok.ensures.acts.reaches;
     }
@@ -21,5 +19,5 @@ returns-in-Err-clause-stopped g c =
 
 pub turns-smaller : goal.turns-smaller
 turns-smaller g c =
-    let longer = turn_longer (g.M.Machine.scenario c.turns.machine) (g.M.Machine.journal c.turns.machine) c.in-Some.turn in
-    omega (arith, longer, ap length c.in-Ok.ensures.acts.does, c.in-Ok.ensures.fits, c.in-Ok.ensures.capacity)
+    let m = g.M.Machine in
+    falls m.work _ _ _ _ c.in-Some.turn c.turns_fall.ensures (sym c.in-Some.ensures.turn) c.in-Ok.ensures.scenario c.in-Ok.ensures.acts.does

@@ -1,4 +1,4 @@
-use Rattle.std.proofs.Common.{◌≡◌, ◌-◌, length}
+use Rattle.std.proofs.Common.{◌≡◌}
 use Rattle.am_drainer.specs.Stops.{Reaches}
 use Rattle.am_drainer.proofs.Acting.{Made}
 use Rattle.am_drainer.proofs.drain.Given as goal
@@ -9,13 +9,12 @@ invariant-turns g l =
     let m = g.M.Machine in
     record {
       scenario : m.scenario l.machine ≡ m.scenario l.fn.machine;
-      capacity : m.capacity l.machine ≡ m.capacity l.fn.machine;
       made : Made (m.scenario l.fn.machine) (m.journal l.fn.machine) (m.journal l.machine);
       reaches : Reaches (m.scenario l.fn.machine) (m.journal l.fn.machine) (m.journal l.machine);
     }
 
--- each turn makes an entry, and the logs hold no more than their limits
+-- each turn leaves less work
 abbrev pub decreases-turns : goal.decreases-turns
 decreases-turns g l =
     let m = g.M.Machine in
-    m.capacity l.machine - length (m.journal l.machine)
+    m.work (m.scenario l.machine) (m.journal l.machine)

@@ -14,7 +14,6 @@ page_ins-preserved g c =
     let number : c.faults-most.result + 1 - c.page_ins.counter ≡ suc (c.faults-most.result + 1 - (c.page_ins.counter + 1)) = omega arith in
     record {
       scenario = c.in-Ok.ensures.scenario ∙ c.page_ins.invariant.scenario;
-      capacity = c.in-Ok.ensures.capacity ∙ c.page_ins.invariant.capacity;
       most = c.page_ins.invariant.most;
       left = left_after _ _ _ _ _ _ _ _ _ _ c.page_ins.invariant.scenario (c.is_on_disk-on_disk.ensures ∙ ap (λ h. is_on_disk h.place) c.head_by.ensures) number c.page_ins.invariant.left c.in-Ok.ensures.acts.does;
       reaches = reaches_then _ _ _ _ _ c.page_ins.invariant.scenario c.page_ins.invariant.reaches c.in-Ok.ensures.acts.reaches;

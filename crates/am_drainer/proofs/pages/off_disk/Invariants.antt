@@ -11,7 +11,6 @@ invariant-page_ins g l =
     let layout = layout_of (m.scenario l.fn.machine) in
     record {
       scenario : m.scenario l.machine ≡ m.scenario l.fn.machine;
-      capacity : m.capacity l.machine ≡ m.capacity l.fn.machine;
       most : l.most ≡ length layout.faults + 1;
       left : plan.paged_in (l.most - l.counter) layout l.node l.end (m.journal l.machine) ≡ plan.off_disk layout l.node l.end (m.journal l.fn.machine);
       reaches : Reaches (m.scenario l.fn.machine) (m.journal l.fn.machine) (m.journal l.machine);

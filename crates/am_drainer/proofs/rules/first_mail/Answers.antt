@@ -1,28 +1,25 @@
-use Rattle.std.proofs.Common.{sym, ◌∙◌, arith}
+use Rattle.std.proofs.Common.{◌∙◌}
 use Rattle.am_scripts.specs.Layout.{layout_of}
 use Rattle.am_scripts.specs.Standings.{standings}
+use Rattle.am_drainer.specs.Firsts.{shows}
 use Rattle.am_drainer.specs.Reads.{mail_of}
-use Rattle.am_drainer.specs.Choices.{passes_mail}
-use Rattle.am_drainer.proofs.Finding.{read_here, read_not, read_past}
+use Rattle.am_drainer.proofs.Firsts.{next_not, next_read, within}
 use Rattle.am_drainer.proofs.rules.first_mail.Goals as goal
 
-pub returns-then-passes-clause-value : goal.returns-then-passes-clause-value
-returns-then-passes-clause-value g c =
+pub returns-in_err-place-clause-value : goal.returns-in_err-place-clause-value
+returns-in_err-place-clause-value g c =
     let m = g.M.Machine in
     let ends = standings (layout_of (m.scenario c.args.machine.now)) (m.journal c.args.machine.now) in
-    sym (read_here mail_of (passes_mail ends c.args.test) ends c.ends.index c.mail-mail.result c.mail-mail.ensures.value (sym c.passes.ensures ∙ c.if-passes.true)) ∙ c.ends.invariant.first
+    c.from_residual.ensures ∙ next_not mail_of (shows c.args.test) ends c.in_err-place.ensures
 
-pub ends-preserved : goal.ends-preserved
-ends-preserved g c =
+pub mail-requires-clause-index : goal.mail-requires-clause-index
+mail-requires-clause-index g c =
     let m = g.M.Machine in
     let ends = standings (layout_of (m.scenario c.args.machine.now)) (m.journal c.args.machine.now) in
-    record {
-      count = c.ends.invariant.count;
-      first = read_not mail_of (passes_mail ends c.args.test) ends c.ends.index c.mail-mail.result c.mail-mail.ensures.value (sym c.passes.ensures ∙ c.if-passes.false) ∙ c.ends.invariant.first;
-    }
+    within ends c.in_ok-place.place c.in_ok-place.ensures.one c.in_ok-place.ensures.at_place
 
 pub returns-clause-value : goal.returns-clause-value
 returns-clause-value g c =
     let m = g.M.Machine in
     let ends = standings (layout_of (m.scenario c.args.machine.now)) (m.journal c.args.machine.now) in
-    sym (read_past mail_of (passes_mail ends c.args.test) ends c.ends.index (omega (arith, c.ends.invariant.count))) ∙ c.ends.invariant.first
+    next_read mail_of (shows c.args.test) ends c.in_ok-place.place c.mail.result c.in_ok-place.ensures c.mail.ensures.value

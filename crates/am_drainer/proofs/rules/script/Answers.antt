@@ -1,35 +1,18 @@
-use Rattle.std.proofs.Common.{◌+◌, sym, ◌∙◌, ap, arith}
-use Rattle.std.specs.Prelude.{option_map}
-use Rattle.am_drain.specs.Rules as rules
+use Rattle.std.proofs.Common.{Some, None, ◌∙◌}
+use Rattle.am_drain.specs.Rules.{left_to}
 use Rattle.am_drainer.specs.Reads.{left_of}
-use Rattle.am_drainer.proofs.Finding.{fewest_from, fewest_more, fewest_past}
-use Rattle.am_drainer.proofs.Planned.{make_some, make_none, either_in_range}
+use Rattle.am_drainer.proofs.Firsts.{fewest_folds}
+use Rattle.am_drainer.proofs.Planned.{make_some, make_none}
 use Rattle.am_drainer.proofs.rules.script.Goals as goal
 
-pub threads-preserved : goal.threads-preserved
-threads-preserved g c =
+pub returns-in_err-left-clause-turn : goal.returns-in_err-left-clause-turn
+returns-in_err-left-clause-turn g c =
     let m = g.M.Machine in
     let s = m.scenario c.args.machine.now in
-    let past = m.journal c.args.machine.now in
-    let left = rules.left_to s past in
-    record {
-      count = c.threads.invariant.count;
-      fewest = ap (λ o. fewest_from left o (c.threads.index + 1) s.threads) c.fewer-best.ensures.value ∙ (fewest_more left (option_map left_of c.threads.best) (option_map left_of c.left.result) s.threads c.threads.index c.left.ensures.value ∙ c.threads.invariant.fewest);
-      in_range = either_in_range _ _ _ _ c.fewer-best.ensures.one c.threads.invariant.in_range c.left.ensures.in_range;
-    }
+    c.from_residual.ensures ∙ make_none _ (fewest_folds (left_to s (m.journal c.args.machine.now)) s.threads None c.in_err-left.ensures.value)
 
-pub returns-in-Some-clause-turn : goal.returns-in-Some-clause-turn
-returns-in-Some-clause-turn g c =
+pub returns-clause-turn : goal.returns-clause-turn
+returns-clause-turn g c =
     let m = g.M.Machine in
     let s = m.scenario c.args.machine.now in
-    let past = m.journal c.args.machine.now in
-    let left = rules.left_to s past in
-    make_some _ c.in-Some.left (sym (ap (option_map left_of) c.in-Some.is) ∙ (sym (fewest_past left (option_map left_of c.threads.best) s.threads c.threads.index (omega (arith, c.threads.invariant.count))) ∙ c.threads.invariant.fewest))
-
-pub returns-in-None-clause-turn : goal.returns-in-None-clause-turn
-returns-in-None-clause-turn g c =
-    let m = g.M.Machine in
-    let s = m.scenario c.args.machine.now in
-    let past = m.journal c.args.machine.now in
-    let left = rules.left_to s past in
-    make_none _ (sym (ap (option_map left_of) c.in-None.is) ∙ (sym (fewest_past left (option_map left_of c.threads.best) s.threads c.threads.index (omega (arith, c.threads.invariant.count))) ∙ c.threads.invariant.fewest))
+    make_some _ c.in_ok-left.left (fewest_folds (left_to s (m.journal c.args.machine.now)) s.threads (Some (left_of c.in_ok-left.left)) c.in_ok-left.ensures.value)

@@ -20,4 +20,4 @@ returns-in-None-clause-value g c =
     let past = m.journal c.args.machine.now in
     let layout = layout_of s in
     let ends = standings layout past in
-    c.first_mail-in-None.ensures.value ∙ request_sends ends (sym c.in-None.ensures.value)
+    c.first_request.ensures.value ∙ request_sends ends (sym c.in-None.ensures.value)
