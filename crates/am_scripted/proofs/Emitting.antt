@@ -22,7 +22,7 @@ use Rattle.am_scripted.specs.Scripted.{fed_by}
 use Rattle.am_scripted.proofs.Feeding.{fed_more}
 
 -- what is on the link of a packet that an entry emits, or doesn't
-emission : (f t : NodeId) (past : List Entry) (x : Entry) (p : Packet) (b : Bool) → emitted_of x ≡ Some p → is_on_link f t p ≡ b → emitted f t (past ++ x ∷ []) ≡ emitted f t past ++ cond b (p ∷ []) []
+pub emission : (f t : NodeId) (past : List Entry) (x : Entry) (p : Packet) (b : Bool) → emitted_of x ≡ Some p → is_on_link f t p ≡ b → emitted f t (past ++ x ∷ []) ≡ emitted f t past ++ cond b (p ∷ []) []
 emission f t past x p b is on =
     emitted_append f t past (x ∷ [])
     ∙ (λ i. emitted f t past ++ filter (is_on_link f t) (cons_option (is i) []))
@@ -39,7 +39,7 @@ link_test f t (Packets.Answer p) = refl
 own_link : (f t : NodeId) (p : Packet) → f.0 ≡ (from_of p).0 → t.0 ≡ (receiver_of p).0 → is_on_link f t p ≡ true
 own_link f t p from to = link_test f t p ∙ (λ i. eq-eqb f.0 (from_of p).0 from i && eq-eqb t.0 (receiver_of p).0 to i)
 
-other_link : (f t : NodeId) (p : Packet) → (f.0 ≡ (from_of p).0 → t.0 ≡ (receiver_of p).0 → ⊥) → is_on_link f t p ≡ false
+pub other_link : (f t : NodeId) (p : Packet) → (f.0 ≡ (from_of p).0 → t.0 ≡ (receiver_of p).0 → ⊥) → is_on_link f t p ≡ false
 other_link f t p apart = by_test (is_on_link f t p) refl
   where
     by_test : (b : Bool) → is_on_link f t p ≡ b → b ≡ false

@@ -12,3 +12,7 @@ pub mod Stepping
 pub mod Indexing
 pub mod Nexts
 pub mod Lasting
+pub mod EndMarked
+pub mod PairMarked
+pub mod Fewest
+pub mod Marking

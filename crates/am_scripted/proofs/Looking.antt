@@ -181,11 +181,11 @@ front_read s true h =
     let empty = h refl in
     sym (λ i. front_of (empty.replies i) (empty.requests i))
 
-reply_read : (s : State) (b : Bool) → (b ≡ true → HoldsNothing s.body) → (if b then false else not (length s.body.replies == 0)) ≡ not (length s.body.replies == 0)
+pub reply_read : (s : State) (b : Bool) → (b ≡ true → HoldsNothing s.body) → (if b then false else not (length s.body.replies == 0)) ≡ not (length s.body.replies == 0)
 reply_read s false h = refl
 reply_read s true h = sym (ap not (h refl).queued)
 
-arrivals_read : (s : State) (b : Bool) → (b ≡ true → HoldsNothing s.body) → (if b then false else has_arrivals s.body) ≡ has_arrivals s.body
+pub arrivals_read : (s : State) (b : Bool) → (b ≡ true → HoldsNothing s.body) → (if b then false else has_arrivals s.body) ≡ has_arrivals s.body
 arrivals_read s false h = refl
 arrivals_read s true h = sym (h refl).arrivals
 

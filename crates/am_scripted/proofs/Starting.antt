@@ -13,6 +13,11 @@ use Rattle.am_scenario_types.specs.Lists.{ScenarioLists}
 use Rattle.am_model.specs.Parts.{touches_part}
 use Rattle.am_run_laws.specs.Drained.{HasShortLogs}
 use Rattle.am_release.specs.Staged.{Staged}
+use Rattle.am_scenario_types.specs.declared.parts.Network.TheVariants.{Packet as Packets}
+use Rattle.am_scenario_types.specs.Lawful.{IsLawful}
+use Rattle.am_scripts.specs.Layout.{layout_of}
+use Rattle.am_machine.specs.View.{ClusterView}
+use Rattle.am_scripted.specs.Scripted.{AreParts}
 use Rattle.am_scripted.specs.Links.{AreFed, Released, nothing, released_in, released_of}
 
 pub fed_nothing : (plan : List PlanLine) (links : List (Staged ℕ)) → length links ≡ 256 → All (λ (l : Staged ℕ). released_in l ≡ nothing) links → AreFed plan [] (map released_in links)
@@ -29,3 +34,6 @@ fed_nothing plan links all none =
 
 pub fits_nothing : (s : ScenarioLists) (journal : List Entry) → journal ≡ [] → HasShortLogs s journal
 fits_nothing s journal none part = subst (λ (j : List Entry). count_by (touches_part part) j ≤ s.log) (sym none) (omega arith)
+
+pub begun_parts : (s : ScenarioLists) (v : ClusterView) → IsLawful s → s.network ≡ Packets → v.layout ≡ layout_of s → v.journal ≡ [] → AreParts s v
+begun_parts s v ok packet layout none = record { lawful = ok; packet = packet; layout = layout; fits = fits_nothing s v.journal none }

@@ -3,3 +3,6 @@ pub mod Threads
 pub mod Scripted
 pub mod Plans
 pub mod Tries
+pub mod Touched
+pub mod EndMarks
+pub mod PairMarks

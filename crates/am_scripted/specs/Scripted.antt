@@ -11,6 +11,8 @@ use Rattle.am_scenario_types.specs.Lists.{ScenarioLists}
 use Rattle.am_scripts.specs.Layout.{layout_of}
 use Rattle.am_run_laws.specs.Drained.{HasShortLogs}
 use Rattle.am_machine.specs.View.{ClusterView}
+use Rattle.am_scripted.specs.EndMarks.{AreMarked}
+use Rattle.am_scripted.specs.PairMarks.{ArePaired}
 use Rattle.am_scripted.specs.Links.{AreFed, IsSpared, Released, fed_at, released_in}
 use Rattle.am_scripted.specs.Threads.{scripted_in, scripted_of}
 use Rattle.am_scripted.specs.declared.scripted.ScriptedCluster.TheInside.{Inside}
@@ -26,10 +28,6 @@ view_of m = record { scenario = m.scenario.now; journal = m.cluster.journal }
 -- its cluster, as callers of a cluster see it
 abbrev pub cluster_of : RunView → ClusterView
 cluster_of v = record { layout = layout_of v.scenario; journal = v.journal }
-
--- how many entries the logs of a cluster hold together at most: those of 256 endpoints and 16 interfaces
-abbrev pub capacity_of : ScenarioLists → ℕ
-capacity_of s = 272 * s.log
 
 -- the links after one packet more, if there is one: its number is its place among those that were emitted on its link
 abbrev pub fed_by : List PlanLine → Option Packet → List Released → List Released
@@ -51,3 +49,5 @@ pub record IsScripted (m : Inside) : Type 0 where
   pub fed : AreFed m.scenario.now.plan m.cluster.journal (map released_in m.links.all.items)
   pub spared : IsSpared m.links
   pub threads : map scripted_in m.threads.items ≡ map (scripted_of m.scenario.now m.cluster.journal) m.scenario.now.threads
+  pub ends : AreMarked (layout_of m.scenario.now) m.cluster.journal m.ends
+  pub pairs : ArePaired m.scenario.now m.cluster.journal m.pairs

@@ -1,5 +1,5 @@
 -- The threads with their scripts, and how many calls of them were made.
-use Rattle.std.specs.Prelude.{◌≡◌, ℕ, ◌+◌, ◌<◌, ◌^◌, ◌==◌, Option, Some, None, List, [], find, length, option_map, slice_get, slice_set, slice_index_or, if◌then◌else◌}
+use Rattle.std.specs.Prelude.{◌≡◌, ℕ, ◌+◌, ◌<◌, ◌^◌, ◌==◌, nat_lt, Option, Some, None, List, [], find, length, option_map, slice_get, slice_set, slice_index_or, if◌then◌else◌}
 use Rattle.am_office.specs.declared.Entry.{Entry}
 use Rattle.am_scenario_types.specs.declared.parts.ScriptCall.{ScriptCall}
 use Rattle.am_scenario_types.specs.declared.parts.ThreadLine.{ThreadLine}
@@ -67,3 +67,9 @@ IsSmallAt ts k = (t : Scripted) → slice_get ts k ≡ Some t → t.made + 1 < 2
 
 abbrev pub AreSmall : List Scripted → Type 0
 AreSmall ts = (k : ℕ) → IsSmallAt ts k
+
+-- what is left to the one that made fewer calls, or to the first
+abbrev pub fewer_of : Option Left → Option Left → Option Left
+fewer_of best None = best
+fewer_of None (Some l) = Some l
+fewer_of (Some first) (Some l) = Some (if nat_lt l.after first.after then l else first)

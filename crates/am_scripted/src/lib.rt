@@ -16,15 +16,21 @@ ghost use Rattle.am_scripts.specs.Scripts.{calls_of};
 ghost use Rattle.std.specs.Prelude.{◌≡◌, IfErr, IfOk, OnOk, length, map};
 
 mod emissions;
+mod end_marks;
+mod firsts;
 mod links;
 mod looks;
+mod pair_marks;
 mod plan_index;
 mod reads;
 mod scripted;
 mod threads;
+mod touched;
 mod tries;
 
 use crate::emissions::links_after;
+use crate::end_marks::all_shown;
+use crate::pair_marks::all_pairs;
 pub use crate::scripted::ScriptedCluster;
 use crate::scripted::{Beside, Drained, drain_in_place, plan_of};
 use crate::threads::{ThreadScript, scripts_after, tell_made};
@@ -76,11 +82,15 @@ fn drain_threads(cluster: &mut Cluster, scenario: &Scenario) -> Result<Drained, 
     let plan = plan_of(alloc, scenario)?;
     let links = links_after(alloc, scenario, &plan, &journal.entries)?;
     let threads = scripts_after(alloc, scenario, &journal.entries)?;
+    let ends = all_shown(cluster, scenario);
+    let pairs = all_pairs(cluster, scenario, &links.all);
     let beside = Beside {
         scenario,
         plan,
         links,
         threads,
+        ends,
+        pairs,
     };
     Ok(drain_in_place(cluster, beside))
 }

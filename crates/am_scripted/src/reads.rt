@@ -1,5 +1,6 @@
 // What a drain reads of an endpoint of a cluster.
 ghost use Rattle.am_endpoint.specs.View.{state_after};
+ghost use Rattle.am_scripted.specs.EndMarks.{told_missed};
 ghost use Rattle.am_model.specs.Changes.{has_arrivals};
 ghost use Rattle.am_model.specs.Endpoint as endpoint;
 ghost use Rattle.am_model.specs.History as history;
@@ -72,4 +73,11 @@ pub(crate) fn has_reply_of(end: &Endpoint) -> bool
     ensures { result ≡ (if endpoint.is_on_disk (state_after end.now).head.place then false else not (length (state_after end.now).body.replies == 0)) }
 {
     !is_on_disk(end) && end.has_reply()
+}
+
+/// Whether it is wanted and on disk.
+pub(crate) fn is_missed(end: &Endpoint) -> bool
+    ensures { result ≡ told_missed (state_after end.now) }
+{
+    end.wanted() && is_on_disk(end)
 }

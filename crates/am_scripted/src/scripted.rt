@@ -1,11 +1,14 @@
 // A cluster that runs the scripts of a scenario: the machine of a drain.
+ghost use Rattle.am_scripted.specs.EndMarks.{AreMarked};
 ghost use Rattle.am_scripted.specs.Links.{AreFed, IsSpared, released_in};
+ghost use Rattle.am_scripted.specs.PairMarks.{ArePaired};
 ghost use Rattle.am_machine.specs.View.{Applies};
 ghost use Rattle.am_model.specs.History.{IsHistory, is_in_range};
-ghost use Rattle.am_scripted.specs.Scripted.{AreParts, capacity_of, cluster_of};
+ghost use Rattle.am_scripted.specs.Scripted.{AreParts, cluster_of};
 ghost use Rattle.am_scripted.specs.Tries.{IsLastIfMade};
 ghost use Rattle.am_scripted.specs.Threads.{scripted_in, scripted_of};
 ghost use Rattle.am_drain.specs.Cut.{IsDrainedWithRoom};
+ghost use Rattle.am_drain_steps.specs.Work.{work};
 ghost use Rattle.am_drainer.specs.Stops.{IsDrainStopped};
 ghost use Rattle.am_scripts.specs.Layout.{layout_of};
 ghost use Rattle.am_model.specs.PostOffice.{PostOffice};
@@ -16,12 +19,15 @@ ghost use Rattle.am_scripts.specs.Scripts.{call_left};
 ghost use Rattle.std.specs.Prelude.{◌≡◌, ◌≤◌, ◌*◌, [], IfErr, IfOk, OnOk, length, map, true};
 
 use crate::emissions::{due_on, feed_entry};
+use crate::end_marks::{EndMarks, all_shown, mark_touched};
+use crate::firsts::{first_bound, first_due, first_missed, next_end, turn_falls};
 use crate::links::{LinkTable, make_all_room, no_links};
 use crate::looks::{has_bound, head_at, head_by, home, is_frame_held, mail_at, received_requests};
+use crate::pair_marks::{PairMarks, all_pairs, mark_pair};
 use crate::plan_index::PlanIndex;
-use crate::threads::{ThreadScript, all_scripts, count_event, left_to, next_call};
+use crate::threads::{ThreadScript, all_scripts, count_event, fewest, next_call};
 use crate::tries::is_last;
-use am_drainer::{EndHead, EndMail, LeftCall, Machine};
+use am_drainer::{EndHead, EndMail, EndTest, LeftCall, Machine, NodePair};
 use am_machine::Cluster;
 use am_model::{EntryFault, Head};
 use am_names::{EndpointId, NodeId};
@@ -42,6 +48,10 @@ pub struct ScriptedCluster<'a> {
     links: LinkTable,
     /// What each thread is still to call.
     threads: Vec<ThreadScript>,
+    /// What each endpoint shows.
+    ends: EndMarks,
+    /// What is due and bound between nodes.
+    pairs: PairMarks,
 }
 
 impl<'a> Model for ScriptedCluster<'a> {
@@ -68,12 +78,16 @@ impl<'a> ScriptedCluster<'a> {
         let cluster = Cluster::new(alloc, scenario)?;
         let links = no_links(alloc)?;
         let threads = all_scripts(alloc, scenario)?;
+        let ends = all_shown(&cluster, scenario);
+        let pairs = all_pairs(&cluster, scenario, &links.all);
         Ok(ScriptedCluster {
             scenario,
             plan,
             cluster,
             links,
             threads,
+            ends,
+            pairs,
         })
     }
 
@@ -133,6 +147,14 @@ impl<'a> ScriptedCluster<'a> {
                 self.cluster.laws();
                 feed_entry(&mut self.links, &self.plan, &entry);
                 count_event(&mut self.threads, &event);
+                mark_touched(&mut self.ends, &self.cluster, self.scenario, &entry);
+                mark_pair(
+                    &mut self.pairs,
+                    &self.cluster,
+                    self.scenario,
+                    &self.links.all,
+                    &entry,
+                );
                 Ok(entry)
             }
             Err(fault) => Err(fault),
@@ -155,6 +177,8 @@ pub(crate) struct Beside<'a> {
     pub(crate) plan: PlanIndex<'a>,
     pub(crate) links: LinkTable,
     pub(crate) threads: Vec<ThreadScript>,
+    pub(crate) ends: EndMarks,
+    pub(crate) pairs: PairMarks,
 }
 
 /// How a drain ended, and what each thread is still to call.
@@ -171,6 +195,8 @@ pub(crate) fn drain_owned<'a>(cluster: Cluster, beside: Beside<'a>) -> (Cluster,
     requires parts { AreParts beside.scenario.now cluster }
     requires fed { AreFed beside.scenario.now.plan cluster.journal (map released_in beside.links.all.items) }
     requires threads { map scripted_in beside.threads.items ≡ map (scripted_of beside.scenario.now cluster.journal) beside.scenario.now.threads }
+    requires ends { AreMarked (layout_of beside.scenario.now) cluster.journal beside.ends }
+    requires pairs { ArePaired beside.scenario.now cluster.journal beside.pairs }
     ensures parts { AreParts beside.entry.scenario.now result.0 }
     ensures threads { map scripted_in result.1.threads.items ≡ map (scripted_of beside.entry.scenario.now result.0.journal) beside.entry.scenario.now.threads }
     ensures drained { OnOk result.1.result (IsDrainedWithRoom beside.entry.scenario.now cluster.journal result.0.journal) }
@@ -181,6 +207,8 @@ pub(crate) fn drain_owned<'a>(cluster: Cluster, beside: Beside<'a>) -> (Cluster,
         plan,
         links,
         threads,
+        ends,
+        pairs,
     } = beside;
     let mut machine = ScriptedCluster {
         scenario,
@@ -188,6 +216,8 @@ pub(crate) fn drain_owned<'a>(cluster: Cluster, beside: Beside<'a>) -> (Cluster,
         cluster,
         links,
         threads,
+        ends,
+        pairs,
     };
     let result = am_drainer::drain(&mut machine);
     let ScriptedCluster {
@@ -196,6 +226,8 @@ pub(crate) fn drain_owned<'a>(cluster: Cluster, beside: Beside<'a>) -> (Cluster,
         cluster,
         links: _,
         threads,
+        ends: _,
+        pairs: _,
     } = machine;
     (cluster, Drained { result, threads })
 }
@@ -207,6 +239,8 @@ pub(crate) fn drain_in_place<'a>(cluster: &mut Cluster, beside: Beside<'a>) -> D
     requires parts { AreParts beside.scenario.now cluster.old }
     requires fed { AreFed beside.scenario.now.plan cluster.old.journal (map released_in beside.links.all.items) }
     requires threads { map scripted_in beside.threads.items ≡ map (scripted_of beside.scenario.now cluster.old.journal) beside.scenario.now.threads }
+    requires ends { AreMarked (layout_of beside.scenario.now) cluster.old.journal beside.ends }
+    requires pairs { ArePaired beside.scenario.now cluster.old.journal beside.pairs }
     ensures parts { AreParts beside.entry.scenario.now cluster.new }
     ensures threads { map scripted_in result.threads.items ≡ map (scripted_of beside.entry.scenario.now cluster.new.journal) beside.entry.scenario.now.threads }
     ensures drained { OnOk result.result (IsDrainedWithRoom beside.entry.scenario.now cluster.old.journal cluster.new.journal) }
@@ -220,12 +254,7 @@ impl<'a> Machine for ScriptedCluster<'a> {
 
     ghost journal = { λ m. m.journal };
 
-    ghost capacity = { λ m. capacity_of m.scenario };
-
-    fn nodes(&self) -> u8 {
-        let scenario = self.scenario;
-        scenario.nodes
-    }
+    ghost work = { work };
 
     fn channels(&self) -> u8 {
         let scenario = self.scenario;
@@ -255,6 +284,14 @@ impl<'a> Machine for ScriptedCluster<'a> {
         has_bound(&self.cluster, self.scenario, node, peer, channel)
     }
 
+    fn first_due(&self) -> Option<NodePair> {
+        first_due(&self.cluster, self.scenario, &self.pairs)
+    }
+
+    fn first_bound(&self) -> Option<NodePair> {
+        first_bound(&self.cluster, self.scenario, &self.pairs)
+    }
+
     fn ends_len(&self) -> usize {
         let scenario = self.scenario;
         scenario.ends.len()
@@ -262,6 +299,14 @@ impl<'a> Machine for ScriptedCluster<'a> {
 
     fn head(&self, index: usize) -> EndHead {
         head_at(&self.cluster, self.scenario, index)
+    }
+
+    fn first_missed(&self) -> Option<usize> {
+        first_missed(&self.cluster, self.scenario, &self.ends)
+    }
+
+    fn next_end(&self, test: EndTest, from: usize) -> Option<usize> {
+        next_end(&self.cluster, self.scenario, &self.ends, test, from)
     }
 
     fn mail(&self, index: usize) -> EndMail {
@@ -284,12 +329,8 @@ impl<'a> Machine for ScriptedCluster<'a> {
         is_frame_held(&self.cluster, self.scenario, node, frame)
     }
 
-    fn threads_len(&self) -> usize {
-        self.threads.len()
-    }
-
-    fn left(&self, index: usize) -> Option<LeftCall> {
-        left_to(&self.threads[index])
+    fn fewest(&self) -> Option<LeftCall> {
+        fewest(&self.threads)
     }
 
     fn apply(&mut self, event: Event) -> Result<(), EntryFault> {
@@ -297,5 +338,9 @@ impl<'a> Machine for ScriptedCluster<'a> {
             Ok(_) => Ok(()),
             Err(fault) => Err(fault),
         }
+    }
+
+    fn turns_fall(&self) {
+        turn_falls(&self.cluster, self.scenario);
     }
 }

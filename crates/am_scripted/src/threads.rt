@@ -1,5 +1,6 @@
 // What each thread is still to call.
-ghost use Rattle.am_scripted.specs.Threads.{AreSmall, IsSmallAt, call_in, found_in, left_in, made_in, next_in, scripted_in, scripted_of, with_call, with_call_at, with_call_if};
+ghost use Rattle.am_scripted.specs.Threads.{AreSmall, IsSmallAt, call_in, fewer_of, found_in, left_in, made_in, next_in, scripted_in, scripted_of, with_call, with_call_at, with_call_if};
+ghost use Rattle.am_drainer.specs.Firsts.{IsFewest};
 ghost use Rattle.am_drainer.specs.Reads.{left_of};
 ghost use Rattle.am_scenario_types.specs.Lawful.{IsLawful};
 ghost use Rattle.am_scripts.specs.Scripts.{call_made, script_of};
@@ -50,7 +51,7 @@ pub(crate) fn all_scripts(alloc: Global, scenario: &Scenario) -> Result<Vec<Thre
 }
 
 /// The call that is left to a thread, and how many it made.
-pub(crate) fn left_to(thread: &ThreadScript) -> Option<LeftCall>
+fn left_to(thread: &ThreadScript) -> Option<LeftCall>
     ensures { option_map left_of result ≡ left_in (scripted_in thread.now) }
 {
     match thread.calls.get(thread.made as usize).copied() {
@@ -60,6 +61,37 @@ pub(crate) fn left_to(thread: &ThreadScript) -> Option<LeftCall>
         }),
         None => None,
     }
+}
+
+/// What is left to the thread that made fewer calls, or to the first one.
+fn fewer(best: Option<LeftCall>, left: Option<LeftCall>) -> Option<LeftCall>
+    ensures { option_map left_of result ≡ fewer_of (option_map left_of best) (option_map left_of left) }
+{
+    match left {
+        None => best,
+        Some(other) => match best {
+            None => left,
+            Some(first) => {
+                if other.after < first.after {
+                    left
+                } else {
+                    best
+                }
+            }
+        },
+    }
+}
+
+/// What is left to the thread that made the fewest calls, the least among equals.
+pub(crate) fn fewest(threads: &[ThreadScript]) -> Option<LeftCall>
+    ensures { IsFewest left_in (map scripted_in threads.now) (option_map left_of result) }
+{
+    let mut best = None;
+    let count = threads.len();
+    for index in 0..count {
+        best = fewer(best, left_to(&threads[index]));
+    }
+    best
 }
 
 /// The call that comes next in a script, if one is left.

@@ -1,13 +1,15 @@
 use Rattle.std.specs.Prelude.{Ok, Err}
-use Rattle.std.proofs.Common.{map, subst}
+use Rattle.std.proofs.Common.{ℕ, List, map, subst, sym}
 use Rattle.am_scripts.specs.Layout.{layout_of}
 use Rattle.am_scripts.proofs.Lawful.{lawful_layout}
 use Rattle.am_machine.specs.View.{Applies}
-use Rattle.am_scripted.specs.Links.{released_in}
+use Rattle.am_release.specs.Staged.{Staged}
+use Rattle.am_scripted.specs.Links.{AreFed, released_in}
 use Rattle.am_scripted.specs.Scripted.{RunView, cluster_of}
 use Rattle.am_scripted.specs.Threads.{scripted_in}
 use Rattle.am_scripted.proofs.Applying.{applies_to, of_layout, short_of, step_called, step_fed, step_of, step_parts}
 use Rattle.am_scripted.proofs.Growing.{goes_from, goes_to, made_small}
+use Rattle.am_scripted.proofs.Marking.{step_marked, step_paired, step_within}
 use Rattle.am_scripted.proofs.scripted.ScriptedCluster.step.Goals as goal
 
 pub feed_entry-requires-clause-from : goal.feed_entry-requires-clause-from
@@ -30,6 +32,41 @@ count_event-requires c =
     let old = c.self.inside.cluster in
     made_small s old.journal (map scripted_in c.self.inside.threads.items) c.self.invariant.threads (short_of s old c.self.invariant.parts c.laws.ensures.history) c.self.invariant.parts.lawful.settings.log.1
 
+pub mark_touched-requires : goal.mark_touched-requires
+mark_touched-requires c =
+    let s = c.self.inside.scenario.now in
+    let old = c.self.inside.cluster in
+    let new = c.apply.new.self in
+    step_parts s old new c.args.event c.in-Ok.entry c.self.invariant.parts (step_of s old new c.args.event c.in-Ok.entry c.self.invariant.parts c.laws-in-Ok.ensures.history c.in-Ok.ensures)
+
+pub mark_pair-requires-clause-parts : goal.mark_pair-requires-clause-parts
+mark_pair-requires-clause-parts c =
+    let s = c.self.inside.scenario.now in
+    let old = c.self.inside.cluster in
+    let new = c.apply.new.self in
+    step_parts s old new c.args.event c.in-Ok.entry c.self.invariant.parts (step_of s old new c.args.event c.in-Ok.entry c.self.invariant.parts c.laws-in-Ok.ensures.history c.in-Ok.ensures)
+
+pub mark_pair-requires-clause-fed : goal.mark_pair-requires-clause-fed
+mark_pair-requires-clause-fed c =
+    let s = c.self.inside.scenario.now in
+    let old = c.self.inside.cluster in
+    let new = c.apply.new.self in
+    let x = c.in-Ok.entry in
+    let step = step_of s old new c.args.event x c.self.invariant.parts c.laws-in-Ok.ensures.history c.in-Ok.ensures in
+    subst (λ (l : List (Staged ℕ)). AreFed s.plan new.journal (map released_in l)) (sym c.deref.ensures.value)
+    (step_fed s old new c.args.event x c.self.inside.plan (map released_in c.self.inside.links.all.items) (map released_in c.make_all_room.new.table.all.items) (map released_in c.feed_entry.new.links.all.items) c.self.invariant.parts step c.self.invariant.fed
+    c.make_all_room.ensures.same
+    c.self.invariant.plan
+    c.feed_entry.ensures.fed)
+
+pub mark_pair-requires-clause-within : goal.mark_pair-requires-clause-within
+mark_pair-requires-clause-within c =
+    let s = c.self.inside.scenario.now in
+    let old = c.self.inside.cluster in
+    let new = c.apply.new.self in
+    let x = c.in-Ok.entry in
+    step_within s old new c.args.event x c.self.invariant.parts (step_of s old new c.args.event x c.self.invariant.parts c.laws-in-Ok.ensures.history c.in-Ok.ensures)
+
 pub invariant_of-self-in-Ok : goal.invariant_of-self-in-Ok
 invariant_of-self-in-Ok c =
     let s = c.self.inside.scenario.now in
@@ -46,6 +83,8 @@ invariant_of-self-in-Ok c =
           c.self.invariant.plan
           c.feed_entry.ensures.fed;
       spared = c.feed_entry.ensures.spared;
+      ends = step_marked s old new c.args.event x c.self.inside.ends c.mark_touched.new.marks step c.self.invariant.ends c.mark_touched.ensures;
+      pairs = step_paired s old new c.args.event x c.self.inside.pairs c.mark_pair.new.marks c.self.invariant.parts step c.self.invariant.pairs c.mark_pair.ensures;
       threads = step_called s old new c.args.event x (map scripted_in c.self.inside.threads.items) (map scripted_in c.count_event.new.threads.items) step c.self.invariant.threads c.count_event.ensures;
     }
 
