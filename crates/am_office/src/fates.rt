@@ -1,6 +1,6 @@
 //! What became of a message.
 
-ghost use Rattle.std.specs.Prelude.{◌≡◌, option_to_list, slice_get};
+ghost use Rattle.std.specs.Prelude.{◌≡◌, ◌↔◌, false, None, option_to_list, slice_get};
 ghost use Rattle.am_names.specs.Names.{has_serial};
 ghost use Rattle.am_office.specs.Entries as does;
 ghost use Rattle.am_office.specs.Entries.{passes, is_serial};
@@ -96,7 +96,8 @@ fn is_run(entries: &[Entry], serial: Serial) -> bool
 /// and is pending where none did. It goes over the journal once for each of these questions.
 #[tactic(auto, using(crate::proofs::Causes::fate_by_first))]
 pub fn fate(journal: &Journal, serial: Serial) -> Option<Fate>
-    ensures { result ≡ fates.fate journal.now serial }
+    ensures value { result ≡ fates.fate journal.now serial }
+    ensures none { (result ≡ None) ↔ (fates.is_accepted journal.now serial ≡ false) }
 {
     let entries = journal.entries.as_slice();
     if !is_accepted(entries, serial) {

@@ -2,7 +2,7 @@
 use Rattle.std.specs.Prelude.{◌≡◌, ℕ, ◌+◌, Bool, false, ◌==◌, ◌&&◌, Option, Some, None, List, [], ◌∷◌, ◌++◌, map, length, find, if◌then◌else◌}
 use Rattle.am_names.specs.declared.NodeId.{NodeId}
 use Rattle.am_names.specs.declared.Packet.{Packet}
-use Rattle.am_names.specs.declared.Packet.TheVariants as Packets
+pub use Rattle.am_names.specs.Packets.{number_of, stamp_of, restamped as stamped}
 use Rattle.am_plan.specs.declared.plan.LinkFault.{LinkFault}
 use Rattle.am_plan.specs.declared.plan.LinkFault.TheVariants.{Lose, Repeat, Late}
 use Rattle.am_plan.specs.declared.plan.PlanLine.{PlanLine}
@@ -37,18 +37,6 @@ abbrev pub late_from : (ℕ → Option LinkFault) → ℕ → ℕ → List Packe
 late_from fault now place [] = []
 late_from fault now place (p ∷ ps) =
     if is_late_until now place (fault place) then p ∷ late_from fault now (place + 1) ps else late_from fault now (place + 1) ps
-
-abbrev pub stamped : ℕ → Packet → Packet
-stamped stamp (Packets.Parcel p) = Packets.Parcel (record p { stamp = stamp })
-stamped stamp (Packets.Answer p) = Packets.Answer (record p { stamp = stamp })
-
-abbrev pub stamp_of : Packet → ℕ
-stamp_of (Packets.Parcel p) = p.stamp
-stamp_of (Packets.Answer p) = p.stamp
-
-abbrev pub number_of : Packet → ℕ
-number_of (Packets.Parcel p) = p.number
-number_of (Packets.Answer p) = p.number
 
 -- what the emission of p releases, after the emissions of `before`
 abbrev pub released_by : (ℕ → Option LinkFault) → List Packet → Packet → List Packet
