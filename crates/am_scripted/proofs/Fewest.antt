@@ -1,12 +1,12 @@
 -- The thread that made the fewest calls, as a loop finds it.
 use Rattle.std.specs.Prelude.{IfSome, nat_lt, option_map, slice_get, if◌then◌else◌}
-use Rattle.std.proofs.Common.{◌≡◌, ℕ, ◌+◌, ◌<◌, ◌≤◌, Bool, true, false, List, map, length, Option, Some, None, refl, sym, ap, ◌∙◌, subst, arith, ltb-true, ⊎_elim}
+use Rattle.std.proofs.Common.{◌≡◌, ℕ, ◌+◌, ◌<◌, ◌≤◌, Bool, true, false, List, map, length, Option, Some, None, refl, sym, ap, ◌∙◌, subst, arith, le-ltb, lt-ltb, ltb-true, ⊎_elim}
 use Rattle.std.proofs.lemmas.Bool.{cases_lt, ltb-false}
 use Rattle.am_lemmas.proofs.Lists.{Some-slice_get_map, slice_get-map_Some}
 use Rattle.am_office.specs.declared.Entry.{Entry}
 use Rattle.am_scenario_types.specs.declared.parts.ThreadLine.{ThreadLine}
 use Rattle.am_scenario_types.specs.Lists.{ScenarioLists}
-use Rattle.am_drain.specs.Rules.{Left, left_to}
+use Rattle.am_drain.specs.Rules.{Left, left_after, left_to}
 use Rattle.am_model.specs.History.{is_in_range}
 use Rattle.am_scenario_types.specs.Lawful as lawful
 use Rattle.am_scripts.specs.Layout.{layout_of}
@@ -14,7 +14,24 @@ use Rattle.am_drainer.specs.declared.LeftCall.{LeftCall}
 use Rattle.am_drainer.specs.Firsts.{IsFewest, IsFewestOf}
 use Rattle.am_drainer.specs.Reads.{call_event, left_of}
 use Rattle.am_scripted.proofs.Leaving.{left_ranged}
-use Rattle.am_scripted.specs.Threads.{Scripted, fewer_of, left_in, scripted_of}
+use Rattle.am_scenario_types.specs.declared.parts.ScriptCall.{ScriptCall}
+use Rattle.am_scripted.specs.Threads.{Scripted, call_in, fewer_of, left_in, scripted_of}
+
+-- a thread that made no fewer changes nothing
+pub fewer_kept : (first : Left) (t : Scripted) → first.after ≤ t.made → fewer_of (Some first) (left_in t) ≡ Some first
+fewer_kept first t le = by_call (call_in t)
+  where
+    by_call : (call : Option ScriptCall) → fewer_of (Some first) (left_after t.made call) ≡ Some first
+    by_call None = refl
+    by_call (Some c) = ap (λ (b : Bool). Some (if b then record { after = t.made; call = c } else first)) (le-ltb t.made first.after le)
+
+-- what is left to one that made fewer comes in its place
+pub fewer_left : (first : Left) (t : Scripted) (l : Left) → left_in t ≡ Some l → t.made < first.after → fewer_of (Some first) (left_in t) ≡ Some l
+fewer_left first t l is lt = ap (fewer_of (Some first)) is ∙ ap (λ (b : Bool). Some (if b then l else first)) (lt-ltb l.after first.after (subst (λ (n : ℕ). n < first.after) (after_is (call_in t) is) lt))
+  where
+    after_is : (call : Option ScriptCall) → left_after t.made call ≡ Some l → t.made ≡ l.after
+    after_is None e = cc
+    after_is (Some c) e = (let same : record { after = t.made; call = c } ≡ l = cc in ap (λ (x : Left). x.after) same)
 
 -- of the threads below a place
 pub record IsFewestTo (ts : List Scripted) (n : ℕ) (left : Left) : Type 0 where

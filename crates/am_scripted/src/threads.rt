@@ -63,22 +63,20 @@ fn left_to(thread: &ThreadScript) -> Option<LeftCall>
     }
 }
 
-/// What is left to the thread that made fewer calls, or to the first one.
-fn fewer(best: Option<LeftCall>, left: Option<LeftCall>) -> Option<LeftCall>
-    ensures { option_map left_of result ≡ fewer_of (option_map left_of best) (option_map left_of left) }
+/// What is left to the thread that made fewer calls, or to the first one. A call is read only of a thread that made fewer.
+#[tactic(auto, using(crate::proofs::Fewest::fewer_kept, crate::proofs::Fewest::fewer_left))]
+fn fewer(best: Option<LeftCall>, thread: &ThreadScript) -> Option<LeftCall>
+    ensures { option_map left_of result ≡ fewer_of (option_map left_of best) (left_in (scripted_in thread.now)) }
 {
-    match left {
+    let Some(first) = best else {
+        return left_to(thread);
+    };
+    if first.after <= thread.made {
+        return best;
+    }
+    match left_to(thread) {
+        Some(left) => Some(left),
         None => best,
-        Some(other) => match best {
-            None => left,
-            Some(first) => {
-                if other.after < first.after {
-                    left
-                } else {
-                    best
-                }
-            }
-        },
     }
 }
 
@@ -89,7 +87,7 @@ pub(crate) fn fewest(threads: &[ThreadScript]) -> Option<LeftCall>
     let mut best = None;
     let count = threads.len();
     for index in 0..count {
-        best = fewer(best, left_to(&threads[index]));
+        best = fewer(best, &threads[index]);
     }
     best
 }

@@ -23,7 +23,7 @@ loop-index-preserved c =
     record {
       count = refl;
       few =
-          subst (λ (o : Option Left). FewestTo (map scripted_in ts) (k + 1) o) (sym (c.fewer-best.ensures ∙ ap (fewer_of best) c.left_to.ensures))
+          subst (λ (o : Option Left). FewestTo (map scripted_in ts) (k + 1) o) (sym c.fewer-best.ensures)
           (fewest_more (map scripted_in ts) k best (scripted_in one) at c.loop-index.invariant.few);
     }
 
