@@ -1,5 +1,6 @@
 -- A work of an interface, on its parts.
 use Rattle.std.specs.Prelude.{max, IfSome, OnOk, Result, Ok, Err, is_err}
+use Rattle.std.specs.Result.{IsErrAnd}
 use Rattle.std.proofs.Common.{◌≡◌, ◌≢◌, inl, inr, ℕ, ◌+◌, ◌<◌, ◌≤◌, Bool, true, false, List, [], ◌∷◌, ◌++◌, length, Option, Some, None, refl, sym, ap, ◌∙◌, subst, arith}
 use Rattle.am_names.specs.declared.NodeId.{NodeId}
 use Rattle.am_names.specs.declared.Message.{Message}
@@ -193,3 +194,8 @@ turns_still i j e one f past w result same turns = subst (λ (d : EndLog). Turns
 
 pub index_same : (past : List Entry) (r q : Readings) → q ≡ r → IsIndexOf past r → IsIndexOf past q
 index_same past r q same is = subst (IsIndexOf past) (sym same) is
+
+-- what the exit of a `?` returns
+pub err_is : {T E : Type 0} (r : Result T E) (x : E) → IsErrAnd r (λ e. e ≡ x) → r ≡ Err x
+err_is (Ok v) x h = absurd h
+err_is (Err e) x h = ap Err h

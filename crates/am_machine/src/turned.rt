@@ -32,13 +32,9 @@ pub(crate) fn turn_alone(
     if index.room_to(interface.node(), to).is_err() {
         return Err(EntryFault::NoMemory);
     }
-    match interface.turn_alone(index.greatest_stamp(), work) {
-        Ok(turned) => {
-            index.log(&turned.entry, turned.out);
-            Ok(turned.entry)
-        }
-        Err(fault) => Err(fault),
-    }
+    let turned = interface.turn_alone(index.greatest_stamp(), work)?;
+    index.log(&turned.entry, turned.out);
+    Ok(turned.entry)
 }
 
 /// Makes room for one more entry in an endpoint's log, unless it has as many as it may.
@@ -72,11 +68,7 @@ pub(crate) fn turn_with(
     if index.room_to(interface.node(), to).is_err() {
         return Err(EntryFault::NoMemory);
     }
-    match interface.turn_with(index.greatest_stamp(), work, endpoint) {
-        Ok(turned) => {
-            index.log(&turned.entry, turned.out);
-            Ok(turned.entry)
-        }
-        Err(fault) => Err(fault),
-    }
+    let turned = interface.turn_with(index.greatest_stamp(), work, endpoint)?;
+    index.log(&turned.entry, turned.out);
+    Ok(turned.entry)
 }

@@ -44,23 +44,23 @@ log-requires-clause-room c =
     let i = c.args.interface.now in
     let w = c.args.work.now in
     let one = c.make_room.new.endpoint in
-    turning.out_has_room c.room_to.new.self i (state_after one) w c.in-Ok.turned.entry c.in-Ok.turned.out c.args.to
+    turning.out_has_room c.room_to.new.self i (state_after one) w c.in_ok-turned.turned.entry c.in_ok-turned.turned.out c.args.to
     (subst (λ (d : EndLog). GoesTo (own i) (state_in d) w c.args.to) (sym c.make_room.ensures.same) c.requires.goes)
-    (turning.enabled_by i (state_after one) w c.in-Ok.turned c.turn_with.result c.in-Ok.is (λ k. (c.turn_with.ensures.disabled k).1))
+    (turning.enabled_by i (state_after one) w c.in_ok-turned.turned c.turn_with.result c.in_ok-turned.was (λ k. (c.turn_with.ensures.disabled k).1))
     c.requires.can.turn.nodes.0 c.requires.within
     (turning.ready_from c.room_to.new.self c.node.result i.settings.node c.args.to c.node.ensures
     (turning.ok_then c.room_to.result _ (sym c.is_err-2.ensures.value ∙ c.if-is_err-2.false) c.room_to.ensures.link))
-    c.in-Ok.ensures.out c.in-Ok.ensures.event c.in-Ok.ensures.outcome
+    c.in_ok-turned.ensures.out c.in_ok-turned.ensures.event c.in_ok-turned.ensures.outcome
 
 pub log-requires-clause-nodes : goal.log-requires-clause-nodes
 log-requires-clause-nodes c =
-    turning.work_nodes c.args.interface.now c.args.work.now c.in-Ok.turned.entry.event c.in-Ok.ensures.event c.requires.can.turn.fits c.requires.can.turn.nodes.0 c.requires.can.turn.nodes.1
+    turning.work_nodes c.args.interface.now c.args.work.now c.in_ok-turned.turned.entry.event c.in_ok-turned.ensures.event c.requires.can.turn.fits c.requires.can.turn.nodes.0 c.requires.can.turn.nodes.1
 
-pub returns-in-Ok-clause-turns : goal.returns-in-Ok-clause-turns
-returns-in-Ok-clause-turns c past is =
+pub returns-clause-turns : goal.returns-clause-turns
+returns-clause-turns c past is =
     let i = c.args.interface.now in
     let w = c.args.work.now in
-    let x = c.in-Ok.turned.entry in
+    let x = c.in_ok-turned.turned.entry in
     let e = c.args.endpoint.now in
     let one = c.make_room.new.endpoint in
     let f = c.turn_with.new.endpoint in
@@ -71,30 +71,34 @@ returns-in-Ok-clause-turns c past is =
     let packet = can.turn.packet in
     let floor : max c.greatest_stamp.result (last_stamp one.log) ≡ c.greatest_stamp.result = turning.max_floor c.greatest_stamp.result (last_stamp one.log) (omega (arith, late, at, is.greatest)) in
     turning.turns_still i c.turn_with.new.self e one f past w (Ok x) c.make_room.ensures.same
-    (turning.turned_with_ok i c.turn_with.new.self one f past w c.turn_with.result c.in-Ok.turned c.in-Ok.is
+    (turning.turned_with_ok i c.turn_with.new.self one f past w c.turn_with.result c.in_ok-turned.turned c.in_ok-turned.was
     (turning.ok_then c.make_room.result _ (sym c.is_err.ensures.value ∙ c.if-is_err.false) c.make_room.ensures.bounded)
     (λ k. (c.turn_with.ensures.disabled k).1) (λ p. (c.turn_with.ensures.full p).1)
-    (turning.logged_entry i past (state_after one) w x c.greatest_stamp.result (last_stamp i.log) c.in-Ok.ensures.event c.in-Ok.ensures.outcome
-    (c.in-Ok.ensures.stamp ∙ ap (λ (n : ℕ). 1 + max (max n (last_stamp i.log)) (stamp_in w)) floor)
+    (turning.logged_entry i past (state_after one) w x c.greatest_stamp.result (last_stamp i.log) c.in_ok-turned.ensures.event c.in_ok-turned.ensures.outcome
+    (c.in_ok-turned.ensures.stamp ∙ ap (λ (n : ℕ). 1 + max (max n (last_stamp i.log)) (stamp_in w)) floor)
     at (omega (arith, last, is.greatest)) (omega (arith, packet, is.greatest)))
-    c.in-Ok.ensures.logged
-    c.in-Ok.ensures.settings_there c.in-Ok.ensures.logged_there)
+    c.in_ok-turned.ensures.logged
+    c.in_ok-turned.ensures.settings_there c.in_ok-turned.ensures.logged_there)
 
-pub returns-in-Ok-clause-index : goal.returns-in-Ok-clause-index
-returns-in-Ok-clause-index c past is = c.log.ensures past (turning.index_same past c.args.index.now.read c.room_to.new.self.read c.room_to.ensures.read is)
+pub returns-clause-index : goal.returns-clause-index
+returns-clause-index c past is = c.log.ensures past (turning.index_same past c.args.index.now.read c.room_to.new.self.read c.room_to.ensures.read is)
 
-pub returns-in-Err-clause-turns : goal.returns-in-Err-clause-turns
-returns-in-Err-clause-turns c past is =
+pub returns-in_err-turned-clause-turns : goal.returns-in_err-turned-clause-turns
+returns-in_err-turned-clause-turns c past is =
     let i = c.args.interface.now in
     let w = c.args.work.now in
     let e = c.args.endpoint.now in
     let one = c.make_room.new.endpoint in
     let f = c.turn_with.new.endpoint in
-    turning.turns_still i c.turn_with.new.self e one f past w (Err c.in-Err.fault) c.make_room.ensures.same
-    (turning.turned_with_err i c.turn_with.new.self one f past w c.turn_with.result c.in-Err.fault c.in-Err.is
+    let is_err : c.from_residual.result ≡ Err c.in_err-turned.field-0.0 = turning.err_is c.from_residual.result c.in_err-turned.field-0.0 c.from_residual.ensures.1 in
+    rw is_err
+    (turning.turns_still i c.turn_with.new.self e one f past w (Err c.in_err-turned.field-0.0) c.make_room.ensures.same
+    (turning.turned_with_err i c.turn_with.new.self one f past w c.turn_with.result c.in_err-turned.field-0.0 c.in_err-turned.was
     (turning.ok_then c.make_room.result _ (sym c.is_err.ensures.value ∙ c.if-is_err.false) c.make_room.ensures.bounded)
-    (λ k. (c.turn_with.ensures.disabled k).0) (λ p. (c.turn_with.ensures.full p).0) c.in-Err.ensures.err
-    (λ k. record { settings = c.in-Err.ensures.settings_there k; log = c.in-Err.ensures.err_there k }))
+    (λ k. (c.turn_with.ensures.disabled k).0) (λ p. (c.turn_with.ensures.full p).0) c.in_err-turned.ensures.err
+    (λ k. record { settings = c.in_err-turned.ensures.settings_there k; log = c.in_err-turned.ensures.err_there k })))
 
-pub returns-in-Err-clause-index : goal.returns-in-Err-clause-index
-returns-in-Err-clause-index c past is = turning.index_same past c.args.index.now.read c.room_to.new.self.read c.room_to.ensures.read is
+pub returns-in_err-turned-clause-index : goal.returns-in_err-turned-clause-index
+returns-in_err-turned-clause-index c past is =
+    let is_err : c.from_residual.result ≡ Err c.in_err-turned.field-0.0 = turning.err_is c.from_residual.result c.in_err-turned.field-0.0 c.from_residual.ensures.1 in
+    rw is_err (turning.index_same past c.args.index.now.read c.room_to.new.self.read c.room_to.ensures.read is)
