@@ -1,6 +1,6 @@
 //! How many messages have each fate.
 
-ghost use Rattle.std.specs.Prelude.{◌≡◌, ◌<◌, ◌+◌, ◌^◌, ℕ, []};
+ghost use Rattle.std.specs.Prelude.{◌≡◌};
 ghost use Rattle.am_report.specs.Tables.{HasRoom, no_totals, totals_in, with_fate};
 
 use crate::messages::MessageFate;
@@ -28,6 +28,7 @@ fn none() -> Totals
     }
 }
 
+// The numbers with one more message, of this fate.
 fn with(totals: Totals, fate: Fate) -> Totals
     requires { HasRoom totals }
     ensures { result ≡ with_fate totals fate }
