@@ -6,3 +6,4 @@ pub mod Flat
 pub mod Tabled
 pub mod Telling
 pub mod Summed
+pub mod Totalled

@@ -1,5 +1,5 @@
 -- The tables from which a report is made.
-use Rattle.std.specs.Prelude.{◌≡◌, ◌<◌, ◌≤◌, ◌+◌, ◌==◌, ℕ, Bool, map, true, false, if◌then◌else◌, Option, Some, None, option_to_list, List, [], ◌∷◌, ◌++◌, length, slice_set, slice_get, slice_index_or}
+use Rattle.std.specs.Prelude.{◌≡◌, ◌^◌, ◌<◌, ◌≤◌, ◌+◌, ◌==◌, ℕ, Bool, map, true, false, if◌then◌else◌, Option, Some, None, option_to_list, List, [], ◌∷◌, ◌++◌, length, slice_set, slice_get, slice_index_or}
 use Rattle.std.specs.Option.{option_or}
 use Rattle.std.specs.BTreeMap.{insert_entry}
 use Rattle.am_names.specs.declared.EndpointId.{EndpointId}
@@ -23,6 +23,9 @@ use Rattle.am_report.specs.declared.messages.MessageFate.{MessageFate}
 use Rattle.am_report.specs.declared.sources.MessageState.{MessageState}
 use Rattle.am_office.specs.Fates.{fate_by, causes_of, is_unknown, is_run}
 use Rattle.am_report.specs.Report.{runs_at}
+use Rattle.am_report.specs.Report as texts
+use Rattle.am_report.specs.declared.totals.Totals.{Totals}
+use Rattle.am_office.specs.declared.endings.Fate.{Fate}
 
 -- the lists of runs after one more run
 abbrev pub with_run : List (List Run) → Option (EndpointId × Run) → List (List Run)
@@ -130,3 +133,38 @@ fate_of_entry entry = record {
   kind = entry.1.kind;
   fate = fate_by (option_to_list entry.1.known.cause) entry.1.known.unknown entry.1.known.ran;
 }
+
+abbrev pub one_more : Bool → ℕ → ℕ
+one_more true n = n + 1
+one_more false n = n
+
+-- the numbers with one more message, of this fate
+abbrev pub with_fate : Totals → Fate → Totals
+with_fate t fate = record {
+  ran = one_more (texts.has_run fate) t.ran;
+  returned = one_more (texts.was_returned fate) t.returned;
+  unknown = one_more (texts.is_unknown fate) t.unknown;
+  unknown_but_ran = one_more (texts.is_unknown_but_ran fate) t.unknown_but_ran;
+  pending = one_more (texts.is_pending fate) t.pending;
+}
+
+abbrev pub no_totals : Totals
+no_totals = record { ran = 0; returned = 0; unknown = 0; unknown_but_ran = 0; pending = 0 }
+
+-- how many messages have each fate
+abbrev pub totals_in : List MessageFate → Totals
+totals_in messages = record {
+  ran = texts.number texts.has_run messages;
+  returned = texts.number texts.was_returned messages;
+  unknown = texts.number texts.is_unknown messages;
+  unknown_but_ran = texts.number texts.is_unknown_but_ran messages;
+  pending = texts.number texts.is_pending messages;
+}
+
+-- each number can be raised by one
+pub record HasRoom (t : Totals) : Type 0 where
+  pub ran : t.ran + 1 < 2 ^ 64
+  pub returned : t.returned + 1 < 2 ^ 64
+  pub unknown : t.unknown + 1 < 2 ^ 64
+  pub unknown_but_ran : t.unknown_but_ran + 1 < 2 ^ 64
+  pub pending : t.pending + 1 < 2 ^ 64

@@ -8,6 +8,7 @@ mod messages;
 mod reports;
 mod runs;
 mod sources;
+mod totals;
 
 pub use laws::{messages_are_in_order, summary_is_of_report};
 pub use reports::{report, summary};

@@ -9,6 +9,7 @@ ghost use Rattle.am_report.specs.Tables.{AreRuns};
 
 use crate::messages::{MessageFate, told};
 use crate::runs::{Run, RunTable};
+use crate::totals::totals_of;
 use am_entry_lines::entry_line;
 use am_names::EndpointId;
 use am_office::{Entry, Fate, Journal, NoMemory};
@@ -125,104 +126,25 @@ fn put_fates(out: &mut Vec<u8>, messages: &[MessageFate]) -> Result<(), AllocErr
     Ok(())
 }
 
-fn has_run(fate: Fate) -> bool
-    ensures { result ≡ text.has_run fate }
-{
-    matches!(fate, Fate::Ran)
-}
-
-fn was_returned(fate: Fate) -> bool
-    ensures { result ≡ text.was_returned fate }
-{
-    matches!(fate, Fate::Returned(_))
-}
-
-fn is_unknown(fate: Fate) -> bool
-    ensures { result ≡ text.is_unknown fate }
-{
-    matches!(fate, Fate::Unknown)
-}
-
-fn is_unknown_but_ran(fate: Fate) -> bool
-    ensures { result ≡ text.is_unknown_but_ran fate }
-{
-    matches!(fate, Fate::UnknownButRan)
-}
-
-fn is_pending(fate: Fate) -> bool
-    ensures { result ≡ text.is_pending fate }
-{
-    matches!(fate, Fate::Pending)
-}
-
-fn number_run(messages: &[MessageFate]) -> usize
-    ensures { result ≡ text.number text.has_run messages.now }
-{
-    messages
-        .iter()
-        .filter(|message| has_run(message.fate))
-        .count()
-}
-
-fn number_returned(messages: &[MessageFate]) -> usize
-    ensures { result ≡ text.number text.was_returned messages.now }
-{
-    messages
-        .iter()
-        .filter(|message| was_returned(message.fate))
-        .count()
-}
-
-fn number_unknown(messages: &[MessageFate]) -> usize
-    ensures { result ≡ text.number text.is_unknown messages.now }
-{
-    messages
-        .iter()
-        .filter(|message| is_unknown(message.fate))
-        .count()
-}
-
-fn number_unknown_but_ran(messages: &[MessageFate]) -> usize
-    ensures { result ≡ text.number text.is_unknown_but_ran messages.now }
-{
-    messages
-        .iter()
-        .filter(|message| is_unknown_but_ran(message.fate))
-        .count()
-}
-
-fn number_pending(messages: &[MessageFate]) -> usize
-    ensures { result ≡ text.number text.is_pending messages.now }
-{
-    messages
-        .iter()
-        .filter(|message| is_pending(message.fate))
-        .count()
-}
-
 #[tactic(auto, unfolding(crate::specs::Report::totals))]
 fn put_totals(out: &mut Vec<u8>, messages: &[MessageFate]) -> Result<(), AllocError>
     ensures { OnOk result (out.new.items ≡ out.old.items ++ text.totals messages.now) }
 {
-    let ran = Number(number_run(messages) as u64);
-    let returned = Number(number_returned(messages) as u64);
-    let unknown = Number(number_unknown(messages) as u64);
-    let unknown_but_ran = Number(number_unknown_but_ran(messages) as u64);
-    let pending = Number(number_pending(messages) as u64);
+    let totals = totals_of(messages);
     put_line(
         out,
         "totals",
         &[
             Text("ran"),
-            ran,
+            Number(totals.ran),
             Text("returned"),
-            returned,
+            Number(totals.returned),
             Text("unknown"),
-            unknown,
+            Number(totals.unknown),
             Text("unknown-but-ran"),
-            unknown_but_ran,
+            Number(totals.unknown_but_ran),
             Text("pending"),
-            pending,
+            Number(totals.pending),
         ],
     )
 }

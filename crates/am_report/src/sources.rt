@@ -1,11 +1,10 @@
 //! The accepted messages of one source.
 
-ghost use Rattle.std.specs.Prelude.{◌≡◌, ◌<◌, ℕ, true, false, if◌then◌else◌, is_ok, map, length, slice_index_or};
+ghost use Rattle.std.specs.Prelude.{◌≡◌, true, false, if◌then◌else◌, is_ok, map};
 ghost use Rattle.std.specs.BTreeMap.{insert_entry};
 ghost use Rattle.std.specs.List.Sorted.{IsStrictlySortedBy};
 ghost use Rattle.std.specs.Map.{keys_of};
 ghost use Rattle.std.specs.Ordering.{nat_cmp};
-ghost use Rattle.am_report.specs.declared.sources.MessageState.{MessageState};
 ghost use Rattle.am_report.specs.Tables.{IsPlace, IsThere, IsMissing, heard};
 
 use crate::known::{Known, News};

@@ -3,5 +3,4 @@ use Rattle.am_report.proofs.reports.put_totals.Goals as goal
 
 pub returns : goal.returns
 unfolding totals
-returns c =
-    rw (c.number_run.ensures, c.number_returned.ensures, c.number_unknown.ensures, c.number_unknown_but_ran.ensures, c.number_pending.ensures) at c.put_line.ensures.ok
+returns c = rw c.totals_of-totals.ensures at c.put_line.ensures.ok
