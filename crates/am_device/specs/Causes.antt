@@ -1,6 +1,6 @@
 -- What a read and a write of a swap do, and when they fail.
-use Rattle.std.specs.Prelude.{◌≡◌, ℕ, ◌+◌, ◌-◌, ◌^◌, ◌≤◌, min, Bool, true, false, ◌==◌, List, Option, Some, None, Result, Ok, Err, if◌then◌else◌}
-use Rattle.std.specs.List.{list_any}
+use Rattle.std.specs.Prelude.{◌≡◌, ℕ, ◌≤◌, Bool, true, false, List, Option, Some, None, Result, Ok, Err, if◌then◌else◌}
+pub use Rattle.am_lemmas.specs.Counts.{one_more, fails_after}
 use Rattle.am_names.specs.declared.EndpointId.{EndpointId}
 use Rattle.am_names.specs.Names.{same_end}
 use Rattle.am_device.specs.declared.swap.SwapFault.{SwapFault}
@@ -23,10 +23,6 @@ abbrev pub Writes : {X : Type 0} → Result X SwapFault → Holding → Holding 
 Writes (Ok done) old new key bytes = HoldsInstead old new key bytes
 Writes (Err fault) old new key bytes = HoldsSame old new
 
--- one more, where a count stands still at its end
-abbrev pub one_more : ℕ → ℕ
-one_more count = min (count + 1) (2 ^ 64 - 1)
-
 -- each call is counted, unless there is no memory for it
 abbrev pub IsCounted : {X : Type 0} → Result X SwapFault → ℕ → ℕ → Type 0
 IsCounted (Ok answer) before now = now ≡ one_more before
@@ -42,10 +38,6 @@ abbrev pub IsCaused : {X : Type 0} → Result X SwapFault → ℕ → ℕ → Ty
 IsCaused (Ok answer) before now = before ≤ now
 IsCaused (Err faults.Failed) before now = (before ≤ now) × Rose before now
 IsCaused (Err faults.NoMemory) before now = before ≤ now
-
--- whether the call after so many is one of those that fail
-abbrev pub fails_after : List ℕ → ℕ → Bool
-fails_after fails calls = list_any (λ (number : ℕ). number == one_more calls) fails
 
 abbrev pub has_failed : {X : Type 0} → Result X SwapFault → Bool
 has_failed (Ok answer) = false

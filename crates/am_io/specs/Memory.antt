@@ -1,6 +1,6 @@
 -- What a source and a sink in memory answer to each call, exactly.
 use Rattle.std.specs.Prelude.{◌≡◌, ℕ, min, Bool, true, false, ◌&&◌, ◌==◌, nat_lt, List, ◌++◌, length, take, drop, Result, Ok, Err, if◌then◌else◌}
-use Rattle.std.specs.List.{list_any}
+pub use Rattle.am_lemmas.specs.Counts.{fails_after}
 use Rattle.am_io.specs.Causes.{one_more}
 use Rattle.am_io.specs.declared.source.Failed.{Failed}
 use Rattle.am_io.specs.declared.sink.SinkFault.{SinkFault}
@@ -25,10 +25,6 @@ pub record Store : Type 0 where
   pub calls : ℕ
   pub faults : ℕ
   pub shortages : ℕ
-
--- whether the call after so many is one of those that fail
-abbrev pub fails_after : List ℕ → ℕ → Bool
-fails_after fails calls = list_any (λ (number : ℕ). number == one_more calls) fails
 
 -- how many bytes a read into so much room gives
 abbrev pub given : Supply → ℕ → ℕ
