@@ -16,6 +16,7 @@ use crate::heads::{entry_of, first_heads, first_of, next_head, taken};
 use crate::parts::is_same;
 use am_office::{Entry, Journal, NoMemory};
 use std::alloc::Global;
+use std::slice::from_ref;
 
 /// The journal that the logs merge into: it has the entries of all logs, each once, by stamp and then by part. In a log
 /// stamps rise, and where two logs have entries with one stamp and one part, these are one entry, which stands in both.
@@ -62,7 +63,7 @@ fn add(entries: &mut Vec<Entry>, entry: &Entry) -> Result<(), NoMemory>
         None => false,
     };
     if !again {
-        entries.push(*entry)?;
+        entries.extend_from_slice(from_ref(entry))?;
     }
     Ok(())
 }
