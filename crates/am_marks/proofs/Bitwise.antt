@@ -1,12 +1,12 @@
 -- The bits of a word that is shifted, and of words in a row.
 use Rattle.std.specs.Prelude.{slice_index, slice_set, if◌then◌else◌}
 use Rattle.std.specs.Int.{bit_at, trailing_zeros}
-use Rattle.std.proofs.Common.{◌≡◌, ◌≢◌, ℕ, ◌+◌, ◌-◌, ◌*◌, ◌/◌, ◌%◌, ◌^◌, ◌<◌, ◌≤◌, ◌==◌, ◌⊎◌, inl, inr, ⊎_elim, zero, suc, Bool, true, false, Option, Some, None, List, [], ◌∷◌, length, w64, refl, sym, ap, ◌∙◌, arith, eq-eqb, eqb-true}
+use Rattle.std.proofs.Common.{◌≡◌, ◌≢◌, ℕ, ◌+◌, ◌-◌, ◌*◌, ◌/◌, ◌%◌, ◌^◌, ◌<◌, ◌≤◌, ◌==◌, ⊎_elim, zero, suc, Bool, true, false, Option, Some, None, List, [], ◌∷◌, length, w64, refl, sym, ap, ◌∙◌, arith, eq-eqb, eqb-true}
 use Rattle.std.proofs.Math.Nat.{div-add-mod, mod-lt, mul_comm}
 use Rattle.std.proofs.lemmas.Bool.{cases_eq, cases_lt, eqb-false}
 use Rattle.std.proofs.lemmas.List.{get_or-set_same, get_or-set_other, get_or_past}
 use Rattle.std.proofs.lemmas.Nat.{pow_pos}
-use Rattle.std.proofs.lemmas.Nat.Bits.{bit_at-trailing_zeros, bit_at-zero, bit_at_above, bit_at_cat_high, bit_at-lt}
+use Rattle.std.proofs.lemmas.Nat.Bits.{bit_at-trailing_zeros, bit_at-zero, bit_at_above, bit_at_cat_high}
 use Rattle.am_marks.specs.Bits.{IsNext, bit_by, bit_in}
 use Rattle.am_marks.specs.Places.{IsNextMark, is_marked}
 use Rattle.am_marks.specs.declared.Marks.{Marks}

@@ -1,8 +1,8 @@
 -- What the marks of endpoints say of a journal, and how it lasts from entry to entry.
-use Rattle.std.specs.Prelude.{slice_get, slice_index_or, is_some, not, nat_lt, ◌==◌, if◌then◌else◌}
+use Rattle.std.specs.Prelude.{slice_get, slice_index_or, is_some, ◌==◌, if◌then◌else◌}
 use Rattle.std.specs.List.{All, AllPairs, list_any}
-use Rattle.std.proofs.Common.{◌≡◌, ℕ, zero, suc, ◌+◌, ◌<◌, ◌≤◌, Bool, true, false, ◌||◌, List, [], ◌∷◌, ◌++◌, map, length, Option, Some, None, refl, sym, ap, ◌∙◌, subst, arith, eq-eqb, eqb-true, ⊎_elim}
-use Rattle.std.proofs.lemmas.Bool.{cases_lt, cases_eq, cases_order, eqb-false}
+use Rattle.std.proofs.Common.{◌≡◌, ℕ, zero, suc, ◌+◌, ◌<◌, ◌≤◌, Bool, true, false, ◌||◌, List, [], ◌∷◌, ◌++◌, length, Option, Some, None, refl, sym, ap, ◌∙◌, subst, arith, eq-eqb, eqb-true, ⊎_elim}
+use Rattle.std.proofs.lemmas.Bool.{cases_lt, cases_order, eqb-false}
 use Rattle.am_lemmas.proofs.Lists.{slice_get-map_Some, Some-slice_get_map}
 use Rattle.am_marks.specs.Places.{IsNextMark, is_marked}
 use Rattle.am_marks.specs.declared.Marks.{Marks}
@@ -18,14 +18,12 @@ use Rattle.am_model.proofs.Names.{same_end-refl}
 use Rattle.am_model.proofs.Each.{state_of_push}
 use Rattle.am_journal.proofs.Lists.{index_got}
 use Rattle.am_endpoint.specs.View.{EndpointView, state_after}
-use Rattle.am_moves.specs.Logs.{kept}
-use Rattle.am_machine.specs.Ends.{setting_in}
 use Rattle.am_scenario_types.specs.declared.parts.EndLine.{EndLine}
 use Rattle.am_scenario_types.specs.Lawful as lawful
 use Rattle.am_scenario_types.specs.Lists.{ScenarioLists}
 use Rattle.am_scripts.specs.Layout.{layout_of, setting_of}
 use Rattle.am_scripts.specs.Standings.{Standing, standings, standing_in}
-use Rattle.am_drainer.specs.Firsts.{IsNext, IsNextAt, shows}
+use Rattle.am_drainer.specs.Firsts.{IsNext, shows}
 use Rattle.am_drainer.specs.declared.EndTest.{EndTest}
 use Rattle.am_drainer.specs.declared.EndTest.TheVariants.{Reply, Front, Arrival}
 use Rattle.am_drain.specs.Rules.{next_page_in}
@@ -33,7 +31,7 @@ use Rattle.am_drain_steps.proofs.Away.{away_is_settled}
 use Rattle.am_drain_steps.proofs.Enabled.{of_packets}
 use Rattle.am_scenario_types.specs.declared.parts.Network.TheVariants.{Packet}
 use Rattle.am_scripted.specs.EndMarks.{AreAgain, AreMarked, AreNone, AreOf, HasPlace, IsAgain, MarksEnd, MarksPlace, MarksTouched, is_end, is_touched, told_arrival, told_at, told_by, told_front, told_missed, told_reply}
-use Rattle.am_scripted.specs.Touched.{both, listed}
+use Rattle.am_scripted.specs.Touched.{both}
 use Rattle.am_scripted.specs.declared.end_marks.EndMarks.{EndMarks}
 use Rattle.am_scripted.proofs.Looking.{HoldsNothing, IsQuietOnDisk, IsSeen, arrivals_read, quiet_of, reply_read}
 

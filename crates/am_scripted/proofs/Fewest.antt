@@ -1,6 +1,6 @@
 -- The thread that made the fewest calls, as a loop finds it.
 use Rattle.std.specs.Prelude.{IfSome, nat_lt, option_map, slice_get, if◌then◌else◌}
-use Rattle.std.proofs.Common.{◌≡◌, ℕ, ◌+◌, ◌<◌, ◌≤◌, Bool, true, false, List, map, length, Option, Some, None, refl, sym, ap, ◌∙◌, subst, arith, le-ltb, lt-ltb, ltb-true, ⊎_elim}
+use Rattle.std.proofs.Common.{◌≡◌, ℕ, ◌+◌, ◌<◌, ◌≤◌, Bool, true, false, List, map, Option, Some, None, refl, sym, ap, ◌∙◌, subst, arith, le-ltb, lt-ltb, ltb-true, ⊎_elim}
 use Rattle.std.proofs.lemmas.Bool.{cases_lt, ltb-false}
 use Rattle.am_lemmas.proofs.Lists.{Some-slice_get_map, slice_get-map_Some}
 use Rattle.am_office.specs.declared.Entry.{Entry}
@@ -11,7 +11,7 @@ use Rattle.am_model.specs.History.{is_in_range}
 use Rattle.am_scenario_types.specs.Lawful as lawful
 use Rattle.am_scripts.specs.Layout.{layout_of}
 use Rattle.am_drainer.specs.declared.LeftCall.{LeftCall}
-use Rattle.am_drainer.specs.Firsts.{IsFewest, IsFewestOf}
+use Rattle.am_drainer.specs.Firsts.{IsFewest}
 use Rattle.am_drainer.specs.Reads.{call_event, left_of}
 use Rattle.am_scripted.proofs.Leaving.{left_ranged}
 use Rattle.am_scenario_types.specs.declared.parts.ScriptCall.{ScriptCall}

@@ -17,7 +17,6 @@ use Rattle.am_model.specs.Packets.{receiver_of, from_of}
 use Rattle.am_model.specs.Packets as numbers
 use Rattle.am_local.specs.Numbered.{HasNextNumber}
 use Rattle.am_local.proofs.Numbering.{history_numbered}
-use Rattle.am_laws_homes.proofs.Homes.{home_below}
 use Rattle.am_plan.specs.declared.plan.PlanLine.{PlanLine}
 use Rattle.am_plan.specs.Shape.{number_of}
 use Rattle.am_scenario_types.specs.declared.parts.ScriptCall.{ScriptCall}

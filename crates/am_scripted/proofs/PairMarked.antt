@@ -1,8 +1,8 @@
 -- What the marks of pairs of nodes say of a journal, and how it lasts from entry to entry.
 use Rattle.std.specs.Prelude.{option_map, slice_get, not, is_some, nat_le, nat_lt, ◌==◌, ◌||◌, if◌then◌else◌}
-use Rattle.std.specs.List.{filter, filter_map, cons_option, list_all, range_with_len}
-use Rattle.std.proofs.Common.{◌≡◌, ⊎_elim, ℕ, zero, suc, ◌+◌, ◌-◌, ◌*◌, ◌/◌, ◌%◌, ◌<◌, ◌≤◌, Bool, true, false, ◌&&◌, List, [], ◌∷◌, ◌++◌, map, length, Option, Some, None, refl, sym, ap, ◌∙◌, subst, arith, eq-eqb, eqb-true, ltb-true}
-use Rattle.std.proofs.lemmas.Bool.{and_parts, cases_lt, eqb-false, lt-ltb, ltb-false}
+use Rattle.std.specs.List.{cons_option, list_all, range_with_len}
+use Rattle.std.proofs.Common.{◌≡◌, ⊎_elim, ℕ, zero, suc, ◌+◌, ◌*◌, ◌/◌, ◌%◌, ◌<◌, ◌≤◌, Bool, true, false, ◌&&◌, List, [], ◌∷◌, ◌++◌, map, length, Option, Some, None, refl, sym, ap, ◌∙◌, subst, arith, eqb-true, ltb-true}
+use Rattle.std.proofs.lemmas.Bool.{and_parts, cases_lt, eqb-false, lt-ltb}
 use Rattle.std.proofs.lemmas.List.{append-nil}
 use Rattle.std.proofs.lemmas.List.Elements.{filter_map-append}
 use Rattle.am_marks.specs.Places.{IsNextMark, is_marked}
@@ -12,29 +12,26 @@ use Rattle.am_names.specs.declared.Message.{Message}
 use Rattle.am_names.specs.declared.Packet.{Packet}
 use Rattle.am_names.specs.declared.Packet.TheVariants as Packets
 use Rattle.am_names.specs.declared.Verdict.{Verdict}
-use Rattle.am_names.specs.Names.{same_node}
 use Rattle.am_office.specs.declared.Event.{Event}
 use Rattle.am_office.specs.declared.Event.TheVariants as Events
 use Rattle.am_office.specs.declared.Outcome.{Outcome}
 use Rattle.am_office.specs.declared.Outcome.TheVariants as Out
-use Rattle.am_office.specs.declared.Received.{Received}
 use Rattle.am_office.specs.declared.Entry.{Entry}
-use Rattle.am_office.specs.Entries.{answer_by, answer_packet, emitted_in, emitted_of, parcel}
-use Rattle.am_model.specs.Channels.{Channel, binds, bound_message, emitted, ends_tries, frees, frees_by, is_on_link, same_channel, sends_on}
+use Rattle.am_office.specs.Entries.{answer_by, answer_packet, emitted_in, emitted_of}
+use Rattle.am_model.specs.Channels.{Channel, binds, bound_message, emitted, ends_tries, frees, frees_by, same_channel}
 use Rattle.am_model.specs.History.{MayFollow, channel_to, expire, is_bound, is_four_bytes, is_in_range, outcome_of, sent}
 use Rattle.am_model.specs.Layout.{IsLawful, Layout, node_at}
 use Rattle.am_model.specs.Packets.{from_of, receiver_of}
-use Rattle.am_model.specs.Tables.{may_try, tries_ended}
+use Rattle.am_model.specs.Tables.{tries_ended}
 use Rattle.am_model.proofs.Ends.{bound_push}
 use Rattle.am_machine.proofs.Between.{emits_between}
 use Rattle.am_scenario_types.specs.Lists.{ScenarioLists}
 use Rattle.am_scripts.specs.Layout.{layout_of}
-use Rattle.am_scripts.specs.Links.{due, number_received, numbers_released, received}
-use Rattle.am_scripts.specs.Standings.{is_idle}
+use Rattle.am_scripts.specs.Links.{due, number_received, received}
 use Rattle.am_plan.specs.Shape.{number_of, shape}
-use Rattle.am_drainer.specs.Firsts.{IsFirstPair, IsLeastPair, has_bound, has_due}
+use Rattle.am_drainer.specs.Firsts.{IsFirstPair, has_bound, has_due}
 use Rattle.am_drainer.specs.declared.NodePair.{NodePair}
-use Rattle.am_scripted.specs.PairMarks.{AreOfPairs, ArePaired, ArePairsAgain, IsPairAgain, IsPlaceAgain, IsReadAgain, IsWithin, pair_at, passes_in, place_of}
+use Rattle.am_scripted.specs.PairMarks.{AreOfPairs, ArePaired, ArePairsAgain, IsPairAgain, IsPlaceAgain, IsWithin, pair_at, passes_in, place_of}
 use Rattle.am_scripted.specs.Touched.{pair_touched}
 use Rattle.am_scripted.specs.declared.pair_marks.PairMarks.{PairMarks}
 use Rattle.am_scripted.proofs.Emitting.{emission, emitted_none, other_link}

@@ -1,5 +1,5 @@
 -- A cluster that runs the scripts of a scenario, and what its parts say of its journal.
-use Rattle.std.specs.Prelude.{◌≡◌, ℕ, ◌+◌, ◌*◌, Option, Some, None, List, map}
+use Rattle.std.specs.Prelude.{◌≡◌, ◌+◌, ◌*◌, Option, Some, None, List, map}
 use Rattle.am_names.specs.declared.Packet.{Packet}
 use Rattle.am_office.specs.declared.Entry.{Entry}
 use Rattle.am_model.specs.Packets.{receiver_of, from_of}

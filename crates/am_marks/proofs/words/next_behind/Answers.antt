@@ -1,4 +1,4 @@
-use Rattle.std.proofs.Common.{◌*◌, ◌+◌, arith}
+use Rattle.std.proofs.Common.{◌*◌, arith}
 use Rattle.am_marks.proofs.Bitwise.{found_in, none_found, none_more, none_yet}
 use Rattle.am_marks.proofs.words.next_behind.Goals as goal
 

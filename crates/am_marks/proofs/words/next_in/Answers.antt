@@ -1,5 +1,5 @@
 use Rattle.std.proofs.Common.{◌/◌, ◌%◌, arith}
-use Rattle.am_marks.proofs.Bitwise.{behind, behind_first, found_in, none_left}
+use Rattle.am_marks.proofs.Bitwise.{behind_first, found_in, none_left}
 use Rattle.am_marks.proofs.words.next_in.Goals as goal
 
 pub returns-in-Some : goal.returns-in-Some

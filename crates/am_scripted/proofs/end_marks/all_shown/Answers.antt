@@ -1,4 +1,4 @@
-use Rattle.std.proofs.Common.{◌≡◌, ◌≤◌, arith, length, rules}
+use Rattle.std.proofs.Common.{◌≤◌, arith, length, rules}
 use Rattle.std.proofs.lemmas.List.{length-map}
 use Rattle.am_scripts.specs.Layout.{layout_of, setting_of}
 use Rattle.am_scripted.proofs.EndMarked.{marked_all, marked_more, marked_none}

@@ -1,4 +1,4 @@
-use Rattle.std.proofs.Common.{◌≡◌, ℕ, ◌<◌, Some, None, Option, List, subst, length, rules}
+use Rattle.std.proofs.Common.{◌≡◌, ℕ, Some, None, List, subst, rules}
 use Rattle.std.specs.Prelude.{◌==◌, slice_get}
 use Rattle.am_scenario_types.specs.declared.parts.EndLine.{EndLine}
 use Rattle.am_scripts.specs.Layout.{layout_of}

@@ -1,4 +1,3 @@
-use Rattle.std.proofs.Common.{◌≡◌, refl}
 use Rattle.am_scripts.specs.Layout.{layout_of}
 use Rattle.am_endpoint.specs.View.{state_after}
 use Rattle.am_scripted.specs.EndMarks.{told_arrival, told_front, told_missed, told_reply}

@@ -1,5 +1,3 @@
-use Rattle.std.specs.Prelude.{not}
-use Rattle.std.specs.List.{list_all, range_with_len}
 use Rattle.std.proofs.Common.{◌≡◌, ℕ, ◌<◌, false}
 use Rattle.am_model.specs.History.{channel_to, is_bound}
 use Rattle.am_scripted.proofs.pair_marks.has_some_bound.Given as goal

@@ -1,4 +1,4 @@
-use Rattle.std.proofs.Common.{◌≡◌, ◌∙◌, subst, sym}
+use Rattle.std.proofs.Common.{◌∙◌, subst, sym}
 use Rattle.am_marks.specs.declared.Marks.{Marks}
 use Rattle.am_drainer.specs.Firsts.{has_bound, has_due}
 use Rattle.am_scripted.specs.PairMarks.{IsPairAgain}

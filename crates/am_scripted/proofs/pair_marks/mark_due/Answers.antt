@@ -1,4 +1,4 @@
-use Rattle.std.proofs.Common.{◌≡◌, ◌∙◌, ap, Option, ℕ, arith}
+use Rattle.std.proofs.Common.{◌∙◌, ap, Option, ℕ, arith}
 use Rattle.std.specs.Prelude.{is_some}
 use Rattle.am_drainer.specs.Firsts.{has_due}
 use Rattle.am_scripted.proofs.PairMarked.{pair_put}
