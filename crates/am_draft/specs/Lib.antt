@@ -1,2 +1,3 @@
 pub mod Said
 pub mod Drafts
+pub mod Planned

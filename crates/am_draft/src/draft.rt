@@ -3,10 +3,11 @@ ghost use Rattle.am_draft.specs.Said.{nothing, with_line, end_of, thread_of, bun
 ghost use Rattle.am_draft.specs.Drafts.{said};
 
 use crate::line::Line;
+use crate::plan::Plan;
 use crate::settings::{Settings, Version};
 use am_names::{EndpointId, NodeId};
 use am_office::Call;
-use am_scenario_types::{Bundle, EndLine, FaultLine, PlanLine, ScriptCall, StepLine, ThreadLine};
+use am_scenario_types::{Bundle, EndLine, FaultLine, ScriptCall, StepLine, ThreadLine};
 use std::alloc::{AllocError, Global};
 
 /// What the lines so far have said.
@@ -19,7 +20,7 @@ pub struct Draft {
     pub ends: Vec<EndLine>,
     pub bundles: Vec<Bundle>,
     pub threads: Vec<ThreadLine>,
-    pub plan: Vec<PlanLine>,
+    pub plan: Plan,
     pub faults: Vec<FaultLine>,
     pub script: Vec<ScriptCall>,
     pub steps: Vec<StepLine>,
@@ -55,18 +56,6 @@ fn find_bundle(bundles: &[Bundle], id: u64) -> Option<&Bundle>
     None
 }
 
-// Most lines differ in the number, so it is compared first.
-#[tactic(auto, using(crate::proofs::Plans::other_number, crate::proofs::Plans::same_number))]
-fn is_line_of(line: &PlanLine, from: NodeId, to: NodeId, number: u32) -> bool
-    ensures { result ≡ ((line.now.from.0 == from.0) && (line.now.to.0 == to.0) && (line.now.number == number)) }
-{
-    if line.number == number {
-        line.from.0 == from.0 && line.to.0 == to.0
-    } else {
-        false
-    }
-}
-
 impl Draft {
     /// Nothing was said.
     pub fn new(alloc: Global) -> Draft
@@ -79,7 +68,7 @@ impl Draft {
             ends: Vec::new(alloc),
             bundles: Vec::new(alloc),
             threads: Vec::new(alloc),
-            plan: Vec::new(alloc),
+            plan: Plan::new(alloc),
             faults: Vec::new(alloc),
             script: Vec::new(alloc),
             steps: Vec::new(alloc),
@@ -117,9 +106,7 @@ impl Draft {
     pub fn is_planned(&self, from: NodeId, to: NodeId, number: u32) -> bool
         ensures { result ≡ is_planned (said self.now).plan from to number }
     {
-        self.plan
-            .iter()
-            .any(|line| is_line_of(line, from, to, number))
+        self.plan.is_planned(from, to, number)
     }
 
     /// Whether a node's page call has a fault line.

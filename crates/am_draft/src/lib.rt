@@ -3,8 +3,10 @@
 
 mod draft;
 mod line;
+mod plan;
 mod settings;
 
 pub use draft::Draft;
 pub use line::{Calls, Line, LineFault};
+pub use plan::Plan;
 pub use settings::{Setting, Settings, Version};

@@ -87,7 +87,7 @@ pub fn finish(alloc: Global, draft: Draft) -> Result<Scenario, LineFault>
         ends,
         bundles: draft.bundles,
         threads,
-        plan: draft.plan,
+        plan: draft.plan.into_lines(),
         faults: draft.faults,
         script: draft.script,
         steps: draft.steps,
