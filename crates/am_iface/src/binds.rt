@@ -51,9 +51,9 @@ impl Interface {
     }
 
     /// The lowest free channel for an endpoint's front message, if there is one.
-    fn channel_for(&self, front: Option<Queued>) -> Option<u8>
-        requires { IsHomeKnown (own self.now) front }
-        ensures { result ≡ channel_of_front (own self.now) front }
+    fn channel_for(&self, front: &Option<Queued>) -> Option<u8>
+        requires { IsHomeKnown (own self.now) front.now }
+        ensures { result ≡ channel_of_front (own self.now) front.now }
     {
         match front {
             Some(queued) => match self.home(queued.message.dest) {
@@ -82,7 +82,7 @@ impl Interface {
         if front.is_none() {
             return Some(Condition::NoMessage);
         }
-        if self.channel_for(front).is_none() {
+        if self.channel_for(&front).is_none() {
             return Some(Condition::NoChannel);
         }
         None
@@ -154,7 +154,7 @@ impl Interface {
     fn bind_to(
         &mut self,
         stamp: u64,
-        queued: Queued,
+        queued: &Queued,
         peer: NodeId,
         channel: u8,
         endpoint: &mut Endpoint,
@@ -162,8 +162,8 @@ impl Interface {
         requires enabled { failing_at (own self.old) (state_after endpoint.old) (Works.Bind endpoint.old.settings.id) ≡ None }
         requires at { home_in (own self.old) endpoint.old.settings.id ≡ Some endpoint.old.settings.node }
         requires packet { is_direct (state_after endpoint.old).head.place ≡ false }
-        requires front { front (state_after endpoint.old) ≡ Some queued }
-        requires home { home_in (own self.old) queued.message.dest ≡ Some peer }
+        requires front { front (state_after endpoint.old) ≡ Some queued.now }
+        requires home { home_in (own self.old) queued.now.message.dest ≡ Some peer }
         requires peer { peer.0 < self.old.settings.nodes }
         requires free { free_from self.old.settings.node peer self.old.log 0 self.old.settings.channels ≡ Some channel }
         ensures { TurnsWith self.old self.new endpoint.old endpoint.new stamp (Works.Bind endpoint.old.settings.id) result }
@@ -192,7 +192,7 @@ impl Interface {
         let Some(channel) = self.free_channel(peer) else {
             unreachable!()
         };
-        self.bind_to(stamp, queued, peer, channel, endpoint)
+        self.bind_to(stamp, &queued, peer, channel, endpoint)
     }
 
     /// Binds the front message, if it can be bound.

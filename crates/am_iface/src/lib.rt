@@ -382,14 +382,14 @@ impl Interface {
     }
 
     /// Receives a packet that touches no endpoint.
-    fn receive_alone(&mut self, stamp: u64, packet: Packet) -> Result<Turned, EntryFault>
-        requires fits { FitsInterface self.old (Works.Receive packet) }
-        requires alone { needs (own self.old) (Works.Receive packet) ≡ None }
-        ensures { (s : State) → Turns self.old self.new s stamp (Works.Receive packet) result }
+    fn receive_alone(&mut self, stamp: u64, packet: &Packet) -> Result<Turned, EntryFault>
+        requires fits { FitsInterface self.old (Works.Receive packet.now) }
+        requires alone { needs (own self.old) (Works.Receive packet.now) ≡ None }
+        ensures { (s : State) → Turns self.old self.new s stamp (Works.Receive packet.now) result }
     {
         match packet {
-            Packet::Parcel(p) => self.receive_again(stamp, &p),
-            Packet::Answer(p) => self.receive_nothing(stamp, &p),
+            Packet::Parcel(p) => self.receive_again(stamp, p),
+            Packet::Answer(p) => self.receive_nothing(stamp, p),
         }
     }
 
@@ -399,10 +399,10 @@ impl Interface {
         requires alone { needs (own self.old) work.now ≡ None }
         ensures { (s : State) → Turns self.old self.new s stamp work.now result }
     {
-        match *work {
+        match work {
             Work::Receive(packet) => self.receive_alone(stamp, packet),
             Work::Bind(_) => unreachable!(),
-            Work::Expire { peer, channel } => self.expire_alone(stamp, peer, channel),
+            Work::Expire { peer, channel } => self.expire_alone(stamp, *peer, *channel),
         }
     }
 

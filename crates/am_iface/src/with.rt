@@ -114,10 +114,10 @@ impl Interface {
         stamp: u64,
         p: &AnswerPacket,
         message: Message,
-        flight: Flying,
+        flight: &Flying,
         verdict: Verdict,
     ) -> Entry
-        ensures { result ≡ record { stamp = stamp; event = Event.Receive self.now.settings.node p.now.from p.now.number; outcome = Outcome.Received p.now.channel p.now.seq p.now.attempt (settle_by self.now.settings.bounces message flight.bounces verdict) } }
+        ensures { result ≡ record { stamp = stamp; event = Event.Receive self.now.settings.node p.now.from p.now.number; outcome = Outcome.Received p.now.channel p.now.seq p.now.attempt (settle_by self.now.settings.bounces message flight.now.bounces verdict) } }
     {
         let came = settled_by(self.bounces(), message, flight.bounces, verdict);
         answer_receipt(self.node(), stamp, p, came)
@@ -128,14 +128,14 @@ impl Interface {
         &mut self,
         stamp: u64,
         p: &AnswerPacket,
-        flight: Flying,
+        flight: &Flying,
         endpoint: &mut Endpoint,
     ) -> Result<Turned, EntryFault>
         requires fits { FitsAnswer self.old.settings p.now }
         requires needs { needs (own self.old) (Works.Receive (Packets.Answer p.now)) ≡ Some endpoint.old.settings.id }
         requires packet { is_direct (state_after endpoint.old).head.place ≡ false }
         requires bounces { endpoint.old.settings.bounces ≡ self.old.settings.bounces }
-        requires flight { IsFlightOf (state_after endpoint.old) (bound_message (channel_in (own self.old) p.now.from p.now.channel) self.old.log) flight }
+        requires flight { IsFlightOf (state_after endpoint.old) (bound_message (channel_in (own self.old) p.now.from p.now.channel) self.old.log) flight.now }
         ensures { TurnsWith self.old self.new endpoint.old endpoint.new stamp (Works.Receive (Packets.Answer p.now)) result }
     {
         let mut ends = self.ends(p.from, p.channel);
@@ -158,14 +158,14 @@ impl Interface {
         stamp: u64,
         peer: NodeId,
         channel: u8,
-        flight: Flying,
+        flight: &Flying,
         endpoint: &mut Endpoint,
     ) -> Result<Turned, EntryFault>
         requires on { IsChannelOf self.old.settings peer channel }
         requires needs { needs (own self.old) (Works.Expire peer channel) ≡ Some endpoint.old.settings.id }
         requires packet { is_direct (state_after endpoint.old).head.place ≡ false }
         requires bounces { endpoint.old.settings.bounces ≡ self.old.settings.bounces }
-        requires flight { IsFlightOf (state_after endpoint.old) (bound_message (channel_in (own self.old) peer channel) self.old.log) flight }
+        requires flight { IsFlightOf (state_after endpoint.old) (bound_message (channel_in (own self.old) peer channel) self.old.log) flight.now }
         ensures { TurnsWith self.old self.new endpoint.old endpoint.new stamp (Works.Expire peer channel) result }
     {
         let mut ends = self.ends(peer, channel);
@@ -223,26 +223,26 @@ impl Interface {
         ensures { TurnsWith self.old self.new endpoint.old endpoint.new stamp (Works.Receive (Packets.Answer p.now)) result }
     {
         let flight = self.flight(p.from, p.channel, endpoint);
-        self.receive_settling(stamp, p, flight, endpoint)
+        self.receive_settling(stamp, p, &flight, endpoint)
     }
 
     /// Receives a packet that touches an endpoint.
     fn receive_with(
         &mut self,
         stamp: u64,
-        packet: Packet,
+        packet: &Packet,
         endpoint: &mut Endpoint,
     ) -> Result<Turned, EntryFault>
-        requires fits { FitsInterface self.old (Works.Receive packet) }
-        requires needs { needs (own self.old) (Works.Receive packet) ≡ Some endpoint.old.settings.id }
+        requires fits { FitsInterface self.old (Works.Receive packet.now) }
+        requires needs { needs (own self.old) (Works.Receive packet.now) ≡ Some endpoint.old.settings.id }
         requires packet { is_direct (state_after endpoint.old).head.place ≡ false }
         requires bounces { endpoint.old.settings.bounces ≡ self.old.settings.bounces }
-        requires flies { FitsEndpoint (own self.old) (state_after endpoint.old) (Works.Receive packet) }
-        ensures { TurnsWith self.old self.new endpoint.old endpoint.new stamp (Works.Receive packet) result }
+        requires flies { FitsEndpoint (own self.old) (state_after endpoint.old) (Works.Receive packet.now) }
+        ensures { TurnsWith self.old self.new endpoint.old endpoint.new stamp (Works.Receive packet.now) result }
     {
         match packet {
-            Packet::Parcel(p) => self.receive_fresh(stamp, &p, endpoint),
-            Packet::Answer(p) => self.receive_answer(stamp, &p, endpoint),
+            Packet::Parcel(p) => self.receive_fresh(stamp, p, endpoint),
+            Packet::Answer(p) => self.receive_answer(stamp, p, endpoint),
         }
     }
 
@@ -262,7 +262,7 @@ impl Interface {
         ensures { TurnsWith self.old self.new endpoint.old endpoint.new stamp (Works.Expire peer channel) result }
     {
         let flight = self.flight(peer, channel, endpoint);
-        self.expire_with(stamp, peer, channel, flight, endpoint)
+        self.expire_with(stamp, peer, channel, &flight, endpoint)
     }
 
     /// Does a work that touches this endpoint.
@@ -281,10 +281,10 @@ impl Interface {
         requires flies { FitsEndpoint (own self.old) (state_after endpoint.old) work.now }
         ensures { TurnsWith self.old self.new endpoint.old endpoint.new stamp work.now result }
     {
-        match *work {
+        match work {
             Work::Receive(packet) => self.receive_with(stamp, packet, endpoint),
             Work::Bind(_) => self.bind_with(stamp, endpoint),
-            Work::Expire { peer, channel } => self.give_up_with(stamp, peer, channel, endpoint),
+            Work::Expire { peer, channel } => self.give_up_with(stamp, *peer, *channel, endpoint),
         }
     }
 }

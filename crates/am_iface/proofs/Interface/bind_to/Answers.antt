@@ -5,7 +5,7 @@ use Rattle.am_iface.proofs.Interface.bind_to.Goals as goal
 
 pub enter_bound-requires-clause-made : goal.enter_bound-requires-clause-made
 enter_bound-requires-clause-made c =
-    λ slot. binding.binding_made c.args.self.now c.args.endpoint.now c.args.queued c.args.peer c.args.channel c.free_ends-ends.result slot c.first_try-numbers.result c.next_number-number.result c.args.stamp c.node.result c.id.result c.sent-outcome.result c.bind_entry-entry.result
+    λ slot. binding.binding_made c.args.self.now c.args.endpoint.now c.args.queued.now c.args.peer c.args.channel c.free_ends-ends.result slot c.first_try-numbers.result c.next_number-number.result c.args.stamp c.node.result c.id.result c.sent-outcome.result c.bind_entry-entry.result
     (record {
       enabled = c.requires.enabled;
       front_is = c.requires.front;
@@ -19,7 +19,7 @@ enter_bound-requires-clause-made c =
 
 pub enter_bound-requires-clause-allowed : goal.enter_bound-requires-clause-allowed
 enter_bound-requires-clause-allowed c =
-    let entry = binding.binding_entry c.args.self.now c.args.endpoint.now c.args.queued c.args.peer c.args.channel c.free_ends-ends.result c.first_try-numbers.result c.next_number-number.result c.args.stamp c.node.result c.id.result c.sent-outcome.result c.bind_entry-entry.result
+    let entry = binding.binding_entry c.args.self.now c.args.endpoint.now c.args.queued.now c.args.peer c.args.channel c.free_ends-ends.result c.first_try-numbers.result c.next_number-number.result c.args.stamp c.node.result c.id.result c.sent-outcome.result c.bind_entry-entry.result
     (record {
       enabled = c.requires.enabled;
       front_is = c.requires.front;
@@ -34,7 +34,7 @@ enter_bound-requires-clause-allowed c =
 
 pub returns : goal.returns
 returns c =
-    let entry = binding.binding_entry c.args.self.now c.args.endpoint.now c.args.queued c.args.peer c.args.channel c.free_ends-ends.result c.first_try-numbers.result c.next_number-number.result c.args.stamp c.node.result c.id.result c.sent-outcome.result c.bind_entry-entry.result
+    let entry = binding.binding_entry c.args.self.now c.args.endpoint.now c.args.queued.now c.args.peer c.args.channel c.free_ends-ends.result c.first_try-numbers.result c.next_number-number.result c.args.stamp c.node.result c.id.result c.sent-outcome.result c.bind_entry-entry.result
     (record {
       enabled = c.requires.enabled;
       front_is = c.requires.front;

@@ -10,21 +10,21 @@ use Rattle.am_iface.proofs.Interface.receive_settling.Goals as goal
 
 pub enter_with-requires-clause-made : goal.enter_with-requires-clause-made
 enter_with-requires-clause-made c =
-    settling.settling_made c.args.self.now c.args.endpoint.now c.args.p.now c.ends-ends.result c.answer.new.ends c.args.flight c.in-Done.bound c.in-Done.verdict (settle_by c.args.self.now.settings.bounces c.in-Done.bound.message c.args.flight.bounces c.in-Done.verdict) c.args.stamp c.args.self.now.settings.node c.settling_entry-entry.result
+    settling.settling_made c.args.self.now c.args.endpoint.now c.args.p.now c.ends-ends.result c.answer.new.ends c.args.flight.now c.in-Done.bound c.in-Done.verdict (settle_by c.args.self.now.settings.bounces c.in-Done.bound.message c.args.flight.now.bounces c.in-Done.verdict) c.args.stamp c.args.self.now.settings.node c.settling_entry-entry.result
     (record { needs = c.requires.needs; counted = c.ends-ends.ensures; flight_is = c.requires.flight; done = sym c.answer.ensures.answer ∙ c.in-Done.is; result = refl })
     c.answer.ensures.after refl c.settling_entry-entry.ensures
 
 pub settle-requires-clause-allowed : goal.settle-requires-clause-allowed
 settle-requires-clause-allowed c =
-    let entry = settling.settling_entry c.args.self.now c.args.endpoint.now c.args.p.now c.ends-ends.result c.args.flight c.in-Done.bound c.in-Done.verdict (settle_by c.args.self.now.settings.bounces c.in-Done.bound.message c.args.flight.bounces c.in-Done.verdict) c.args.stamp c.args.self.now.settings.node c.settling_entry-entry.result
+    let entry = settling.settling_entry c.args.self.now c.args.endpoint.now c.args.p.now c.ends-ends.result c.args.flight.now c.in-Done.bound c.in-Done.verdict (settle_by c.args.self.now.settings.bounces c.in-Done.bound.message c.args.flight.now.bounces c.in-Done.verdict) c.args.stamp c.args.self.now.settings.node c.settling_entry-entry.result
     (record { needs = c.requires.needs; counted = c.ends-ends.ensures; flight_is = c.requires.flight; done = sym c.answer.ensures.answer ∙ c.in-Done.is; result = refl })
     refl c.settling_entry-entry.ensures in
-    settling.settling_allowed c.args.self.now c.args.endpoint.now c.enter_with.new.endpoint c.args.p.now c.args.flight c.args.stamp c.settling_entry-entry.result c.requires.needs c.requires.packet c.requires.bounces c.requires.flight entry
+    settling.settling_allowed c.args.self.now c.args.endpoint.now c.enter_with.new.endpoint c.args.p.now c.args.flight.now c.args.stamp c.settling_entry-entry.result c.requires.needs c.requires.packet c.requires.bounces c.requires.flight entry
     (record { settings = c.enter_with.ensures.settings; log = c.enter_with.ensures.log })
 
 pub returns-in-Ok : goal.returns-in-Ok
 returns-in-Ok c =
-    let entry = settling.settling_entry c.args.self.now c.args.endpoint.now c.args.p.now c.ends-ends.result c.args.flight c.in-Done.bound c.in-Done.verdict (settle_by c.args.self.now.settings.bounces c.in-Done.bound.message c.args.flight.bounces c.in-Done.verdict) c.args.stamp c.args.self.now.settings.node c.settling_entry-entry.result
+    let entry = settling.settling_entry c.args.self.now c.args.endpoint.now c.args.p.now c.ends-ends.result c.args.flight.now c.in-Done.bound c.in-Done.verdict (settle_by c.args.self.now.settings.bounces c.in-Done.bound.message c.args.flight.now.bounces c.in-Done.verdict) c.args.stamp c.args.self.now.settings.node c.settling_entry-entry.result
     (record { needs = c.requires.needs; counted = c.ends-ends.ensures; flight_is = c.requires.flight; done = sym c.answer.ensures.answer ∙ c.in-Done.is; result = refl })
     refl c.settling_entry-entry.ensures in
     turning.turns_with c.args.self.now c.enter_with.new.self c.args.endpoint.now c.settle.new.endpoint c.args.stamp (Works.Receive (Packets.Answer c.args.p.now)) c.settling_entry-entry.result _ entry
@@ -33,7 +33,7 @@ returns-in-Ok c =
 
 pub returns-in-Err : goal.returns-in-Err
 returns-in-Err c =
-    let entry = settling.settling_entry c.args.self.now c.args.endpoint.now c.args.p.now c.ends-ends.result c.args.flight c.in-Done.bound c.in-Done.verdict (settle_by c.args.self.now.settings.bounces c.in-Done.bound.message c.args.flight.bounces c.in-Done.verdict) c.args.stamp c.args.self.now.settings.node c.settling_entry-entry.result
+    let entry = settling.settling_entry c.args.self.now c.args.endpoint.now c.args.p.now c.ends-ends.result c.args.flight.now c.in-Done.bound c.in-Done.verdict (settle_by c.args.self.now.settings.bounces c.in-Done.bound.message c.args.flight.now.bounces c.in-Done.verdict) c.args.stamp c.args.self.now.settings.node c.settling_entry-entry.result
     (record { needs = c.requires.needs; counted = c.ends-ends.ensures; flight_is = c.requires.flight; done = sym c.answer.ensures.answer ∙ c.in-Done.is; result = refl })
     refl c.settling_entry-entry.ensures in
     turning.turns_with c.args.self.now c.enter_with.new.self c.args.endpoint.now c.enter_with.new.endpoint c.args.stamp (Works.Receive (Packets.Answer c.args.p.now)) c.settling_entry-entry.result _ entry
