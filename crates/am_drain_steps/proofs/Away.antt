@@ -1,8 +1,9 @@
 -- What an endpoint holds that isn't in a frame, entry by entry.
-use Rattle.std.proofs.Common.{◌≡◌, ℕ, Bool, true, false, cond, ◌||◌, List, [], ◌∷◌, ◌++◌, length, Option, Some, None, refl, sym, ap, ◌∙◌, subst, arith, true≢false, eqb-true, append-nil}
+use Rattle.std.proofs.Common.{◌≡◌, ℕ, Bool, true, false, cond, ◌||◌, List, [], ◌∷◌, ◌++◌, length, Option, Some, None, refl, sym, ap, ◌∙◌, subst, true≢false, eqb-true, append-nil}
 use Rattle.std.specs.Prelude.{◌&&◌, ◌==◌, not}
 use Rattle.std.specs.List.{find, list_any}
 use Rattle.std.proofs.lemmas.Bool.{and_from, and_parts, not-false}
+use Rattle.std.proofs.lemmas.List.{nil_from_length}
 use Rattle.am_names.specs.declared.EndpointId.{EndpointId}
 use Rattle.am_names.specs.declared.NodeId.{NodeId}
 use Rattle.am_names.specs.declared.Serial.{Serial}
@@ -85,14 +86,10 @@ same_lists Disk w b c ground same more k =
 same_lists (Frame frame) w b c ground same more k = refl
 same_lists Direct w b c ground same more k = k
 
-none_of : {X : Type 0} (xs : List X) → (length xs == 0) ≡ true → xs ≡ []
-none_of [] h = refl
-none_of (x ∷ xs) h = absurd (omega (arith, eqb-true (length (x ∷ xs)) 0 h))
-
 -- out of a frame nothing is in flight
 grounded : (p : Place) (w : Bool) (b : Body) → is_resident p ≡ false → is_settled_at p w b ≡ true → b.in_flight ≡ []
-grounded Host w b away k = none_of b.in_flight (and_parts (is_grounded b) (w || not (has_queued b)) k).0
-grounded Disk w b away k = none_of b.in_flight (and_parts (is_grounded b) (w || (not (has_queued b) && not (has_arrivals b))) k).0
+grounded Host w b away k = nil_from_length b.in_flight (eqb-true (length b.in_flight) 0 (and_parts (is_grounded b) (w || not (has_queued b)) k).0)
+grounded Disk w b away k = nil_from_length b.in_flight (eqb-true (length b.in_flight) 0 (and_parts (is_grounded b) (w || (not (has_queued b) && not (has_arrivals b))) k).0)
 grounded (Frame frame) w b away k = absurd (true≢false away)
 grounded Direct w b away k = absurd (true≢false away)
 

@@ -1,8 +1,8 @@
 -- Page-ins, time-outs and polls that the drain names may happen.
-use Rattle.std.proofs.Common.{◌≡◌, ℕ, zero, suc, ◌+◌, ◌<◌, Bool, true, false, cond, ◌||◌, List, [], ◌∷◌, map, Option, Some, None, refl, sym, ap, ◌∙◌, subst, arith, true≢false, lt-ltb, if◌then◌else◌}
+use Rattle.std.proofs.Common.{◌≡◌, ℕ, zero, suc, ◌+◌, ◌<◌, Bool, true, false, cond, List, [], ◌∷◌, map, Option, Some, None, refl, sym, ap, ◌∙◌, subst, arith, true≢false, lt-ltb, if◌then◌else◌}
 use Rattle.std.specs.Prelude.{◌&&◌, not, nat_lt, find}
 use Rattle.std.specs.List.{list_any, range_with_len}
-use Rattle.std.proofs.lemmas.Bool.{and_from, and_parts}
+use Rattle.std.proofs.lemmas.Bool.{and_from, and_parts, or_left, or_right}
 use Rattle.am_names.specs.declared.EndpointId.{EndpointId}
 use Rattle.am_names.specs.declared.NodeId.{NodeId}
 use Rattle.am_names.specs.Names.{same_end, same_node}
@@ -62,15 +62,7 @@ of_packets s packet = ap is_direct packet
 each_any : {X : Type 0} (q : X → X → Bool) → ((x : X) → q x x ≡ true) → (ys : List X) → AllAre (λ x. list_any (q x) ys ≡ true) ys
 each_any q own [] = tt
 each_any q own (y ∷ ys) =
-    (here (q y y) (list_any (q y) ys) (own y), all_map (λ x. list_any (q x) ys ≡ true) (λ x. list_any (q x) (y ∷ ys) ≡ true) ys (λ x h. later (q x y) (list_any (q x) ys) h) (each_any q own ys))
-  where
-    here : (a b : Bool) → a ≡ true → (a || b) ≡ true
-    here true b h = refl
-    here false b h = absurd (true≢false (sym h))
-
-    later : (a b : Bool) → b ≡ true → (a || b) ≡ true
-    later true b h = refl
-    later false b h = h
+    (or_left (q y y) (list_any (q y) ys) (own y), all_map (λ x. list_any (q x) ys ≡ true) (λ x. list_any (q x) (y ∷ ys) ≡ true) ys (λ x h. or_right (q x y) (list_any (q x) ys) h) (each_any q own ys))
 
 found_mapped : {X Y : Type 0} (P : X → Type 0) (p : Y → Bool) (f : X → Y) (xs : List X) (y : Y) → AllAre P xs → find p (map f xs) ≡ Some y → (x : X) × (f x ≡ y) × P x
 found_mapped P p f [] y all e = absurd (cc)

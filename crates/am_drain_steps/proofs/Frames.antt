@@ -2,7 +2,7 @@
 use Rattle.std.proofs.Common.{◌≡◌, ℕ, ◌<◌, Bool, true, false, cond, ◌||◌, List, [], ◌∷◌, ◌++◌, Option, Some, None, refl, sym, ap, ◌∙◌, arith, true≢false, eqb-true, ltb-true, if◌then◌else◌}
 use Rattle.std.specs.Prelude.{◌&&◌, not, nat_lt}
 use Rattle.std.specs.List.{list_any, find}
-use Rattle.std.proofs.lemmas.Bool.{and_from, and_parts}
+use Rattle.std.proofs.lemmas.Bool.{and_from, and_parts, or_parts, or_left, or_right}
 use Rattle.am_names.specs.declared.EndpointId.{EndpointId}
 use Rattle.am_names.specs.declared.NodeId.{NodeId}
 use Rattle.am_names.specs.declared.Cause.TheVariants.{NotResident}
@@ -106,41 +106,33 @@ changed_before frame e s (Events.PageIn node end) o t h away = absurd (true≢fa
 
 -- ---- homes
 
-or_parts : (P : Type 0) (a b : Bool) → (a || b) ≡ true → (a ≡ true → P) → (b ≡ true → P) → P
-or_parts P true b h first second = first refl
-or_parts P false b h first second = second h
+either : (P : Type 0) (a b : Bool) → (a || b) ≡ true → (a ≡ true → P) → (b ≡ true → P) → P
+either P true b h first second = first refl
+either P false b h first second = second h
 
 -- no other setting has this number
 no_other : (e : EndpointId) (node : NodeId) (x : EndSetting) (xs : List EndSetting) → same_end e x.id ≡ true → list_any (λ (s : EndSetting). same_end x.id s.id) xs ≡ false → list_any (is_home_by e node) xs ≡ true → ⊥
 no_other e node x [] own none h = true≢false (sym h)
 no_other e node x (y ∷ ys) own none h =
-    or_parts ⊥ (is_home_by e node y) (list_any (is_home_by e node) ys) h
+    either ⊥ (is_home_by e node y) (list_any (is_home_by e node) ys) h
     (λ (here : is_home_by e node y ≡ true).
     let both = and_parts (same_end e y.id) (same_node node y.node) here in
     let same : same_end x.id y.id ≡ true = ap (λ (i : EndpointId). same_end i y.id) (sym (same_end-is e x.id own)) ∙ both.0 in
-    true≢false (sym same ∙ first_false (same_end x.id y.id) (list_any (λ (s : EndSetting). same_end x.id s.id) ys) none))
-    (λ (later : list_any (is_home_by e node) ys ≡ true). no_other e node x ys own (rest_false (same_end x.id y.id) (list_any (λ (s : EndSetting). same_end x.id s.id) ys) none) later)
-  where
-    first_false : (a b : Bool) → (a || b) ≡ false → a ≡ false
-    first_false true b h = h
-    first_false false b h = refl
-
-    rest_false : (a b : Bool) → (a || b) ≡ false → b ≡ false
-    rest_false true b h = absurd (true≢false h)
-    rest_false false b h = h
+    true≢false (sym same ∙ (or_parts (same_end x.id y.id) (list_any (λ (s : EndSetting). same_end x.id s.id) ys) none).0))
+    (λ (later : list_any (is_home_by e node) ys ≡ true). no_other e node x ys own (or_parts (same_end x.id y.id) (list_any (λ (s : EndSetting). same_end x.id s.id) ys) none).1 later)
 
 -- an endpoint has one node
 one_home : (e : EndpointId) (n m : NodeId) (xs : List EndSetting) → AreApart (λ (s t : EndSetting). same_end s.id t.id) xs → list_any (is_home_by e n) xs ≡ true → list_any (is_home_by e m) xs ≡ true → n ≡ m
 one_home e n m [] apart h k = absurd (true≢false (sym h))
 one_home e n m (x ∷ xs) apart h k =
-    or_parts (n ≡ m) (is_home_by e n x) (list_any (is_home_by e n) xs) h
+    either (n ≡ m) (is_home_by e n x) (list_any (is_home_by e n) xs) h
     (λ (here : is_home_by e n x ≡ true).
     let one = and_parts (same_end e x.id) (same_node n x.node) here in
-    or_parts (n ≡ m) (is_home_by e m x) (list_any (is_home_by e m) xs) k
+    either (n ≡ m) (is_home_by e m x) (list_any (is_home_by e m) xs) k
     (λ (there : is_home_by e m x ≡ true). same_node-is n x.node one.1 ∙ sym (same_node-is m x.node (and_parts (same_end e x.id) (same_node m x.node) there).1))
     (λ (later : list_any (is_home_by e m) xs ≡ true). absurd (no_other e m x xs one.0 apart.0 later)))
     (λ (later : list_any (is_home_by e n) xs ≡ true).
-    or_parts (n ≡ m) (is_home_by e m x) (list_any (is_home_by e m) xs) k
+    either (n ≡ m) (is_home_by e m x) (list_any (is_home_by e m) xs) k
     (λ (there : is_home_by e m x ≡ true). absurd (no_other e n x xs (and_parts (same_end e x.id) (same_node m x.node) there).0 apart.0 later))
     (λ (last : list_any (is_home_by e m) xs ≡ true). one_home e n m xs apart.1 later last))
 
@@ -148,20 +140,12 @@ one_home e n m (x ∷ xs) apart h k =
 holds_it : (layout : Layout) (past : List Entry) (f : EndpointId) (node : NodeId) (frame : ℕ) (xs : List EndSetting) → list_any (is_home_by f node) xs ≡ true → is_in_frame frame (state_of layout past f).head.place ≡ true → list_any (holds_frame layout past node frame) xs ≡ true
 holds_it layout past f node frame [] h lies = absurd (true≢false (sym h))
 holds_it layout past f node frame (x ∷ xs) h lies =
-    or_parts (list_any (holds_frame layout past node frame) (x ∷ xs) ≡ true) (is_home_by f node x) (list_any (is_home_by f node) xs) h
+    either (list_any (holds_frame layout past node frame) (x ∷ xs) ≡ true) (is_home_by f node x) (list_any (is_home_by f node) xs) h
     (λ (here : is_home_by f node x ≡ true).
     let both = and_parts (same_end f x.id) (same_node node x.node) here in
     let at : is_in_frame frame (state_of layout past x.id).head.place ≡ true = ap (λ (i : EndpointId). is_in_frame frame (state_of layout past i).head.place) (sym (same_end-is f x.id both.0)) ∙ lies in
     or_left (holds_frame layout past node frame x) (list_any (holds_frame layout past node frame) xs) (and_from (same_node node x.node) (is_in_frame frame (state_of layout past x.id).head.place) both.1 at))
     (λ (later : list_any (is_home_by f node) xs ≡ true). or_right (holds_frame layout past node frame x) (list_any (holds_frame layout past node frame) xs) (holds_it layout past f node frame xs later lies))
-  where
-    or_left : (a b : Bool) → a ≡ true → (a || b) ≡ true
-    or_left true b i = refl
-    or_left false b i = absurd (true≢false (sym i))
-
-    or_right : (a b : Bool) → b ≡ true → (a || b) ≡ true
-    or_right true b i = refl
-    or_right false b i = i
 
 -- ---- apart in frames
 

@@ -46,6 +46,10 @@ ends_made node peer channel log ends new x below are made to k e lt got =
         let same_channel : channel ≡ k = ap (λ (c : Channel). c.number) same in
         both.0 (omega (arith, same_peer, same_channel)))
 
+bit_at_most : (b : Bool) → bit b ≤ 1
+bit_at_most true = omega arith
+bit_at_most false = omega arith
+
 -- one packet more to its peer, if it emits one
 emissions_made : (node peer : NodeId) (channel : ℕ) (log : List Entry) (counts : List ℕ) (n : ℕ) (new : Ends) (x : Entry) → AreEmissionsOf node log counts → IsMade (channel_to node peer channel) log new x → slice_get counts peer.0 ≡ Some n → AreEmissionsOf node (log ++ x ∷ []) (slice_set counts peer.0 (n + bit (is_some (emitted_of x))))
 emissions_made node peer channel log counts n new x are made was to k got =
@@ -65,10 +69,6 @@ emissions_made node peer channel log counts n new x are made was to k got =
     no_more : (m : ℕ) → m + bit false ≡ m
     no_more m = omega arith
 
-    at_most : (b : Bool) → bit b ≤ 1
-    at_most true = omega arith
-    at_most false = omega arith
-
     at_peer : (n + bit (is_some (emitted_of x)) ≡ length (emitted node peer (log ++ x ∷ []))) × (n + bit (is_some (emitted_of x)) ≤ length (log ++ x ∷ []))
     at_peer =
         let old = are peer.0 n was in
@@ -76,7 +76,7 @@ emissions_made node peer channel log counts n new x are made was to k got =
           ap (λ (m : ℕ). m + bit (is_some (emitted_of x))) old.0
               ∙ ap (λ (m : ℕ). length (emitted node peer log) + m) (sym (and_true (is_some (emitted_of x)) (same_node peer peer) same))
               ∙ sym (more peer),
-          omega (arith, old.1, at_most (is_some (emitted_of x)), length_push log x),
+          omega (arith, old.1, bit_at_most (is_some (emitted_of x)), length_push log x),
         )
 
     here : (to ≡ peer.0) × (k ≡ n + bit (is_some (emitted_of x))) → (k ≡ length (emitted node (node_at to) (log ++ x ∷ []))) × (k ≤ length (log ++ x ∷ []))
@@ -113,10 +113,6 @@ entered set ends counts log peer channel n new x is to on room made at =
       bounded = omega (arith, length_push log x);
       lawful = is.lawful;
     }
-
-bit_at_most : (b : Bool) → bit b ≤ 1
-bit_at_most true = omega arith
-bit_at_most false = omega arith
 
 -- what is read is what is read by any default, where something is
 pub read_same : (xs : List ℕ) (k d : ℕ) → get_or xs k d ≡ get_or xs k (get_or xs k d)

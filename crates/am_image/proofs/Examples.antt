@@ -2,7 +2,8 @@
 use Rattle.std.proofs.Common.{◌≡◌, ◌+◌, Bool, true, false, ◌&&◌, cond, refl, arith}
 use Rattle.std.specs.Prelude.{None}
 use Rattle.am_names.specs.Names.{same_serial}
-use Rattle.am_image.specs.Examples.{zero_end, fresh_body, asking_body, request}
+use Rattle.am_model.specs.ThinPath.{zero_end}
+use Rattle.am_image.specs.Examples.{fresh_body, asking_body, request}
 use Rattle.am_image.specs.Valid.{IsValid}
 
 pub fresh_is_valid : IsValid zero_end None fresh_body

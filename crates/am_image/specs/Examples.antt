@@ -1,6 +1,5 @@
 -- A fresh body, and one with an index and a request.
 use Rattle.std.specs.Prelude.{ℕ, None, List, [], ◌∷◌, replicate}
-use Rattle.am_names.specs.declared.EndpointId.{EndpointId}
 use Rattle.am_names.specs.declared.MsgKind.TheVariants as Kind
 use Rattle.am_names.specs.declared.Message.{Message}
 use Rattle.am_office.specs.declared.Place.TheVariants.{Host}
@@ -11,10 +10,7 @@ use Rattle.am_office.specs.declared.Outcome.TheVariants as Out
 use Rattle.am_office.specs.declared.Entry.{Entry}
 use Rattle.am_model.specs.Endpoint.{Body, fresh}
 use Rattle.am_model.specs.Changes.{replay}
-use Rattle.am_model.specs.Layout.{end_at}
-
-abbrev pub zero_end : EndpointId
-zero_end = end_at 0
+use Rattle.am_model.specs.ThinPath.{zero_end}
 
 -- the body of a fresh endpoint with tag 7
 abbrev pub fresh_body : Body

@@ -1,10 +1,11 @@
 //! The bytes of an endpoint's body on disk, and which bodies an endpoint may have there.
 #![tactic(auto)]
 
-ghost use Rattle.am_image.specs.Examples.{asking_body, asking_image, fresh_body, fresh_image, zero_end};
+ghost use Rattle.am_image.specs.Examples.{asking_body, asking_image, fresh_body, fresh_image};
 ghost use Rattle.am_image.specs.Image.{image};
 ghost use Rattle.am_image.specs.Laws.{EachBodyHasItsImage, ImagesAreRead, ImagesAreShort, ReadingIsOfImages, SizesAdd};
 ghost use Rattle.am_image.specs.Valid.{IsValid};
+ghost use Rattle.am_model.specs.ThinPath.{zero_end};
 ghost use Rattle.std.specs.Prelude.{◌≡◌, length, None};
 
 /// The image of a fresh body with tag 7 has 62 bytes.

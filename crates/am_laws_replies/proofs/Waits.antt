@@ -1,7 +1,7 @@
 -- An outstanding request has a waiting record.
 use Rattle.std.specs.Prelude.{not}
 use Rattle.std.proofs.Common.{◌≡◌, ℕ, Bool, true, false, cond, ◌&&◌, ◌||◌, List, [], ◌∷◌, ◌++◌, Option, Some, None, refl, sym, ap, ◌∙◌, subst, true≢false, if◌then◌else◌}
-use Rattle.std.proofs.lemmas.Bool.{and_parts, or_right}
+use Rattle.std.proofs.lemmas.Bool.{and_parts, or_parts, or_right}
 use Rattle.std.proofs.lemmas.List.Folds.{list_any-append}
 use Rattle.std.specs.List.{list_any, find}
 use Rattle.am_lemmas.proofs.Bools.{or_first_fails}
@@ -41,10 +41,6 @@ use Rattle.am_laws_replies.proofs.Gave.{gave_any}
 
 abbrev pub waits : Serial → List Awaited → Bool
 waits s awaited = list_any (waits_for s) awaited
-
-no_right : (a b : Bool) → (a || b) ≡ false → b ≡ false
-no_right true b h = absurd (true≢false h)
-no_right false b h = h
 
 -- what goes is not what is looked for
 any_without : (p q : Awaited → Bool) (xs : List Awaited) → ((a : Awaited) → q a ≡ true → p a ≡ false) → list_any p xs ≡ true → list_any p (without_first q xs) ≡ true
@@ -253,7 +249,7 @@ records_more layout past x k may = record { puts = put_more layout past x k.puts
         before = or_first_fails (list_any (ends_wait s) past) (ends_wait s x || false) ended
 
         now : ends_wait s x ≡ false
-        now = or_first_fails (ends_wait s x) false (no_right (list_any (ends_wait s) past) (ends_wait s x || false) ended)
+        now = or_first_fails (ends_wait s x) false (or_parts (list_any (ends_wait s) past) (ends_wait s x || false) ended).1
 
         runs : (m : Message) → run_of x ≡ Some m → is_about s m ≡ false
         runs m is = by_about (is_about s m) refl

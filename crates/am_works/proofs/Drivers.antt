@@ -5,7 +5,7 @@ use Rattle.std.proofs.Common.{◌≡◌, ◌≢◌, ◌⊎◌, ⊎_elim, ℕ, su
 use Rattle.std.proofs.lemmas.List.{length_push}
 use Rattle.std.proofs.lemmas.List.Sums.{count_by-le-length}
 use mathlib.Core.Bool.{or-false}
-use Rattle.std.proofs.lemmas.Bool.{and_from, not-true}
+use Rattle.std.proofs.lemmas.Bool.{and_from, not-true, or_right}
 use Rattle.am_lemmas.proofs.Bools.{and_first, and_second}
 use Rattle.am_lemmas.proofs.Options.{some_is}
 use Rattle.am_names.specs.declared.EndpointId.{EndpointId}
@@ -303,10 +303,6 @@ declared_there node (t ∷ ts) e h = by_test (same_node node t.node) h (declared
   where
     ids_of : List EndSetting → List EndpointId
     ids_of xs = map (λ (u : EndSetting). u.id) xs
-
-    or_right : (a b : Bool) → b ≡ true → (a || b) ≡ true
-    or_right true b g = refl
-    or_right false b g = g
 
     or_cases : (a b c : Bool) → (a || b) ≡ true → (b ≡ true → c ≡ true) → (a || c) ≡ true
     or_cases true b c g more = refl
