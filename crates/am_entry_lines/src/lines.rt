@@ -50,6 +50,7 @@ fn put_message(out: &mut Vec<u8>, text: &'static str, serial: Serial) -> Result<
 }
 
 #[tactic(auto, unfolding(crate::specs::Lines::actor))]
+#[inline(always)]
 fn put_actor(out: &mut Vec<u8>, actor: Actor) -> Result<(), AllocError>
     ensures ok { OnOk result (out.new.items ≡ out.old.items ++ text.actor actor) }
     ensures kept { Extends out.old.items out.new.items }
@@ -61,11 +62,11 @@ fn put_actor(out: &mut Vec<u8>, actor: Actor) -> Result<(), AllocError>
 }
 
 #[tactic(auto, unfolding(crate::specs::Lines::who, crate::specs::Lines::interface, crate::specs::Lines::driver))]
-fn put_who(out: &mut Vec<u8>, event: Event) -> Result<(), AllocError>
-    ensures ok { OnOk result (out.new.items ≡ out.old.items ++ text.who event) }
+fn put_who(out: &mut Vec<u8>, event: &Event) -> Result<(), AllocError>
+    ensures ok { OnOk result (out.new.items ≡ out.old.items ++ text.who event.now) }
     ensures kept { Extends out.old.items out.new.items }
 {
-    match event {
+    match *event {
         Event::Call { actor, .. } => put_actor(out, actor),
         Event::Want { actor, .. } => put_actor(out, actor),
         Event::Carry { .. } => put_word(out, Text("x")),
@@ -136,12 +137,12 @@ fn put_request(
 }
 
 #[tactic(auto, using(am_text::proofs::Extended::extension), unfolding(crate::specs::Lines::call))]
-fn put_call(out: &mut Vec<u8>, end: EndpointId, call: Call) -> Result<(), AllocError>
-    ensures ok { OnOk result (out.new.items ≡ out.old.items ++ spaced (text.call end call)) }
+fn put_call(out: &mut Vec<u8>, end: EndpointId, call: &Call) -> Result<(), AllocError>
+    ensures ok { OnOk result (out.new.items ≡ out.old.items ++ spaced (text.call end call.now)) }
     ensures kept { Extends out.old.items out.new.items }
 {
     let own = small(end.0);
-    match call {
+    match *call {
         Call::Request {
             index,
             handler,
@@ -173,20 +174,20 @@ fn put_call(out: &mut Vec<u8>, end: EndpointId, call: Call) -> Result<(), AllocE
 }
 
 #[tactic(auto, unfolding(crate::specs::Lines::what, am_text::specs::Words::spaced))]
-fn put_what(out: &mut Vec<u8>, event: Event) -> Result<(), AllocError>
-    ensures ok { OnOk result (out.new.items ≡ out.old.items ++ spaced (text.what event)) }
+fn put_what(out: &mut Vec<u8>, event: &Event) -> Result<(), AllocError>
+    ensures ok { OnOk result (out.new.items ≡ out.old.items ++ spaced (text.what event.now)) }
     ensures kept { Extends out.old.items out.new.items }
 {
     match event {
-        Event::Call { end, call, .. } => put_call(out, end, call),
+        Event::Call { end, call, .. } => put_call(out, *end, call),
         Event::Want { end, .. } => put_counted(out, " want", u32::from(end.0)),
         Event::Carry { end } => put_counted(out, " carry", u32::from(end.0)),
         Event::Bind { end, .. } => put_counted(out, " bind", u32::from(end.0)),
-        Event::Expire { peer, channel, .. } => put_two(out, " expire", peer.0, u32::from(channel)),
-        Event::Receive { peer, number, .. } => put_two(out, " receive", peer.0, number),
+        Event::Expire { peer, channel, .. } => put_two(out, " expire", peer.0, u32::from(*channel)),
+        Event::Receive { peer, number, .. } => put_two(out, " receive", peer.0, *number),
         Event::Drain { end, .. } => put_counted(out, " drain", u32::from(end.0)),
         Event::Unload { end, .. } => put_counted(out, " unload", u32::from(end.0)),
-        Event::Load { end, frame, .. } => put_two(out, " load", end.0, u32::from(frame)),
+        Event::Load { end, frame, .. } => put_two(out, " load", end.0, u32::from(*frame)),
         Event::PageOut { end, .. } => put_counted(out, " pageout", u32::from(end.0)),
         Event::PageIn { end, .. } => put_counted(out, " pagein", u32::from(end.0)),
     }
@@ -277,11 +278,11 @@ fn put_taken(
 // The arrow and what came of the receipt of a packet.
 #[tactic(auto, unfolding(crate::specs::Lines::received, am_text::specs::Words::spaced))]
 #[inline(never)]
-fn put_received(out: &mut Vec<u8>, received: Received) -> Result<(), AllocError>
-    ensures ok { OnOk result (out.new.items ≡ out.old.items ++ spaced (text.after_arrow (text.received received))) }
+fn put_received(out: &mut Vec<u8>, received: &Received) -> Result<(), AllocError>
+    ensures ok { OnOk result (out.new.items ≡ out.old.items ++ spaced (text.after_arrow (text.received received.now))) }
     ensures kept { Extends out.old.items out.new.items }
 {
-    match received {
+    match *received {
         Received::Accepted { message, answer } => {
             put_taken(out, " -> accepted", message.serial, answer)
         }
@@ -316,8 +317,8 @@ fn put_received(out: &mut Vec<u8>, received: Received) -> Result<(), AllocError>
 }
 
 #[tactic(auto, unfolding(crate::specs::Lines::sends, am_text::specs::Words::spaced))]
-fn put_sends(out: &mut Vec<u8>, sends: Option<Message>) -> Result<(), AllocError>
-    ensures ok { OnOk result (out.new.items ≡ out.old.items ++ spaced (text.sends sends)) }
+fn put_sends(out: &mut Vec<u8>, sends: &Option<Message>) -> Result<(), AllocError>
+    ensures ok { OnOk result (out.new.items ≡ out.old.items ++ spaced (text.sends sends.now)) }
     ensures kept { Extends out.old.items out.new.items }
 {
     match sends {
@@ -327,13 +328,13 @@ fn put_sends(out: &mut Vec<u8>, sends: Option<Message>) -> Result<(), AllocError
 }
 
 // The handler that ran, or a dash.
-#[tactic(auto, unfolding(crate::specs::Lines::handler))]
+#[tactic(auto, unfolding(crate::specs::Lines::handler, am_text::specs::Words::spaced))]
 fn put_handler(out: &mut Vec<u8>, handler: Option<u8>) -> Result<(), AllocError>
     ensures ok { OnOk result (out.new.items ≡ out.old.items ++ spaced (text.handler handler ∷ [])) }
     ensures kept { Extends out.old.items out.new.items }
 {
     match handler {
-        None => put_spaced(out, &[Text("-")]),
+        None => put_word(out, Text(" -")),
         Some(handler) => put_spaced(out, &[small(handler)]),
     }
 }
@@ -371,8 +372,8 @@ fn put_sent(
 
 // The arrow and what came of an event, if it has an outcome.
 #[tactic(auto, using(am_text::proofs::Extended::extension), unfolding(crate::specs::Lines::outcome, am_text::specs::Words::spaced))]
-fn put_outcome(out: &mut Vec<u8>, outcome: Outcome) -> Result<(), AllocError>
-    ensures ok { OnOk result (out.new.items ≡ out.old.items ++ spaced (text.after_arrow (text.outcome outcome))) }
+fn put_outcome(out: &mut Vec<u8>, outcome: &Outcome) -> Result<(), AllocError>
+    ensures ok { OnOk result (out.new.items ≡ out.old.items ++ spaced (text.after_arrow (text.outcome outcome.now))) }
     ensures kept { Extends out.old.items out.new.items }
 {
     match outcome {
@@ -381,15 +382,15 @@ fn put_outcome(out: &mut Vec<u8>, outcome: Outcome) -> Result<(), AllocError>
         Outcome::Requested(message) => put_message(out, " -> ok", message.serial),
         Outcome::Refused(refusal) => {
             put_word(out, Text(" -> refused"))?;
-            put_refusal(out, refusal)
+            put_refusal(out, *refusal)
         }
-        Outcome::Zero { serial, why } => put_message_with(out, " -> zero", serial, why_word(why)),
+        Outcome::Zero { serial, why } => put_message_with(out, " -> zero", *serial, why_word(*why)),
         Outcome::Ran {
             message,
             handler,
             sends,
         } => {
-            put_ran(out, message.serial, handler)?;
+            put_ran(out, message.serial, *handler)?;
             put_sends(out, sends)
         }
         Outcome::Blocked => put_word(out, Text(" -> blocked")),
@@ -399,10 +400,10 @@ fn put_outcome(out: &mut Vec<u8>, outcome: Outcome) -> Result<(), AllocError>
         Outcome::Failed => put_word(out, Text(" -> failed")),
         Outcome::Accepted(message) => put_message(out, " -> accepted", message.serial),
         Outcome::Requeued { message, cause, .. } => {
-            put_message_with(out, " -> requeued", message.serial, cause_word(cause))
+            put_message_with(out, " -> requeued", message.serial, cause_word(*cause))
         }
         Outcome::Returned { message, cause } => {
-            put_message_with(out, " -> returned", message.serial, cause_word(cause))
+            put_message_with(out, " -> returned", message.serial, cause_word(*cause))
         }
         Outcome::Sent {
             message,
@@ -411,9 +412,19 @@ fn put_outcome(out: &mut Vec<u8>, outcome: Outcome) -> Result<(), AllocError>
             seq,
             attempt,
             number,
-        } => { put_sent(out, message.serial, peer, channel, seq, attempt, number) }
-        Outcome::Delivered(serial) => put_message(out, " -> delivered", serial),
-        Outcome::Unknown(serial) => put_message(out, " -> unknown", serial),
+        } => {
+            put_sent(
+                out,
+                message.serial,
+                *peer,
+                *channel,
+                *seq,
+                *attempt,
+                *number,
+            )
+        }
+        Outcome::Delivered(serial) => put_message(out, " -> delivered", *serial),
+        Outcome::Unknown(serial) => put_message(out, " -> unknown", *serial),
         Outcome::Received {
             result: received,
             ..
@@ -427,9 +438,9 @@ fn put_entry(out: &mut Vec<u8>, entry: &Entry) -> Result<(), AllocError>
     ensures ok { OnOk result (out.new.items ≡ out.old.items ++ text.line_of entry.now) }
     ensures kept { Extends out.old.items out.new.items }
 {
-    put_who(out, entry.event)?;
-    put_what(out, entry.event)?;
-    put_outcome(out, entry.outcome)?;
+    put_who(out, &entry.event)?;
+    put_what(out, &entry.event)?;
+    put_outcome(out, &entry.outcome)?;
     put_end(out)
 }
 

@@ -67,6 +67,16 @@ fn digit(number: u64) -> u8
     b'0' + number as u8
 }
 
+// Appends a byte and a number of any size.
+#[inline(never)]
+fn put_long_after(out: &mut Vec<u8>, lead: u8, number: u64) -> Result<(), AllocError>
+    ensures ok { OnOk result (out.new.items ≡ out.old.items ++ lead ∷ decimal number) }
+    ensures kept { Extends out.old.items out.new.items }
+{
+    let mut buffer = Buffer::new();
+    put_text_after(out, lead, buffer.format(number))
+}
+
 // Appends a byte and a number of two to four digits.
 #[tactic(auto, using(crate::proofs::Digits::few_digits))]
 #[inline(always)]
@@ -87,27 +97,18 @@ fn put_few_digits_after(out: &mut Vec<u8>, lead: u8, number: u64) -> Result<(), 
     put_bytes(out, &[lead, first, second, third, last])
 }
 
-// Appends a byte and a number of any size.
-#[inline(never)]
-fn put_long_after(out: &mut Vec<u8>, lead: u8, number: u64) -> Result<(), AllocError>
-    ensures ok { OnOk result (out.new.items ≡ out.old.items ++ lead ∷ decimal number) }
-    ensures kept { Extends out.old.items out.new.items }
-{
-    let mut buffer = Buffer::new();
-    put_text_after(out, lead, buffer.format(number))
-}
-
-// Appends a byte and a number of two or more digits.
+// Appends a byte and a number of two or more digits. Where there is no room for five bytes yet, the number is taken as a
+// long one: so what is done often calls nothing.
 #[inline(never)]
 fn put_digits_after(out: &mut Vec<u8>, lead: u8, number: u64) -> Result<(), AllocError>
     requires { 10 ≤ number }
     ensures ok { OnOk result (out.new.items ≡ out.old.items ++ lead ∷ decimal number) }
     ensures kept { Extends out.old.items out.new.items }
 {
-    if number < 10_000 {
-        return put_few_digits_after(out, lead, number);
+    if number >= 10_000 || out.capacity() - out.len() < 5 {
+        return put_long_after(out, lead, number);
     }
-    put_long_after(out, lead, number)
+    put_few_digits_after(out, lead, number)
 }
 
 // Appends a byte and a number.
