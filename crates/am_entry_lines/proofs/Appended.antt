@@ -1,8 +1,7 @@
 -- Words after a text that was appended.
-use Rattle.std.proofs.Common.{◌≡◌, ℕ, List, [], ◌∷◌, ◌++◌, append_assoc, sym, ◌∙◌, ap, Result, Ok, Err, OnOk, codes, ◌<◌, ◌+◌, length, take, map, get_or}
-use Rattle.std.proofs.lemmas.List.{append-nil}
+use Rattle.std.proofs.Common.{◌≡◌, ℕ, List, [], ◌∷◌, ◌++◌, append_assoc, ◌∙◌, ap, Result, Ok, Err, OnOk, codes}
 use Rattle.am_text.specs.Words.{Word, spaced}
-use Rattle.am_text.proofs.Extended.{appended_words, next_word}
+use Rattle.am_text.proofs.Extended.{appended_words}
 
 -- a text and what follows it are one
 pub whole_text : {T E : Type 0} (result : Result T E) (old new text more : List ℕ) → OnOk result (new ≡ (old ++ text) ++ more) → OnOk result (new ≡ old ++ (text ++ more))
@@ -24,12 +23,3 @@ pub ran_words : {T E : Type 0} (result : Result T E) (old mid new : List ℕ) (s
 unfolding spaced
 ran_words result old mid new s h first second =
     whole_text result old new (codes " -> ran") (spaced (s ∷ h ∷ [])) (appended_words result (old ++ codes " -> ran") mid new (s ∷ []) (h ∷ []) first second)
-
-spaced_one : (w : Word) → spaced (w ∷ []) ≡ codes " " ++ w
-unfolding spaced
-spaced_one w = append-nil (codes " " ++ w)
-
--- the words of the items so far, and of one item more
-pub next_one : {X : Type 0} (f : X → Word) (xs : List X) (i : ℕ) (d : X) (out mid new : List ℕ) → i < length xs → mid ≡ out ++ spaced (map f (take i xs)) → new ≡ mid ++ spaced (f (get_or xs i d) ∷ []) → new ≡ out ++ spaced (map f (take (i + 1) xs))
-next_one f xs i d out mid new below e1 e2 =
-    next_word f xs i d out mid new below e1 (e2 ∙ ap (λ (l : List ℕ). mid ++ l) (spaced_one (f (get_or xs i d))) ∙ sym (append_assoc mid (codes " ") (f (get_or xs i d))))

@@ -1,6 +1,6 @@
 //! The line of an entry in a printed journal.
 
-ghost use Rattle.std.specs.Prelude.{◌≡◌, ◌++◌, ◌∷◌, [], OnOk, OnErr, codes, map};
+ghost use Rattle.std.specs.Prelude.{◌≡◌, ◌++◌, ◌∷◌, [], OnOk, OnErr, codes};
 ghost use Rattle.std.specs.Fmt.{decimal};
 ghost use Rattle.am_text.specs.Words as words;
 ghost use Rattle.am_entry_lines.specs.Lines as text;
@@ -11,8 +11,8 @@ use am_names::{EndpointId, Message, NoMemory, NodeId, Serial, Words};
 use am_office::{Actor, Call, Entry, Event, HandlerKind, Mask, Outcome, Received, Refusal};
 use am_text::Piece::{Number, Tag, Text};
 use am_text::{
-    Piece, cause_word, count, put_end, put_numbered, put_spaced, put_word, small, verdict_word,
-    why_word,
+    Piece, cause_word, count, put_end, put_numbered, put_numbers, put_spaced, put_word, small,
+    verdict_word, why_word,
 };
 use std::alloc::AllocError;
 
@@ -101,18 +101,6 @@ fn mask_word(mask: Mask) -> &'static str
         Mask::NoEvents => "noevents",
         Mask::NotEmpty => "notempty",
     }
-}
-
-// Appends numbers, each after a space.
-#[inline(always)]
-fn put_numbers(out: &mut Vec<u8>, numbers: &[u64]) -> Result<(), AllocError>
-    ensures ok { OnOk result (out.new.items ≡ out.old.items ++ spaced (map decimal numbers.now)) }
-    ensures kept { Extends out.old.items out.new.items }
-{
-    for number in numbers {
-        put_spaced(out, &[Number(*number)])?;
-    }
-    Ok(())
 }
 
 // What a request says of itself.

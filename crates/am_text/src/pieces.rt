@@ -242,6 +242,19 @@ pub fn put_spaced(out: &mut Vec<u8>, words: &[Piece]) -> Result<(), AllocError>
     Ok(())
 }
 
+/// Appends each of the numbers after a space. What was there stays, also after an error.
+#[tactic(auto, using(crate::proofs::Extended::extension))]
+#[inline(always)]
+pub fn put_numbers(out: &mut Vec<u8>, numbers: &[u64]) -> Result<(), AllocError>
+    ensures ok { OnOk result (out.new.items ≡ out.old.items ++ text.spaced (map decimal numbers.now)) }
+    ensures kept { Extends out.old.items out.new.items }
+{
+    for number in numbers {
+        put_spaced_word(out, Piece::Number(*number))?;
+    }
+    Ok(())
+}
+
 /// Appends the end of a line.
 #[inline(always)]
 pub fn put_end(out: &mut Vec<u8>) -> Result<(), AllocError>
