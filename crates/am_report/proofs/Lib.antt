@@ -7,3 +7,4 @@ pub mod Tabled
 pub mod Telling
 pub mod Summed
 pub mod Totalled
+pub mod Printed

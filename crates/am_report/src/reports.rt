@@ -1,8 +1,11 @@
 //! The report of a journal.
 
-ghost use Rattle.std.specs.Prelude.{◌≡◌, List, ◌++◌, OnOk, IfOk};
+ghost use Rattle.std.specs.Prelude.{◌≡◌, List, [], ◌∷◌, ◌++◌, OnOk, IfOk, codes};
+ghost use Rattle.std.specs.Fmt.{decimal};
 ghost use Rattle.std.specs.List.{flat_map};
 ghost use Rattle.am_office.specs.declared.Entry.{Entry};
+ghost use Rattle.am_text.specs.Words as printed;
+ghost use Rattle.am_text.specs.Words.{line, spaced};
 ghost use Rattle.am_entry_lines.specs.Lines.{line_of};
 ghost use Rattle.am_report.specs.Report as text;
 ghost use Rattle.am_report.specs.Tables.{AreRuns};
@@ -11,10 +14,13 @@ use crate::messages::{MessageFate, told};
 use crate::runs::{Run, RunTable};
 use crate::totals::totals_of;
 use am_entry_lines::entry_line;
-use am_names::EndpointId;
+use am_names::{EndpointId, Serial, Words};
 use am_office::{Entry, Fate, Journal, NoMemory};
 use am_text::Piece::{Number, Text};
-use am_text::{Piece, cause_word, kind_word, put_line, small, why_word};
+use am_text::{
+    Piece, cause_word, kind_word, put_end, put_line, put_numbers, put_spaced, put_word, small,
+    why_word,
+};
 use std::alloc::{AllocError, Global};
 
 fn put_entries(out: &mut Vec<u8>, entries: &[Entry]) -> Result<(), AllocError>
@@ -44,25 +50,34 @@ fn put_journal(out: &mut Vec<u8>, entries: &[Entry]) -> Result<(), AllocError>
     put_entries(out, entries)
 }
 
-#[tactic(auto, unfolding(crate::specs::Report::run_line))]
-fn put_run(out: &mut Vec<u8>, run: Run) -> Result<(), AllocError>
-    ensures { OnOk result (out.new.items ≡ out.old.items ++ text.run_line run) }
+// The line of a run of a handler.
+fn put_handled(
+    out: &mut Vec<u8>,
+    serial: Serial,
+    handler: u8,
+    words: Words,
+) -> Result<(), AllocError>
+    ensures { OnOk result (out.new.items ≡ out.old.items ++ line (codes "run") (printed.serial serial ∷ decimal handler ∷ decimal words.a ∷ decimal words.b ∷ decimal words.c ∷ decimal words.d ∷ [])) }
 {
-    match run {
+    put_word(out, Text("run"))?;
+    put_spaced(out, &[Piece::Serial(serial)])?;
+    put_numbers(
+        out,
+        &[u64::from(handler), words.a, words.b, words.c, words.d],
+    )?;
+    put_end(out)
+}
+
+#[tactic(auto, unfolding(crate::specs::Report::run_line))]
+fn put_run(out: &mut Vec<u8>, run: &Run) -> Result<(), AllocError>
+    ensures { OnOk result (out.new.items ≡ out.old.items ++ text.run_line run.now) }
+{
+    match *run {
         Run::Handled {
             serial,
             handler,
             words,
-        } => {
-            let (serial, handler) = (Piece::Serial(serial), small(handler));
-            let (a, b, c, d) = (
-                Number(words.a),
-                Number(words.b),
-                Number(words.c),
-                Number(words.d),
-            );
-            put_line(out, "run", &[serial, handler, a, b, c, d])
-        }
+        } => put_handled(out, serial, handler, words),
         Run::Zero { serial, why } => {
             put_line(out, "zero", &[Piece::Serial(serial), Text(why_word(why))])
         }
@@ -73,7 +88,7 @@ fn put_runs(out: &mut Vec<u8>, runs: &[Run]) -> Result<(), AllocError>
     ensures { OnOk result (out.new.items ≡ out.old.items ++ flat_map text.run_line runs.now) }
 {
     for run in runs {
-        put_run(out, *run)?;
+        put_run(out, run)?;
     }
     Ok(())
 }
@@ -97,31 +112,34 @@ fn put_ends(out: &mut Vec<u8>, table: &RunTable, ends: &[EndpointId]) -> Result<
     Ok(())
 }
 
-#[tactic(auto, unfolding(crate::specs::Report::fate_line, crate::specs::Report::fate))]
-fn put_message(out: &mut Vec<u8>, message: MessageFate) -> Result<(), AllocError>
-    ensures { OnOk result (out.new.items ≡ out.old.items ++ text.fate_line message) }
+#[tactic(auto, unfolding(crate::specs::Report::fate, am_text::specs::Words::spaced))]
+fn put_fate(out: &mut Vec<u8>, fate: Fate) -> Result<(), AllocError>
+    ensures { OnOk result (out.new.items ≡ out.old.items ++ spaced (text.fate fate)) }
 {
-    let (serial, kind) = (Piece::Serial(message.serial), Text(kind_word(message.kind)));
-    match message.fate {
-        Fate::Ran => put_line(out, "fate", &[serial, kind, Text("ran")]),
-        Fate::Returned(cause) => {
-            put_line(
-                out,
-                "fate",
-                &[serial, kind, Text("returned"), Text(cause_word(cause))],
-            )
-        }
-        Fate::Unknown => put_line(out, "fate", &[serial, kind, Text("unknown")]),
-        Fate::UnknownButRan => put_line(out, "fate", &[serial, kind, Text("unknown-but-ran")]),
-        Fate::Pending => put_line(out, "fate", &[serial, kind, Text("pending")]),
+    match fate {
+        Fate::Ran => put_word(out, Text(" ran")),
+        Fate::Returned(cause) => put_spaced(out, &[Text("returned"), Text(cause_word(cause))]),
+        Fate::Unknown => put_word(out, Text(" unknown")),
+        Fate::UnknownButRan => put_word(out, Text(" unknown-but-ran")),
+        Fate::Pending => put_word(out, Text(" pending")),
     }
+}
+
+fn put_message(out: &mut Vec<u8>, message: &MessageFate) -> Result<(), AllocError>
+    ensures { OnOk result (out.new.items ≡ out.old.items ++ text.fate_line message.now) }
+{
+    put_word(out, Text("fate"))?;
+    let kind = Text(kind_word(message.kind));
+    put_spaced(out, &[Piece::Serial(message.serial), kind])?;
+    put_fate(out, message.fate)?;
+    put_end(out)
 }
 
 fn put_fates(out: &mut Vec<u8>, messages: &[MessageFate]) -> Result<(), AllocError>
     ensures { OnOk result (out.new.items ≡ out.old.items ++ flat_map text.fate_line messages.now) }
 {
     for message in messages {
-        put_message(out, *message)?;
+        put_message(out, message)?;
     }
     Ok(())
 }

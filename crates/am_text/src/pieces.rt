@@ -4,7 +4,7 @@
 //! no list, no loop over it and no copy of unknown length is left, and a text is a store or two. A number of two or more
 //! digits is a call.
 
-ghost use Rattle.std.specs.Prelude.{◌≡◌, ◌<◌, ◌∷◌, ◌++◌, OnOk, codes, map};
+ghost use Rattle.std.specs.Prelude.{◌≡◌, ◌<◌, ◌≤◌, ◌+◌, ◌∷◌, ◌++◌, OnOk, codes, map};
 ghost use Rattle.std.specs.Fmt.{decimal};
 ghost use Rattle.am_text.specs.declared.pieces.Piece.TheVariants as Pieces;
 ghost use Rattle.am_text.specs.Words as text;
@@ -58,22 +58,18 @@ fn put_text_after(out: &mut Vec<u8>, lead: u8, text: &str) -> Result<(), AllocEr
     out.extend_from_slice(text.as_bytes())
 }
 
-// Appends a byte and a number of one digit.
-#[tactic(auto, using(crate::proofs::Extended::extension, std::proofs::lemmas::Fmt::decimal_digit))]
+// The digit of a number below 10.
 #[inline(always)]
-fn put_digit_after(out: &mut Vec<u8>, lead: u8, number: u64) -> Result<(), AllocError>
+fn digit(number: u64) -> u8
     requires { number < 10 }
-    ensures ok { OnOk result (out.new.items ≡ out.old.items ++ lead ∷ decimal number) }
-    ensures kept { Extends out.old.items out.new.items }
+    ensures { result ≡ 48 + number }
 {
-    out.reserve(2)?;
-    out.push_reserved(lead);
-    out.push_reserved(b'0' + number as u8);
-    Ok(())
+    b'0' + number as u8
 }
 
-// Appends a byte and a number, however many digits it has.
-fn put_digits_after(out: &mut Vec<u8>, lead: u8, number: u64) -> Result<(), AllocError>
+// Appends a byte and a number of any size.
+#[inline(never)]
+fn put_long_after(out: &mut Vec<u8>, lead: u8, number: u64) -> Result<(), AllocError>
     ensures ok { OnOk result (out.new.items ≡ out.old.items ++ lead ∷ decimal number) }
     ensures kept { Extends out.old.items out.new.items }
 {
@@ -81,14 +77,49 @@ fn put_digits_after(out: &mut Vec<u8>, lead: u8, number: u64) -> Result<(), Allo
     put_text_after(out, lead, buffer.format(number))
 }
 
+// Appends a byte and a number of two to four digits.
+#[tactic(auto, using(crate::proofs::Digits::few_digits))]
+#[inline(always)]
+fn put_few_digits_after(out: &mut Vec<u8>, lead: u8, number: u64) -> Result<(), AllocError>
+    requires { (10 ≤ number) × (number < 10000) }
+    ensures ok { OnOk result (out.new.items ≡ out.old.items ++ lead ∷ decimal number) }
+    ensures kept { Extends out.old.items out.new.items }
+{
+    let (tens, last) = (number / 10, digit(number % 10));
+    if tens < 10 {
+        return put_bytes(out, &[lead, digit(tens), last]);
+    }
+    let (hundreds, third) = (tens / 10, digit(tens % 10));
+    if hundreds < 10 {
+        return put_bytes(out, &[lead, digit(hundreds), third, last]);
+    }
+    let (first, second) = (digit(hundreds / 10), digit(hundreds % 10));
+    put_bytes(out, &[lead, first, second, third, last])
+}
+
+// Appends a byte and a number of two or more digits. Where there is no room for five bytes yet, the number is taken as a
+// long one: so what is done often calls nothing.
+#[inline(never)]
+fn put_digits_after(out: &mut Vec<u8>, lead: u8, number: u64) -> Result<(), AllocError>
+    requires { 10 ≤ number }
+    ensures ok { OnOk result (out.new.items ≡ out.old.items ++ lead ∷ decimal number) }
+    ensures kept { Extends out.old.items out.new.items }
+{
+    if number >= 10_000 || out.capacity() - out.len() < 5 {
+        return put_long_after(out, lead, number);
+    }
+    put_few_digits_after(out, lead, number)
+}
+
 // Appends a byte and a number.
+#[tactic(auto, using(std::proofs::lemmas::Fmt::decimal_digit))]
 #[inline(always)]
 fn put_number_after(out: &mut Vec<u8>, lead: u8, number: u64) -> Result<(), AllocError>
     ensures ok { OnOk result (out.new.items ≡ out.old.items ++ lead ∷ decimal number) }
     ensures kept { Extends out.old.items out.new.items }
 {
     if number < 10 {
-        return put_digit_after(out, lead, number);
+        return put_bytes(out, &[lead, digit(number)]);
     }
     put_digits_after(out, lead, number)
 }
@@ -130,28 +161,26 @@ fn put_spaced_word(out: &mut Vec<u8>, word: Piece) -> Result<(), AllocError>
     }
 }
 
-// Appends a number of one digit.
-#[tactic(auto, using(crate::proofs::Extended::extension, std::proofs::lemmas::Fmt::decimal_digit))]
-#[inline(always)]
-fn put_digit(out: &mut Vec<u8>, number: u64) -> Result<(), AllocError>
-    requires { number < 10 }
+// Appends a number of any size.
+#[inline(never)]
+fn put_long(out: &mut Vec<u8>, number: u64) -> Result<(), AllocError>
     ensures ok { OnOk result (out.new.items ≡ out.old.items ++ decimal number) }
     ensures kept { Extends out.old.items out.new.items }
 {
-    out.reserve(1)?;
-    out.push_reserved(b'0' + number as u8);
-    Ok(())
+    let mut buffer = Buffer::new();
+    put_bytes(out, buffer.format(number).as_bytes())
 }
 
+#[tactic(auto, using(std::proofs::lemmas::Fmt::decimal_digit))]
+#[inline(always)]
 fn put_number(out: &mut Vec<u8>, number: u64) -> Result<(), AllocError>
     ensures ok { OnOk result (out.new.items ≡ out.old.items ++ decimal number) }
     ensures kept { Extends out.old.items out.new.items }
 {
     if number < 10 {
-        return put_digit(out, number);
+        return put_bytes(out, &[digit(number)]);
     }
-    let mut buffer = Buffer::new();
-    put_bytes(out, buffer.format(number).as_bytes())
+    put_long(out, number)
 }
 
 #[tactic(auto, using(crate::proofs::Extended::extension), unfolding(crate::specs::Words::serial))]
@@ -209,6 +238,19 @@ pub fn put_spaced(out: &mut Vec<u8>, words: &[Piece]) -> Result<(), AllocError>
 {
     for word in words {
         put_spaced_word(out, *word)?;
+    }
+    Ok(())
+}
+
+/// Appends each of the numbers after a space. What was there stays, also after an error.
+#[tactic(auto, using(crate::proofs::Extended::extension))]
+#[inline(always)]
+pub fn put_numbers(out: &mut Vec<u8>, numbers: &[u64]) -> Result<(), AllocError>
+    ensures ok { OnOk result (out.new.items ≡ out.old.items ++ text.spaced (map decimal numbers.now)) }
+    ensures kept { Extends out.old.items out.new.items }
+{
+    for number in numbers {
+        put_spaced_word(out, Piece::Number(*number))?;
     }
     Ok(())
 }
