@@ -5,6 +5,7 @@ ghost use Rattle.am_lexer.specs.Text.{words_of};
 ghost use Rattle.am_lexer.specs.Fields.{Gives, word_at, number_at, within, ended};
 
 use crate::number::parse_number;
+use crate::short::short_number;
 use crate::what::What;
 use crate::words::next_word;
 
@@ -19,15 +20,27 @@ pub fn take_word(rest: &[u8]) -> Result<(&[u8], &[u8]), What>
     }
 }
 
-/// The next word as a number.
+// The next word as a number, the word first and then its digits.
+#[inline(never)]
 #[tactic(auto, unfolding(crate::specs::Fields::number_at))]
-pub fn take_number(rest: &[u8]) -> Result<(u64, &[u8]), What>
+fn number_word(rest: &[u8]) -> Result<(u64, &[u8]), What>
     ensures { Gives (λ found. (found.0, words_of found.1.now)) result (number_at (words_of rest.now)) }
 {
     let (word, rest) = take_word(rest)?;
     match parse_number(word) {
         Some(number) => Ok((number, rest)),
         None => Err(What::BadNumber),
+    }
+}
+
+/// The next word as a number.
+#[inline(always)]
+pub fn take_number(rest: &[u8]) -> Result<(u64, &[u8]), What>
+    ensures { Gives (λ found. (found.0, words_of found.1.now)) result (number_at (words_of rest.now)) }
+{
+    match short_number(rest) {
+        Some(found) => Ok(found),
+        None => number_word(rest),
     }
 }
 

@@ -16,6 +16,7 @@ use am_office::{Call, HandlerKind};
 
 type Called<'a> = ((EndpointId, Call), &'a [u8]);
 
+#[inline(never)]
 #[tactic(auto, unfolding(crate::specs::Calls::request_at))]
 fn take_request<'a>(
     draft: &Draft,
@@ -39,6 +40,7 @@ fn take_request<'a>(
     Ok(((end, call), rest))
 }
 
+#[inline(never)]
 #[tactic(auto, unfolding(crate::specs::Calls::poll_at))]
 fn take_poll<'a>(draft: &Draft, wanted: Option<NodeId>, rest: &'a [u8]) -> Result<Called<'a>, What>
     ensures { Gives (λ found. (found.0, words_of found.1.now)) result (poll_at (said draft.now) wanted (words_of rest.now)) }
@@ -47,6 +49,7 @@ fn take_poll<'a>(draft: &Draft, wanted: Option<NodeId>, rest: &'a [u8]) -> Resul
     Ok(((end, Call::Poll), rest))
 }
 
+#[inline(never)]
 #[tactic(auto, unfolding(crate::specs::Calls::set_tag_at))]
 fn take_set_tag<'a>(
     draft: &Draft,
@@ -69,6 +72,7 @@ fn least_share(version: Option<Version>) -> u8
     }
 }
 
+#[inline(never)]
 #[tactic(auto, unfolding(crate::specs::Calls::map_at))]
 fn take_map<'a>(draft: &Draft, wanted: Option<NodeId>, rest: &'a [u8]) -> Result<Called<'a>, What>
     ensures { Gives (λ found. (found.0, words_of found.1.now)) result (map_at (said draft.now) wanted (words_of rest.now)) }
@@ -87,6 +91,7 @@ fn take_map<'a>(draft: &Draft, wanted: Option<NodeId>, rest: &'a [u8]) -> Result
     Ok(((end, call), rest))
 }
 
+#[inline(never)]
 #[tactic(auto, unfolding(crate::specs::Calls::unmap_at))]
 fn take_unmap<'a>(draft: &Draft, wanted: Option<NodeId>, rest: &'a [u8]) -> Result<Called<'a>, What>
     ensures { Gives (λ found. (found.0, words_of found.1.now)) result (unmap_at (said draft.now) wanted (words_of rest.now)) }
@@ -114,6 +119,7 @@ fn take_kind(rest: &[u8]) -> Result<(HandlerKind, &[u8]), What>
     }
 }
 
+#[inline(never)]
 #[tactic(auto, unfolding(crate::specs::Calls::set_handler_at))]
 fn take_set_handler<'a>(
     draft: &Draft,
@@ -128,6 +134,7 @@ fn take_set_handler<'a>(
     Ok(((end, Call::SetHandler { index, kind }), rest))
 }
 
+#[inline(never)]
 #[tactic(auto, unfolding(crate::specs::Calls::give_up_at))]
 fn take_give_up<'a>(
     draft: &Draft,
@@ -141,6 +148,7 @@ fn take_give_up<'a>(
     Ok(((end, Call::GiveUp(serial)), rest))
 }
 
+#[inline(never)]
 #[tactic(auto, unfolding(crate::specs::Calls::close_at))]
 fn take_close<'a>(draft: &Draft, wanted: Option<NodeId>, rest: &'a [u8]) -> Result<Called<'a>, What>
     ensures { Gives (λ found. (found.0, words_of found.1.now)) result (close_at (said draft.now) wanted (words_of rest.now)) }
@@ -149,6 +157,7 @@ fn take_close<'a>(draft: &Draft, wanted: Option<NodeId>, rest: &'a [u8]) -> Resu
     Ok(((end, Call::Close), rest))
 }
 
+#[inline(never)]
 #[tactic(auto, unfolding(crate::specs::Calls::test_at))]
 fn take_test<'a>(draft: &Draft, wanted: Option<NodeId>, rest: &'a [u8]) -> Result<Called<'a>, What>
     ensures { Gives (λ found. (found.0, words_of found.1.now)) result (test_at (said draft.now) wanted (words_of rest.now)) }
