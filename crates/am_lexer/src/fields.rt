@@ -45,6 +45,7 @@ pub fn take_number(rest: &[u8]) -> Result<(u64, &[u8]), What>
 }
 
 /// The next word as a number from `low` to `high`.
+#[inline(always)]
 #[tactic(auto, unfolding(crate::specs::Fields::within))]
 pub fn take_u32(low: u32, high: u32, rest: &[u8]) -> Result<(u32, &[u8]), What>
     ensures { Gives (λ found. (found.0, words_of found.1.now)) result (within low high (words_of rest.now)) }
@@ -58,6 +59,7 @@ pub fn take_u32(low: u32, high: u32, rest: &[u8]) -> Result<(u32, &[u8]), What>
 }
 
 /// The next word as a small number from `low` to `high`.
+#[inline(always)]
 #[tactic(auto, unfolding(crate::specs::Fields::within))]
 pub fn take_byte(low: u8, high: u8, rest: &[u8]) -> Result<(u8, &[u8]), What>
     ensures { Gives (λ found. (found.0, words_of found.1.now)) result (within low high (words_of rest.now)) }

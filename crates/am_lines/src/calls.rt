@@ -1,6 +1,7 @@
 //! A call in a line of section 4.
 
-ghost use Rattle.std.specs.Prelude.{◌≡◌, Option};
+ghost use Rattle.std.specs.Prelude.{◌≡◌, Option, codes, false};
+ghost use Rattle.std.specs.Str.{bytes_eq};
 ghost use Rattle.am_lexer.specs.Text.{words_of};
 ghost use Rattle.am_lexer.specs.Fields.{Gives};
 ghost use Rattle.am_draft.specs.Drafts.{said};
@@ -16,7 +17,6 @@ use am_office::{Call, HandlerKind};
 
 type Called<'a> = ((EndpointId, Call), &'a [u8]);
 
-#[inline(never)]
 #[tactic(auto, unfolding(crate::specs::Calls::request_at))]
 fn take_request<'a>(
     draft: &Draft,
@@ -40,7 +40,6 @@ fn take_request<'a>(
     Ok(((end, call), rest))
 }
 
-#[inline(never)]
 #[tactic(auto, unfolding(crate::specs::Calls::poll_at))]
 fn take_poll<'a>(draft: &Draft, wanted: Option<NodeId>, rest: &'a [u8]) -> Result<Called<'a>, What>
     ensures { Gives (λ found. (found.0, words_of found.1.now)) result (poll_at (said draft.now) wanted (words_of rest.now)) }
@@ -49,7 +48,6 @@ fn take_poll<'a>(draft: &Draft, wanted: Option<NodeId>, rest: &'a [u8]) -> Resul
     Ok(((end, Call::Poll), rest))
 }
 
-#[inline(never)]
 #[tactic(auto, unfolding(crate::specs::Calls::set_tag_at))]
 fn take_set_tag<'a>(
     draft: &Draft,
@@ -72,7 +70,6 @@ fn least_share(version: Option<Version>) -> u8
     }
 }
 
-#[inline(never)]
 #[tactic(auto, unfolding(crate::specs::Calls::map_at))]
 fn take_map<'a>(draft: &Draft, wanted: Option<NodeId>, rest: &'a [u8]) -> Result<Called<'a>, What>
     ensures { Gives (λ found. (found.0, words_of found.1.now)) result (map_at (said draft.now) wanted (words_of rest.now)) }
@@ -91,7 +88,6 @@ fn take_map<'a>(draft: &Draft, wanted: Option<NodeId>, rest: &'a [u8]) -> Result
     Ok(((end, call), rest))
 }
 
-#[inline(never)]
 #[tactic(auto, unfolding(crate::specs::Calls::unmap_at))]
 fn take_unmap<'a>(draft: &Draft, wanted: Option<NodeId>, rest: &'a [u8]) -> Result<Called<'a>, What>
     ensures { Gives (λ found. (found.0, words_of found.1.now)) result (unmap_at (said draft.now) wanted (words_of rest.now)) }
@@ -119,7 +115,6 @@ fn take_kind(rest: &[u8]) -> Result<(HandlerKind, &[u8]), What>
     }
 }
 
-#[inline(never)]
 #[tactic(auto, unfolding(crate::specs::Calls::set_handler_at))]
 fn take_set_handler<'a>(
     draft: &Draft,
@@ -134,7 +129,6 @@ fn take_set_handler<'a>(
     Ok(((end, Call::SetHandler { index, kind }), rest))
 }
 
-#[inline(never)]
 #[tactic(auto, unfolding(crate::specs::Calls::give_up_at))]
 fn take_give_up<'a>(
     draft: &Draft,
@@ -148,7 +142,6 @@ fn take_give_up<'a>(
     Ok(((end, Call::GiveUp(serial)), rest))
 }
 
-#[inline(never)]
 #[tactic(auto, unfolding(crate::specs::Calls::close_at))]
 fn take_close<'a>(draft: &Draft, wanted: Option<NodeId>, rest: &'a [u8]) -> Result<Called<'a>, What>
     ensures { Gives (λ found. (found.0, words_of found.1.now)) result (close_at (said draft.now) wanted (words_of rest.now)) }
@@ -157,7 +150,6 @@ fn take_close<'a>(draft: &Draft, wanted: Option<NodeId>, rest: &'a [u8]) -> Resu
     Ok(((end, Call::Close), rest))
 }
 
-#[inline(never)]
 #[tactic(auto, unfolding(crate::specs::Calls::test_at))]
 fn take_test<'a>(draft: &Draft, wanted: Option<NodeId>, rest: &'a [u8]) -> Result<Called<'a>, What>
     ensures { Gives (λ found. (found.0, words_of found.1.now)) result (test_at (said draft.now) wanted (words_of rest.now)) }
@@ -165,6 +157,38 @@ fn take_test<'a>(draft: &Draft, wanted: Option<NodeId>, rest: &'a [u8]) -> Resul
     let (end, rest) = take_end_of(draft, wanted, rest)?;
     let (mask, rest) = take_mask(rest)?;
     Ok(((end, Call::Test(mask)), rest))
+}
+
+// A call that is made seldom.
+#[inline(never)]
+#[tactic(auto, unfolding(crate::specs::Calls::call_at))]
+fn take_seldom_call<'a>(
+    draft: &Draft,
+    wanted: Option<NodeId>,
+    verb: &[u8],
+    rest: &'a [u8],
+) -> Result<Called<'a>, What>
+    requires no_request { bytes_eq verb.now (codes "request") ≡ false }
+    requires no_poll { bytes_eq verb.now (codes "poll") ≡ false }
+    ensures { Gives (λ found. (found.0, words_of found.1.now)) result (call_at (said draft.now) wanted verb.now (words_of rest.now)) }
+{
+    if is_word(verb, b"tag".as_slice()) {
+        take_set_tag(draft, wanted, rest)
+    } else if is_word(verb, b"map".as_slice()) {
+        take_map(draft, wanted, rest)
+    } else if is_word(verb, b"unmap".as_slice()) {
+        take_unmap(draft, wanted, rest)
+    } else if is_word(verb, b"handler".as_slice()) {
+        take_set_handler(draft, wanted, rest)
+    } else if is_word(verb, b"giveup".as_slice()) {
+        take_give_up(draft, wanted, rest)
+    } else if is_word(verb, b"close".as_slice()) {
+        take_close(draft, wanted, rest)
+    } else if is_word(verb, b"event".as_slice()) {
+        take_test(draft, wanted, rest)
+    } else {
+        Err(What::UnknownWord)
+    }
 }
 
 /// A call by its verb and the words behind it, on a declared endpoint of the node that is wanted, if one is.
@@ -181,21 +205,7 @@ pub fn take_call<'a>(
         take_request(draft, wanted, rest)
     } else if is_word(verb, b"poll".as_slice()) {
         take_poll(draft, wanted, rest)
-    } else if is_word(verb, b"tag".as_slice()) {
-        take_set_tag(draft, wanted, rest)
-    } else if is_word(verb, b"map".as_slice()) {
-        take_map(draft, wanted, rest)
-    } else if is_word(verb, b"unmap".as_slice()) {
-        take_unmap(draft, wanted, rest)
-    } else if is_word(verb, b"handler".as_slice()) {
-        take_set_handler(draft, wanted, rest)
-    } else if is_word(verb, b"giveup".as_slice()) {
-        take_give_up(draft, wanted, rest)
-    } else if is_word(verb, b"close".as_slice()) {
-        take_close(draft, wanted, rest)
-    } else if is_word(verb, b"event".as_slice()) {
-        take_test(draft, wanted, rest)
     } else {
-        Err(What::UnknownWord)
+        take_seldom_call(draft, wanted, verb, rest)
     }
 }

@@ -12,6 +12,7 @@ use am_lexer::{What, parse_number, take_number, take_word};
 use am_names::{EndpointId, NodeId, Serial, Tag};
 use am_scenario_types::{Bundle, EndLine};
 
+#[inline(always)]
 #[tactic(auto, unfolding(crate::specs::Places::below))]
 pub fn take_below(limit: u8, rest: &[u8]) -> Result<(u8, &[u8]), What>
     ensures { Gives (λ found. (found.0, words_of found.1.now)) result (below limit (words_of rest.now)) }
@@ -58,6 +59,7 @@ pub fn end_word(draft: &Draft, wanted: Option<NodeId>, word: &[u8]) -> Result<En
     declared_end(draft, wanted, id)
 }
 
+#[inline(always)]
 #[tactic(auto, using(crate::proofs::Ends::by_number))]
 pub fn take_end_of<'a>(
     draft: &Draft,
