@@ -5,6 +5,7 @@ ghost use Rattle.am_lexer.specs.Text.{words_of};
 ghost use Rattle.am_lexer.specs.Fields.{Gives, word_at, number_at, within, ended};
 
 use crate::number::parse_number;
+use crate::short::short_number;
 use crate::what::What;
 use crate::words::next_word;
 
@@ -19,9 +20,10 @@ pub fn take_word(rest: &[u8]) -> Result<(&[u8], &[u8]), What>
     }
 }
 
-/// The next word as a number.
+// The next word as a number, the word first and then its digits.
+#[inline(never)]
 #[tactic(auto, unfolding(crate::specs::Fields::number_at))]
-pub fn take_number(rest: &[u8]) -> Result<(u64, &[u8]), What>
+fn number_word(rest: &[u8]) -> Result<(u64, &[u8]), What>
     ensures { Gives (λ found. (found.0, words_of found.1.now)) result (number_at (words_of rest.now)) }
 {
     let (word, rest) = take_word(rest)?;
@@ -31,7 +33,19 @@ pub fn take_number(rest: &[u8]) -> Result<(u64, &[u8]), What>
     }
 }
 
+/// The next word as a number.
+#[inline(always)]
+pub fn take_number(rest: &[u8]) -> Result<(u64, &[u8]), What>
+    ensures { Gives (λ found. (found.0, words_of found.1.now)) result (number_at (words_of rest.now)) }
+{
+    match short_number(rest) {
+        Some(found) => Ok(found),
+        None => number_word(rest),
+    }
+}
+
 /// The next word as a number from `low` to `high`.
+#[inline(always)]
 #[tactic(auto, unfolding(crate::specs::Fields::within))]
 pub fn take_u32(low: u32, high: u32, rest: &[u8]) -> Result<(u32, &[u8]), What>
     ensures { Gives (λ found. (found.0, words_of found.1.now)) result (within low high (words_of rest.now)) }
@@ -45,6 +59,7 @@ pub fn take_u32(low: u32, high: u32, rest: &[u8]) -> Result<(u32, &[u8]), What>
 }
 
 /// The next word as a small number from `low` to `high`.
+#[inline(always)]
 #[tactic(auto, unfolding(crate::specs::Fields::within))]
 pub fn take_byte(low: u8, high: u8, rest: &[u8]) -> Result<(u8, &[u8]), What>
     ensures { Gives (λ found. (found.0, words_of found.1.now)) result (within low high (words_of rest.now)) }

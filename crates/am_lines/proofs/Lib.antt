@@ -1,2 +1,4 @@
 pub mod Members
 mod Keywords
+mod Ends
+mod Actors

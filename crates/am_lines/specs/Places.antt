@@ -32,6 +32,12 @@ abbrev pub is_wanted : Option NodeId → NodeId → Bool
 is_wanted None node = true
 is_wanted (Some wanted) node = node.0 == wanted.0
 
+-- the endpoint that a number was declared for, of the node that is wanted
+unfoldable pub declared_end : Said → Option NodeId → ℕ → Result EndLine What
+declared_end said wanted id = do
+  end ← or_else Undeclared (end_of said id)
+  if is_wanted wanted end.node then Ok end else Err OutOfRange
+
 -- a word for a declared endpoint, of the node that is wanted
 unfoldable pub end_word : Said → Option NodeId → List ℕ → Result EndLine What
 end_word said wanted word = do

@@ -1,6 +1,7 @@
 //! A call in a line of section 4.
 
-ghost use Rattle.std.specs.Prelude.{◌≡◌, Option};
+ghost use Rattle.std.specs.Prelude.{◌≡◌, Option, codes, false};
+ghost use Rattle.std.specs.Str.{bytes_eq};
 ghost use Rattle.am_lexer.specs.Text.{words_of};
 ghost use Rattle.am_lexer.specs.Fields.{Gives};
 ghost use Rattle.am_draft.specs.Drafts.{said};
@@ -158,21 +159,20 @@ fn take_test<'a>(draft: &Draft, wanted: Option<NodeId>, rest: &'a [u8]) -> Resul
     Ok(((end, Call::Test(mask)), rest))
 }
 
-/// A call by its verb and the words behind it, on a declared endpoint of the node that is wanted, if one is.
+// A call that is made seldom.
+#[inline(never)]
 #[tactic(auto, unfolding(crate::specs::Calls::call_at))]
-pub fn take_call<'a>(
+fn take_seldom_call<'a>(
     draft: &Draft,
     wanted: Option<NodeId>,
     verb: &[u8],
     rest: &'a [u8],
 ) -> Result<Called<'a>, What>
+    requires no_request { bytes_eq verb.now (codes "request") ≡ false }
+    requires no_poll { bytes_eq verb.now (codes "poll") ≡ false }
     ensures { Gives (λ found. (found.0, words_of found.1.now)) result (call_at (said draft.now) wanted verb.now (words_of rest.now)) }
 {
-    if is_word(verb, b"request".as_slice()) {
-        take_request(draft, wanted, rest)
-    } else if is_word(verb, b"poll".as_slice()) {
-        take_poll(draft, wanted, rest)
-    } else if is_word(verb, b"tag".as_slice()) {
+    if is_word(verb, b"tag".as_slice()) {
         take_set_tag(draft, wanted, rest)
     } else if is_word(verb, b"map".as_slice()) {
         take_map(draft, wanted, rest)
@@ -188,5 +188,24 @@ pub fn take_call<'a>(
         take_test(draft, wanted, rest)
     } else {
         Err(What::UnknownWord)
+    }
+}
+
+/// A call by its verb and the words behind it, on a declared endpoint of the node that is wanted, if one is.
+#[tactic(auto, unfolding(crate::specs::Calls::call_at))]
+pub fn take_call<'a>(
+    draft: &Draft,
+    wanted: Option<NodeId>,
+    verb: &[u8],
+    rest: &'a [u8],
+) -> Result<Called<'a>, What>
+    ensures { Gives (λ found. (found.0, words_of found.1.now)) result (call_at (said draft.now) wanted verb.now (words_of rest.now)) }
+{
+    if is_word(verb, b"request".as_slice()) {
+        take_request(draft, wanted, rest)
+    } else if is_word(verb, b"poll".as_slice()) {
+        take_poll(draft, wanted, rest)
+    } else {
+        take_seldom_call(draft, wanted, verb, rest)
     }
 }

@@ -3,6 +3,7 @@
 ghost use Rattle.std.specs.Prelude.{◌≡◌};
 ghost use Rattle.am_lines.specs.Heads.{head_of, setting_name_of, declaration_of, actor_of, section_of, is_of_form};
 
+use crate::keyword::is_word;
 use am_draft::Version;
 use am_lexer::parse_number;
 use am_scenario_types::Form;
@@ -102,9 +103,8 @@ fn actor_of(word: &[u8]) -> Option<Head>
     }
 }
 
-/// What the first word of a line says, in a text of a version; none where it stands in no section.
 #[tactic(auto, unfolding(crate::specs::Heads::head_of))]
-pub fn head_of(version: Option<Version>, word: &[u8]) -> Option<Head>
+fn any_head_of(version: Option<Version>, word: &[u8]) -> Option<Head>
     ensures { result ≡ head_of version word.now }
 {
     if word == b"am2".as_slice() {
@@ -116,6 +116,20 @@ pub fn head_of(version: Option<Version>, word: &[u8]) -> Option<Head>
             Some(head) => Some(head),
             None => actor_of(word),
         },
+    }
+}
+
+/// What the first word of a line says, in a text of a version; none where it stands in no section.
+// The outside acts in most lines of a step script, so its word is known at one look.
+#[inline(always)]
+#[tactic(auto, using(crate::proofs::Actors::outside_named))]
+pub fn head_of(version: Option<Version>, word: &[u8]) -> Option<Head>
+    ensures { result ≡ head_of version word.now }
+{
+    if is_word(word, b"x".as_slice()) {
+        Some(Head::Outside)
+    } else {
+        any_head_of(version, word)
     }
 }
 

@@ -5,13 +5,14 @@ ghost use Rattle.std.specs.List.{position};
 ghost use Rattle.am_lexer.specs.Text.{words_of};
 ghost use Rattle.am_lexer.specs.Fields.{Gives};
 ghost use Rattle.am_draft.specs.Drafts.{said};
-ghost use Rattle.am_lines.specs.Places.{below, node_at, end_word, end_at, bundle_at, tag_at, serial_of, serial_at, is_on, are_on};
+ghost use Rattle.am_lines.specs.Places.{below, node_at, declared_end, end_word, end_at, bundle_at, tag_at, serial_of, serial_at, is_on, are_on};
 
 use am_draft::{Draft, Settings};
 use am_lexer::{What, parse_number, take_number, take_word};
 use am_names::{EndpointId, NodeId, Serial, Tag};
 use am_scenario_types::{Bundle, EndLine};
 
+#[inline(always)]
 #[tactic(auto, unfolding(crate::specs::Places::below))]
 pub fn take_below(limit: u8, rest: &[u8]) -> Result<(u8, &[u8]), What>
     ensures { Gives (λ found. (found.0, words_of found.1.now)) result (below limit (words_of rest.now)) }
@@ -32,14 +33,12 @@ pub fn take_node<'a>(settings: &Settings, rest: &'a [u8]) -> Result<(NodeId, &'a
     Ok((NodeId(number), rest))
 }
 
-/// The declared endpoint that a word names, of the node that is wanted, if one is.
-#[tactic(auto, unfolding(crate::specs::Places::end_word))]
-pub fn end_word(draft: &Draft, wanted: Option<NodeId>, word: &[u8]) -> Result<EndLine, What>
-    ensures { Gives (λ end. end) result (end_word (said draft.now) wanted word.now) }
+// The endpoint that was declared by a number, of the node that is wanted, if one is.
+#[inline(always)]
+#[tactic(auto, unfolding(crate::specs::Places::declared_end))]
+fn declared_end(draft: &Draft, wanted: Option<NodeId>, id: u64) -> Result<EndLine, What>
+    ensures { Gives (λ end. end) result (declared_end (said draft.now) wanted id) }
 {
-    let Some(id) = parse_number(word) else {
-        return Err(What::BadNumber);
-    };
     let Some(end) = draft.end_of(id) else {
         return Err(What::Undeclared);
     };
@@ -49,7 +48,19 @@ pub fn end_word(draft: &Draft, wanted: Option<NodeId>, word: &[u8]) -> Result<En
     }
 }
 
-#[tactic(auto, unfolding(crate::specs::Places::end_at))]
+/// The declared endpoint that a word names, of the node that is wanted, if one is.
+#[tactic(auto, unfolding(crate::specs::Places::end_word, crate::specs::Places::declared_end))]
+pub fn end_word(draft: &Draft, wanted: Option<NodeId>, word: &[u8]) -> Result<EndLine, What>
+    ensures { Gives (λ end. end) result (end_word (said draft.now) wanted word.now) }
+{
+    let Some(id) = parse_number(word) else {
+        return Err(What::BadNumber);
+    };
+    declared_end(draft, wanted, id)
+}
+
+#[inline(always)]
+#[tactic(auto, using(crate::proofs::Ends::by_number))]
 pub fn take_end_of<'a>(
     draft: &Draft,
     wanted: Option<NodeId>,
@@ -57,8 +68,8 @@ pub fn take_end_of<'a>(
 ) -> Result<(EndpointId, &'a [u8]), What>
     ensures { Gives (λ found. (found.0, words_of found.1.now)) result (end_at (said draft.now) wanted (words_of rest.now)) }
 {
-    let (word, rest) = take_word(rest)?;
-    let end = end_word(draft, wanted, word)?;
+    let (id, rest) = take_number(rest)?;
+    let end = declared_end(draft, wanted, id)?;
     Ok((end.id, rest))
 }
 

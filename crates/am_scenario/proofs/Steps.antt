@@ -1,5 +1,8 @@
 -- One line more.
-use Rattle.std.proofs.Common.{◌≡◌, ℕ, List, [], ◌∷◌, Result, Ok, Err, refl, sym, ◌∙◌}
+use Rattle.std.proofs.Common.{◌≡◌, ℕ, true, List, [], ◌∷◌, Result, Ok, Err, refl, sym, ◌∙◌}
+use Rattle.std.specs.List.{list_all}
+use Rattle.std.proofs.lemmas.Bool.{and_parts}
+use Rattle.am_lexer.specs.Text.{is_text_line}
 use Rattle.am_scenario_types.specs.declared.parts.Form.{Form}
 use Rattle.am_scenario_types.specs.declared.faults.ScenarioFault.{ScenarioFault}
 use Rattle.am_scenario_types.specs.Lists.{ScenarioLists}
@@ -34,3 +37,7 @@ pub all_refused : (form : Form) (number : ℕ) (said : Said) (fault : LineFault)
 unfolding read_from
 all_refused form number said (faults.What what) all e so_far = sym so_far ∙ rw e refl
 all_refused form number said faults.NoMemory all e so_far = tt
+
+-- where all lines are printable, the first is, and so are those behind it
+pub printable_parts : (line : List ℕ) (lines : List (List ℕ)) → list_all is_text_line (line ∷ lines) ≡ true → (is_text_line line ≡ true) × (list_all is_text_line lines ≡ true)
+printable_parts line lines e = and_parts (is_text_line line) (list_all is_text_line lines) e

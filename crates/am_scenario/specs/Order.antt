@@ -1,5 +1,5 @@
 -- The order of refusals of one line.
-use Rattle.std.specs.Prelude.{ℕ, Bool, false, not, ◌&&◌, ◌||◌, ◌==◌, nat_lt, List, [], ◌∷◌, if◌then◌else◌, Result, Ok, Err}
+use Rattle.std.specs.Prelude.{ℕ, not, ◌&&◌, ◌||◌, ◌==◌, nat_lt, List, [], ◌∷◌, if◌then◌else◌, Result, Ok, Err}
 use Rattle.std.specs.Option.{is_some}
 use Rattle.std.specs.List.{slice_index}
 use Rattle.am_lexer.specs.declared.what.What.{What}
@@ -18,11 +18,6 @@ placed form said head =
     if said.section == 0 && not (section_of head == 1) then Err Missing else
     if nat_lt (section_of head) said.section || not (is_of_form form head) then Err OutOfPlace else
     if nat_lt 2 (section_of head) && not (is_some said.settings.network && is_some said.settings.nodes) then Err Missing else Ok head
-
--- whether the first word begins with #
-abbrev pub is_comment : List (List ℕ) → Bool
-is_comment [] = false
-is_comment (first ∷ words) = slice_index first 0 == 35
 
 -- what is said after a line that is no comment, by its first word and the words behind it
 abbrev pub after_named : Form → ℕ → Said → List ℕ → List (List ℕ) → Result Said What

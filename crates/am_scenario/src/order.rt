@@ -1,10 +1,11 @@
 //! The order of refusals of one line.
 
-ghost use Rattle.std.specs.Prelude.{◌≡◌, ◌==◌, not, find};
-ghost use Rattle.am_lexer.specs.Text.{words_of};
+ghost use Rattle.std.specs.Prelude.{◌≡◌, ◌==◌, true};
+ghost use Rattle.std.specs.List.{slice_index};
+ghost use Rattle.am_lexer.specs.Text.{words_of, is_text_line};
 ghost use Rattle.am_lexer.specs.Fields.{Gives};
 ghost use Rattle.am_draft.specs.Drafts.{said};
-ghost use Rattle.am_scenario.specs.Order.{placed, is_comment, after_named, after_words, after_line};
+ghost use Rattle.am_scenario.specs.Order.{placed, after_named, after_words, after_line};
 ghost use Rattle.am_scenario.specs.Answers.{Changes};
 
 use am_draft::{Draft, LineFault};
@@ -30,18 +31,12 @@ fn placed(form: Form, draft: &Draft, head: Head) -> Result<Head, What>
     Ok(head)
 }
 
-fn first_letter(line: &[u8]) -> Option<u8>
-    ensures { result ≡ find (λ byte. not (byte == 32)) line.now }
+// Whether a line's first word says that the line is a comment.
+fn is_comment(first: &[u8]) -> bool
+    ensures { result ≡ (slice_index first.now 0 == 35) }
 {
-    line.iter().copied().find(|byte| *byte != b' ')
-}
-
-// Whether the first word begins with `#`: one look, however long the word is.
-fn is_comment(line: &[u8]) -> bool
-    ensures { result ≡ is_comment (words_of line.now) }
-{
-    match first_letter(line) {
-        Some(byte) => byte == b'#',
+    match first.first() {
+        Some(byte) => *byte == b'#',
         None => false,
     }
 }
@@ -75,27 +70,31 @@ fn take_words(
 ) -> Result<(), LineFault>
     ensures { Changes result (said draft.new) (after_words form number (said draft.old) (words_of line.now)) }
 {
-    if is_comment(line) {
-        return Ok(());
-    }
     match next_word(line) {
-        Some((first, rest)) => take_named(alloc, form, number, draft, first, rest),
+        Some((first, rest)) => {
+            if is_comment(first) {
+                return Ok(());
+            }
+            take_named(alloc, form, number, draft, first, rest)
+        }
         None => Ok(()),
     }
 }
 
-/// Takes one line.
+/// Takes one line. Whether it is printable may be known before.
 #[tactic(auto, unfolding(crate::specs::Order::after_line))]
 pub fn take_line(
     alloc: Global,
     form: Form,
     number: u32,
     draft: &mut Draft,
+    printable: bool,
     line: &[u8],
 ) -> Result<(), LineFault>
+    requires { printable ≡ true → is_text_line line.now ≡ true }
     ensures { Changes result (said draft.new) (after_line form number (said draft.old) line.now) }
 {
-    if !is_text(line) {
+    if !(printable || is_text(line)) {
         return Err(LineFault::What(What::NotText));
     }
     take_words(alloc, form, number, draft, line)

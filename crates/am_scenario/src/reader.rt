@@ -9,7 +9,7 @@ ghost use Rattle.am_scenario_types.specs.Lawful.{IsLawful, IsOfForm};
 use crate::finish::finish;
 use crate::order::take_line;
 use am_draft::{Draft, LineFault};
-use am_lexer::next_line;
+use am_lexer::{lines_are_text, next_line};
 use am_scenario_types::{Form, ReadFault, Scenario, ScenarioFault};
 use std::alloc::Global;
 
@@ -32,8 +32,9 @@ pub fn read(alloc: Global, form: Form, bytes: &[u8]) -> Result<Scenario, ReadFau
     let mut draft = Draft::new(alloc);
     let mut number: u32 = 1;
     let mut rest = bytes;
+    let printable = lines_are_text(bytes);
     while let Some((line, after)) = next_line(rest) {
-        if let Err(fault) = take_line(alloc, form, number, &mut draft, line) {
+        if let Err(fault) = take_line(alloc, form, number, &mut draft, printable, line) {
             return Err(refused(number, fault));
         }
         number = number.saturating_add(1);
