@@ -105,16 +105,30 @@ impl Body {
         requires { slots_held self.old.body < 80 }
         ensures { self.new ≡ record self.old { body = queued message bounces self.old.body } }
     {
-        let descriptor = Descriptor {
-            message,
-            used: bounces,
-            answered: false,
-            why: Why::Unknown,
-        };
-        if is_request(&message) {
-            file_free(&mut self.block, List::Requests, descriptor);
+        self.queue_copy(&message, bounces);
+    }
+
+    /// A copy of a message goes to the tail of its queue, having bounced so often.
+    pub(crate) fn queue_copy(&mut self, message: &Message, bounces: u8)
+        requires { slots_held self.old.body < 80 }
+        ensures { self.new ≡ record self.old { body = queued message.now bounces self.old.body } }
+    {
+        if is_request(message) {
+            file_free(
+                &mut self.block,
+                List::Requests,
+                message,
+                bounces,
+                Why::Unknown,
+            );
         } else {
-            file_free(&mut self.block, List::Replies, descriptor);
+            file_free(
+                &mut self.block,
+                List::Replies,
+                message,
+                bounces,
+                Why::Unknown,
+            );
         }
     }
 }

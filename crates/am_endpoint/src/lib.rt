@@ -127,7 +127,7 @@ impl Endpoint {
     pub fn last_stamp(&self) -> u64
         ensures { result ≡ last_stamp self.now.log }
     {
-        match self.log.as_slice().last().copied() {
+        match self.log.as_slice().last() {
             None => 0,
             Some(entry) => entry.stamp,
         }
@@ -376,7 +376,7 @@ impl Endpoint {
         1 + floor.max(self.last_stamp())
     }
 
-    /// Makes a call, and logs it.
+    /// Makes a call, and logs it with its outcome.
     fn make(&mut self, stamp: u64, actor: Actor, call: Call) -> Entry
         requires place { is_on_disk (state_after self.old).head.place ≡ false }
         requires ready { self.old.ready ≡ true }
@@ -515,7 +515,7 @@ impl Endpoint {
         let Held::Here(fields) = &mut self.held else {
             unreachable!()
         };
-        let Outcome::Sent { message, .. } = entry.outcome else {
+        let Outcome::Sent { message, .. } = &entry.outcome else {
             unreachable!()
         };
         let slot = fields.fly_front(message);
