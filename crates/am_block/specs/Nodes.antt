@@ -1,5 +1,5 @@
 -- The nodes of a block.
-use Rattle.std.specs.Prelude.{◌≡◌, ℕ, ◌<◌, List, length, map, slice_get, Option, Some}
+use Rattle.std.specs.Prelude.{◌≡◌, ℕ, ◌<◌, ◌≤◌, List, length, map, slice_get, Option, Some}
 use Rattle.am_block.specs.Places.{somes}
 use Rattle.am_row.specs.Ownership.{place_at}
 use Rattle.am_block.specs.Links.{Links}
@@ -32,10 +32,11 @@ pub record Good (at : Ptr) (n : ℕ) (cs : List (Option Node)) : Type 0 where
   pub linked : AreLinked at n (somes cs)
   pub len : length cs ≡ n
 
--- the memory holds such nodes, and can be given back
+-- the memory holds such nodes, whose numbers are bytes, and can be given back
 pub record IsNodes (n : Inside) : Type 0 where
   pub at : n.base.ptr ≡ n.row.at
   pub good : Good n.row.at n.len n.row.places
   pub deed_at : n.deed.at ≡ n.base.ptr
   pub deed_len : n.deed.len ≡ n.len
   pub deed_alloc : n.deed.alloc ≡ n.alloc
+  pub few : n.len ≤ 255

@@ -13,7 +13,7 @@ use std::marker::Model;
 #[derive(Clone, Copy)]
 pub(crate) struct Link {
     node: Spot,
-    slot: u8,
+    slot: usize,
 }
 
 /// A descriptor with its links and its list.
@@ -89,7 +89,7 @@ impl Nodes {
         requires { slot < length self.now.next }
         ensures { result ≡ get_or self.now.next slot 0 }
     {
-        self.row.get(self.base, slot as usize).next.slot
+        self.row.get(self.base, slot as usize).next.slot as u8
     }
 
     /// The list of a node.
@@ -124,8 +124,8 @@ impl Nodes {
         let node = self.row.get(self.base, slot as usize);
         let prev = node.prev;
         let next = node.next;
-        self.row.follow_mut(prev.node, prev.slot as usize).next = next;
-        self.row.follow_mut(next.node, next.slot as usize).prev = prev;
+        self.row.follow_mut(prev.node, prev.slot).next = next;
+        self.row.follow_mut(next.node, next.slot).prev = prev;
     }
 
     /// Joins a node with itself, as the head of an empty list.
@@ -136,7 +136,7 @@ impl Nodes {
         let base = self.base;
         let here = Link {
             node: self.row.pointer(base, head as usize),
-            slot: head,
+            slot: head as usize,
         };
         let node = self.row.get_mut(base, head as usize);
         node.prev = here;
@@ -152,14 +152,14 @@ impl Nodes {
         let base = self.base;
         let here = Link {
             node: self.row.pointer(base, slot as usize),
-            slot,
+            slot: slot as usize,
         };
         let end = Link {
             node: self.row.pointer(base, head as usize),
-            slot: head,
+            slot: head as usize,
         };
         let last = self.row.get(base, head as usize).prev;
-        self.row.follow_mut(last.node, last.slot as usize).next = here;
+        self.row.follow_mut(last.node, last.slot).next = here;
         let node = self.row.get_mut(base, slot as usize);
         node.prev = last;
         node.next = end;

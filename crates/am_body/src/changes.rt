@@ -10,11 +10,11 @@ use am_names::{Message, Serial, Why};
 impl Body {
     /// A message arrives and is accepted: where it is the reply to a request, the record of that request is arrived, and
     /// the request is answered where it is in flight.
-    pub fn put(&mut self, message: Message)
+    pub fn put(&mut self, message: &Message)
         requires { slots_held self.old.body < 80 }
-        ensures { self.new ≡ record self.old { body = (put message (on_host self.old.body)).body } }
+        ensures { self.new ≡ record self.old { body = (put message.now (on_host self.old.body)).body } }
     {
-        self.add_received(message);
+        self.receive_copy(message);
         match message.about {
             None => {}
             Some(request) => {
@@ -37,14 +37,14 @@ impl Body {
     }
 
     /// The front of the received messages, a request, runs, by this handler, and this is sent back.
-    pub fn run_request(&mut self, message: &Message, handler: Option<u8>, reply: Message)
+    pub fn run_request(&mut self, message: &Message, handler: Option<u8>, reply: &Message)
         requires held { slots_held self.old.body < 80 }
         requires count { self.old.body.accepted + 1 < 2 ^ 32 }
-        ensures { self.new ≡ record self.old { body = request_ran message.now handler reply self.old.body } }
+        ensures { self.new ≡ record self.old { body = request_ran message.now handler reply.now self.old.body } }
     {
         self.accepted += 1;
         self.run(handler, message.words);
-        self.queue(reply, 0);
+        self.queue_copy(reply, 0);
         self.drop_received();
     }
 

@@ -62,17 +62,17 @@ impl Body {
     }
 
     /// A message that bounced so often is in flight from now on, and has no reply yet. Tells its slot.
-    pub fn add_flight(&mut self, message: Message, bounces: u8) -> Slot
+    pub fn add_flight(&mut self, message: &Message, bounces: u8) -> Slot
         requires { slots_held self.old.body < 80 }
-        ensures { self.new ≡ record self.old { body = record self.old.body { in_flight = self.old.body.in_flight ++ record { message = message; bounces = bounces; answered = false } ∷ [] }; flights = self.old.flights ++ result.0 ∷ [] } }
+        ensures { self.new ≡ record self.old { body = record self.old.body { in_flight = self.old.body.in_flight ++ record { message = message.now; bounces = bounces; answered = false } ∷ [] }; flights = self.old.flights ++ result.0 ∷ [] } }
     {
-        let descriptor = Descriptor {
+        match file_free(
+            &mut self.block,
+            List::InFlight,
             message,
-            used: bounces,
-            answered: false,
-            why: Why::Unknown,
-        };
-        match file_free(&mut self.block, List::InFlight, descriptor) {
+            bounces,
+            Why::Unknown,
+        ) {
             Some(slot) => slot,
             None => unreachable!(),
         }

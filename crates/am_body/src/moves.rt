@@ -3,21 +3,34 @@ ghost use Rattle.am_block.specs.Pools.{IsBlock, size, slots};
 ghost use Rattle.am_body.specs.Moves.{filed};
 ghost use Rattle.am_body.specs.Moves.{first_of, freed};
 ghost use Rattle.std.specs.Option.{option_map};
-ghost use Rattle.std.specs.Prelude.{◌≡◌, [], ◌∷◌, MatchOption, drop};
+ghost use Rattle.std.specs.Prelude.{◌≡◌, [], ◌∷◌, MatchOption, drop, false};
 
 use am_block::{Block, Descriptor, List, Slot};
+use am_names::{Message, Why};
 
-/// The first free slot, if there is one, takes a message for a list. Tells which slot it is.
-pub(crate) fn file_free(block: &mut Block, to: List, descriptor: Descriptor) -> Option<Slot>
+/// The first free slot, if there is one, takes a message for a list, with its bounces and why it came back. Tells which
+/// slot it is.
+pub(crate) fn file_free(
+    block: &mut Block,
+    to: List,
+    message: &Message,
+    used: u8,
+    why: Why,
+) -> Option<Slot>
     ensures slot { MatchOption result (slots block.old List.Free ≡ []) (λ s. slots block.old List.Free ≡ s.0 ∷ drop 1 (slots block.old List.Free)) }
-    ensures filed { block.new ≡ filed block.old (slots block.old List.Free) to descriptor }
+    ensures filed { block.new ≡ filed block.old (slots block.old List.Free) to (record { message = message.now; used = used; answered = false; why = why }) }
     ensures block { IsBlock block.new }
     ensures size { size block.new ≡ size block.old }
 {
     match block.move_front(List::Free, to) {
         None => None,
         Some(slot) => {
-            *block.get_mut(slot) = descriptor;
+            *block.get_mut(slot) = Descriptor {
+                message: *message,
+                used,
+                answered: false,
+                why,
+            };
             Some(slot)
         }
     }

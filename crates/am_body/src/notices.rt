@@ -41,12 +41,6 @@ impl Body {
         requires { slots_held self.old.body < 80 }
         ensures { self.new ≡ record self.old { body = record self.old.body { notices = self.old.body.notices ++ record { message = message; bounces = bounces; why = why } ∷ [] } } }
     {
-        let descriptor = Descriptor {
-            message,
-            used: bounces,
-            answered: false,
-            why,
-        };
-        file_free(&mut self.block, List::Notices, descriptor);
+        file_free(&mut self.block, List::Notices, &message, bounces, why);
     }
 }

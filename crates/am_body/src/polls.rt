@@ -51,7 +51,7 @@ impl Body {
             return Outcome::Blocked;
         }
         let reply = self.answer(e, &message);
-        self.run_request(&message, Some(message.handler), reply);
+        self.run_request(&message, Some(message.handler), &reply);
         Outcome::Ran {
             message,
             handler: Some(message.handler),

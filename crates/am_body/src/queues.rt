@@ -4,6 +4,7 @@ ghost use Rattle.am_body.specs.Views.{queued_in};
 ghost use Rattle.am_model.specs.Changes.{bounces_of, queued, without_front};
 ghost use Rattle.am_model.specs.Endpoint.{front_of};
 ghost use Rattle.am_names.specs.Names.{is_request};
+ghost use Rattle.std.specs.Option.{option_map};
 ghost use Rattle.std.specs.Prelude.{◌≡◌, ◌↔◌, ◌<◌, [], None};
 
 use crate::Body;
@@ -54,6 +55,27 @@ impl Body {
         }
     }
 
+    /// The front message where it lies: that of `front`.
+    pub fn front_message(&self) -> Option<&Message>
+        ensures value { option_map (λ message. message.now) result ≡ option_map (λ queued. queued.message) (front_of self.now.body.replies self.now.body.requests) }
+        ensures none { (result ≡ None) ↔ ((self.now.body.replies ≡ []) × (self.now.body.requests ≡ [])) }
+    {
+        self.first_message()
+    }
+
+    /// The message of the front of replies, and where there is none that of the front of requests.
+    fn first_message(&self) -> Option<&Message>
+        ensures { option_map (λ message. message.now) result ≡ option_map (λ queued. queued.message) (front_of self.now.body.replies self.now.body.requests) }
+    {
+        if let Some(answer) = front_descriptor(&self.block, List::Replies) {
+            return Some(&answer.message);
+        }
+        match front_descriptor(&self.block, List::Requests) {
+            Some(request) => Some(&request.message),
+            None => None,
+        }
+    }
+
     /// How often the front message bounced, and 0 where there is none.
     pub fn front_bounces(&self) -> u8
         ensures { result ≡ bounces_of self.now.body.replies self.now.body.requests }
@@ -83,16 +105,30 @@ impl Body {
         requires { slots_held self.old.body < 80 }
         ensures { self.new ≡ record self.old { body = queued message bounces self.old.body } }
     {
-        let descriptor = Descriptor {
-            message,
-            used: bounces,
-            answered: false,
-            why: Why::Unknown,
-        };
-        if is_request(&message) {
-            file_free(&mut self.block, List::Requests, descriptor);
+        self.queue_copy(&message, bounces);
+    }
+
+    /// A copy of a message goes to the tail of its queue, having bounced so often.
+    pub(crate) fn queue_copy(&mut self, message: &Message, bounces: u8)
+        requires { slots_held self.old.body < 80 }
+        ensures { self.new ≡ record self.old { body = queued message.now bounces self.old.body } }
+    {
+        if is_request(message) {
+            file_free(
+                &mut self.block,
+                List::Requests,
+                message,
+                bounces,
+                Why::Unknown,
+            );
         } else {
-            file_free(&mut self.block, List::Replies, descriptor);
+            file_free(
+                &mut self.block,
+                List::Replies,
+                message,
+                bounces,
+                Why::Unknown,
+            );
         }
     }
 }

@@ -7,7 +7,7 @@ ghost use Rattle.std.specs.Prelude.{◌≡◌, ◌<◌, [], ◌∷◌, ◌++◌,
 use crate::Body;
 use crate::moves::{file_free, free_front, front_descriptor};
 use crate::walks::{Sought, count, find, free_found};
-use am_block::{Descriptor, List};
+use am_block::List;
 use am_names::{Message, Why};
 
 impl Body {
@@ -64,12 +64,14 @@ impl Body {
         requires { slots_held self.old.body < 80 }
         ensures { self.new ≡ record self.old { body = record self.old.body { received = self.old.body.received ++ message ∷ [] } } }
     {
-        let descriptor = Descriptor {
-            message,
-            used: 0,
-            answered: false,
-            why: Why::Unknown,
-        };
-        file_free(&mut self.block, List::Received, descriptor);
+        self.receive_copy(&message);
+    }
+
+    /// A copy of a message arrives. Records and messages in flight stay as they are.
+    pub(crate) fn receive_copy(&mut self, message: &Message)
+        requires { slots_held self.old.body < 80 }
+        ensures { self.new ≡ record self.old { body = record self.old.body { received = self.old.body.received ++ message.now ∷ [] } } }
+    {
+        file_free(&mut self.block, List::Received, message, 0, Why::Unknown);
     }
 }

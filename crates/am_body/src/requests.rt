@@ -112,7 +112,7 @@ impl Body {
                     about: None,
                 };
                 self.accept_next();
-                self.queue(message, 0);
+                self.queue_copy(&message, 0);
                 Ok(message)
             }
         }

@@ -20,9 +20,9 @@ impl Fields {
     }
 
     /// A message arrives and is accepted.
-    pub fn put(&mut self, m: Message)
-        requires { Fits (put m (state_in self.old)).body }
-        ensures state { state_in self.new ≡ put m (state_in self.old) }
+    pub fn put(&mut self, m: &Message)
+        requires { Fits (put m.now (state_in self.old)).body }
+        ensures state { state_in self.new ≡ put m.now (state_in self.old) }
         ensures pool { self.new.body.pool ≡ self.old.body.pool }
         ensures flights { self.new.body.flights ≡ self.old.body.flights }
     {
@@ -53,9 +53,9 @@ impl Fields {
     }
 
     /// The front message is in flight. Tells its slot.
-    pub fn fly_front(&mut self, message: Message) -> Slot
-        requires { Fits (front_flown message self.old.body.body) }
-        ensures state { state_in self.new ≡ with_body (state_in self.old) (front_flown message self.old.body.body) }
+    pub fn fly_front(&mut self, message: &Message) -> Slot
+        requires { Fits (front_flown message.now self.old.body.body) }
+        ensures state { state_in self.new ≡ with_body (state_in self.old) (front_flown message.now self.old.body.body) }
         ensures pool { self.new.body.pool ≡ self.old.body.pool }
         ensures flights { self.new.body.flights ≡ self.old.body.flights ++ result.0 ∷ [] }
     {
@@ -100,7 +100,7 @@ impl Fields {
     {
         match outcome {
             Outcome::Accepted(m) => if e.0 == m.dest.0 {
-                self.put(*m);
+                self.put(m);
             },
             _ => {}
         }

@@ -37,7 +37,7 @@ impl Fields {
         ensures flights { self.new.body.flights ≡ self.old.body.flights }
     {
         match what {
-            Received::Accepted { message, .. } => self.put(*message),
+            Received::Accepted { message, .. } => self.put(message),
             Received::Refused {
                 cause: Cause::NotResident,
                 ..

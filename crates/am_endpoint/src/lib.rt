@@ -127,7 +127,7 @@ impl Endpoint {
     pub fn last_stamp(&self) -> u64
         ensures { result ≡ last_stamp self.now.log }
     {
-        match self.log.as_slice().last().copied() {
+        match self.log.as_slice().last() {
             None => 0,
             Some(entry) => entry.stamp,
         }
@@ -214,6 +214,25 @@ impl Endpoint {
         ensures formed { IfSome result (λ queued. is_well_formed queued.message ≡ true) }
     {
         self.fields().body.front()
+    }
+
+    /// Whether there is a front message. False exactly where both queues are empty.
+    pub fn has_front(&self) -> bool
+        requires { is_on_disk (state_after self.now).head.place ≡ false }
+        ensures value { result ≡ is_some (front (state_after self.now)) }
+        ensures none { (result ≡ false) ↔ HasNoQueued (state_after self.now).body }
+    {
+        self.front_message().is_some()
+    }
+
+    /// The front message where it lies: that of `front`. None exactly where both queues are empty.
+    pub fn front_message(&self) -> Option<&Message>
+        requires { is_on_disk (state_after self.now).head.place ≡ false }
+        ensures value { option_map (λ message. message.now) result ≡ option_map (λ queued. queued.message) (front (state_after self.now)) }
+        ensures none { (result ≡ None) ↔ HasNoQueued (state_after self.now).body }
+        ensures formed { IfSome result (λ message. is_well_formed message.now ≡ true) }
+    {
+        self.fields().body.front_message()
     }
 
     /// The verdict on a message that arrives.
@@ -357,7 +376,7 @@ impl Endpoint {
         1 + floor.max(self.last_stamp())
     }
 
-    /// Makes a call, and logs it.
+    /// Makes a call, and logs it with its outcome.
     fn make(&mut self, stamp: u64, actor: Actor, call: Call) -> Entry
         requires place { is_on_disk (state_after self.old).head.place ≡ false }
         requires ready { self.old.ready ≡ true }
@@ -496,7 +515,7 @@ impl Endpoint {
         let Held::Here(fields) = &mut self.held else {
             unreachable!()
         };
-        let Outcome::Sent { message, .. } = entry.outcome else {
+        let Outcome::Sent { message, .. } = &entry.outcome else {
             unreachable!()
         };
         let slot = fields.fly_front(message);

@@ -9,8 +9,8 @@ use Rattle.am_body.proofs.Body.request.Goals as goal
 pub take_credit-requires : goal.take_credit-requires
 take_credit-requires c = subst (λ (s : Serial). is_known (table_of c.args.self.now) s ≡ false) (sym c.new_serial-serial.ensures) c.requires.unknown
 
-pub queue-requires : goal.queue-requires
-queue-requires c =
+pub queue_copy-requires : goal.queue_copy-requires
+queue_copy-requires c =
     let u = unrefused c.args.self.now c.args.index (sym c.request_refusal.ensures ∙ c.in-None.is) in
     let counted = ap (λ (v : View). slots_held v.body) c.accept_next.ensures in
     let taken = ap (λ (v : View). slots_held v.body) c.in-Ok.ensures.ok in

@@ -31,6 +31,7 @@ invariant_of-self c =
       deed_at = i.deed_at;
       deed_len = i.deed_len;
       deed_alloc = i.deed_alloc;
+      few = i.few;
     }
 
 pub returns : goal.returns

@@ -19,6 +19,7 @@ invariant_of-result c =
       deed_at = made.deed.0;
       deed_len = made.deed.1;
       deed_alloc = made.deed.2;
+      few = omega (arith, c.ranges.len.fits);
     }
 
 pub returns : goal.returns

@@ -8,4 +8,4 @@ pub add_flight-requires : goal.add_flight-requires
 add_flight-requires c =
     let b = c.args.self.now.body.body in
     let gone = ap (λ (v : View). slots_held v.body) c.drop_front.ensures in
-    omega (arith, gone, length_push b.in_flight (record { message = c.args.message; bounces = bounces_of b.replies b.requests; answered = false }))
+    omega (arith, gone, length_push b.in_flight (record { message = c.args.message.now; bounces = bounces_of b.replies b.requests; answered = false }))

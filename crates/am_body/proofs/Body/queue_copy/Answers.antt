@@ -1,6 +1,6 @@
 use Rattle.std.proofs.Common.{sym, ◌∙◌}
 use Rattle.am_body.proofs.Filed.{answer_view, request_view}
-use Rattle.am_body.proofs.Body.queue.Goals as goal
+use Rattle.am_body.proofs.Body.queue_copy.Goals as goal
 
 pub returns-then-is_request : goal.returns-then-is_request
 returns-then-is_request c =
