@@ -1,6 +1,6 @@
 -- Where nothing has arrived.
 use Rattle.std.specs.Prelude.{◌↔◌, ◌==◌, ◌||◌, not}
-use Rattle.std.proofs.Common.{◌≡◌, ℕ, Bool, true, false, List, [], ◌∷◌, length, refl, sym, ◌∙◌, true≢false, arith}
+use Rattle.std.proofs.Common.{◌≡◌, Bool, true, false, List, [], ◌∷◌, length, refl, sym, ◌∙◌, true≢false, arith}
 use Rattle.std.proofs.lemmas.Bool.{eqb-true}
 use Rattle.am_model.specs.Changes.{has_arrivals}
 use Rattle.am_model.specs.Endpoint.{Body}

@@ -4,6 +4,7 @@ ghost use Rattle.am_body.specs.Views.{queued_in};
 ghost use Rattle.am_model.specs.Changes.{bounces_of, queued, without_front};
 ghost use Rattle.am_model.specs.Endpoint.{front_of};
 ghost use Rattle.am_names.specs.Names.{is_request};
+ghost use Rattle.std.specs.Option.{option_map};
 ghost use Rattle.std.specs.Prelude.{◌≡◌, ◌↔◌, ◌<◌, [], None};
 
 use crate::Body;
@@ -50,6 +51,27 @@ impl Body {
         }
         match front_descriptor(&self.block, List::Requests) {
             Some(request) => Some(as_queued(request)),
+            None => None,
+        }
+    }
+
+    /// The front message where it lies: that of `front`.
+    pub fn front_message(&self) -> Option<&Message>
+        ensures value { option_map (λ message. message.now) result ≡ option_map (λ queued. queued.message) (front_of self.now.body.replies self.now.body.requests) }
+        ensures none { (result ≡ None) ↔ ((self.now.body.replies ≡ []) × (self.now.body.requests ≡ [])) }
+    {
+        self.first_message()
+    }
+
+    /// The message of the front of replies, and where there is none that of the front of requests.
+    fn first_message(&self) -> Option<&Message>
+        ensures { option_map (λ message. message.now) result ≡ option_map (λ queued. queued.message) (front_of self.now.body.replies self.now.body.requests) }
+    {
+        if let Some(answer) = front_descriptor(&self.block, List::Replies) {
+            return Some(&answer.message);
+        }
+        match front_descriptor(&self.block, List::Requests) {
+            Some(request) => Some(&request.message),
             None => None,
         }
     }

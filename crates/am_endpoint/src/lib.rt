@@ -216,6 +216,25 @@ impl Endpoint {
         self.fields().body.front()
     }
 
+    /// Whether there is a front message. False exactly where both queues are empty.
+    pub fn has_front(&self) -> bool
+        requires { is_on_disk (state_after self.now).head.place ≡ false }
+        ensures value { result ≡ is_some (front (state_after self.now)) }
+        ensures none { (result ≡ false) ↔ HasNoQueued (state_after self.now).body }
+    {
+        self.front_message().is_some()
+    }
+
+    /// The front message where it lies: that of `front`. None exactly where both queues are empty.
+    pub fn front_message(&self) -> Option<&Message>
+        requires { is_on_disk (state_after self.now).head.place ≡ false }
+        ensures value { option_map (λ message. message.now) result ≡ option_map (λ queued. queued.message) (front (state_after self.now)) }
+        ensures none { (result ≡ None) ↔ HasNoQueued (state_after self.now).body }
+        ensures formed { IfSome result (λ message. is_well_formed message.now ≡ true) }
+    {
+        self.fields().body.front_message()
+    }
+
     /// The verdict on a message that arrives.
     pub fn verdict(&self, message: &Message) -> Verdict
         ensures { result ≡ verdict (state_after self.now) message.now }

@@ -1,5 +1,5 @@
 use Rattle.std.specs.Prelude.{◌≡◌, ◌↔◌, None, Option}
-use Rattle.std.proofs.Common.{sym, ap, ◌∙◌, find, subst}
+use Rattle.std.proofs.Common.{sym, ap, ◌∙◌, subst}
 use Rattle.am_names.specs.Names.{has_serial}
 use Rattle.am_model.specs.declared.Flying.{Flying}
 use Rattle.am_model.specs.Changes.{flying_of}
