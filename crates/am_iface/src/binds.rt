@@ -77,11 +77,10 @@ impl Interface {
         if endpoint.draining() {
             return Some(Condition::Draining);
         }
-        let front = endpoint.front();
-        if front.is_none() {
+        if !endpoint.has_front() {
             return Some(Condition::NoMessage);
         }
-        if self.channel_for(&front).is_none() {
+        if self.channel_for(&endpoint.front()).is_none() {
             return Some(Condition::NoChannel);
         }
         None
