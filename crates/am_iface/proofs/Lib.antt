@@ -14,3 +14,4 @@ pub mod Touching
 pub mod Untouched
 pub mod Flown
 pub mod Settled
+pub mod Last

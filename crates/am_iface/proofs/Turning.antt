@@ -1,23 +1,20 @@
 -- What a turn answers, by what logging its entry answers.
-use Rattle.std.specs.Prelude.{◌↔◌, Result, Ok, Err, IfOk, OnOk, OnErr}
+use Rattle.std.specs.Prelude.{◌↔◌, Result, Ok, Err, OnOk, OnErr}
 use Rattle.std.proofs.Common.{◌≡◌, ◌≢◌, ℕ, [], ◌∷◌, ◌++◌, length, Some, None, refl, sym, ap, ◌∙◌}
 use Rattle.am_office.specs.declared.Condition.{Condition}
 use Rattle.am_office.specs.declared.Part.{Part}
 use Rattle.am_office.specs.declared.Part.TheVariants as Parts
 use Rattle.am_office.specs.declared.Entry.{Entry}
-use Rattle.am_office.specs.Entries.{emitted_of}
 use Rattle.am_model.specs.Endpoint.{State}
 use Rattle.am_local.specs.declared.work.Work.{Work}
 use Rattle.am_local.specs.Interface.{event_of, failing_at, outcome_at}
-use Rattle.am_iface.specs.declared.Turned.{Turned}
 use Rattle.am_model.specs.declared.EntryFault.{EntryFault}
 use Rattle.am_model.specs.declared.EntryFault.TheVariants as Faults
 use Rattle.am_iface.specs.View.{InterfaceView, own}
-use Rattle.am_iface.specs.Turns.{Turns}
+use Rattle.am_iface.specs.Turns.{Turns, entry_by}
 
 -- what logging an entry answers
-pub record Enters (old new : InterfaceView) (x : Entry) (result : Result Turned EntryFault) : Type 0 where
-  pub turned : IfOk result (λ (t : Turned). t ≡ record { entry = x; out = emitted_of x })
+pub record Enters (old new : InterfaceView) (x : Entry) (result : Result (Unit {0}) EntryFault) : Type 0 where
   pub logged : OnOk result (new ≡ record old { log = old.log ++ x ∷ [] })
   pub enabled : (c : Condition) → result ≢ Err (Faults.NotEnabled c)
   pub full : (p : Part) → (result ≡ Err (Faults.LogFull p)) ↔ ((p ≡ Parts.Interface old.settings.node) × (length old.log ≡ old.settings.log))
@@ -30,25 +27,19 @@ pub record IsEntryOf (old : InterfaceView) (s : State) (stamp : ℕ) (w : Work) 
   pub stamped : x.stamp ≡ stamp
   pub enabled : failing_at (own old) s w ≡ None
 
-pub turns_by_entering : (old new : InterfaceView) (s : State) (stamp : ℕ) (w : Work) (x : Entry) (result : Result Turned EntryFault) → IsEntryOf old s stamp w x → Enters old new x result → Turns old new s stamp w result
-turns_by_entering old new s stamp w x (Ok t) is enters =
-    let entry : t.entry ≡ x = ap (λ (u : Turned). u.entry) enters.turned in
+pub entry_is : (old : InterfaceView) (s : State) (stamp : ℕ) (w : Work) (x : Entry) → IsEntryOf old s stamp w x → x ≡ entry_by old s stamp w
+entry_is old s stamp w x is = λ j. record { stamp = is.stamped j; event = is.event j; outcome = is.outcome j }
+
+pub turns_by_entering : (old new : InterfaceView) (s : State) (stamp : ℕ) (w : Work) (x : Entry) (result : Result (Unit {0}) EntryFault) → IsEntryOf old s stamp w x → Enters old new x result → Turns old new s stamp w result
+turns_by_entering old new s stamp w x (Ok u) is enters =
     record {
-      event = ap (λ (y : Entry). y.event) entry ∙ is.event;
-      outcome = ap (λ (y : Entry). y.outcome) entry ∙ is.outcome;
-      stamped = ap (λ (y : Entry). y.stamp) entry ∙ is.stamped;
-      out = ap (λ (u : Turned). u.out) enters.turned ∙ ap emitted_of (sym entry);
-      logged = enters.logged ∙ ap (λ (y : Entry). record old { log = old.log ++ y ∷ [] }) (sym entry);
+      logged = enters.logged ∙ ap (λ (y : Entry). record old { log = old.log ++ y ∷ [] }) (entry_is old s stamp w x is);
       disabled = λ c. ((λ h. absurd (enters.enabled c h)), (λ h. absurd (let both : None ≡ Some c = sym is.enabled ∙ h in cc)));
       full = λ p. ((λ h. (is.enabled, (enters.full p).0 h)), (λ h. (enters.full p).1 h.1));
       err = tt;
     }
 turns_by_entering old new s stamp w x (Err e) is enters =
     record {
-      event = tt;
-      outcome = tt;
-      stamped = tt;
-      out = tt;
       logged = tt;
       disabled = λ c. ((λ h. absurd (enters.enabled c h)), (λ h. absurd (let both : None ≡ Some c = sym is.enabled ∙ h in cc)));
       full = λ p. ((λ h. (is.enabled, (enters.full p).0 h)), (λ h. (enters.full p).1 h.1));
@@ -59,10 +50,6 @@ turns_by_entering old new s stamp w x (Err e) is enters =
 pub turns_by_failing : (old : InterfaceView) (s : State) (stamp : ℕ) (w : Work) (why : Condition) → failing_at (own old) s w ≡ Some why → Turns old old s stamp w (Err (Faults.NotEnabled why))
 turns_by_failing old s stamp w why fails =
     record {
-      event = tt;
-      outcome = tt;
-      stamped = tt;
-      out = tt;
       logged = tt;
       disabled = λ c. ((λ h. fails ∙ ap (λ (k : Condition). Some k) (let same : why ≡ c = cc in same)), (λ h. let same : why ≡ c = (let both : Some why ≡ Some c = sym fails ∙ h in cc) in ap (λ (k : Condition). Err (Faults.NotEnabled k)) same));
       full = λ p. ((λ h. absurd (cc)), (λ h. absurd (let both : Some why ≡ None = sym fails ∙ h.0 in cc)));

@@ -1,19 +1,17 @@
 -- What a turn with an endpoint answers, by what logging its entry answers.
-use Rattle.std.specs.Prelude.{◌↔◌, Result, Ok, Err, IfOk, OnOk, OnErr}
+use Rattle.std.specs.Prelude.{◌↔◌, Result, Ok, Err, OnOk, OnErr}
 use Rattle.std.proofs.Common.{◌≡◌, ◌≢◌, ⊎_elim, ℕ, ◌<◌, [], ◌∷◌, ◌++◌, length, Some, None, refl, sym, ap, ◌∙◌, subst, arith}
 use Rattle.am_office.specs.declared.Condition.{Condition}
 use Rattle.am_office.specs.declared.Part.{Part}
 use Rattle.am_office.specs.declared.Entry.{Entry}
-use Rattle.am_office.specs.Entries.{emitted_of}
 use Rattle.am_endpoint.specs.View.{EndpointView, state_after}
 use Rattle.am_local.specs.Interface.{failing_at}
 use Rattle.am_local.specs.declared.work.Work.{Work}
-use Rattle.am_iface.specs.declared.Turned.{Turned}
 use Rattle.am_model.specs.declared.EntryFault.{EntryFault}
 use Rattle.am_model.specs.declared.EntryFault.TheVariants as Faults
 use Rattle.am_iface.specs.View.{InterfaceView, own}
 use Rattle.am_iface.specs.With.{Flies, IsFullOf, TurnsWith}
-use Rattle.am_iface.proofs.Turning.{IsEntryOf}
+use Rattle.am_iface.proofs.Turning.{IsEntryOf, entry_is}
 
 -- no log is full where both have room
 pub no_full_log : (v : InterfaceView) (e : EndpointView) (p : Part) → length v.log < v.settings.log → length e.log < e.settings.log → IsFullOf v e p → ⊥
@@ -21,32 +19,27 @@ no_full_log v e p here there full =
     ⊎_elim (λ first. omega (arith, first.1, there)) (λ second. omega (arith, second.1.1, here)) full
 
 -- what logging an entry in the interface answers, once both logs have room
-pub record EntersWith (old new : InterfaceView) (e : EndpointView) (x : Entry) (result : Result Turned EntryFault) : Type 0 where
-  pub turned : IfOk result (λ (t : Turned). t ≡ record { entry = x; out = emitted_of x })
+pub record EntersWith (old new : InterfaceView) (e : EndpointView) (x : Entry) (result : Result (Unit {0}) EntryFault) : Type 0 where
   pub logged : OnOk result (new ≡ record old { log = old.log ++ x ∷ [] })
   pub enabled : (c : Condition) → result ≢ Err (Faults.NotEnabled c)
   pub full : (p : Part) → (result ≡ Err (Faults.LogFull p)) ↔ IsFullOf old e p
   pub err : OnErr result (new ≡ old)
 
 -- what becomes of the endpoint
-pub record Follows (e f : EndpointView) (w : Work) (x : Entry) (result : Result Turned EntryFault) : Type 0 where
+pub record Follows (e f : EndpointView) (w : Work) (x : Entry) (result : Result (Unit {0}) EntryFault) : Type 0 where
   pub same : f.settings ≡ e.settings
   pub there : OnOk result (f.log ≡ e.log ++ x ∷ [])
   pub flies : OnOk result (Flies w x e f)
   pub err : OnErr result (f.log ≡ e.log)
   pub err_flights : OnErr result (f.flights ≡ e.flights)
 
-pub turns_with : (old new : InterfaceView) (e f : EndpointView) (stamp : ℕ) (w : Work) (x : Entry) (result : Result Turned EntryFault) → IsEntryOf old (state_after e) stamp w x → EntersWith old new e x result → Follows e f w x result → TurnsWith old new e f stamp w result
-turns_with old new e f stamp w x (Ok t) is enters follows =
-    let entry : t.entry ≡ x = ap (λ (u : Turned). u.entry) enters.turned in
+pub turns_with : (old new : InterfaceView) (e f : EndpointView) (stamp : ℕ) (w : Work) (x : Entry) (result : Result (Unit {0}) EntryFault) → IsEntryOf old (state_after e) stamp w x → EntersWith old new e x result → Follows e f w x result → TurnsWith old new e f stamp w result
+turns_with old new e f stamp w x (Ok u) is enters follows =
+    let entry = entry_is old (state_after e) stamp w x is in
     record {
-      event = ap (λ (y : Entry). y.event) entry ∙ is.event;
-      outcome = ap (λ (y : Entry). y.outcome) entry ∙ is.outcome;
-      stamped = ap (λ (y : Entry). y.stamp) entry ∙ is.stamped;
-      out = ap (λ (u : Turned). u.out) enters.turned ∙ ap emitted_of (sym entry);
-      logged = enters.logged ∙ ap (λ (y : Entry). record old { log = old.log ++ y ∷ [] }) (sym entry);
-      there = follows.there ∙ ap (λ (y : Entry). e.log ++ y ∷ []) (sym entry);
-      flies = subst (λ (y : Entry). Flies w y e f) (sym entry) follows.flies;
+      logged = enters.logged ∙ ap (λ (y : Entry). record old { log = old.log ++ y ∷ [] }) entry;
+      there = follows.there ∙ ap (λ (y : Entry). e.log ++ y ∷ []) entry;
+      flies = subst (λ (y : Entry). Flies w y e f) entry follows.flies;
       same = follows.same;
       disabled = λ c. ((λ h. absurd (enters.enabled c h)), (λ h. absurd (let both : None ≡ Some c = sym is.enabled ∙ h in cc)));
       full = λ p. ((λ h. (is.enabled, (enters.full p).0 h)), (λ h. (enters.full p).1 h.1));
@@ -56,10 +49,6 @@ turns_with old new e f stamp w x (Ok t) is enters follows =
     }
 turns_with old new e f stamp w x (Err fault) is enters follows =
     record {
-      event = tt;
-      outcome = tt;
-      stamped = tt;
-      out = tt;
       logged = tt;
       there = tt;
       flies = tt;
@@ -75,10 +64,6 @@ turns_with old new e f stamp w x (Err fault) is enters follows =
 pub turns_with_by_failing : (old : InterfaceView) (e : EndpointView) (stamp : ℕ) (w : Work) (why : Condition) → failing_at (own old) (state_after e) w ≡ Some why → TurnsWith old old e e stamp w (Err (Faults.NotEnabled why))
 turns_with_by_failing old e stamp w why fails =
     record {
-      event = tt;
-      outcome = tt;
-      stamped = tt;
-      out = tt;
       logged = tt;
       there = tt;
       flies = tt;

@@ -1,7 +1,7 @@
 -- A work that touches no endpoint, and one that emits no packet.
 use Rattle.std.specs.Prelude.{◌↔◌, ◌⊎◌, is_some, not}
 use Rattle.std.specs.Option.{option_map}
-use Rattle.std.proofs.Common.{◌≡◌, ◌≢◌, Bool, true, false, Option, Some, None, List, refl, sym, ap, ◌∙◌, inl, inr, subst, true≢false, ⊎_elim}
+use Rattle.std.proofs.Common.{◌≡◌, ◌≢◌, Bool, true, false, Option, Some, None, List, refl, sym, ◌∙◌, inl, inr, subst, true≢false, ⊎_elim}
 use Rattle.am_names.specs.declared.EndpointId.{EndpointId}
 use Rattle.am_names.specs.declared.NodeId.{NodeId}
 use Rattle.am_names.specs.declared.Message.{Message}

@@ -1,16 +1,14 @@
 -- What a turn of an interface answers, and what it leaves.
-use Rattle.std.specs.Prelude.{◌≡◌, ◌↔◌, ℕ, ◌+◌, max, Some, None, Result, Err, IfOk, OnErr, List, [], ◌∷◌, ◌++◌, length}
+use Rattle.std.specs.Prelude.{◌≡◌, ◌↔◌, ℕ, ◌+◌, max, Some, None, Result, Err, OnErr, OnOk, List, [], ◌∷◌, ◌++◌, length}
 use Rattle.am_office.specs.declared.Condition.{Condition}
 use Rattle.am_office.specs.declared.Part.{Part}
 use Rattle.am_office.specs.declared.Part.TheVariants as Parts
 use Rattle.am_office.specs.declared.Entry.{Entry}
-use Rattle.am_office.specs.Entries.{emitted_of}
 use Rattle.am_model.specs.Endpoint.{State}
 use Rattle.am_model.specs.Packets.{stamp_of}
 use Rattle.am_local.specs.declared.work.Work.{Work}
 use Rattle.am_local.specs.declared.work.Work.TheVariants as Works
 use Rattle.am_local.specs.Interface.{event_of, failing_at, outcome_at}
-use Rattle.am_iface.specs.declared.Turned.{Turned}
 use Rattle.am_model.specs.declared.EntryFault.{EntryFault}
 use Rattle.am_model.specs.declared.EntryFault.TheVariants as Faults
 use Rattle.am_iface.specs.View.{InterfaceView, own}
@@ -30,13 +28,13 @@ stamp_after floor log w = 1 + max (max floor (last_stamp log)) (stamp_in w)
 abbrev pub IsFull : InterfaceView → Part → Type 0
 IsFull v part = (part ≡ Parts.Interface v.settings.node) × (length v.log ≡ v.settings.log)
 
+-- the entry of a work that touches no endpoint, or one in this state
+abbrev pub entry_by : InterfaceView → State → ℕ → Work → Entry
+entry_by v s stamp w = record { stamp = stamp; event = event_of v.settings.node w; outcome = outcome_at (own v) s w }
+
 -- where the work touches no endpoint, or one in this state
-pub record Turns (old new : InterfaceView) (s : State) (stamp : ℕ) (w : Work) (result : Result Turned EntryFault) : Type 0 where
-  pub event : IfOk result (λ t. t.entry.event ≡ event_of old.settings.node w)
-  pub outcome : IfOk result (λ t. t.entry.outcome ≡ outcome_at (own old) s w)
-  pub stamped : IfOk result (λ t. t.entry.stamp ≡ stamp)
-  pub out : IfOk result (λ t. t.out ≡ emitted_of t.entry)
-  pub logged : IfOk result (λ t. new ≡ record old { log = old.log ++ t.entry ∷ [] })
+pub record Turns (old new : InterfaceView) (s : State) (stamp : ℕ) (w : Work) (result : Result (Unit {0}) EntryFault) : Type 0 where
+  pub logged : OnOk result (new ≡ record old { log = old.log ++ entry_by old s stamp w ∷ [] })
   pub disabled : (c : Condition) → (result ≡ Err (Faults.NotEnabled c)) ↔ (failing_at (own old) s w ≡ Some c)
   pub full : (p : Part) → (result ≡ Err (Faults.LogFull p)) ↔ ((failing_at (own old) s w ≡ None) × IsFull old p)
   pub err : OnErr result (new ≡ old)

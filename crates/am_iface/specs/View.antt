@@ -1,5 +1,5 @@
 -- An interface as its callers see it, and the work that it can be given.
-use Rattle.std.specs.Prelude.{◌≡◌, ℕ, ◌-◌, ◌<◌, ◌≤◌, true, List}
+use Rattle.std.specs.Prelude.{◌≡◌, ℕ, ◌<◌, ◌≤◌, true, List}
 use Rattle.am_names.specs.declared.NodeId.{NodeId}
 use Rattle.am_names.specs.declared.Parcel.{Parcel}
 use Rattle.am_names.specs.declared.AnswerPacket.{AnswerPacket}

@@ -1,9 +1,8 @@
 -- What a turn of an interface with an endpoint answers, and what it leaves of both.
-use Rattle.std.specs.Prelude.{◌≡◌, ◌≢◌, ◌⊎◌, ◌↔◌, ℕ, Option, Some, None, Result, Err, IfOk, OnErr, IsSome, List, [], ◌∷◌, ◌++◌, length}
+use Rattle.std.specs.Prelude.{◌≡◌, ◌≢◌, ◌⊎◌, ◌↔◌, ℕ, Option, Some, None, Result, Err, OnErr, OnOk, IsSome, List, [], ◌∷◌, ◌++◌, length}
 use Rattle.am_office.specs.declared.Condition.{Condition}
 use Rattle.am_office.specs.declared.Part.{Part}
 use Rattle.am_office.specs.declared.Part.TheVariants as Parts
-use Rattle.am_office.specs.Entries.{emitted_of}
 use Rattle.am_office.specs.declared.Entry.{Entry}
 use Rattle.am_names.specs.declared.Serial.{Serial}
 use Rattle.am_block.specs.Pools.{without}
@@ -16,12 +15,11 @@ use Rattle.am_model.specs.declared.Flying.{Flying}
 use Rattle.am_model.specs.declared.Queued.{Queued}
 use Rattle.am_model.specs.Changes.{flying_of, settled_in}
 use Rattle.am_model.specs.Endpoint.{State, front}
-use Rattle.am_local.specs.Interface.{InterfaceLog, event_of, failing_at, home_in, outcome_at}
-use Rattle.am_iface.specs.declared.Turned.{Turned}
+use Rattle.am_local.specs.Interface.{InterfaceLog, failing_at, home_in}
 use Rattle.am_model.specs.declared.EntryFault.{EntryFault}
 use Rattle.am_model.specs.declared.EntryFault.TheVariants as Faults
 use Rattle.am_iface.specs.View.{InterfaceView, own}
-use Rattle.am_iface.specs.Turns.{IsFull}
+use Rattle.am_iface.specs.Turns.{IsFull, entry_by}
 
 -- the endpoint's log has as many entries as it may; or it has not, and the interface's has
 abbrev pub IsFullOf : InterfaceView → EndpointView → Part → Type 0
@@ -47,14 +45,10 @@ Flies (Works.Bind end) x e f = (slot : ℕ) × (f.flights ≡ e.flights ++ slot 
 Flies (Works.Receive p) x e f = Lands x e f
 Flies (Works.Expire peer channel) x e f = Lands x e f
 
-pub record TurnsWith (old new : InterfaceView) (e f : EndpointView) (stamp : ℕ) (w : Work) (result : Result Turned EntryFault) : Type 0 where
-  pub event : IfOk result (λ t. t.entry.event ≡ event_of old.settings.node w)
-  pub outcome : IfOk result (λ t. t.entry.outcome ≡ outcome_at (own old) (state_after e) w)
-  pub stamped : IfOk result (λ t. t.entry.stamp ≡ stamp)
-  pub out : IfOk result (λ t. t.out ≡ emitted_of t.entry)
-  pub logged : IfOk result (λ t. new ≡ record old { log = old.log ++ t.entry ∷ [] })
-  pub there : IfOk result (λ t. f.log ≡ e.log ++ t.entry ∷ [])
-  pub flies : IfOk result (λ t. Flies w t.entry e f)
+pub record TurnsWith (old new : InterfaceView) (e f : EndpointView) (stamp : ℕ) (w : Work) (result : Result (Unit {0}) EntryFault) : Type 0 where
+  pub logged : OnOk result (new ≡ record old { log = old.log ++ entry_by old (state_after e) stamp w ∷ [] })
+  pub there : OnOk result (f.log ≡ e.log ++ entry_by old (state_after e) stamp w ∷ [])
+  pub flies : OnOk result (Flies w (entry_by old (state_after e) stamp w) e f)
   pub same : f.settings ≡ e.settings
   pub disabled : (c : Condition) → (result ≡ Err (Faults.NotEnabled c)) ↔ (failing_at (own old) (state_after e) w ≡ Some c)
   pub full : (p : Part) → (result ≡ Err (Faults.LogFull p)) ↔ ((failing_at (own old) (state_after e) w ≡ None) × IsFullOf old e p)

@@ -12,15 +12,14 @@ ghost use Rattle.am_local.specs.declared.work.Work.TheVariants as Works;
 ghost use Rattle.am_model.specs.Allowed.{MayBind};
 ghost use Rattle.am_model.specs.Endpoint.{front, is_direct};
 ghost use Rattle.am_model.specs.History.{free_from};
-ghost use Rattle.am_office.specs.Entries.{emitted_of};
 ghost use Rattle.am_office.specs.declared.Condition.{Condition};
 ghost use Rattle.am_office.specs.declared.Part.{Part};
-ghost use Rattle.std.specs.Prelude.{◌≡◌, ◌≢◌, ◌↔◌, ◌-◌, ◌<◌, ◌^◌, ℕ, [], ◌∷◌, ◌++◌, Err, None, Some, false, IfOk, IfSome, IsNone, OnErr, OnOk};
+ghost use Rattle.std.specs.Prelude.{◌≡◌, ◌≢◌, ◌↔◌, ◌-◌, ◌<◌, ◌^◌, ℕ, [], ◌∷◌, ◌++◌, Err, None, Some, false, IfSome, IsNone, OnErr, OnOk};
 
 use crate::by_ends::{bind, first_try};
 use crate::entries::{bind_entry, sent};
-use crate::packets::emitted_of;
-use crate::{Interface, Turned, write};
+use crate::packets::emits;
+use crate::{Interface, write};
 use am_channel::Ends;
 use am_endpoint::Endpoint;
 use am_model::{EntryFault, Queued, is_resident};
@@ -78,11 +77,10 @@ impl Interface {
         if endpoint.draining() {
             return Some(Condition::Draining);
         }
-        let front = endpoint.front();
-        if front.is_none() {
+        if !endpoint.has_front() {
             return Some(Condition::NoMessage);
         }
-        if self.channel_for(&front).is_none() {
+        if self.channel_for(&endpoint.front()).is_none() {
             return Some(Condition::NoChannel);
         }
         None
@@ -111,14 +109,13 @@ impl Interface {
         message: Message,
         entry: &Entry,
         endpoint: &mut Endpoint,
-    ) -> Result<Turned, EntryFault>
+    ) -> Result<(), EntryFault>
         requires peer { peer.0 < self.old.settings.nodes }
         requires channel { channel < self.old.settings.channels }
         requires idle { IsNone idle.sending.bound }
         requires sequence { idle.sending.seq < 2 ^ 32 - 1 }
         requires made { (slot : Slot) → IsMade (channel_in (own self.old) peer channel) self.old.log (after idle (Calls.Bind message slot)) entry.now }
         requires allowed { MayBind endpoint.old.settings.node endpoint.old.settings.id (state_after endpoint.old) entry.now }
-        ensures turned { IfOk result (λ t. t ≡ record { entry = entry.now; out = emitted_of entry.now }) }
         ensures logged { OnOk result (self.new ≡ record self.old { log = self.old.log ++ entry.now ∷ [] }) }
         ensures there { OnOk result (endpoint.new.log ≡ endpoint.old.log ++ entry.now ∷ []) }
         ensures flights { OnOk result ((slot : ℕ) × (endpoint.new.flights ≡ endpoint.old.flights ++ slot ∷ [])) }
@@ -137,17 +134,16 @@ impl Interface {
         }
         let mut ends = idle;
         bind(&mut ends, message, endpoint.take(*entry));
-        let out = emitted_of(entry);
         write(
             &mut self.ends,
             &mut self.emissions,
             peer,
             channel,
-            ends,
-            out.is_some(),
+            &ends,
+            emits(entry),
         );
         self.log.push_reserved(*entry);
-        Ok(Turned { entry: *entry, out })
+        Ok(())
     }
 
     /// Binds the front message to the lowest free channel to its destination's node.
@@ -158,7 +154,7 @@ impl Interface {
         peer: NodeId,
         channel: u8,
         endpoint: &mut Endpoint,
-    ) -> Result<Turned, EntryFault>
+    ) -> Result<(), EntryFault>
         requires enabled { failing_at (own self.old) (state_after endpoint.old) (Works.Bind endpoint.old.settings.id) ≡ None }
         requires at { home_in (own self.old) endpoint.old.settings.id ≡ Some endpoint.old.settings.node }
         requires packet { is_direct (state_after endpoint.old).head.place ≡ false }
@@ -177,7 +173,7 @@ impl Interface {
     }
 
     /// Binds the front message, which nothing keeps from being bound.
-    fn bind_front(&mut self, stamp: u64, endpoint: &mut Endpoint) -> Result<Turned, EntryFault>
+    fn bind_front(&mut self, stamp: u64, endpoint: &mut Endpoint) -> Result<(), EntryFault>
         requires enabled { failing_at (own self.old) (state_after endpoint.old) (Works.Bind endpoint.old.settings.id) ≡ None }
         requires at { home_in (own self.old) endpoint.old.settings.id ≡ Some endpoint.old.settings.node }
         requires packet { is_direct (state_after endpoint.old).head.place ≡ false }
@@ -200,7 +196,7 @@ impl Interface {
         &mut self,
         stamp: u64,
         endpoint: &mut Endpoint,
-    ) -> Result<Turned, EntryFault>
+    ) -> Result<(), EntryFault>
         requires at { home_in (own self.old) endpoint.old.settings.id ≡ Some endpoint.old.settings.node }
         requires packet { is_direct (state_after endpoint.old).head.place ≡ false }
         requires known { IsHomeKnown (own self.old) (front (state_after endpoint.old)) }

@@ -4,7 +4,7 @@
 
 ghost use Rattle.am_iface.specs.Settings.{AreLawful};
 ghost use Rattle.am_endpoint.specs.View.{state_after};
-ghost use Rattle.am_iface.specs.Turns.{IsFull, Turns, stamp_after, stamp_in};
+ghost use Rattle.am_iface.specs.Turns.{IsFull, Turns, entry_by, stamp_after, stamp_in};
 ghost use Rattle.am_iface.specs.View.{FitsAnswer, FitsInterface, FitsParcel, InterfaceView, IsChannelOf, own};
 ghost use Rattle.am_model.specs.Parts.{last_stamp};
 ghost use Rattle.am_iface.specs.With.{IsFullOf, KnowsHome, Flies};
@@ -18,12 +18,13 @@ ghost use Rattle.am_model.specs.Endpoint.{State, is_direct};
 ghost use Rattle.am_model.specs.History.{is_bound, next_number};
 ghost use Rattle.am_names.specs.declared.Packet.TheVariants as Packets;
 ghost use Rattle.am_model.specs.Channels.{attempt, bound_message, emitted};
-ghost use Rattle.std.specs.Option.{option_map};
+ghost use Rattle.std.specs.Option.{option_copied, option_map};
 ghost use Rattle.am_iface.specs.Made.{IsMade, bit};
 ghost use Rattle.am_office.specs.Entries.{emitted_of};
+ghost use Rattle.am_office.specs.declared.Entry.{Entry};
 ghost use Rattle.am_office.specs.declared.Condition.{Condition};
 ghost use Rattle.am_office.specs.declared.Part.{Part};
-ghost use Rattle.std.specs.Prelude.{◌≡◌, ◌≢◌, ◌↔◌, ◌+◌, ◌*◌, ◌<◌, ◌≤◌, ◌^◌, IsTrue, false, max, None, Some, [], ◌∷◌, ◌++◌, length, IfOk, IfSome, OnOk, OnErr, Err, get_or, slice_set};
+ghost use Rattle.std.specs.Prelude.{◌≡◌, ◌≢◌, ◌↔◌, ◌+◌, ◌-◌, ◌*◌, ◌<◌, ◌≤◌, ◌^◌, IsTrue, false, max, None, Some, [], ◌∷◌, ◌++◌, length, IfOk, IfSome, List, OnOk, OnErr, Err, get_or, slice_get, slice_set};
 
 mod binds;
 mod by_ends;
@@ -38,6 +39,7 @@ use crate::by_ends::{
 };
 use crate::entries::{answer_receipt, parcel_receipt, repeat, resend};
 use crate::opening::{no_emissions, unused_ends};
+use crate::packets::emits;
 pub use crate::packets::emitted_of;
 pub use crate::settings::IfaceSettings;
 use crate::settings::Limits;
@@ -167,13 +169,22 @@ impl Interface {
         self.log.len() >= self.limits.log as usize
     }
 
-    /// Both ends of a channel.
+    /// Both ends of a channel, where they are kept.
+    fn kept_ends(&self, peer: NodeId, channel: u8) -> &Ends
+        requires peer { peer.0 < self.now.settings.nodes }
+        requires channel { channel < self.now.settings.channels }
+        ensures { AreCounted (channel_in (own self.now) peer channel) self.now.log result.now }
+    {
+        &self.ends[4 * peer.0 as usize + channel as usize]
+    }
+
+    /// A copy of both ends of a channel.
     fn ends(&self, peer: NodeId, channel: u8) -> Ends
         requires peer { peer.0 < self.now.settings.nodes }
         requires channel { channel < self.now.settings.channels }
         ensures { AreCounted (channel_in (own self.now) peer channel) self.now.log result }
     {
-        self.ends[4 * peer.0 as usize + channel as usize]
+        *self.kept_ends(peer, channel)
     }
 
     /// The message that is bound to the channel's sending end, the attempt of its last packet, and the slot that its source
@@ -186,7 +197,7 @@ impl Interface {
         ensures attempt { IfSome result (λ b. b.attempt ≡ attempt (channel_in (own self.now) peer channel) self.now.log) }
         ensures idle { (result ≡ None) ↔ (is_bound (channel_in (own self.now) peer channel) self.now.log ≡ false) }
     {
-        self.ends(peer, channel).sending.busy()
+        self.kept_ends(peer, channel).sending.busy()
     }
 
     /// The endpoint that a work touches: the destination of a fresh parcel, the source of a bound message that settles or
@@ -205,11 +216,11 @@ impl Interface {
         ensures { result ≡ needs (own self.now) work.now }
     {
         match work {
-            Work::Receive(Packet::Parcel(p)) => needs_parcel(&self.ends(p.from, p.channel), p),
-            Work::Receive(Packet::Answer(p)) => needs_answer(&self.ends(p.from, p.channel), p),
+            Work::Receive(Packet::Parcel(p)) => needs_parcel(self.kept_ends(p.from, p.channel), p),
+            Work::Receive(Packet::Answer(p)) => needs_answer(self.kept_ends(p.from, p.channel), p),
             Work::Bind(end) => Some(*end),
             Work::Expire { peer, channel } => needs_expiry(
-                &self.ends(*peer, *channel),
+                self.kept_ends(*peer, *channel),
                 self.limits.tries,
             ),
         }
@@ -232,11 +243,11 @@ impl Interface {
         ensures { result ≡ emits_to (own self.now) work.now }
     {
         match work {
-            Work::Receive(Packet::Parcel(p)) => emits_parcel(&self.ends(p.from, p.channel), p),
+            Work::Receive(Packet::Parcel(p)) => emits_parcel(self.kept_ends(p.from, p.channel), p),
             Work::Receive(Packet::Answer(_)) => None,
             Work::Bind(_) => None,
             Work::Expire { peer, channel } => emits_expiry(
-                &self.ends(*peer, *channel),
+                self.kept_ends(*peer, *channel),
                 self.limits.tries,
                 *peer,
             ),
@@ -250,11 +261,10 @@ impl Interface {
         channel: u8,
         ends: &Ends,
         entry: &Entry,
-    ) -> Result<Turned, EntryFault>
+    ) -> Result<(), EntryFault>
         requires peer { peer.0 < self.old.settings.nodes }
         requires channel { channel < self.old.settings.channels }
         requires made { IsMade (channel_in (own self.old) peer channel) self.old.log ends.now entry.now }
-        ensures turned { IfOk result (λ t. t ≡ record { entry = entry.now; out = emitted_of entry.now }) }
         ensures logged { OnOk result (self.new ≡ record self.old { log = self.old.log ++ entry.now ∷ [] }) }
         ensures enabled { (c : Condition) → result ≢ Err (EntryFault.NotEnabled c) }
         ensures full { (p : Part) → (result ≡ Err (EntryFault.LogFull p)) ↔ ((p ≡ Part.Interface self.old.settings.node) × (length self.old.log ≡ self.old.settings.log)) }
@@ -266,17 +276,16 @@ impl Interface {
         if self.log.reserve(1).is_err() {
             return Err(EntryFault::NoMemory);
         }
-        let out = packets::emitted_of(entry);
         write(
             &mut self.ends,
             &mut self.emissions,
             peer,
             channel,
-            *ends,
-            out.is_some(),
+            ends,
+            emits(entry),
         );
         self.log.push_reserved(*entry);
-        Ok(Turned { entry: *entry, out })
+        Ok(())
     }
 
     /// How often a message may bounce.
@@ -309,7 +318,7 @@ impl Interface {
     }
 
     /// Receives a parcel that is stale or comes again.
-    fn receive_again(&mut self, stamp: u64, p: &Parcel) -> Result<Turned, EntryFault>
+    fn receive_again(&mut self, stamp: u64, p: &Parcel) -> Result<(), EntryFault>
         requires fits { FitsParcel self.old.settings p.now }
         requires known { needs_arrival p.now.message.dest (arrival_in (own self.old) p.now.from p.now.channel p.now.seq p.now.attempt) ≡ None }
         ensures { (s : State) → Turns self.old self.new s stamp (Works.Receive (Packets.Parcel p.now)) result }
@@ -322,7 +331,7 @@ impl Interface {
     }
 
     /// Receives an answer that counts for nothing.
-    fn receive_nothing(&mut self, stamp: u64, p: &AnswerPacket) -> Result<Turned, EntryFault>
+    fn receive_nothing(&mut self, stamp: u64, p: &AnswerPacket) -> Result<(), EntryFault>
         requires fits { FitsAnswer self.old.settings p.now }
         requires nothing { needs (own self.old) (Works.Receive (Packets.Answer p.now)) ≡ None }
         ensures { (s : State) → Turns self.old self.new s stamp (Works.Receive (Packets.Answer p.now)) result }
@@ -354,7 +363,7 @@ impl Interface {
     }
 
     /// Lets a channel time out that is idle or has a try left.
-    fn expire_alone(&mut self, stamp: u64, peer: NodeId, channel: u8) -> Result<Turned, EntryFault>
+    fn expire_alone(&mut self, stamp: u64, peer: NodeId, channel: u8) -> Result<(), EntryFault>
         requires on { IsChannelOf self.old.settings peer channel }
         requires alone { needs (own self.old) (Works.Expire peer channel) ≡ None }
         ensures { (s : State) → Turns self.old self.new s stamp (Works.Expire peer channel) result }
@@ -382,7 +391,7 @@ impl Interface {
     }
 
     /// Receives a packet that touches no endpoint.
-    fn receive_alone(&mut self, stamp: u64, packet: &Packet) -> Result<Turned, EntryFault>
+    fn receive_alone(&mut self, stamp: u64, packet: &Packet) -> Result<(), EntryFault>
         requires fits { FitsInterface self.old (Works.Receive packet.now) }
         requires alone { needs (own self.old) (Works.Receive packet.now) ≡ None }
         ensures { (s : State) → Turns self.old self.new s stamp (Works.Receive packet.now) result }
@@ -394,7 +403,7 @@ impl Interface {
     }
 
     /// Does a work that touches no endpoint.
-    fn work_alone(&mut self, stamp: u64, work: &Work) -> Result<Turned, EntryFault>
+    fn work_alone(&mut self, stamp: u64, work: &Work) -> Result<(), EntryFault>
         requires fits { FitsInterface self.old work.now }
         requires alone { needs (own self.old) work.now ≡ None }
         ensures { (s : State) → Turns self.old self.new s stamp work.now result }
@@ -404,6 +413,77 @@ impl Interface {
             Work::Bind(_) => unreachable!(),
             Work::Expire { peer, channel } => self.expire_alone(stamp, *peer, *channel),
         }
+    }
+
+    /// The last entry, if there is one.
+    pub fn last_entry(&self) -> Option<&Entry>
+        ensures value { option_copied result ≡ slice_get self.now.log (length self.now.log - 1) }
+        ensures last { (past : List Entry) (x : Entry) → self.now.log ≡ past ++ x ∷ [] → option_copied result ≡ Some x }
+    {
+        self.log.as_slice().last()
+    }
+
+    /// What the turn did whose entry was logged last.
+    fn last_turn(&self) -> Turned
+        requires { 0 < length self.now.log }
+        ensures { (past : List Entry) (x : Entry) → self.now.log ≡ past ++ x ∷ [] → result ≡ record { entry = x; out = emitted_of x } }
+    {
+        let Some(entry) = self.last_entry() else {
+            unreachable!()
+        };
+        Turned {
+            entry: *entry,
+            out: emitted_of(entry),
+        }
+    }
+
+    /// Does a work that touches no endpoint, as `turn_alone` does, and answers no copy of the entry, which is the last of the log.
+    pub fn make_alone(&mut self, floor: u64, work: &Work) -> Result<(), EntryFault>
+        requires fits { FitsInterface self.old work.now }
+        requires alone { needs (own self.old) work.now ≡ None }
+        requires floor { floor + 1 < 2 ^ 64 }
+        requires last { last_stamp self.old.log + 1 < 2 ^ 64 }
+        requires packet { stamp_in work.now + 1 < 2 ^ 64 }
+        ensures logged { (s : State) → OnOk result (self.new ≡ record self.old { log = self.old.log ++ entry_by self.old s (stamp_after floor self.old.log work.now) work.now ∷ [] }) }
+        ensures disabled { (s : State) (c : Condition) → (result ≡ Err (EntryFault.NotEnabled c)) ↔ (failing_at (own self.old) s work.now ≡ Some c) }
+        ensures full { (s : State) (p : Part) → (result ≡ Err (EntryFault.LogFull p)) ↔ ((failing_at (own self.old) s work.now ≡ None) × IsFull self.old p) }
+        ensures err { OnErr result (self.new ≡ self.old) }
+    {
+        let stamp = self.stamp_after(floor, work);
+        self.work_alone(stamp, work)
+    }
+
+    /// Does a work that touches this endpoint, as `turn_with` does, and answers no copy of the entry, which is the last of both
+    /// logs.
+    pub fn make_with(
+        &mut self,
+        floor: u64,
+        work: &Work,
+        endpoint: &mut Endpoint,
+    ) -> Result<(), EntryFault>
+        requires fits { FitsInterface self.old work.now }
+        requires needs { needs (own self.old) work.now ≡ Some endpoint.old.settings.id }
+        requires home { home_in (own self.old) endpoint.old.settings.id ≡ Some endpoint.old.settings.node }
+        requires network { is_direct (state_after endpoint.old).head.place ≡ false }
+        requires bounces { endpoint.old.settings.bounces ≡ self.old.settings.bounces }
+        requires known { KnowsHome (own self.old) (state_after endpoint.old) work.now }
+        requires flies { FitsEndpoint (own self.old) (state_after endpoint.old) work.now }
+        requires floor { floor + 1 < 2 ^ 64 }
+        requires last { last_stamp self.old.log + 1 < 2 ^ 64 }
+        requires last_there { last_stamp endpoint.old.log + 1 < 2 ^ 64 }
+        requires packet { stamp_in work.now + 1 < 2 ^ 64 }
+        ensures logged { OnOk result (self.new ≡ record self.old { log = self.old.log ++ entry_by self.old (state_after endpoint.old) (stamp_after (max floor (last_stamp endpoint.old.log)) self.old.log work.now) work.now ∷ [] }) }
+        ensures logged_there { OnOk result (endpoint.new.log ≡ endpoint.old.log ++ entry_by self.old (state_after endpoint.old) (stamp_after (max floor (last_stamp endpoint.old.log)) self.old.log work.now) work.now ∷ []) }
+        ensures flights_there { OnOk result (Flies work.now (entry_by self.old (state_after endpoint.old) (stamp_after (max floor (last_stamp endpoint.old.log)) self.old.log work.now) work.now) endpoint.old endpoint.new) }
+        ensures settings_there { endpoint.new.settings ≡ endpoint.old.settings }
+        ensures disabled { (c : Condition) → (result ≡ Err (EntryFault.NotEnabled c)) ↔ (failing_at (own self.old) (state_after endpoint.old) work.now ≡ Some c) }
+        ensures full { (p : Part) → (result ≡ Err (EntryFault.LogFull p)) ↔ ((failing_at (own self.old) (state_after endpoint.old) work.now ≡ None) × IsFullOf self.old endpoint.old p) }
+        ensures err { OnErr result (self.new ≡ self.old) }
+        ensures err_there { OnErr result (endpoint.new.log ≡ endpoint.old.log) }
+        ensures err_flights { OnErr result (endpoint.new.flights ≡ endpoint.old.flights) }
+    {
+        let stamp = self.stamp_with(floor, work, endpoint);
+        self.work_with(stamp, work, endpoint)
     }
 
     /// Does a work that touches no endpoint, and logs its entry. Where it answers no entry, nothing has changed.
@@ -426,8 +506,10 @@ impl Interface {
         ensures full { (s : State) (p : Part) → (result ≡ Err (EntryFault.LogFull p)) ↔ ((failing_at (own self.old) s work.now ≡ None) × IsFull self.old p) }
         ensures err { OnErr result (self.new ≡ self.old) }
     {
-        let stamp = self.stamp_after(floor, work);
-        self.work_alone(stamp, work)
+        match self.make_alone(floor, work) {
+            Ok(()) => Ok(self.last_turn()),
+            Err(fault) => Err(fault),
+        }
     }
 
     /// Does a work that touches this endpoint, and logs its entry here and in the endpoint. Room is made in both logs first.
@@ -467,8 +549,10 @@ impl Interface {
         ensures err_there { OnErr result (endpoint.new.log ≡ endpoint.old.log) }
         ensures err_flights { OnErr result (endpoint.new.flights ≡ endpoint.old.flights) }
     {
-        let stamp = self.stamp_with(floor, work, endpoint);
-        self.work_with(stamp, work, endpoint)
+        match self.make_with(floor, work, endpoint) {
+            Ok(()) => Ok(self.last_turn()),
+            Err(fault) => Err(fault),
+        }
     }
 }
 
@@ -478,17 +562,17 @@ fn write(
     emissions: &mut Vec<u32>,
     peer: NodeId,
     channel: u8,
-    ends: Ends,
+    ends: &Ends,
     emits: bool,
 )
     requires peer { peer.0 < length emissions.old.items }
     requires channel { 4 * peer.0 + channel < length all.old.items }
     requires count { get_or emissions.old.items peer.0 0 + bit emits < 2 ^ 32 }
-    ensures ends { all.new.items ≡ slice_set all.old.items (4 * peer.0 + channel) ends }
+    ensures ends { all.new.items ≡ slice_set all.old.items (4 * peer.0 + channel) ends.now }
     ensures emissions { emissions.new.items ≡ slice_set emissions.old.items peer.0 (get_or emissions.old.items peer.0 0 + bit emits) }
 {
     let to = peer.0 as usize;
-    all[4 * to + channel as usize] = ends;
+    all[4 * to + channel as usize] = *ends;
     emissions[to] += one_if(emits);
 }
 

@@ -1,6 +1,7 @@
 // The packet that an entry emits.
 ghost use Rattle.am_office.specs.Entries as does;
-ghost use Rattle.std.specs.Prelude.{◌≡◌, ℕ};
+ghost use Rattle.am_names.specs.declared.NodeId.{NodeId};
+ghost use Rattle.std.specs.Prelude.{◌≡◌, ℕ, is_some};
 
 use am_names::{AnswerPacket, NodeId, Packet, Parcel, Verdict};
 use am_office::{Entry, Event, Outcome, Received};
@@ -83,5 +84,40 @@ pub fn emitted_of(entry: &Entry) -> Option<Packet>
         Event::Expire { node, .. } => parcel(node, entry.stamp, &entry.outcome),
         Event::Receive { node, peer, .. } => answer(node, peer, entry.stamp, &entry.outcome),
         _ => None,
+    }
+}
+
+/// Whether an entry with this outcome emits a parcel, if it is a bind or a time-out.
+fn sends(outcome: &Outcome) -> bool
+    ensures { (node : NodeId) (stamp : ℕ) → result ≡ is_some (does.parcel node stamp outcome.now) }
+{
+    match outcome {
+        Outcome::Sent { .. } => true,
+        _ => false,
+    }
+}
+
+/// Whether a receipt with this outcome emits an answer.
+fn answers(outcome: &Outcome) -> bool
+    ensures { (stamp : ℕ) (node peer : NodeId) (number : ℕ) → result ≡ is_some (does.emitted_in stamp (Event.Receive node peer number) outcome.now) }
+{
+    match outcome {
+        Outcome::Received {
+            result: Received::Accepted { .. } | Received::Refused { .. } | Received::Again { .. },
+            ..
+        } => true,
+        _ => false,
+    }
+}
+
+/// Whether an entry emits a packet.
+pub(crate) fn emits(entry: &Entry) -> bool
+    ensures { result ≡ is_some (does.emitted_of entry.now) }
+{
+    match entry.event {
+        Event::Bind { .. } => sends(&entry.outcome),
+        Event::Expire { .. } => sends(&entry.outcome),
+        Event::Receive { .. } => answers(&entry.outcome),
+        _ => false,
     }
 }

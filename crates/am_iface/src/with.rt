@@ -12,14 +12,13 @@ ghost use Rattle.am_model.specs.Endpoint.{is_direct};
 ghost use Rattle.am_model.specs.History.{settle_by};
 ghost use Rattle.am_local.specs.declared.work.Work.TheVariants as Works;
 ghost use Rattle.am_names.specs.declared.Packet.TheVariants as Packets;
-ghost use Rattle.am_office.specs.Entries.{emitted_of};
 ghost use Rattle.am_office.specs.declared.Condition.{Condition};
 ghost use Rattle.am_office.specs.declared.Part.{Part};
-ghost use Rattle.std.specs.Prelude.{◌≡◌, ◌≢◌, ◌↔◌, ◌<◌, Err, Some, [], ◌∷◌, ◌++◌, false, true, length, IfOk, IsSome, OnErr, OnOk};
+ghost use Rattle.std.specs.Prelude.{◌≡◌, ◌≢◌, ◌↔◌, ◌<◌, Err, Some, [], ◌∷◌, ◌++◌, false, true, length, IsSome, OnErr, OnOk};
 
+use crate::Interface;
 use crate::by_ends::{answer, decide, time_out};
 use crate::entries::{answer_receipt, decided, give_up, parcel_receipt, settled_by};
-use crate::{Interface, Turned};
 use am_channel::{Ends, Settled, TimedOut};
 use am_endpoint::{EndFault, Endpoint};
 use am_local::work::Work;
@@ -61,11 +60,10 @@ impl Interface {
         ends: &Ends,
         entry: &Entry,
         endpoint: &mut Endpoint,
-    ) -> Result<Turned, EntryFault>
+    ) -> Result<(), EntryFault>
         requires peer { peer.0 < self.old.settings.nodes }
         requires channel { channel < self.old.settings.channels }
         requires made { IsMade (channel_in (own self.old) peer channel) self.old.log ends.now entry.now }
-        ensures turned { IfOk result (λ t. t ≡ record { entry = entry.now; out = emitted_of entry.now }) }
         ensures logged { OnOk result (self.new ≡ record self.old { log = self.old.log ++ entry.now ∷ [] }) }
         ensures ready { OnOk result (endpoint.new.ready ≡ true) }
         ensures there { OnOk result (length endpoint.new.log < endpoint.new.settings.log) }
@@ -88,7 +86,7 @@ impl Interface {
         stamp: u64,
         p: &Parcel,
         endpoint: &mut Endpoint,
-    ) -> Result<Turned, EntryFault>
+    ) -> Result<(), EntryFault>
         requires fits { FitsParcel self.old.settings p.now }
         requires needs { needs (own self.old) (Works.Receive (Packets.Parcel p.now)) ≡ Some endpoint.old.settings.id }
         requires packet { is_direct (state_after endpoint.old).head.place ≡ false }
@@ -100,9 +98,9 @@ impl Interface {
         let came = decided(p.message, self.next_number(p.from), verdict);
         let entry = parcel_receipt(self.node(), stamp, p, came);
         match self.enter_with(p.from, p.channel, &ends, &entry, endpoint) {
-            Ok(turned) => {
+            Ok(()) => {
                 endpoint.put(entry);
-                Ok(turned)
+                Ok(())
             }
             Err(fault) => Err(fault),
         }
@@ -130,7 +128,7 @@ impl Interface {
         p: &AnswerPacket,
         flight: &Flying,
         endpoint: &mut Endpoint,
-    ) -> Result<Turned, EntryFault>
+    ) -> Result<(), EntryFault>
         requires fits { FitsAnswer self.old.settings p.now }
         requires needs { needs (own self.old) (Works.Receive (Packets.Answer p.now)) ≡ Some endpoint.old.settings.id }
         requires packet { is_direct (state_after endpoint.old).head.place ≡ false }
@@ -144,9 +142,9 @@ impl Interface {
         };
         let entry = self.settling_entry(stamp, p, bound.message, flight, verdict);
         match self.enter_with(p.from, p.channel, &ends, &entry, endpoint) {
-            Ok(turned) => {
+            Ok(()) => {
                 settle(endpoint, bound.message.serial, &entry);
-                Ok(turned)
+                Ok(())
             }
             Err(fault) => Err(fault),
         }
@@ -160,7 +158,7 @@ impl Interface {
         channel: u8,
         flight: &Flying,
         endpoint: &mut Endpoint,
-    ) -> Result<Turned, EntryFault>
+    ) -> Result<(), EntryFault>
         requires on { IsChannelOf self.old.settings peer channel }
         requires needs { needs (own self.old) (Works.Expire peer channel) ≡ Some endpoint.old.settings.id }
         requires packet { is_direct (state_after endpoint.old).head.place ≡ false }
@@ -184,9 +182,9 @@ impl Interface {
             flight.answered,
         );
         match self.enter_with(peer, channel, &ends, &entry, endpoint) {
-            Ok(turned) => {
+            Ok(()) => {
                 settle(endpoint, bound.message.serial, &entry);
-                Ok(turned)
+                Ok(())
             }
             Err(fault) => Err(fault),
         }
@@ -214,7 +212,7 @@ impl Interface {
         stamp: u64,
         p: &AnswerPacket,
         endpoint: &mut Endpoint,
-    ) -> Result<Turned, EntryFault>
+    ) -> Result<(), EntryFault>
         requires fits { FitsAnswer self.old.settings p.now }
         requires needs { needs (own self.old) (Works.Receive (Packets.Answer p.now)) ≡ Some endpoint.old.settings.id }
         requires packet { is_direct (state_after endpoint.old).head.place ≡ false }
@@ -232,7 +230,7 @@ impl Interface {
         stamp: u64,
         packet: &Packet,
         endpoint: &mut Endpoint,
-    ) -> Result<Turned, EntryFault>
+    ) -> Result<(), EntryFault>
         requires fits { FitsInterface self.old (Works.Receive packet.now) }
         requires needs { needs (own self.old) (Works.Receive packet.now) ≡ Some endpoint.old.settings.id }
         requires packet { is_direct (state_after endpoint.old).head.place ≡ false }
@@ -253,7 +251,7 @@ impl Interface {
         peer: NodeId,
         channel: u8,
         endpoint: &mut Endpoint,
-    ) -> Result<Turned, EntryFault>
+    ) -> Result<(), EntryFault>
         requires on { IsChannelOf self.old.settings peer channel }
         requires needs { needs (own self.old) (Works.Expire peer channel) ≡ Some endpoint.old.settings.id }
         requires packet { is_direct (state_after endpoint.old).head.place ≡ false }
@@ -271,7 +269,7 @@ impl Interface {
         stamp: u64,
         work: &Work,
         endpoint: &mut Endpoint,
-    ) -> Result<Turned, EntryFault>
+    ) -> Result<(), EntryFault>
         requires fits { FitsInterface self.old work.now }
         requires needs { needs (own self.old) work.now ≡ Some endpoint.old.settings.id }
         requires at { home_in (own self.old) endpoint.old.settings.id ≡ Some endpoint.old.settings.node }

@@ -11,9 +11,11 @@ use Rattle.am_machine.specs.declared.settings.Settings.{Settings}
 use Rattle.am_model.specs.declared.EntryFault.{EntryFault}
 use Rattle.am_moves.specs.Logs.{EndLog}
 use Rattle.am_machine.specs.Kept.{IsIndexed, IsKept, journal_by, layout_in}
-use Rattle.am_machine.specs.View.{Applies, ClusterView}
+use Rattle.am_machine.specs.Turned.{told}
+use Rattle.am_machine.specs.View.{Applies, ClusterView, Makes}
 use Rattle.am_machine.proofs.Applied.{seen}
 use Rattle.am_machine.proofs.Few.{counts_fit, journal_few, stamp_fits}
+use Rattle.am_machine.proofs.Making.{made_by}
 use Rattle.am_machine.proofs.Merging.{kept_merges}
 
 pub indexed : (s : Settings) (faults : List FaultLine) (es : List EndLog) (journal : List Entry) (is : List InterfaceView) (ss : List Store) (r : Readings) → IsKept (layout_in s faults es) es journal is ss → IsIndexOf journal r → IsIndexed (layout_in s faults es) es is ss r
@@ -28,9 +30,10 @@ indexed s faults es journal is ss r k index =
 pub indexed_still : (s : Settings) (faults : List FaultLine) (es new : List EndLog) (is : List InterfaceView) (ss : List Store) (r : Readings) → new ≡ es → IsIndexed (layout_in s faults es) es is ss r → IsIndexed (layout_in s faults new) new is ss r
 indexed_still s faults es new is ss r same kept' = subst (λ (ns : List EndLog). IsIndexed (layout_in s faults ns) ns is ss r) (sym same) kept'
 
-pub applied_by : (s : Settings) (faults : List FaultLine) (es : List EndLog) (journal : List Entry) (is : List InterfaceView) (ss : List Store) (v : ClusterView) (event : Event) (result : Result Entry EntryFault) → IsKept (layout_in s faults es) es journal is ss → Applies v (seen s faults es journal) event result → Applies v (seen s faults es (journal_by es is)) event result
-applied_by s faults es journal is ss v event result k applies =
-    subst (λ (j : List Entry). Applies v (seen s faults es j) event result) (sym (kept_merges (layout_in s faults es) es journal is ss refl k)) applies
+pub made_as : (s : Settings) (faults : List FaultLine) (es : List EndLog) (journal : List Entry) (is : List InterfaceView) (ss : List Store) (v : ClusterView) (event : Event) (x : Entry) (result : Result (Unit {0}) EntryFault) → IsKept (layout_in s faults es) es journal is ss → Applies v (seen s faults es journal) event (told x result) → Makes v (seen s faults es (journal_by es is)) event result
+made_as s faults es journal is ss v event x result k applies =
+    made_by v (seen s faults es (journal_by es is)) event x result
+    (subst (λ (j : List Entry). Applies v (seen s faults es j) event (told x result)) (sym (kept_merges (layout_in s faults es) es journal is ss refl k)) applies)
 
 pub seen_still : (s : Settings) (faults : List FaultLine) (es new : List EndLog) (is : List InterfaceView) (v : ClusterView) → new ≡ es → seen s faults es (journal_by es is) ≡ v → seen s faults new (journal_by new is) ≡ v
 seen_still s faults es new is v same at = (λ i. seen s faults (same i) (journal_by (same i) is)) ∙ at

@@ -26,3 +26,5 @@ pub mod Merging
 pub mod Few
 pub mod Indexed
 pub mod Apart
+pub mod LastMade
+pub mod Making

@@ -21,17 +21,15 @@ use Rattle.am_model.specs.Packets.{receiver_of, from_of}
 use Rattle.am_local.proofs.Granting.{bind_emission}
 use Rattle.am_local.proofs.Numbering.{next_emitted}
 use Rattle.am_local.proofs.Touched.{emission_told}
-use Rattle.am_drain.specs.Made.{next_stamp}
 use Rattle.am_endpoint.specs.View.{EndpointView, state_after}
-use Rattle.am_iface.specs.declared.Turned.{Turned}
 use Rattle.am_model.specs.declared.EntryFault.{EntryFault}
 use Rattle.am_model.specs.declared.EntryFault.TheVariants as Faults
 use Rattle.am_iface.specs.View.{InterfaceView, FitsInterface, own}
-use Rattle.am_iface.specs.Turns.{IsFull, stamp_in}
+use Rattle.am_iface.specs.Turns.{IsFull, entry_by, stamp_in}
 use Rattle.am_iface.specs.With.{IsFullOf}
 use Rattle.am_journal.specs.View.{AreNodes, HasRoomFor, IndexView, IsIndexOf, Readings, greatest_stamp, is_ready_on}
-use Rattle.am_moves.specs.Logs.{EndLog, kept}
-use Rattle.am_machine.specs.Turned.{IsGrown, IsTurned, TurnsAlone, TurnsWith, entry_of_work}
+use Rattle.am_moves.specs.Logs.{EndLog, kept, state_in}
+use Rattle.am_machine.specs.Turned.{IsGrown, IsTurned, TurnsAlone, TurnsWith, entry_of_work, told}
 use Rattle.am_machine.specs.Ways.{GoesTo}
 
 -- a stamp above the greatest so far
@@ -54,8 +52,8 @@ pub none_fails : (o : Option Condition) → ((c : Condition) → o ≡ Some c �
 none_fails None h = refl
 none_fails (Some c) h = absurd (h c refl)
 
-pub enabled_by : (i : InterfaceView) (s : State) (w : Work) (t : Turned) (result : Result Turned EntryFault) → result ≡ Ok t → ((c : Condition) → failing_at (own i) s w ≡ Some c → result ≡ Err (Faults.NotEnabled c)) → failing_at (own i) s w ≡ None
-enabled_by i s w t result ok disabled = none_fails (failing_at (own i) s w) (λ c h. (let both : ◌≡◌ {A = Result Turned EntryFault} (Ok t) (Err (Faults.NotEnabled c)) = sym ok ∙ disabled c h in cc))
+pub enabled_by : (i : InterfaceView) (s : State) (w : Work) (t : Unit {0}) (result : Result (Unit {0}) EntryFault) → result ≡ Ok t → ((c : Condition) → failing_at (own i) s w ≡ Some c → result ≡ Err (Faults.NotEnabled c)) → failing_at (own i) s w ≡ None
+enabled_by i s w t result ok disabled = none_fails (failing_at (own i) s w) (λ c h. (let both : ◌≡◌ {A = Result (Unit {0}) EntryFault} (Ok t) (Err (Faults.NotEnabled c)) = sym ok ∙ disabled c h in cc))
 
 -- ---- where the packet of a work goes
 
@@ -118,26 +116,26 @@ out_has_room v i s w x out to goes on here within ready out_is event outcome =
 
 -- ---- what it answers
 
--- the entry that the interface logged is the work's
-pub logged_entry : (i : InterfaceView) (past : List Entry) (s : State) (w : Work) (x : Entry) (floor last : ℕ) → x.event ≡ event_of i.settings.node w → x.outcome ≡ outcome_at (own i) s w → x.stamp ≡ 1 + max (max floor last) (stamp_in w) → floor ≡ greatest_stamp past → last ≤ greatest_stamp past → stamp_in w ≤ greatest_stamp past → x ≡ entry_of_work i past s w
-logged_entry i past s w x floor last event outcome stamp at le packet =
-    let stamped : x.stamp ≡ next_stamp past = stamp ∙ ap (λ (n : ℕ). 1 + max (max n last) (stamp_in w)) at ∙ stamp_next (greatest_stamp past) last (stamp_in w) le packet in
-    λ k. record { stamp = stamped k; event = event k; outcome = outcome k }
+-- the entry that the interface logs is the work's, with the next stamp
+pub logged_entry : (i : InterfaceView) (past : List Entry) (s : State) (w : Work) (floor last : ℕ) → floor ≡ greatest_stamp past → last ≤ greatest_stamp past → stamp_in w ≤ greatest_stamp past → entry_by i s (1 + max (max floor last) (stamp_in w)) w ≡ entry_of_work i past s w
+logged_entry i past s w floor last at le packet =
+    ap (λ (n : ℕ). entry_by i s n w)
+    (ap (λ (n : ℕ). 1 + max (max n last) (stamp_in w)) at ∙ stamp_next (greatest_stamp past) last (stamp_in w) le packet)
 
-pub turned_ok : (i j : InterfaceView) (past : List Entry) (s : State) (w : Work) (result : Result Turned EntryFault) (t : Turned) → result ≡ Ok t
+pub turned_ok : (i j : InterfaceView) (past : List Entry) (s : State) (w : Work) (result : Result (Unit {0}) EntryFault) (t : Unit {0}) → result ≡ Ok t
     → ((c : Condition) → failing_at (own i) s w ≡ Some c → result ≡ Err (Faults.NotEnabled c))
     → ((p : Part) → (failing_at (own i) s w ≡ None) × IsFull i p → result ≡ Err (Faults.LogFull p))
-    → t.entry ≡ entry_of_work i past s w → j ≡ record i { log = i.log ++ t.entry ∷ [] } → IsTurned i j past s w t.entry
-turned_ok i j past s w result t ok disabled full entry interface =
+    → j ≡ record i { log = i.log ++ entry_of_work i past s w ∷ [] } → IsTurned i j past s w (entry_of_work i past s w)
+turned_ok i j past s w result t ok disabled full interface =
     let enabled = enabled_by i s w t result ok disabled in
     record {
       enabled = enabled;
-      room = λ is_full. (let err : result ≡ Err (Faults.LogFull (Parts.Interface i.settings.node)) = full (Parts.Interface i.settings.node) (enabled, (refl, is_full)) in let both : ◌≡◌ {A = Result Turned EntryFault} (Ok t) (Err (Faults.LogFull (Parts.Interface i.settings.node))) = sym ok ∙ err in cc);
-      entry = entry;
+      room = λ is_full. (let err : result ≡ Err (Faults.LogFull (Parts.Interface i.settings.node)) = full (Parts.Interface i.settings.node) (enabled, (refl, is_full)) in let both : ◌≡◌ {A = Result (Unit {0}) EntryFault} (Ok t) (Err (Faults.LogFull (Parts.Interface i.settings.node))) = sym ok ∙ err in cc);
+      entry = refl;
       interface = interface;
     }
 
-pub turned_err : (i j : InterfaceView) (past : List Entry) (s : State) (w : Work) (result : Result Turned EntryFault) (fault : EntryFault) → result ≡ Err fault
+pub turned_err : (i j : InterfaceView) (past : List Entry) (s : State) (w : Work) (result : Result (Unit {0}) EntryFault) (fault : EntryFault) → result ≡ Err fault
     → ((c : Condition) → result ≡ Err (Faults.NotEnabled c) → failing_at (own i) s w ≡ Some c)
     → ((p : Part) → result ≡ Err (Faults.LogFull p) → (failing_at (own i) s w ≡ None) × IsFull i p)
     → j ≡ i → TurnsAlone i j past s w (Err fault)
@@ -148,11 +146,11 @@ turned_err i j past s w result Faults.NoMemory err disabled full interface = int
 -- ---- what it answers beside an endpoint
 
 -- neither log is full
-with_room : (i : InterfaceView) (e : EndpointView) (s : State) (w : Work) (result : Result Turned EntryFault) (t : Turned) → result ≡ Ok t → failing_at (own i) s w ≡ None → ((p : Part) → (failing_at (own i) s w ≡ None) × IsFullOf i e p → result ≡ Err (Faults.LogFull p)) → (length e.log ≢ e.settings.log) × (length i.log ≢ i.settings.log)
+with_room : (i : InterfaceView) (e : EndpointView) (s : State) (w : Work) (result : Result (Unit {0}) EntryFault) (t : Unit {0}) → result ≡ Ok t → failing_at (own i) s w ≡ None → ((p : Part) → (failing_at (own i) s w ≡ None) × IsFullOf i e p → result ≡ Err (Faults.LogFull p)) → (length e.log ≢ e.settings.log) × (length i.log ≢ i.settings.log)
 with_room i e s w result t ok enabled full = (there, here)
   where
     never : (p : Part) → IsFullOf i e p → ⊥
-    never p is = let both : ◌≡◌ {A = Result Turned EntryFault} (Ok t) (Err (Faults.LogFull p)) = sym ok ∙ full p (enabled, is) in cc
+    never p is = let both : ◌≡◌ {A = Result (Unit {0}) EntryFault} (Ok t) (Err (Faults.LogFull p)) = sym ok ∙ full p (enabled, is) in cc
 
     there : length e.log ≢ e.settings.log
     there is = never (Parts.Endpoint e.settings.id) (inl (refl, is))
@@ -163,21 +161,21 @@ with_room i e s w result t ok enabled full = (there, here)
 pub less_than : (a b : ℕ) → a ≤ b → a ≢ b → a < b
 less_than a b le apart = omega arith
 
-pub turned_with_ok : (i j : InterfaceView) (e f : EndpointView) (past : List Entry) (w : Work) (result : Result Turned EntryFault) (t : Turned) → result ≡ Ok t
+pub turned_with_ok : (i j : InterfaceView) (e f : EndpointView) (past : List Entry) (w : Work) (result : Result (Unit {0}) EntryFault) (t : Unit {0}) → result ≡ Ok t
     → length e.log ≤ e.settings.log
     → ((c : Condition) → failing_at (own i) (state_after e) w ≡ Some c → result ≡ Err (Faults.NotEnabled c))
     → ((p : Part) → (failing_at (own i) (state_after e) w ≡ None) × IsFullOf i e p → result ≡ Err (Faults.LogFull p))
-    → t.entry ≡ entry_of_work i past (state_after e) w → j ≡ record i { log = i.log ++ t.entry ∷ [] }
-    → f.settings ≡ e.settings → f.log ≡ e.log ++ t.entry ∷ []
-    → IsTurned i j past (state_after e) w t.entry × IsGrown (kept e) f t.entry
-turned_with_ok i j e f past w result t ok bounded disabled full entry interface settings log =
+    → j ≡ record i { log = i.log ++ entry_of_work i past (state_after e) w ∷ [] }
+    → f.settings ≡ e.settings → f.log ≡ e.log ++ entry_of_work i past (state_after e) w ∷ []
+    → IsTurned i j past (state_after e) w (entry_of_work i past (state_after e) w) × IsGrown (kept e) f (entry_of_work i past (state_after e) w)
+turned_with_ok i j e f past w result t ok bounded disabled full interface settings log =
     let enabled = enabled_by i (state_after e) w t result ok disabled in
     let room = with_room i e (state_after e) w result t ok enabled full in (
-      record { enabled = enabled; room = room.1; entry = entry; interface = interface },
+      record { enabled = enabled; room = room.1; entry = refl; interface = interface },
       record { room = less_than (length e.log) e.settings.log bounded room.0; settings = settings; log = log },
     )
 
-pub turned_with_err : (i j : InterfaceView) (e f : EndpointView) (past : List Entry) (w : Work) (result : Result Turned EntryFault) (fault : EntryFault) → result ≡ Err fault
+pub turned_with_err : (i j : InterfaceView) (e f : EndpointView) (past : List Entry) (w : Work) (result : Result (Unit {0}) EntryFault) (fault : EntryFault) → result ≡ Err fault
     → length e.log ≤ e.settings.log
     → ((c : Condition) → result ≡ Err (Faults.NotEnabled c) → failing_at (own i) (state_after e) w ≡ Some c)
     → ((p : Part) → result ≡ Err (Faults.LogFull p) → (failing_at (own i) (state_after e) w ≡ None) × IsFullOf i e p)
@@ -187,8 +185,9 @@ turned_with_err i j e f past w result (Faults.LogFull p) err bounded disabled fu
 turned_with_err i j e f past w result Faults.NoMemory err bounded disabled full interface same = (interface, same)
 
 -- the same of the endpoint as it was before room was made
-pub turns_still : (i j : InterfaceView) (e one f : EndpointView) (past : List Entry) (w : Work) (result : Result Entry EntryFault) → kept one ≡ kept e → TurnsWith i j one f past w result → TurnsWith i j e f past w result
-turns_still i j e one f past w result same turns = subst (λ (d : EndLog). TurnsWith i j (record { settings = d.settings; log = d.log; ready = e.ready; flights = e.flights }) f past w result) same turns
+pub turns_told : (i j : InterfaceView) (e one f : EndpointView) (past : List Entry) (w : Work) (result : Result (Unit {0}) EntryFault) → kept one ≡ kept e → TurnsWith i j one f past w (told (entry_of_work i past (state_after one) w) result) → TurnsWith i j e f past w (told (entry_of_work i past (state_after e) w) result)
+turns_told i j e one f past w result same turns =
+    subst (λ (d : EndLog). TurnsWith i j (record { settings = d.settings; log = d.log; ready = e.ready; flights = e.flights }) f past w (told (entry_of_work i past (state_in d) w) result)) same turns
 
 -- ---- what the index reads after it
 

@@ -13,3 +13,4 @@ pub mod Turned
 pub mod Ways
 pub mod Parts
 pub mod Parting
+pub mod Lasts

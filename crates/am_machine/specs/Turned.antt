@@ -24,6 +24,11 @@ use Rattle.am_moves.specs.Logs.{EndLog, kept, state_in}
 abbrev pub entry_of_work : InterfaceView → List Entry → State → Work → Entry
 entry_of_work i past s w = record { stamp = next_stamp past; event = event_of i.settings.node w; outcome = outcome_at (own i) s w }
 
+-- what was answered with the entry that was made, if one was
+abbrev pub told : Entry → Result (Unit {0}) EntryFault → Result Entry EntryFault
+told x (Ok made) = Ok x
+told x (Err fault) = Err fault
+
 -- the entries and the one that was made, if one was
 abbrev pub entries_after : List Entry → Result Entry EntryFault → List Entry
 entries_after past (Ok x) = past ++ x ∷ []

@@ -20,3 +20,10 @@ Applies old new event (Ok x) =
 Applies old new event (Err (Faults.NotEnabled condition)) = (stop old.layout old.journal event ≡ Some (NotEnabled condition)) × (new ≡ old)
 Applies old new event (Err (Faults.LogFull part)) = (stop old.layout old.journal event ≡ Some (LogFull part)) × (new ≡ old)
 Applies old new event (Err Faults.NoMemory) = new ≡ old
+
+-- What an event answers and leaves that is made, where the entry is not answered: as an application, and Ok where it would
+-- answer the entry.
+abbrev pub Makes : ClusterView → ClusterView → Event → Result (Unit {0}) EntryFault → Type 0
+Makes old new event (Ok made) =
+    (stop old.layout old.journal event ≡ None) × (new ≡ record old { journal = old.journal ++ next_entry old.layout old.journal event ∷ [] })
+Makes old new event (Err fault) = Applies old new event (Err fault)

@@ -1,5 +1,5 @@
 // Carries of the direct network.
-ghost use Rattle.am_machine.specs.View.{Applies};
+ghost use Rattle.am_machine.specs.View.{Makes};
 ghost use Rattle.am_model.specs.History.{is_in_range};
 ghost use Rattle.am_office.specs.declared.Event.TheVariants as Events;
 ghost use Rattle.std.specs.Prelude.{◌≡◌, true};
@@ -13,9 +13,9 @@ use am_scenario_types::Network;
 
 impl Cluster {
     /// Carries the front message of an endpoint to its destination, where the network is direct.
-    pub(crate) fn carry(&mut self, end: EndpointId) -> Result<Entry, EntryFault>
+    pub(crate) fn carry(&mut self, end: EndpointId) -> Result<(), EntryFault>
         requires { is_in_range self.old.layout (Events.Carry end) ≡ true }
-        ensures { Applies self.old self.new (Events.Carry end) result }
+        ensures { Makes self.old self.new (Events.Carry end) result }
     {
         match self.settings.network {
             Network::Packet => Err(EntryFault::NotEnabled(Condition::NotDirect)),
@@ -24,10 +24,10 @@ impl Cluster {
     }
 
     /// Carries the front message of an endpoint of the direct network to its destination.
-    fn carry_front(&mut self, end: EndpointId) -> Result<Entry, EntryFault>
+    fn carry_front(&mut self, end: EndpointId) -> Result<(), EntryFault>
         requires direct { self.old.layout.direct ≡ true }
         requires in_range { is_in_range self.old.layout (Events.Carry end) ≡ true }
-        ensures { Applies self.old self.new (Events.Carry end) result }
+        ensures { Makes self.old self.new (Events.Carry end) result }
     {
         let Some(source) = place_of(&self.ends, end) else {
             unreachable!()
@@ -56,6 +56,6 @@ impl Cluster {
         };
         carry_between(&mut self.ends, source, dest, entry);
         self.index.log(&entry, None);
-        Ok(entry)
+        Ok(())
     }
 }

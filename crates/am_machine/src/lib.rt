@@ -2,7 +2,7 @@
 #![tactic(auto)]
 
 ghost use Rattle.am_scripts.specs.Layout.{layout_of};
-ghost use Rattle.am_machine.specs.View.{Applies};
+ghost use Rattle.am_machine.specs.View.{Applies, Makes};
 ghost use Rattle.am_model.specs.Cluster.{ClusterInvariant};
 ghost use Rattle.am_model.specs.History.{IsHistory, is_in_range};
 ghost use Rattle.am_model.specs.Layout as layouts;
@@ -15,6 +15,7 @@ mod carries;
 mod ends;
 mod frames;
 mod interfaces;
+mod lasts;
 mod logs;
 mod moves;
 mod opening;
@@ -113,6 +114,20 @@ impl Cluster {
     pub fn apply(&mut self, event: &Event) -> Result<Entry, EntryFault>
         requires in_range { is_in_range self.old.layout event.now ≡ true }
         ensures { Applies self.old self.new event.now result }
+    {
+        match self.make(event) {
+            Ok(()) => match self.last_of(event) {
+                Some(entry) => Ok(*entry),
+                None => unreachable!(),
+            },
+            Err(fault) => Err(fault),
+        }
+    }
+
+    /// Makes the entry of an event, as `apply` does, and answers no copy of it.
+    pub fn make(&mut self, event: &Event) -> Result<(), EntryFault>
+        requires in_range { is_in_range self.old.layout event.now ≡ true }
+        ensures { Makes self.old self.new event.now result }
     {
         match *event {
             Event::Call { actor, end, call } => self.call(actor, end, call),

@@ -1,7 +1,7 @@
 // The moves of a node's driver.
 ghost use Rattle.am_local.specs.Driver.{end_moved};
 ghost use Rattle.am_model.specs.Parts.{driver_of};
-ghost use Rattle.am_machine.specs.View.{Applies};
+ghost use Rattle.am_machine.specs.View.{Makes};
 ghost use Rattle.am_model.specs.History.{failing, is_in_range};
 ghost use Rattle.std.specs.Prelude.{◌≡◌, Some, false, true};
 
@@ -11,7 +11,7 @@ use crate::frames::{failing_on, is_taken};
 use am_model::EntryFault;
 use am_moves::make_move;
 use am_names::{EndpointId, NodeId};
-use am_office::{Condition, Entry, Event, Part};
+use am_office::{Condition, Event, Part};
 use am_scenario_types::Network;
 
 impl Cluster {
@@ -21,11 +21,11 @@ impl Cluster {
         event: Event,
         node: NodeId,
         end: EndpointId,
-    ) -> Result<Entry, EntryFault>
+    ) -> Result<(), EntryFault>
         requires driver { driver_of event ≡ Some node }
         requires end { end_moved event ≡ Some end }
         requires in_range { is_in_range self.old.layout event ≡ true }
-        ensures { Applies self.old self.new event result }
+        ensures { Makes self.old self.new event result }
     {
         if let Some(condition) = self.failing_move(event, node, end) {
             return Err(EntryFault::NotEnabled(condition));
@@ -41,7 +41,7 @@ impl Cluster {
         match make_move(self.alloc, swap, &mut self.ends[place], event, stamp) {
             Ok(entry) => {
                 self.index.log(&entry, None);
-                Ok(entry)
+                Ok(())
             }
             Err(_) => Err(EntryFault::NoMemory),
         }

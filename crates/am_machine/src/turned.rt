@@ -4,37 +4,44 @@ ghost use Rattle.am_iface.specs.View.{own};
 ghost use Rattle.am_journal.specs.View.{IsIndexOf};
 ghost use Rattle.am_local.specs.Interface.{needs};
 ghost use Rattle.am_moves.specs.Logs.{kept};
-ghost use Rattle.am_machine.specs.Turned.{CanTurn, CanTurnWith, TurnsAlone, TurnsWith, entries_after};
+ghost use Rattle.am_machine.specs.Turned.{CanTurn, CanTurnWith, TurnsAlone, TurnsWith, entries_after, entry_of_work, told};
 ghost use Rattle.am_machine.specs.Ways.{GoesTo};
 ghost use Rattle.am_model.specs.Endpoint.{State};
 ghost use Rattle.am_office.specs.declared.Entry.{Entry};
 ghost use Rattle.std.specs.Prelude.{◌≡◌, ◌<◌, ◌≤◌, None, IfSome, List, OnOk, length};
 
 use am_endpoint::{EndFault, Endpoint};
-use am_iface::{Interface, Work};
+use am_iface::{Interface, Work, emitted_of};
 use am_journal::JournalIndex;
 use am_model::EntryFault;
 use am_names::NodeId;
-use am_office::{Entry, NoMemory};
+use am_office::NoMemory;
 
 /// Does a work that touches no endpoint.
 pub(crate) fn turn_alone(
     interface: &mut Interface,
     index: &mut JournalIndex,
     work: &Work,
-) -> Result<Entry, EntryFault>
+) -> Result<(), EntryFault>
     requires can { CanTurn interface.old index.old.read work.now }
     requires alone { needs (own interface.old) work.now ≡ None }
-    ensures turns { (past : List Entry) (s : State) → IsIndexOf past index.old.read → TurnsAlone interface.old interface.new past s work.now result }
-    ensures index { (past : List Entry) → IsIndexOf past index.old.read → IsIndexOf (entries_after past result) index.new.read }
+    ensures turns { (past : List Entry) (s : State) → IsIndexOf past index.old.read → TurnsAlone interface.old interface.new past s work.now (told (entry_of_work interface.old past s work.now) result) }
+    ensures index { (past : List Entry) (s : State) → IsIndexOf past index.old.read → IsIndexOf (entries_after past (told (entry_of_work interface.old past s work.now) result)) index.new.read }
 {
     let to = interface.emits_to(work);
     if index.room_to(interface.node(), to).is_err() {
         return Err(EntryFault::NoMemory);
     }
-    let turned = interface.turn_alone(index.greatest_stamp(), work)?;
-    index.log(&turned.entry, turned.out);
-    Ok(turned.entry)
+    match interface.make_alone(index.greatest_stamp(), work) {
+        Ok(()) => {
+            let Some(entry) = interface.last_entry() else {
+                unreachable!()
+            };
+            index.log(entry, emitted_of(entry));
+            Ok(())
+        }
+        Err(fault) => Err(fault),
+    }
 }
 
 /// Makes room for one more entry in an endpoint's log, unless it has as many as it may.
@@ -55,12 +62,12 @@ pub(crate) fn turn_with(
     index: &mut JournalIndex,
     work: &Work,
     to: Option<NodeId>,
-) -> Result<Entry, EntryFault>
+) -> Result<(), EntryFault>
     requires can { CanTurnWith interface.old (kept endpoint.old) index.old.read work.now }
     requires within { IfSome to (λ node. node.0 < 16) }
     requires goes { GoesTo (own interface.old) (state_after endpoint.old) work.now to }
-    ensures turns { (past : List Entry) → IsIndexOf past index.old.read → TurnsWith interface.old interface.new endpoint.old endpoint.new past work.now result }
-    ensures index { (past : List Entry) → IsIndexOf past index.old.read → IsIndexOf (entries_after past result) index.new.read }
+    ensures turns { (past : List Entry) → IsIndexOf past index.old.read → TurnsWith interface.old interface.new endpoint.old endpoint.new past work.now (told (entry_of_work interface.old past (state_after endpoint.old) work.now) result) }
+    ensures index { (past : List Entry) → IsIndexOf past index.old.read → IsIndexOf (entries_after past (told (entry_of_work interface.old past (state_after endpoint.old) work.now) result)) index.new.read }
 {
     if make_room(endpoint).is_err() {
         return Err(EntryFault::NoMemory);
@@ -68,7 +75,14 @@ pub(crate) fn turn_with(
     if index.room_to(interface.node(), to).is_err() {
         return Err(EntryFault::NoMemory);
     }
-    let turned = interface.turn_with(index.greatest_stamp(), work, endpoint)?;
-    index.log(&turned.entry, turned.out);
-    Ok(turned.entry)
+    match interface.make_with(index.greatest_stamp(), work, endpoint) {
+        Ok(()) => {
+            let Some(entry) = interface.last_entry() else {
+                unreachable!()
+            };
+            index.log(entry, emitted_of(entry));
+            Ok(())
+        }
+        Err(fault) => Err(fault),
+    }
 }

@@ -1,7 +1,7 @@
 // Works of interfaces: binds, time-outs and receipts.
 ghost use Rattle.am_local.specs.Interface.{event_of};
 ghost use Rattle.am_machine.specs.Turned.{IsTaken};
-ghost use Rattle.am_machine.specs.View.{Applies};
+ghost use Rattle.am_machine.specs.View.{Makes};
 ghost use Rattle.am_model.specs.Channels.{emitted};
 ghost use Rattle.am_model.specs.History.{is_in_range};
 ghost use Rattle.am_office.specs.declared.Event.TheVariants as Events;
@@ -14,18 +14,18 @@ use crate::ways::way;
 use am_iface::Work;
 use am_model::EntryFault;
 use am_names::{EndpointId, NodeId, Packet};
-use am_office::{Condition, Entry};
+use am_office::Condition;
 use am_scenario_types::Network;
 
 impl Cluster {
     /// Binds the front message of an endpoint to a channel of a node, where the network is packet.
-    pub(crate) fn bind(&mut self, node: NodeId, end: EndpointId) -> Result<Entry, EntryFault>
+    pub(crate) fn bind(&mut self, node: NodeId, end: EndpointId) -> Result<(), EntryFault>
         requires { is_in_range self.old.layout (Events.Bind node end) ≡ true }
-        ensures { Applies self.old self.new (Events.Bind node end) result }
+        ensures { Makes self.old self.new (Events.Bind node end) result }
     {
         match self.settings.network {
             Network::Direct => Err(EntryFault::NotEnabled(Condition::NotPacket)),
-            Network::Packet => self.turn(node, Work::Bind(end)),
+            Network::Packet => self.turn(node, &Work::Bind(end)),
         }
     }
 
@@ -35,13 +35,13 @@ impl Cluster {
         node: NodeId,
         peer: NodeId,
         channel: u8,
-    ) -> Result<Entry, EntryFault>
+    ) -> Result<(), EntryFault>
         requires { is_in_range self.old.layout (Events.Expire node peer channel) ≡ true }
-        ensures { Applies self.old self.new (Events.Expire node peer channel) result }
+        ensures { Makes self.old self.new (Events.Expire node peer channel) result }
     {
         match self.settings.network {
             Network::Direct => Err(EntryFault::NotEnabled(Condition::NotPacket)),
-            Network::Packet => self.turn(node, Work::Expire { peer, channel }),
+            Network::Packet => self.turn(node, &Work::Expire { peer, channel }),
         }
     }
 
@@ -51,14 +51,14 @@ impl Cluster {
         node: NodeId,
         peer: NodeId,
         number: u32,
-    ) -> Result<Entry, EntryFault>
+    ) -> Result<(), EntryFault>
         requires { is_in_range self.old.layout (Events.Receive node peer number) ≡ true }
-        ensures { Applies self.old self.new (Events.Receive node peer number) result }
+        ensures { Makes self.old self.new (Events.Receive node peer number) result }
     {
         match self.settings.network {
             Network::Direct => Err(EntryFault::NotEnabled(Condition::NotPacket)),
             Network::Packet => match self.packet(peer, node, number) {
-                Some(packet) => self.turn(node, Work::Receive(packet)),
+                Some(packet) => self.turn(node, &Work::Receive(packet)),
                 None => Err(EntryFault::NotEnabled(Condition::NoPacket)),
             },
         }
@@ -78,20 +78,20 @@ impl Cluster {
     }
 
     /// Does a work of a node's interface, on the packet network.
-    fn turn(&mut self, node: NodeId, work: Work) -> Result<Entry, EntryFault>
+    fn turn(&mut self, node: NodeId, work: &Work) -> Result<(), EntryFault>
         requires packet { self.old.layout.direct ≡ false }
-        requires in_range { is_in_range self.old.layout (event_of node work) ≡ true }
-        requires taken { IsTaken self.old.journal node work }
-        ensures { Applies self.old self.new (event_of node work) result }
+        requires in_range { is_in_range self.old.layout (event_of node work.now) ≡ true }
+        requires taken { IsTaken self.old.journal node work.now }
+        ensures { Makes self.old self.new (event_of node work.now) result }
     {
         let interface = &mut self.interfaces[node.0 as usize];
-        let Some(end) = interface.needs(&work) else {
-            return turn_alone(interface, &mut self.index, &work);
+        let Some(end) = interface.needs(work) else {
+            return turn_alone(interface, &mut self.index, work);
         };
         let Some(place) = place_of(&self.ends, end) else {
             unreachable!()
         };
-        let to = way(interface, &self.ends, &self.ends[place], &work);
-        turn_with(interface, &mut self.ends[place], &mut self.index, &work, to)
+        let to = way(interface, &self.ends, &self.ends[place], work);
+        turn_with(interface, &mut self.ends[place], &mut self.index, work, to)
     }
 }

@@ -46,5 +46,5 @@ returns c =
     })
     c.node.ensures c.id.ensures c.sent-outcome.ensures c.bind_entry-entry.ensures in
     turning.turns_with c.args.self.now c.enter_bound.new.self c.args.endpoint.now c.enter_bound.new.endpoint c.args.stamp (Works.Bind c.args.endpoint.now.settings.id) c.bind_entry-entry.result c.enter_bound.result entry
-    (record { turned = c.enter_bound.ensures.turned; logged = c.enter_bound.ensures.logged; enabled = c.enter_bound.ensures.enabled; full = c.enter_bound.ensures.full; err = c.enter_bound.ensures.err })
+    (record { logged = c.enter_bound.ensures.logged; enabled = c.enter_bound.ensures.enabled; full = c.enter_bound.ensures.full; err = c.enter_bound.ensures.err })
     (record { same = c.enter_bound.ensures.settings; there = c.enter_bound.ensures.there; flies = c.enter_bound.ensures.flights; err = c.enter_bound.ensures.err_there; err_flights = c.enter_bound.ensures.err_flights })

@@ -10,4 +10,4 @@ pub returns-clause-idle : goal.returns-clause-idle
 returns-clause-idle c =
     let v = c.args.self.now in
     idle_is (channel_in (own v) c.args.peer c.args.channel) v.log c.busy.result
-    (ap (λ (o : Option Bound). option_map (λ (b : Bound). b.message) o) c.busy.ensures.bound ∙ c.ends.ensures.bound)
+    (ap (λ (o : Option Bound). option_map (λ (b : Bound). b.message) o) c.busy.ensures.bound ∙ c.kept_ends.ensures.bound)

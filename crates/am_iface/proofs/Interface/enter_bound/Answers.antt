@@ -1,5 +1,5 @@
 use Rattle.std.specs.Prelude.{Err}
-use Rattle.std.proofs.Common.{◌≡◌, ◌<◌, [], ◌∷◌, ◌++◌, length, get_or, is_some, sym, ap, ◌∙◌, subst, arith}
+use Rattle.std.proofs.Common.{◌≡◌, ◌<◌, [], ◌∷◌, ◌++◌, length, get_or, sym, ap, ◌∙◌, subst, arith}
 use Rattle.std.proofs.lemmas.Grind.{common_steps}
 use Rattle.am_channel.specs.declared.ends.Ends.{Ends}
 use Rattle.am_local.specs.Interface.{channel_in}
@@ -19,7 +19,7 @@ returns-in-Err-clause-full c =
 pub write-requires-clause-count : goal.write-requires-clause-count
 write-requires-clause-count c =
     let counts = c.self.inside.emissions.items in
-    omega (arith, entering.count_within c.self.inside c.args.self.now c.args.peer (get_or counts c.args.peer.0 0) c.is_some.result c.self.view_is c.self.invariant c.requires.peer (entering.read_same counts c.args.peer.0 0))
+    omega (arith, entering.count_within c.self.inside c.args.self.now c.args.peer (get_or counts c.args.peer.0 0) c.emits.result c.self.view_is c.self.invariant c.requires.peer (entering.read_same counts c.args.peer.0 0))
 
 pub invariant_of-self-2 : goal.invariant_of-self-2
 invariant_of-self-2 c =
@@ -27,8 +27,8 @@ invariant_of-self-2 c =
     let items : c.push_reserved.new.self.items ≡ c.self.inside.log.items ++ c.args.entry.now ∷ [] = grind (arith, common_steps) in
     let room : length c.self.inside.log.items < c.self.inside.limits.log = subst (λ (w : InterfaceView). length w.log < w.settings.log) (sym c.self.view_is) c.in_default.ensures.here in
     let made = subst (λ (ends : Ends). IsMade (channel_in (own v) c.args.peer c.args.channel) v.log ends c.args.entry.now) (sym c.bind.ensures) (c.requires.made c.take.result) in
-    entering.entered_seen c.self.inside v c.args.peer c.args.channel c.bind.new.ends c.args.entry.now c.is_some.result c.write.new.all.items c.write.new.emissions.items c.push_reserved.new.self.items c.self.view_is c.self.invariant c.requires.peer c.requires.channel room made
-    (record { emits = c.is_some.ensures ∙ ap is_some c.emitted_of-out.ensures; ends = c.write.ensures.ends; emissions = c.write.ensures.emissions; log = items })
+    entering.entered_seen c.self.inside v c.args.peer c.args.channel c.bind.new.ends c.args.entry.now c.emits.result c.write.new.all.items c.write.new.emissions.items c.push_reserved.new.self.items c.self.view_is c.self.invariant c.requires.peer c.requires.channel room made
+    (record { emits = c.emits.ensures; ends = c.write.ensures.ends; emissions = c.write.ensures.emissions; log = items })
 
 pub returns-clause-flights : goal.returns-clause-flights
 returns-clause-flights c = (c.take.result.0, c.take.ensures.flights ∙ ap (λ xs. xs ++ c.take.result.0 ∷ []) c.room_with.ensures.flights)

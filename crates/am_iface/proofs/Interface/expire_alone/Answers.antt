@@ -43,4 +43,4 @@ returns c s =
           telling.bound_enabled (own c.args.self.now) s c.args.peer c.args.channel c.in-Some.bound.message
           (telling.message_is (channel_in (own c.args.self.now) c.args.peer c.args.channel) c.args.self.now.log e (Some c.in-Some.bound) c.ends-ends.ensures bound);
     })
-    (record { turned = c.enter.ensures.turned; logged = c.enter.ensures.logged; enabled = c.enter.ensures.enabled; full = c.enter.ensures.full; err = c.enter.ensures.err })
+    (record { logged = c.enter.ensures.logged; enabled = c.enter.ensures.enabled; full = c.enter.ensures.full; err = c.enter.ensures.err })

@@ -40,7 +40,7 @@ returns-in-Ok c =
     (record { needs = c.requires.needs; counted = c.ends-ends.ensures; number = c.next_number.ensures; verdict = c.verdict-verdict.ensures; decided = c.decided-came.ensures })
     c.node.ensures c.parcel_receipt-entry.ensures in
     turning.turns_with c.args.self.now c.enter_with.new.self c.args.endpoint.now c.put.new.self c.args.stamp (Works.Receive (Packets.Parcel p)) c.parcel_receipt-entry.result _ entry
-    (record { turned = c.in-Ok.ensures.turned; logged = c.in-Ok.ensures.logged; enabled = c.in-Ok.ensures.enabled; full = c.in-Ok.ensures.full; err = tt })
+    (record { logged = c.in-Ok.ensures.logged; enabled = c.in-Ok.ensures.enabled; full = c.in-Ok.ensures.full; err = tt })
     (record { same = c.put.ensures.settings ∙ c.enter_with.ensures.settings; there = c.put.ensures.log ∙ ap (λ (xs : List Entry). xs ++ c.parcel_receipt-entry.result ∷ []) c.enter_with.ensures.log; flies = arrives c.args.endpoint.now c.enter_with.new.endpoint c.put.new.self p c.node.result c.args.stamp c.next_number.result c.verdict-verdict.result c.decided-came.result c.parcel_receipt-entry.result c.decided-came.ensures c.parcel_receipt-entry.ensures c.enter_with.ensures.flights c.put.ensures.flights; err = tt; err_flights = tt })
 
 pub returns-in-Err : goal.returns-in-Err
@@ -50,5 +50,5 @@ returns-in-Err c =
     (record { needs = c.requires.needs; counted = c.ends-ends.ensures; number = c.next_number.ensures; verdict = c.verdict-verdict.ensures; decided = c.decided-came.ensures })
     c.node.ensures c.parcel_receipt-entry.ensures in
     turning.turns_with c.args.self.now c.enter_with.new.self c.args.endpoint.now c.enter_with.new.endpoint c.args.stamp (Works.Receive (Packets.Parcel p)) c.parcel_receipt-entry.result _ entry
-    (record { turned = tt; logged = tt; enabled = c.in-Err.ensures.enabled; full = c.in-Err.ensures.full; err = c.in-Err.ensures.err })
+    (record { logged = tt; enabled = c.in-Err.ensures.enabled; full = c.in-Err.ensures.full; err = c.in-Err.ensures.err })
     (record { same = c.enter_with.ensures.settings; there = tt; flies = tt; err = c.enter_with.ensures.log; err_flights = c.enter_with.ensures.flights })

@@ -25,4 +25,4 @@ returns c s =
       stamped = ap (λ (x : Entry). x.stamp) c.answer_receipt-entry.ensures;
       enabled = refl;
     })
-    (record { turned = c.enter.ensures.turned; logged = c.enter.ensures.logged; enabled = c.enter.ensures.enabled; full = c.enter.ensures.full; err = c.enter.ensures.err })
+    (record { logged = c.enter.ensures.logged; enabled = c.enter.ensures.enabled; full = c.enter.ensures.full; err = c.enter.ensures.err })

@@ -28,7 +28,7 @@ returns-in-Ok c =
     (record { needs = c.requires.needs; counted = c.ends-ends.ensures; flight_is = c.requires.flight; done = sym c.answer.ensures.answer ∙ c.in-Done.is; result = refl })
     refl c.settling_entry-entry.ensures in
     turning.turns_with c.args.self.now c.enter_with.new.self c.args.endpoint.now c.settle.new.endpoint c.args.stamp (Works.Receive (Packets.Answer c.args.p.now)) c.settling_entry-entry.result _ entry
-    (record { turned = c.in-Ok.ensures.turned; logged = c.in-Ok.ensures.logged; enabled = c.in-Ok.ensures.enabled; full = c.in-Ok.ensures.full; err = tt })
+    (record { logged = c.in-Ok.ensures.logged; enabled = c.in-Ok.ensures.enabled; full = c.in-Ok.ensures.full; err = tt })
     (record { same = c.settle.ensures.settings ∙ c.enter_with.ensures.settings; there = c.settle.ensures.log ∙ ap (λ (xs : List Entry). xs ++ c.settling_entry-entry.result ∷ []) c.enter_with.ensures.log; flies = lands_from c.args.endpoint.now c.enter_with.new.endpoint c.settle.new.endpoint c.settling_entry-entry.result (record { settings = c.enter_with.ensures.settings; log = c.enter_with.ensures.log; flights = c.enter_with.ensures.flights }) c.settle.ensures.flights; err = tt; err_flights = tt })
 
 pub returns-in-Err : goal.returns-in-Err
@@ -37,5 +37,5 @@ returns-in-Err c =
     (record { needs = c.requires.needs; counted = c.ends-ends.ensures; flight_is = c.requires.flight; done = sym c.answer.ensures.answer ∙ c.in-Done.is; result = refl })
     refl c.settling_entry-entry.ensures in
     turning.turns_with c.args.self.now c.enter_with.new.self c.args.endpoint.now c.enter_with.new.endpoint c.args.stamp (Works.Receive (Packets.Answer c.args.p.now)) c.settling_entry-entry.result _ entry
-    (record { turned = tt; logged = tt; enabled = c.in-Err.ensures.enabled; full = c.in-Err.ensures.full; err = c.in-Err.ensures.err })
+    (record { logged = tt; enabled = c.in-Err.ensures.enabled; full = c.in-Err.ensures.full; err = c.in-Err.ensures.err })
     (record { same = c.enter_with.ensures.settings; there = tt; flies = tt; err = c.enter_with.ensures.log; err_flights = c.enter_with.ensures.flights })

@@ -1,19 +1,61 @@
-use Rattle.std.specs.Prelude.{IfOk}
-use Rattle.std.proofs.Common.{◌≡◌, ℕ, subst}
+use Rattle.std.proofs.Common.{◌≡◌, [], ◌∷◌, ◌++◌, None, Some, ap, sym, ◌∙◌}
+use Rattle.am_office.specs.declared.Entry.{Entry}
+use Rattle.am_office.specs.Entries.{emitted_of}
+use Rattle.am_model.specs.declared.EntryFault.TheVariants as Faults
+use Rattle.am_local.specs.Interface.{failing_at}
 use Rattle.am_iface.specs.declared.Turned.{Turned}
+use Rattle.am_iface.specs.Turns.{IsFull, entry_by, stamp_after}
+use Rattle.am_iface.specs.View.{InterfaceView, own}
+use Rattle.am_iface.proofs.Last as last
 use Rattle.am_iface.proofs.Telling.{some_state}
 use Rattle.am_iface.proofs.Interface.turn_alone.Goals as goal
 
-pub returns : goal.returns
-returns c =
-    let turns = c.work_alone.ensures some_state in
-    record {
-      event = turns.event;
-      outcome = λ s. (c.work_alone.ensures s).outcome;
-      stamp = subst (λ (n : ℕ). IfOk c.work_alone.result (λ (t : Turned). t.entry.stamp ≡ n)) c.stamp_after-stamp.ensures turns.stamped;
-      out = turns.out;
-      logged = turns.logged;
-      disabled = λ s. (c.work_alone.ensures s).disabled;
-      full = λ s. (c.work_alone.ensures s).full;
-      err = turns.err;
-    }
+pub last_turn-requires : goal.last_turn-requires
+last_turn-requires c =
+    let v = c.args.self.now in
+    let x = entry_by v some_state (stamp_after c.args.floor v.log c.args.work.now) c.args.work.now in
+    last.longer c.make_alone.new.self.log v.log x (ap (λ (w : InterfaceView). w.log) (c.in-Ok.ensures.logged some_state))
+
+pub returns-in-Ok-clause-event : goal.returns-in-Ok-clause-event
+returns-in-Ok-clause-event c =
+    let v = c.args.self.now in
+    let x = entry_by v some_state (stamp_after c.args.floor v.log c.args.work.now) c.args.work.now in
+    let turned : c.last_turn.result ≡ record { entry = x; out = emitted_of x } = c.last_turn.ensures v.log x (ap (λ (w : InterfaceView). w.log) (c.in-Ok.ensures.logged some_state)) in
+    ap (λ (t : Turned). t.entry.event) turned
+
+pub returns-in-Ok-clause-stamp : goal.returns-in-Ok-clause-stamp
+returns-in-Ok-clause-stamp c =
+    let v = c.args.self.now in
+    let x = entry_by v some_state (stamp_after c.args.floor v.log c.args.work.now) c.args.work.now in
+    let turned : c.last_turn.result ≡ record { entry = x; out = emitted_of x } = c.last_turn.ensures v.log x (ap (λ (w : InterfaceView). w.log) (c.in-Ok.ensures.logged some_state)) in
+    ap (λ (t : Turned). t.entry.stamp) turned
+
+pub returns-in-Ok-clause-out : goal.returns-in-Ok-clause-out
+returns-in-Ok-clause-out c =
+    let v = c.args.self.now in
+    let x = entry_by v some_state (stamp_after c.args.floor v.log c.args.work.now) c.args.work.now in
+    let turned : c.last_turn.result ≡ record { entry = x; out = emitted_of x } = c.last_turn.ensures v.log x (ap (λ (w : InterfaceView). w.log) (c.in-Ok.ensures.logged some_state)) in
+    ap (λ (t : Turned). t.out) turned ∙ ap emitted_of (sym (ap (λ (t : Turned). t.entry) turned))
+
+pub returns-in-Ok-clause-logged : goal.returns-in-Ok-clause-logged
+returns-in-Ok-clause-logged c =
+    let v = c.args.self.now in
+    let x = entry_by v some_state (stamp_after c.args.floor v.log c.args.work.now) c.args.work.now in
+    let turned : c.last_turn.result ≡ record { entry = x; out = emitted_of x } = c.last_turn.ensures v.log x (ap (λ (w : InterfaceView). w.log) (c.in-Ok.ensures.logged some_state)) in
+    c.in-Ok.ensures.logged some_state ∙ ap (λ (y : Entry). record v { log = v.log ++ y ∷ [] }) (sym (ap (λ (t : Turned). t.entry) turned))
+
+pub returns-in-Ok-clause-disabled : goal.returns-in-Ok-clause-disabled
+returns-in-Ok-clause-disabled c s k =
+    last.ok_alike (Unit {0}) Turned (failing_at (own c.args.self.now) s c.args.work.now ≡ Some k) tt c.last_turn.result (Faults.NotEnabled k) (c.in-Ok.ensures.disabled s k)
+
+pub returns-in-Ok-clause-full : goal.returns-in-Ok-clause-full
+returns-in-Ok-clause-full c s p =
+    last.ok_alike (Unit {0}) Turned ((failing_at (own c.args.self.now) s c.args.work.now ≡ None) × IsFull c.args.self.now p) tt c.last_turn.result (Faults.LogFull p) (c.in-Ok.ensures.full s p)
+
+pub returns-in-Err-clause-disabled : goal.returns-in-Err-clause-disabled
+returns-in-Err-clause-disabled c s k =
+    last.err_alike (Unit {0}) Turned (failing_at (own c.args.self.now) s c.args.work.now ≡ Some k) c.in-Err.fault (Faults.NotEnabled k) (c.in-Err.ensures.disabled s k)
+
+pub returns-in-Err-clause-full : goal.returns-in-Err-clause-full
+returns-in-Err-clause-full c s p =
+    last.err_alike (Unit {0}) Turned ((failing_at (own c.args.self.now) s c.args.work.now ≡ None) × IsFull c.args.self.now p) c.in-Err.fault (Faults.LogFull p) (c.in-Err.ensures.full s p)

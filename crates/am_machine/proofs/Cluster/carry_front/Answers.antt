@@ -14,7 +14,7 @@ use Rattle.am_machine.proofs.Applied as applied
 use Rattle.am_machine.proofs.Carriages as carriages
 use Rattle.am_machine.proofs.Carriages.{Carriage, IsEntryOf}
 use Rattle.am_machine.proofs.Events.{carry_idle, carry_stop, stop_of}
-use Rattle.am_machine.proofs.Indexed.{applied_by, indexed, indexed_counts, indexed_stamp, indexed_still, seen_still}
+use Rattle.am_machine.proofs.Indexed.{made_as, indexed, indexed_counts, indexed_stamp, indexed_still, seen_still}
 use Rattle.am_machine.proofs.Places.{lent_back, not_found, still_at}
 use Rattle.am_machine.proofs.Apart.{apart_in}
 use Rattle.am_machine.proofs.Cluster.carry_front.Goals as goal
@@ -297,10 +297,10 @@ returns c =
     let n = vec_len c.self.inside.ends in
     let last = c.carry_between.new.ends in
     let whole : take n (last ++ drop (length last) (take n (c.room_for_both.new.ends ++ drop (length c.room_for_both.new.ends) vs))) ≡ last = lent_back n last (take n (c.room_for_both.new.ends ++ drop (length c.room_for_both.new.ends) vs)) (c.carry_between.auto.ends ∙ c.deref_mut-2.ensures.len) in
-    let final = applied_by c.self.inside.settings c.self.inside.faults.items (map kept last) (journal ++ x ∷ []) c.self.inside.interfaces.items c.self.inside.swaps.items c.args.self.now (Events.Carry c.args.end) (Ok x)
+    let final = made_as c.self.inside.settings c.self.inside.faults.items (map kept last) (journal ++ x ∷ []) c.self.inside.interfaces.items c.self.inside.swaps.items c.args.self.now (Events.Carry c.args.end) x (Ok tt)
     (applied.kept_unpaged c.self.inside.settings c.self.inside.faults.items (map kept vs) journal (Events.Carry c.args.end) x (map kept last) (journal ++ x ∷ []) c.self.inside.interfaces.items c.self.inside.swaps.items next refl refl c.self.invariant.kept')
     (applied.seen_next c.self.inside.settings c.self.inside.faults.items (map kept vs) journal (Events.Carry c.args.end) x (map kept last) (journal ++ x ∷ []) c.args.self.now c.self.view_is next) in
-    (final.0, final.1, ap (λ (es : List EndpointView). applied.seen c.self.inside.settings c.self.inside.faults.items (map kept es) (journal_by (map kept es) c.self.inside.interfaces.items)) whole ∙ final.2)
+    (final.0, ap (λ (es : List EndpointView). applied.seen c.self.inside.settings c.self.inside.faults.items (map kept es) (journal_by (map kept es) c.self.inside.interfaces.items)) whole ∙ final.1)
 
 pub invariant_of-self : goal.invariant_of-self
 invariant_of-self c =

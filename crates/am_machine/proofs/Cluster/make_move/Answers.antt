@@ -16,7 +16,7 @@ use Rattle.am_journal.specs.View.{AreNodes}
 use Rattle.am_moves.specs.Moves.{IsMovedBy, Moves, outcome_with}
 use Rattle.am_machine.specs.View.{ClusterView}
 use Rattle.am_machine.proofs.Applied as applied
-use Rattle.am_machine.proofs.Indexed.{applied_by, indexed, indexed_counts, indexed_few, indexed_stamp, indexed_still, seen_still}
+use Rattle.am_machine.proofs.Indexed.{made_as, indexed, indexed_counts, indexed_few, indexed_stamp, indexed_still, seen_still}
 use Rattle.am_machine.proofs.Joint.{set_got}
 use Rattle.am_machine.proofs.Moving as moving
 use Rattle.am_machine.proofs.Moving.{Move}
@@ -267,7 +267,7 @@ returns-in-Ok c =
     let room = ap (λ (w : EndpointView). nat_le c.self.inside.settings.log (length w.log)) (sym before) ∙ sym c.is_full.ensures ∙ c.if-is_full.false in
     let by : IsMovedBy c.index_mut-swap.result.now c.make_move.new.swap (kept move.one) (kept c.make_move.new.end) c.args.event (c.greatest_stamp-stamp.result + 1) c.in-Ok.entry = subst (λ (r : Result Entry NoMemory). Moves c.index_mut-swap.result.now c.make_move.new.swap (kept move.one) (kept c.make_move.new.end) c.args.event (c.greatest_stamp-stamp.result + 1) r) c.in-Ok.is c.make_move.ensures in
     let next = disks.disk_next call c.make_move.new.swap c.make_move.new.end (c.greatest_stamp-stamp.result + 1) c.in-Ok.entry (journal ++ c.in-Ok.entry ∷ []) stamp room by refl in
-    applied_by c.self.inside.settings c.self.inside.faults.items (map kept (slice_set vs c.in-Some-place_of.place c.make_move.new.end)) (journal ++ c.in-Ok.entry ∷ []) c.self.inside.interfaces.items (slice_set c.self.inside.swaps.items c.args.node.0 c.make_move.new.swap) c.args.self.now c.args.event (Ok c.in-Ok.entry)
+    made_as c.self.inside.settings c.self.inside.faults.items (map kept (slice_set vs c.in-Some-place_of.place c.make_move.new.end)) (journal ++ c.in-Ok.entry ∷ []) c.self.inside.interfaces.items (slice_set c.self.inside.swaps.items c.args.node.0 c.make_move.new.swap) c.args.self.now c.args.event c.in-Ok.entry (Ok tt)
     (applied.kept_next c.self.inside.settings c.self.inside.faults.items (map kept vs) journal c.args.event c.in-Ok.entry _ (journal ++ c.in-Ok.entry ∷ []) c.self.inside.interfaces.items (slice_set c.self.inside.swaps.items c.args.node.0 c.make_move.new.swap) next (moving.moved_alone c.args.event c.args.end c.requires.end) c.self.invariant.kept'.interfaces'
     (disks.move_swaps call c.make_move.new.swap (kept c.make_move.new.end) (c.greatest_stamp-stamp.result + 1) c.in-Ok.entry stamp by))
     (applied.seen_next c.self.inside.settings c.self.inside.faults.items (map kept vs) journal c.args.event c.in-Ok.entry _ (journal ++ c.in-Ok.entry ∷ []) c.args.self.now c.self.view_is next)

@@ -2,7 +2,7 @@ use Rattle.std.proofs.Common.{◌≡◌, false, refl, sym, ap, ◌∙◌, subst,
 use Rattle.am_office.specs.declared.Event.{Event}
 use Rattle.am_model.specs.History.{IsHistory, is_in_range}
 use Rattle.am_scripts.specs.Layout.{is_direct}
-use Rattle.am_machine.specs.View.{Applies, ClusterView}
+use Rattle.am_machine.specs.View.{Makes, ClusterView}
 use Rattle.am_machine.proofs.Fitting.{no_packet, picked, range_receive}
 use Rattle.am_machine.proofs.Cluster.receive.Goals as goal
 
@@ -48,7 +48,7 @@ returns-in-Some c =
     let history = subst (λ (w : ClusterView). IsHistory w.layout w.journal) c.self.view_is c.self.invariant.kept'.tied.history in
     let range = range_receive v.layout c.args.node c.args.peer c.args.number c.requires in
     let taken = picked v.layout v.journal c.args.node c.args.peer c.args.number c.in-Some.packet history range.2 (sym c.packet.ensures ∙ c.in-Some.is) in
-    subst (λ (e : Event). Applies v c.turn.new.self e c.turn.result) taken.1 c.turn.ensures
+    subst (λ (e : Event). Makes v c.turn.new.self e c.turn.result) taken.1 c.turn.ensures
 
 pub returns-in-None : goal.returns-in-None
 returns-in-None c =

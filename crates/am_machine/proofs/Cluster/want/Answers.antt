@@ -12,7 +12,7 @@ use Rattle.am_machine.specs.Kept.{journal_by, layout_in}
 use Rattle.am_machine.specs.View.{ClusterView}
 use Rattle.am_machine.proofs.Applied as applied
 use Rattle.am_machine.proofs.Events.{want_stopped, want_refused}
-use Rattle.am_machine.proofs.Indexed.{applied_by, indexed, indexed_counts, indexed_stamp, indexed_still, seen_still}
+use Rattle.am_machine.proofs.Indexed.{made_as, indexed, indexed_counts, indexed_stamp, indexed_still, seen_still}
 use Rattle.am_machine.proofs.Places.{not_found}
 use Rattle.am_machine.proofs.Tied.{kept_same}
 use Rattle.am_machine.proofs.Apart.{apart_in}
@@ -118,7 +118,7 @@ returns-in-Ok c =
     let next =
     applied.want_next c.self.inside.settings c.self.inside.faults.items vs journal c.args.actor c.args.end c.in-Some.place c.index_mut.result.now c.want.new.self c.in-Ok.entry (journal ++ c.in-Ok.entry ∷ []) c.greatest_stamp.result
     c.self.invariant.kept'.tied range now disk room c.in-Ok.ensures.event c.in-Ok.ensures.outcome c.in-Ok.ensures.stamp (c.greatest_stamp.ensures ∙ c.self.invariant.index'.greatest) c.in-Ok.ensures.settings c.in-Ok.ensures.logged refl in
-    applied_by c.self.inside.settings c.self.inside.faults.items (map kept (slice_set vs c.in-Some.place c.want.new.self)) (journal ++ c.in-Ok.entry ∷ []) c.self.inside.interfaces.items c.self.inside.swaps.items c.args.self.now _ (Ok c.in-Ok.entry)
+    made_as c.self.inside.settings c.self.inside.faults.items (map kept (slice_set vs c.in-Some.place c.want.new.self)) (journal ++ c.in-Ok.entry ∷ []) c.self.inside.interfaces.items c.self.inside.swaps.items c.args.self.now _ c.in-Ok.entry (Ok tt)
     (applied.kept_unpaged c.self.inside.settings c.self.inside.faults.items (map kept vs) journal _ c.in-Ok.entry _ (journal ++ c.in-Ok.entry ∷ []) c.self.inside.interfaces.items c.self.inside.swaps.items next refl refl c.self.invariant.kept')
     (applied.seen_next c.self.inside.settings c.self.inside.faults.items (map kept vs) journal _ c.in-Ok.entry _ (journal ++ c.in-Ok.entry ∷ []) c.args.self.now c.self.view_is next)
 

@@ -1,104 +1,134 @@
 use Rattle.std.specs.Prelude.{Err, Ok, max}
-use Rattle.std.proofs.Common.{◌≡◌, ◌+◌, ℕ, sym, ap, ◌∙◌, subst, arith}
+use Rattle.std.proofs.Common.{◌≡◌, [], ◌∷◌, ◌++◌, sym, ap, ◌∙◌, subst, arith}
 use Rattle.am_endpoint.specs.View.{state_after}
-use Rattle.am_iface.specs.View.{own}
+use Rattle.am_office.specs.declared.Entry.{Entry}
+use Rattle.am_iface.specs.Turns.{entry_by, stamp_after}
+use Rattle.am_iface.specs.View.{InterfaceView, own}
 use Rattle.am_model.specs.Parts.{last_stamp}
-use Rattle.am_iface.specs.Turns.{stamp_in}
-use Rattle.am_journal.specs.View.{CanCount, Readings}
+use Rattle.am_journal.specs.View.{CanCount, IsIndexOf, Readings}
 use Rattle.am_moves.specs.Logs.{EndLog, state_in}
-use Rattle.am_machine.specs.Turned.{CanTurnWith}
+use Rattle.am_machine.specs.Turned.{CanTurnWith, entry_of_work}
 use Rattle.am_machine.specs.Ways.{GoesTo}
+use Rattle.am_machine.proofs.LastMade as lasts
 use Rattle.am_machine.proofs.Turning as turning
 use Rattle.am_machine.proofs.turned.turn_with.Goals as goal
 
 pub log-requires-clause-counts : goal.log-requires-clause-counts
 log-requires-clause-counts c = subst CanCount (sym c.room_to.ensures.read) c.requires.can.turn.counts
 
-pub turn_with-requires-clause-needs : goal.turn_with-requires-clause-needs
-turn_with-requires-clause-needs c = (subst (λ (d : EndLog). CanTurnWith c.args.interface.now d c.args.index.now.read c.args.work.now) (sym c.make_room.ensures.same) c.requires.can).needed
+pub make_with-requires-clause-needs : goal.make_with-requires-clause-needs
+make_with-requires-clause-needs c = (subst (λ (d : EndLog). CanTurnWith c.args.interface.now d c.args.index.now.read c.args.work.now) (sym c.make_room.ensures.same) c.requires.can).needed
 
-pub turn_with-requires-clause-home : goal.turn_with-requires-clause-home
-turn_with-requires-clause-home c = (subst (λ (d : EndLog). CanTurnWith c.args.interface.now d c.args.index.now.read c.args.work.now) (sym c.make_room.ensures.same) c.requires.can).home
+pub make_with-requires-clause-home : goal.make_with-requires-clause-home
+make_with-requires-clause-home c = (subst (λ (d : EndLog). CanTurnWith c.args.interface.now d c.args.index.now.read c.args.work.now) (sym c.make_room.ensures.same) c.requires.can).home
 
-pub turn_with-requires-clause-network : goal.turn_with-requires-clause-network
-turn_with-requires-clause-network c = (subst (λ (d : EndLog). CanTurnWith c.args.interface.now d c.args.index.now.read c.args.work.now) (sym c.make_room.ensures.same) c.requires.can).network
+pub make_with-requires-clause-network : goal.make_with-requires-clause-network
+make_with-requires-clause-network c = (subst (λ (d : EndLog). CanTurnWith c.args.interface.now d c.args.index.now.read c.args.work.now) (sym c.make_room.ensures.same) c.requires.can).network
 
-pub turn_with-requires-clause-bounces : goal.turn_with-requires-clause-bounces
-turn_with-requires-clause-bounces c = (subst (λ (d : EndLog). CanTurnWith c.args.interface.now d c.args.index.now.read c.args.work.now) (sym c.make_room.ensures.same) c.requires.can).bounces
+pub make_with-requires-clause-bounces : goal.make_with-requires-clause-bounces
+make_with-requires-clause-bounces c = (subst (λ (d : EndLog). CanTurnWith c.args.interface.now d c.args.index.now.read c.args.work.now) (sym c.make_room.ensures.same) c.requires.can).bounces
 
-pub turn_with-requires-clause-known : goal.turn_with-requires-clause-known
-turn_with-requires-clause-known c = (subst (λ (d : EndLog). CanTurnWith c.args.interface.now d c.args.index.now.read c.args.work.now) (sym c.make_room.ensures.same) c.requires.can).known
+pub make_with-requires-clause-known : goal.make_with-requires-clause-known
+make_with-requires-clause-known c = (subst (λ (d : EndLog). CanTurnWith c.args.interface.now d c.args.index.now.read c.args.work.now) (sym c.make_room.ensures.same) c.requires.can).known
 
-pub turn_with-requires-clause-flies : goal.turn_with-requires-clause-flies
-turn_with-requires-clause-flies c = (subst (λ (d : EndLog). CanTurnWith c.args.interface.now d c.args.index.now.read c.args.work.now) (sym c.make_room.ensures.same) c.requires.can).flies
+pub make_with-requires-clause-flies : goal.make_with-requires-clause-flies
+make_with-requires-clause-flies c = (subst (λ (d : EndLog). CanTurnWith c.args.interface.now d c.args.index.now.read c.args.work.now) (sym c.make_room.ensures.same) c.requires.can).flies
 
-pub turn_with-requires-clause-last_there : goal.turn_with-requires-clause-last_there
-turn_with-requires-clause-last_there c =
+pub make_with-requires-clause-last_there : goal.make_with-requires-clause-last_there
+make_with-requires-clause-last_there c =
     let late = (subst (λ (d : EndLog). CanTurnWith c.args.interface.now d c.args.index.now.read c.args.work.now) (sym c.make_room.ensures.same) c.requires.can).last in
     let at = c.greatest_stamp.ensures ∙ ap (λ (r : Readings). r.greatest) c.room_to.ensures.read in
     let more = c.requires.can.turn.stamp in
     omega (arith, late, at, more)
+
+pub unreachable-requires : goal.unreachable-requires
+unreachable-requires c =
+    let i = c.args.interface.now in
+    let w = c.args.work.now in
+    let one = c.make_room.new.endpoint in
+    let x = entry_by i (state_after one) (stamp_after (max c.greatest_stamp.result (last_stamp one.log)) i.log w) w in
+    lasts.not_none c.last_entry.result x (c.last_entry.ensures.last i.log x (ap (λ (v : InterfaceView). v.log) c.in-Ok.ensures.logged)) c.in_default.is
 
 pub log-requires-clause-room : goal.log-requires-clause-room
 log-requires-clause-room c =
     let i = c.args.interface.now in
     let w = c.args.work.now in
     let one = c.make_room.new.endpoint in
-    turning.out_has_room c.room_to.new.self i (state_after one) w c.in_ok-turned.turned.entry c.in_ok-turned.turned.out c.args.to
+    let x = entry_by i (state_after one) (stamp_after (max c.greatest_stamp.result (last_stamp one.log)) i.log w) w in
+    let same : c.in-Some.entry.now ≡ x = lasts.read_last c.last_entry.result c.in-Some.entry x (c.last_entry.ensures.last i.log x (ap (λ (v : InterfaceView). v.log) c.in-Ok.ensures.logged)) c.in-Some.is in
+    turning.out_has_room c.room_to.new.self i (state_after one) w c.in-Some.entry.now c.emitted_of.result c.args.to
     (subst (λ (d : EndLog). GoesTo (own i) (state_in d) w c.args.to) (sym c.make_room.ensures.same) c.requires.goes)
-    (turning.enabled_by i (state_after one) w c.in_ok-turned.turned c.turn_with.result c.in_ok-turned.was (λ k. (c.turn_with.ensures.disabled k).1))
+    (turning.enabled_by i (state_after one) w tt c.make_with.result c.in-Ok.is (λ k. (c.make_with.ensures.disabled k).1))
     c.requires.can.turn.nodes.0 c.requires.within
     (turning.ready_from c.room_to.new.self c.node.result i.settings.node c.args.to c.node.ensures
     (turning.ok_then c.room_to.result _ (sym c.is_err-2.ensures.value ∙ c.if-is_err-2.false) c.room_to.ensures.link))
-    c.in_ok-turned.ensures.out c.in_ok-turned.ensures.event c.in_ok-turned.ensures.outcome
+    c.emitted_of.ensures (ap (λ (y : Entry). y.event) same) (ap (λ (y : Entry). y.outcome) same)
 
 pub log-requires-clause-nodes : goal.log-requires-clause-nodes
 log-requires-clause-nodes c =
-    turning.work_nodes c.args.interface.now c.args.work.now c.in_ok-turned.turned.entry.event c.in_ok-turned.ensures.event c.requires.can.turn.fits c.requires.can.turn.nodes.0 c.requires.can.turn.nodes.1
-
-pub returns-clause-turns : goal.returns-clause-turns
-returns-clause-turns c past is =
     let i = c.args.interface.now in
     let w = c.args.work.now in
-    let x = c.in_ok-turned.turned.entry in
-    let e = c.args.endpoint.now in
     let one = c.make_room.new.endpoint in
-    let f = c.turn_with.new.endpoint in
+    let x = entry_by i (state_after one) (stamp_after (max c.greatest_stamp.result (last_stamp one.log)) i.log w) w in
+    let same : c.in-Some.entry.now ≡ x = lasts.read_last c.last_entry.result c.in-Some.entry x (c.last_entry.ensures.last i.log x (ap (λ (v : InterfaceView). v.log) c.in-Ok.ensures.logged)) c.in-Some.is in
+    turning.work_nodes i w c.in-Some.entry.now.event (ap (λ (y : Entry). y.event) same) c.requires.can.turn.fits c.requires.can.turn.nodes.0 c.requires.can.turn.nodes.1
+
+pub returns-in-Some-clause-turns : goal.returns-in-Some-clause-turns
+returns-in-Some-clause-turns c past is =
+    let i = c.args.interface.now in
+    let w = c.args.work.now in
+    let one = c.make_room.new.endpoint in
+    let x = entry_by i (state_after one) (stamp_after (max c.greatest_stamp.result (last_stamp one.log)) i.log w) w in
+    let e = c.args.endpoint.now in
+    let f = c.make_with.new.endpoint in
     let can = subst (λ (d : EndLog). CanTurnWith i d c.args.index.now.read w) (sym c.make_room.ensures.same) c.requires.can in
     let at = c.greatest_stamp.ensures ∙ ap (λ (r : Readings). r.greatest) c.room_to.ensures.read ∙ is.greatest in
     let late = can.last in
     let last = can.turn.last in
     let packet = can.turn.packet in
     let floor : max c.greatest_stamp.result (last_stamp one.log) ≡ c.greatest_stamp.result = turning.max_floor c.greatest_stamp.result (last_stamp one.log) (omega (arith, late, at, is.greatest)) in
-    turning.turns_still i c.turn_with.new.self e one f past w (Ok x) c.make_room.ensures.same
-    (turning.turned_with_ok i c.turn_with.new.self one f past w c.turn_with.result c.in_ok-turned.turned c.in_ok-turned.was
+    let made : x ≡ entry_of_work i past (state_after one) w =
+    turning.logged_entry i past (state_after one) w (max c.greatest_stamp.result (last_stamp one.log)) (last_stamp i.log) (floor ∙ at) (omega (arith, last, is.greatest)) (omega (arith, packet, is.greatest)) in
+    turning.turns_told i c.make_with.new.self e one f past w (Ok tt) c.make_room.ensures.same
+    (turning.turned_with_ok i c.make_with.new.self one f past w c.make_with.result tt c.in-Ok.is
     (turning.ok_then c.make_room.result _ (sym c.is_err.ensures.value ∙ c.if-is_err.false) c.make_room.ensures.bounded)
-    (λ k. (c.turn_with.ensures.disabled k).1) (λ p. (c.turn_with.ensures.full p).1)
-    (turning.logged_entry i past (state_after one) w x c.greatest_stamp.result (last_stamp i.log) c.in_ok-turned.ensures.event c.in_ok-turned.ensures.outcome
-    (c.in_ok-turned.ensures.stamp ∙ ap (λ (n : ℕ). 1 + max (max n (last_stamp i.log)) (stamp_in w)) floor)
-    at (omega (arith, last, is.greatest)) (omega (arith, packet, is.greatest)))
-    c.in_ok-turned.ensures.logged
-    c.in_ok-turned.ensures.settings_there c.in_ok-turned.ensures.logged_there)
+    (λ k. (c.make_with.ensures.disabled k).1) (λ p. (c.make_with.ensures.full p).1)
+    (c.in-Ok.ensures.logged ∙ ap (λ (y : Entry). record i { log = i.log ++ y ∷ [] }) made)
+    c.in-Ok.ensures.settings_there (c.in-Ok.ensures.logged_there ∙ ap (λ (y : Entry). one.log ++ y ∷ []) made))
 
-pub returns-clause-index : goal.returns-clause-index
-returns-clause-index c past is = c.log.ensures past (turning.index_same past c.args.index.now.read c.room_to.new.self.read c.room_to.ensures.read is)
+pub returns-in-Some-clause-index : goal.returns-in-Some-clause-index
+returns-in-Some-clause-index c past is =
+    let i = c.args.interface.now in
+    let w = c.args.work.now in
+    let one = c.make_room.new.endpoint in
+    let x = entry_by i (state_after one) (stamp_after (max c.greatest_stamp.result (last_stamp one.log)) i.log w) w in
+    let same : c.in-Some.entry.now ≡ x = lasts.read_last c.last_entry.result c.in-Some.entry x (c.last_entry.ensures.last i.log x (ap (λ (v : InterfaceView). v.log) c.in-Ok.ensures.logged)) c.in-Some.is in
+    let e = c.args.endpoint.now in
+    let f = c.make_with.new.endpoint in
+    let can = subst (λ (d : EndLog). CanTurnWith i d c.args.index.now.read w) (sym c.make_room.ensures.same) c.requires.can in
+    let at = c.greatest_stamp.ensures ∙ ap (λ (r : Readings). r.greatest) c.room_to.ensures.read ∙ is.greatest in
+    let late = can.last in
+    let last = can.turn.last in
+    let packet = can.turn.packet in
+    let floor : max c.greatest_stamp.result (last_stamp one.log) ≡ c.greatest_stamp.result = turning.max_floor c.greatest_stamp.result (last_stamp one.log) (omega (arith, late, at, is.greatest)) in
+    let made : x ≡ entry_of_work i past (state_after one) w =
+    turning.logged_entry i past (state_after one) w (max c.greatest_stamp.result (last_stamp one.log)) (last_stamp i.log) (floor ∙ at) (omega (arith, last, is.greatest)) (omega (arith, packet, is.greatest)) in
+    subst (λ (d : EndLog). IsIndexOf (past ++ entry_of_work i past (state_in d) w ∷ []) c.log.new.self.read) c.make_room.ensures.same
+    (subst (λ (y : Entry). IsIndexOf (past ++ y ∷ []) c.log.new.self.read) (same ∙ made)
+    (c.log.ensures past (turning.index_same past c.args.index.now.read c.room_to.new.self.read c.room_to.ensures.read is)))
 
-pub returns-in_err-turned-clause-turns : goal.returns-in_err-turned-clause-turns
-returns-in_err-turned-clause-turns c past is =
+pub returns-in-Err-clause-turns : goal.returns-in-Err-clause-turns
+returns-in-Err-clause-turns c past is =
     let i = c.args.interface.now in
     let w = c.args.work.now in
     let e = c.args.endpoint.now in
     let one = c.make_room.new.endpoint in
-    let f = c.turn_with.new.endpoint in
-    let is_err : c.from_residual.result ≡ Err c.in_err-turned.field-0.0 = turning.err_is c.from_residual.result c.in_err-turned.field-0.0 c.from_residual.ensures.1 in
-    rw is_err
-    (turning.turns_still i c.turn_with.new.self e one f past w (Err c.in_err-turned.field-0.0) c.make_room.ensures.same
-    (turning.turned_with_err i c.turn_with.new.self one f past w c.turn_with.result c.in_err-turned.field-0.0 c.in_err-turned.was
+    let f = c.make_with.new.endpoint in
+    turning.turns_told i c.make_with.new.self e one f past w (Err c.in-Err.fault) c.make_room.ensures.same
+    (turning.turned_with_err i c.make_with.new.self one f past w c.make_with.result c.in-Err.fault c.in-Err.is
     (turning.ok_then c.make_room.result _ (sym c.is_err.ensures.value ∙ c.if-is_err.false) c.make_room.ensures.bounded)
-    (λ k. (c.turn_with.ensures.disabled k).0) (λ p. (c.turn_with.ensures.full p).0) c.in_err-turned.ensures.err
-    (λ k. record { settings = c.in_err-turned.ensures.settings_there k; log = c.in_err-turned.ensures.err_there k })))
+    (λ k. (c.make_with.ensures.disabled k).0) (λ p. (c.make_with.ensures.full p).0) c.in-Err.ensures.err
+    (λ k. record { settings = c.in-Err.ensures.settings_there k; log = c.in-Err.ensures.err_there k }))
 
-pub returns-in_err-turned-clause-index : goal.returns-in_err-turned-clause-index
-returns-in_err-turned-clause-index c past is =
-    let is_err : c.from_residual.result ≡ Err c.in_err-turned.field-0.0 = turning.err_is c.from_residual.result c.in_err-turned.field-0.0 c.from_residual.ensures.1 in
-    rw is_err (turning.index_same past c.args.index.now.read c.room_to.new.self.read c.room_to.ensures.read is)
+pub returns-in-Err-clause-index : goal.returns-in-Err-clause-index
+returns-in-Err-clause-index c past is = turning.index_same past c.args.index.now.read c.room_to.new.self.read c.room_to.ensures.read is

@@ -1,5 +1,5 @@
 use Rattle.am_iface.proofs.Readings as reads
-use Rattle.am_iface.proofs.Interface.ends.Goals as goal
+use Rattle.am_iface.proofs.Interface.kept_ends.Goals as goal
 
 pub returns : goal.returns
 returns c =
