@@ -3,3 +3,4 @@ pub mod Firsts
 pub mod Joining
 pub mod Starting
 pub mod OneJournal
+pub mod Lasts

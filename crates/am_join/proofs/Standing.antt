@@ -152,7 +152,7 @@ added_keeps x xs z h = by_test (is_last x (slice_get xs (length xs - 1)))
     by_test false = has_left xs (x ∷ []) z h
 
 -- what a last entry is
-last_is : (x : Entry) (o : Option Entry) → is_last x o ≡ true → (l : Entry) × ((o ≡ Some l) × (is_same l x ≡ true))
+pub last_is : (x : Entry) (o : Option Entry) → is_last x o ≡ true → (l : Entry) × ((o ≡ Some l) × (is_same l x ≡ true))
 last_is x None h = absurd (true≢false (sym h))
 last_is x (Some l) h = (l, (refl, h))
 

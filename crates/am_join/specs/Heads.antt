@@ -1,5 +1,5 @@
 -- The next entries of logs.
-use Rattle.std.specs.Prelude.{◌≡◌, ◌⊎◌, ℕ, ◌<◌, ◌≤◌, ◌==◌, ◌&&◌, ◌||◌, Bool, Option, Some, None, List, [], ◌∷◌, Contains, length, nat_lt, slice_get, slice_index_or}
+use Rattle.std.specs.Prelude.{◌≡◌, ◌⊎◌, ℕ, ◌<◌, ◌≤◌, ◌==◌, ◌&&◌, ◌||◌, Bool, false, Option, Some, None, List, [], ◌∷◌, Contains, length, nat_lt, slice_get, slice_index_or}
 use Rattle.std.specs.BinaryHeap.{IsHeap}
 use Rattle.std.specs.Ordering.{nat_cmp, ordering_then}
 use Rattle.std.specs.declared.cmp.Ordering.{Ordering}
@@ -35,6 +35,11 @@ IsLeastFirst heads = IsHeap (λ (x y : Reverse Head). head_cmp y.0 x.0) heads
 -- whether a head stands after another in the journal
 abbrev pub is_later : Head → Head → Bool
 is_later x y = nat_lt y.stamp x.stamp || ((y.stamp == x.stamp) && nat_lt y.rank x.rank)
+
+-- whether a head stands in the journal where the last one did
+abbrev pub is_again : Option Head → Head → Bool
+is_again None h = false
+is_again (Some last) h = (last.stamp == h.stamp) && (last.rank == h.rank)
 
 -- an entry stands no later in the journal than a head
 abbrev pub IsNoLater : ℕ → ℕ → Head → Type 0

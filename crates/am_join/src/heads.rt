@@ -1,5 +1,5 @@
 // The next entry of each log: the first of all, and the others in a heap.
-ghost use Rattle.am_join.specs.Heads.{AreFirst, IsFirst, IsFirstOf, IsHead, IsLeastFirst, is_later, log_at, next_head, option_reversed};
+ghost use Rattle.am_join.specs.Heads.{AreFirst, IsFirst, IsFirstOf, IsHead, IsLeastFirst, is_again, is_later, log_at, next_head, option_reversed};
 ghost use Rattle.am_join.specs.Joined.{lists_of};
 ghost use Rattle.std.specs.BinaryHeap.{heap_items, heap_len};
 ghost use Rattle.std.specs.Prelude.{◌≡◌, ◌+◌, ◌<◌, ◌^◌, ◌++◌, length, slice_get, Some, IfOk, OnOk, IsPermutation};
@@ -25,6 +25,16 @@ impl Head {
         ensures { result ≡ is_later self.now other.now }
     {
         other.stamp < self.stamp || other.stamp == self.stamp && other.rank < self.rank
+    }
+}
+
+/// Whether a head stands in the journal where the last one did.
+pub(crate) fn is_again(last: Option<Head>, head: Head) -> bool
+    ensures { result ≡ is_again last head }
+{
+    match last {
+        Some(last) => last.stamp == head.stamp && last.rank == head.rank,
+        None => false,
     }
 }
 

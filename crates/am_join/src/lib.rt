@@ -1,19 +1,18 @@
 //! The journal that logs make: the entries of all logs, each once, by stamp and then by part.
 #![tactic(auto)]
 
-ghost use Rattle.am_join.specs.Joined.{AreAmong, AreOne, HaveJust, added, lists_of};
+ghost use Rattle.am_join.specs.Joined.{AreAmong, AreOne, HaveJust, added, is_last, lists_of};
 ghost use Rattle.am_merge.specs.Logs.{IsRising};
 ghost use Rattle.am_merge.specs.Merged.{entries_of, merged};
 ghost use Rattle.am_model.specs.Layout.{AllAre};
 ghost use Rattle.am_model.specs.Merge.{is_ordered};
 ghost use Rattle.am_office.specs.declared.Entry.{Entry};
-ghost use Rattle.std.specs.Prelude.{◌≡◌, true, List, IfOk};
+ghost use Rattle.std.specs.Prelude.{◌≡◌, ◌-◌, true, List, IfOk, length, slice_get};
 
 mod heads;
 mod parts;
 
-use crate::heads::{entry_of, first_heads, first_of, next_head, taken};
-use crate::parts::is_same;
+use crate::heads::{entry_of, first_heads, first_of, is_again, next_head, taken};
 use am_office::{Entry, Journal, NoMemory};
 use std::alloc::Global;
 use std::slice::from_ref;
@@ -30,8 +29,10 @@ pub fn join(alloc: Global, logs: &[&[Entry]]) -> Result<Journal, NoMemory>
     let mut entries = Vec::with_capacity(alloc, total(logs))?;
     let mut heads = first_heads(alloc, logs)?;
     let mut first = taken(&mut heads);
+    let mut last = None;
     while let Some(head) = first {
-        add(&mut entries, entry_of(logs, head))?;
+        add(&mut entries, entry_of(logs, head), is_again(last, head))?;
+        last = Some(head);
         let next = next_head(logs, head.log, head.place + 1);
         first = first_of(next, &mut heads);
     }
@@ -54,14 +55,12 @@ fn total(logs: &[&[Entry]]) -> usize {
     total
 }
 
-/// Adds an entry to those of the journal, unless it is the last of them.
-fn add(entries: &mut Vec<Entry>, entry: &Entry) -> Result<(), NoMemory>
+/// Adds an entry to those of the journal, unless it is the last of them, as was told.
+#[tactic(auto, using(crate::proofs::Lasts::told))]
+fn add(entries: &mut Vec<Entry>, entry: &Entry, again: bool) -> Result<(), NoMemory>
+    requires { again ≡ is_last entry.now (slice_get entries.old.items (length entries.old.items - 1)) }
     ensures { IfOk result (λ _. entries.new.items ≡ added entry.now entries.old.items) }
 {
-    let again = match entries.last() {
-        Some(last) => is_same(last, entry),
-        None => false,
-    };
     if !again {
         entries.extend_from_slice(from_ref(entry))?;
     }

@@ -1,5 +1,4 @@
 // Where an entry stands in a journal.
-ghost use Rattle.am_merge.specs.Merged as by;
 ghost use Rattle.am_model.specs.Merge as order;
 ghost use Rattle.am_office.specs.Entries.{ends_touched, touched_by_result};
 ghost use Rattle.std.specs.Prelude.{◌≡◌, slice_get};
@@ -65,11 +64,4 @@ fn node_rank(touched: Option<NodeId>) -> u16
         Some(node) => 256 + u16::from(node.0),
         None => 0,
     }
-}
-
-/// Whether two entries have one stamp and one part.
-pub(crate) fn is_same(one: &Entry, other: &Entry) -> bool
-    ensures { result ≡ by.is_same one.now other.now }
-{
-    one.stamp == other.stamp && rank(one) == rank(other)
 }

@@ -15,4 +15,6 @@ pub mod Lasting
 pub mod EndMarked
 pub mod PairMarked
 pub mod Fewest
+pub mod Lowest
+pub mod Counting
 pub mod Marking

@@ -1,5 +1,6 @@
 pub mod Links
 pub mod Threads
+pub mod Lows
 pub mod Scripted
 pub mod Plans
 pub mod Tries

@@ -14,6 +14,7 @@ use Rattle.am_machine.specs.View.{ClusterView}
 use Rattle.am_scripted.specs.EndMarks.{AreMarked}
 use Rattle.am_scripted.specs.PairMarks.{ArePaired}
 use Rattle.am_scripted.specs.Links.{AreFed, IsSpared, Released, fed_at, released_in}
+use Rattle.am_scripted.specs.Lows.{IsLow}
 use Rattle.am_scripted.specs.Threads.{scripted_in, scripted_of}
 use Rattle.am_scripted.specs.declared.scripted.ScriptedCluster.TheInside.{Inside}
 
@@ -49,5 +50,6 @@ pub record IsScripted (m : Inside) : Type 0 where
   pub fed : AreFed m.scenario.now.plan m.cluster.journal (map released_in m.links.all.items)
   pub spared : IsSpared m.links
   pub threads : map scripted_in m.threads.items ≡ map (scripted_of m.scenario.now m.cluster.journal) m.scenario.now.threads
+  pub low : IsLow (map scripted_in m.threads.items) m.low
   pub ends : AreMarked (layout_of m.scenario.now) m.cluster.journal m.ends
   pub pairs : ArePaired m.scenario.now m.cluster.journal m.pairs

@@ -68,6 +68,15 @@ IsSmallAt ts k = (t : Scripted) → slice_get ts k ≡ Some t → t.made + 1 < 2
 abbrev pub AreSmall : List Scripted → Type 0
 AreSmall ts = (k : ℕ) → IsSmallAt ts k
 
+-- no two threads have one number
+abbrev pub AreDistinct : List Scripted → Type 0
+AreDistinct ts = (j k : ℕ) (t u : Scripted) → slice_get ts j ≡ Some t → slice_get ts k ≡ Some u → t.id ≡ u.id → j ≡ k
+
+-- the place of the thread with this number, and none exactly where none has it
+abbrev pub HasThread : List ThreadScript → ℕ → Option ℕ → Type 0
+HasThread ts id None = (k : ℕ) (t : ThreadScript) → slice_get ts k ≡ Some t → t.id ≡ id → ⊥
+HasThread ts id (Some place) = (t : ThreadScript) × (slice_get ts place ≡ Some t) × (t.id ≡ id)
+
 -- what is left to the one that made fewer calls, or to the first
 abbrev pub fewer_of : Option Left → Option Left → Option Left
 fewer_of best None = best

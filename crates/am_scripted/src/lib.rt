@@ -20,6 +20,7 @@ mod end_marks;
 mod firsts;
 mod links;
 mod looks;
+mod lows;
 mod pair_marks;
 mod plan_index;
 mod reads;

@@ -23,9 +23,10 @@ use crate::end_marks::{EndMarks, all_shown, mark_touched};
 use crate::firsts::{first_bound, first_due, first_missed, next_end, turn_falls};
 use crate::links::{LinkTable, make_all_room, no_links};
 use crate::looks::{has_bound, head_at, head_by, home, is_frame_held, mail_at, received_requests};
+use crate::lows::{LowMark, fewest_from, low_after, no_low};
 use crate::pair_marks::{PairMarks, all_pairs, mark_pair};
 use crate::plan_index::PlanIndex;
-use crate::threads::{ThreadScript, all_scripts, count_event, fewest, next_call};
+use crate::threads::{ThreadScript, all_scripts, count_event, next_call};
 use crate::tries::is_last;
 use am_drainer::{EndHead, EndMail, EndTest, LeftCall, Machine, NodePair};
 use am_machine::Cluster;
@@ -48,6 +49,8 @@ pub struct ScriptedCluster<'a> {
     links: LinkTable,
     /// What each thread is still to call.
     threads: Vec<ThreadScript>,
+    /// Where the thread that made the fewest calls is looked for, while a call is left to any.
+    low: Option<LowMark>,
     /// What each endpoint shows.
     ends: EndMarks,
     /// What is due and bound between nodes.
@@ -86,6 +89,7 @@ impl<'a> ScriptedCluster<'a> {
             cluster,
             links,
             threads,
+            low: no_low(),
             ends,
             pairs,
         })
@@ -147,6 +151,7 @@ impl<'a> ScriptedCluster<'a> {
                 self.cluster.laws();
                 feed_entry(&mut self.links, &self.plan, &entry);
                 count_event(&mut self.threads, &event);
+                self.low = low_after(&self.threads, self.low, &event);
                 mark_touched(&mut self.ends, &self.cluster, self.scenario, &entry);
                 mark_pair(
                     &mut self.pairs,
@@ -216,6 +221,7 @@ pub(crate) fn drain_owned<'a>(cluster: Cluster, beside: Beside<'a>) -> (Cluster,
         cluster,
         links,
         threads,
+        low: no_low(),
         ends,
         pairs,
     };
@@ -226,6 +232,7 @@ pub(crate) fn drain_owned<'a>(cluster: Cluster, beside: Beside<'a>) -> (Cluster,
         cluster,
         links: _,
         threads,
+        low: _,
         ends: _,
         pairs: _,
     } = machine;
@@ -330,7 +337,7 @@ impl<'a> Machine for ScriptedCluster<'a> {
     }
 
     fn fewest(&self) -> Option<LeftCall> {
-        fewest(&self.threads)
+        fewest_from(&self.threads, self.low)
     }
 
     fn apply(&mut self, event: Event) -> Result<(), EntryFault> {

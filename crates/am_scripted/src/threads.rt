@@ -1,10 +1,10 @@
 // What each thread is still to call.
-ghost use Rattle.am_scripted.specs.Threads.{AreSmall, IsSmallAt, call_in, fewer_of, found_in, left_in, made_in, next_in, scripted_in, scripted_of, with_call, with_call_at, with_call_if};
+ghost use Rattle.am_scripted.specs.Threads.{AreDistinct, AreSmall, HasThread, IsSmallAt, call_in, fewer_of, found_in, left_in, made_in, next_in, scripted_in, scripted_of, with_call, with_call_at, with_call_if};
 ghost use Rattle.am_drainer.specs.Firsts.{IsFewest};
 ghost use Rattle.am_drainer.specs.Reads.{left_of};
 ghost use Rattle.am_scenario_types.specs.Lawful.{IsLawful};
 ghost use Rattle.am_scripts.specs.Scripts.{call_made, script_of};
-ghost use Rattle.std.specs.Prelude.{◌≡◌, ◌+◌, ◌*◌, ◌≤◌, ◌<◌, ◌^◌, [], IfOk, length, map, option_map, vec_len};
+ghost use Rattle.std.specs.Prelude.{◌≡◌, ◌==◌, ◌+◌, ◌*◌, ◌≤◌, ◌<◌, ◌^◌, [], IfOk, length, map, option_map, vec_len};
 
 use am_drainer::LeftCall;
 use am_office::{Actor, Entry, Event, NoMemory};
@@ -15,8 +15,8 @@ use std::alloc::Global;
 #[derive(Drop)]
 pub(crate) struct ThreadScript {
     id: u8,
-    calls: Vec<ScriptCall>,
-    made: u32,
+    pub(crate) calls: Vec<ScriptCall>,
+    pub(crate) made: u32,
 }
 
 /// The calls that a thread is to make.
@@ -51,7 +51,7 @@ pub(crate) fn all_scripts(alloc: Global, scenario: &Scenario) -> Result<Vec<Thre
 }
 
 /// The call that is left to a thread, and how many it made.
-fn left_to(thread: &ThreadScript) -> Option<LeftCall>
+pub(crate) fn left_to(thread: &ThreadScript) -> Option<LeftCall>
     ensures { option_map left_of result ≡ left_in (scripted_in thread.now) }
 {
     match thread.calls.get(thread.made as usize).copied() {
@@ -157,20 +157,53 @@ fn count_at(threads: &mut Vec<ThreadScript>, index: usize, call: ScriptCall)
     count_on(&mut threads[index], call);
 }
 
-/// One call more on each thread whose it is.
-fn count_call(threads: &mut Vec<ThreadScript>, call: ScriptCall)
-    requires { AreSmall (map scripted_in threads.old.items) }
-    ensures { map scripted_in threads.new.items ≡ map (with_call call) (map scripted_in threads.old.items) }
+/// Whether a thread has this number.
+fn has_id(thread: &ThreadScript, id: u8) -> bool
+    ensures { result ≡ (thread.now.id == id) }
+{
+    thread.id == id
+}
+
+/// The place of the thread with this number, by a look at each.
+fn searched(threads: &[ThreadScript], id: u8) -> Option<usize>
+    ensures { HasThread threads.now id result }
 {
     let count = threads.len();
     for index in 0..count {
-        count_at(threads, index, call);
+        if has_id(&threads[index], id) {
+            return Some(index);
+        }
+    }
+    None
+}
+
+/// The place of the thread with this number, mostly that of its number.
+fn place_of(threads: &[ThreadScript], id: u8) -> Option<usize>
+    ensures { HasThread threads.now id result }
+{
+    let place = id as usize;
+    if place < threads.len() && has_id(&threads[place], id) {
+        return Some(place);
+    }
+    searched(threads, id)
+}
+
+/// One call more on the thread whose it is.
+fn count_call(threads: &mut Vec<ThreadScript>, call: ScriptCall)
+    requires small { AreSmall (map scripted_in threads.old.items) }
+    requires distinct { AreDistinct (map scripted_in threads.old.items) }
+    ensures { map scripted_in threads.new.items ≡ map (with_call call) (map scripted_in threads.old.items) }
+{
+    match place_of(threads, call.thread) {
+        Some(place) => count_at(threads, place, call),
+        None => {}
     }
 }
 
-/// One call more on each thread whose it is, where the event is a call of a thread.
+/// One call more on the thread whose it is, where the event is a call of a thread.
 pub(crate) fn count_event(threads: &mut Vec<ThreadScript>, event: &Event)
-    requires { AreSmall (map scripted_in threads.old.items) }
+    requires small { AreSmall (map scripted_in threads.old.items) }
+    requires distinct { AreDistinct (map scripted_in threads.old.items) }
     ensures { map scripted_in threads.new.items ≡ map (with_call_if (call_made event.now)) (map scripted_in threads.old.items) }
 {
     match call_made(event) {

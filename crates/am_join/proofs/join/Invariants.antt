@@ -1,11 +1,12 @@
 use Rattle.std.proofs.Common.{◌-◌, ◌++◌, length}
-use Rattle.std.specs.Prelude.{sum_by}
+use Rattle.std.specs.Prelude.{slice_get, sum_by}
 use Rattle.std.specs.BinaryHeap.{heap_items}
 use Rattle.std.specs.declared.cmp.Reverse.{Reverse}
 use Rattle.am_join.specs.declared.heads.Head.{Head}
 use Rattle.am_join.specs.Joined.{lists_of}
 use Rattle.am_join.specs.Heads.{IsFirstOf, IsLeastFirst, log_at, option_reversed}
 use Rattle.am_join.proofs.Joining.{IsReached}
+use Rattle.am_join.proofs.Lasts.{IsOfLast}
 use Rattle.am_join.proofs.join.Given as goal
 
 abbrev pub invariant-loop-first : goal.invariant-loop-first
@@ -14,6 +15,7 @@ invariant-loop-first l =
       reached : IsReached (lists_of l.logs) (option_reversed l.first ++ heap_items l.heads) l.entries.items;
       order : IsLeastFirst (heap_items l.heads);
       first : IsFirstOf l.first (heap_items l.heads);
+      last : IsOfLast l.last (slice_get l.entries.items (length l.entries.items - 1));
     }
 
 -- how many entries the heads leave

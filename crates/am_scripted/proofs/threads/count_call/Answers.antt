@@ -1,20 +1,21 @@
-use Rattle.std.proofs.Common.{◌<◌, rules, ◌∙◌, arith, map, length}
-use Rattle.std.proofs.lemmas.List.{length-map}
-use Rattle.am_scripted.specs.Threads.{no_thread, scripted_in, with_call}
-use Rattle.am_scripted.proofs.Stepping.{counted_more}
+use Rattle.std.proofs.Common.{◌≡◌, Some, None, List, subst, rules, ◌∙◌}
+use Rattle.am_scripted.specs.Threads.{HasThread}
+use Rattle.am_scripted.specs.declared.threads.ThreadScript.{ThreadScript}
+use Rattle.am_scripted.proofs.Counting.{counted_here, counted_nowhere, within}
 use Rattle.am_scripted.proofs.threads.count_call.Goals as goal
 
-pub loop-index-preserved : goal.loop-index-preserved
-loop-index-preserved c =
-    let all = map scripted_in c.args.threads.now.items in
-    let now = map scripted_in c.loop-index.threads.items in
-    let first = length-map c.args.threads.now.items scripted_in in
-    let later = length-map c.loop-index.threads.items scripted_in in
-    let here : c.loop-index.index < length c.args.threads.now.items = (search rules) in
-    let there : c.loop-index.index < length c.loop-index.threads.items = (search rules) in
-    let lt : c.loop-index.index < length all = omega (arith, first, here) in
-    let within : c.loop-index.index < length now = omega (arith, later, there) in
-    record {
-      len = c.count_at.ensures.len ∙ c.loop-index.invariant.len;
-      done = counted_more (with_call c.args.call) all now _ c.loop-index.index no_thread lt within c.loop-index.invariant.done c.count_at.ensures.here;
-    }
+pub count_at-requires-clause-within : goal.count_at-requires-clause-within
+count_at-requires-clause-within c =
+    let same : c.deref.result.now ≡ c.args.threads.now.items = search rules in
+    within c.args.threads.now.items c.args.call.thread c.in-Some.place (subst (λ (l : List ThreadScript). HasThread l c.args.call.thread (Some c.in-Some.place)) same c.in-Some.ensures)
+
+pub returns-in-Some : goal.returns-in-Some
+returns-in-Some c =
+    let same : c.deref.result.now ≡ c.args.threads.now.items = search rules in
+    c.count_at.ensures.here
+    ∙ counted_here c.args.threads.now.items c.args.call c.in-Some.place c.requires.distinct (subst (λ (l : List ThreadScript). HasThread l c.args.call.thread (Some c.in-Some.place)) same c.in-Some.ensures)
+
+pub returns-in-None : goal.returns-in-None
+returns-in-None c =
+    let same : c.deref.result.now ≡ c.args.threads.now.items = search rules in
+    counted_nowhere c.args.threads.now.items c.args.call (subst (λ (l : List ThreadScript). HasThread l c.args.call.thread None) same c.in-None.ensures)

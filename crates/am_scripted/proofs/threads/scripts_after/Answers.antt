@@ -1,8 +1,14 @@
+use Rattle.std.proofs.Common.{map, take}
+use Rattle.am_scripted.specs.Threads.{scripted_in}
+use Rattle.am_scripted.proofs.Counting.{threads_distinct}
 use Rattle.am_scripted.proofs.Stepping.{called_step, small_at}
 use Rattle.am_scripted.proofs.threads.scripts_after.Goals as goal
 
-pub count_event-requires : goal.count_event-requires
-count_event-requires c =
+pub count_event-requires-clause-distinct : goal.count_event-requires-clause-distinct
+count_event-requires-clause-distinct c = threads_distinct c.args.scenario.now (take c.loop-entry.entry-index c.args.entries.now) (map scripted_in c.loop-entry.threads.items) c.requires.lawful c.loop-entry.invariant
+
+pub count_event-requires-clause-small : goal.count_event-requires-clause-small
+count_event-requires-clause-small c =
     small_at c.args.scenario.now c.args.entries.now c.loop-entry.entry-index _ c.loop-entry-test.true c.requires.short c.requires.lawful.settings.log.1 c.loop-entry.invariant
 
 pub loop-entry-preserved : goal.loop-entry-preserved

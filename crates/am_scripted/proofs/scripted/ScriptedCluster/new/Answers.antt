@@ -2,7 +2,7 @@ use Rattle.std.proofs.Common.{ℕ, ◌∙◌, ap, sym, map, subst, List}
 use Rattle.am_release.specs.Staged.{Staged}
 use Rattle.am_office.specs.declared.Entry.{Entry}
 use Rattle.am_scripted.specs.Links.{AreFed, released_in}
-use Rattle.am_scripted.specs.Threads.{scripted_of}
+use Rattle.am_scripted.specs.Threads.{scripted_in, scripted_of}
 use Rattle.am_scripted.proofs.Starting.{begun_parts, fed_nothing}
 use Rattle.am_scripted.proofs.scripted.ScriptedCluster.new.Goals as goal
 
@@ -34,5 +34,6 @@ invariant_of-result c =
       ends = c.all_shown-ends.ensures;
       pairs = c.all_pairs-pairs.ensures;
       spared = c.in_ok-links.ensures.spared;
+      low = c.no_low.ensures (map scripted_in c.in_ok-threads.threads.items);
       threads = c.in_ok-threads.ensures ∙ ap (λ (j : List Entry). map (scripted_of s j) s.threads) (sym none);
     }

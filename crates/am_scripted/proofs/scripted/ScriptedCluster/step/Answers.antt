@@ -6,7 +6,12 @@ use Rattle.am_machine.specs.View.{Applies}
 use Rattle.am_release.specs.Staged.{Staged}
 use Rattle.am_scripted.specs.Links.{AreFed, released_in}
 use Rattle.am_scripted.specs.Scripted.{RunView, cluster_of}
+use Rattle.am_scripts.specs.Scripts.{call_made}
+use Rattle.am_scripted.specs.Lows.{IsLow}
 use Rattle.am_scripted.specs.Threads.{scripted_in}
+use Rattle.am_scripted.specs.declared.threads.ThreadScript.{ThreadScript}
+use Rattle.am_scripted.proofs.Counting.{threads_distinct}
+use Rattle.am_scripted.proofs.Lowest.{low_counted}
 use Rattle.am_scripted.proofs.Applying.{applies_to, of_layout, short_of, step_called, step_fed, step_of, step_parts}
 use Rattle.am_scripted.proofs.Growing.{goes_from, goes_to, made_small}
 use Rattle.am_scripted.proofs.Marking.{step_marked, step_paired, step_within}
@@ -26,8 +31,16 @@ feed_entry-requires-clause-to c =
     let step = step_of s old c.apply.new.self c.args.event c.in-Ok.entry c.self.invariant.parts c.laws-in-Ok.ensures.history c.in-Ok.ensures in
     goes_to (layout_of s) old.journal c.in-Ok.entry (lawful_layout s c.self.invariant.parts.lawful) step.history
 
-pub count_event-requires : goal.count_event-requires
-count_event-requires c =
+pub count_event-requires-clause-distinct : goal.count_event-requires-clause-distinct
+count_event-requires-clause-distinct c = threads_distinct c.self.inside.scenario.now c.self.inside.cluster.journal (map scripted_in c.self.inside.threads.items) c.self.invariant.parts.lawful c.self.invariant.threads
+
+pub low_after-self-inside-requires : goal.low_after-self-inside-requires
+low_after-self-inside-requires c =
+    subst (λ (l : List ThreadScript). IsLow (map scripted_in l) c.self.inside.low) (sym c.deref.ensures.value)
+    (low_counted (map scripted_in c.self.inside.threads.items) (map scripted_in c.count_event.new.threads.items) (call_made c.args.event) c.self.inside.low c.count_event.ensures c.self.invariant.low)
+
+pub count_event-requires-clause-small : goal.count_event-requires-clause-small
+count_event-requires-clause-small c =
     let s = c.self.inside.scenario.now in
     let old = c.self.inside.cluster in
     made_small s old.journal (map scripted_in c.self.inside.threads.items) c.self.invariant.threads (short_of s old c.self.invariant.parts c.laws.ensures.history) c.self.invariant.parts.lawful.settings.log.1
@@ -53,7 +66,7 @@ mark_pair-requires-clause-fed c =
     let new = c.apply.new.self in
     let x = c.in-Ok.entry in
     let step = step_of s old new c.args.event x c.self.invariant.parts c.laws-in-Ok.ensures.history c.in-Ok.ensures in
-    subst (λ (l : List (Staged ℕ)). AreFed s.plan new.journal (map released_in l)) (sym c.deref.ensures.value)
+    subst (λ (l : List (Staged ℕ)). AreFed s.plan new.journal (map released_in l)) (sym c.deref-in-Ok.ensures.value)
     (step_fed s old new c.args.event x c.self.inside.plan (map released_in c.self.inside.links.all.items) (map released_in c.make_all_room.new.table.all.items) (map released_in c.feed_entry.new.links.all.items) c.self.invariant.parts step c.self.invariant.fed
     c.make_all_room.ensures.same
     c.self.invariant.plan
@@ -83,6 +96,7 @@ invariant_of-self-in-Ok c =
           c.self.invariant.plan
           c.feed_entry.ensures.fed;
       spared = c.feed_entry.ensures.spared;
+      low = subst (λ (l : List ThreadScript). IsLow (map scripted_in l) c.low_after-self-inside.result) c.deref.ensures.value c.low_after-self-inside.ensures;
       ends = step_marked s old new c.args.event x c.self.inside.ends c.mark_touched.new.marks step c.self.invariant.ends c.mark_touched.ensures;
       pairs = step_paired s old new c.args.event x c.self.inside.pairs c.mark_pair.new.marks c.self.invariant.parts step c.self.invariant.pairs c.mark_pair.ensures;
       threads = step_called s old new c.args.event x (map scripted_in c.self.inside.threads.items) (map scripted_in c.count_event.new.threads.items) step c.self.invariant.threads c.count_event.ensures;

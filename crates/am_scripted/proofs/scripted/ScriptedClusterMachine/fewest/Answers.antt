@@ -17,15 +17,15 @@ returns-clause-value c =
     let s = c.self.inside.scenario.now in
     let past = c.self.inside.cluster.journal in
     let ts = c.self.inside.threads.items in
-    let few : IsFewest left_in (map scripted_in ts) (option_map left_of c.fewest.result) = subst (λ (l : List ThreadScript). IsFewest left_in (map scripted_in l) (option_map left_of c.fewest.result)) c.deref.ensures.value c.fewest.ensures in
-    subst (λ (w : RunView). IsFewest (left_to w.scenario w.journal) w.scenario.threads (option_map left_of c.fewest.result)) c.self.view_is
-    (fewest_read s past (map scripted_in ts) (option_map left_of c.fewest.result) c.self.invariant.threads few)
+    let few : IsFewest left_in (map scripted_in ts) (option_map left_of c.fewest_from.result) = subst (λ (l : List ThreadScript). IsFewest left_in (map scripted_in l) (option_map left_of c.fewest_from.result)) c.deref.ensures.value c.fewest_from.ensures in
+    subst (λ (w : RunView). IsFewest (left_to w.scenario w.journal) w.scenario.threads (option_map left_of c.fewest_from.result)) c.self.view_is
+    (fewest_read s past (map scripted_in ts) (option_map left_of c.fewest_from.result) c.self.invariant.threads few)
 
 pub returns-clause-in_range : goal.returns-clause-in_range
 returns-clause-in_range c =
     let s = c.self.inside.scenario.now in
     let past = c.self.inside.cluster.journal in
     let ts = c.self.inside.threads.items in
-    let few : IsFewest left_in (map scripted_in ts) (option_map left_of c.fewest.result) = subst (λ (l : List ThreadScript). IsFewest left_in (map scripted_in l) (option_map left_of c.fewest.result)) c.deref.ensures.value c.fewest.ensures in
-    subst (λ (w : RunView). IfSome c.fewest.result (λ (l : LeftCall). is_in_range (layout_of w.scenario) (call_event l.call) ≡ true)) c.self.view_is
-    (fewest_ranged s past (map scripted_in ts) c.fewest.result c.self.invariant.parts.lawful c.self.invariant.threads few)
+    let few : IsFewest left_in (map scripted_in ts) (option_map left_of c.fewest_from.result) = subst (λ (l : List ThreadScript). IsFewest left_in (map scripted_in l) (option_map left_of c.fewest_from.result)) c.deref.ensures.value c.fewest_from.ensures in
+    subst (λ (w : RunView). IfSome c.fewest_from.result (λ (l : LeftCall). is_in_range (layout_of w.scenario) (call_event l.call) ≡ true)) c.self.view_is
+    (fewest_ranged s past (map scripted_in ts) c.fewest_from.result c.self.invariant.parts.lawful c.self.invariant.threads few)
