@@ -6,9 +6,9 @@ use Rattle.std.specs.List.{count_by, find, remove}
 use Rattle.std.specs.Option.{option_map}
 use Rattle.std.proofs.lemmas.List.Sums.{sum_by-cons}
 use Rattle.am_model.specs.Choice.{without_first}
-use Rattle.am_model.proofs.Records.{found_is}
 use Rattle.std.proofs.lemmas.Bool.{eqb-false, eqb-true}
 use Rattle.std.proofs.lemmas.List.{get_or-set_same, get_or-set_other, map-append}
+use Rattle.am_lemmas.proofs.Lists.{find_passes}
 use Rattle.am_block.specs.declared.Descriptor.{Descriptor}
 use Rattle.am_block.specs.Pools.{Pools, IsBlock, place, size, slots, times, without}
 use Rattle.am_block.specs.declared.List.{List as Which}
@@ -104,7 +104,7 @@ module _ {X : Type 0} (f : Descriptor → X) (test : X → Bool) (ds : List Desc
       by_test true is found more =
           let same : s ≡ x = cc in ap (λ t. seen f ds (without t (x ∷ xs))) same ∙ ap (seen f ds) (without-front x xs)
       by_test false is found more =
-          let apart : x ≡ s → ⊥ = λ e. true≢false (sym (found_is (λ s. test (f (descriptor_at ds s))) xs s found) ∙ ap (λ t. test (f (descriptor_at ds t))) (sym e) ∙ is) in
+          let apart : x ≡ s → ⊥ = λ e. true≢false (sym (find_passes (λ s. test (f (descriptor_at ds s))) xs s found) ∙ ap (λ t. test (f (descriptor_at ds t))) (sym e) ∙ is) in
           ap (seen f ds) (without-later s x xs apart) ∙ ap (λ ys. f (descriptor_at ds x) ∷ ys) (more found)
 
 -- what is found stands in the list

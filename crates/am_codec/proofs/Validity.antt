@@ -2,10 +2,10 @@
 use Rattle.std.proofs.Common.{◌≡◌, ℕ, ◌+◌, ◌≤◌, Bool, true, false, ◌&&◌, ◌||◌, cond, List, [], ◌∷◌, length, Option, Some, None, refl, sym, ap, ◌∙◌, arith, leb-true, eqb-true, eq-eqb}
 use Rattle.std.specs.Prelude.{nat_le, is_none, is_some, not, ◌==◌, count_by}
 use Rattle.std.specs.List.{list_all, list_any}
-use Rattle.std.proofs.lemmas.Bool.{and_parts, and_from, ltb-true, or_right, or_left}
+use Rattle.std.proofs.lemmas.Bool.{and_parts, and_from, ltb-true, or_right, or_left, le-leb}
 use Rattle.am_lemmas.proofs.Bools.{implied}
 use Rattle.am_lemmas.proofs.Options.{is_none-None}
-use Rattle.am_lemmas.proofs.Lists.{count_by-none}
+use Rattle.am_lemmas.proofs.Lists.{count_by-none, list_any-counts}
 use Rattle.am_names.specs.declared.EndpointId.{EndpointId}
 use Rattle.am_names.specs.declared.Serial.{Serial}
 use Rattle.am_names.specs.declared.MsgKind.{MsgKind}
@@ -19,7 +19,7 @@ use Rattle.am_model.specs.Endpoint.{Body, entry_at, is_arrived, requests_held, r
 use Rattle.am_office.specs.Entries.{is_serial}
 use Rattle.am_model.specs.Valid.{answers, has_arrived, is_handler_in_range, is_mapping_in_range, is_own_answer, is_own_flight, is_own_notice, is_own_request, is_received_here, is_record, rise, FitsPool}
 use Rattle.am_model.proofs.Names.{same_serial-is, same_serial-refl}
-use Rattle.am_model.proofs.Records.{any_counts, arrives_or_waits, one_record}
+use Rattle.am_model.proofs.Records.{arrives_or_waits, one_record}
 use Rattle.am_image.specs.Range.{fits_record}
 use Rattle.am_image.specs.Valid.{IsValid}
 use Rattle.am_image.proofs.Bodies.{IsWritten}
@@ -100,7 +100,7 @@ each_matches last received awaited rises expected once r = by_test (list_any (ha
     unanswered none false is = count_by-none (answers r) received is
 
     by_test : (b : Bool) → list_any (has_arrived r) awaited ≡ b → count_by (answers r) received ≡ count_by (has_arrived r) awaited
-    by_test true is = omega (arith, answered (some_passes (has_arrived r) awaited is), any_counts (has_arrived r) awaited is, one_arrived last r awaited rises)
+    by_test true is = omega (arith, answered (some_passes (has_arrived r) awaited is), list_any-counts (has_arrived r) awaited is, one_arrived last r awaited rises)
     by_test false is = omega (arith, unanswered is (list_any (answers r) received) refl, count_by-none (has_arrived r) awaited is)
 
 -- a well-formed answer names its request
@@ -131,7 +131,7 @@ all_expected e received awaited here matches =
         no_way e = cc
     of_request m among is (Some r) at h =
         let about : is_serial r m.about ≡ true = ap (is_serial r) at ∙ same_serial-refl r in
-        let counted : 1 ≤ count_by (answers r) received = any_counts (answers r) received (among (answers r) (and_from (is_answer m) (is_serial r m.about) is about)) in
+        let counted : 1 ≤ count_by (answers r) received = list_any-counts (answers r) received (among (answers r) (and_from (is_answer m) (is_serial r m.about) is about)) in
         let some : list_any (has_arrived r) awaited ≡ true = counts_any (has_arrived r) awaited (omega (arith, counted, matches r)) in
         ap (is_expected awaited) at ∙ some
 
@@ -150,15 +150,12 @@ all_once last received awaited rises matches =
     by_arrived : (a : Awaited) → ((t : Awaited → Bool) → t a ≡ true → list_any t awaited ≡ true) → (b : Bool) → a.arrived ≡ b → is_answered_once received a ≡ true
     by_arrived a among true is =
         let here : has_arrived a.serial a ≡ true = and_from (same_serial a.serial a.serial) a.arrived (same_serial-refl a.serial) is in
-        let least : 1 ≤ count_by (has_arrived a.serial) awaited = any_counts (has_arrived a.serial) awaited (among (has_arrived a.serial) here) in
+        let least : 1 ≤ count_by (has_arrived a.serial) awaited = list_any-counts (has_arrived a.serial) awaited (among (has_arrived a.serial) here) in
         let one : count_by (answers a.serial) received ≡ 1 = omega (arith, least, one_arrived last a.serial awaited rises, matches a.serial) in
         or_right (not a.arrived) (count_by (answers a.serial) received == 1) (eq-eqb _ _ one)
     by_arrived a among false is = or_left (not a.arrived) (count_by (answers a.serial) received == 1) (ap not is)
 
 -- ---- bodies
-
-le_test : (a b : ℕ) → a ≤ b → nat_le a b ≡ true
-le_test a b h = grind arith
 
 fits_pool : (pool : Option ℕ) (b : Body) → is_within_pool pool b ≡ true → FitsPool pool b
 fits_pool None b h = eqb-true (excess b) 0 h
@@ -168,7 +165,7 @@ fits_pool (Some p) b h =
 
 pool_passes : (pool : Option ℕ) (b : Body) → FitsPool pool b → is_within_pool pool b ≡ true
 pool_passes None b h = eq-eqb (excess b) 0 h
-pool_passes (Some p) b h = and_from (nat_le (excess b) p) (nat_le (shares b + p) 32) (le_test (excess b) p h.0) (le_test (shares b + p) 32 h.1)
+pool_passes (Some p) b h = and_from (nat_le (excess b) p) (nat_le (shares b + p) 32) (le-leb (excess b) p h.0) (le-leb (shares b + p) 32 h.1)
 
 own_part : (e : EndpointId) (xs : List Awaited) → list_all (fits_own e) xs ≡ true → list_all fits_record xs ≡ true
 own_part e [] h = refl
@@ -252,14 +249,14 @@ valid_passes e pool b is =
     (and_from (length b.handlers == 16) _ (eq-eqb _ _ v.handlers)
     (and_from (is_none (entry_at b.handlers 0)) (list_all is_handler_in_range b.handlers) (ap is_none v.handler_zero) v.kinds))))
     (and_from (records_pass e pool b) _
-    (and_from (nat_le (length b.awaited) 32) _ (le_test _ _ w.awaited)
+    (and_from (nat_le (length b.awaited) 32) _ (le-leb _ _ w.awaited)
     (and_from (rise 0 b.accepted b.awaited) _ v.counts (and_from (list_all (is_record e b.mapped) b.awaited) (is_within_pool pool b) v.records (pool_passes pool b v.credits))))
     (and_from (queues_pass e b) (arrivals_pass e b)
     (and_from (list_all (is_own_request e b.accepted) b.requests) _ v.requests
     (and_from (list_all (is_own_answer e b.accepted) b.replies) _ v.replies
     (and_from (list_all (is_own_notice e b.accepted) b.notices) _ v.notices
-    (and_from (nat_le (requests_held b) 16) (nat_le (replies_held b) 16) (le_test _ _ w.requests) (le_test _ _ w.replies)))))
+    (and_from (nat_le (requests_held b) 16) (nat_le (replies_held b) 16) (le-leb _ _ w.requests) (le-leb _ _ w.replies)))))
     (and_from (list_all (is_received_here e) b.received) _ v.received
-    (and_from (nat_le (count_by is_request b.received) 16) _ (le_test _ _ w.received)
+    (and_from (nat_le (count_by is_request b.received) 16) _ (le-leb _ _ w.received)
     (and_from (list_all (answers_expected b.awaited) b.received) _ (all_expected e b.received b.awaited v.received v.each_answer)
     (and_from (list_all (is_answered_once b.received) b.awaited) (count_by is_answer b.received == count_by is_arrived b.awaited) (all_once b.accepted b.received b.awaited v.counts v.each_answer) (eq-eqb _ _ v.all_answers)))))))

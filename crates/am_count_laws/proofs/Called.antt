@@ -3,11 +3,13 @@ use Rattle.std.proofs.Common.{◌≡◌, ℕ, zero, suc, ◌+◌, ◌%◌, ◌<�
 use Rattle.std.specs.Prelude.{◌==◌, filter}
 use Rattle.std.specs.List.{All, Contains, cons_option, list_all, list_any}
 use Rattle.std.proofs.lemmas.Bool.Decides.{nat_tests}
-use Rattle.std.proofs.lemmas.List.Elements.{All-contains, All-from_recursion, Contains-append_left, Contains-push}
+use Rattle.std.proofs.lemmas.List.Elements.{All-contains, All-from_recursion, Contains-get_or}
 use Rattle.std.proofs.lemmas.List.Folds.{list_any-append}
 use Rattle.std.proofs.lemmas.Nat.{mod_below}
 use Rattle.std.proofs.lemmas.List.Sums.{sum_by-append, sum_by-le-sum_by}
 use Rattle.std.proofs.lemmas.Bool.{and_parts}
+use Rattle.std.proofs.lemmas.List.FromFn.{length-map-range_with_len, get_or-map-range_with_len}
+use Rattle.am_lemmas.proofs.Numbered.{lines_more}
 use Rattle.am_office.specs.declared.Actor.TheVariants.{Thread, Outside}
 use Rattle.am_office.specs.declared.HandlerKind.TheVariants.{Note}
 use Rattle.am_office.specs.declared.Call.{Call}
@@ -30,9 +32,14 @@ made x = call_made x.event
 -- ---- the threads
 
 any_below : (n t : ℕ) → list_any (λ (l : ThreadLine). l.id == t) (threads_below n) ≡ true → t < n
-unfolding threads_below
 any_below zero t h = absurd (cc)
-any_below (suc n) t h = by_test (any_below n t) (list_any (λ (l : ThreadLine). l.id == t) (threads_below n)) refl (sym (list_any-append (λ (l : ThreadLine). l.id == t) (threads_below n) (thread_line n ∷ [])) ∙ h)
+any_below (suc n) t h =
+    let next : n + 1 ≡ suc n = omega arith in
+    by_test (any_below n t) (list_any (λ (l : ThreadLine). l.id == t) (threads_below n)) refl
+    (sym (list_any-append (λ (l : ThreadLine). l.id == t) (threads_below n) (thread_line n ∷ []))
+    ∙ sym (ap (λ (lines : List ThreadLine). list_any (λ (l : ThreadLine). l.id == t) lines) (lines_more thread_line n))
+    ∙ ap (λ (k : ℕ). list_any (λ (l : ThreadLine). l.id == t) (threads_below k)) next
+    ∙ h)
   where
     last : (b : Bool) → (n == t) ≡ b → (b || false) ≡ true → t < suc n
     last true is h = let same : n ≡ t = grind (arith, nat_tests) in omega arith
@@ -43,15 +50,10 @@ any_below (suc n) t h = by_test (any_below n t) (list_any (λ (l : ThreadLine). 
     by_test lower false is h = last (n == t) refl h
 
 has_thread : (w n : ℕ) → n < w → Contains (threads_below w) (thread_line n)
-unfolding threads_below
-has_thread zero n less = absurd (omega arith)
-has_thread (suc w) n less = by_place (λ (below : n < w). has_thread w n below) (nat_lt n w) refl
-  where
-    by_place : (n < w → Contains (threads_below w) (thread_line n)) → (b : Bool) → nat_lt n w ≡ b → Contains (threads_below w ++ thread_line w ∷ []) (thread_line n)
-    by_place lower true is = let below : n < w = grind (arith, nat_tests) in Contains-append_left (threads_below w) (thread_line w ∷ []) (thread_line n) (lower below)
-    by_place lower false is =
-        let same : w ≡ n = grind (arith, nat_tests) in
-        subst (λ (k : ℕ). Contains (threads_below w ++ thread_line w ∷ []) (thread_line k)) same (Contains-push (threads_below w) (thread_line w))
+has_thread w n less =
+    let long = length-map-range_with_len thread_line 0 w in
+    subst (λ (line : ThreadLine). Contains (threads_below w) line) (get_or-map-range_with_len thread_line 0 w n n (thread_line 0) less (omega arith))
+    (Contains-get_or (threads_below w) n (thread_line 0) (omega (arith, long, less)))
 
 -- ---- the calls of the threads below a number
 

@@ -23,6 +23,7 @@ use Rattle.am_model.specs.Layout.{Layout}
 use Rattle.am_model.specs.History.{state_of, bounced}
 use Rattle.am_model.proofs.Each.{state_of_push}
 use Rattle.am_model.proofs.Names.{same_serial-is}
+use Rattle.am_model.proofs.Unchanged.{called_place, received_place, expired_place, bound_place}
 
 -- a call, a send, a time-out or a receipt
 abbrev pub Acts : Event → Type 0
@@ -131,36 +132,6 @@ flights_kept layout past x t acts stays = by_test (touches t.source x) refl
         omega (arith, same)
 
 -- ---- places
-
-called_place : (st : State) (c : Call) (o : Outcome) → (called st c o).head.place ≡ st.head.place
-called_place st (Calls.Request index handler words) (Out.Requested m) = refl
-called_place st Calls.Poll (Out.Zero serial why) = refl
-called_place st Calls.Poll (Out.Ran m handler None) = refl
-called_place st Calls.Poll (Out.Ran m handler (Some reply)) = refl
-called_place st (Calls.SetTag tag) Out.Done = refl
-called_place st (Calls.Map index name tag credits) Out.Done = refl
-called_place st (Calls.Unmap index) Out.Done = refl
-called_place st (Calls.SetHandler index kind) Out.Done = refl
-called_place st (Calls.GiveUp serial) Out.Done = refl
-called_place st Calls.Close Out.Done = refl
-called_place st c o = refl
-
-received_place : (e : EndpointId) (st : State) (r : Received) → (received e st r).head.place ≡ st.head.place
-received_place e st (Got.Accepted m answer) = refl
-received_place e st (Got.Refused m NotResident answer) = refl
-received_place e st (Got.Delivered u) = refl
-received_place e st (Got.Requeued u cause bounces) = refl
-received_place e st (Got.Returned u cause) = refl
-received_place e st r = refl
-
-expired_place : (st : State) (o : Outcome) → (expired st o).head.place ≡ st.head.place
-expired_place st (Out.Delivered u) = refl
-expired_place st (Out.Unknown u) = refl
-expired_place st o = refl
-
-bound_place : (st : State) (o : Outcome) → (bound st o).head.place ≡ st.head.place
-bound_place st (Out.Sent m peer channel seq attempt number) = refl
-bound_place st o = refl
 
 acted_place : (e : EndpointId) (st : State) (event : Event) (o : Outcome) → Acts event → (changed e st event o).head.place ≡ st.head.place
 acted_place e st (Events.Call actor end call) o acts = called_place st call o

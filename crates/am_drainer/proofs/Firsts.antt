@@ -1,5 +1,5 @@
 -- The first endpoint, pair of nodes and thread, from what a machine finds.
-use Rattle.std.proofs.Common.{◌≡◌, ℕ, zero, suc, ◌+◌, ◌≤◌, ◌<◌, List, [], ◌∷◌, Option, Some, None, Bool, true, false, cond, map, length, drop, refl, sym, ◌∙◌, ap, subst, ltb-true, ltb-false, arith}
+use Rattle.std.proofs.Common.{◌≡◌, ℕ, zero, suc, ◌+◌, ◌≤◌, ◌<◌, List, [], ◌∷◌, Option, Some, None, Bool, true, false, cond, map, drop, refl, sym, ◌∙◌, ap, subst, ltb-true, ltb-false, arith}
 use Rattle.std.specs.Prelude.{◌&&◌, not, nat_lt, find, filter_map, fold, is_some, slice_get, option_map, if◌then◌else◌}
 use Rattle.std.specs.List.{cons_option, list_all, range_with_len}
 use Rattle.am_names.specs.declared.NodeId.{NodeId}
@@ -21,11 +21,6 @@ use Rattle.am_drainer.specs.Firsts.{IsFewest, IsFirstPair, IsLeastPair, IsNext, 
 use Rattle.am_drainer.proofs.Ranges.{rest, rest_nodes, rest_none, rest_past, rest_some}
 
 -- ---- the first that passes
-
-pub within : {X : Type 0} (xs : List X) (k : ℕ) (x : X) → slice_get xs k ≡ Some x → k < length xs
-within [] k x e = absurd (cc)
-within (y ∷ ys) zero x e = omega arith
-within (y ∷ ys) (suc k) x e = omega (arith, within ys k x e)
 
 cond_true : {X : Type 0} (b : Bool) (x y : Option X) → b ≡ true → cond b x y ≡ x
 cond_true true x y e = refl

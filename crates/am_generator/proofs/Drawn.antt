@@ -7,7 +7,6 @@ use Rattle.am_scenario_types.specs.declared.parts.ScriptCall.{ScriptCall}
 use Rattle.am_generator.specs.Words.{word, steps, after_threads}
 use Rattle.am_generator.specs.Calls.{call_on, polls, drawn_call, drawn_calls, thread_calls, script_below}
 use Rattle.am_generator.specs.Plan.{with_line, line_of, plan_after}
-use Rattle.am_generator.specs.Scenarios.{end_line, ends_below, thread_line, threads_below}
 
 pub steps_none : (g : Lcg) → steps g 0 ≡ g
 unfolding steps
@@ -56,22 +55,6 @@ plan_none g = refl
 pub plan_more : (g : Lcg) (n : ℕ) → plan_after g (n + 1) ≡ with_line (plan_after g n) (line_of (word (steps g n)))
 unfolding plan_after
 plan_more g n = rw add-one refl
-
-pub ends_none : ends_below 0 ≡ []
-unfolding ends_below
-ends_none = refl
-
-pub ends_more : (n : ℕ) → ends_below (n + 1) ≡ ends_below n ++ end_line n ∷ []
-unfolding ends_below
-ends_more n = rw add-one refl
-
-pub declared_none : threads_below 0 ≡ []
-unfolding threads_below
-declared_none = refl
-
-pub declared_more : (n : ℕ) → threads_below (n + 1) ≡ threads_below n ++ thread_line n ∷ []
-unfolding threads_below
-declared_more n = rw add-one refl
 
 -- ---- one call more
 

@@ -11,11 +11,13 @@ use Rattle.std.proofs.lemmas.List.{length_push}
 use Rattle.std.proofs.lemmas.List.Elements.{All-nil, All-cons, All-push, All-append, All-weaker}
 use Rattle.std.proofs.lemmas.List.Folds.{find-append}
 use Rattle.std.proofs.lemmas.List.Sums.{sum_by_push, count_by-le-length}
+use Rattle.std.proofs.lemmas.List.FromFn.{length-map-range_with_len}
 use Rattle.rand_pcg.specs.Lcg.{Lcg}
 use Rattle.am_lemmas.proofs.Bools.{and_from_three}
 use Rattle.am_lemmas.proofs.Numbers.{eqb_less}
 use Rattle.am_lemmas.proofs.Lists.{none_passes, all_pairs_none, all_pairs_grow}
 use Rattle.am_lemmas.proofs.Options.{option_map-option_or}
+use Rattle.am_lemmas.proofs.Numbered.{lines_more, lines_all, keys_rise, key_finds}
 use Rattle.am_names.specs.declared.EndpointId.{EndpointId}
 use Rattle.am_names.specs.declared.NodeId.{NodeId}
 use Rattle.am_office.specs.declared.Call.{Call}
@@ -47,118 +49,32 @@ word_small g =
 -- ---- endpoints and threads
 
 ends_all : (n : ℕ) → n ≤ 256 → All (IsLawfulEnd Packet 4) (ends_below n)
-unfolding ends_below
-ends_all zero small = All-nil (IsLawfulEnd Packet 4)
-ends_all (suc n) small =
-    All-push (IsLawfulEnd Packet 4) (ends_below n) (end_line n) (ends_all n (omega arith))
-    (record { id = omega arith; node = omega arith; tag = omega arith; disk = λ h. absurd (cc) })
-
-ends_keys : (n : ℕ) → All (λ end. end.id.0 < n) (ends_below n)
-unfolding ends_below
-ends_keys zero = All-nil (λ end. end.id.0 < 0)
-ends_keys (suc n) =
-    All-push (λ end. end.id.0 < suc n) (ends_below n) (end_line n) (All-weaker (λ end. end.id.0 < n) (λ end. end.id.0 < suc n) (λ end l. omega arith) (ends_below n) (ends_keys n)) (omega arith)
-
-ends_rising : (n : ℕ) → AllPairs (λ a b. a.id.0 < b.id.0) (ends_below n)
-unfolding ends_below
-ends_rising zero = all_pairs_none (λ a b. a.id.0 < b.id.0)
-ends_rising (suc n) = all_pairs_grow (λ a b. a.id.0 < b.id.0) (ends_below n) (end_line n) (ends_rising n) (ends_keys n)
-
-ends_length : (n : ℕ) → length (ends_below n) ≡ n
-unfolding ends_below
-ends_length zero = refl
-ends_length (suc n) = omega (arith, length_push (ends_below n) (end_line n), ends_length n)
+ends_all n small = lines_all end_line (IsLawfulEnd Packet 4) n (λ k less. record { id = omega (arith, less, small); node = omega arith; tag = omega (arith, less, small); disk = λ h. absurd (cc) })
 
 threads_all : (n : ℕ) → n ≤ 64 → All (IsLawfulThread 4) (threads_below n)
-unfolding threads_below
-threads_all zero small = All-nil (IsLawfulThread 4)
-threads_all (suc n) small = All-push (IsLawfulThread 4) (threads_below n) (thread_line n) (threads_all n (omega arith)) (record { id = omega arith; node = omega arith })
-
-threads_keys : (n : ℕ) → All (λ thread. thread.id < n) (threads_below n)
-unfolding threads_below
-threads_keys zero = All-nil (λ thread. thread.id < 0)
-threads_keys (suc n) =
-    All-push (λ thread. thread.id < suc n) (threads_below n) (thread_line n) (All-weaker (λ thread. thread.id < n) (λ thread. thread.id < suc n) (λ thread l. omega arith) (threads_below n) (threads_keys n)) (omega arith)
-
-threads_rising : (n : ℕ) → AllPairs (λ a b. a.id < b.id) (threads_below n)
-unfolding threads_below
-threads_rising zero = all_pairs_none (λ a b. a.id < b.id)
-threads_rising (suc n) = all_pairs_grow (λ a b. a.id < b.id) (threads_below n) (thread_line n) (threads_rising n) (threads_keys n)
+threads_all n small = lines_all thread_line (IsLawfulThread 4) n (λ k less. record { id = omega (arith, less, small); node = omega arith })
 
 -- of the threads below 4 * k each node has k
-counted : (node n : ℕ) → count_by (λ thread. thread.node.0 == node) (threads_below n ++ thread_line n ∷ []) ≡ count_by (λ thread. thread.node.0 == node) (threads_below n) + (if n % 4 == node then 1 else 0)
-counted node n = sum_by_push (λ thread. if thread.node.0 == node then 1 else 0) (threads_below n) (thread_line n)
+counted : (node n : ℕ) → count_by (λ thread. thread.node.0 == node) (threads_below (n + 1)) ≡ count_by (λ thread. thread.node.0 == node) (threads_below n) + (if n % 4 == node then 1 else 0)
+counted node n =
+    ap (λ (threads : List ThreadLine). count_by (λ thread. thread.node.0 == node) threads) (lines_more thread_line n)
+    ∙ sum_by_push (λ thread. if thread.node.0 == node then 1 else 0) (threads_below n) (thread_line n)
 
 four_tests : (node : ℕ) → (if 0 == node then 1 else 0) + (if 1 == node then 1 else 0) + (if 2 == node then 1 else 0) + (if 3 == node then 1 else 0) ≤ 1
 four_tests node = grind (arith, nat_tests)
 
 few_threads : (node : ℕ) → count_by (λ thread. thread.node.0 == node) (threads_below 8) ≤ 4
-unfolding threads_below
 few_threads node =
     omega (arith, four_tests node, counted node 0, counted node 1, counted node 2, counted node 3, counted node 4, counted node 5, counted node 6, counted node 7)
 
 -- ---- declared
 
-no_end : (id : EndpointId) (n : ℕ) → n ≤ id.0 → find (λ end. end.id.0 == id.0) (ends_below n) ≡ None
-unfolding ends_below
-no_end id zero le = refl
-no_end id (suc n) le =
-    let other : (n == id.0) ≡ false = eqb_less n id.0 (omega arith) in
-    find-append (λ end. end.id.0 == id.0) (ends_below n) (end_line n ∷ [])
-    ∙ (ap (λ (o : Option EndLine). option_or o (find (λ end. end.id.0 == id.0) (end_line n ∷ []))) (no_end id n (omega arith))
-    ∙ ap (λ (b : Bool). if b then Some (end_line n) else None) other)
-
-the_end : (id : EndpointId) (n : ℕ) → id.0 ≡ n → node_of (ends_below n ++ end_line n ∷ []) id ≡ Some (record { 0 = n % 4 })
-the_end id n e =
-    let same : (n == id.0) ≡ true = eq-eqb n id.0 (sym e) in
-    ap (λ (o : Option EndLine). option_map (λ end. end.node) o)
-    (find-append (λ end. end.id.0 == id.0) (ends_below n) (end_line n ∷ [])
-    ∙ (ap (λ (o : Option EndLine). option_or o (find (λ end. end.id.0 == id.0) (end_line n ∷ []))) (no_end id n (omega arith))
-    ∙ ap (λ (b : Bool). if b then Some (end_line n) else None) same))
-
-end_before : (id : EndpointId) (n : ℕ) (node : NodeId) → node_of (ends_below n) id ≡ Some node → node_of (ends_below n ++ end_line n ∷ []) id ≡ Some node
-end_before id n node h =
-    ap (λ (o : Option EndLine). option_map (λ end. end.node) o) (find-append (λ end. end.id.0 == id.0) (ends_below n) (end_line n ∷ []))
-    ∙ option_map-option_or (λ (x : EndLine). x.node) (find (λ end. end.id.0 == id.0) (ends_below n)) (find (λ end. end.id.0 == id.0) (end_line n ∷ [])) node h
-
 -- a number below the count is declared, on its node
 end_there : (id : EndpointId) (n : ℕ) → id.0 < n → node_of (ends_below n) id ≡ Some (record { 0 = id.0 % 4 })
-unfolding ends_below
-end_there id zero less = absurd (omega arith)
-end_there id (suc n) less =
-    ⊎_elim (λ (l : id.0 < n). end_before id n (record { 0 = id.0 % 4 }) (end_there id n l))
-    (λ (l : n ≤ id.0). let e : id.0 ≡ n = omega arith in subst (λ (k : ℕ). node_of (ends_below n ++ end_line n ∷ []) id ≡ Some (record { 0 = k % 4 })) (sym e) (the_end id n e))
-    (cases_lt id.0 n)
-
-no_thread : (id n : ℕ) → n ≤ id → find (λ thread. thread.id == id) (threads_below n) ≡ None
-unfolding threads_below
-no_thread id zero le = refl
-no_thread id (suc n) le =
-    let other : (n == id) ≡ false = eqb_less n id (omega arith) in
-    find-append (λ thread. thread.id == id) (threads_below n) (thread_line n ∷ [])
-    ∙ (ap (λ (o : Option ThreadLine). option_or o (find (λ thread. thread.id == id) (thread_line n ∷ []))) (no_thread id n (omega arith))
-    ∙ ap (λ (b : Bool). if b then Some (thread_line n) else None) other)
-
-the_thread : (id n : ℕ) → id ≡ n → thread_node (threads_below n ++ thread_line n ∷ []) id ≡ Some (record { 0 = n % 4 })
-the_thread id n e =
-    let same : (n == id) ≡ true = eq-eqb n id (sym e) in
-    ap (λ (o : Option ThreadLine). option_map (λ thread. thread.node) o)
-    (find-append (λ thread. thread.id == id) (threads_below n) (thread_line n ∷ [])
-    ∙ (ap (λ (o : Option ThreadLine). option_or o (find (λ thread. thread.id == id) (thread_line n ∷ []))) (no_thread id n (omega arith))
-    ∙ ap (λ (b : Bool). if b then Some (thread_line n) else None) same))
-
-thread_before : (id n : ℕ) (node : NodeId) → thread_node (threads_below n) id ≡ Some node → thread_node (threads_below n ++ thread_line n ∷ []) id ≡ Some node
-thread_before id n node h =
-    ap (λ (o : Option ThreadLine). option_map (λ thread. thread.node) o) (find-append (λ thread. thread.id == id) (threads_below n) (thread_line n ∷ []))
-    ∙ option_map-option_or (λ (x : ThreadLine). x.node) (find (λ thread. thread.id == id) (threads_below n)) (find (λ thread. thread.id == id) (thread_line n ∷ [])) node h
+end_there id n less = ap (λ (o : Option EndLine). option_map (λ end. end.node) o) (key_finds end_line (λ end. end.id.0) (λ k. refl) n id.0 less)
 
 thread_there : (id n : ℕ) → id < n → thread_node (threads_below n) id ≡ Some (record { 0 = id % 4 })
-unfolding threads_below
-thread_there id zero less = absurd (omega arith)
-thread_there id (suc n) less =
-    ⊎_elim (λ (l : id < n). thread_before id n (record { 0 = id % 4 }) (thread_there id n l))
-    (λ (l : n ≤ id). let e : id ≡ n = omega arith in subst (λ (k : ℕ). thread_node (threads_below n ++ thread_line n ∷ []) id ≡ Some (record { 0 = k % 4 })) (sym e) (the_thread id n e))
-    (cases_lt id n)
+thread_there id n less = ap (λ (o : Option ThreadLine). option_map (λ thread. thread.node) o) (key_finds thread_line (λ thread. thread.id) (λ k. refl) n id less)
 
 -- ---- calls
 
@@ -342,12 +258,12 @@ generated_lawful n =
         turns = omega arith;
       };
       ends = ends_all 12 (omega arith);
-      ends_rise = ends_rising 12;
-      ends_of_a_node = λ node. omega (arith, count_by-le-length (λ end. end.node.0 == node) (ends_below 12), ends_length 12);
+      ends_rise = keys_rise end_line (λ end. end.id.0) (λ k. refl) 12;
+      ends_of_a_node = λ node. omega (arith, count_by-le-length (λ end. end.node.0 == node) (ends_below 12), length-map-range_with_len end_line 0 12);
       bundles = All-nil (IsLawfulBundle (ends_below 12));
       bundles_once = all_pairs_none (λ a b. a.id ≢ b.id);
       threads = threads_all 8 (omega arith);
-      threads_rise = threads_rising 8;
+      threads_rise = keys_rise thread_line (λ thread. thread.id) (λ k. refl) 8;
       threads_of_a_node = λ node. few_threads node;
       plan = plan.each;
       plan_once = plan.once;

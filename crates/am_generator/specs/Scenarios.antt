@@ -1,5 +1,6 @@
 -- The generated scenario.
-use Rattle.std.specs.Prelude.{ℕ, zero, suc, ◌+◌, ◌%◌, false, List, [], ◌∷◌, ◌++◌, None}
+use Rattle.std.specs.Prelude.{ℕ, ◌+◌, ◌%◌, false, List, [], map, None}
+use Rattle.std.specs.List.{range_with_len}
 use Rattle.am_scenario_types.specs.declared.parts.Network.TheVariants.{Packet}
 use Rattle.am_scenario_types.specs.declared.parts.EndLine.{EndLine}
 use Rattle.am_scenario_types.specs.declared.parts.ThreadLine.{ThreadLine}
@@ -12,17 +13,15 @@ use Rattle.am_generator.specs.Plan.{plan_after}
 abbrev pub end_line : ℕ → EndLine
 end_line e = record { id = record { 0 = e }; node = record { 0 = e % 4 }; tag = record { 0 = 100 + e }; disk = false }
 
-unfoldable pub ends_below : ℕ → List EndLine
-ends_below zero = []
-ends_below (suc e) = ends_below e ++ end_line e ∷ []
+abbrev pub ends_below : ℕ → List EndLine
+ends_below n = map end_line (range_with_len 0 n)
 
 -- thread t is on node t mod 4
 abbrev pub thread_line : ℕ → ThreadLine
 thread_line t = record { id = t; node = record { 0 = t % 4 } }
 
-unfoldable pub threads_below : ℕ → List ThreadLine
-threads_below zero = []
-threads_below (suc t) = threads_below t ++ thread_line t ∷ []
+abbrev pub threads_below : ℕ → List ThreadLine
+threads_below n = map thread_line (range_with_len 0 n)
 
 -- the scenario of a number
 abbrev pub generated : ℕ → ScenarioLists

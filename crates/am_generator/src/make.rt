@@ -12,7 +12,7 @@ use am_scenario_types::{EndLine, Network, Scenario, ThreadLine};
 use rand_pcg::Lcg64Xsh32;
 use std::alloc::{AllocError, Global};
 
-#[tactic(auto, using(crate::proofs::Drawn::ends_more, crate::proofs::Drawn::ends_none))]
+#[tactic(auto, using(am_lemmas::proofs::Numbered::lines_more))]
 fn make_ends(alloc: Global, count: u8) -> Result<Vec<EndLine>, AllocError>
     ensures { IfOk result (λ ends. ends.items ≡ ends_below count) }
 {
@@ -28,7 +28,7 @@ fn make_ends(alloc: Global, count: u8) -> Result<Vec<EndLine>, AllocError>
     Ok(ends)
 }
 
-#[tactic(auto, using(crate::proofs::Drawn::declared_more, crate::proofs::Drawn::declared_none))]
+#[tactic(auto, using(am_lemmas::proofs::Numbered::lines_more))]
 fn make_threads(alloc: Global, count: u8) -> Result<Vec<ThreadLine>, AllocError>
     ensures { IfOk result (λ threads. threads.items ≡ threads_below count) }
 {

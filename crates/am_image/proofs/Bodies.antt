@@ -7,6 +7,7 @@ use Rattle.std.proofs.lemmas.Bool.Decides.{Decides-eqb}
 use Rattle.std.proofs.lemmas.List.{append-nil, nil_from_length}
 use Rattle.std.proofs.lemmas.List.Sums.{count_by-le-length}
 use Rattle.std.proofs.lemmas.Slice.Eq.{starts_is}
+use Rattle.std.proofs.lemmas.Option.{cond_some}
 use Rattle.am_lemmas.proofs.Bools.{and_first, and_second}
 use Rattle.am_names.specs.declared.EndpointId.{EndpointId}
 use Rattle.am_names.specs.declared.Message.{Message}
@@ -25,7 +26,7 @@ use Rattle.am_image.specs.Range.{fits_mapping, fits_record, fits_handler, fits_q
 use Rattle.am_image.specs.Valid.{IsValid}
 use Rattle.am_image.specs.Laws.{EachBodyHasItsImage, ImagesAreRead, ReadingIsOfImages}
 use Rattle.am_image.specs.Reading.{Read, long_at, short_at, mapping_at, record_at, handler_at, message_at, notice_at, received_at, many_at, counted_at, magic_at, body_of, body_at, whole_body}
-use Rattle.am_image.proofs.Fields.{IsBytes, IsBytes-drop, IsReader, then_some, step, some_is, guard_some, turn_parts, short_reader, long_reader}
+use Rattle.am_image.proofs.Fields.{IsBytes, IsBytes-drop, IsReader, then_some, step, some_is, turn_parts, short_reader, long_reader}
 use Rattle.am_image.proofs.Messages.{message_reader, notice_reader, received_reader}
 use Rattle.am_image.proofs.Sizes.{split}
 use Rattle.am_image.proofs.Parts.{fits_own, mapping_reader, record_reader, handler_reader, many_takes, many_again, fits_counted, counted_reader}
@@ -140,14 +141,14 @@ pub record TookAll (e : EndpointId) (bytes : List ℕ) (b : Body) (rest : List �
 magic_takes : (bytes rest : List ℕ) → magic_at bytes ≡ Some rest → bytes ≡ magic ++ rest
 unfolding magic_at
 magic_takes bytes rest e =
-    let g = guard_some (starts_with nat_eq bytes magic) (drop 5 bytes) rest e in
+    let g = cond_some (starts_with nat_eq bytes magic) (drop 5 bytes) rest e in
     let told = starts_is Decides-eqb bytes magic (starts_with nat_eq bytes magic) refl in
     told.0 g.0 ∙ ap (λ (w : List ℕ). magic ++ w) g.1
 
 magic_fits : (bytes rest : List ℕ) → IsBytes bytes → magic_at bytes ≡ Some rest → IsBytes rest
 unfolding magic_at
 magic_fits bytes rest fits e =
-    let g = guard_some (starts_with nat_eq bytes magic) (drop 5 bytes) rest e in
+    let g = cond_some (starts_with nat_eq bytes magic) (drop 5 bytes) rest e in
     subst IsBytes g.1 (IsBytes-drop 5 bytes fits)
 
 -- the parts of a body, each taken behind the one before it
@@ -232,7 +233,7 @@ unfolding whole_body
 whole_takes e bytes b fits is =
     then_some (body_at e bytes) _ b is (λ x ex x'.
     let took : TookAll e bytes x.0 x.1 = body_takes e bytes x.0 x.1 fits ex in
-    let g = guard_some (length x.1 == 0) x.0 b x' in
+    let g = cond_some (length x.1 == 0) x.0 b x' in
     let nothing : x.1 ≡ [] = nil_from_length x.1 (eqb-true _ _ g.0) in
     let whole : image x.0 ≡ bytes = sym (took.parts ∙ (ap (λ (w : List ℕ). image x.0 ++ w) nothing ∙ append-nil (image x.0))) in
     let x-is : x.0 ≡ b = g.1 in

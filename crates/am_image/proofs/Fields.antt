@@ -2,12 +2,14 @@
 use Rattle.std.proofs.Common.{◌≡◌, ℕ, suc, ◌+◌, ◌^◌, ◌<◌, ◌≤◌, Bool, true, false, cond, List, [], ◌∷◌, ◌++◌, length, get_or, take, drop, Option, Some, None, refl, sym, ap, subst, ◌∙◌, append_assoc, arith, inl, inr}
 use Rattle.std.specs.Prelude.{nat_le, nat_lt, ◌==◌}
 use Rattle.std.specs.Int.{Width, w32, w64, byte_len, from_be_bytes, to_be_bytes}
-use Rattle.std.proofs.lemmas.Bool.{eqb-true, cases_lt, ltb-true, lt-ltb}
+use Rattle.std.proofs.lemmas.Bool.{eqb-true, cases_lt, ltb-true, lt-ltb, leb-true, le-leb}
 use Rattle.std.proofs.lemmas.List.{take_at, drop_at, take-append-drop, length-append, length-take, get_or-drop, get_or-take, get_or_past}
 use Rattle.std.proofs.lemmas.Nat.{be_bytes_4, be_bytes_8, from_be_bytes-to_be_bytes_4, from_be_bytes-to_be_bytes_8}
+use Rattle.std.proofs.lemmas.Option.{cond_some}
+use Rattle.am_lemmas.specs.Options.{◌>>=◌}
 use Rattle.am_model.specs.History.{is_byte, is_four_bytes, is_eight_bytes}
 use Rattle.am_image.specs.Image.{in_turn, byte, short, long}
-use Rattle.am_image.specs.Reading.{◌>>=◌, Read, number_at, byte_at, short_at, long_at}
+use Rattle.am_image.specs.Reading.{Read, number_at, byte_at, short_at, long_at}
 
 abbrev pub IsBytes : List ℕ → Type 0
 IsBytes bytes = (i : ℕ) → get_or bytes i 0 < 256
@@ -36,11 +38,6 @@ pub record IsReader {X : Type 0} (fits : X → Bool) (text : X → List ℕ) (at
 pub none_some : {A : Type 0} (y : A) → ◌≡◌ {A = Option A} None (Some y) → ⊥
 none_some y e = cc
 
--- the value of a step that found one
-pub bind_some : {A B : Type 0} (o : Option A) (f : A → Option B) (y : B) → (o >>= f) ≡ Some y → (x : A) × (o ≡ Some x) × (f x ≡ Some y)
-bind_some (Some x) f y e = (x, refl, e)
-bind_some None f y e = absurd cc
-
 -- what follows from the value that a step found
 pub then_some : {A B P : Type 0} (o : Option A) (f : A → Option B) (y : B) → (o >>= f) ≡ Some y → ((x : A) → o ≡ Some x → f x ≡ Some y → P) → P
 then_some (Some x) f y e more = more x refl e
@@ -51,11 +48,6 @@ step o a f z e h = ap (λ (p : Option _). p >>= f) e ∙ h
 
 pub some_is : {A : Type 0} (x y : A) → ◌≡◌ {A = Option A} (Some x) (Some y) → x ≡ y
 some_is x y e = cc
-
--- a test that let something through
-pub guard_some : {A : Type 0} (b : Bool) (x y : A) → cond b (Some x) None ≡ Some y → (b ≡ true) × (x ≡ y)
-guard_some true x y e = (refl, cc)
-guard_some false x y e = absurd cc
 
 -- a choice by a mark that found something
 pub by_mark : {A P : Type 0} (mark n : ℕ) (found other : Option A) (z : A) → (mark ≡ n → found ≡ Some z → P) → (other ≡ Some z → P) → cond (mark == n) found other ≡ Some z → P
@@ -120,16 +112,10 @@ wide64 =
       below = λ bytes fits. omega (arith, fits 0, fits 1, fits 2, fits 3, fits 4, fits 5, fits 6, fits 7);
     }
 
-enough_of : (k n : ℕ) → nat_le k n ≡ true → k ≤ n
-enough_of k n h = grind arith
-
-enough_for : (k n : ℕ) → k ≤ n → nat_le k n ≡ true
-enough_for k n h = grind arith
-
 number_takes : (w : Width) (limit : ℕ) → IsWide w limit → (bytes : List ℕ) (n : ℕ) (rest : List ℕ) → IsBytes bytes → number_at w bytes ≡ Some (n, rest) → Took (λ k. nat_lt k limit) (to_be_bytes w) bytes n rest
 number_takes w limit wide bytes n rest fits e =
-    let g = guard_some (nat_le (byte_len w) (length bytes)) (from_be_bytes w (take (byte_len w) bytes), drop (byte_len w) bytes) (n, rest) e in
-    let enough : byte_len w ≤ length bytes = enough_of (byte_len w) (length bytes) g.0 in
+    let g = cond_some (nat_le (byte_len w) (length bytes)) (from_be_bytes w (take (byte_len w) bytes), drop (byte_len w) bytes) (n, rest) e in
+    let enough : byte_len w ≤ length bytes = leb-true (byte_len w) (length bytes) g.0 in
     let n-is : from_be_bytes w (take (byte_len w) bytes) ≡ n = ap (λ (p : ℕ × List ℕ). p.0) g.1 in
     let rest-is : drop (byte_len w) bytes ≡ rest = ap (λ (p : ℕ × List ℕ). p.1) g.1 in
     let front_fits : IsBytes (take (byte_len w) bytes) = IsBytes-take (byte_len w) bytes fits in
@@ -144,7 +130,7 @@ number_takes w limit wide bytes n rest fits e =
 number_again : (w : Width) (limit : ℕ) → IsWide w limit → (n : ℕ) (rest : List ℕ) → nat_lt n limit ≡ true → number_at w (to_be_bytes w n ++ rest) ≡ Some (n, rest)
 number_again w limit wide n rest lt =
     let len = wide.len n in
-    let enough : nat_le (byte_len w) (length (to_be_bytes w n ++ rest)) ≡ true = enough_for _ _ (omega (arith, length-append (to_be_bytes w n) rest)) in
+    let enough : nat_le (byte_len w) (length (to_be_bytes w n ++ rest)) ≡ true = le-leb _ _ (omega (arith, length-append (to_be_bytes w n) rest)) in
     rw (enough, take_at (to_be_bytes w n) rest (byte_len w) len, drop_at (to_be_bytes w n) rest (byte_len w) len, wide.again n (ltb-true _ _ lt)) refl
 
 short_takes : (bytes : List ℕ) (x : ℕ) (rest : List ℕ) → IsBytes bytes → short_at bytes ≡ Some (x, rest) → Took is_four_bytes short bytes x rest

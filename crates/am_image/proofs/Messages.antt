@@ -2,7 +2,9 @@
 use Rattle.std.proofs.Common.{◌≡◌, ℕ, true, ◌&&◌, List, [], ◌∷◌, ◌++◌, Option, Some, None, refl, sym, ap, subst, ◌∙◌}
 use Rattle.std.specs.Prelude.{◌==◌}
 use Rattle.std.proofs.lemmas.Bool.{eqb-true, and_from}
+use Rattle.std.proofs.lemmas.Option.{cond_some}
 use Rattle.am_lemmas.proofs.Bools.{and_first, and_second}
+use Rattle.am_lemmas.proofs.Binds.{bind_some}
 use Rattle.am_names.specs.declared.Serial.{Serial}
 use Rattle.am_names.specs.declared.Words.{Words}
 use Rattle.am_names.specs.declared.MsgKind.{MsgKind}
@@ -17,7 +19,7 @@ use Rattle.am_model.specs.History.{is_byte, is_four_bytes, is_eight_bytes, are_w
 use Rattle.am_image.specs.Image.{in_turn, byte, short, long, serial_bytes, words_bytes, about_bytes, kind_number, why_number, message_bytes, queued_bytes, notice_bytes, received_bytes}
 use Rattle.am_image.specs.Range.{fits_serial, fits_about, fits_message, fits_queued, fits_notice}
 use Rattle.am_image.specs.Reading.{Read, byte_at, short_at, long_at, serial_at, words_at, some_serial_at, about_at, kind_of, why_of, made, message_at, notice_at, received_at}
-use Rattle.am_image.proofs.Fields.{IsBytes, Took, IsReader, bind_some, then_some, step, some_is, none_some, by_mark, by_number, guard_some, turn_again, turn_parts, byte_reader, short_reader, long_reader}
+use Rattle.am_image.proofs.Fields.{IsBytes, Took, IsReader, then_some, step, some_is, none_some, by_mark, by_number, turn_again, turn_parts, byte_reader, short_reader, long_reader}
 
 -- ---- serials and words
 
@@ -280,7 +282,7 @@ unfolding received_at
 received_takes bytes x rest fits e =
     then_some (message_at bytes) _ (x, rest) e (λ a ea a'.
     let at = message_reader.takes bytes a.0 a.1 fits ea in
-    let g = guard_some (a.0.bounces == 0) (a.0.message, a.1) (x, rest) a' in
+    let g = cond_some (a.0.bounces == 0) (a.0.message, a.1) (x, rest) a' in
     let zero_bounces : a.0.bounces ≡ 0 = eqb-true a.0.bounces 0 g.0 in
     subst (λ (y : Message × List ℕ). Took fits_message received_bytes bytes y.0 y.1) g.1
     (record {

@@ -10,24 +10,8 @@ use Rattle.am_scenario_types.specs.Lists.{ScenarioLists}
 use Rattle.am_words.specs.Codes.{sent_words}
 use Rattle.am_words.specs.Texts.{long_count}
 use Rattle.am_job.specs.Lists.{JobLists}
-use Rattle.am_job.specs.Rounds.{end_line, ends_below, job_of, round_at, round_count, rounds_of, thread_line, threads_below}
+use Rattle.am_job.specs.Rounds.{job_of, round_at, round_count, rounds_of}
 use Rattle.am_job.specs.Scripts.{map_to, maps_below, on_owner, on_sender, opening, openings_below, polls, sending, sendings}
-
-pub ends_none : ends_below 0 ≡ []
-unfolding ends_below
-ends_none = refl
-
-pub ends_more : (n : ℕ) → ends_below (n + 1) ≡ ends_below n ++ end_line n ∷ []
-unfolding ends_below
-ends_more n = rw add-one refl
-
-pub threads_none : threads_below 0 ≡ []
-unfolding threads_below
-threads_none = refl
-
-pub threads_more : (n : ℕ) → threads_below (n + 1) ≡ threads_below n ++ thread_line n ∷ []
-unfolding threads_below
-threads_more n = rw add-one refl
 
 pub maps_none : (n : ℕ) → maps_below n 0 ≡ []
 unfolding maps_below

@@ -1,5 +1,5 @@
 -- The rounds in which the words of a text are sent, and the scenario of each.
-use Rattle.std.specs.Prelude.{◌≡◌, ℕ, zero, suc, ◌+◌, ◌-◌, ◌*◌, ◌/◌, ◌<◌, ◌≤◌, false, List, [], ◌∷◌, ◌++◌, length, take, drop, map, None}
+use Rattle.std.specs.Prelude.{◌≡◌, ℕ, ◌+◌, ◌-◌, ◌*◌, ◌/◌, ◌<◌, ◌≤◌, false, List, [], length, take, drop, map, None}
 use Rattle.std.specs.List.{range_with_len}
 use Rattle.am_scenario_types.specs.declared.parts.Network.TheVariants.{Packet}
 use Rattle.am_scenario_types.specs.declared.parts.EndLine.{EndLine}
@@ -15,17 +15,15 @@ use Rattle.am_job.specs.Scripts.{script}
 abbrev pub end_line : ℕ → EndLine
 end_line e = record { id = record { 0 = e }; node = record { 0 = e / 2 }; tag = record { 0 = 100 + e }; disk = false }
 
-unfoldable pub ends_below : ℕ → List EndLine
-ends_below zero = []
-ends_below (suc e) = ends_below e ++ end_line e ∷ []
+abbrev pub ends_below : ℕ → List EndLine
+ends_below n = map end_line (range_with_len 0 n)
 
 -- thread n is on node n
 abbrev pub thread_line : ℕ → ThreadLine
 thread_line n = record { id = n; node = record { 0 = n } }
 
-unfoldable pub threads_below : ℕ → List ThreadLine
-threads_below zero = []
-threads_below (suc n) = threads_below n ++ thread_line n ∷ []
+abbrev pub threads_below : ℕ → List ThreadLine
+threads_below n = map thread_line (range_with_len 0 n)
 
 -- the scenario in which w nodes send these words to their owners, with so many turns
 unfoldable pub scenario : ℕ → ℕ → List CodedWord → ScenarioLists

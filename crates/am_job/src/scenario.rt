@@ -31,7 +31,7 @@ impl Model for Job {
     ghost view = { λ job. record { rounds = job.rounds.items; long = job.long } };
 }
 
-#[tactic(auto, using(crate::proofs::More::ends_more, crate::proofs::More::ends_none))]
+#[tactic(auto, using(am_lemmas::proofs::Numbered::lines_more))]
 fn make_ends(alloc: Global, count: u8) -> Result<Vec<EndLine>, AllocError>
     ensures { IfOk result (λ ends. ends.items ≡ ends_below count) }
 {
@@ -47,7 +47,7 @@ fn make_ends(alloc: Global, count: u8) -> Result<Vec<EndLine>, AllocError>
     Ok(ends)
 }
 
-#[tactic(auto, using(crate::proofs::More::threads_more, crate::proofs::More::threads_none))]
+#[tactic(auto, using(am_lemmas::proofs::Numbered::lines_more))]
 fn make_threads(alloc: Global, count: u8) -> Result<Vec<ThreadLine>, AllocError>
     ensures { IfOk result (λ threads. threads.items ≡ threads_below count) }
 {

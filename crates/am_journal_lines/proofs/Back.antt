@@ -1,6 +1,7 @@
 -- The words that an event is printed as are read back as that event.
 use Rattle.std.proofs.Common.{◌≡◌, ℕ, List, ◌∷◌, ◌++◌, Some, refl, ◌∙◌}
 use Rattle.std.specs.Fmt.{decimal}
+use Rattle.am_lemmas.specs.Options.{◌>>=◌}
 use Rattle.am_names.specs.declared.EndpointId.{EndpointId}
 use Rattle.am_names.specs.declared.NodeId.{NodeId}
 use Rattle.am_names.specs.declared.Serial.{Serial}
@@ -18,7 +19,7 @@ use Rattle.am_office.specs.declared.Event.TheVariants as Events
 use Rattle.am_text.specs.Words.{Word, tag, serial}
 use Rattle.am_entry_lines.specs.Lines.{who, what, actor, interface, driver, call, handler_kind, mask}
 use Rattle.am_journal_lines.specs.Grammar.{IsByte, IsFourBytes, IsEightBytes, IsSerial, AreNumbersOf, AreNumbersOfCall, AreNumbersOfKind}
-use Rattle.am_journal_lines.specs.Reading.{◌>>=◌, Read, word_at, number_at, byte_at, count_at, long_at, end_at, node_at, tag_at, serial_at, numbered, head_of, request_at, poll_at, set_tag_at, map_at, unmap_at, echo_at, add_at, kind_at, set_handler_at, give_up_at, close_at, mask_at, test_at, call_at, call_event_at, want_at, thread_at, carry_at, outside_at, bind_at, expire_at, receive_at, interface_at, load_at, move_at, driver_at, happening_at, event_at}
+use Rattle.am_journal_lines.specs.Reading.{Read, word_at, number_at, byte_at, count_at, long_at, end_at, node_at, tag_at, serial_at, numbered, head_of, request_at, poll_at, set_tag_at, map_at, unmap_at, echo_at, add_at, kind_at, set_handler_at, give_up_at, close_at, mask_at, test_at, call_at, call_event_at, want_at, thread_at, carry_at, outside_at, bind_at, expire_at, receive_at, interface_at, load_at, move_at, driver_at, happening_at, event_at}
 use Rattle.am_journal_lines.proofs.Printed.{byte_read, four_read, eight_read, tag_read, serial_read}
 
 -- the word of a number, an endpoint, a node at the front

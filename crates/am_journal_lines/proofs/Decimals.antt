@@ -5,6 +5,7 @@ use Rattle.std.specs.Fmt.{decimal}
 use Rattle.std.proofs.lemmas.Fmt.{digits_decimal, digits_value-decimal, decimal-digits_value, decimal_nonempty, first_decimal, decimal_digit}
 use Rattle.std.proofs.lemmas.Str.Parse.{IsNumeralModel, numerals_by_fold}
 use Rattle.std.proofs.lemmas.Bool.{lt-ltb, ltb-true, le-leb, leb-true, eq-eqb, ne_eqb, and_parts}
+use Rattle.std.proofs.lemmas.Option.{cond_some}
 use Rattle.am_lexer.specs.Text.{is_digit, value_after, number_of, has_bytes}
 use Rattle.am_journal_lines.specs.Reading.{has_no_leading_zero, printed_number, number_up_to}
 
@@ -52,16 +53,12 @@ some_of : {X : Type 0} (c : Bool) (o : Option X) (x : X) → cond c o None ≡ S
 some_of true o x e = (refl, e)
 some_of false o x e = absurd cc
 
-some_if : {X : Type 0} (c : Bool) (y x : X) → cond c (Some y) None ≡ Some x → (c ≡ true) × (y ≡ x)
-some_if true y x e = (refl, cc)
-some_if false y x e = absurd cc
-
 -- and what is read is the printed number
 pub read_decimal : (word : List ℕ) (n : ℕ) → printed_number word ≡ Some n → (word ≡ decimal n) × (n < 2 ^ 64)
 unfolding printed_number number_of
 read_decimal word n e =
     let a = some_of (has_no_leading_zero word) _ n e in
-    let b = some_if (has_bytes word && list_all is_digit word && ltb (value_after 0 word) (2 ^ 64)) (value_after 0 word) n a.1 in
+    let b = cond_some (has_bytes word && list_all is_digit word && ltb (value_after 0 word) (2 ^ 64)) (value_after 0 word) n a.1 in
     let p = and_parts _ _ b.0 in
     let q = and_parts _ _ p.0 in
     let some = some_bytes word q.0 in

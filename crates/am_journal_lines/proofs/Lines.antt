@@ -6,6 +6,7 @@ use Rattle.std.specs.Str.{bytes_eq}
 use Rattle.std.proofs.lemmas.Bool.{cases_Bool, and_parts}
 use Rattle.std.proofs.lemmas.Slice.Eq.{bytes_eq-Decides}
 use Rattle.std.proofs.lemmas.List.Splits.{length-slice_split}
+use Rattle.am_lemmas.proofs.Binds.{bind_some}
 use Rattle.am_office.specs.declared.Event.{Event}
 use Rattle.am_office.specs.declared.Received.{Received}
 use Rattle.am_office.specs.declared.Received.TheVariants as Got
@@ -20,7 +21,7 @@ use Rattle.am_journal_lines.specs.Laws.{LinesAreRead, PrintedLinesAreLines}
 use Rattle.am_journal_lines.proofs.Cuts.{IsBehind, cut_all, put_together, spaced-append}
 use Rattle.am_journal_lines.proofs.Back.{event_back}
 use Rattle.am_journal_lines.proofs.Free.{who_free, what_free}
-use Rattle.am_journal_lines.proofs.Sound.{bound, got, event_is}
+use Rattle.am_journal_lines.proofs.Sound.{got, event_is}
 
 -- at least one byte behind an arrow
 more_behind : (words : List Word) → 0 < length words → has_more ([] ∷ words) ≡ true
@@ -65,7 +66,7 @@ right_of (w ∷ (b ∷ v) ∷ words) h = let arrow = (bytes_eq-Decides w (codes 
 pub line_read : (line : List ℕ) (e : Event) → event_of line ≡ Some e → IsLineOf line e
 unfolding event_of
 line_read line e h =
-    let a = bound (event_at (words_in line)) _ e h in
+    let a = bind_some (event_at (words_in line)) _ e h in
     let p = event_is (words_in line) a.0 a.1 in
     let whole : line ≡ left_side a.0.0 ++ spaced a.0.1 =
     put_together line (who a.0.0) (what a.0.0 ++ a.0.1) p.0

@@ -9,6 +9,8 @@ use Rattle.std.proofs.lemmas.Slice.Eq.{bytes_eq-Decides}
 use Rattle.std.proofs.lemmas.List.{take-append-drop}
 use Rattle.std.proofs.lemmas.List.Quantifiers.{position-Some}
 use Rattle.std.proofs.Common.{append_assoc}
+use Rattle.am_lemmas.specs.Options.{◌>>=◌}
+use Rattle.am_lemmas.proofs.Binds.{bind_some}
 use Rattle.am_names.specs.declared.EndpointId.{EndpointId}
 use Rattle.am_names.specs.declared.NodeId.{NodeId}
 use Rattle.am_names.specs.declared.Serial.{Serial}
@@ -27,13 +29,8 @@ use Rattle.am_entry_lines.specs.Lines.{who, what, actor, interface, driver, call
 use Rattle.am_journal_lines.specs.declared.words.Head.{Head}
 use Rattle.am_journal_lines.specs.declared.words.Head.TheVariants as Heads
 use Rattle.am_journal_lines.specs.Grammar.{IsByte, IsFourBytes, IsEightBytes, IsSerial, AreNumbersOf, AreNumbersOfCall, AreNumbersOfKind, IsNumberOfActor}
-use Rattle.am_journal_lines.specs.Reading.{◌>>=◌, word_at, printed_number, number_up_to, number_at, byte_at, count_at, long_at, end_at, node_at, tag_of, tag_at, serial_of, serial_at, numbered, head_of, request_at, poll_at, set_tag_at, map_at, unmap_at, echo_at, add_at, kind_at, set_handler_at, give_up_at, close_at, mask_at, test_at, call_at, call_event_at, want_at, thread_at, carry_at, outside_at, bind_at, expire_at, receive_at, interface_at, load_at, move_at, driver_at, happening_at, event_at}
+use Rattle.am_journal_lines.specs.Reading.{word_at, printed_number, number_up_to, number_at, byte_at, count_at, long_at, end_at, node_at, tag_of, tag_at, serial_of, serial_at, numbered, head_of, request_at, poll_at, set_tag_at, map_at, unmap_at, echo_at, add_at, kind_at, set_handler_at, give_up_at, close_at, mask_at, test_at, call_at, call_event_at, want_at, thread_at, carry_at, outside_at, bind_at, expire_at, receive_at, interface_at, load_at, move_at, driver_at, happening_at, event_at}
 use Rattle.am_journal_lines.proofs.Decimals.{read_decimal}
-
--- what stands before what is read next
-pub bound : {A B : Type 0} (o : Option A) (f : A → Option B) (b : B) → (o >>= f) ≡ Some b → (a : A) × (o ≡ Some a) × (f a ≡ Some b)
-bound None f b e = absurd cc
-bound (Some a) f b e = (a, refl, e)
 
 pub got : {X : Type 0} (x r : X) (P : X → Type 0) → Some x ≡ Some r → P x → P r
 got x r P e p = let same : x ≡ r = cc in subst P same p
@@ -61,7 +58,7 @@ word_is (w ∷ ws) r e = got (w, ws) r (λ r. w ∷ ws ≡ r.0 ∷ r.1) e refl
 up_to_is : (limit : ℕ) (word : Word) (n : ℕ) → number_up_to limit word ≡ Some n → (word ≡ decimal n) × (n ≤ limit) × (n < 2 ^ 64)
 unfolding number_up_to
 up_to_is limit word n e =
-    let a = bound (printed_number word) _ n e in
+    let a = bind_some (printed_number word) _ n e in
     let b = read_decimal word a.0 a.1 in
     elim (cases_Bool (leb a.0 limit)) [
       | inl t ↦
@@ -76,8 +73,8 @@ IsNumberRead limit words r = (words ≡ decimal r.0 ∷ r.1) × (r.0 ≤ limit) 
 number_is : (limit : ℕ) (words : List Word) (r : ℕ × List Word) → number_at limit words ≡ Some r → IsNumberRead limit words r
 unfolding number_at
 number_is limit words r e =
-    let a = bound (word_at words) _ r e in
-    let b = bound (number_up_to limit a.0.0) _ r a.2 in
+    let a = bind_some (word_at words) _ r e in
+    let b = bind_some (number_up_to limit a.0.0) _ r a.2 in
     let n = up_to_is limit a.0.0 b.0 b.1 in
     got (b.0, a.0.1) r (IsNumberRead limit words) b.2 (word_is words a.0 a.1 ∙ ap (λ (w : Word). w ∷ a.0.1) n.0, n.1, n.2)
 
@@ -96,13 +93,13 @@ long_is words r e = let n = number_is 0xffff_ffff_ffff_ffff words r e in (n.0, n
 end_is : (words : List Word) (r : EndpointId × List Word) → end_at words ≡ Some r → (words ≡ decimal r.0.0 ∷ r.1) × IsByte r.0.0
 unfolding end_at
 end_is words r e =
-    let a = bound (byte_at words) _ r e in
+    let a = bind_some (byte_at words) _ r e in
     got (record { 0 = a.0.0 }, a.0.1) r (λ (r : EndpointId × List Word). (words ≡ decimal r.0.0 ∷ r.1) × IsByte r.0.0) a.2 (byte_is words a.0 a.1)
 
 node_is : (words : List Word) (r : NodeId × List Word) → node_at words ≡ Some r → (words ≡ decimal r.0.0 ∷ r.1) × IsByte r.0.0
 unfolding node_at
 node_is words r e =
-    let a = bound (byte_at words) _ r e in
+    let a = bind_some (byte_at words) _ r e in
     got (record { 0 = a.0.0 }, a.0.1) r (λ (r : NodeId × List Word). (words ≡ decimal r.0.0 ∷ r.1) × IsByte r.0.0) a.2 (byte_is words a.0 a.1)
 
 abbrev IsTagOf : Word → Tag → Type 0
@@ -116,7 +113,7 @@ tag_of_is word t e =
     (λ n. either word (codes "all") _ _ t (IsTagOf word t) n
     (λ w s. got (record { 0 = 18446744073709551615 }) t (IsTagOf word) s (w, omega arith))
     (λ o.
-    let a = bound (printed_number word) _ t o in
+    let a = bind_some (printed_number word) _ t o in
     let b = read_decimal word a.0 a.1 in
     elim (cases_Bool (eqb a.0 0)) [
       | inl z ↦ let none : None ≡ Some t = sym (rw z refl) ∙ a.2 in absurd (cc none)
@@ -132,8 +129,8 @@ tag_of_is word t e =
 tag_is : (words : List Word) (r : Tag × List Word) → tag_at words ≡ Some r → (words ≡ tag r.0 ∷ r.1) × IsEightBytes r.0.0
 unfolding tag_at
 tag_is words r e =
-    let a = bound (word_at words) _ r e in
-    let b = bound (tag_of a.0.0) _ r a.2 in
+    let a = bind_some (word_at words) _ r e in
+    let b = bind_some (tag_of a.0.0) _ r a.2 in
     let t = tag_of_is a.0.0 b.0 b.1 in
     got (b.0, a.0.1) r (λ (r : Tag × List Word). (words ≡ tag r.0 ∷ r.1) × IsEightBytes r.0.0) b.2 (word_is words a.0 a.1 ∙ ap (λ (w : Word). w ∷ a.0.1) t.0, t.1)
 
@@ -147,9 +144,9 @@ cut_at_dot word dot e =
 serial_of_is : (word : Word) (s : Serial) → serial_of word ≡ Some s → (word ≡ serial s) × IsSerial s
 unfolding serial_of serial
 serial_of_is word s e =
-    let a = bound (position (λ b. eqb b 46) word) _ s e in
-    let b = bound (number_up_to 255 (take a.0 word)) _ s a.2 in
-    let c = bound (number_up_to 0xffff_ffff (drop (a.0 + 1) word)) _ s b.2 in
+    let a = bind_some (position (λ b. eqb b 46) word) _ s e in
+    let b = bind_some (number_up_to 255 (take a.0 word)) _ s a.2 in
+    let c = bind_some (number_up_to 0xffff_ffff (drop (a.0 + 1) word)) _ s b.2 in
     let source = up_to_is 255 (take a.0 word) b.0 b.1 in
     let count = up_to_is 0xffff_ffff (drop (a.0 + 1) word) c.0 c.1 in
     let parts : word ≡ decimal b.0 ++ 46 ∷ decimal c.0 = cut_at_dot word a.0 a.1 ∙ ap (λ (l : Word). l ++ 46 ∷ drop (a.0 + 1) word) source.0 ∙ ap (λ (l : Word). decimal b.0 ++ 46 ∷ l) count.0 in
@@ -159,8 +156,8 @@ serial_of_is word s e =
 serial_is : (words : List Word) (r : Serial × List Word) → serial_at words ≡ Some r → (words ≡ serial r.0 ∷ r.1) × IsSerial r.0
 unfolding serial_at
 serial_is words r e =
-    let a = bound (word_at words) _ r e in
-    let b = bound (serial_of a.0.0) _ r a.2 in
+    let a = bind_some (word_at words) _ r e in
+    let b = bind_some (serial_of a.0.0) _ r a.2 in
     let s = serial_of_is a.0.0 b.0 b.1 in
     got (b.0, a.0.1) r (λ (r : Serial × List Word). (words ≡ serial r.0 ∷ r.1) × IsSerial r.0) b.2 (word_is words a.0 a.1 ∙ ap (λ (w : Word). w ∷ a.0.1) s.0, s.1)
 
@@ -171,13 +168,13 @@ IsCallRead verb words r = (verb ∷ words ≡ call r.0.0 r.0.1 ++ r.1) × IsByte
 request_is : (words : List Word) (r : (EndpointId × Call) × List Word) → request_at words ≡ Some r → IsCallRead (codes "request") words r
 unfolding request_at call
 request_is words r e =
-    let a = bound (end_at words) _ r e in
-    let i = bound (byte_at a.0.1) _ r a.2 in
-    let h = bound (byte_at i.0.1) _ r i.2 in
-    let j = bound (long_at h.0.1) _ r h.2 in
-    let k = bound (long_at j.0.1) _ r j.2 in
-    let l = bound (long_at k.0.1) _ r k.2 in
-    let m = bound (long_at l.0.1) _ r l.2 in
+    let a = bind_some (end_at words) _ r e in
+    let i = bind_some (byte_at a.0.1) _ r a.2 in
+    let h = bind_some (byte_at i.0.1) _ r i.2 in
+    let j = bind_some (long_at h.0.1) _ r h.2 in
+    let k = bind_some (long_at j.0.1) _ r j.2 in
+    let l = bind_some (long_at k.0.1) _ r k.2 in
+    let m = bind_some (long_at l.0.1) _ r l.2 in
     let pa = end_is words a.0 a.1 in
     let pi = byte_is a.0.1 i.0 i.1 in
     let ph = byte_is i.0.1 h.0 h.1 in
@@ -191,15 +188,15 @@ request_is words r e =
 poll_is : (words : List Word) (r : (EndpointId × Call) × List Word) → poll_at words ≡ Some r → IsCallRead (codes "poll") words r
 unfolding poll_at call
 poll_is words r e =
-    let a = bound (end_at words) _ r e in
+    let a = bind_some (end_at words) _ r e in
     let pa = end_is words a.0 a.1 in
     got _ r (IsCallRead (codes "poll") words) a.2 (behind _ pa.0, pa.1, tt)
 
 set_tag_is : (words : List Word) (r : (EndpointId × Call) × List Word) → set_tag_at words ≡ Some r → IsCallRead (codes "tag") words r
 unfolding set_tag_at call
 set_tag_is words r e =
-    let a = bound (end_at words) _ r e in
-    let b = bound (tag_at a.0.1) _ r a.2 in
+    let a = bind_some (end_at words) _ r e in
+    let b = bind_some (tag_at a.0.1) _ r a.2 in
     let pa = end_is words a.0 a.1 in
     let pb = tag_is a.0.1 b.0 b.1 in
     got _ r (IsCallRead (codes "tag") words) b.2 (behind _ (onto _ pa.0 pb.0), pa.1, pb.1)
@@ -207,11 +204,11 @@ set_tag_is words r e =
 map_is : (words : List Word) (r : (EndpointId × Call) × List Word) → map_at words ≡ Some r → IsCallRead (codes "map") words r
 unfolding map_at call
 map_is words r e =
-    let a = bound (end_at words) _ r e in
-    let i = bound (byte_at a.0.1) _ r a.2 in
-    let n = bound (end_at i.0.1) _ r i.2 in
-    let t = bound (tag_at n.0.1) _ r n.2 in
-    let c = bound (byte_at t.0.1) _ r t.2 in
+    let a = bind_some (end_at words) _ r e in
+    let i = bind_some (byte_at a.0.1) _ r a.2 in
+    let n = bind_some (end_at i.0.1) _ r i.2 in
+    let t = bind_some (tag_at n.0.1) _ r n.2 in
+    let c = bind_some (byte_at t.0.1) _ r t.2 in
     let pa = end_is words a.0 a.1 in
     let pi = byte_is a.0.1 i.0 i.1 in
     let pn = end_is i.0.1 n.0 n.1 in
@@ -222,8 +219,8 @@ map_is words r e =
 unmap_is : (words : List Word) (r : (EndpointId × Call) × List Word) → unmap_at words ≡ Some r → IsCallRead (codes "unmap") words r
 unfolding unmap_at call
 unmap_is words r e =
-    let a = bound (end_at words) _ r e in
-    let i = bound (byte_at a.0.1) _ r a.2 in
+    let a = bind_some (end_at words) _ r e in
+    let i = bind_some (byte_at a.0.1) _ r a.2 in
     let pa = end_is words a.0 a.1 in
     let pi = byte_is a.0.1 i.0 i.1 in
     got _ r (IsCallRead (codes "unmap") words) i.2 (behind _ (onto _ pa.0 pi.0), pa.1, pi.1)
@@ -234,21 +231,21 @@ IsKindRead words r = (words ≡ handler_kind r.0 ++ r.1) × AreNumbersOfKind r.0
 echo_is : (words : List Word) (r : HandlerKind × List Word) → echo_at words ≡ Some r → IsKindRead (codes "echo" ∷ words) r
 unfolding echo_at handler_kind
 echo_is words r e =
-    let a = bound (byte_at words) _ r e in
+    let a = bind_some (byte_at words) _ r e in
     let pa = byte_is words a.0 a.1 in
     got _ r (IsKindRead (codes "echo" ∷ words)) a.2 (behind _ pa.0, pa.1)
 
 add_is : (words : List Word) (r : HandlerKind × List Word) → add_at words ≡ Some r → IsKindRead (codes "add" ∷ words) r
 unfolding add_at handler_kind
 add_is words r e =
-    let a = bound (byte_at words) _ r e in
+    let a = bind_some (byte_at words) _ r e in
     let pa = byte_is words a.0 a.1 in
     got _ r (IsKindRead (codes "add" ∷ words)) a.2 (behind _ pa.0, pa.1)
 
 kind_is : (words : List Word) (r : HandlerKind × List Word) → kind_at words ≡ Some r → IsKindRead words r
 unfolding kind_at handler_kind
 kind_is words r e =
-    let a = bound (word_at words) _ r e in
+    let a = bind_some (word_at words) _ r e in
     let front = word_is words a.0 a.1 in
     let of : (w : Word) → a.0.0 ≡ w → IsKindRead (w ∷ a.0.1) r → IsKindRead words r = λ w s p. (front ∙ ap (λ (w : Word). w ∷ a.0.1) s ∙ p.0, p.1) in
     either a.0.0 (codes "note") _ _ r (IsKindRead words r) a.2
@@ -262,9 +259,9 @@ kind_is words r e =
 set_handler_is : (words : List Word) (r : (EndpointId × Call) × List Word) → set_handler_at words ≡ Some r → IsCallRead (codes "handler") words r
 unfolding set_handler_at call
 set_handler_is words r e =
-    let a = bound (end_at words) _ r e in
-    let i = bound (byte_at a.0.1) _ r a.2 in
-    let k = bound (kind_at i.0.1) _ r i.2 in
+    let a = bind_some (end_at words) _ r e in
+    let i = bind_some (byte_at a.0.1) _ r a.2 in
+    let k = bind_some (kind_at i.0.1) _ r i.2 in
     let pa = end_is words a.0 a.1 in
     let pi = byte_is a.0.1 i.0 i.1 in
     let pk = kind_is i.0.1 k.0 k.1 in
@@ -273,8 +270,8 @@ set_handler_is words r e =
 give_up_is : (words : List Word) (r : (EndpointId × Call) × List Word) → give_up_at words ≡ Some r → IsCallRead (codes "giveup") words r
 unfolding give_up_at call
 give_up_is words r e =
-    let a = bound (end_at words) _ r e in
-    let s = bound (serial_at a.0.1) _ r a.2 in
+    let a = bind_some (end_at words) _ r e in
+    let s = bind_some (serial_at a.0.1) _ r a.2 in
     let pa = end_is words a.0 a.1 in
     let ps = serial_is a.0.1 s.0 s.1 in
     got _ r (IsCallRead (codes "giveup") words) s.2 (behind _ (onto _ pa.0 ps.0), pa.1, ps.1)
@@ -282,7 +279,7 @@ give_up_is words r e =
 close_is : (words : List Word) (r : (EndpointId × Call) × List Word) → close_at words ≡ Some r → IsCallRead (codes "close") words r
 unfolding close_at call
 close_is words r e =
-    let a = bound (end_at words) _ r e in
+    let a = bind_some (end_at words) _ r e in
     let pa = end_is words a.0 a.1 in
     got _ r (IsCallRead (codes "close") words) a.2 (behind _ pa.0, pa.1, tt)
 
@@ -292,7 +289,7 @@ IsMaskRead words r = words ≡ mask r.0 ∷ r.1
 mask_is : (words : List Word) (r : Mask × List Word) → mask_at words ≡ Some r → IsMaskRead words r
 unfolding mask_at mask
 mask_is words r e =
-    let a = bound (word_at words) _ r e in
+    let a = bind_some (word_at words) _ r e in
     let front = word_is words a.0 a.1 in
     let of : (w : Word) → a.0.0 ≡ w → IsMaskRead (w ∷ a.0.1) r → IsMaskRead words r = λ w s p. front ∙ ap (λ (w : Word). w ∷ a.0.1) s ∙ p in
     either a.0.0 (codes "noevents") _ _ r (IsMaskRead words r) a.2
@@ -304,8 +301,8 @@ mask_is words r e =
 test_is : (words : List Word) (r : (EndpointId × Call) × List Word) → test_at words ≡ Some r → IsCallRead (codes "event") words r
 unfolding test_at call
 test_is words r e =
-    let a = bound (end_at words) _ r e in
-    let m = bound (mask_at a.0.1) _ r a.2 in
+    let a = bind_some (end_at words) _ r e in
+    let m = bind_some (mask_at a.0.1) _ r a.2 in
     let pa = end_is words a.0 a.1 in
     let pm = mask_is a.0.1 m.0 m.1 in
     got _ r (IsCallRead (codes "event") words) m.2 (behind _ (onto _ pa.0 pm), pa.1, tt)
@@ -334,14 +331,14 @@ IsEventRead who_is verb words r = (who_is ≡ who r.0) × (verb ∷ words ≡ wh
 call_event_is : (a : Actor) (verb : Word) (words : List Word) (r : Event × List Word) → IsNumberOfActor a → call_event_at a verb words ≡ Some r → IsEventRead (actor a) verb words r
 unfolding call_event_at who what
 call_event_is a verb words r n e =
-    let c = bound (call_at verb words) _ r e in
+    let c = bind_some (call_at verb words) _ r e in
     let p = call_is verb words c.0 c.1 in
     got _ r (IsEventRead (actor a) verb words) c.2 (refl, p.0, (n, p.1, p.2))
 
 want_is : (a : Actor) (words : List Word) (r : Event × List Word) → IsNumberOfActor a → want_at a words ≡ Some r → IsEventRead (actor a) (codes "want") words r
 unfolding want_at who what
 want_is a words r n e =
-    let b = bound (end_at words) _ r e in
+    let b = bind_some (end_at words) _ r e in
     let p = end_is words b.0 b.1 in
     got _ r (IsEventRead (actor a) (codes "want") words) b.2 (refl, behind _ p.0, (n, p.1))
 
@@ -359,7 +356,7 @@ thread_is t verb words r n e =
 carry_is : (words : List Word) (r : Event × List Word) → carry_at words ≡ Some r → IsEventRead (codes "x") (codes "carry") words r
 unfolding carry_at who what
 carry_is words r e =
-    let b = bound (end_at words) _ r e in
+    let b = bind_some (end_at words) _ r e in
     let p = end_is words b.0 b.1 in
     got _ r (IsEventRead (codes "x") (codes "carry") words) b.2 (refl, behind _ p.0, p.1)
 
@@ -375,15 +372,15 @@ outside_is verb words r e =
 bind_is : (n : NodeId) (words : List Word) (r : Event × List Word) → IsByte n.0 → bind_at n words ≡ Some r → IsEventRead (interface n) (codes "bind") words r
 unfolding bind_at who what
 bind_is n words r h e =
-    let b = bound (end_at words) _ r e in
+    let b = bind_some (end_at words) _ r e in
     let p = end_is words b.0 b.1 in
     got _ r (IsEventRead (interface n) (codes "bind") words) b.2 (refl, behind _ p.0, (h, p.1))
 
 expire_is : (n : NodeId) (words : List Word) (r : Event × List Word) → IsByte n.0 → expire_at n words ≡ Some r → IsEventRead (interface n) (codes "expire") words r
 unfolding expire_at who what
 expire_is n words r h e =
-    let b = bound (node_at words) _ r e in
-    let c = bound (byte_at b.0.1) _ r b.2 in
+    let b = bind_some (node_at words) _ r e in
+    let c = bind_some (byte_at b.0.1) _ r b.2 in
     let p = node_is words b.0 b.1 in
     let q = byte_is b.0.1 c.0 c.1 in
     got _ r (IsEventRead (interface n) (codes "expire") words) c.2 (refl, behind _ (onto _ p.0 q.0), (h, p.1, q.1))
@@ -391,8 +388,8 @@ expire_is n words r h e =
 receive_is : (n : NodeId) (words : List Word) (r : Event × List Word) → IsByte n.0 → receive_at n words ≡ Some r → IsEventRead (interface n) (codes "receive") words r
 unfolding receive_at who what
 receive_is n words r h e =
-    let b = bound (node_at words) _ r e in
-    let c = bound (count_at b.0.1) _ r b.2 in
+    let b = bind_some (node_at words) _ r e in
+    let c = bind_some (count_at b.0.1) _ r b.2 in
     let p = node_is words b.0 b.1 in
     let q = count_is b.0.1 c.0 c.1 in
     got _ r (IsEventRead (interface n) (codes "receive") words) c.2 (refl, behind _ (onto _ p.0 q.0), (h, p.1, q.1))
@@ -407,27 +404,27 @@ interface_is n verb words r h e =
 load_is : (n : NodeId) (words : List Word) (r : Event × List Word) → IsByte n.0 → load_at n words ≡ Some r → IsEventRead (driver n) (codes "load") words r
 unfolding load_at who what
 load_is n words r h e =
-    let b = bound (end_at words) _ r e in
-    let c = bound (byte_at b.0.1) _ r b.2 in
+    let b = bind_some (end_at words) _ r e in
+    let c = bind_some (byte_at b.0.1) _ r b.2 in
     let p = end_is words b.0 b.1 in
     let q = byte_is b.0.1 c.0 c.1 in
     got _ r (IsEventRead (driver n) (codes "load") words) c.2 (refl, behind _ (onto _ p.0 q.0), (h, p.1, q.1))
 
 drain_is : (n : NodeId) (words : List Word) (r : Event × List Word) → IsByte n.0 → move_at (λ end. Events.Drain n end) words ≡ Some r → IsEventRead (driver n) (codes "drain") words r
 unfolding move_at who what
-drain_is n words r h e = let b = bound (end_at words) _ r e in let p = end_is words b.0 b.1 in got _ r (IsEventRead (driver n) (codes "drain") words) b.2 (refl, behind _ p.0, (h, p.1))
+drain_is n words r h e = let b = bind_some (end_at words) _ r e in let p = end_is words b.0 b.1 in got _ r (IsEventRead (driver n) (codes "drain") words) b.2 (refl, behind _ p.0, (h, p.1))
 
 unload_is : (n : NodeId) (words : List Word) (r : Event × List Word) → IsByte n.0 → move_at (λ end. Events.Unload n end) words ≡ Some r → IsEventRead (driver n) (codes "unload") words r
 unfolding move_at who what
-unload_is n words r h e = let b = bound (end_at words) _ r e in let p = end_is words b.0 b.1 in got _ r (IsEventRead (driver n) (codes "unload") words) b.2 (refl, behind _ p.0, (h, p.1))
+unload_is n words r h e = let b = bind_some (end_at words) _ r e in let p = end_is words b.0 b.1 in got _ r (IsEventRead (driver n) (codes "unload") words) b.2 (refl, behind _ p.0, (h, p.1))
 
 page_out_is : (n : NodeId) (words : List Word) (r : Event × List Word) → IsByte n.0 → move_at (λ end. Events.PageOut n end) words ≡ Some r → IsEventRead (driver n) (codes "pageout") words r
 unfolding move_at who what
-page_out_is n words r h e = let b = bound (end_at words) _ r e in let p = end_is words b.0 b.1 in got _ r (IsEventRead (driver n) (codes "pageout") words) b.2 (refl, behind _ p.0, (h, p.1))
+page_out_is n words r h e = let b = bind_some (end_at words) _ r e in let p = end_is words b.0 b.1 in got _ r (IsEventRead (driver n) (codes "pageout") words) b.2 (refl, behind _ p.0, (h, p.1))
 
 page_in_is : (n : NodeId) (words : List Word) (r : Event × List Word) → IsByte n.0 → move_at (λ end. Events.PageIn n end) words ≡ Some r → IsEventRead (driver n) (codes "pagein") words r
 unfolding move_at who what
-page_in_is n words r h e = let b = bound (end_at words) _ r e in let p = end_is words b.0 b.1 in got _ r (IsEventRead (driver n) (codes "pagein") words) b.2 (refl, behind _ p.0, (h, p.1))
+page_in_is n words r h e = let b = bind_some (end_at words) _ r e in let p = end_is words b.0 b.1 in got _ r (IsEventRead (driver n) (codes "pagein") words) b.2 (refl, behind _ p.0, (h, p.1))
 
 driver_is : (n : NodeId) (verb : Word) (words : List Word) (r : Event × List Word) → IsByte n.0 → driver_at n verb words ≡ Some r → IsEventRead (driver n) verb words r
 unfolding driver_at
@@ -455,7 +452,7 @@ by_letter l k x y r P e here next = elim (cases_Bool (eqb l k)) [
 numbered_is : (letter : ℕ) (digits : Word) (h : Head) → numbered letter digits ≡ Some h → IsHeadOf (letter ∷ digits) h
 unfolding numbered
 numbered_is letter digits h e =
-    let a = bound (number_up_to 255 digits) _ h e in
+    let a = bind_some (number_up_to 255 digits) _ h e in
     let p = up_to_is 255 digits a.0 a.1 in
     let small : IsByte a.0 = omega (arith, p.1) in
     let word : (l : ℕ) → letter ≡ l → letter ∷ digits ≡ l ∷ decimal a.0 = λ l s. ap (λ (b : ℕ). b ∷ digits) s ∙ ap (λ (w : Word). l ∷ w) p.0 in
@@ -480,8 +477,8 @@ happening_is word verb words (Heads.OfDriver n) r w e = let p = driver_is n verb
 pub event_is : (words : List Word) (r : Event × List Word) → event_at words ≡ Some r → (words ≡ who r.0 ∷ (what r.0 ++ r.1)) × AreNumbersOf r.0
 unfolding event_at
 event_is words r e =
-    let w = bound (word_at words) _ r e in
-    let h = bound (head_of w.0.0) _ r w.2 in
-    let v = bound (word_at w.0.1) _ r h.2 in
+    let w = bind_some (word_at words) _ r e in
+    let h = bind_some (head_of w.0.0) _ r w.2 in
+    let v = bind_some (word_at w.0.1) _ r h.2 in
     let p = happening_is w.0.0 v.0.0 v.0.1 h.0 r (head_is w.0.0 h.0 h.1) v.2 in
     (word_is words w.0 w.1 ∙ ap (λ (l : List Word). w.0.0 ∷ l) (word_is w.0.1 v.0 v.1 ∙ p.1) ∙ ap (λ (x : Word). x ∷ (what r.0 ++ r.1)) p.0, p.2)

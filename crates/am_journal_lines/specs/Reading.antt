@@ -3,6 +3,7 @@
 use Rattle.std.specs.Prelude.{◌≡◌, ℕ, ◌+◌, Bool, true, false, not, ◌==◌, ◌&&◌, ◌||◌, nat_le, Option, Some, None, List, [], ◌∷◌, take, drop, codes, if◌then◌else◌}
 use Rattle.std.specs.List.{slice_split, position}
 use Rattle.std.specs.Str.{bytes_eq}
+use Rattle.am_lemmas.specs.Options.{◌>>=◌}
 use Rattle.am_lexer.specs.Text.{number_of}
 use Rattle.am_names.specs.declared.EndpointId.{EndpointId}
 use Rattle.am_names.specs.declared.NodeId.{NodeId}
@@ -21,11 +22,6 @@ use Rattle.am_office.specs.declared.Event.TheVariants as Events
 use Rattle.am_text.specs.Words.{Word}
 use Rattle.am_journal_lines.specs.declared.words.Head.{Head}
 use Rattle.am_journal_lines.specs.declared.words.Head.TheVariants as Heads
-
-infixl 10 ◌>>=◌
-abbrev pub ◌>>=◌ : {A B : Type 0} → Option A → (A → Option B) → Option B
-None >>= f = None
-(Some x) >>= f = f x
 
 -- what a reader of the code returned, seen by view, is what reading gives
 abbrev pub Gives : {X Y : Type 0} → (X → Y) → Option X → Option Y → Type 0

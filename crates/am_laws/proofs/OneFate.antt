@@ -3,7 +3,7 @@ use Rattle.std.specs.Prelude.{MatchOption, slice_get, count_by}
 use Rattle.std.proofs.Common.{◌≡◌, ℕ, zero, suc, ◌+◌, ◌≤◌, Bool, true, false, ◌||◌, List, [], ◌∷◌, length, Option, Some, None, refl, sym, ap, ◌∙◌, subst, arith, true≢false, if◌then◌else◌}
 use Rattle.std.proofs.lemmas.List.Sums.{sum_by-cons}
 use Rattle.std.specs.List.{list_any, filter_map, cons_option}
-use Rattle.am_lemmas.proofs.Lists.{count_by-none}
+use Rattle.am_lemmas.proofs.Lists.{count_by-none, list_any-counts}
 use Rattle.am_names.specs.declared.Serial.{Serial}
 use Rattle.am_names.specs.declared.Cause.{Cause}
 use Rattle.am_office.specs.declared.Event.{Event}
@@ -32,14 +32,6 @@ use Rattle.am_laws_fates.proofs.Numbers.{some_pair}
 use Rattle.am_laws.specs.Fates.{Became, IsFate, IsFated, HasOneFate}
 
 -- what is there, and what is not, by its count
-any_there : {X : Type 0} (p : X → Bool) (xs : List X) → list_any p xs ≡ true → 1 ≤ count_by p xs
-any_there p [] h = absurd (true≢false (sym h))
-any_there {X = X} p (x ∷ xs) h = by_test (p x) refl h (λ e. any_there p xs e)
-  where
-    by_test : (b : Bool) → p x ≡ b → (b || list_any p xs) ≡ true → (list_any p xs ≡ true → 1 ≤ count_by p xs) → 1 ≤ count_by p (x ∷ xs)
-    by_test true is e more = omega (arith, sum_by-cons (λ y. bit (p y)) x xs, ap bit is)
-    by_test false is e more = omega (arith, sum_by-cons (λ y. bit (p y)) x xs, more e)
-
 -- an entry has a cause for the serial just where it returns it for that cause
 abbrev IsCauseOf : Serial → Option Cause → Option (Serial × Cause) → Option Serial → Type 0
 IsCauseOf s None back serial = (is_serial s serial ≡ false) × ((cause : Cause) → back ≡ Some (s, cause) → ⊥)
@@ -182,11 +174,11 @@ fated layout journal s k (cause ∷ more) is u r hu hr =
     let low : 1 ≤ times_serial returned_of s journal = omega (arith, causes_count s journal, ap (λ (ys : List Cause). length ys) is) in
     (record { became = record { comes_back = omega (arith, low, k.returned.once); is_unknown = k.returned.unknown low; runs_so = k.returned.run low }; unput = k.returned.put low }, cause_given s journal cause more is)
 fated layout journal s k [] is true true hu hr =
-    record { comes_back = omega (arith, causes_count s journal, ap (λ (ys : List Cause). length ys) is); is_unknown = omega (arith, k.unknown, any_there (λ (x : Entry). is_serial s (unknown_of x)) journal hu); runs_so = omega (arith, k.run, any_there (λ (x : Entry). passes (has_serial s) (run_of x)) journal hr) }
+    record { comes_back = omega (arith, causes_count s journal, ap (λ (ys : List Cause). length ys) is); is_unknown = omega (arith, k.unknown, list_any-counts (λ (x : Entry). is_serial s (unknown_of x)) journal hu); runs_so = omega (arith, k.run, list_any-counts (λ (x : Entry). passes (has_serial s) (run_of x)) journal hr) }
 fated layout journal s k [] is true false hu hr =
-    record { comes_back = omega (arith, causes_count s journal, ap (λ (ys : List Cause). length ys) is); is_unknown = omega (arith, k.unknown, any_there (λ (x : Entry). is_serial s (unknown_of x)) journal hu); runs_so = count_by-none (λ (x : Entry). passes (has_serial s) (run_of x)) journal hr }
+    record { comes_back = omega (arith, causes_count s journal, ap (λ (ys : List Cause). length ys) is); is_unknown = omega (arith, k.unknown, list_any-counts (λ (x : Entry). is_serial s (unknown_of x)) journal hu); runs_so = count_by-none (λ (x : Entry). passes (has_serial s) (run_of x)) journal hr }
 fated layout journal s k [] is false true hu hr =
-    record { comes_back = omega (arith, causes_count s journal, ap (λ (ys : List Cause). length ys) is); is_unknown = count_by-none (λ (x : Entry). is_serial s (unknown_of x)) journal hu; runs_so = omega (arith, k.run, any_there (λ (x : Entry). passes (has_serial s) (run_of x)) journal hr) }
+    record { comes_back = omega (arith, causes_count s journal, ap (λ (ys : List Cause). length ys) is); is_unknown = count_by-none (λ (x : Entry). is_serial s (unknown_of x)) journal hu; runs_so = omega (arith, k.run, list_any-counts (λ (x : Entry). passes (has_serial s) (run_of x)) journal hr) }
 fated layout journal s k [] is false false hu hr =
     record { comes_back = omega (arith, causes_count s journal, ap (λ (ys : List Cause). length ys) is); is_unknown = count_by-none (λ (x : Entry). is_serial s (unknown_of x)) journal hu; runs_so = count_by-none (λ (x : Entry). passes (has_serial s) (run_of x)) journal hr }
 
@@ -200,4 +192,4 @@ one_fate layout journal h s = by_accepted (list_any (λ (x : Entry). passes (has
     by_accepted false is = count_by-none (λ (x : Entry). passes (has_serial s) (accepted_of x)) journal is
     by_accepted true is =
         let f = fated layout journal s k (causes s journal) refl (list_any (λ (x : Entry). is_serial s (unknown_of x)) journal) (list_any (λ (x : Entry). passes (has_serial s) (run_of x)) journal) refl refl in
-        record { accepted = omega (arith, k.accepted, any_there (λ (x : Entry). passes (has_serial s) (accepted_of x)) journal is); says = f; only = λ g p. one_only journal s _ g f p }
+        record { accepted = omega (arith, k.accepted, list_any-counts (λ (x : Entry). passes (has_serial s) (accepted_of x)) journal is); says = f; only = λ g p. one_only journal s _ g f p }

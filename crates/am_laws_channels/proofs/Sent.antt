@@ -3,6 +3,7 @@ use Rattle.std.specs.Prelude.{length, nat_lt, slice_get}
 use Rattle.std.proofs.Common.{◌≡◌, ◌≢◌, ◌⊎◌, inl, inr, ⊎_elim, ℕ, zero, suc, ◌+◌, ◌-◌, ◌≤◌, ◌<◌, Bool, true, false, List, [], ◌∷◌, ◌++◌, Option, Some, None, refl, sym, ap, ◌∙◌, subst, arith, if◌then◌else◌}
 use Rattle.std.specs.List.{filter_map, cons_option}
 use Rattle.std.proofs.lemmas.List.Elements.{filter_map-append}
+use Rattle.std.proofs.lemmas.Option.{slice_get_within}
 use Rattle.am_names.specs.declared.EndpointId.{EndpointId}
 use Rattle.am_names.specs.declared.NodeId.{NodeId}
 use Rattle.am_names.specs.declared.Cause.TheVariants.{NoRequest}
@@ -137,11 +138,6 @@ get_push [] (Some b) (suc i) a e = absurd (cc)
 get_push (x ∷ xs) w zero a e = inl e
 get_push (x ∷ xs) w (suc i) a e = ⊎_elim (λ (old : slice_get xs i ≡ Some a). inl old) (λ (new : (w ≡ Some a) × (i ≡ length xs)). inr (new.0, ap suc new.1)) (get_push xs w i a e)
 
-get_low : {A : Type 0} (xs : List A) (i : ℕ) (a : A) → slice_get xs i ≡ Some a → i < length xs
-get_low [] i a e = absurd (cc)
-get_low (x ∷ xs) zero a e = omega arith
-get_low (x ∷ xs) (suc i) a e = omega (arith, get_low xs i a e)
-
 -- a parcel that stands at a place went out before, or goes out now and stands last
 sent_before : (past : List Entry) (x : Entry) (i : ℕ) (q : Parcel) → IsSentAfter (past ++ x ∷ []) i q → IsSentAfter past i q ⊎ ((emitted_of x ≡ Some (Packets.Parcel q)) × (i ≡ length (filter_map emitted_of past)))
 sent_before past x i q h = get_push (filter_map emitted_of past) (emitted_of x) i (Packets.Parcel q) (subst (λ (ps : List Packet). slice_get ps i ≡ Some (Packets.Parcel q)) (filter_map-append emitted_of past (x ∷ [])) h)
@@ -164,7 +160,7 @@ rises_more layout past x known before may i j p q at_i at_j later one' =
     last : j ≤ length (filter_map emitted_of past)
     last =
         ⊎_elim
-        (λ (old : IsSentAfter past j q). omega (arith, get_low (filter_map emitted_of past) j (Packets.Parcel q) old))
+        (λ (old : IsSentAfter past j q). omega (arith, slice_get_within (filter_map emitted_of past) j (Packets.Parcel q) old))
         (λ (new : (emitted_of x ≡ Some (Packets.Parcel q)) × (j ≡ length (filter_map emitted_of past))). omega (arith, new.1))
         (sent_before past x j q at_j)
 

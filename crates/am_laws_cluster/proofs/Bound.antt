@@ -57,6 +57,7 @@ use Rattle.am_laws_replies.proofs.Gave.{accepted_one}
 use Rattle.am_laws_homes.proofs.Places.{fits_network}
 use Rattle.am_laws_cluster.proofs.Flights.{flights_of, all_aloft, open_aloft, third_none}
 use Rattle.am_model.proofs.Counts.{any}
+use Rattle.am_model.proofs.PlaceKinds.{resident_is_framed}
 
 -- the node that an endpoint is said to be of is its home
 none_same : (e : EndpointId) (s : EndSetting) (node : NodeId) (xs : List EndSetting) → same_end e s.id ≡ true → list_any (λ (t : EndSetting). same_end s.id t.id) xs ≡ false → list_any (λ (t : EndSetting). same_end e t.id && same_node node t.node) xs ≡ true → ⊥
@@ -317,12 +318,6 @@ held_once layout packet past h e m b own =
     }
 
 -- what is resident on the packet network lies in a frame
-in_a_frame : (p : Place) → is_resident p ≡ true → is_direct p ≡ false → is_in_a_frame p ≡ true
-in_a_frame (Frame frame) h k = refl
-in_a_frame Direct h k = absurd (true≢false k)
-in_a_frame Host h k = absurd (true≢false (sym h))
-in_a_frame Disk h k = absurd (true≢false (sym h))
-
 flies : (layout : Layout) → layout.direct ≡ false → (past : List Entry) → IsHistory layout past → Held layout past → (c : Channel) (m : Message) → bound_message c past ≡ Some m → IsFlying layout past c m
 flies layout packet past h k c m is =
     record {
@@ -332,7 +327,7 @@ flies layout packet past h k c m is =
           (λ f known same. accepted_one past m.serial f.message m ((each_once layout past h).accepted m.serial) known (d.bound c m is).accepted same refl)
           (d.sent m.serial.source).flights;
       node = k.home c m is;
-      frame = in_a_frame (state_of layout past m.serial.source).head.place (all_aloft layout past h m.serial.source some) (fits_network layout past h m.serial.source ∙ ap (λ (b : Bool). b && declared layout m.serial.source) packet);
+      frame = resident_is_framed (state_of layout past m.serial.source).head.place (all_aloft layout past h m.serial.source some) (fits_network layout past h m.serial.source ∙ ap (λ (b : Bool). b && declared layout m.serial.source) packet);
       opened = open_aloft layout past h m.serial.source some;
     }
   where

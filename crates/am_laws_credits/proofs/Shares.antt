@@ -29,6 +29,7 @@ use Rattle.am_model.proofs.Received.{bit, FitsCall}
 use Rattle.am_model.proofs.Books.{fits_call}
 use Rattle.std.proofs.lemmas.Bool.{eqb-false}
 use Rattle.std.proofs.lemmas.List.{get_or_past}
+use Rattle.am_lemmas.proofs.Options.{not_some-None}
 use Rattle.am_model.proofs.Own.{Own, own_kept, is_call}
 use Rattle.am_model.proofs.Sizes.{count_le}
 use Rattle.am_laws_messages.proofs.Mapped.{IsMapped, mapped_more, mapped_begin, set_entry, in_table, IsInTable}
@@ -223,10 +224,6 @@ map_told pool st at credits h = unless_four st.head.closed (nat_le 16 at) (is_so
 unmap_told : (st : State) (at : ℕ) → unmap_refusal st at ≡ None → records_at st.body at ≡ 0
 unmap_told st at h = not_zero (records_at st.body at) (unless_four st.head.closed (nat_le 16 at) (is_none (entry_at st.body.mapped at)) (not (records_at st.body at == 0)) No.Closed No.BadIndex No.NotMapped (No.Outstanding (records_at st.body at)) h).1
 
-none_is : (w : Option Mapping) → is_some w ≡ false → w ≡ None
-none_is None h = refl
-none_is (Some mp) h = absurd (true≢false h)
-
 map_in : (pool : Option ℕ) (end : EndpointId) (st : State) (c : Call) → Out.Done ≡ outcome_of_call pool end st c → IsInTable c Out.Done
 map_in pool end st c fits = subst (λ (v : Outcome). IsInTable c v) (sym fits) (in_table pool end st c)
 
@@ -238,7 +235,7 @@ called_empty pool end st Calls.Poll (Out.Ran m handler (Some reply)) fits size h
 called_empty pool end st (Calls.SetTag tag) Out.Done fits size h = h
 called_empty pool end st (Calls.Map at name tag credits) Out.Done fits size h =
     let told = map_told pool st at credits (unless_done (map_refusal pool st at credits) fits) in
-    anew_empty st.body at (Some (record { name = name; tag = tag; credits = credits })) (omega (arith, map_in pool end st (Calls.Map at name tag credits) fits, size)) (h at (none_is (entry_at st.body.mapped at) told.0)) h
+    anew_empty st.body at (Some (record { name = name; tag = tag; credits = credits })) (omega (arith, map_in pool end st (Calls.Map at name tag credits) fits, size)) (h at (not_some-None (entry_at st.body.mapped at) told.0)) h
 called_empty pool end st (Calls.Unmap at) Out.Done fits size h =
     anew_empty st.body at None (omega (arith, map_in pool end st (Calls.Unmap at) fits, size)) (unmap_told st at (unless_done (unmap_refusal st at) fits)) h
 called_empty pool end st (Calls.SetHandler at kind) Out.Done fits size h = h
@@ -257,7 +254,7 @@ called_pooled pool end st (Calls.SetTag tag) Out.Done fits size h p = record { o
 called_pooled pool end st (Calls.Map at name tag credits) Out.Done fits size h p =
     let told = map_told (Some pool) st at credits (unless_done (map_refusal (Some pool) st at credits) fits) in
     let low : at < length st.body.mapped = omega (arith, map_in (Some pool) end st (Calls.Map at name tag credits) fits, size) in
-    let none : entry_at st.body.mapped at ≡ None = none_is (entry_at st.body.mapped at) told.0 in
+    let none : entry_at st.body.mapped at ≡ None = not_some-None (entry_at st.body.mapped at) told.0 in
     let v : Option Mapping = Some (record { name = name; tag = tag; credits = credits }) in
     let room : shares st.body + credits + pool ≤ 32 = ltb-false 32 (shares st.body + credits + pool) told.1 in
     record {

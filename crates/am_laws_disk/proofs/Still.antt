@@ -20,20 +20,19 @@ use Rattle.am_office.specs.declared.Event.TheVariants as Events
 use Rattle.am_office.specs.declared.Outcome.{Outcome}
 use Rattle.am_office.specs.declared.Outcome.TheVariants as Out
 use Rattle.am_office.specs.declared.Place.{Place}
-use Rattle.am_office.specs.declared.Place.TheVariants.{Host, Disk, Frame, Direct}
 use Rattle.am_office.specs.declared.Received.{Received}
 use Rattle.am_office.specs.declared.Received.TheVariants as Got
 use Rattle.am_office.specs.declared.Entry.{Entry}
 use Rattle.am_office.specs.Entries.{ends_touched, put_in, touched_by_expiry, touched_by_result, touches}
 use Rattle.am_model.specs.Changes.{changed, flying_of, received}
 use Rattle.am_model.specs.Channels.{Again, Arrival, Channel, Fresh, Stale, arrival, attempt, bound_message, emitted, mark, sequence}
-use Rattle.am_model.specs.Endpoint.{State, front, is_in_a_frame, is_on_disk, is_resident}
+use Rattle.am_model.specs.Endpoint.{State, front, is_on_disk, is_resident}
 use Rattle.am_model.specs.History.{IsHistory, MayFollow, arrive, bounced, channel_to, counts, decided, expire, failing, is_answered, is_home, next_number, outcome_of, receive, sent, settle, settle_by, state_of}
 use Rattle.am_model.specs.Layout.{IsLawful, Layout}
 use Rattle.am_model.proofs.Each.{state_of_push}
 use Rattle.am_model.proofs.Names.{same_end-is}
 use Rattle.am_model.proofs.Received.{one_touched}
-use Rattle.am_model.proofs.PlaceKinds.{resident_not_on_disk}
+use Rattle.am_model.proofs.PlaceKinds.{resident_not_on_disk, framed_not_on_disk}
 use Rattle.am_model.proofs.Unchanged.{paged_out_body, paged_in_body}
 use Rattle.am_local.proofs.Frames.{changed_place, none_holds, place_by, place_given}
 use Rattle.am_laws_messages.proofs.Delivered.{delivers, put_facts}
@@ -42,12 +41,6 @@ use Rattle.am_laws_cluster.proofs.Flights.{third_none}
 use Rattle.am_laws_disk.specs.Disk.{IsStill, StaysOnDisk, pages_out}
 
 -- ---- places
-
-frame_off_disk : (p : Place) → is_in_a_frame p ≡ true → is_on_disk p ≡ false
-frame_off_disk (Frame frame) h = refl
-frame_off_disk Direct h = refl
-frame_off_disk Host h = refl
-frame_off_disk Disk h = sym h
 
 -- what an event that doesn't page out puts on disk was there
 there_before : (e : EndpointId) (event : Event) (o : Outcome) (p : Place) → list_any (same_end e) (ends_touched event o) ≡ true → pages_out e event ≡ false → is_on_disk (place_by (place_given event o) p) ≡ true → is_on_disk p ≡ true
@@ -63,7 +56,7 @@ there_before e event o p t off on = on
 -- the source of a bound message isn't on disk
 bound_off_disk : (layout : Layout) (past : List Entry) → IsLawful layout → IsHistory layout past → (c : Channel) (m : Message) → bound_message c past ≡ Some m → is_on_disk (state_of layout past m.serial.source).head.place ≡ false
 bound_off_disk layout past lawful history c m at =
-    frame_off_disk (state_of layout past m.serial.source).head.place (((in_flight_bound layout lawful past history).flies c m at).frame)
+    framed_not_on_disk (state_of layout past m.serial.source).head.place (((in_flight_bound layout lawful past history).flies c m at).frame)
 
 -- nor is the endpoint of which this is the one that is touched
 one_off_disk : (layout : Layout) (past : List Entry) (e f : EndpointId) → list_any (same_end e) (f ∷ []) ≡ true → is_on_disk (state_of layout past f).head.place ≡ false → is_on_disk (state_of layout past e).head.place ≡ false

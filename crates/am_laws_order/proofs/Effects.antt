@@ -26,9 +26,7 @@ use Rattle.am_model.specs.History.{bounced, state_of, MayFollow, outcome_of, rec
 use Rattle.am_model.proofs.Ends.{EmittedIn, was_emitted}
 use Rattle.am_laws_order.proofs.Senders.{Sender, sender, same_channel-is, sender_after, sender_push}
 use Rattle.am_names.specs.declared.EndpointId.{EndpointId}
-use Rattle.am_names.specs.declared.Serial.{Serial}
-use Rattle.am_office.specs.declared.Received.{Received}
-use Rattle.am_model.specs.Changes.{flying_of, settled_by, settled_in}
+use Rattle.am_model.specs.Changes.{flying_of, settled_in}
 use Rattle.am_model.specs.declared.Queued.{Queued}
 use Rattle.am_model.proofs.Received.{bit}
 use Rattle.am_office.specs.Entries.{put_in, returned_in}

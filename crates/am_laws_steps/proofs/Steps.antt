@@ -1,30 +1,18 @@
 -- The entries that steps make.
-use Rattle.std.specs.Prelude.{slice_get, nat_lt, not}
-use Rattle.std.proofs.Common.{◌≡◌, ◌⊎◌, ⊎_elim, ℕ, suc, ◌+◌, ◌-◌, ◌<◌, ◌≤◌, true, ◌||◌, ◌&&◌, List, [], ◌∷◌, ◌++◌, map, length, take, Option, Some, None, refl, sym, ap, ◌∙◌, subst, arith, append_assoc, length-append, lt-ltb}
-use Rattle.std.specs.List.{list_all, range_with_len}
-use Rattle.std.proofs.lemmas.List.{append-nil}
-use Rattle.std.proofs.lemmas.Bool.{or_right}
+use Rattle.std.specs.Prelude.{slice_get}
+use Rattle.std.proofs.Common.{◌≡◌, ℕ, suc, ◌+◌, ◌<◌, ◌≤◌, true, List, [], ◌∷◌, ◌++◌, map, length, take, Option, Some, None, refl, sym, ap, ◌∙◌, subst, arith, append_assoc}
+use Rattle.std.specs.List.{range_with_len}
+use Rattle.std.proofs.lemmas.List.{append-nil, length_push}
 use Rattle.am_lemmas.proofs.Lists.{range_push}
-use Rattle.am_names.specs.declared.NodeId.{NodeId}
-use Rattle.am_names.specs.declared.Packet.{Packet}
-use Rattle.am_names.specs.declared.Packet.TheVariants as Packets
-use Rattle.am_names.specs.declared.Verdict.{Verdict}
 use Rattle.am_office.specs.declared.Event.{Event}
-use Rattle.am_office.specs.declared.Event.TheVariants as Events
-use Rattle.am_office.specs.declared.Outcome.{Outcome}
-use Rattle.am_office.specs.declared.Outcome.TheVariants as Out
-use Rattle.am_office.specs.declared.Received.{Received}
 use Rattle.am_office.specs.declared.Condition.{Condition}
 use Rattle.am_office.specs.declared.Part.{Part}
 use Rattle.am_office.specs.declared.Entry.{Entry}
-use Rattle.am_office.specs.Entries.{share_part, emitted_of, emitted_in, parcel, answer_packet, answer_by}
 use Rattle.am_model.specs.Layout.{Layout}
-use Rattle.am_model.specs.Channels.{emitted}
-use Rattle.am_model.specs.History.{MayFollow, EachAfter, IsHistory, is_in_range, is_taken_before, is_packet_before, failing, outcome_of}
-use Rattle.am_model.specs.Packets.{stamp_of}
+use Rattle.am_model.specs.History.{MayFollow, EachAfter, IsHistory, is_in_range, failing, outcome_of}
 use Rattle.am_model.specs.Steps.{FollowsSteps, Made, Stop, stop, stop_by, full_log, step_entry, made, made_by, made_from}
 use Rattle.am_model.proofs.Each.{each_push}
-use Rattle.am_model.proofs.Ends.{EmittedIn, was_emitted}
+use Rattle.am_model.proofs.Stamps.{later_than_all}
 use Rattle.am_laws_steps.specs.Laws.{AreBelow, Walked, AreInRange, StopsAt, IsUnstopped, IsMade}
 
 below_more : (n k : ℕ) (xs : List Entry) → n ≤ k → AreBelow n xs → AreBelow k xs
@@ -35,46 +23,6 @@ below_push : (n : ℕ) (xs : List Entry) (x : Entry) → AreBelow n xs → x.sta
 below_push n [] x h lt = (lt, tt)
 below_push n (y ∷ xs) x h lt = (h.0, below_push n xs x h.1 lt)
 
-later_than_all : (x : Entry) (past : List Entry) → AreBelow x.stamp past → list_all (λ (y : Entry). not (share_part x y) || nat_lt y.stamp x.stamp) past ≡ true
-later_than_all x [] h = refl
-later_than_all x (y ∷ ys) h = λ i. or_right (not (share_part x y)) (nat_lt y.stamp x.stamp) (lt-ltb y.stamp x.stamp h.0) i && later_than_all x ys h.1 i
-
--- ---- the stamp of a packet is that of the entry that emitted it
-
-parcel_stamp : (node : NodeId) (stamp : ℕ) (o : Outcome) (p : Packet) → parcel node stamp o ≡ Some p → stamp_of p ≡ stamp
-parcel_stamp node stamp (Out.Sent m peer channel seq attempt number) p h =
-    let same : Packets.Parcel (record { from = node; to = peer; channel = channel; seq = seq; attempt = attempt; number = number; stamp = stamp; message = m }) ≡ p = cc in
-    sym (ap stamp_of same)
-parcel_stamp node stamp o p h = absurd (cc)
-
-answer_stamp : (node peer : NodeId) (channel seq attempt stamp : ℕ) (a : Option (ℕ × Verdict)) (p : Packet) → answer_packet node peer channel seq attempt stamp a ≡ Some p → stamp_of p ≡ stamp
-answer_stamp node peer channel seq attempt stamp None p h = absurd (cc)
-answer_stamp node peer channel seq attempt stamp (Some a) p h =
-    let same : Packets.Answer (record { from = node; to = peer; channel = channel; seq = seq; attempt = attempt; number = a.0; stamp = stamp; verdict = a.1 }) ≡ p = cc in
-    sym (ap stamp_of same)
-
-packet_stamp : (stamp : ℕ) (event : Event) (o : Outcome) (p : Packet) → emitted_in stamp event o ≡ Some p → stamp_of p ≡ stamp
-packet_stamp stamp (Events.Bind node end) o p h = parcel_stamp node stamp o p h
-packet_stamp stamp (Events.Expire node peer channel) o p h = parcel_stamp node stamp o p h
-packet_stamp stamp (Events.Receive node peer number) (Out.Received channel seq attempt result) p h = answer_stamp node peer channel seq attempt stamp (answer_by result) p h
-packet_stamp stamp event o p h = absurd (cc)
-
-emitted_below : (n : ℕ) (p : Packet) (xs : List Entry) → AreBelow n xs → EmittedIn p xs → stamp_of p < n
-emitted_below n p [] below h = absurd h
-emitted_below n p (x ∷ xs) below h =
-    ⊎_elim
-    (λ (here : emitted_of x ≡ Some p). let is = packet_stamp x.stamp x.event x.outcome p here in omega (arith, is, below.0))
-    (λ (there : EmittedIn p xs). emitted_below n p xs below.1 there)
-    h
-
-taken_before : (n : ℕ) (past : List Entry) (event : Event) → AreBelow n past → is_taken_before n past event ≡ true
-taken_before n past (Events.Receive node peer number) below = by_packet (slice_get (emitted peer node past) (number - 1)) refl
-  where
-    by_packet : (p : Option Packet) → slice_get (emitted peer node past) (number - 1) ≡ p → is_packet_before n p ≡ true
-    by_packet None is = refl
-    by_packet (Some p) is = lt-ltb (stamp_of p) n (emitted_below n p past below (was_emitted peer node past (number - 1) p is).0)
-taken_before n past event below = refl
-
 -- ---- one step more
 
 pub may_step : (layout : Layout) (past : List Entry) (event : Event) → Walked layout past → is_in_range layout event ≡ true → failing layout past event ≡ None → MayFollow layout past (step_entry layout past event)
@@ -83,15 +31,12 @@ may_step layout past event w range enabled =
       in_range = range;
       enabled = enabled;
       outcome = refl;
-      later = λ i. later_than_all (step_entry layout past event) past w.below i && taken_before (length past + 1) past event w.below i;
+      later = later_than_all past (step_entry layout past event) w.below;
     }
 
 map_push : {X : Type 0} (f : Entry → X) (xs : List Entry) (x : Entry) → map f (xs ++ x ∷ []) ≡ map f xs ++ f x ∷ []
 map_push f [] x = refl
 map_push f (y ∷ xs) x = ap (λ l. f y ∷ l) (map_push f xs x)
-
-length_push : (xs : List Entry) (x : Entry) → length (xs ++ x ∷ []) ≡ suc (length xs)
-length_push xs x = omega (arith, length-append xs (x ∷ []))
 
 pub walked_more : (layout : Layout) (past : List Entry) (event : Event) → Walked layout past → is_in_range layout event ≡ true → failing layout past event ≡ None → Walked layout (past ++ step_entry layout past event ∷ [])
 walked_more layout past event w range enabled =
@@ -104,7 +49,7 @@ walked_more layout past event w range enabled =
           ∙ ap (λ (ks : List ℕ). ks ++ (length past + 1) ∷ []) w.stamped
           ∙ ap (λ (k : ℕ). range_with_len 1 (length past) ++ k ∷ []) next
           ∙ sym (range_push 1 (length past))
-          ∙ ap (range_with_len 1) (sym (length_push past x));
+          ∙ (let longer : suc (length past) ≡ length (past ++ x ∷ []) = omega (arith, length_push past x) in ap (range_with_len 1) longer);
       below =
           let longer = length_push past x in
           below_push (length (past ++ x ∷ []) + 1) past x (below_more (length past + 1) (length (past ++ x ∷ []) + 1) past (omega (arith, longer)) w.below) (omega (arith, longer));

@@ -27,3 +27,17 @@ or_first_fails false b h = refl
 pub implied : (a b : Bool) → a ≡ true → (not a || b) ≡ true → b ≡ true
 implied true b is h = h
 implied false b is h = absurd (true≢false (sym is))
+
+-- an implication whose premise fails, and one whose conclusion holds
+pub not_implied : (a b : Bool) → a ≡ false → (not a || b) ≡ true
+not_implied true b is = absurd (true≢false is)
+not_implied false b is = refl
+
+pub implied_anyway : (a b : Bool) → b ≡ true → (not a || b) ≡ true
+implied_anyway true b h = h
+implied_anyway false b h = refl
+
+-- a conjunction whose second part fails
+pub and_second_fails : (a b : Bool) → b ≡ false → (a && b) ≡ false
+and_second_fails true b h = h
+and_second_fails false b h = refl

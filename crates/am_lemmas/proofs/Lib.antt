@@ -3,3 +3,5 @@ pub mod Options
 pub mod Lists
 pub mod Numbers
 pub mod Bytes
+pub mod Numbered
+pub mod Binds

@@ -1,8 +1,9 @@
 -- Lists: their elements by place, what passes a test, and what follows of a list with no elements.
-use Rattle.std.proofs.Common.{◌≡◌, ℕ, zero, suc, ◌+◌, ◌-◌, ◌<◌, ◌≤◌, Bool, true, false, cond, ◌||◌, eqb, List, [], ◌∷◌, ◌++◌, length, take, drop, map, Some, None, refl, sym, ap, ◌∙◌, arith, inl, inr, ⊎_elim, ◌⊎◌, length-drop, slice_get, slice_set, count_by, All, AllPairs}
+use Rattle.std.proofs.Common.{◌≡◌, ℕ, zero, suc, ◌+◌, ◌-◌, ◌<◌, ◌≤◌, Bool, true, false, cond, ◌||◌, eqb, List, [], ◌∷◌, ◌++◌, length, take, drop, map, Some, None, refl, sym, ap, ◌∙◌, subst, arith, inl, inr, ⊎_elim, ◌⊎◌, length-drop, slice_get, slice_set, count_by, find, All, AllPairs}
 use Rattle.std.specs.List.{AllByRecursion, list_any, range_with_len}
 use Rattle.std.proofs.lemmas.Bool.{or_parts, eqb-true}
 use Rattle.std.proofs.lemmas.List.{take_all}
+use Rattle.std.proofs.lemmas.Option.{get_or_from_slice_get, slice_get_within}
 use Rattle.std.proofs.lemmas.List.Elements.{All-nil, All-cons}
 use Rattle.std.proofs.lemmas.List.Folds.{list_any-append}
 use Rattle.std.proofs.lemmas.List.Quantifiers.{all_pairs_push}
@@ -40,6 +41,30 @@ slice_get-set_cases (c ∷ xs) (suc k) zero v d h = inr ((λ q. omega (arith, q)
 slice_get-set_cases (c ∷ xs) (suc k) (suc j) v d h =
     ⊎_elim (λ here. inl (ap suc here.0, here.1)) (λ there. inr ((λ q. there.0 (omega (arith, q))), there.1)) (slice_get-set_cases xs k j v d h)
 
+pub slice_get-set_here : {X : Type 0} (xs : List X) (k : ℕ) (x : X) → k < length xs → slice_get (slice_set xs k x) k ≡ Some x
+slice_get-set_here [] k x less = absurd (omega (arith, less))
+slice_get-set_here (y ∷ xs) zero x less = refl
+slice_get-set_here (y ∷ xs) (suc k) x less = slice_get-set_here xs k x (omega (arith, less))
+
+pub slice_get-set_elsewhere : {X : Type 0} (xs : List X) (k j : ℕ) (x : X) → (j ≡ k → ⊥) → slice_get (slice_set xs k x) j ≡ slice_get xs j
+slice_get-set_elsewhere [] k j x other = refl
+slice_get-set_elsewhere (y ∷ xs) zero zero x other = absurd (other refl)
+slice_get-set_elsewhere (y ∷ xs) zero (suc j) x other = refl
+slice_get-set_elsewhere (y ∷ xs) (suc k) zero x other = refl
+slice_get-set_elsewhere (y ∷ xs) (suc k) (suc j) x other = slice_get-set_elsewhere xs k j x (λ same. other (ap suc same))
+
+pub slice_get-append_seam : {X : Type 0} (xs : List X) (x : X) (ys : List X) → slice_get (xs ++ x ∷ ys) (length xs) ≡ Some x
+slice_get-append_seam [] x ys = refl
+slice_get-append_seam (y ∷ xs) x ys = slice_get-append_seam xs x ys
+
+pub take-slice_get : {X : Type 0} (xs : List X) (k : ℕ) (x : X) → slice_get xs k ≡ Some x → take (suc k) xs ≡ take k xs ++ x ∷ []
+take-slice_get [] k x h = absurd (cc)
+take-slice_get (y ∷ xs) zero x h = let same : y ≡ x = cc in ap (λ z. z ∷ []) same
+take-slice_get (y ∷ xs) (suc k) x h = ap (λ zs. y ∷ zs) (take-slice_get xs k x h)
+
+pub All-slice_get : {X : Type 0} (P : X → Type 0) (xs : List X) (k : ℕ) (x : X) → All P xs → slice_get xs k ≡ Some x → P x
+All-slice_get {X = X} P xs k x all h = subst (λ (y : X). P y) (get_or_from_slice_get xs k x x h) (all k x (slice_get_within xs k x h))
+
 pub slice_get-map_Some : {X Y : Type 0} (f : X → Y) (xs : List X) (k : ℕ) (x : X) → slice_get xs k ≡ Some x → slice_get (map f xs) k ≡ Some (f x)
 slice_get-map_Some f [] k x h = absurd (cc)
 slice_get-map_Some f (y ∷ xs) zero x h = let same : y ≡ x = cc in ap (λ z. Some (f z)) same
@@ -71,6 +96,22 @@ range_push a (suc n) =
     ap (λ (ks : List ℕ). a ∷ ks) (range_push (a + 1) n ∙ ap (λ (k : ℕ). range_with_len (a + 1) n ++ k ∷ []) same)
 
 -- ---- what passes a test
+
+pub find_passes : {X : Type 0} (p : X → Bool) (xs : List X) (x : X) → find p xs ≡ Some x → p x ≡ true
+find_passes p [] x e = absurd (cc)
+find_passes p (y ∷ xs) x e = by_test p x y xs (p y) refl e (find_passes p xs x)
+  where
+    by_test : {X : Type 0} (p : X → Bool) (x y : X) (xs : List X) (b : Bool) → p y ≡ b → cond b (Some y) (find p xs) ≡ Some x → (find p xs ≡ Some x → p x ≡ true) → p x ≡ true
+    by_test p x y xs true is h more = let same : y ≡ x = cc in subst (λ w. p w ≡ true) same is
+    by_test p x y xs false is h more = more h
+
+pub list_any-counts : {X : Type 0} (p : X → Bool) (xs : List X) → list_any p xs ≡ true → 1 ≤ count_by p xs
+list_any-counts p [] e = absurd (cc)
+list_any-counts p (y ∷ xs) e = by_test p y xs (p y) refl e (list_any-counts p xs)
+  where
+    by_test : {X : Type 0} (p : X → Bool) (y : X) (xs : List X) (b : Bool) → p y ≡ b → (b || list_any p xs) ≡ true → (list_any p xs ≡ true → 1 ≤ count_by p xs) → 1 ≤ count_by p (y ∷ xs)
+    by_test p y xs true is h more = omega (arith, sum_by-cons (λ z. cond (p z) 1 0) y xs, ap {B = ℕ} (λ b. cond b 1 0) is)
+    by_test p y xs false is h more = omega (arith, more h, sum_by-cons (λ z. cond (p z) 1 0) y xs)
 
 pub count_by-none : {X : Type 0} (p : X → Bool) (xs : List X) → list_any p xs ≡ false → count_by p xs ≡ 0
 count_by-none p [] h = refl

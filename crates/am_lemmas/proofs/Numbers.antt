@@ -5,6 +5,9 @@ use Rattle.std.proofs.lemmas.Bool.{cases_lt, lt-ltb, le-ltb, eqb-true, eq-eqb, n
 pub eqb_less : (a b : ℕ) → a < b → (a == b) ≡ false
 eqb_less a b less = ne_eqb a b (λ same. omega (arith, less, same))
 
+pub eqb_more : (a b : ℕ) → b < a → (a == b) ≡ false
+eqb_more a b more = ne_eqb a b (λ same. omega (arith, more, same))
+
 pub eqb_commutes : (a b : ℕ) → (a == b) ≡ (b == a)
 eqb_commutes a b = by_tests (a == b) (b == a) refl refl
   where

@@ -41,17 +41,12 @@ use Rattle.am_local.specs.declared.work.Work.{Work}
 use Rattle.am_local.specs.declared.work.Work.TheVariants as Works
 use Rattle.am_local.specs.Driver.{DriverLog, end_moved, failing_move, is_end_of, is_frame_held_by, outcome_move, page_at, page_number}
 use Rattle.am_model.specs.Parts.{driver_of}
+use Rattle.am_model.proofs.PlaceKinds.{resident_is_framed}
 use Rattle.am_local.specs.Granted.{IsInFlight, IsMoveOf, IsWorkAt, MayDo, MayMove}
 use Rattle.am_local.specs.Interface.{InterfaceLog, arrival_in, arrive_at, bind_at, channel_by_home, channel_in, channel_of_front, event_of, expire_at, failing_at, has_try_left, home_in, home_of_front, is_home_in, needs_arrival, needs_bound, outcome_at, receiver, settle_at, settles}
 use Rattle.am_local.proofs.Frames.{none_holds}
 
 -- what is resident on the packet network lies in a frame
-in_a_frame : (place : Place) → is_resident place ≡ true → is_direct place ≡ false → is_in_a_frame place ≡ true
-in_a_frame (Frame frame) there packet = refl
-in_a_frame Direct there packet = absurd (cc)
-in_a_frame Host there packet = absurd (cc)
-in_a_frame Disk there packet = absurd (cc)
-
 -- ---- arrivals
 
 arrives : (i : InterfaceLog) (e : EndpointId) (s : State) (p : Parcel) (x : Entry) → IsWorkAt i e s (Works.Receive (Packets.Parcel p)) x → MayArrive e s x
@@ -230,7 +225,7 @@ binds_front i e end s x w = by_front (front s) refl (ready_to_bind i s end w.ena
           seq = goes.seq;
           number = goes.number;
           event = w.event ∙ ap (Events.Bind i.settings.node) same;
-          framed = in_a_frame s.head.place ready.resident w.packet;
+          framed = resident_is_framed s.head.place ready.resident w.packet;
           undrained = ready.undrained;
           is_front = at;
           outcome = is ∙ goes.outcome;
@@ -271,7 +266,7 @@ move_granted d e s x m = by_event x.event refl m.driver m.end m.enabled m.outcom
         let a = none_holds (not (is_end_of d end)) Needs.OtherNode ((not (is_resident s.head.place), Needs.NotResident) ∷ rest) on in
         let b = none_holds (not (is_resident s.head.place)) Needs.NotResident rest a.1 in
         let c = none_holds s.head.draining Needs.Draining [] b.1 in
-        record { event = is ∙ λ k. Events.Drain (by k) (of k); outcome = o; framed = in_a_frame s.head.place (not-false (is_resident s.head.place) b.0) m.packet; undrained = c.0 }
+        record { event = is ∙ λ k. Events.Drain (by k) (of k); outcome = o; framed = resident_is_framed s.head.place (not-false (is_resident s.head.place) b.0) m.packet; undrained = c.0 }
 
     unloads : (at : NodeId) (end : EndpointId) → x.event ≡ Events.Unload at end → at ≡ node → end ≡ e → failing_move d s (Events.Unload at end) ≡ None → x.outcome ≡ Out.Silent → MayUnload node e s x
     unloads at end is by of on o =
@@ -284,7 +279,7 @@ move_granted d e s x m = by_event x.event refl m.driver m.end m.enabled m.outcom
         record {
           event = is ∙ λ k. Events.Unload (by k) (of k);
           outcome = o;
-          framed = in_a_frame s.head.place (not-false (is_resident s.head.place) b.0) m.packet;
+          framed = resident_is_framed s.head.place (not-false (is_resident s.head.place) b.0) m.packet;
           draining = not-false s.head.draining c.0;
           none_in_flight = eqb-true (length s.body.in_flight) 0 (not-false (length s.body.in_flight == 0) f.0);
         }

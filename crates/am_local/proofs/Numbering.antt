@@ -31,6 +31,7 @@ use Rattle.am_local.specs.declared.work.Work.{Work}
 use Rattle.am_local.specs.declared.work.Work.TheVariants as Works
 use Rattle.am_local.specs.Interface.{InterfaceLog, arrival_in, arrive_at, bind_at, channel_in, channel_of_front, event_of, expire_at, has_try_left, home_in, outcome_at, settle_at}
 use Rattle.am_model.specs.Packets.{receiver_of, from_of}
+use Rattle.am_model.proofs.Marks.{settle_answers}
 use Rattle.am_local.specs.Numbered.{AreNumbered, HasNextNumber, IsNextPacket, IsPacketAt}
 use Rattle.am_local.proofs.Growing.{emitted_append}
 use Rattle.am_local.proofs.Touched.{settle_silent, settling_silent}
@@ -94,24 +95,13 @@ arrive_after layout node peer past stamp channel seq attempt m Stale = tt
 arrive_after layout node peer past stamp channel seq attempt m (Again v) = record { from = refl; number = refl; stamped = refl }
 arrive_after layout node peer past stamp channel seq attempt m Fresh = decided_next node peer past stamp channel seq attempt m (verdict (state_of layout past m.dest) m)
 
-settle_after : (layout : Layout) (c : Channel) (past : List Entry) (p : AnswerPacket) (m : Option Message) → answer_by (settle layout c past p m) ≡ None
-settle_after layout c past p None = refl
-settle_after layout c past p (Some m) = by_test ((p.seq == sequence c past) && counts p.verdict (p.attempt == attempt c past))
-  where
-    flight : Option Flying
-    flight = flying_of m.serial (state_of layout past m.serial.source).body.in_flight
-
-    by_test : (b : Bool) → answer_by (if b then settle_by layout.bounces m (bounced flight) p.verdict else Got.Nothing) ≡ None
-    by_test true = settling_silent layout.bounces m (bounced flight) p.verdict
-    by_test false = refl
-
 receive_after : (layout : Layout) (node peer : NodeId) (number : ℕ) (past : List Entry) (stamp : ℕ) (p : Option Packet) → IsNextOf node past stamp (emitted_in stamp (Events.Receive node peer number) (receive layout node peer past p))
 receive_after layout node peer number past stamp None = tt
 receive_after layout node peer number past stamp (Some (Packets.Parcel p)) =
     arrive_after layout node peer past stamp p.channel p.seq p.attempt p.message (arrival (mark (channel_to node peer p.channel) past) p.seq p.attempt)
 receive_after layout node peer number past stamp (Some (Packets.Answer p)) =
     let c : Channel = channel_to node peer p.channel in
-    silent_next node peer past stamp p.channel p.seq p.attempt (settle layout c past p (bound_message c past)) (settle_after layout c past p (bound_message c past))
+    silent_next node peer past stamp p.channel p.seq p.attempt (settle layout c past p (bound_message c past)) (settle_answers layout c past p (bound_message c past))
 
 bind_after : (layout : Layout) (node : NodeId) (past : List Entry) (stamp : ℕ) (q : Option Queued) → IsNextOf node past stamp (parcel node stamp (bind layout node past q))
 bind_after layout node past stamp None = tt

@@ -1,6 +1,7 @@
 -- What an interface says of its work is what the whole journal says.
 use Rattle.std.specs.Prelude.{nat_lt, slice_get, is_none, is_some, not}
 use Rattle.std.proofs.Common.{◌≡◌, ℕ, zero, suc, ◌+◌, ◌-◌, ◌==◌, Bool, true, false, ◌&&◌, List, [], ◌∷◌, Option, Some, None, refl, sym, ap, ◌∙◌, length, arith, ◌≤◌, ltb-true, if◌then◌else◌}
+use Rattle.std.proofs.lemmas.Option.{slice_get_within}
 use Rattle.am_names.specs.declared.EndpointId.{EndpointId}
 use Rattle.am_names.specs.declared.NodeId.{NodeId}
 use Rattle.am_names.specs.declared.Message.{Message}
@@ -140,11 +141,6 @@ outcome_same layout past i s (Works.Expire peer channel) part on =
     ap (expire layout i.settings.node peer channel past) (same_ends layout past i part peer channel).bound
     ∙ expire_same layout past i s part peer channel (bound_message (channel_in i peer channel) i.log) on.state
 
-got_within : {X : Type 0} (xs : List X) (k : ℕ) (p : X) → slice_get xs k ≡ Some p → k + 1 ≤ length xs
-got_within [] k p e = absurd (cc)
-got_within (x ∷ xs) zero p e = omega arith
-got_within (x ∷ xs) (suc k) p e = omega (arith, got_within xs k p e)
-
 not_beyond : (a n : ℕ) → (n - 1) + 1 ≤ a → nat_lt a n ≡ false
 not_beyond a n h = by_test (nat_lt a n) refl
   where
@@ -154,7 +150,7 @@ not_beyond a n h = by_test (nat_lt a n) refl
 
 received_failing : (layout : Layout) (past : List Entry) (i : InterfaceLog) (peer : NodeId) (number : ℕ) (p : Packet) → IsPart layout past i → slice_get (emitted peer i.settings.node past) (number - 1) ≡ Some p → first_holding ((layout.direct, Needs.NotPacket) ∷ (nat_lt (length (emitted peer i.settings.node past)) number, Needs.NoPacket) ∷ []) ≡ None
 received_failing layout past i peer number p part e =
-    λ k. first_holding ((part.settings.packet k, Needs.NotPacket) ∷ (not_beyond (length (emitted peer i.settings.node past)) number (got_within (emitted peer i.settings.node past) (number - 1) p e) k, Needs.NoPacket) ∷ [])
+    λ k. first_holding ((part.settings.packet k, Needs.NotPacket) ∷ (not_beyond (length (emitted peer i.settings.node past)) number (omega (arith, slice_get_within (emitted peer i.settings.node past) (number - 1) p e)) k, Needs.NoPacket) ∷ [])
 
 -- whether an endpoint is of the interface's node
 same_home : (layout : Layout) (past : List Entry) (i : InterfaceLog) → IsPart layout past i → (e : EndpointId) → is_home layout e i.settings.node ≡ is_home_in i e

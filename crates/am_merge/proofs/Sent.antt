@@ -8,7 +8,7 @@ use Rattle.am_model.specs.Layout.{AllAre}
 use Rattle.am_model.specs.Channels.{emitted}
 use Rattle.am_model.specs.Packets.{stamp_of}
 use Rattle.am_model.proofs.Ends.{EmittedIn, was_emitted}
-use Rattle.am_local.proofs.Following.{emitted_stamp, stamp_in}
+use Rattle.am_model.proofs.Stamps.{emitted_stamp, stamp_in}
 use Rattle.am_local.proofs.Growing.{emitted_append}
 
 -- none is stamped below

@@ -4,6 +4,7 @@ use Rattle.std.proofs.Common.{◌≡◌, ℕ, ◌+◌, ◌≤◌, Bool, true, fa
 use Rattle.std.specs.List.{count_by, find, list_any}
 use Rattle.std.proofs.lemmas.Bool.{and_parts, and_from}
 use Rattle.std.proofs.lemmas.List.Sums.{sum_by_push, sum_by-cons}
+use Rattle.am_lemmas.proofs.Lists.{find_passes, list_any-counts}
 use Rattle.am_names.specs.Names.{same_serial, is_answer, is_request, is_request_kind}
 use Rattle.am_names.specs.declared.Message.{Message}
 use Rattle.am_names.specs.declared.MsgKind.{MsgKind}
@@ -18,7 +19,7 @@ use Rattle.am_office.specs.Entries.{is_serial}
 use Rattle.am_model.specs.Valid.{answers, has_arrived, rise}
 use Rattle.am_model.proofs.Names.{same_serial-is, same_serial-refl}
 use Rattle.am_model.proofs.Received.{bit, find_counts}
-use Rattle.am_model.proofs.Records.{any_counts, arrived_counts, arrives_all, arrives_only, arrives_or_waits, found_is, none_found, one_record, passing, without_counts}
+use Rattle.am_model.proofs.Records.{arrived_counts, arrives_all, arrives_only, arrives_or_waits, none_found, one_record, passing, without_counts}
 use Rattle.am_model.proofs.Sizes.{waiting_kept}
 
 pub record AreMatched (received : List Message) (awaited : List Awaited) : Type 0 where
@@ -55,7 +56,7 @@ each_waiting r q xs = by_found (find (waits_for q) xs) refl (without_counts (has
   where
     by_found : (f : Option Awaited) → find (waits_for q) xs ≡ f → count_by (has_arrived r) (without_waiting q xs) + passing (has_arrived r) (find (waits_for q) xs) ≡ count_by (has_arrived r) xs → count_by (has_arrived r) (without_waiting q xs) ≡ count_by (has_arrived r) xs
     by_found None is counts = omega (arith, counts, ap (passing (has_arrived r)) is)
-    by_found (Some a) is counts = omega (arith, counts, ap (passing (has_arrived r)) is, has_arrived_waits r q a (found_is (waits_for q) xs a is))
+    by_found (Some a) is counts = omega (arith, counts, ap (passing (has_arrived r)) is, has_arrived_waits r q a (find_passes (waits_for q) xs a is))
 
 pub matched_waiting : (q : Serial) (received : List Message) (xs : List Awaited) → AreMatched received xs → AreMatched received (without_waiting q xs)
 matched_waiting q received xs matched = record { each = λ r. matched.each r ∙ sym (each_waiting r q xs); all = matched.all ∙ sym (waiting_kept q xs) }
@@ -91,7 +92,7 @@ matched_answer last q m received xs kind about rising waits matched =
     })
   where
     one_waits : count_by (waits_for q) xs ≡ 1
-    one_waits = omega (arith, any_counts (waits_for q) xs waits, one_record 0 last q xs rising, arrives_or_waits q xs)
+    one_waits = omega (arith, list_any-counts (waits_for q) xs waits, one_record 0 last q xs rising, arrives_or_waits q xs)
 
     said : (r : Serial) → bit (answers r m) ≡ bit (same_serial r q)
     said r = ap (λ b. bit ((if b then false else true) && is_serial r m.about)) kind ∙ ap (λ w. bit (is_serial r w)) about
@@ -133,7 +134,7 @@ matched_settled last q m received xs found kind about rising matched = by_record
     has_come : (a : Awaited) → find (is_of q) xs ≡ Some a → (b : Bool) → a.arrived ≡ b → b ≡ true
     has_come a is true come = refl
     has_come a is false come =
-        absurd (never (omega (arith, without_counts (waits_for q) (is_of q) xs, ap (passing (waits_for q)) is, ap bit (and_from (same_serial q a.serial) (not a.arrived) (found_is (is_of q) xs a is) (ap not come)), one_arrived, arrives_or_waits q xs, one_record 0 last q xs rising)))
+        absurd (never (omega (arith, without_counts (waits_for q) (is_of q) xs, ap (passing (waits_for q)) is, ap bit (and_from (same_serial q a.serial) (not a.arrived) (find_passes (is_of q) xs a is) (ap not come)), one_arrived, arrives_or_waits q xs, one_record 0 last q xs rising)))
       where
         never : 1 ≤ 0 → ⊥
         never h = omega (arith, h)
@@ -145,7 +146,7 @@ matched_settled last q m received xs found kind about rising matched = by_record
         never h = omega (arith, h)
     by_record (Some a) is =
         let come = has_come a is a.arrived refl in
-        let its : q ≡ a.serial = same_serial-is q a.serial (found_is (is_of q) xs a is) in
+        let its : q ≡ a.serial = same_serial-is q a.serial (find_passes (is_of q) xs a is) in
         record {
           each = λ r.
               omega (arith, matched.each r, find_counts (answers r) is_answer received m found, said r, without_counts (has_arrived r) (is_of q) xs, ap (passing (has_arrived r)) is, ap (λ b. bit (same_serial r a.serial && b)) come, and_true (same_serial r a.serial), ap (λ (w : Serial). bit (same_serial r w)) its);
@@ -160,7 +161,7 @@ pub matched_ran : (last : ℕ) (m : Message) (received : List Message) (xs : Lis
 matched_ran last m received xs found formed rising matched = by_about m.about refl
   where
     kind : is_answer m ≡ true
-    kind = found_is is_answer received m found
+    kind = find_passes is_answer received m found
 
     request_is : (b : Bool) → is_request m ≡ b → (if b then false else true) ≡ true → is_request m ≡ false
     request_is true is h = absurd (true≢false (sym h))

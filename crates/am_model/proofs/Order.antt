@@ -16,13 +16,12 @@ use Rattle.am_office.specs.declared.Event.TheVariants as Events
 use Rattle.am_office.specs.declared.Outcome.{Outcome}
 use Rattle.am_office.specs.declared.Outcome.TheVariants as Out
 use Rattle.am_office.specs.declared.Place.{Place}
-use Rattle.am_office.specs.declared.Place.TheVariants.{Host, Disk, Frame, Direct}
 use Rattle.am_office.specs.declared.Received.{Received}
 use Rattle.am_office.specs.declared.Received.TheVariants as Got
 use Rattle.am_office.specs.declared.Entry.{Entry}
 use Rattle.am_model.specs.declared.Flying.{Flying}
 use Rattle.am_model.specs.declared.Queued.{Queued}
-use Rattle.am_model.specs.Endpoint.{State, fresh, front, is_on_host, is_in_a_frame}
+use Rattle.am_model.specs.Endpoint.{State, fresh, front, is_in_a_frame}
 use Rattle.am_model.specs.Calls.{outcome_of_call}
 use Rattle.am_model.specs.Changes.{after, bound, called, carried, changed, expired, left, paged_in, paged_out, put, reached, received, with_marked}
 use Rattle.am_model.specs.Allowed.{EndsFlight, MayArrive, MayBind, MayCarry, MayDrain, MayLoad, MayPageIn, MayPageOut, MaySettle, MayUnload, are_numbers_in_range, arrived_message, is_well_formed}
@@ -32,7 +31,7 @@ use Rattle.am_model.specs.Valid.{is_own, is_own_answer, is_own_flight, is_own_re
 use Rattle.am_model.proofs.Valid.{Parts, arrived_parts, bound_parts, called_parts, carried_parts, flight_parts, fresh_parts}
 use Rattle.am_model.proofs.Validity.{all_weaker, own_formed, own_front}
 use Rattle.am_model.proofs.Sound.{IsSound, is_flight_formed, is_queued_answer, is_queued_request, flight_sound, sound_arrived, sound_bound, sound_called, sound_carried, sound_fresh}
-use Rattle.am_model.proofs.PlaceKinds.{on_disk_unframed}
+use Rattle.am_model.proofs.PlaceKinds.{on_disk_unframed, on_host_unframed}
 
 -- a change where the endpoint stays put and nothing takes off
 pub record StaysPut (s t : State) : Type 0 where
@@ -210,17 +209,11 @@ order_unloaded limit pool node e s x may le order = rw may.event (record { withi
 pub order_loaded : (limit : ℕ) (pool : Option ℕ) (node : NodeId) (e : EndpointId) (s : State) (x : Entry) → MayLoad node e s x → KeepsOrder limit pool e s x
 order_loaded limit pool node e s x may le order = rw may.event (record { within = order.within; valid = order.valid; grounded = λ there. absurd (resident_only true refl there) })
 
-host_grounded : (place : Place) → is_on_host place ≡ true → is_in_a_frame place ≡ false
-host_grounded Host is = refl
-host_grounded Disk is = refl
-host_grounded (Frame frame) is = absurd (cc)
-host_grounded Direct is = absurd (cc)
-
 pub order_paged_out : (limit : ℕ) (pool : Option ℕ) (node : NodeId) (e : EndpointId) (s : State) (x : Entry) → MayPageOut node e s x → KeepsOrder limit pool e s x
 order_paged_out limit pool node e s x may le order = rw may.event (by_outcome x.outcome may.outcome)
   where
     by_outcome : (o : Outcome) → (o ≡ Out.Done) ⊎ (o ≡ Out.Failed) → IsInOrder pool e (paged_out s o)
-    by_outcome Out.Done either = record { within = order.within; valid = order.valid; grounded = λ there. order.grounded (host_grounded s.head.place may.on_host) }
+    by_outcome Out.Done either = record { within = order.within; valid = order.valid; grounded = λ there. order.grounded (on_host_unframed s.head.place may.on_host) }
     by_outcome o either = order
 
 pub order_paged_in : (limit : ℕ) (pool : Option ℕ) (outcome : Outcome) (node : NodeId) (e : EndpointId) (s : State) (x : Entry) → MayPageIn outcome node e s x → KeepsOrder limit pool e s x

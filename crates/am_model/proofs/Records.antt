@@ -1,7 +1,7 @@
 -- The records of the requests whose replies are awaited.
 use Rattle.std.specs.Prelude.{nat_le, nat_lt, not, ◌||◌}
-use Rattle.std.proofs.Common.{◌≡◌, ℕ, ◌+◌, ◌≤◌, ◌<◌, Bool, true, false, cond, ◌&&◌, List, [], ◌∷◌, ◌++◌, map, Option, Some, None, refl, sym, ap, ◌∙◌, subst, arith, true≢false, if◌then◌else◌}
-use Rattle.std.specs.List.{count_by, find, list_any}
+use Rattle.std.proofs.Common.{◌≡◌, ℕ, ◌+◌, ◌≤◌, ◌<◌, Bool, true, false, cond, ◌&&◌, List, [], ◌∷◌, ◌++◌, map, Option, Some, None, refl, sym, ap, ◌∙◌, arith, true≢false, if◌then◌else◌}
+use Rattle.std.specs.List.{count_by, find}
 use Rattle.std.proofs.lemmas.Bool.{and_parts, and_from, leb-true, le-leb, ltb-true, lt-ltb}
 use Rattle.std.proofs.lemmas.List.Sums.{sum_by-cons}
 use Rattle.am_names.specs.Names.{same_serial}
@@ -28,15 +28,6 @@ without_counts p t (x ∷ xs) = by_test p t x xs (t x) (without_counts p t xs)
     by_test p t x xs true more = omega (arith, sum_by-cons (λ y. cond (p y) 1 0) x xs)
     by_test p t x xs false more = omega (arith, more, sum_by-cons (λ y. cond (p y) 1 0) x xs, sum_by-cons (λ y. cond (p y) 1 0) x (without_first t xs))
 
--- what is found passes
-pub found_is : {X : Type 0} (t : X → Bool) (xs : List X) (x : X) → find t xs ≡ Some x → t x ≡ true
-found_is t [] x e = absurd (cc)
-found_is t (y ∷ xs) x e = by_test t x y xs (t y) refl e (found_is t xs x)
-  where
-    by_test : {X : Type 0} (t : X → Bool) (x y : X) (xs : List X) (b : Bool) → t y ≡ b → cond b (Some y) (find t xs) ≡ Some x → (find t xs ≡ Some x → t x ≡ true) → t x ≡ true
-    by_test t x y xs true is h more = let same : y ≡ x = cc in subst (λ w. t w ≡ true) same is
-    by_test t x y xs false is h more = more h
-
 pub none_found : {X : Type 0} (t : X → Bool) (xs : List X) → find t xs ≡ None → count_by t xs ≡ 0
 none_found t [] e = refl
 none_found t (y ∷ xs) e = by_test t y xs (t y) refl e (none_found t xs)
@@ -44,15 +35,6 @@ none_found t (y ∷ xs) e = by_test t y xs (t y) refl e (none_found t xs)
     by_test : {X : Type 0} (t : X → Bool) (y : X) (xs : List X) (b : Bool) → t y ≡ b → cond b (Some y) (find t xs) ≡ None → (find t xs ≡ None → count_by t xs ≡ 0) → count_by t (y ∷ xs) ≡ 0
     by_test t y xs true is h more = absurd (cc)
     by_test t y xs false is h more = omega (arith, more h, sum_by-cons (λ z. cond (t z) 1 0) y xs, ap bit is)
-
--- where some element passes there is one
-pub any_counts : {X : Type 0} (t : X → Bool) (xs : List X) → list_any t xs ≡ true → 1 ≤ count_by t xs
-any_counts t [] e = absurd (cc)
-any_counts t (y ∷ xs) e = by_test t y xs (t y) refl e (any_counts t xs)
-  where
-    by_test : {X : Type 0} (t : X → Bool) (y : X) (xs : List X) (b : Bool) → t y ≡ b → (b || list_any t xs) ≡ true → (list_any t xs ≡ true → 1 ≤ count_by t xs) → 1 ≤ count_by t (y ∷ xs)
-    by_test t y xs true is h more = omega (arith, sum_by-cons (λ z. cond (t z) 1 0) y xs, ap bit is)
-    by_test t y xs false is h more = omega (arith, more h, sum_by-cons (λ z. cond (t z) 1 0) y xs)
 
 -- rising counts
 

@@ -164,7 +164,7 @@ within_requested pool e s index handler words (Some refusal) mapping is w = w
 within_requested pool e s index handler words None None is w = w
 within_requested pool e s index handler words None (Some mapping) is w = let room = request_room pool s index is in within_accepted index (request_message e s mapping handler words) s refl room.0 room.1 w
 
-answer_kind : (e : EndpointId) (s : State) (m : Message) (kind : Option HandlerKind) → is_request (answer e s m kind) ≡ false
+pub answer_kind : (e : EndpointId) (s : State) (m : Message) (kind : Option HandlerKind) → is_request (answer e s m kind) ≡ false
 answer_kind e s m (Some (Echo to)) = refl
 answer_kind e s m (Some (Add to)) = refl
 answer_kind e s m (Some Note) = refl

@@ -1,5 +1,5 @@
 -- Entries that leave a part of an endpoint as it was: its place, its body, whether it is closed.
-use Rattle.std.proofs.Common.{◌≡◌, Bool, true, false, Option, Some, None, refl, ◌∙◌, if◌then◌else◌}
+use Rattle.std.proofs.Common.{◌≡◌, Bool, true, false, Some, None, refl, ◌∙◌, if◌then◌else◌}
 use Rattle.am_names.specs.declared.Cause.TheVariants as Causes
 use Rattle.am_names.specs.declared.EndpointId.{EndpointId}
 use Rattle.am_names.specs.Names.{same_end}

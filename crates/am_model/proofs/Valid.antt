@@ -6,6 +6,7 @@ use Rattle.std.specs.Prelude.{slice_set}
 use Rattle.std.proofs.lemmas.Bool.{and_parts, and_from, ltb-true, eqb-true, eqb-false}
 use Rattle.std.proofs.lemmas.List.{append-nil, get_or-set_other, length-set}
 use Rattle.std.proofs.lemmas.List.Folds.{list_all-map}
+use Rattle.am_lemmas.proofs.Options.{not_some-None}
 use Rattle.am_names.specs.Names.{has_serial, same_end, is_answer}
 use Rattle.am_names.specs.Rules.{is_transient}
 use Rattle.am_names.specs.declared.Cause.{Cause}
@@ -199,17 +200,13 @@ map_fails pool s index share h =
     h in
     (all.1.0, all.1.1.0, all.1.1.1.0)
 
-no_entry : (f : Option Mapping) → is_some f ≡ false → f ≡ None
-no_entry None h = refl
-no_entry (Some m) h = absurd (true≢false h)
-
 map_parts : (pool : Option ℕ) (e : EndpointId) (s : State) (index : ℕ) (m : Mapping) (r : Option Refusal) → length s.body.mapped ≡ 16 → map_refusal pool s index m.credits ≡ r → Parts e pool s.body → Parts e pool (called s (Calls.Map index m.name m.tag m.credits) (unless r Out.Done)).body
 map_parts pool e s index m (Some refusal) slots is p = p
 map_parts pool e s index m None slots is p =
     let h = map_fails pool s index m.credits is in
     record {
       handlers = p.handlers;
-      records = records_mapped e pool index m s.body (omega (arith, slots, leb-false 16 index h.0)) (no_entry (entry_at s.body.mapped index) h.1) h.2 p.records;
+      records = records_mapped e pool index m s.body (omega (arith, slots, leb-false 16 index h.0)) (not_some-None (entry_at s.body.mapped index) h.1) h.2 p.records;
       messages = record { requests = p.messages.requests; replies = p.messages.replies; in_flight = p.messages.in_flight; notices = p.messages.notices };
       received = p.received;
       matched = p.matched;

@@ -16,7 +16,7 @@ use Rattle.am_model.specs.Channels.{emitted, is_on_link}
 use Rattle.am_model.specs.Merge.{is_ordered}
 use Rattle.am_model.specs.Packets as model
 use Rattle.am_model.proofs.Names.{same_node-refl}
-use Rattle.am_local.proofs.Following.{emitted_stamp, stamp_in}
+use Rattle.am_model.proofs.Stamps.{emitted_stamp, stamp_in}
 use Rattle.am_local.proofs.Growing.{emitted_append}
 use Rattle.am_local.proofs.Parts.{emitted_own}
 use Rattle.am_plan.specs.declared.plan.LinkFault.{LinkFault}

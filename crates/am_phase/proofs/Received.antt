@@ -11,7 +11,7 @@ use Rattle.am_model.specs.Channels.{emitted, is_on_link}
 use Rattle.am_model.specs.Layout.{AllAre}
 use Rattle.am_model.specs.History as model
 use Rattle.am_model.specs.Packets as packets
-use Rattle.am_local.proofs.Following.{emitted_stamp, stamp_in}
+use Rattle.am_model.proofs.Stamps.{emitted_stamp, stamp_in}
 use Rattle.am_local.proofs.Numbering.{next_emitted, numbered_place}
 use Rattle.am_model.specs.Packets.{receiver_of, from_of, number_of, restamped}
 use Rattle.am_local.specs.Numbered.{HasNextNumber, IsNextPacket, IsPacketAt}

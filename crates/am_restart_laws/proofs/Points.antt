@@ -1,15 +1,16 @@
 -- The receiver of a session in numbers, and what its arrivals mean.
 use Rattle.std.specs.Prelude.{nat_lt}
-use Rattle.std.proofs.Common.{◌≡◌, ℕ, ◌≤◌, ◌<◌, Bool, true, false, ◌==◌, refl, sym, ap, ◌∙◌, subst, arith, if◌then◌else◌}
-use Rattle.std.proofs.lemmas.Bool.{ltb-true, ltb-false, eqb-true, eqb-false}
+use Rattle.std.proofs.Common.{◌≡◌, ℕ, ◌≤◌, ◌<◌, Bool, true, false, ◌==◌, refl, sym, ap, ◌∙◌, subst, arith, if◌then◌else◌, ◌≢◌, inl, inr}
+use Rattle.std.proofs.lemmas.Bool.{ltb-true, ltb-false, eqb-true}
 use Rattle.am_names.specs.declared.Verdict.{Verdict}
 use Rattle.am_names.specs.declared.Verdict.TheVariants as Verdicts
 use Rattle.am_model.specs.Channels.{Mark, Stale, Again, Fresh, arrival, arrival_at}
+use Rattle.am_model.proofs.Marks.{IsPast, fresh_means}
 use Rattle.am_restart.specs.declared.ends.Receiver.{Receiver}
 use Rattle.am_restart.specs.declared.packets.SessionParcel.{SessionParcel}
 use Rattle.am_restart.specs.Ends as Ends
 use Rattle.am_restart.specs.Ends.{new_receiver}
-use Rattle.am_restart_laws.proofs.Keys.{Point, Numbers, IsClosed, IsSettled, IsFresh, met, kept, restarted, closed_met, settled_met, closed_kept, settled_kept, closed_restarted, settled_restarted}
+use Rattle.am_restart_laws.proofs.Keys.{Point, Numbers, IsClosed, IsSettled, IsFresh, kept, restarted, closed_met, settled_met, closed_kept, settled_kept, closed_restarted, settled_restarted}
 
 abbrev pub weight : Verdict → ℕ
 weight Verdicts.Accepted = 1
@@ -66,31 +67,18 @@ has_met r sender = by_test (nat_lt r.newest sender) refl
           newest = λ le. let e : (Ends.met sender r).newest ≡ r.newest = ap (λ (q : Receiver). q.newest) is in omega (arith, h, le, e);
         }
 
--- what a fresh parcel is, against the mark
-pub record IsPast (m : Mark) (seq attempt : ℕ) : Type 0 where
+light : (v : Verdict) → v ≢ Verdicts.Accepted → weight v ≡ 0
+light Verdicts.Accepted other = absurd (other refl)
+light (Verdicts.Refused cause) other = refl
+
+-- what a fresh parcel is, against the mark, in numbers
+pub record IsPastInNumbers (m : Mark) (seq attempt : ℕ) : Type 0 where
   pub later : m.seq ≤ seq
   pub again : seq ≡ m.seq → (weight m.verdict ≡ 0) × (m.attempt < attempt)
 
-fresh_at : (m : Mark) (seq attempt : ℕ) (v : Verdict) → m.verdict ≡ v → arrival_at m v seq attempt ≡ Fresh → IsPast m seq attempt
-fresh_at m seq attempt Verdicts.Accepted is e = by_tests (nat_lt seq m.seq) (seq == m.seq) refl refl e
-  where
-    by_tests : (a b : Bool) → nat_lt seq m.seq ≡ a → (seq == m.seq) ≡ b → (if a then Stale else (if b then Again Verdicts.Accepted else Fresh)) ≡ Fresh → IsPast m seq attempt
-    by_tests true b lt eq f = absurd (cc)
-    by_tests false true lt eq f = absurd (cc)
-    by_tests false false lt eq f =
-        record { later = ltb-false seq m.seq lt; again = λ same. absurd (eqb-false seq m.seq eq same) }
-fresh_at m seq attempt (Verdicts.Refused cause) is e = by_tests (nat_lt seq m.seq) (seq == m.seq) (nat_lt attempt m.attempt) (attempt == m.attempt) refl refl refl refl e
-  where
-    by_tests : (a b c d : Bool) → nat_lt seq m.seq ≡ a → (seq == m.seq) ≡ b → nat_lt attempt m.attempt ≡ c → (attempt == m.attempt) ≡ d → (if a then Stale else (if b then (if c then Stale else (if d then Again (Verdicts.Refused cause) else Fresh)) else Fresh)) ≡ Fresh → IsPast m seq attempt
-    by_tests true b c d lt eq lta eqa f = absurd (cc)
-    by_tests false true true d lt eq lta eqa f = absurd (cc)
-    by_tests false true false true lt eq lta eqa f = absurd (cc)
-    by_tests false true false false lt eq lta eqa f =
-        let h : m.attempt ≤ attempt = ltb-false attempt m.attempt lta in
-        let n : attempt ≡ m.attempt → ⊥ = eqb-false attempt m.attempt eqa in
-        record { later = ltb-false seq m.seq lt; again = λ same. (ap weight is, omega (arith, h, n)) }
-    by_tests false false c d lt eq lta eqa f =
-        record { later = ltb-false seq m.seq lt; again = λ same. absurd (eqb-false seq m.seq eq same) }
+past_in_numbers : (m : Mark) (seq attempt : ℕ) → IsPast m seq attempt → IsPastInNumbers m seq attempt
+past_in_numbers m seq attempt (inl above) = record { later = omega (arith, above); again = λ same. absurd (omega (arith, above, same)) }
+past_in_numbers m seq attempt (inr at) = record { later = omega (arith, at.0); again = λ same. (light m.verdict at.2, at.1) }
 
 -- what a parcel that is answered again is
 pub record IsAt (m : Mark) (v : Verdict) (seq attempt : ℕ) : Type 0 where
@@ -122,7 +110,7 @@ again_at m seq attempt (Verdicts.Refused cause) w is e = by_tests (nat_lt seq m.
 pub fresh_of : (r : Receiver) (p : SessionParcel) → p.receiver ≡ r.incarnation → r.newest ≤ p.sender → arrival (Ends.met p.sender r).end p.seq p.attempt ≡ Fresh → IsFresh (point (Ends.met p.sender r)) (numbers p)
 fresh_of r p own le e =
     let m : HasMet r p.sender = has_met r p.sender in
-    let past : IsPast (Ends.met p.sender r).end p.seq p.attempt = fresh_at (Ends.met p.sender r).end p.seq p.attempt (Ends.met p.sender r).end.verdict refl e in
+    let past = past_in_numbers (Ends.met p.sender r).end p.seq p.attempt (fresh_means (Ends.met p.sender r).end p.seq p.attempt e) in
     record { own = own ∙ sym m.incarnation; met = sym (m.newest le); later = past.later; again = past.again }
 
 pub again_of : (r : Receiver) (p : SessionParcel) (v : Verdict) → arrival (Ends.met p.sender r).end p.seq p.attempt ≡ Again v → IsAt (Ends.met p.sender r).end v p.seq p.attempt

@@ -3,6 +3,7 @@ use Rattle.std.specs.Prelude.{slice_get, slice_index_or, is_some, ◌==◌, if�
 use Rattle.std.specs.List.{All, AllPairs, list_any}
 use Rattle.std.proofs.Common.{◌≡◌, ℕ, zero, suc, ◌+◌, ◌<◌, ◌≤◌, Bool, true, false, ◌||◌, List, [], ◌∷◌, ◌++◌, length, Option, Some, None, refl, sym, ap, ◌∙◌, subst, arith, eq-eqb, eqb-true, ⊎_elim}
 use Rattle.std.proofs.lemmas.Bool.{cases_lt, cases_order, eqb-false}
+use Rattle.std.proofs.lemmas.Option.{slice_get_past, slice_get_within}
 use Rattle.am_lemmas.proofs.Lists.{slice_get-map_Some, Some-slice_get_map}
 use Rattle.am_marks.specs.Places.{IsNextMark, is_marked}
 use Rattle.am_marks.specs.declared.Marks.{Marks}
@@ -37,16 +38,6 @@ use Rattle.am_scripted.proofs.Looking.{HoldsNothing, IsQuietOnDisk, IsSeen, arri
 
 -- ---- places
 
-pub got_within : {X : Type 0} (xs : List X) (k : ℕ) (x : X) → slice_get xs k ≡ Some x → k < length xs
-got_within [] k x h = absurd (cc)
-got_within (y ∷ xs) zero x h = omega arith
-got_within (y ∷ xs) (suc k) x h = let more = got_within xs k x h in omega (arith, more)
-
-past_none : {X : Type 0} (xs : List X) (k : ℕ) → length xs ≤ k → slice_get xs k ≡ None
-past_none [] k h = refl
-past_none (y ∷ xs) zero h = absurd (omega (arith, h))
-past_none (y ∷ xs) (suc k) h = past_none xs k (omega (arith, h))
-
 rises_at : (ends : List EndLine) → AllPairs (λ (a b : EndLine). a.id.0 < b.id.0) ends → (j : ℕ) (d : EndLine) → j < length ends → j ≤ (slice_index_or ends j d).id.0
 rises_at ends rise zero d lt = omega arith
 rises_at ends rise (suc j) d lt =
@@ -67,8 +58,8 @@ places_few s k ok lt = few s s.ends k ok.ends ok.ends_rise lt
 
 same_place : (ends : List EndLine) → AllPairs (λ (a b : EndLine). a.id.0 < b.id.0) ends → (i j : ℕ) (a b : EndLine) → slice_get ends i ≡ Some a → slice_get ends j ≡ Some b → a.id.0 ≡ b.id.0 → i < j → ⊥
 same_place ends rise i j a b at to same lt =
-    let high = got_within ends j b to in
-    let low = got_within ends i a at in
+    let high = slice_get_within ends j b to in
+    let low = slice_get_within ends i a at in
     let first : Some (slice_index_or ends i a) ≡ Some a = sym (index_got ends i a low) ∙ at in
     let second : Some (slice_index_or ends j a) ≡ Some b = sym (index_got ends j a high) ∙ to in
     let less = rise i j a lt high in
@@ -296,7 +287,7 @@ marked_all layout past n m all to =
   where
     so : (told : State → Bool) (marks : Marks) → IsMarkedTo told layout past n marks → AreOf told layout past marks
     so told marks to k =
-        ⊎_elim (λ (lt : k < n). to.below k lt) (λ (le : n ≤ k). (to.rest k le ∙ sym (ap (told_at told layout past) (past_none layout.ends k (omega (arith, all, le)))))) (cases_lt k n)
+        ⊎_elim (λ (lt : k < n). to.below k lt) (λ (le : n ≤ k). (to.rest k le ∙ sym (ap (told_at told layout past) (slice_get_past layout.ends k (omega (arith, all, le)))))) (cases_lt k n)
 
 -- ---- the next endpoint that shows something
 

@@ -4,7 +4,7 @@ use Rattle.std.proofs.Common.{◌≡◌, ℕ, ◌+◌, ◌<◌, ◌≤◌, Bool,
 use Rattle.std.specs.List.{count_by, list_any}
 use Rattle.std.proofs.lemmas.List.{length-set, length-map}
 use Rattle.std.proofs.lemmas.List.Sums.{sum_by-cons, sum_by_push}
-use Rattle.am_lemmas.proofs.Lists.{count_by-none}
+use Rattle.am_lemmas.proofs.Lists.{count_by-none, list_any-counts}
 use Rattle.am_names.specs.Names.{same_serial}
 use Rattle.am_names.specs.declared.Serial.{Serial}
 use Rattle.am_model.specs.declared.Awaited.{Awaited}
@@ -15,7 +15,7 @@ use Rattle.am_model.specs.Endpoint.{entry_at}
 use Rattle.am_model.specs.Changes.{arrived, is_of}
 use Rattle.am_model.specs.Valid.{has_arrived, is_mapping_in_range}
 use Rattle.am_model.proofs.Names.{same_serial-is}
-use Rattle.am_model.proofs.Records.{any_counts, arrives_or_waits}
+use Rattle.am_model.proofs.Records.{arrives_or_waits}
 use Rattle.am_model.proofs.Sizes.{count_le}
 use Rattle.am_model.proofs.Sound.{all_set}
 use Rattle.am_model.proofs.Shares.{shares_le}
@@ -100,7 +100,7 @@ taken_settled r (a ∷ xs) one there = by_test (same_serial r a.serial) a.arrive
     by_test : (b c : Bool) → cond b 1 0 + count_by (is_of r) xs ≤ 1 → ((b && c) || list_any (has_arrived r) xs) ≡ true → (count_by (is_of r) xs ≤ 1 → list_any (has_arrived r) xs ≡ true → without_first (has_arrived r) xs ≡ without_first (is_of r) xs) → cond (b && c) xs (a ∷ without_first (has_arrived r) xs) ≡ cond b xs (a ∷ without_first (is_of r) xs)
     by_test true true le some more = refl
     by_test true false le some more =
-        let least = any_counts (has_arrived r) xs some in absurd (omega (arith, le, least, arrives_or_waits r xs))
+        let least = list_any-counts (has_arrived r) xs some in absurd (omega (arith, le, least, arrives_or_waits r xs))
     by_test false c le some more = ap (λ ys. a ∷ ys) (more (omega (arith, le)) some)
 
 pub shares_few : (t : Table) → IsTable t → sum_by share_of t.mapped ≤ 128

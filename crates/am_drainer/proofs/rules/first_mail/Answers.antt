@@ -1,9 +1,10 @@
 use Rattle.std.proofs.Common.{◌∙◌}
+use Rattle.std.proofs.lemmas.Option.{slice_get_within}
 use Rattle.am_scripts.specs.Layout.{layout_of}
 use Rattle.am_scripts.specs.Standings.{standings}
 use Rattle.am_drainer.specs.Firsts.{shows}
 use Rattle.am_drainer.specs.Reads.{mail_of}
-use Rattle.am_drainer.proofs.Firsts.{next_not, next_read, within}
+use Rattle.am_drainer.proofs.Firsts.{next_not, next_read}
 use Rattle.am_drainer.proofs.rules.first_mail.Goals as goal
 
 pub returns-in_err-place-clause-value : goal.returns-in_err-place-clause-value
@@ -16,7 +17,7 @@ pub mail-requires-clause-index : goal.mail-requires-clause-index
 mail-requires-clause-index g c =
     let m = g.M.Machine in
     let ends = standings (layout_of (m.scenario c.args.machine.now)) (m.journal c.args.machine.now) in
-    within ends c.in_ok-place.place c.in_ok-place.ensures.one c.in_ok-place.ensures.at_place
+    slice_get_within ends c.in_ok-place.place c.in_ok-place.ensures.one c.in_ok-place.ensures.at_place
 
 pub returns-clause-value : goal.returns-clause-value
 returns-clause-value g c =

@@ -1,11 +1,12 @@
 use Rattle.std.proofs.Common.{sym, ◌∙◌, ap, arith}
 use Rattle.std.specs.Prelude.{option_map}
+use Rattle.std.proofs.lemmas.Option.{slice_get_within}
 use Rattle.am_scripts.specs.Layout.{layout_of}
 use Rattle.am_scripts.specs.Standings.{standings}
 use Rattle.am_drainer.specs.Reads.{mail_of}
 use Rattle.am_drainer.specs.Choices.{sends_request}
 use Rattle.am_drainer.proofs.Finding.{read_here, read_not}
-use Rattle.am_drainer.proofs.Firsts.{fronts_end, fronts_skip, within}
+use Rattle.am_drainer.proofs.Firsts.{fronts_end, fronts_skip}
 use Rattle.am_drainer.proofs.rules.first_request.Goals as goal
 
 pub returns-in_err-place-clause-value : goal.returns-in_err-place-clause-value
@@ -18,7 +19,7 @@ pub mail-mail-requires-clause-index : goal.mail-mail-requires-clause-index
 mail-mail-requires-clause-index g c =
     let m = g.M.Machine in
     let ends = standings (layout_of (m.scenario c.args.machine.now)) (m.journal c.args.machine.now) in
-    within ends c.in_ok-place.place c.in_ok-place.ensures.one c.in_ok-place.ensures.at_place
+    slice_get_within ends c.in_ok-place.place c.in_ok-place.ensures.one c.in_ok-place.ensures.at_place
 
 pub returns-then-finds_room-clause-value : goal.returns-then-finds_room-clause-value
 returns-then-finds_room-clause-value g c =
@@ -31,7 +32,7 @@ pub overflow_add-from : goal.overflow_add-from
 overflow_add-from g c =
     let m = g.M.Machine in
     let ends = standings (layout_of (m.scenario c.args.machine.now)) (m.journal c.args.machine.now) in
-    let below = within ends c.in_ok-place.place c.in_ok-place.ensures.one c.in_ok-place.ensures.at_place in
+    let below = slice_get_within ends c.in_ok-place.place c.in_ok-place.ensures.one c.in_ok-place.ensures.at_place in
     omega (arith, below, c.ends.invariant.count)
 
 pub ends-preserved : goal.ends-preserved

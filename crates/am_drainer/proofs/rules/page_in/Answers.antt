@@ -1,9 +1,10 @@
 use Rattle.std.proofs.Common.{◌∙◌}
 use Rattle.std.specs.Prelude.{find}
+use Rattle.std.proofs.lemmas.Option.{slice_get_within}
 use Rattle.am_scripts.specs.Layout.{layout_of}
 use Rattle.am_scripts.specs.Standings.{is_missed, standings}
 use Rattle.am_drainer.specs.Reads.{head_of}
-use Rattle.am_drainer.proofs.Firsts.{next_not, next_read, within}
+use Rattle.am_drainer.proofs.Firsts.{next_not, next_read}
 use Rattle.am_drainer.proofs.Planned.{page_in_some, page_in_none}
 use Rattle.am_drainer.proofs.rules.page_in.Goals as goal
 
@@ -17,7 +18,7 @@ pub head-head-requires : goal.head-head-requires
 head-head-requires g c =
     let m = g.M.Machine in
     let ends = standings (layout_of (m.scenario c.args.machine.now)) (m.journal c.args.machine.now) in
-    within ends c.in_ok-place.place c.in_ok-place.ensures.one c.in_ok-place.ensures.at_place
+    slice_get_within ends c.in_ok-place.place c.in_ok-place.ensures.one c.in_ok-place.ensures.at_place
 
 pub returns-clause-turn : goal.returns-clause-turn
 returns-clause-turn g c =

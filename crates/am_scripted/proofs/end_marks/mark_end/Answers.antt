@@ -1,16 +1,17 @@
 use Rattle.std.proofs.Common.{◌≡◌, ℕ, Some, None, List, subst, rules}
 use Rattle.std.specs.Prelude.{◌==◌, slice_get}
+use Rattle.std.proofs.lemmas.Option.{slice_get_within}
 use Rattle.am_scenario_types.specs.declared.parts.EndLine.{EndLine}
 use Rattle.am_scripts.specs.Layout.{layout_of}
 use Rattle.am_scripted.specs.EndMarks.{HasPlace, is_end}
-use Rattle.am_scripted.proofs.EndMarked.{all_alike, end_nowhere, end_there, got_within, none_again}
+use Rattle.am_scripted.proofs.EndMarked.{all_alike, end_nowhere, end_there, none_again}
 use Rattle.am_scripted.proofs.end_marks.mark_end.Goals as goal
 
 pub mark_place-requires-clause-place : goal.mark_place-requires-clause-place
 mark_place-requires-clause-place c =
     let same : c.deref.result.now ≡ c.args.scenario.now.ends = search rules in
     let found : HasPlace c.args.scenario.now.ends c.args.id (Some c.in-Some.place) = subst (λ (l : List EndLine). HasPlace l c.args.id (Some c.in-Some.place)) same c.in-Some.ensures in
-    got_within c.args.scenario.now.ends c.in-Some.place found.0 found.1
+    slice_get_within c.args.scenario.now.ends c.in-Some.place found.0 found.1
 
 pub returns-in-Some : goal.returns-in-Some
 returns-in-Some c =

@@ -1,12 +1,12 @@
 use Rattle.std.specs.Prelude.{option_map, slice_get}
 use Rattle.std.proofs.Common.{◌≡◌, ◌+◌, ◌∙◌, ap, sym, map, subst, refl, arith, Some, Option}
 use Rattle.std.proofs.lemmas.List.{length-map}
+use Rattle.std.proofs.lemmas.Option.{slice_get_within}
 use Rattle.am_lemmas.proofs.Lists.{slice_get-map_Some}
 use Rattle.am_journal.proofs.Lists.{index_got}
 use Rattle.am_drain.specs.Rules.{Left}
 use Rattle.am_drainer.specs.Reads.{left_of}
 use Rattle.am_scripted.specs.Threads.{fewer_of, scripted_in}
-use Rattle.am_scripted.proofs.EndMarked.{got_within}
 use Rattle.am_scripted.proofs.Fewest.{FewestTo, fewest_all, fewest_more, fewest_none}
 use Rattle.am_scripted.proofs.threads.fewest.Goals as goal
 
@@ -33,5 +33,5 @@ returns c =
     let len = length-map ts scripted_in in
     let all = c.loop-index-test.false in
     fewest_all (map scripted_in ts) c.loop-index.index (option_map left_of c.loop-index.best)
-    (λ k t at. (let within = got_within (map scripted_in ts) k t at in omega (arith, within, len, all)))
+    (λ k t at. (let within = slice_get_within (map scripted_in ts) k t at in omega (arith, within, len, all)))
     c.loop-index.invariant.few

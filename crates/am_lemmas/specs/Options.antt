@@ -1,0 +1,8 @@
+-- Options: one step after another.
+use Rattle.std.specs.Prelude.{Option, Some, None}
+
+-- what f makes of the value, if there is one
+infixl 10 ◌>>=◌
+abbrev pub ◌>>=◌ : {A B : Type 0} → Option A → (A → Option B) → Option B
+None >>= f = None
+(Some x) >>= f = f x
