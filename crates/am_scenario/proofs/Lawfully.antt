@@ -9,6 +9,7 @@ use Rattle.am_lexer.specs.declared.what.What.{What}
 use Rattle.am_lexer.specs.declared.what.What.TheVariants.{UnknownWord, Missing, NotText, OutOfPlace}
 use Rattle.am_lexer.specs.Text.{lines_of, words_of, is_text_line}
 use Rattle.am_lexer.specs.Fields.{or_else}
+use Rattle.am_lexer.specs.Lines.{line_after}
 use Rattle.am_names.specs.declared.EndpointId.{EndpointId}
 use Rattle.am_names.specs.declared.NodeId.{NodeId}
 use Rattle.am_office.specs.declared.Call.{Call}
@@ -41,7 +42,7 @@ use Rattle.am_lines_laws.proofs.Calling.{lines_are_lawful}
 use Rattle.am_lines_laws.proofs.Words.{find_passes, on_is_declared}
 use Rattle.am_lines_laws.proofs.Growing.{stays_sound, begins_sound}
 use Rattle.am_scenario.specs.Order.{placed, after_words, after_line}
-use Rattle.am_scenario.specs.Grammar.{ends_below, threads_below, tries_of, bounces_of, pool_of, whole, on_line, line_after, read_from, grammar}
+use Rattle.am_scenario.specs.Grammar.{ends_below, threads_below, tries_of, bounces_of, pool_of, whole, on_line, read_from, grammar}
 use Rattle.am_scenario.specs.Laws.{SpellsLawful, ExactlyOne}
 use Rattle.am_scenario.proofs.Below.{below, found_holds, all_below, rising, found_below, count_below}
 

@@ -2,6 +2,7 @@
 use Rattle.std.proofs.Common.{◌≡◌, ℕ, true, List, [], ◌∷◌, Result, Ok, Err, refl, sym, ◌∙◌}
 use Rattle.std.specs.List.{list_all}
 use Rattle.std.proofs.lemmas.Bool.{and_parts}
+use Rattle.am_lexer.specs.Lines.{line_after}
 use Rattle.am_lexer.specs.Text.{is_text_line}
 use Rattle.am_scenario_types.specs.declared.parts.Form.{Form}
 use Rattle.am_scenario_types.specs.declared.faults.ScenarioFault.{ScenarioFault}
@@ -10,7 +11,7 @@ use Rattle.am_draft.specs.declared.line.LineFault.{LineFault}
 use Rattle.am_draft.specs.declared.line.LineFault.TheVariants as faults
 use Rattle.am_draft.specs.Said.{Said}
 use Rattle.am_scenario.specs.Order.{after_line}
-use Rattle.am_scenario.specs.Grammar.{whole, read_from, line_after}
+use Rattle.am_scenario.specs.Grammar.{whole, read_from}
 use Rattle.am_scenario.specs.Answers.{Changes, Finishes, Answers, at_line}
 
 -- a line that was taken

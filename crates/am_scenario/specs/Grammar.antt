@@ -1,10 +1,11 @@
 -- The scenario that a text spells, or its first fault.
-use Rattle.std.specs.Prelude.{ℕ, zero, suc, ◌+◌, ◌-◌, ◌^◌, min, ◌==◌, List, [], ◌∷◌, ◌++◌, if◌then◌else◌, Option, Some, None, Result, Ok, Err}
+use Rattle.std.specs.Prelude.{ℕ, zero, suc, ◌-◌, ◌==◌, List, [], ◌∷◌, ◌++◌, if◌then◌else◌, Option, Some, None, Result, Ok, Err}
 use Rattle.std.specs.Option.{unwrap_or, option_to_list}
 use Rattle.am_lexer.specs.declared.what.What.{What}
 use Rattle.am_lexer.specs.declared.what.What.TheVariants.{Missing}
 use Rattle.am_lexer.specs.Text.{lines_of}
 use Rattle.am_lexer.specs.Fields.{◌>>=◌, or_else}
+use Rattle.am_lexer.specs.Lines.{line_after}
 use Rattle.am_scenario_types.specs.declared.parts.Form.{Form}
 use Rattle.am_scenario_types.specs.declared.parts.EndLine.{EndLine}
 use Rattle.am_scenario_types.specs.declared.parts.ThreadLine.{ThreadLine}
@@ -67,10 +68,6 @@ whole said =
 abbrev pub on_line : {A B : Type 0} → ℕ → Result A What → (A → Result B ScenarioFault) → Result B ScenarioFault
 on_line number (Ok x) f = f x
 on_line number (Err what) f = Err (record { line = number; what = what })
-
--- the number of the next line; a number of 32 bits stands still at its end
-abbrev pub line_after : ℕ → ℕ
-line_after number = min (number + 1) (2 ^ 32 - 1)
 
 -- the lines from this number on
 unfoldable pub read_from : Form → ℕ → Said → List (List ℕ) → Result ScenarioLists ScenarioFault

@@ -8,8 +8,9 @@ use Rattle.am_lexer.specs.declared.what.What.{What}
 use Rattle.am_lexer.specs.declared.what.What.TheVariants.{BadNumber, OutOfRange, Undeclared, Twice, TooMany, OutOfPlace, NotText}
 use Rattle.am_lexer.specs.Text.{lines_of, words_of, is_text_line, is_digit, has_bytes}
 use Rattle.am_lexer.specs.Fields.{or_else, word_at, number_at, within, ended}
+use Rattle.am_lexer.specs.Lines.{line_after}
 use Rattle.am_scenario_types.specs.declared.faults.ScenarioFault.{ScenarioFault}
-use Rattle.am_scenario.specs.Grammar.{line_after, on_line}
+use Rattle.am_scenario.specs.Grammar.{on_line}
 use Rattle.am_lines_laws.proofs.Meets.{Meets, refuses, gives, bind, test, anything, found}
 use Rattle.am_lines_laws.proofs.Words.{find_passes, is_within}
 use Rattle.am_scenario.proofs.Below.{found_holds}

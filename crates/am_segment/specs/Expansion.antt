@@ -9,7 +9,7 @@ use Rattle.am_scenario_types.specs.declared.faults.ReadFault.TheVariants.{Refuse
 use Rattle.am_draft.specs.declared.line.LineFault.{LineFault}
 use Rattle.am_draft.specs.declared.line.LineFault.TheVariants as faults
 use Rattle.am_pieces.specs.Blocks.{piece_count}
-use Rattle.am_scenario.specs.Grammar.{line_after, on_line}
+use Rattle.am_scenario.specs.Grammar.{on_line}
 use Rattle.am_segment.specs.declared.own.Own.{Own}
 use Rattle.am_segment.specs.declared.own.Own.TheVariants as own
 use Rattle.am_segment.specs.declared.saying.Sent.{Sent}
@@ -20,6 +20,7 @@ use Rattle.am_segment.specs.Laid.{Laid, nothing_laid, with_lines, with_ordinary,
 use Rattle.am_segment.specs.Saying.{segment_line, transfer_line, serve_line}
 use Rattle.am_segment.specs.Texts.{transfer_lines, serve_lines}
 use Rattle.am_lexer.specs.Fields.{◌>>=◌}
+use Rattle.am_lexer.specs.Lines.{line_after}
 
 -- The transfer's number is its place among the lines of transfers, from 1.
 abbrev pub with_transfer : ℕ → ℕ → Laid → Sent → Laid

@@ -7,12 +7,13 @@ use Rattle.am_lexer.specs.declared.what.What.{What}
 use Rattle.am_lexer.specs.declared.what.What.TheVariants.{UnknownWord, Missing, NotText, Twice, TooMany, OutOfRange}
 use Rattle.am_lexer.specs.Text.{lines_of, words_of, is_text_line}
 use Rattle.am_lexer.specs.Fields.{◌>>=◌, or_else, word_at, number_at, within, ended}
+use Rattle.am_lexer.specs.Lines.{line_after}
 use Rattle.am_restart.specs.declared.events.SessionEvent.{SessionEvent}
 use Rattle.am_session.specs.declared.draft.Line.{Line}
 use Rattle.am_session.specs.declared.draft.Line.TheVariants as Lines
 use Rattle.am_session.specs.declared.head.Head.{Head}
 use Rattle.am_session.specs.declared.head.Head.TheVariants as Heads
-use Rattle.am_session.specs.Grammar.{grammar, read_from, on_line, line_after, whole, after_line, after_words, with_line, placed, words_say, head_of, section_of, session_line, tries_line, sender_line, receiver_line, sender_event, receiver_event, one_more, nothing}
+use Rattle.am_session.specs.Grammar.{grammar, read_from, on_line, whole, after_line, after_words, with_line, placed, words_say, head_of, section_of, session_line, tries_line, sender_line, receiver_line, sender_event, receiver_event, one_more, nothing}
 use Rattle.am_session.specs.Scripts.{Script, Said, IsPlayable}
 
 -- what is read, and what comes of it

@@ -1,11 +1,12 @@
 -- One line more.
 use Rattle.std.proofs.Common.{◌≡◌, ℕ, List, [], ◌∷◌, Result, Ok, Err, refl, sym, ◌∙◌}
 use Rattle.am_lexer.specs.declared.what.What.{What}
+use Rattle.am_lexer.specs.Lines.{line_after}
 use Rattle.am_session.specs.declared.script.LineFault.{LineFault}
 use Rattle.am_session.specs.declared.script.LineFault.TheVariants as faults
 use Rattle.am_session.specs.declared.script.SessionTextFault.{SessionTextFault}
 use Rattle.am_session.specs.Answers.{Changes, Finishes, Answers, at_line}
-use Rattle.am_session.specs.Grammar.{after_line, whole, read_from, line_after}
+use Rattle.am_session.specs.Grammar.{after_line, whole, read_from}
 use Rattle.am_session.specs.Scripts.{Script, Said}
 
 -- a line that was taken

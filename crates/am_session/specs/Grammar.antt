@@ -6,6 +6,7 @@ use Rattle.am_lexer.specs.declared.what.What.{What}
 use Rattle.am_lexer.specs.declared.what.What.TheVariants.{UnknownWord, Missing, NotText, OutOfPlace, Twice, TooMany}
 use Rattle.am_lexer.specs.Text.{lines_of, words_of, is_text_line}
 use Rattle.am_lexer.specs.Fields.{◌>>=◌, or_else, word_at, within, ended}
+use Rattle.am_lexer.specs.Lines.{line_after}
 use Rattle.am_restart.specs.declared.events.Say.{Say}
 use Rattle.am_restart.specs.declared.events.Say.TheVariants as Says
 use Rattle.am_restart.specs.declared.events.SessionEvent.{SessionEvent}
@@ -157,10 +158,6 @@ whole said = do
 abbrev pub on_line : {A B : Type 0} → ℕ → Result A What → (A → Result B SessionTextFault) → Result B SessionTextFault
 on_line number (Ok x) f = f x
 on_line number (Err what) f = Err (record { line = number; what = what })
-
--- the number of the next line; a number of 32 bits stands still at its end
-abbrev pub line_after : ℕ → ℕ
-line_after number = min (number + 1) (2 ^ 32 - 1)
 
 -- the lines from this number on
 unfoldable pub read_from : ℕ → Said → List (List ℕ) → Result Script SessionTextFault
