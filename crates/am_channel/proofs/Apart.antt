@@ -1,6 +1,7 @@
 -- The ends of the other channels, one call more.
 use Rattle.std.proofs.Common.{◌≡◌, ◌≢◌, ℕ, ◌+◌, ◌==◌, Bool, true, false, ◌||◌, ◌&&◌, List, [], ◌∷◌, ◌++◌, Option, Some, None, refl, sym, ap, ◌∙◌, subst, arith, eqb-true, if◌then◌else◌}
 use Rattle.std.proofs.lemmas.Bool.{and_parts}
+use Rattle.am_lemmas.proofs.Bools.{and_second_fails}
 use Rattle.am_names.specs.Names.{same_node}
 use Rattle.am_office.specs.declared.Event.{Event}
 use Rattle.am_office.specs.declared.Event.TheVariants as Events
@@ -59,14 +60,10 @@ elsewhere_counted c log e x is elsewhere =
 at : (c : Channel) (x : Entry) (event : Event) (outcome : Outcome) → x.event ≡ event → x.outcome ≡ outcome → ((stamp : ℕ) → IsElsewhere c (record { stamp = stamp; event = event; outcome = outcome })) → IsElsewhere c x
 at c x event outcome e o is = subst (λ (y : Entry). IsElsewhere c y) (entry_is x event outcome e o) (is x.stamp)
 
-not_of : (b t : Bool) → t ≡ false → (b && t) ≡ false
-not_of true t is = is
-not_of false t is = refl
-
 receipt_elsewhere : (c d : Channel) (number seq attempt : ℕ) (r : Received) (x : Entry) → d ≢ c → x.event ≡ Events.Receive d.node d.peer number → x.outcome ≡ Out.Received d.number seq attempt r → IsElsewhere c x
 receipt_elsewhere c d number seq attempt r x other event outcome =
     at c x (Events.Receive d.node d.peer number) (Out.Received d.number seq attempt r) event outcome
-    (λ stamp. record { binds = refl; sends = refl; frees = not_of (frees_by r) (same_channel c d.node d.peer d.number) (apart c d other); decides = not_of (decides_by r) (same_channel c d.node d.peer d.number) (apart c d other) })
+    (λ stamp. record { binds = refl; sends = refl; frees = and_second_fails (frees_by r) (same_channel c d.node d.peer d.number) (apart c d other); decides = and_second_fails (decides_by r) (same_channel c d.node d.peer d.number) (apart c d other) })
 
 time_out_elsewhere : (c d : Channel) (b : Bound) (timed : TimedOut) (x : Entry) → d ≢ c → TellsTimedOut d b timed x → IsElsewhere c x
 time_out_elsewhere c d b (Times.Resend sent) x other tells =

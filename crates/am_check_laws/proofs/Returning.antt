@@ -5,6 +5,7 @@ use Rattle.std.specs.List.{AllByRecursion, list_all, list_any, range_with_len}
 use Rattle.std.proofs.lemmas.Bool.{and_parts, or_cases, eq-eqb}
 use Rattle.std.proofs.lemmas.List.{length-map}
 use Rattle.std.proofs.lemmas.List.Elements.{filter-append, filter_map-append}
+use Rattle.am_lemmas.proofs.Lists.{slice_get-append_seam}
 use Rattle.am_names.specs.declared.NodeId.{NodeId}
 use Rattle.am_office.specs.declared.Actor.TheVariants.{Thread, Outside}
 use Rattle.am_office.specs.declared.Event.{Event}
@@ -94,10 +95,6 @@ each_by_parts : (Law : List Entry → Entry → Type 0) (past xs : List Entry) �
 each_by_parts Law past [] law = tt
 each_by_parts Law past (x ∷ xs) law = (law past x xs refl, each_by_parts Law (past ++ x ∷ []) xs (λ front y back e. law front y back (sym (append_assoc past (x ∷ []) xs) ∙ e)))
 
-got_behind : {X : Type 0} (front : List X) (x : X) (back : List X) → slice_get (front ++ x ∷ back) (length front) ≡ Some x
-got_behind [] x back = refl
-got_behind (y ∷ front) x back = got_behind front x back
-
 calls_parted : (thread : ℕ) (front : List Entry) (x : Entry) (back : List Entry) → calls_of thread (front ++ x ∷ back) ≡ calls_of thread front ++ calls_of thread (x ∷ back)
 calls_parted thread front x back =
     ap (filter (is_of_thread thread)) (filter_map-append (λ (y : Entry). call_made y.event) front (x ∷ back))
@@ -120,7 +117,7 @@ next_is s journal front x back call parts made kept =
     let thread = call.thread in
     let whole : script_of s thread ≡ calls_of thread front ++ call ∷ calls_of thread back =
     sym kept ∙ ap (calls_of thread) parts ∙ calls_parted thread front x back ∙ ap (λ (l : List ScriptCall). calls_of thread front ++ l) (first_call call back x made) in
-    ap (λ (l : List ScriptCall). slice_get l (length (calls_of thread front))) whole ∙ got_behind (calls_of thread front) call (calls_of thread back)
+    ap (λ (l : List ScriptCall). slice_get l (length (calls_of thread front))) whole ∙ slice_get-append_seam (calls_of thread front) call (calls_of thread back)
 
 next_call_is : (s : ScenarioLists) (journal front : List Entry) (x : Entry) (back : List Entry) (event : Event) → x.event ≡ event → journal ≡ front ++ x ∷ back → KeepsScripts s journal → is_of_run s event ≡ true → IsNextCall s front (call_made event)
 next_call_is s journal front x back (Events.Call (Thread thread) end call) is parts kept may =

@@ -3,6 +3,7 @@ use Rattle.std.proofs.Common.{◌≡◌, ℕ, zero, suc, Bool, true, false, ◌|
 use Rattle.std.specs.Prelude.{slice_get, not}
 use Rattle.std.proofs.lemmas.List.{take_all, map_push, length-map}
 use Rattle.std.proofs.lemmas.List.Folds.{list_all-append}
+use Rattle.am_lemmas.proofs.Lists.{take-slice_get}
 use Rattle.am_office.specs.declared.Event.{Event}
 use Rattle.am_office.specs.declared.Entry.{Entry}
 use Rattle.am_check.proofs.Coming.{in_range}
@@ -47,11 +48,6 @@ all_unstopped form s journal begun = each_so form s (IsUnstopped (layout_of s)) 
 
 -- ---- the lines of a step script
 
-take_more : {X : Type 0} (xs : List X) (k : ℕ) (x : X) → slice_get xs k ≡ Some x → take (suc k) xs ≡ take k xs ++ x ∷ []
-take_more [] k x e = absurd (cc e)
-take_more (y ∷ ys) zero x e = let same : y ≡ x = cc e in ap (λ (z : _). z ∷ []) same
-take_more (y ∷ ys) (suc k) x e = ap (λ (l : List _). y ∷ l) (take_more ys k x e)
-
 abbrev HasEvents : ScenarioLists → List Entry → Type 0
 HasEvents s past = map (λ (x : Entry). x.event) past ≡ take (length past) (events_of s.steps)
 
@@ -61,7 +57,7 @@ events_one s past x h c =
     let long : length (past ++ x ∷ []) ≡ suc (length past) = length-append past (x ∷ []) ∙ add-one (length past) in
     map_push (λ (y : Entry). y.event) past x
     ∙ ap (λ (l : List Event). l ++ x.event ∷ []) h
-    ∙ sym (take_more events (length past) x.event c.may)
+    ∙ sym (take-slice_get events (length past) x.event c.may)
     ∙ ap (λ (n : ℕ). take n events) (sym long)
 
 step_history : (s : ScenarioLists) (journal : List Entry) → IsLawful s → IsBegun Step s journal → IsEnded Step s journal → IsStepHistory s journal

@@ -3,7 +3,7 @@ use Rattle.std.specs.Prelude.{slice_get}
 use Rattle.std.specs.Global.{Vec}
 use Rattle.std.proofs.Common.{◌≡◌, ◌⊎◌, ⊎_elim, ℕ, ◌+◌, List, [], ◌∷◌, ◌++◌, length, length-append, Some, refl, sym, ap, ◌∙◌, subst, arith}
 use Rattle.std.proofs.lemmas.Option.{slice_get_within}
-use Rattle.am_lemmas.proofs.Lists.{slice_get-push_cases}
+use Rattle.am_lemmas.proofs.Lists.{slice_get-push_cases, slice_get-append_seam}
 use Rattle.am_wire.specs.declared.receiving.LinkIn.{LinkIn}
 use Rattle.am_wire.specs.declared.sending.LinkOut.{LinkOut}
 use Rattle.am_crew_opening.specs.declared.crew.NodeCrew.{NodeCrew}
@@ -41,11 +41,6 @@ ended_more cs all next c e h is nodes outs ins =
       outs = λ k a b at_a at_b. pairs_more (λ (u : NodeCrew) (v : Vec LinkOut). v.items ≡ u.interface.outs.items) cs all.outs.items c e.outs h.all_outs h.outs is.outs k a b at_a (subst (λ (xs : List (Vec LinkOut)). slice_get xs k ≡ Some b) outs at_b);
       ins = λ k a b at_a at_b. pairs_more (λ (u : NodeCrew) (v : Vec LinkIn). v.items ≡ u.interface.ins.items) cs all.ins.items c e.ins h.all_ins h.ins is.ins k a b at_a (subst (λ (xs : List (Vec LinkIn)). slice_get xs k ≡ Some b) ins at_b);
     }
-
--- the element behind these
-pub at_seam : {X : Type 0} (ys : List X) (x : X) (more : List X) → slice_get (ys ++ x ∷ more) (length ys) ≡ Some x
-at_seam [] x more = refl
-at_seam (y ∷ ys) x more = at_seam ys x more
 
 pub moved_on : {X : Type 0} (ys : List X) (x : X) (more rest all : List X) → rest ≡ x ∷ more → ys ++ rest ≡ all → (ys ++ x ∷ []) ++ more ≡ all
 moved_on {X} [] x more rest all is h = sym is ∙ h

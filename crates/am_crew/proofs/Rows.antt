@@ -3,7 +3,7 @@ use Rattle.std.specs.Prelude.{remove, slice_get, slice_index_or, slice_set}
 use Rattle.std.specs.Global.{Vec}
 use Rattle.std.proofs.Common.{◌≡◌, ◌≢◌, ⊎_elim, ℕ, zero, suc, ◌+◌, ◌<◌, ◌≤◌, List, [], ◌∷◌, ◌++◌, length, length-append, drop, Some, refl, sym, ap, ◌∙◌, subst, arith}
 use Rattle.std.proofs.lemmas.Option.{slice_get_read, slice_get_within}
-use Rattle.am_lemmas.proofs.Lists.{slice_get-Some, slice_get-push_cases}
+use Rattle.am_lemmas.proofs.Lists.{slice_get-Some, slice_get-push_cases, slice_get-set_here}
 use Rattle.am_wire.specs.Links.{IsLink}
 use Rattle.am_wire.specs.declared.closing.LinkRecord.{LinkRecord}
 use Rattle.am_wire.specs.declared.receiving.LinkIn.{LinkIn}
@@ -36,11 +36,6 @@ drop_seam (y ∷ ys) (suc n) x e = drop_seam ys n x e
 
 next_is : {X : Type 0} (done rest all : List X) (o : X) (n : ℕ) → done ++ o ∷ rest ≡ all → n ≡ length done → slice_get all n ≡ Some o
 next_is {X} done rest all o n e place = subst (λ (xs : List X). slice_get xs n ≡ Some o) e (subst (λ (k : ℕ). slice_get (done ++ o ∷ rest) k ≡ Some o) (sym place) (got_seam done rest o))
-
-got_set : {X : Type 0} (xs : List X) (k : ℕ) (y : X) → k < length xs → slice_get (slice_set xs k y) k ≡ Some y
-got_set [] k y low = absurd (omega (arith, low))
-got_set (x ∷ xs) zero y low = refl
-got_set (x ∷ xs) (suc k) y low = got_set xs k y (omega (arith, low))
 
 got_elsewhere : {X : Type 0} (xs : List X) (j k : ℕ) (y : X) → j ≢ k → slice_get (slice_set xs j y) k ≡ slice_get xs k
 got_elsewhere [] j k y apart = refl
@@ -113,7 +108,7 @@ row_more done rest outs ins records more now o is is' i r n linked so_far all pl
           let was : slice_get ins n ≡ Some is = sym (so_far.later n (omega (arith, place))) ∙ f.got in
           let at_n : slice_get ins n ≡ Some js = subst (λ (k : ℕ). slice_get ins k ≡ Some js) at at_js in
           let is_js : is ≡ js = cc in
-          let set : slice_get (slice_set now n is') n ≡ Some is' = got_set now n is' (slice_get_within now n is f.got) in
+          let set : slice_get (slice_set now n is') n ≡ Some is' = slice_get-set_here now n is' (slice_get_within now n is f.got) in
           let set_n : slice_get (slice_set now n is') n ≡ Some js' = subst (λ (k : ℕ). slice_get (slice_set now n is') k ≡ Some js') at at_js' in
           let is_js' : is' ≡ js' = cc in (
             i,

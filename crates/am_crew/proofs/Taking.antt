@@ -3,6 +3,7 @@ use Rattle.std.specs.Prelude.{slice_get, slice_index_or, slice_set}
 use Rattle.std.proofs.Common.{◌≡◌, ◌≢◌, ◌⊎◌, ⊎_elim, ℕ, zero, suc, ◌+◌, ◌≤◌, Option, Some, List, [], ◌∷◌, ◌++◌, length, length-append, refl, sym, ap, ◌∙◌, subst, arith}
 use Rattle.atomic_table.specs.Table.{Me}
 use Rattle.am_lemmas.proofs.Lists.{slice_get-push_cases}
+use Rattle.std.proofs.lemmas.List.{length-set}
 use Rattle.am_office.specs.declared.Entry.{Entry}
 use Rattle.am_books.specs.declared.EndBook.{EndBook}
 use Rattle.am_places.specs.Rule.{known_at, nothing, with_known}
@@ -18,11 +19,6 @@ set_elsewhere (y ∷ ys) zero (suc k) x apart = refl
 set_elsewhere (y ∷ ys) (suc j) zero x apart = refl
 set_elsewhere (y ∷ ys) (suc j) (suc k) x apart = set_elsewhere ys j k x (λ same. apart (ap suc same))
 
-set_long : (xs : List (Known Entry)) (j : ℕ) (x : Known Entry) → length (slice_set xs j x) ≡ length xs
-set_long [] j x = refl
-set_long (y ∷ ys) zero x = refl
-set_long (y ∷ ys) (suc j) x = ap suc (set_long ys j x)
-
 -- the keeper of the pass v, which knows this by now, took out the books of the first n places
 pub record HasTaken (n : ℕ) (v u : EndPass) (books : List EndBook) : Type 0 where
   pub knows : (k : ℕ) → n ≤ k → known_at k u ≡ known_at k v
@@ -37,7 +33,7 @@ pub taken_more : (n : ℕ) (v : EndPass) (me : Me (Option EndBook) EndPass) (boo
 taken_more n v me books more b log x w h comes is pushed =
     record {
       knows = λ k less. ap (known_at k) is ∙ set_elsewhere me.0.known n k x (λ same. absurd (omega (arith, less, same))) ∙ h.knows k (omega (arith, less));
-      wide = ap (λ (u : EndPass). length u.known) is ∙ set_long me.0.known n x ∙ h.wide;
+      wide = ap (λ (u : EndPass). length u.known) is ∙ length-set me.0.known n x ∙ h.wide;
       keeps = ap (λ (u : EndPass). u.keeps) is ∙ h.keeps;
       seats = ap (λ (u : EndPass). u.seats) is ∙ h.seats;
       births = ap (λ (u : EndPass). u.births) is ∙ h.births;

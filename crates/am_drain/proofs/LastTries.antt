@@ -3,6 +3,7 @@ use Rattle.std.proofs.Common.{◌≡◌, ℕ, List, [], ◌∷◌, ◌++◌, len
 use Rattle.std.specs.Prelude.{◌||◌, not, is_some, is_none, filter, slice_get}
 use Rattle.std.specs.List.{cons_option}
 use Rattle.am_lemmas.proofs.Lists.{map_alike}
+use Rattle.am_lemmas.proofs.Bools.{not_implied, implied_anyway}
 use Rattle.am_names.specs.declared.NodeId.{NodeId}
 use Rattle.am_names.specs.declared.Packet.{Packet}
 use Rattle.am_office.specs.declared.Event.{Event}
@@ -31,14 +32,6 @@ use Rattle.am_drain.proofs.TurnKinds.{IsDueReceipt, Kind, Receipt, Plain, Call, 
 -- an entry is none of those that are left to the end, or all was received before it
 abbrev pub Keeps : ScenarioLists → List Entry → Entry → Type 0
 Keeps scenario past x = (not (is_last scenario past x) || is_all_received scenario past) ≡ true
-
-pub not_last : (a b : Bool) → a ≡ false → (not a || b) ≡ true
-not_last true b e = absurd (cc)
-not_last false b e = refl
-
-all_before : (a b : Bool) → b ≡ true → (not a || b) ≡ true
-all_before true b e = e
-all_before false b e = refl
 
 each_map : (A B : List Entry → Entry → Type 0) → ((past : List Entry) (x : Entry) → A past x → B past x) → (past xs : List Entry) → EachAfter A past xs → EachAfter B past xs
 each_map A B h past [] e = tt
@@ -101,11 +94,11 @@ all_grown : (scenario : ScenarioLists) (past next : List Entry) (event : Event) 
 all_grown scenario past next event g h =
     let x : Entry = next_entry (layout_of scenario) g.ready event in
     let ready = ready_keeps (AllKept scenario) (λ (before : List Entry) (y : Entry) driven k. record {
-      kept = pushed scenario before y k.kept (not_last (is_last scenario before y) (is_all_received scenario before) (driven_last scenario before y.event y.outcome driven));
+      kept = pushed scenario before y k.kept (not_implied (is_last scenario before y) (is_all_received scenario before) (driven_last scenario before y.event y.outcome driven));
       none = receipt_same scenario before y driven ∙ k.none;
     }) past g.ready g.is_ready h in
     subst (λ (xs : List Entry). KeepsLastTries scenario xs) (sym g.grows)
-    (pushed scenario g.ready x ready.kept (all_before (is_last scenario g.ready x) (is_all_received scenario g.ready) (ap (λ (o : Option Event). is_none o) ready.none)))
+    (pushed scenario g.ready x ready.kept (implied_anyway (is_last scenario g.ready x) (is_all_received scenario g.ready) (ap (λ (o : Option Event). is_none o) ready.none)))
 
 receipt_last : (scenario : ScenarioLists) (past : List Entry) (event : Event) (outcome : Outcome) → IsDueReceipt scenario past event → is_last_in scenario past event outcome ≡ false
 receipt_last scenario past (Events.Receive node peer number) outcome e = refl
@@ -115,11 +108,11 @@ by_kind : (scenario : ScenarioLists) (past : List Entry) (t : Turn) → KeepsLas
 by_kind scenario past t h (Receipt event same is) =
     let x : Entry = next_entry (layout_of scenario) past event in
     subst (λ (u : Turn). KeepsLastTries scenario (after_turn scenario past u)) same
-    (pushed scenario past x h (not_last (is_last scenario past x) (is_all_received scenario past) (receipt_last scenario past event x.outcome is)))
+    (pushed scenario past x h (not_implied (is_last scenario past x) (is_all_received scenario past) (receipt_last scenario past event x.outcome is)))
 by_kind scenario past t h (Plain none is) = all_grown scenario past (after_turn scenario past t) (event_of t) (turn_grows scenario past t) (record { kept = h; none = none })
 by_kind scenario past t h (Call none is) = all_grown scenario past (after_turn scenario past t) (event_of t) (turn_grows scenario past t) (record { kept = h; none = none })
 
 pub last_tries_come_last : LastTriesComeLast
 last_tries_come_last scenario phase journal is_phase (n, drained) =
-    let first = each_map (λ (past : List Entry) (x : Entry). is_last scenario past x ≡ false) (Keeps scenario) (λ (past : List Entry) (x : Entry) e. not_last (is_last scenario past x) (is_all_received scenario past) e) [] phase is_phase.no_last in
+    let first = each_map (λ (past : List Entry) (x : Entry). is_last scenario past x ≡ false) (Keeps scenario) (λ (past : List Entry) (x : Entry) e. not_implied (is_last scenario past x) (is_all_received scenario past) e) [] phase is_phase.no_last in
     over_turns n scenario (KeepsLastTries scenario) (λ (before : List Entry) (t : Turn) k is. by_kind scenario before t k (kind_of scenario before t is)) phase journal first drained.made

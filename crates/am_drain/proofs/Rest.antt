@@ -3,6 +3,7 @@ use Rattle.std.proofs.Common.{◌≡◌, ℕ, ◌+◌, List, [], ◌∷◌, leng
 use Rattle.std.specs.Prelude.{◌==◌, ◌||◌, not, nat_lt, is_some, find, count_by, filter_map, fold, slice_get, option_map}
 use Rattle.std.specs.List.{list_all, range_with_len, cons_option, AllByRecursion}
 use Rattle.std.proofs.lemmas.Bool.{and_parts, and_from}
+use Rattle.am_lemmas.proofs.Lists.{find_passes}
 use Rattle.am_names.specs.declared.NodeId.{NodeId}
 use Rattle.am_names.specs.declared.Message.{Message}
 use Rattle.am_names.specs.Names.{is_request}
@@ -17,7 +18,7 @@ use Rattle.am_scripts.specs.Layout.{layout_of}
 use Rattle.am_scripts.specs.Links.{first_some, nodes_of, next_receipt}
 use Rattle.am_scripts.specs.Scripts.{calls_of, call_left}
 use Rattle.am_scripts.specs.Standings.{Standing, standings, is_standing_of, is_missed, holds_nothing, is_idle}
-use Rattle.am_scripts.proofs.Lists.{first_none, none_mapped, none_all, found_in, found_true}
+use Rattle.am_scripts.proofs.Lists.{first_none, none_mapped, none_all, found_in}
 use Rattle.am_drain.specs.declared.Turn.{Turn}
 use Rattle.am_drain.specs.declared.Turn.TheVariants.{Once}
 use Rattle.am_drain.specs.Rules.{time_out, time_out_to, time_out_at, next_time_out, page_in_of, next_page_in, has_reply, has_room, finds_room, has_request, send_front, send_of, next_send, Left, left_after, left_to, fewer, make_of, next_call, is_pollable, poll_of, next_poll, next_turn}
@@ -53,11 +54,11 @@ sends_request ends s (r ∷ rs) (q ∷ qs) has e = cc
 
 pub no_reply : (ends : List Standing) (o : Option Standing) → find has_reply ends ≡ o → send_of (first_some (o ∷ find (has_request ends) ends ∷ [])) ≡ None → o ≡ None
 no_reply ends None is e = refl
-no_reply ends (Some s) is e = absurd (sends_reply s s.state.body.replies s.state.body.requests (found_true has_reply ends s is) e)
+no_reply ends (Some s) is e = absurd (sends_reply s s.state.body.replies s.state.body.requests (find_passes has_reply ends s is) e)
 
 no_request : (ends : List Standing) (o : Option Standing) → find (has_request ends) ends ≡ o → send_of (first_some (None ∷ o ∷ [])) ≡ None → o ≡ None
 no_request ends None is e = refl
-no_request ends (Some s) is e = absurd (sends_request ends s s.state.body.replies s.state.body.requests (found_true (has_request ends) ends s is) e)
+no_request ends (Some s) is e = absurd (sends_request ends s s.state.body.replies s.state.body.requests (find_passes (has_request ends) ends s is) e)
 
 no_count : (received : List Message) → length received ≡ 0 → count_by is_request received ≡ 0
 no_count [] e = refl

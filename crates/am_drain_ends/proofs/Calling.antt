@@ -5,7 +5,7 @@ use Rattle.std.specs.List.{cons_option}
 use Rattle.std.proofs.lemmas.Bool.{and_parts}
 use Rattle.std.proofs.lemmas.List.Elements.{filter-append, filter_map-append}
 use Rattle.std.proofs.lemmas.Option.{slice_get_within}
-use Rattle.am_lemmas.proofs.Lists.{count_by-empty}
+use Rattle.am_lemmas.proofs.Lists.{count_by-empty, find_passes}
 use Rattle.am_names.specs.declared.EndpointId.{EndpointId}
 use Rattle.am_names.specs.Names.{is_answer}
 use Rattle.am_office.specs.declared.Actor.TheVariants.{Outside, Thread}
@@ -32,7 +32,7 @@ use Rattle.am_scripts.specs.Scripts.{call_made, is_of_thread, calls_of, script_o
 use Rattle.am_scripts.specs.Standings.{Standing, standings}
 use Rattle.am_scripts.specs.Follows.{is_thread}
 use Rattle.am_model.specs.Parts.{driver_of}
-use Rattle.am_scripts.proofs.Lists.{some_mapped, none_all, found_in, found_true}
+use Rattle.am_scripts.proofs.Lists.{some_mapped, none_all, found_in}
 use Rattle.am_drain.specs.declared.Turn.{Turn}
 use Rattle.am_drain.specs.Made.{next_entry, after_event}
 use Rattle.am_drain.specs.Ready.{off_disk_at}
@@ -181,5 +181,5 @@ polls_fall s past t run free quiet is =
     let none = none_all has_reply ends (no_reply ends (find has_reply ends) refl quiet) in
     let replies : length (state_of layout past e).body.replies ≡ 0 = ap (λ (z : State). length z.body.replies) (sym k.state) ∙ zero_of (length st.state.body.replies) (found_in is_pollable (λ (y : Standing). not (has_reply y)) ends st found.1 none) in
     let flights : length (state_of layout past e).body.in_flight ≡ 0 = eqb-true (length (state_of layout past e).body.in_flight) 0 (grounded s past run free e k.seated.declared') in
-    let arrived : has_arrivals (state_of layout past e).body ≡ true = ap (λ (z : State). has_arrivals z.body) (sym k.state) ∙ found_true is_pollable ends st found.1 in
+    let arrived : has_arrivals (state_of layout past e).body ≡ true = ap (λ (z : State). has_arrivals z.body) (sym k.state) ∙ find_passes is_pollable ends st found.1 in
     subst (λ (u : Turn). Falls s past u) found.2 (poll_falls s past e ok k.seated.declared' replies flights arrived)

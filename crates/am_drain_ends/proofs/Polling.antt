@@ -2,6 +2,7 @@
 use Rattle.std.proofs.Common.{◌≡◌, ℕ, ◌+◌, ◌-◌, ◌≤◌, Bool, true, false, cond, List, [], ◌∷◌, length, Option, Some, None, refl, ap, ◌∙◌, arith, true≢false, if◌then◌else◌}
 use Rattle.std.specs.Prelude.{nat_le, sum_by, find, drop}
 use Rattle.std.proofs.lemmas.List.Sums.{sum_by-cons}
+use Rattle.am_model.proofs.Sizes.{answer_kind}
 use Rattle.am_names.specs.declared.EndpointId.{EndpointId}
 use Rattle.am_names.specs.declared.Message.{Message}
 use Rattle.am_names.specs.declared.Words.{Words}
@@ -96,12 +97,6 @@ first_not p m ms e = by_test (p m) e
 no_answer : (b : Bool) → (if b then false else true) ≡ false → b ≡ true
 no_answer true h = refl
 no_answer false h = absurd (true≢false h)
-
-answer_kind : (e : EndpointId) (st : State) (m : Message) (k : Option HandlerKind) → is_request (answer e st m k) ≡ false
-answer_kind e st m None = refl
-answer_kind e st m (Some Note) = refl
-answer_kind e st m (Some (Echo to)) = refl
-answer_kind e st m (Some (Add to)) = refl
 
 pub poll_work : (s : ScenarioLists) (e : EndpointId) (st : State) → Polled s st.body (called st Calls.Poll (poll e st st.body.notices)).body
 poll_work s e st = by_notices st.body.notices refl

@@ -2,6 +2,7 @@
 use Rattle.std.proofs.Common.{◌≡◌, ℕ, zero, suc, Bool, true, false, cond, List, [], ◌∷◌, length, Option, Some, None, refl, sym, ap, ◌∙◌, subst, arith, true≢false, lt-ltb}
 use Rattle.std.specs.Prelude.{◌&&◌, ◌||◌, nat_lt, find, filter, slice_get}
 use Rattle.std.specs.List.{list_any, All}
+use Rattle.am_lemmas.proofs.Options.{cond-None}
 use Rattle.am_names.specs.declared.EndpointId.{EndpointId}
 use Rattle.am_names.specs.declared.NodeId.{NodeId}
 use Rattle.am_names.specs.Names.{same_end}
@@ -24,7 +25,7 @@ use Rattle.am_scripts.proofs.Declared.{thread_below_64, is_on_declared}
 use Rattle.am_drain.specs.Made.{after_event}
 use Rattle.am_drain.specs.Ready.{off_disk_at}
 use Rattle.am_drain_steps.specs.Enabled.{CallsMayFollow}
-use Rattle.am_drain_steps.proofs.Enabled.{no_fail, event_follows, of_packets, IsSeated, IsSeatedSetting, all_seated}
+use Rattle.am_drain_steps.proofs.Enabled.{event_follows, of_packets, IsSeated, IsSeatedSetting, all_seated}
 use Rattle.am_drain_steps.proofs.Paging.{IsOffDisk, leaves_disk}
 
 -- ---- homes
@@ -85,7 +86,7 @@ call_is_in_range s c ok k =
 call_off_disk : (layout : Layout) (c : ScriptCall) (ready : List Entry) → is_in_range layout (Events.Call (Thread c.thread) c.endpoint c.call) ≡ true → IsOffDisk layout c.endpoint ready → IsHistory layout (after_event layout (Events.Call (Thread c.thread) c.endpoint c.call) ready)
 call_off_disk layout c ready ranged k =
     event_follows layout ready (Events.Call (Thread c.thread) c.endpoint c.call) k.history ranged
-    (no_fail (is_on_disk (state_of layout ready c.endpoint).head.place) Needs.OnDisk None k.off refl)
+    (cond-None (is_on_disk (state_of layout ready c.endpoint).head.place) Needs.OnDisk None k.off refl)
 
 pub calls_may_follow : CallsMayFollow
 calls_may_follow s past c run left =

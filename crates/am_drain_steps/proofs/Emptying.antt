@@ -3,6 +3,9 @@ use Rattle.std.proofs.Common.{◌≡◌, ℕ, zero, suc, ◌+◌, ◌<◌, ◌�
 use Rattle.std.specs.Prelude.{◌&&◌, ◌==◌, not, nat_lt, is_none, find, filter}
 use Rattle.std.specs.List.{list_any, list_all, range_with_len}
 use Rattle.std.proofs.lemmas.Bool.{and_parts, not-false, not-true}
+use Rattle.am_lemmas.proofs.Options.{cond-None}
+use Rattle.am_lemmas.proofs.Lists.{find_passes}
+use Rattle.am_model.proofs.PlaceKinds.{framed_is_resident}
 use Rattle.am_names.specs.declared.EndpointId.{EndpointId}
 use Rattle.am_names.specs.declared.NodeId.{NodeId}
 use Rattle.am_names.specs.Names.{same_end, same_node}
@@ -19,10 +22,10 @@ use Rattle.am_model.specs.Layout.{Layout, AllAre, IsLawful, declared}
 use Rattle.am_model.specs.History.{IsHistory, state_of, is_home, is_in_frame}
 use Rattle.am_model.proofs.Names.{same_end-is, same_node-is}
 use Rattle.am_scripts.specs.Standings.{Standing, standings, standing_in}
-use Rattle.am_scripts.proofs.Lists.{none_all, found_true}
+use Rattle.am_scripts.proofs.Lists.{none_all}
 use Rattle.am_drain.specs.Made.{next_entry, after_event, after_event_if}
 use Rattle.am_drain.specs.Ready.{holds_frame, free_frame, is_neither, may_leave, unloaded, is_open_on_host, paged_out as page_out, spare_of, spare, kept, emptied}
-use Rattle.am_drain_steps.proofs.Enabled.{no_fail, event_follows, IsSeated, IsSeatedSetting, all_seated, IsStanding, is_standing, seat_in_range}
+use Rattle.am_drain_steps.proofs.Enabled.{event_follows, IsSeated, IsSeatedSetting, all_seated, IsStanding, is_standing, seat_in_range}
 use Rattle.am_drain_steps.proofs.Frames.{frames_are_apart, frames_are_used}
 use Rattle.am_drain_steps.proofs.Moves.{Keeps, keeps_same, keeps_then, after_move, move_keeps, Spares, spares_same, spares, spares_then}
 
@@ -67,12 +70,6 @@ in_a_frame frame (Frame other) h = refl
 in_a_frame frame Direct h = absurd (true≢false (sym h))
 in_a_frame frame Host h = absurd (true≢false (sym h))
 in_a_frame frame Disk h = absurd (true≢false (sym h))
-
-pub framed_resident : (p : Place) → is_in_a_frame p ≡ true → is_resident p ≡ true
-framed_resident (Frame other) h = refl
-framed_resident Direct h = refl
-framed_resident Host h = absurd (true≢false (sym h))
-framed_resident Disk h = absurd (true≢false (sym h))
 
 not_in_both : (p : Place) → is_in_frame 0 p ≡ true → is_in_frame 1 p ≡ true → ⊥
 not_in_both (Frame other) a b =
@@ -236,10 +233,10 @@ drains layout past node e true packet h seated framed not_yet =
     record {
       history =
           event_follows layout past (Events.Drain node e) h (seat_in_range layout e node seated)
-          (no_fail layout.direct Needs.NotPacket _ packet
-          (no_fail (not (is_home layout e node)) Needs.OtherNode _ (ap not seated.home)
-          (no_fail (not (is_resident (state_of layout past e).head.place)) Needs.NotResident _ (ap not (framed_resident (state_of layout past e).head.place framed))
-          (no_fail (state_of layout past e).head.draining Needs.Draining None (not-true (state_of layout past e).head.draining not_yet) refl))));
+          (cond-None layout.direct Needs.NotPacket _ packet
+          (cond-None (not (is_home layout e node)) Needs.OtherNode _ (ap not seated.home)
+          (cond-None (not (is_resident (state_of layout past e).head.place)) Needs.NotResident _ (ap not (framed_is_resident (state_of layout past e).head.place framed))
+          (cond-None (state_of layout past e).head.draining Needs.Draining None (not-true (state_of layout past e).head.draining not_yet) refl))));
       keeps = move_keeps e layout past (Events.Drain node e) refl;
       place' = ap (λ (s : State). s.head.place) (after_move e layout past (Events.Drain node e) refl);
       draining' = ap (λ (s : State). s.head.draining) (after_move e layout past (Events.Drain node e) refl);
@@ -251,11 +248,11 @@ drains layout past node e false packet h seated framed already =
 pub unload_may : (layout : Layout) (past : List Entry) (node : NodeId) (e : EndpointId) → layout.direct ≡ false → IsHistory layout past → IsSeated layout e node → is_in_a_frame (state_of layout past e).head.place ≡ true → (state_of layout past e).head.draining ≡ true → (length (state_of layout past e).body.in_flight == 0) ≡ true → IsHistory layout (after_event layout (Events.Unload node e) past)
 unload_may layout past node e packet h seated framed draining empty =
     event_follows layout past (Events.Unload node e) h (seat_in_range layout e node seated)
-    (no_fail layout.direct Needs.NotPacket _ packet
-    (no_fail (not (is_home layout e node)) Needs.OtherNode _ (ap not seated.home)
-    (no_fail (not (is_resident (state_of layout past e).head.place)) Needs.NotResident _ (ap not (framed_resident (state_of layout past e).head.place framed))
-    (no_fail (not (state_of layout past e).head.draining) Needs.NotDraining _ (ap not draining)
-    (no_fail (not (length (state_of layout past e).body.in_flight == 0)) Needs.InFlight None (ap not empty) refl)))))
+    (cond-None layout.direct Needs.NotPacket _ packet
+    (cond-None (not (is_home layout e node)) Needs.OtherNode _ (ap not seated.home)
+    (cond-None (not (is_resident (state_of layout past e).head.place)) Needs.NotResident _ (ap not (framed_is_resident (state_of layout past e).head.place framed))
+    (cond-None (not (state_of layout past e).head.draining) Needs.NotDraining _ (ap not draining)
+    (cond-None (not (length (state_of layout past e).body.in_flight == 0)) Needs.InFlight None (ap not empty) refl)))))
 
 pub unloads_to_host : (layout : Layout) (past : List Entry) (node : NodeId) (e : EndpointId) → is_on_host (state_of layout (after_event layout (Events.Unload node e) past) e).head.place ≡ true
 unloads_to_host layout past node e = ap (λ (s : State). is_on_host s.head.place) (after_move e layout past (Events.Unload node e) refl)
@@ -338,10 +335,10 @@ goes_to_disk layout past node source dest frame st packet h free k passes =
     let opened : (state_of layout past end).head.closed ≡ false = ap (λ (s : State). s.head.closed) (sym k.state) ∙ not-true st.state.head.closed there.1 in
     let next : List Entry = after_event layout (Events.PageOut home end) past in
     let history : IsHistory layout next = event_follows layout past (Events.PageOut home end) h (seat_in_range layout end home k.seated)
-    (no_fail layout.direct Needs.NotPacket _ packet
-    (no_fail (not (is_home layout end home)) Needs.OtherNode _ (ap not k.seated.home)
-    (no_fail (not (is_on_host (state_of layout past end).head.place)) Needs.NotOnHost _ (ap not host)
-    (no_fail (state_of layout past end).head.closed Needs.Closed None opened refl)))) in
+    (cond-None layout.direct Needs.NotPacket _ packet
+    (cond-None (not (is_home layout end home)) Needs.OtherNode _ (ap not k.seated.home)
+    (cond-None (not (is_on_host (state_of layout past end).head.place)) Needs.NotOnHost _ (ap not host)
+    (cond-None (state_of layout past end).head.closed Needs.Closed None opened refl)))) in
     let keeps : Keeps layout end past next = move_keeps end layout past (Events.PageOut home end) refl in
     record {
       aside = other_aside layout source dest end past next both.1 history keeps;
@@ -359,7 +356,7 @@ keeps_free layout past keep node source dest frame packet ok h free = by_spare (
         let p : Standing → Bool = λ (x : Standing). is_open_on_host node x && is_neither source dest x in
         let here : List Standing = filter (is_open_on_host node) (standings layout past) in
         let found : find p (standings layout past) ≡ Some st = sym (find_filter (is_neither source dest) (is_open_on_host node) (standings layout past)) ∙ spare_found (nat_lt keep (length here)) (is_neither source dest) here st is in
-        goes_to_disk layout past node source dest frame st packet h free (is_standing layout past p st ok found) (found_true p (standings layout past) st found)
+        goes_to_disk layout past node source dest frame st packet h free (is_standing layout past p st ok found) (find_passes p (standings layout past) st found)
 
 -- ---- a frame is emptied
 
@@ -375,6 +372,6 @@ empties layout past keep node source dest e packet ok h ground named host full =
     by_leaver (Some st) is =
         let mid : List Entry = unloaded layout (Some st) past in
         let next : List Entry = kept layout keep node source dest mid in
-        let l = leaves layout past node source dest st packet ok h ground (is_standing layout past (may_leave node source dest) st ok is) (found_true (may_leave node source dest) (standings layout past) st is) in
+        let l = leaves layout past node source dest st packet ok h ground (is_standing layout past (may_leave node source dest) st ok is) (find_passes (may_leave node source dest) (standings layout past) st is) in
         let k = keeps_free layout mid keep node source dest l.frame packet ok l.left.aside.history l.left.free in
         record { aside = aside_then layout source dest past mid next l.left.aside k.aside; free = free_found layout next node l.frame ok l.low k.free }

@@ -3,6 +3,8 @@ use Rattle.std.proofs.Common.{◌≡◌, ℕ, zero, suc, ◌+◌, ◌<◌, Bool,
 use Rattle.std.specs.Prelude.{◌&&◌, not, nat_lt, find}
 use Rattle.std.specs.List.{list_any, range_with_len}
 use Rattle.std.proofs.lemmas.Bool.{and_from, and_parts, or_left, or_right}
+use Rattle.am_lemmas.proofs.Options.{cond-None}
+use Rattle.am_lemmas.proofs.Lists.{find_passes}
 use Rattle.am_names.specs.declared.EndpointId.{EndpointId}
 use Rattle.am_names.specs.declared.NodeId.{NodeId}
 use Rattle.am_names.specs.Names.{same_end, same_node}
@@ -28,7 +30,7 @@ use Rattle.am_scripts.specs.Layout.{is_direct, layout_of}
 use Rattle.am_scripts.proofs.Lawful.{lawful_layout}
 use Rattle.am_scripts.specs.Links.{first_some, nodes_of}
 use Rattle.am_scripts.specs.Standings.{Standing, standings, is_missed, standing_in}
-use Rattle.am_scripts.proofs.Lists.{some_mapped, none_mapped, none_all, found_in, found_true}
+use Rattle.am_scripts.proofs.Lists.{some_mapped, none_mapped, none_all, found_in}
 use Rattle.am_drain.specs.declared.Turn.{Turn}
 use Rattle.am_drain.specs.declared.Turn.TheVariants.{Once}
 use Rattle.am_drain.specs.Made.{after_event, next_entry}
@@ -45,10 +47,6 @@ use Rattle.am_drain_steps.proofs.Away.{away_is_settled}
 -- a turn makes a history
 abbrev pub MakesHistory : ScenarioLists → List Entry → Turn → Type 0
 MakesHistory s past t = IsHistory (layout_of s) (after_turn s past t)
-
-pub no_fail : (a : Bool) (u : Condition) (rest : Option Condition) → a ≡ false → rest ≡ None → cond a (Some u) rest ≡ None
-no_fail true u rest off e = absurd (true≢false off)
-no_fail false u rest off e = e
 
 pub event_follows : (layout : Layout) (past : List Entry) (event : Event) → IsHistory layout past → is_in_range layout event ≡ true → failing layout past event ≡ None → IsHistory layout (after_event layout event past)
 event_follows layout past event h ranged may =
@@ -113,16 +111,16 @@ page_in_may : (layout : Layout) (past : List Entry) (st : Standing) → layout.d
 page_in_may layout past st packet h k missed =
     let on_disk : is_on_disk (state_of layout past st.setting.id).head.place ≡ true = ap (λ (s : State). is_on_disk s.head.place) (sym k.state) ∙ missed_on_disk st missed in
     event_follows layout past (Events.PageIn st.setting.node st.setting.id) h (seat_in_range layout st.setting.id st.setting.node k.seated)
-    (no_fail layout.direct Needs.NotPacket _ packet
-    (no_fail (not (is_home layout st.setting.id st.setting.node)) Needs.OtherNode _ (ap not k.seated.home)
-    (no_fail (not (is_on_disk (state_of layout past st.setting.id).head.place)) Needs.NotOnDisk None (ap not on_disk) refl)))
+    (cond-None layout.direct Needs.NotPacket _ packet
+    (cond-None (not (is_home layout st.setting.id st.setting.node)) Needs.OtherNode _ (ap not k.seated.home)
+    (cond-None (not (is_on_disk (state_of layout past st.setting.id).head.place)) Needs.NotOnDisk None (ap not on_disk) refl)))
 
 pub page_ins_may_follow : PageInsMayFollow
 page_ins_may_follow s past t run e =
     let layout : Layout = layout_of s in
     let found = some_mapped page_in_of (find is_missed (standings layout past)) t e in
     subst (λ (u : Turn). IsHistory layout (after_turn s past u)) found.2
-    (page_in_may layout past found.0 (of_packets s run.packet) run.history (is_standing layout past is_missed found.0 (lawful_layout s run.lawful) found.1) (found_true is_missed (standings layout past) found.0 found.1))
+    (page_in_may layout past found.0 (of_packets s run.packet) run.history (is_standing layout past is_missed found.0 (lawful_layout s run.lawful) found.1) (find_passes is_missed (standings layout past) found.0 found.1))
 
 -- ---- polls
 
@@ -145,7 +143,7 @@ poll_may layout past st packet h k free arrived =
     let off : is_on_disk st.state.head.place ≡ false = not_arrived st.state.head.place st.state.head.wanted st.state.body settled free arrived in
     event_follows layout past (Events.Call Outside st.setting.id Calls.Poll) h
     (and_from (true && declared layout st.setting.id) true (and_from true (declared layout st.setting.id) refl k.seated.declared') refl)
-    (no_fail (is_on_disk (state_of layout past st.setting.id).head.place) Needs.OnDisk None (ap (λ (z : State). is_on_disk z.head.place) (sym k.state) ∙ off) refl)
+    (cond-None (is_on_disk (state_of layout past st.setting.id).head.place) Needs.OnDisk None (ap (λ (z : State). is_on_disk z.head.place) (sym k.state) ∙ off) refl)
 
 pub polls_may_follow : PollsMayFollow
 polls_may_follow s past t run none e =
@@ -156,7 +154,7 @@ polls_may_follow s past t run none e =
     subst (λ (u : Turn). IsHistory layout (after_turn s past u)) found.2
     (poll_may layout past found.0 (of_packets s run.packet) run.history (is_standing layout past is_pollable found.0 (lawful_layout s run.lawful) found.1)
     (found_in is_pollable (λ (st : Standing). not (is_missed st)) ends found.0 found.1 all)
-    (found_true is_pollable ends found.0 found.1))
+    (find_passes is_pollable ends found.0 found.1))
 
 -- ---- time-outs
 
@@ -178,8 +176,8 @@ expire_may : (layout : Layout) (past : List Entry) (node peer : NodeId) (channel
 expire_may layout past node peer channel packet h n p c bound =
     event_follows layout past (Events.Expire node peer channel) h
     (and_from (nat_lt node.0 layout.nodes && nat_lt peer.0 layout.nodes) (nat_lt channel layout.channels) (and_from (nat_lt node.0 layout.nodes) (nat_lt peer.0 layout.nodes) (lt-ltb node.0 layout.nodes n) (lt-ltb peer.0 layout.nodes p)) (lt-ltb channel layout.channels c))
-    (no_fail layout.direct Needs.NotPacket _ packet
-    (no_fail (not (is_bound (channel_to node peer channel) past)) Needs.Idle None (ap not bound) refl))
+    (cond-None layout.direct Needs.NotPacket _ packet
+    (cond-None (not (is_bound (channel_to node peer channel) past)) Needs.Idle None (ap not bound) refl))
 
 pub time_outs_may_follow : TimeOutsMayFollow
 time_outs_may_follow s past t run e =

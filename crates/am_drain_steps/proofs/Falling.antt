@@ -4,6 +4,7 @@ use Rattle.std.specs.Prelude.{◌&&◌, ◌==◌, count_by, sum_by, drop, find}
 use Rattle.std.specs.List.{list_any, range_with_len}
 use Rattle.std.proofs.lemmas.Bool.{and_parts}
 use Rattle.std.proofs.lemmas.List.Sums.{sum_by-cons, sum_by_push}
+use Rattle.am_lemmas.proofs.Lists.{find_passes}
 use Rattle.am_names.specs.declared.EndpointId.{EndpointId}
 use Rattle.am_names.specs.declared.NodeId.{NodeId}
 use Rattle.am_names.specs.declared.Message.{Message}
@@ -28,7 +29,7 @@ use Rattle.am_scripts.specs.Links.{nodes_of, received}
 use Rattle.am_scripts.specs.Scripts.{calls_of, script_of}
 use Rattle.am_scripts.specs.Standings.{Standing, standings, is_missed, standing_in}
 use Rattle.am_scripts.proofs.Links.{emitted_push, received_push}
-use Rattle.am_scripts.proofs.Lists.{some_mapped, found_true}
+use Rattle.am_scripts.proofs.Lists.{some_mapped}
 use Rattle.am_drain.specs.declared.Turn.{Turn}
 use Rattle.am_drain.specs.Made.{next_entry, after_event}
 use Rattle.am_drain.specs.Rules.{page_in_of}
@@ -198,6 +199,6 @@ pub page_ins_fall : PageInsFall
 page_ins_fall s past t run is =
     let found = some_mapped page_in_of (find is_missed (standings (layout_of s) past)) t is in
     let k : IsStanding (layout_of s) past found.0 = is_standing (layout_of s) past is_missed found.0 (lawful_layout s run.lawful) found.1 in
-    let missed = and_parts found.0.state.head.wanted (is_on_disk found.0.state.head.place) (found_true is_missed (standings (layout_of s) past) found.0 found.1) in
+    let missed = and_parts found.0.state.head.wanted (is_on_disk found.0.state.head.place) (find_passes is_missed (standings (layout_of s) past) found.0 found.1) in
     let on : is_on_disk (state_of (layout_of s) past found.0.setting.id).head.place ≡ true = ap (λ (z : State). is_on_disk z.head.place) (sym k.state) ∙ missed.1 in
     subst (λ (u : Turn). work s (after_turn s past u) < work s past) found.2 (page_in_falls s past found.0.setting.node found.0.setting.id k.seated.declared' on)

@@ -3,6 +3,7 @@ use Rattle.std.proofs.Common.{◌≡◌, ℕ, zero, suc, ◌+◌, ◌<◌, ◌�
 use Rattle.std.specs.Prelude.{◌&&◌, ◌||◌, ◌==◌, not, nat_lt, count_by}
 use Rattle.std.specs.List.{list_any}
 use Rattle.std.proofs.lemmas.List.Sums.{sum_by_push}
+use Rattle.am_lemmas.proofs.Options.{cond-None}
 use Rattle.am_names.specs.declared.EndpointId.{EndpointId}
 use Rattle.am_names.specs.declared.NodeId.{NodeId}
 use Rattle.am_names.specs.Names.{same_node}
@@ -18,7 +19,7 @@ use Rattle.am_model.proofs.Each.{state_of_push}
 use Rattle.am_model.proofs.Names.{same_end-refl, same_node-refl}
 use Rattle.am_drain.specs.Made.{next_entry, after_event, after_event_if}
 use Rattle.am_drain.specs.Ready.{paged_in as page_ins, off_disk}
-use Rattle.am_drain_steps.proofs.Enabled.{no_fail, event_follows, IsSeated, seat_in_range}
+use Rattle.am_drain_steps.proofs.Enabled.{event_follows, IsSeated, seat_in_range}
 
 -- ---- the faults that are left
 
@@ -82,9 +83,9 @@ after_page_in layout node e past =
 page_in_happens : (layout : Layout) (node : NodeId) (e : EndpointId) (past : List Entry) → layout.direct ≡ false → IsHistory layout past → IsSeated layout e node → is_on_disk (state_of layout past e).head.place ≡ true → IsHistory layout (after_event layout (Events.PageIn node e) past)
 page_in_happens layout node e past packet h seated on_disk =
     event_follows layout past (Events.PageIn node e) h (seat_in_range layout e node seated)
-    (no_fail layout.direct Needs.NotPacket _ packet
-    (no_fail (not (is_home layout e node)) Needs.OtherNode _ (ap not seated.home)
-    (no_fail (not (is_on_disk (state_of layout past e).head.place)) Needs.NotOnDisk None (ap not on_disk) refl)))
+    (cond-None layout.direct Needs.NotPacket _ packet
+    (cond-None (not (is_home layout e node)) Needs.OtherNode _ (ap not seated.home)
+    (cond-None (not (is_on_disk (state_of layout past e).head.place)) Needs.NotOnDisk None (ap not on_disk) refl)))
 
 -- ---- page-ins until one does not fail
 

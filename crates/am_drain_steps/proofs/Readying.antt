@@ -3,6 +3,8 @@ use Rattle.std.proofs.Common.{◌≡◌, ℕ, zero, suc, ◌+◌, ◌<◌, Bool,
 use Rattle.std.specs.Prelude.{◌&&◌, ◌==◌, not, nat_lt, is_none}
 use Rattle.std.specs.List.{list_any, range_with_len}
 use Rattle.std.proofs.lemmas.Bool.{and_from, and_parts, not-true, and_right}
+use Rattle.am_lemmas.proofs.Options.{cond-None}
+use Rattle.am_lemmas.proofs.Lists.{find_passes}
 use Rattle.am_names.specs.declared.EndpointId.{EndpointId}
 use Rattle.am_names.specs.declared.NodeId.{NodeId}
 use Rattle.am_names.specs.Names.{same_end}
@@ -15,12 +17,11 @@ use Rattle.am_model.specs.Endpoint.{State, Body, is_in_a_frame, is_on_host, is_o
 use Rattle.am_model.specs.Layout.{Layout, IsLawful, declared}
 use Rattle.am_model.specs.History.{IsHistory, state_of, is_home, is_frame_held}
 use Rattle.am_scripts.specs.Standings.{standings, standing_in}
-use Rattle.am_scripts.proofs.Lists.{found_true}
 use Rattle.am_drain.specs.Made.{after_event, after_event_if}
 use Rattle.am_drain.specs.Ready.{paged_in as page_ins, off_disk, is_draining_in_frame, not_draining, holds_frame, free_frame, emptied, emptied_if, with_frame, loaded_into, loaded, ready}
 use Rattle.am_drain_steps.specs.Away.{is_settled_at}
 use Rattle.am_drain_steps.proofs.Away.{away_is_settled}
-use Rattle.am_drain_steps.proofs.Enabled.{no_fail, event_follows, IsSeated, seat_in_range}
+use Rattle.am_drain_steps.proofs.Enabled.{event_follows, IsSeated, seat_in_range}
 use Rattle.am_drain_steps.proofs.Paging.{leaves_disk}
 use Rattle.am_drain_steps.proofs.Moves.{Keeps, keeps_same, keeps_then, after_move, move_keeps, move_if_keeps, Spares, spares, spares_then}
 use Rattle.am_drain_steps.proofs.Emptying.{IsNamed, Aside, found_below, unload_may, unloads_to_host, IsGrounded, IsEmptied, empties}
@@ -85,18 +86,18 @@ loads layout past node e packet h seated host opened some = by_frame (free_frame
   where
     into : (frame : ℕ) → free_frame layout node (standings layout past) ≡ Some frame → IsLoaded layout e past (after_event layout (Events.Load node e frame) past)
     into frame is =
-        let free : not (list_any (holds_frame node frame) (standings layout past)) ≡ true = found_true (λ (k : ℕ). not (list_any (holds_frame node k) (standings layout past))) (range_with_len 0 layout.frames) frame is in
+        let free : not (list_any (holds_frame node frame) (standings layout past)) ≡ true = find_passes (λ (k : ℕ). not (list_any (holds_frame node k) (standings layout past))) (range_with_len 0 layout.frames) frame is in
         let held : is_frame_held layout past node frame ≡ false = any_mapped (holds_frame node frame) (standing_in layout past) layout.ends ∙ not-true (list_any (holds_frame node frame) (standings layout past)) free in
         let low : frame < 0 + layout.frames = found_below (λ (k : ℕ). not (list_any (holds_frame node k) (standings layout past))) 0 layout.frames frame is in
         record {
           history =
               event_follows layout past (Events.Load node e frame) h
               (and_from (declared layout e && nat_lt node.0 layout.nodes) (nat_lt frame layout.frames) (seat_in_range layout e node seated) (lt-ltb frame layout.frames (omega (arith, low))))
-              (no_fail layout.direct Needs.NotPacket _ packet
-              (no_fail (not (is_home layout e node)) Needs.OtherNode _ (ap not seated.home)
-              (no_fail (not (is_on_host (state_of layout past e).head.place)) Needs.NotOnHost _ (ap not host)
-              (no_fail (state_of layout past e).head.closed Needs.Closed _ opened
-              (no_fail (is_frame_held layout past node frame) Needs.FrameHeld None held refl)))));
+              (cond-None layout.direct Needs.NotPacket _ packet
+              (cond-None (not (is_home layout e node)) Needs.OtherNode _ (ap not seated.home)
+              (cond-None (not (is_on_host (state_of layout past e).head.place)) Needs.NotOnHost _ (ap not host)
+              (cond-None (state_of layout past e).head.closed Needs.Closed _ opened
+              (cond-None (is_frame_held layout past node frame) Needs.FrameHeld None held refl)))));
           keeps = move_keeps e layout past (Events.Load node e frame) refl;
           framed = ap (λ (s : State). is_in_a_frame s.head.place) (after_move e layout past (Events.Load node e frame) refl);
           still = ap (λ (s : State). s.head.draining) (after_move e layout past (Events.Load node e frame) refl);

@@ -3,6 +3,7 @@ use Rattle.std.proofs.Common.{◌≡◌, ℕ, zero, suc, ◌+◌, ◌-◌, ◌<�
 use Rattle.std.specs.Prelude.{◌&&◌, ◌==◌, nat_lt, nat_le, filter, filter_map, slice_get, MatchOption}
 use Rattle.std.specs.List.{cons_option}
 use Rattle.std.proofs.lemmas.Bool.{and_from, and_parts}
+use Rattle.am_lemmas.proofs.Options.{cond-None}
 use Rattle.am_names.specs.declared.NodeId.{NodeId}
 use Rattle.am_names.specs.declared.Message.{Message}
 use Rattle.am_names.specs.declared.Verdict.{Verdict}
@@ -44,7 +45,7 @@ use Rattle.am_drain.specs.Made.{after_event}
 use Rattle.am_drain.specs.Drain.{after_turn}
 use Rattle.am_drain.proofs.TurnKinds.{Maybe, is_so}
 use Rattle.am_drain_steps.specs.Enabled.{IsOfRun, DuesAreCounted, ReceiptsMayFollow}
-use Rattle.am_drain_steps.proofs.Enabled.{no_fail, event_follows, of_packets, nodes_so}
+use Rattle.am_drain_steps.proofs.Enabled.{event_follows, of_packets, nodes_so}
 use Rattle.am_model.specs.Packets.{from_of, receiver_of}
 
 -- ---- the number of a packet that is emitted
@@ -224,8 +225,8 @@ receipt_may s past node peer n run short on from e =
     let low : n < 2 ^ 32 = omega (arith, k.1, few_emitted peer node past, short) in
     event_follows layout past (Events.Receive node peer n) run.history
     (and_from (nat_lt node.0 layout.nodes && nat_lt peer.0 layout.nodes && nat_le 1 n) (nat_lt n (2 ^ 32)) (and_from (nat_lt node.0 layout.nodes && nat_lt peer.0 layout.nodes) (nat_le 1 n) (and_from (nat_lt node.0 layout.nodes) (nat_lt peer.0 layout.nodes) (lt-ltb node.0 layout.nodes on) (lt-ltb peer.0 layout.nodes from)) (le-leb 1 n k.0)) (lt-ltb n (2 ^ 32) low))
-    (no_fail layout.direct Needs.NotPacket _ (of_packets s run.packet)
-    (no_fail (nat_lt (length (emitted peer node past)) n) Needs.NoPacket None (ltb_false (length (emitted peer node past)) n k.1) refl))
+    (cond-None layout.direct Needs.NotPacket _ (of_packets s run.packet)
+    (cond-None (nat_lt (length (emitted peer node past)) n) Needs.NoPacket None (ltb_false (length (emitted peer node past)) n k.1) refl))
   where
     ltb_false : (a b : ℕ) → b ≤ a → nat_lt a b ≡ false
     ltb_false a b h = by_test (nat_lt a b) refl

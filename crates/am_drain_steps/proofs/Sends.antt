@@ -3,6 +3,8 @@ use Rattle.std.proofs.Common.{◌≡◌, ℕ, zero, suc, ◌+◌, ◌<◌, ◌�
 use Rattle.std.specs.Prelude.{◌&&◌, ◌==◌, not, is_none, is_some, find}
 use Rattle.std.specs.List.{list_any, list_all}
 use Rattle.std.proofs.lemmas.Bool.{and_parts, not-true}
+use Rattle.am_lemmas.proofs.Options.{cond-None}
+use Rattle.am_model.proofs.PlaceKinds.{framed_is_resident}
 use Rattle.am_names.specs.declared.EndpointId.{EndpointId}
 use Rattle.am_names.specs.declared.NodeId.{NodeId}
 use Rattle.am_names.specs.declared.Message.{Message}
@@ -32,11 +34,11 @@ use Rattle.am_drain.specs.Laws.{has_no_flight}
 use Rattle.am_drain_laws.proofs.Soundness.{histories_are_sound, none_bound}
 use Rattle.am_drain_steps.specs.Enabled.{IsOfRun, SendsMayFollow}
 use Rattle.am_drain_steps.specs.Readied.{OffDiskIsOff, ReadyIsReady}
-use Rattle.am_drain_steps.proofs.Enabled.{MakesHistory, no_fail, event_follows, of_packets, IsSeated, IsStanding, is_standing, seat_in_range}
+use Rattle.am_drain_steps.proofs.Enabled.{MakesHistory, event_follows, of_packets, IsSeated, IsStanding, is_standing, seat_in_range}
 use Rattle.am_drain_steps.proofs.Calls.{home_seated, declared_home}
 use Rattle.am_drain_steps.proofs.Paging.{leaves_disk}
 use Rattle.am_drain_steps.proofs.Moves.{Spares, spares_then}
-use Rattle.am_drain_steps.proofs.Emptying.{IsNamed, AsSource, AsDest, framed_resident, IsGrounded}
+use Rattle.am_drain_steps.proofs.Emptying.{IsNamed, AsSource, AsDest, IsGrounded}
 use Rattle.am_drain_steps.proofs.Readying.{IsReady, readies, spared_ground}
 
 -- ---- nothing is in flight
@@ -83,12 +85,12 @@ bind_may s past next node peer e q run none seated has to low k =
     let first : is_none (channel_by layout node next (Some peer)) ≡ false = free_first node peer next s.channels run.lawful.settings.channels.0 free in
     let channel : is_none (channel_for layout node next (front (state_of layout next e))) ≡ false = ap (λ (o : Option Queued). is_none (channel_for layout node next o)) same ∙ (ap (λ (o : Option NodeId). is_none (channel_by layout node next o)) to ∙ first) in
     event_follows layout next (Events.Bind node e) k.history (seat_in_range layout e node seated)
-    (no_fail layout.direct Needs.NotPacket _ (of_packets s run.packet)
-    (no_fail (not (is_home layout e node)) Needs.OtherNode _ (ap not seated.home)
-    (no_fail (not (is_resident (state_of layout next e).head.place)) Needs.NotResident _ (ap not (framed_resident (state_of layout next e).head.place k.framed))
-    (no_fail (state_of layout next e).head.draining Needs.Draining _ k.still
-    (no_fail (is_none (front (state_of layout next e))) Needs.NoMessage _ (ap (λ (o : Option Queued). is_none o) same)
-    (no_fail (is_none (channel_for layout node next (front (state_of layout next e)))) Needs.NoChannel None channel refl))))))
+    (cond-None layout.direct Needs.NotPacket _ (of_packets s run.packet)
+    (cond-None (not (is_home layout e node)) Needs.OtherNode _ (ap not seated.home)
+    (cond-None (not (is_resident (state_of layout next e).head.place)) Needs.NotResident _ (ap not (framed_is_resident (state_of layout next e).head.place k.framed))
+    (cond-None (state_of layout next e).head.draining Needs.Draining _ k.still
+    (cond-None (is_none (front (state_of layout next e))) Needs.NoMessage _ (ap (λ (o : Option Queued). is_none o) same)
+    (cond-None (is_none (channel_for layout node next (front (state_of layout next e)))) Needs.NoChannel None channel refl))))))
 
 -- ---- the destination
 

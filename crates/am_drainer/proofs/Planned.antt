@@ -2,7 +2,8 @@
 use Rattle.std.proofs.Common.{◌≡◌, ℕ, List, [], ◌∷◌, ◌++◌, Option, Some, None, Bool, true, false, cond, map, length, refl, sym, ◌∙◌, ap, append_assoc, eqb-true, ltb-true, arith}
 use Rattle.std.specs.Prelude.{◌&&◌, ◌||◌, ◌≤◌, not, nat_lt, find, filter, option_map, count_by}
 use Rattle.std.specs.List.{list_any}
-use Rattle.std.proofs.lemmas.Bool.{and_parts}
+use Rattle.std.proofs.lemmas.Bool.{and_parts, le-ltb}
+use Rattle.am_model.proofs.Names.{same_end-is}
 use Rattle.am_names.specs.declared.EndpointId.{EndpointId}
 use Rattle.am_names.specs.declared.NodeId.{NodeId}
 use Rattle.am_names.specs.Names.{same_end, is_request}
@@ -147,14 +148,9 @@ found_id : (e : EndpointId) (ss : List EndSetting) (t : EndSetting) → find (ha
 found_id e [] t f = absurd (cc)
 found_id e (s ∷ ss) t f = same_id e (has_id e s) s t (find (has_id e) ss) refl (found_id e ss t) f
 
-ends_equal : (e f : EndpointId) → same_end e f ≡ true → e ≡ f
-ends_equal e f same =
-    let number : e.0 ≡ f.0 = eqb-true e.0 f.0 same in
-    ap (λ (n : ℕ). let x : EndpointId = record { 0 = n } in x) number
-
 roomy_by : (layout : Layout) (past : List Entry) (e : EndpointId) (o : Option EndSetting) (node : NodeId) → find (has_id e) layout.ends ≡ o → Some node ≡ home_by o → has_room (option_map (λ (s : EndSetting). standing_in layout past s) o) ≡ is_roomy layout past e
 roomy_by layout past e None node f same = absurd (cc)
-roomy_by layout past e (Some s) node f same = ap (is_roomy layout past) (sym (ends_equal e s.id (found_id e layout.ends s f)))
+roomy_by layout past e (Some s) node f same = ap (is_roomy layout past) (sym (same_end-is e s.id (found_id e layout.ends s f)))
 
 pub room_at : (layout : Layout) (past : List Entry) (e : EndpointId) (node : NodeId) → Some node ≡ home layout e → is_roomy layout past e ≡ has_room (find (is_standing_of e) (standings layout past))
 room_at layout past e node same =
@@ -213,10 +209,3 @@ make_some o l e = ap make_reads e
 
 pub make_none : (o : Option Left) → None ≡ o → None ≡ option_map make_of o
 make_none o e = ap make_reads e
-
-pub not_below : (m n : ℕ) → n ≤ m → nat_lt m n ≡ false
-not_below m n h = by_test (nat_lt m n) refl
-  where
-    by_test : (b : Bool) → nat_lt m n ≡ b → b ≡ false
-    by_test true is = absurd (omega (arith, h, ltb-true m n is))
-    by_test false is = refl

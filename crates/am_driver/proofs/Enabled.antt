@@ -5,6 +5,7 @@ use Rattle.std.specs.List.{find, list_any, range_with_len}
 use Rattle.std.specs.Option.{option_map, option_or}
 use Rattle.std.proofs.lemmas.Bool.{and_from, not-true}
 use Rattle.am_lemmas.proofs.Bools.{and_first, and_second}
+use Rattle.am_lemmas.proofs.Options.{cond-None}
 use Rattle.am_names.specs.declared.EndpointId.{EndpointId}
 use Rattle.am_names.specs.declared.NodeId.{NodeId}
 use Rattle.am_names.specs.Names.{same_end, same_node}
@@ -24,10 +25,6 @@ use Rattle.am_driver.proofs.Found.{IsFound, Finds, found, finds, weaker, is_anyt
 use Rattle.am_model.proofs.Names.{same_end-is, same_end-refl}
 use Rattle.am_model.proofs.PlaceKinds.{framed_is_resident}
 use Rattle.am_driver.proofs.Frames.{range_below}
-
-pub skip : (b : Bool) (word : Condition) (rest : Option Condition) → b ≡ false → rest ≡ None → cond b (Some word) rest ≡ None
-skip true word rest e h = absurd (cc)
-skip false word rest e h = h
 
 node_in : (layout : Layout) (past : List Entry) (node : NodeId) (view : ViewLists) → Shows layout past node view → nat_lt node.0 layout.nodes ≡ true
 node_in layout past node view shows = lt-ltb _ _ shows.node_declared
@@ -51,11 +48,11 @@ unload_enabled view e h layout past node shows =
     let landed : (e.in_flight == 0) ≡ true = and_second (is_leaving e) (e.in_flight == 0) one.passes in
     let resident : is_resident e.place ≡ true = framed_is_resident e.place (and_first (has_frame e) e.draining leaving) in (
       at_node layout past node view e shows line,
-      skip _ _ _ shows.packet
-          (skip _ _ _ (not_true _ line.home)
-          (skip _ _ _ (not_true _ (placed is_resident layout past node e line resident))
-          (skip _ _ _ (not_true _ (sym line.draining ∙ and_second (has_frame e) e.draining leaving))
-          (skip _ _ _ (not_true _ (sym (ap (λ (n : ℕ). n == 0) line.in_flight) ∙ landed)) refl)))),
+      cond-None _ _ _ shows.packet
+          (cond-None _ _ _ (not_true _ line.home)
+          (cond-None _ _ _ (not_true _ (placed is_resident layout past node e line resident))
+          (cond-None _ _ _ (not_true _ (sym line.draining ∙ and_second (has_frame e) e.draining leaving))
+          (cond-None _ _ _ (not_true _ (sym (ap (λ (n : ℕ). n == 0) line.in_flight) ∙ landed)) refl)))),
     )
 
 page_in_enabled : (view : ViewLists) (e : EndView) → find wants_memory view.ends ≡ Some e → IsEnabledWhereShown view (Moves.PageIn e.id)
@@ -63,9 +60,9 @@ page_in_enabled view e h layout past node shows =
     let one : IsFound (ShowsEnd layout past node) wants_memory view.ends e = found (ShowsEnd layout past node) wants_memory view.ends e shows.right h in
     let line : ShowsEnd layout past node e = one.holds in (
       at_node layout past node view e shows line,
-      skip _ _ _ shows.packet
-          (skip _ _ _ (not_true _ line.home)
-          (skip _ _ _ (not_true _ (placed is_on_disk layout past node e line (and_first (is_on_disk e.place) e.wanted one.passes))) refl)),
+      cond-None _ _ _ shows.packet
+          (cond-None _ _ _ (not_true _ line.home)
+          (cond-None _ _ _ (not_true _ (placed is_on_disk layout past node e line (and_first (is_on_disk e.place) e.wanted one.passes))) refl)),
     )
 
 record IsOpenOnHost (layout : Layout) (past : List Entry) (e : EndView) : Type 0 where
@@ -116,11 +113,11 @@ load_enabled view e frame is_frame h layout past node shows =
     let below : frame < view.frames = free.holds in
     let in_layout : nat_lt frame layout.frames ≡ true = ap (λ (n : ℕ). nat_lt frame n) (sym shows.frames) ∙ lt-ltb _ _ below in (
       and_from (declared layout e.id && nat_lt node.0 layout.nodes) (nat_lt frame layout.frames) (at_node layout past node view e shows line) in_layout,
-      skip _ _ _ shows.packet
-          (skip _ _ _ (not_true _ line.home)
-          (skip _ _ _ open_there.on_host
-          (skip _ _ _ open_there.unclosed
-          (skip _ _ _ (free_in layout past node view frame shows free.passes) refl)))),
+      cond-None _ _ _ shows.packet
+          (cond-None _ _ _ (not_true _ line.home)
+          (cond-None _ _ _ open_there.on_host
+          (cond-None _ _ _ open_there.unclosed
+          (cond-None _ _ _ (free_in layout past node view frame shows free.passes) refl)))),
     )
 
 page_out_enabled : (view : ViewLists) (e : EndView) → find may_page_out view.ends ≡ Some e → IsEnabledWhereShown view (Moves.PageOut e.id)
@@ -129,10 +126,10 @@ page_out_enabled view e h layout past node shows =
     let line : ShowsEnd layout past node e = one.holds in
     let open_there : IsOpenOnHost layout past e = open_on_host layout past node e line (and_first (is_open_on_host e) (not e.wanted) one.passes) in (
       at_node layout past node view e shows line,
-      skip _ _ _ shows.packet
-          (skip _ _ _ (not_true _ line.home)
-          (skip _ _ _ open_there.on_host
-          (skip _ _ _ open_there.unclosed refl))),
+      cond-None _ _ _ shows.packet
+          (cond-None _ _ _ (not_true _ line.home)
+          (cond-None _ _ _ open_there.on_host
+          (cond-None _ _ _ open_there.unclosed refl))),
     )
 
 -- an endpoint in a frame may be drained where none in a frame is draining
@@ -143,10 +140,10 @@ drain_enabled view p e none framed h layout past node shows =
     let here : has_frame e ≡ true = framed e one.passes in
     let undrained : e.draining ≡ false = by_test e.draining refl here one none in (
       at_node layout past node view e shows line,
-      skip _ _ _ shows.packet
-          (skip _ _ _ (not_true _ line.home)
-          (skip _ _ _ (not_true _ (placed is_resident layout past node e line (framed_is_resident e.place here)))
-          (skip _ _ _ (sym line.draining ∙ undrained) refl))),
+      cond-None _ _ _ shows.packet
+          (cond-None _ _ _ (not_true _ line.home)
+          (cond-None _ _ _ (not_true _ (placed is_resident layout past node e line (framed_is_resident e.place here)))
+          (cond-None _ _ _ (sym line.draining ∙ undrained) refl))),
     )
   where
     by_test : {P : EndView → Type 0} (b : Bool) → e.draining ≡ b → has_frame e ≡ true → IsFound P p view.ends e → list_any is_leaving view.ends ≡ false → e.draining ≡ false

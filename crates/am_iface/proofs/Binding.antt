@@ -2,6 +2,7 @@
 use Rattle.std.specs.Prelude.{is_none, not}
 use Rattle.std.proofs.Common.{◌≡◌, ◌+◌, ℕ, Bool, true, false, List, [], ◌∷◌, Option, Some, None, refl, sym, ap, ◌∙◌, subst, true≢false}
 use Rattle.std.proofs.lemmas.Bool.{not-false}
+use Rattle.am_model.proofs.PlaceKinds.{resident_not_on_disk}
 use Rattle.am_names.specs.declared.EndpointId.{EndpointId}
 use Rattle.am_names.specs.declared.NodeId.{NodeId}
 use Rattle.am_office.specs.declared.Condition.{Condition}
@@ -52,13 +53,6 @@ ready_to_bind i s end on =
     let d = none_holds (is_none (front s)) Needs.NoMessage no_channel c.1 in
     let f = none_holds (is_none (channel_of_front i (front s))) Needs.NoChannel [] d.1 in
     record { home = not-false (is_home_in i end) a.0; resident = not-false (is_resident s.head.place) b.0; message = d.0; channel = f.0 }
-
--- it isn't on disk
-pub off_disk : (place : Place) → is_resident place ≡ true → is_on_disk place ≡ false
-off_disk (Frame frame) is = refl
-off_disk Direct is = refl
-off_disk Host is = refl
-off_disk Disk is = absurd (true≢false (sym is))
 
 -- it has a front message
 pub not_empty : (q : Option Queued) → is_none q ≡ false → q ≡ None → ⊥

@@ -6,7 +6,7 @@ use Rattle.std.specs.List.{All, range_with_len}
 use Rattle.std.specs.List.Sorted.{IsStrictlySortedBy}
 use Rattle.std.specs.Map.{keys_of}
 use Rattle.std.specs.Ordering.{nat_cmp}
-use Rattle.std.proofs.lemmas.Bool.{cases_lt}
+use Rattle.std.proofs.lemmas.Bool.{cases_lt, leb-true}
 use Rattle.std.proofs.lemmas.Bool.Decides.{nat_tests}
 use Rattle.std.proofs.lemmas.Grind.{flat_map-append}
 use Rattle.std.proofs.lemmas.List.{length-map, take-map, drop-map, drop-take, take-append-drop, take-take, take_all, take_more}
@@ -171,15 +171,12 @@ words_found (byte ∷ text) begun is small =
     (All-append IsFound (closed begun) (words_after [] text) (closed_found begun small) (words_found text [] (λ (i : ℕ). is (suc i)) (λ (i : ℕ). lit< tt)))
     (words_found text (begun ++ byte ∷ []) (λ (i : ℕ). is (suc i)) (push_small begun byte small (is zero)))
 
-within : (n m : ℕ) → nat_le n m ≡ true → n ≤ m
-within n m e = grind (arith, nat_tests)
-
 pub short_are_words : (text : List ℕ) → IsText text → All IsWord (short_words text)
 short_are_words text is =
     λ (k : ℕ) (d : List ℕ) (below : k < length (short_words text)).
     let found : IsFound (get_or (short_words text) k d) = All-filter is_short IsFound (words_of text) (words_found text [] is (λ (i : ℕ). lit< tt)) k d below in
     let short : is_short (get_or (short_words text) k d) ≡ true = filter_passes is_short (words_of text) k d below in
-    record { some = found.some; few = within (length (get_or (short_words text) k d)) 24 short; small = found.small }
+    record { some = found.some; few = leb-true (length (get_or (short_words text) k d)) 24 short; small = found.small }
 
 -- ---- the whole job
 

@@ -8,7 +8,7 @@ use Rattle.am_model.specs.Layout.{AllAre}
 use Rattle.am_model.specs.Merge.{is_before, is_ordered}
 use Rattle.am_merge.specs.Logs.{IsRising}
 use Rattle.am_merge.specs.Merged.{entries_of, is_same}
-use Rattle.am_merge.proofs.Sorted.{Has}
+use Rattle.am_merge.proofs.Sorted.{Has, has_first, has_last}
 use Rattle.am_join.specs.Heads.{log_at}
 use Rattle.am_join.specs.Joined.{added, is_last}
 
@@ -42,14 +42,6 @@ has_log [] x h = absurd h
 has_log (y ∷ log) x h =
     ⊎_elim (λ (here : y ≡ x). (0, ap (λ (z : Entry). Some z) here)) (λ (there : Has log x). (let r = has_log log x there in (suc r.0, r.1))) h
 
-pub has_left : (xs ys : List Entry) (z : Entry) → Has xs z → Has (xs ++ ys) z
-has_left [] ys z h = absurd h
-has_left (x ∷ xs) ys z h = ⊎_elim (λ (here : x ≡ z). inl here) (λ (there : Has xs z). inr (has_left xs ys z there)) h
-
-pub has_right : (xs ys : List Entry) (z : Entry) → Has ys z → Has (xs ++ ys) z
-has_right [] ys z h = h
-has_right (x ∷ xs) ys z h = inr (has_right xs ys z h)
-
 pub has_either : (xs ys : List Entry) (z : Entry) → Has (xs ++ ys) z → Has xs z ⊎ Has ys z
 has_either [] ys z h = inr h
 has_either (x ∷ xs) ys z h =
@@ -57,8 +49,8 @@ has_either (x ∷ xs) ys z h =
 
 pub entry_there : (logs : List (List Entry)) (k place : ℕ) (x : Entry) → slice_get (log_at logs k) place ≡ Some x → Has (entries_of logs) x
 entry_there [] k place x is = absurd (none_there x is)
-entry_there (log ∷ logs) zero place x is = has_left log (entries_of logs) x (log_has log place x is)
-entry_there (log ∷ logs) (suc k) place x is = has_right log (entries_of logs) x (entry_there logs k place x is)
+entry_there (log ∷ logs) zero place x is = has_first log (entries_of logs) x (log_has log place x is)
+entry_there (log ∷ logs) (suc k) place x is = has_last log (entries_of logs) x (entry_there logs k place x is)
 
 pub there_entry : (logs : List (List Entry)) (x : Entry) → Has (entries_of logs) x → (k : ℕ) × ((place : ℕ) × (slice_get (log_at logs k) place ≡ Some x))
 there_entry [] x h = absurd h
@@ -149,7 +141,7 @@ added_keeps x xs z h = by_test (is_last x (slice_get xs (length xs - 1)))
   where
     by_test : (b : Bool) → Has (if b then xs else xs ++ x ∷ []) z
     by_test true = h
-    by_test false = has_left xs (x ∷ []) z h
+    by_test false = has_first xs (x ∷ []) z h
 
 -- what a last entry is
 pub last_is : (x : Entry) (o : Option Entry) → is_last x o ≡ true → (l : Entry) × ((o ≡ Some l) × (is_same l x ≡ true))
@@ -164,7 +156,7 @@ added_new x xs one = by_test (is_last x (slice_get xs (length xs - 1))) refl
         let r = last_is x (slice_get xs (length xs - 1)) is in
         let h = log_has xs (length xs - 1) r.0 r.1.0 in
         subst (Has xs) (one r.0 h r.1.1) h
-    by_test false is = has_right xs (x ∷ []) x (inl refl)
+    by_test false is = has_last xs (x ∷ []) x (inl refl)
 
 pub ordered_added : (x : Entry) (xs : List Entry) → is_ordered xs ≡ true → (((l : Entry) → slice_get xs (length xs - 1) ≡ Some l → is_same l x ≡ false) → (z : Entry) → Has xs z → is_before z x ≡ true) → is_ordered (added x xs) ≡ true
 ordered_added x xs ordered above = by_test (is_last x (slice_get xs (length xs - 1))) refl

@@ -4,10 +4,10 @@ use Rattle.std.specs.List.{All}
 use Rattle.std.proofs.Common.{◌≡◌, ⊎_elim, ℕ, zero, suc, ◌+◌, ◌*◌, ◌<◌, ◌^◌, ◌==◌, Bool, true, false, cond, ◌&&◌, List, [], ◌∷◌, ◌++◌, map, length, Option, Some, None, true≢false, refl, sym, ap, ◌∙◌, arith, eq-eqb, eqb-true, ltb-true, ltb-false}
 use Rattle.std.proofs.lemmas.List.{append-nil, length-set}
 use Rattle.std.proofs.lemmas.List.Sums.{fold-append, sum_by_push, count_by-le-length}
-use Rattle.std.proofs.lemmas.Option.{slice_get_within}
+use Rattle.std.proofs.lemmas.Option.{slice_get_within, slice_get-get_or}
 use Rattle.std.specs.Global.{Vec}
 use mathlib.Core.Bool.{and_comm}
-use Rattle.am_lemmas.proofs.Lists.{slice_get-set_cases, Some-slice_get_map}
+use Rattle.am_lemmas.proofs.Lists.{slice_get-set_cases, Some-slice_get_map, All-slice_get}
 use Rattle.am_names.specs.declared.NodeId.{NodeId}
 use Rattle.am_names.specs.declared.Packet.{Packet}
 use Rattle.am_names.specs.declared.Packet.TheVariants as Packets
@@ -23,7 +23,6 @@ use Rattle.am_drain.specs.Made.{later_stamp}
 use Rattle.am_journal.specs.Kept.{items_of}
 use Rattle.am_journal.specs.Places.{link, link_of, receipt_place, counted, delivered}
 use Rattle.am_journal.specs.View.{AreNodes, AreRead, CanCount, HasRoomFor, IndexView, IsIndexOf, Readings, greatest_stamp, is_receipt, received_in, receipts, IsBetweenNodes}
-use Rattle.am_journal.proofs.Lists.{index_got, got_all}
 
 -- the greatest stamp, one entry more
 pub greatest_push : (xs : List Entry) (x : Entry) → greatest_stamp (xs ++ x ∷ []) ≡ max (greatest_stamp xs) x.stamp
@@ -51,7 +50,7 @@ counted_got (Some j) ns k n h = ⊎_elim here there (slice_get-set_cases ns j k 
 
     here : (k ≡ j) × (n ≡ slice_index_or ns j 0 + 1) → (m : ℕ) × (slice_get ns k ≡ Some m) × (n ≡ m + bit (k == j))
     here both =
-        (slice_index_or ns k 0, index_got ns k 0 within, both.1 ∙ ap (λ (i : ℕ). slice_index_or ns i 0 + 1) (sym both.0) ∙ ap (λ (b : Bool). slice_index_or ns k 0 + bit b) (sym (eq-eqb k j both.0)))
+        (slice_index_or ns k 0, slice_get-get_or ns k 0 within, both.1 ∙ ap (λ (i : ℕ). slice_index_or ns i 0 + 1) (sym both.0) ∙ ap (λ (b : Bool). slice_index_or ns k 0 + bit b) (sym (eq-eqb k j both.0)))
 
     there : (k ≡ j → ⊥) × (slice_get ns k ≡ Some n) → (m : ℕ) × (slice_get ns k ≡ Some m) × (n ≡ m + bit (k == j))
     there both =
@@ -100,7 +99,7 @@ delivered_got (Some p) ls k ps h = ⊎_elim here there (slice_get-set_cases ls (
     here : (k ≡ link_of p) × (ps ≡ slice_index_or ls (link_of p) [] ++ p ∷ []) → (qs : List Packet) × (slice_get ls k ≡ Some qs) × (ps ≡ qs ++ cond (k == link_of p) (p ∷ []) [])
     here both = (
       slice_index_or ls k [],
-      index_got ls k [] within,
+      slice_get-get_or ls k [] within,
       both.1
           ∙ ap (λ (i : ℕ). slice_index_or ls i [] ++ p ∷ []) (sym both.0)
           ∙ ap (λ (b : Bool). slice_index_or ls k [] ++ cond b (p ∷ []) []) (sym (eq-eqb k (link_of p) both.0)),
@@ -157,7 +156,7 @@ read_none links many none =
       received = λ from to n lt h. replicated 256 (16 * from + to) n h;
       emitted = λ from to ps lt h.
           (let g = Some-slice_get_map items_of links (16 * from + to) ps h in
-          sym g.2 ∙ got_all (λ (v : Vec Packet). v.items ≡ []) links (16 * from + to) g.0 none g.1);
+          sym g.2 ∙ All-slice_get (λ (v : Vec Packet). v.items ≡ []) links (16 * from + to) g.0 none g.1);
       all_received = refl;
       all_links = map_length' links ∙ many;
     }
@@ -170,18 +169,18 @@ read_none links many none =
 pub receipt_count : (entries : List Entry) (received : List ℕ) (links : List (List Packet)) (from to : NodeId) (n : ℕ) → AreRead entries received links → from.0 < 16 → to.0 < 16 → n ≡ slice_index_or received (link from to) n → n ≡ receipts from to entries
 receipt_count entries received links from to n are lt below at =
     are.received from.0 to.0 n below
-    (index_got received (link from to) n (let all = are.all_received in omega (arith, lt, below, all)) ∙ ap (λ (m : ℕ). Some m) (sym at))
+    (slice_get-get_or received (link from to) n (let all = are.all_received in omega (arith, lt, below, all)) ∙ ap (λ (m : ℕ). Some m) (sym at))
 
 pub emitted_here : (entries : List Entry) (received : List ℕ) (links : List (List Packet)) (from to : NodeId) (ps : List Packet) → AreRead entries received links → from.0 < 16 → to.0 < 16 → ps ≡ slice_index_or links (link from to) ps → ps ≡ emitted from to entries
 emitted_here entries received links from to ps are lt below at =
     are.emitted from.0 to.0 ps below
-    (index_got links (link from to) ps (let all = are.all_links in omega (arith, lt, below, all)) ∙ ap (λ (qs : List Packet). Some qs) (sym at))
+    (slice_get-get_or links (link from to) ps (let all = are.all_links in omega (arith, lt, below, all)) ∙ ap (λ (qs : List Packet). Some qs) (sym at))
 
 -- ---- counts
 
 pub received_is : (entries : List Entry) (r : Readings) (from to : NodeId) → IsIndexOf entries r → from.0 < 16 → to.0 < 16 → received_in r from to ≡ receipts from to entries
 received_is entries r from to is lt below =
-    is.read.received from.0 to.0 (received_in r from to) below (index_got r.received (link from to) 0 (let all = is.read.all_received in omega (arith, lt, below, all)))
+    is.read.received from.0 to.0 (received_in r from to) below (slice_get-get_or r.received (link from to) 0 (let all = is.read.all_received in omega (arith, lt, below, all)))
 
 -- the nodes of the link at a place
 nodes_at : (k : ℕ) → (from : ℕ) × (to : ℕ) × (to < 16) × (k ≡ 16 * from + to)
@@ -198,7 +197,7 @@ can_count entries r is few =
     record {
       received = λ k d lt.
           (let n = nodes_at k in
-          let at : slice_get r.received (16 * n.0 + n.1) ≡ Some (slice_index_or r.received k d) = ap (slice_get r.received) (sym n.3) ∙ index_got r.received k d lt in
+          let at : slice_get r.received (16 * n.0 + n.1) ≡ Some (slice_index_or r.received k d) = ap (slice_get r.received) (sym n.3) ∙ slice_get-get_or r.received k d lt in
           let same = is.read.received n.0 n.1 (slice_index_or r.received k d) n.2 at in
           let most = count_by-le-length (λ (x : Entry). is_receipt (node_at n.0) (node_at n.1) x.event) entries in
           omega (arith, same, most, few));

@@ -2,7 +2,8 @@
 use Rattle.std.specs.Prelude.{slice_get, slice_set, slice_index_or}
 use Rattle.std.specs.List.{All}
 use Rattle.std.proofs.Common.{◌≡◌, ℕ, zero, suc, ◌<◌, subst, List, [], ◌∷◌, map, length, Some, refl, ap, arith}
-use Rattle.std.proofs.lemmas.Option.{slice_get_within, get_or_from_slice_get}
+use Rattle.std.proofs.lemmas.Option.{slice_get_within, get_or_from_slice_get, slice_get-get_or}
+use Rattle.am_lemmas.proofs.Lists.{All-slice_get}
 
 pub map_set : {X Y : Type 0} (f : X → Y) (xs : List X) (k : ℕ) (v : X) → map f (slice_set xs k v) ≡ slice_set (map f xs) k (f v)
 map_set f [] k v = refl
@@ -24,11 +25,3 @@ pub index_map : {X Y : Type 0} (f : X → Y) (xs : List X) (k : ℕ) (d : X) (e 
 index_map f [] k d e lt = absurd (omega (arith, lt))
 index_map f (x ∷ xs) zero d e lt = refl
 index_map f (x ∷ xs) (suc k) d e lt = index_map f xs k d e (omega (arith, lt))
-
-pub index_got : {X : Type 0} (xs : List X) (k : ℕ) (d : X) → k < length xs → slice_get xs k ≡ Some (slice_index_or xs k d)
-index_got [] k d lt = absurd (omega (arith, lt))
-index_got (x ∷ xs) zero d lt = refl
-index_got (x ∷ xs) (suc k) d lt = index_got xs k d (omega (arith, lt))
-
-pub got_all : {X : Type 0} (P : X → Type 0) (xs : List X) (k : ℕ) (x : X) → All P xs → slice_get xs k ≡ Some x → P x
-got_all P xs k x all h = subst P (get_or_from_slice_get xs k x x h) (all k x (slice_get_within xs k x h))

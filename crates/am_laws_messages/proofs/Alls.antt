@@ -3,6 +3,7 @@ use Rattle.std.specs.Prelude.{slice_get}
 use Rattle.std.proofs.Common.{◌≡◌, ℕ, zero, suc, Bool, true, false, cond, List, [], ◌∷◌, ◌++◌, drop, Option, Some, None, refl, sym, subst}
 use Rattle.std.specs.List.{find, filter_map, cons_option}
 use Rattle.std.proofs.lemmas.List.Elements.{filter_map-append}
+use Rattle.am_lemmas.proofs.Lists.{slice_get-append_left}
 use Rattle.am_office.specs.declared.Entry.{Entry}
 use Rattle.am_model.specs.Choice.{without_first}
 use Rattle.am_model.specs.Layout.{AllAre}
@@ -32,14 +33,9 @@ all_without P p (x ∷ xs) h = by_test P x xs (without_first p xs) (p x) h.0 h.1
     by_test P x xs ys true here all more = all
     by_test P x xs ys false here all more = (here, more)
 
-get_append : {A : Type 0} (xs ys : List A) (k : ℕ) (a : A) → slice_get xs k ≡ Some a → slice_get (xs ++ ys) k ≡ Some a
-get_append [] ys k a h = absurd (cc)
-get_append (x ∷ xs) ys zero a h = h
-get_append (x ∷ xs) ys (suc k) a h = get_append xs ys k a h
-
 pub gave_more : {A : Type 0} (given : Entry → Option A) (past : List Entry) (x : Entry) (a : A) → Gave given past a → Gave given (past ++ x ∷ []) a
 gave_more given past x a h =
-    (h.0, subst (λ ys. slice_get ys h.0 ≡ Some a) (sym (filter_map-append given past (x ∷ []))) (get_append (filter_map given past) (filter_map given (x ∷ [])) h.0 a h.1))
+    (h.0, subst (λ ys. slice_get ys h.0 ≡ Some a) (sym (filter_map-append given past (x ∷ []))) (slice_get-append_left (filter_map given past) (filter_map given (x ∷ [])) h.0 a h.1))
 
 pub gave_now : {A : Type 0} (given : Entry → Option A) (past : List Entry) (x : Entry) (a : A) → given x ≡ Some a → Gave given (past ++ x ∷ []) a
 gave_now given [] x a h = (zero, subst (λ w. slice_get (cons_option w []) 0 ≡ Some a) (sym h) refl)

@@ -5,7 +5,8 @@ use Rattle.std.specs.List.{All}
 use Rattle.std.specs.Option.{option_map}
 use Rattle.std.specs.Str.{bytes_eq}
 use Rattle.std.proofs.lemmas.List.Elements.{All-nil, All-cons, All-tail}
-use Rattle.std.proofs.lemmas.Bool.{ltb-true, eqb-true}
+use Rattle.std.proofs.lemmas.Bool.{ltb-true, eqb-true, leb-true}
+use Rattle.am_lemmas.proofs.Lists.{find_passes}
 use Rattle.am_lexer.specs.declared.what.What.TheVariants.{UnknownWord, OutOfRange, Undeclared, TooMany}
 use Rattle.am_lexer.specs.Fields.{or_else, word_at, number_at, within, ended}
 use Rattle.am_names.specs.declared.EndpointId.{EndpointId}
@@ -37,8 +38,8 @@ use Rattle.am_lines.specs.Settings.{setting_line}
 use Rattle.am_lines.specs.Lines.{words_say}
 use Rattle.am_lines_laws.specs.LineLaws.{section_said, fits_form, Kind, OfSetting, OfScript, OfStep, kind_said, kind_of, section_of_kind, is_kind_of_form, LinesAreLawful}
 use Rattle.am_lines_laws.proofs.Meets.{Meets, refuses, gives, bind, test, anything, found}
-use Rattle.am_lines_laws.proofs.Words.{a_number, is_within, is_below, a_node, a_tag, a_serial, an_end, a_bundle, find_passes, IsEndFor}
-use Rattle.am_lines_laws.proofs.Declaring.{Says, is_at_most, a_version, a_setting, an_endpoint, a_bundle_line, a_thread, a_plan_line, a_swap_fault}
+use Rattle.am_lines_laws.proofs.Words.{a_number, is_within, is_below, a_node, a_tag, a_serial, an_end, a_bundle, IsEndFor}
+use Rattle.am_lines_laws.proofs.Declaring.{Says, a_version, a_setting, an_endpoint, a_bundle_line, a_thread, a_plan_line, a_swap_fault}
 
 -- ---- calls
 
@@ -166,7 +167,7 @@ some_bundled : (form : Form) (said : Said) (thread : ℕ) (calls : List (Endpoin
 unfolding bundled
 some_bundled form said thread calls h =
     test (nat_le (length said.script + length calls) 16_384) _ _
-    (λ room. gives (Says form said OfScript) (line.Calls thread calls) (refl, (h, is_at_most _ _ room)))
+    (λ room. gives (Says form said OfScript) (line.Calls thread calls) (refl, (h, leb-true _ _ room)))
     (λ full. refuses (Says form said OfScript) TooMany)
 
 a_poll_bundle : (form : Form) (said : Said) (thread : ThreadLine) (words : List (List ℕ)) → thread_node said.threads thread.id ≡ Some thread.node

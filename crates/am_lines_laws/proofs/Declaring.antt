@@ -7,8 +7,9 @@ use Rattle.std.specs.Str.{bytes_eq}
 use Rattle.std.proofs.lemmas.Bool.Decides.{nat_tests}
 use Rattle.std.proofs.lemmas.List.Elements.{All-nil, All-cons, All-weaker}
 use Rattle.std.proofs.lemmas.List.Kept.{AllPairs-cons}
-use Rattle.std.proofs.lemmas.Bool.{or_parts, ltb-true}
+use Rattle.std.proofs.lemmas.Bool.{or_parts, ltb-true, leb-true}
 use Rattle.am_lemmas.proofs.Lists.{none_passes}
+use Rattle.am_lemmas.proofs.Options.{not_some-None}
 use Rattle.am_lexer.specs.declared.what.What.TheVariants.{UnknownWord, OutOfRange, Twice, TooMany}
 use Rattle.am_lexer.specs.Fields.{word_at, within, ended}
 use Rattle.am_names.specs.declared.EndpointId.{EndpointId}
@@ -39,13 +40,6 @@ abbrev pub Says : Form → Said → Kind → Line → Type 0
 Says form said kind says = (kind_said says ≡ kind) × IsLawfulLine form said says
 
 -- ---- tests
-
-pub is_at_most : (a b : ℕ) → nat_le a b ≡ true → a ≤ b
-is_at_most a b e = grind (arith, nat_tests)
-
-pub is_none : {A : Type 0} (o : Option A) → is_some o ≡ false → o ≡ None
-is_none None e = refl
-is_none (Some x) e = absurd (cc)
 
 pub differ : (a b : ℕ) → (a == b) ≡ false → b ≢ a
 differ a b e = grind (arith, nat_tests)
@@ -119,7 +113,7 @@ an_endpoint form said words =
     test (is_some (end_of said id.0)) _ _ (λ e. refuses (Says form said OfDeclaration) Twice) (λ new.
     test (nat_lt (count_by (λ end. end.node.0 == node.0.0) said.ends) 64) _ _
     (λ room. gives (Says form said OfDeclaration) (line.End (record { id = record { 0 = id.0 }; node = node.0; tag = tag.0; disk = disk.0 }))
-    (refl, (record { id = id_in.1; node = node_in; tag = tag_in; disk = disk_in }, is_none (end_of said id.0) new, ltb-true _ _ room)))
+    (refl, (record { id = id_in.1; node = node_in; tag = tag_in; disk = disk_in }, not_some-None (end_of said id.0) new, ltb-true _ _ room)))
     (λ full. refuses (Says form said OfDeclaration) TooMany)))))))
 
 pub a_thread : (form : Form) (said : Said) (words : List (List ℕ)) → Meets (Says form said OfDeclaration) (thread_line said words)
@@ -131,7 +125,7 @@ a_thread form said words =
     test (is_some (thread_of said id.0)) _ _ (λ e. refuses (Says form said OfDeclaration) Twice) (λ new.
     test (nat_lt (count_by (λ thread. thread.node.0 == node.0.0) said.threads) 4) _ _
     (λ room. gives (Says form said OfDeclaration) (line.Thread (record { id = id.0; node = node.0 }))
-    (refl, (record { id = id_in.1; node = node_in }, is_none (thread_of said id.0) new, ltb-true _ _ room)))
+    (refl, (record { id = id_in.1; node = node_in }, not_some-None (thread_of said id.0) new, ltb-true _ _ room)))
     (λ full. refuses (Says form said OfDeclaration) TooMany)))))
 
 a_link_fault : (words : List (List ℕ)) → Meets (λ (fault : LinkFault × List (List ℕ)). IsLawfulFault fault.0) (link_fault_at words)
@@ -208,6 +202,6 @@ a_bundle_line form said words =
           some_member = omega arith;
           once = all_once (first.id ∷ others) parts.1;
         },
-        is_none (bundle_of said id.0) parts.0,
+        not_some-None (bundle_of said id.0) parts.0,
       ),
     )))))))

@@ -6,7 +6,8 @@ use Rattle.std.specs.Option.{option_map}
 use Rattle.std.specs.Str.{bytes_eq}
 use Rattle.std.proofs.lemmas.Bool.Decides.{nat_tests}
 use Rattle.std.proofs.lemmas.List.Elements.{All-nil, All-cons}
-use Rattle.std.proofs.lemmas.Bool.{and_parts, ltb-true, eqb-true}
+use Rattle.std.proofs.lemmas.Bool.{and_parts, ltb-true, eqb-true, leb-true}
+use Rattle.am_lemmas.proofs.Lists.{find_passes}
 use Rattle.am_lexer.specs.declared.what.What.TheVariants.{BadNumber, OutOfRange, Undeclared}
 use Rattle.am_lexer.specs.Text.{number_of, value_after}
 use Rattle.am_lexer.specs.Fields.{or_else, word_at, number_at, within}
@@ -23,9 +24,6 @@ use Rattle.am_lines.specs.Places.{below, node_at, is_wanted, end_word, end_at, i
 use Rattle.am_lines_laws.proofs.Meets.{Meets, refuses, gives, bind, test, anything, found}
 
 -- ---- numbers
-
-le_true : (a b : ℕ) → nat_le a b ≡ true → a ≤ b
-le_true a b e = grind (arith, nat_tests)
 
 if_some : {A : Type 0} (b : Bool) (x y : A) → (if b then Some x else None) ≡ Some y → (b ≡ true) × (x ≡ y)
 if_some true x y e = (refl, cc)
@@ -50,7 +48,7 @@ unfolding within
 is_within low high words =
     bind (number_at words) _ (anything (number_at words)) (λ n _.
     test (nat_le low n.0 && nat_le n.0 high) _ _
-    (λ e. let ranges = and_parts (nat_le low n.0) (nat_le n.0 high) e in gives (λ (n : ℕ × List (List ℕ)). IsWithin low high n.0) n (le_true low n.0 ranges.0, le_true n.0 high ranges.1))
+    (λ e. let ranges = and_parts (nat_le low n.0) (nat_le n.0 high) e in gives (λ (n : ℕ × List (List ℕ)). IsWithin low high n.0) n (leb-true low n.0 ranges.0, leb-true n.0 high ranges.1))
     (λ e. refuses (λ (n : ℕ × List (List ℕ)). IsWithin low high n.0) OutOfRange))
 
 pub is_below : (limit : ℕ) (words : List (List ℕ)) → Meets (λ (n : ℕ × List (List ℕ)). n.0 < limit) (below limit words)
@@ -91,8 +89,8 @@ serial_is_small word serial e =
     let count = and_then_some (number_of (drop (dot.0 + 1) word)) _ serial source.1 in
     let fits = if_some (nat_le source.0 255 && nat_le count.0 0xffff_ffff) _ serial count.1 in
     let ranges = and_parts (nat_le source.0 255) (nat_le count.0 0xffff_ffff) fits.0 in
-    let first : source.0 ≤ 255 = le_true _ _ ranges.0 in
-    let second : count.0 ≤ 0xffff_ffff = le_true _ _ ranges.1 in
+    let first : source.0 ≤ 255 = leb-true _ _ ranges.0 in
+    let second : count.0 ≤ 0xffff_ffff = leb-true _ _ ranges.1 in
     subst (λ (s : Serial). IsLawfulSerial s) fits.1 (first, omega arith)
 
 pub a_serial : (words : List (List ℕ)) → Meets (λ (s : Serial × List (List ℕ)). IsLawfulSerial s.0) (serial_at words)
@@ -107,10 +105,6 @@ a_serial words =
 find_passes_at : {A : Type 0} (p : A → Bool) (y x : A) (b : Bool) (rest : Option A) → p y ≡ b → (rest ≡ Some x → p x ≡ true) → (if b then Some y else rest) ≡ Some x → p x ≡ true
 find_passes_at p y x true rest is others e = let same : y ≡ x = cc in subst (λ z. p z ≡ true) same is
 find_passes_at p y x false rest is others e = others e
-
-pub find_passes : {A : Type 0} (p : A → Bool) (xs : List A) (x : A) → find p xs ≡ Some x → p x ≡ true
-find_passes p [] x e = absurd (cc)
-find_passes p (y ∷ ys) x e = find_passes_at p y x (p y) (find p ys) refl (find_passes p ys x) e
 
 -- the endpoint that was found is declared under its own number, on its node
 pub found_is_on : (said : Said) (id : ℕ) (end : EndLine) → end_of said id ≡ Some end → IsOn said.ends end.node end.id

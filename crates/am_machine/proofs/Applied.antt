@@ -4,6 +4,7 @@ use Rattle.std.specs.List.{list_any, filter, position}
 use Rattle.std.proofs.Common.{◌≡◌, ℕ, zero, suc, ◌+◌, ◌-◌, ◌<◌, ◌≤◌, Bool, true, false, cond, List, [], ◌∷◌, ◌++◌, map, length, Option, Some, None, refl, sym, ap, ◌∙◌, subst, arith, leb-false, if◌then◌else◌}
 use Rattle.std.proofs.lemmas.Bool.{and_parts}
 use Rattle.std.proofs.lemmas.List.{length_push}
+use Rattle.std.proofs.lemmas.Option.{slice_get-get_or}
 use mathlib.Core.Bool.{or-false}
 use Rattle.am_names.specs.declared.EndpointId.{EndpointId}
 use Rattle.am_names.specs.Names.{same_end}
@@ -51,7 +52,7 @@ use Rattle.am_machine.proofs.Events.{call_enabled}
 use Rattle.am_drain.proofs.Entries.{entry_may_follow}
 use Rattle.am_journal.specs.View.{greatest_stamp}
 use Rattle.am_machine.proofs.Holding.{swaps_same}
-use Rattle.am_machine.proofs.Places.{found, index_got, place_is, place_same}
+use Rattle.am_machine.proofs.Places.{found, place_is, place_same}
 use Rattle.am_machine.proofs.Tied.{kept_at, kept_set, layout_kept, one_grown, own_at, own_state, tied_push}
 
 -- ---- the whole cluster
@@ -192,7 +193,7 @@ pub record IsHere (vs : List EndpointView) (e : EndpointId) (k : ℕ) (one : End
 pub found_here : (vs : List EndpointView) (e : EndpointId) (k : ℕ) (one : EndpointView) → position (is_of e) vs ≡ Some k → one ≡ slice_index_or vs k one → IsHere vs e k one
 found_here vs e k one h value =
     let f = found vs e k h in
-    let got : slice_get vs k ≡ Some one = index_got vs k one f.within ∙ ap Some (sym value) in
+    let got : slice_get vs k ≡ Some one = slice_get-get_or vs k one f.within ∙ ap Some (sym value) in
     let same : f.view ≡ one = (let both : Some f.view ≡ Some one = sym f.at ∙ got in cc) in
     record { at = got; id = ap (λ (v : EndpointView). v.settings.id) (sym same) ∙ f.id; within = f.within }
 

@@ -4,6 +4,7 @@ use Rattle.std.specs.List.{filter, list_any}
 use Rattle.std.proofs.Common.{◌≡◌, ℕ, zero, suc, ◌+◌, ◌<◌, ◌==◌, ◌^◌, Bool, true, false, cond, ◌||◌, ◌&&◌, List, [], ◌∷◌, ◌++◌, map, length, slice_get, Some, refl, sym, ap, ◌∙◌, subst, arith, true≢false, if◌then◌else◌}
 use Rattle.std.proofs.lemmas.List.Sums.{count_by-le-length}
 use Rattle.am_lemmas.proofs.Options.{some_is}
+use Rattle.std.proofs.lemmas.Option.{slice_get-get_or}
 use Rattle.am_names.specs.declared.EndpointId.{EndpointId}
 use Rattle.am_names.specs.declared.NodeId.{NodeId}
 use Rattle.am_names.specs.Names.{same_node}
@@ -36,7 +37,6 @@ use Rattle.am_machine.proofs.Moving as moving
 use Rattle.am_machine.proofs.Moving.{Move}
 use Rattle.am_machine.proofs.Holding.{Paging, swaps_paged, swaps_same}
 use Rattle.am_machine.proofs.Joint.{set_got}
-use Rattle.am_machine.proofs.Places.{index_got}
 use Rattle.am_machine.proofs.Tied.{kept_at}
 
 -- ---- what the swap answers is what comes of the page call
@@ -234,7 +234,7 @@ swap_there layout journal ss node are packet lt =
     omega (arith, all, lt)
 
 pub swap_read : (ss : List Store) (k : ℕ) (s : Store) → k < length ss → s ≡ slice_index_or ss k s → slice_get ss k ≡ Some s
-swap_read ss k s lt value = index_got ss k s lt ∙ ap (λ (t : Store). Some t) (sym value)
+swap_read ss k s lt value = slice_get-get_or ss k s lt ∙ ap (λ (t : Store). Some t) (sym value)
 
 -- page calls are entries of the journal
 pub calls_few : (node : NodeId) (journal : List Entry) → length journal + 1 < 2 ^ 64 → page_calls node journal + 1 < 2 ^ 64

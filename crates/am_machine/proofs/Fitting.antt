@@ -4,6 +4,7 @@ use Rattle.std.specs.List.{filter}
 use Rattle.std.proofs.Common.{◌≡◌, ℕ, Bool, [], ◌∷◌, lt-ltb, ◌+◌, ◌-◌, ◌<◌, ◌≤◌, true, false, ◌&&◌, List, map, length, Option, Some, None, refl, sym, ap, ◌∙◌, subst, arith, ltb-true, leb-true}
 use Rattle.std.proofs.lemmas.Bool.{and_parts}
 use Rattle.am_lemmas.proofs.Lists.{slice_get-None}
+use Rattle.std.proofs.lemmas.Option.{slice_get-get_or}
 use Rattle.am_names.specs.declared.EndpointId.{EndpointId}
 use Rattle.am_names.specs.declared.NodeId.{NodeId}
 use Rattle.am_names.specs.declared.Packet.{Packet}
@@ -32,7 +33,6 @@ use Rattle.am_drain.proofs.Entries.{entry_may_follow}
 use Rattle.am_journal.specs.View.{IsIndexOf, Readings, greatest_stamp}
 use Rattle.am_scenario_types.specs.declared.parts.FaultLine.{FaultLine}
 use Rattle.am_endpoint.specs.View.{EndpointView}
-use Rattle.am_journal.proofs.Lists.{index_got}
 use Rattle.am_iface.specs.View.{FitsInterface, InterfaceView, own}
 use Rattle.am_model.specs.Parts.{last_stamp}
 use Rattle.am_iface.specs.Turns.{stamp_in}
@@ -91,7 +91,7 @@ state_read layout past (Some e) = refl
 abbrev pub joint_at : (s : Settings) (faults : List FaultLine) (ends : List EndpointView) (journal : List Entry) (interfaces : List InterfaceView) (swaps : List Store) (v : ClusterView) (node : NodeId) (one : InterfaceView) (work : Work) → IsKept (layout_in s faults (map kept ends)) (map kept ends) journal interfaces swaps → seen s faults (map kept ends) journal ≡ v → v.layout.direct ≡ false → is_in_range v.layout (event_of node work) ≡ true → one ≡ slice_index_or interfaces node.0 one → IsTaken v.journal node work → Joint
 joint_at s faults ends journal interfaces swaps v node one work kept' is packet range value taken =
     joint.joint_in s faults ends journal interfaces swaps v node one (state_for (layout_in s faults (map kept ends)) journal (needs (own one) work)) work kept' is packet range
-    (index_got interfaces node.0 one (there_for s faults ends journal interfaces swaps v node work kept' is packet range) ∙ ap (λ (i : InterfaceView). Some i) (sym value)) taken
+    (slice_get-get_or interfaces node.0 one (there_for s faults ends journal interfaces swaps v node work kept' is packet range) ∙ ap (λ (i : InterfaceView). Some i) (sym value)) taken
     (state_read (layout_in s faults (map kept ends)) journal (needs (own one) work))
 
 -- ---- the work

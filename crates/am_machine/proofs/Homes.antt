@@ -5,7 +5,7 @@ use Rattle.std.specs.Option.{option_map}
 use Rattle.std.proofs.Common.{◌≡◌, ⊎_elim, ℕ, zero, suc, ◌+◌, ◌<◌, ◌≤◌, ◌==◌, Bool, true, false, cond, List, [], ◌∷◌, ◌++◌, map, length, take, Option, Some, None, refl, sym, ap, ◌∙◌, subst, arith, eq-eqb, eqb-true}
 use Rattle.std.proofs.lemmas.Bool.{ne_eqb}
 use Rattle.std.proofs.lemmas.List.{length-set, length_push, take_more}
-use Rattle.std.proofs.lemmas.Option.{get_or_from_slice_get}
+use Rattle.std.proofs.lemmas.Option.{get_or_from_slice_get, slice_get-get_or}
 use Rattle.am_lemmas.proofs.Lists.{slice_get-push_cases, slice_get-set_cases}
 use Rattle.am_names.specs.declared.EndpointId.{EndpointId}
 use Rattle.am_names.specs.declared.NodeId.{NodeId}
@@ -16,7 +16,6 @@ use Rattle.am_scenario_types.specs.declared.parts.Network.{Network}
 use Rattle.am_scenario_types.specs.Lawful.{IsLawfulEnd}
 use Rattle.am_scripts.specs.Layout.{setting_of}
 use Rattle.am_iface.specs.View.{InterfaceView}
-use Rattle.am_journal.proofs.Lists.{index_got}
 use Rattle.am_machine.specs.declared.settings.Settings.{Settings}
 use Rattle.am_machine.specs.Homes.{AreFreshUpTo, AreHomes, IsFresh, first_told, home_line}
 
@@ -42,7 +41,7 @@ homes_next : (lines : List EndLine) (line : EndLine) (homes : List (Option NodeI
 homes_next lines line homes are low =
     let told = first_told (slice_index_or homes line.id.0 None) line.node in
     let within : line.id.0 < length homes = omega (arith, low, are.all) in
-    let was : slice_index_or homes line.id.0 None ≡ home_line lines line.id.0 = are.each line.id.0 (slice_index_or homes line.id.0 None) (index_got homes line.id.0 None within) in
+    let was : slice_index_or homes line.id.0 None ≡ home_line lines line.id.0 = are.each line.id.0 (slice_index_or homes line.id.0 None) (slice_get-get_or homes line.id.0 None within) in
     record {
       all = length-set homes line.id.0 told ∙ are.all;
       each = λ k home h.
@@ -98,7 +97,7 @@ home_within network nodes (line ∷ lines) k all = by_test (k == line.id.0) (hom
 
 pub homes_within : (network : Network) (nodes : ℕ) (lines : List EndLine) (homes : List (Option NodeId)) → All (IsLawfulEnd network nodes) lines → AreHomes lines homes → All (λ home. IfSome home (λ (node : NodeId). node.0 < nodes)) homes
 homes_within network nodes lines homes all are k d lt =
-    subst (λ (home : Option NodeId). IfSome home (λ (node : NodeId). node.0 < nodes)) (sym (are.each k (slice_index_or homes k d) (index_got homes k d lt)))
+    subst (λ (home : Option NodeId). IfSome home (λ (node : NodeId). node.0 < nodes)) (sym (are.each k (slice_index_or homes k d) (slice_get-get_or homes k d lt)))
     (home_within network nodes lines k all)
 
 -- the home of an endpoint, as the layout has it

@@ -3,6 +3,7 @@ use Rattle.std.specs.Prelude.{slice_index_or, Result, Ok, Err, option_to_list, s
 use Rattle.std.specs.List.{filter, list_any}
 use Rattle.std.proofs.Common.{◌≡◌, ◌≢◌, ℕ, zero, suc, ◌<◌, Bool, true, false, cond, List, [], ◌∷◌, ◌++◌, map, length, Option, Some, None, refl, sym, ap, ◌∙◌, subst, arith, if◌then◌else◌}
 use Rattle.std.proofs.lemmas.Bool.{le-leb, leb-true, leb-false}
+use Rattle.std.proofs.lemmas.Option.{slice_get-get_or}
 use Rattle.am_names.specs.declared.EndpointId.{EndpointId}
 use Rattle.am_names.specs.declared.NodeId.{NodeId}
 use Rattle.am_names.specs.Names.{same_end}
@@ -38,7 +39,6 @@ use Rattle.am_machine.specs.Turned.{IsTaken, IsTurned, TurnsAlone, entries_after
 use Rattle.am_machine.specs.View.{Applies, ClusterView}
 use Rattle.am_machine.proofs.Applied.{IsNext, kept_still, seen, seen_next, tied_next, swaps_kept}
 use Rattle.am_machine.proofs.InterfaceLogs.{interfaces_more, interfaces_moved}
-use Rattle.am_journal.proofs.Lists.{index_got}
 use Rattle.am_device.specs.Memory.{Store}
 use Rattle.am_moves.specs.Pages.{is_page}
 use Rattle.am_machine.proofs.Tied.{layout_kept, none_grown}
@@ -64,7 +64,7 @@ pub record Joint : Type 0 where
 
 -- what stands at a place, read twice
 pub read_twice : {X : Type 0} (xs : List X) (k : ℕ) (x y : X) → k < length xs → x ≡ slice_index_or xs k x → y ≡ slice_index_or xs k y → y ≡ x
-read_twice xs k x y lt a b = let both : Some (slice_index_or xs k y) ≡ Some (slice_index_or xs k x) = sym (index_got xs k y lt) ∙ index_got xs k x lt in let same : slice_index_or xs k y ≡ slice_index_or xs k x = cc in b ∙ same ∙ sym a
+read_twice xs k x y lt a b = let both : Some (slice_index_or xs k y) ≡ Some (slice_index_or xs k x) = sym (slice_get-get_or xs k y lt) ∙ slice_get-get_or xs k x lt in let same : slice_index_or xs k y ≡ slice_index_or xs k x = cc in b ∙ same ∙ sym a
 
 -- there is an interface for each node
 pub interface_there : (layout : Layout) (journal : List Entry) (is : List InterfaceView) (node : NodeId) → AreInterfaces layout journal is → layout.direct ≡ false → node.0 < layout.nodes → node.0 < length is

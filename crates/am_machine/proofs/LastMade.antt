@@ -5,6 +5,7 @@ use Rattle.std.specs.Option.{option_copied}
 use Rattle.std.proofs.Common.{◌≡◌, ◌-◌, ◌<◌, ℕ, Bool, true, false, cond, Bor, List, [], ◌∷◌, ◌++◌, length, Option, Some, None, if◌then◌else◌, refl, sym, ap, ◌∙◌, subst, arith}
 use Rattle.std.proofs.lemmas.List.{length_push}
 use Rattle.std.proofs.lemmas.List.Elements.{filter-append}
+use Rattle.std.proofs.lemmas.Option.{slice_get-get_or}
 use Rattle.am_names.specs.declared.EndpointId.{EndpointId}
 use Rattle.am_names.specs.declared.NodeId.{NodeId}
 use Rattle.am_office.specs.declared.Condition.TheVariants as Needs
@@ -28,7 +29,6 @@ use Rattle.am_machine.specs.Lasts.{end_named}
 use Rattle.am_machine.proofs.Applied as applied
 use Rattle.am_machine.proofs.Fitting.{range_bind, range_expire, range_receive}
 use Rattle.am_machine.proofs.Moving.{end_known}
-use Rattle.am_machine.proofs.Places.{index_got}
 
 -- what is lent is what is there
 pub read_last : (r : Option (Bor Entry)) (b : Bor Entry) (x : Entry) → option_copied r ≡ Some x → r ≡ Some b → b.now ≡ x
@@ -129,7 +129,7 @@ here_found layout journal past is x node history are ends touched =
 
 pub here_read : (is seen : List InterfaceView) (k : ℕ) (one : InterfaceView) → seen ≡ is → k < length is → one ≡ slice_index_or seen k one → slice_get is k ≡ Some one
 here_read is seen k one same lt value =
-    index_got is k one lt ∙ ap (λ (i : InterfaceView). Some i) (sym (value ∙ ap (λ (xs : List InterfaceView). slice_index_or xs k one) same))
+    slice_get-get_or is k one lt ∙ ap (λ (i : InterfaceView). Some i) (sym (value ∙ ap (λ (xs : List InterfaceView). slice_index_or xs k one) same))
 
 -- and its log ends with the entry
 pub here_ends : (layout : Layout) (journal past : List Entry) (is : List InterfaceView) (i : InterfaceView) (x : Entry) (node : NodeId) → AreInterfaces layout journal is → slice_get is node.0 ≡ Some i → journal ≡ past ++ x ∷ [] → node_touched x.event ≡ Some node → i.log ≡ filter (touches_node node) past ++ x ∷ []

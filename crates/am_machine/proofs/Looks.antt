@@ -6,6 +6,7 @@ use Rattle.std.proofs.Common.{◌≡◌, ℕ, zero, suc, ◌+◌, ◌<◌, ◌�
 use Rattle.std.proofs.lemmas.Bool.{and_parts}
 use Rattle.std.proofs.lemmas.List.Sums.{sum_by-cons}
 use Rattle.am_lemmas.proofs.Lists.{slice_get-None}
+use Rattle.std.proofs.lemmas.Option.{slice_get-get_or}
 use Rattle.am_names.specs.declared.EndpointId.{EndpointId}
 use Rattle.am_names.specs.declared.NodeId.{NodeId}
 use Rattle.am_names.specs.Names.{same_end}
@@ -20,7 +21,6 @@ use Rattle.am_model.proofs.Names.{same_end-refl}
 use Rattle.am_endpoint.specs.View.{EndpointView, state_after}
 use Rattle.am_iface.specs.View.{InterfaceView}
 use Rattle.am_journal.specs.View.{is_receipt, receipts}
-use Rattle.am_journal.proofs.Lists.{index_got}
 use Rattle.am_moves.specs.Logs.{EndLog, kept}
 use Rattle.am_machine.specs.Ends.{is_of, setting_in, settings_by}
 use Rattle.am_body.specs.declared.settings.EndSettings.{EndSettings}
@@ -92,7 +92,7 @@ end_unknown layout vs e ends none = sym (ap (list_any (has_id e)) ends ∙ by_te
 
 pub interface_found : (layout : Layout) (journal : List Entry) (is : List InterfaceView) (node : NodeId) (one : InterfaceView) → AreInterfaces layout journal is → layout.direct ≡ false → node.0 < layout.nodes → one ≡ slice_index_or is node.0 one → IsInterface layout journal node one
 interface_found layout journal is node one are packet lt value =
-    are.each node.0 one (index_got is node.0 one (interface_there layout journal is node are packet lt) ∙ ap (λ (i : InterfaceView). Some i) (sym value))
+    are.each node.0 one (slice_get-get_or is node.0 one (interface_there layout journal is node are packet lt) ∙ ap (λ (i : InterfaceView). Some i) (sym value))
 
 -- ---- receipts
 

@@ -19,11 +19,10 @@ use Rattle.am_iface.specs.View.{InterfaceView}
 use Rattle.am_device.specs.Memory.{Store}
 use Rattle.am_merge.specs.Logs.{IsRising}
 use Rattle.am_merge.specs.Merged.{entries_of}
-use Rattle.am_merge.proofs.Sorted.{Has, contains_has, filter_has, has_contains}
+use Rattle.am_merge.proofs.Sorted.{Has, contains_has, filter_has, has_contains, has_first, has_last}
 use Rattle.am_laws_homes.proofs.Places.{condition_holds}
 use Rattle.am_join.specs.Joined.{AreOne, HaveJust}
 use Rattle.am_join.proofs.OneJournal.{are_one, merged_is}
-use Rattle.am_join.proofs.Standing.{has_left, has_right}
 use Rattle.am_endpoint.specs.View.{EndpointView}
 use Rattle.am_node.specs.Parts.{log_of}
 use Rattle.am_moves.specs.Logs.{EndLog, kept}
@@ -65,13 +64,13 @@ no_interface layout past event n direct may h = true≢false (sym h)
 
 end_there : (es : List EndLog) (k : ℕ) (e : EndLog) (x : Entry) → slice_get es k ≡ Some e → Has e.log x → Has (entries_of (end_logs es)) x
 end_there [] k e x at h = absurd (cc)
-end_there (d ∷ es) zero e x at h = let same : d ≡ e = cc in has_left d.log (entries_of (end_logs es)) x (subst (λ (f : EndLog). Has f.log x) (sym same) h)
-end_there (d ∷ es) (suc k) e x at h = has_right d.log (entries_of (end_logs es)) x (end_there es k e x at h)
+end_there (d ∷ es) zero e x at h = let same : d ≡ e = cc in has_first d.log (entries_of (end_logs es)) x (subst (λ (f : EndLog). Has f.log x) (sym same) h)
+end_there (d ∷ es) (suc k) e x at h = has_last d.log (entries_of (end_logs es)) x (end_there es k e x at h)
 
 interface_there : (is : List InterfaceView) (k : ℕ) (i : InterfaceView) (x : Entry) → slice_get is k ≡ Some i → Has i.log x → Has (entries_of (interface_logs is)) x
 interface_there [] k i x at h = absurd (cc)
-interface_there (j ∷ is) zero i x at h = let same : j ≡ i = cc in has_left j.log (entries_of (interface_logs is)) x (subst (λ (f : InterfaceView). Has f.log x) (sym same) h)
-interface_there (j ∷ is) (suc k) i x at h = has_right j.log (entries_of (interface_logs is)) x (interface_there is k i x at h)
+interface_there (j ∷ is) zero i x at h = let same : j ≡ i = cc in has_first j.log (entries_of (interface_logs is)) x (subst (λ (f : InterfaceView). Has f.log x) (sym same) h)
+interface_there (j ∷ is) (suc k) i x at h = has_last j.log (entries_of (interface_logs is)) x (interface_there is k i x at h)
 
 module _ (layout : Layout) (es : List EndLog) (journal : List Entry) (is : List InterfaceView) (ss : List Store) (ends : layout.ends ≡ map setting_in es) (k : IsKept layout es journal is ss) where
   in_end : (x : Entry) (e : EndpointId) → Has journal x → declared layout e ≡ true → touches e x ≡ true → Has (entries_of (logs_in es is)) x

@@ -19,9 +19,9 @@ use Rattle.am_model.proofs.Alls.{all_at, all_by_place, all_append}
 use Rattle.am_endpoint.specs.View.{EndpointView}
 use Rattle.am_merge.specs.Logs.{IsRising}
 use Rattle.am_merge.specs.Merged.{entries_of}
-use Rattle.am_merge.proofs.Sorted.{Has, all_has, contains_has, filter_has, has_contains, has_filter}
+use Rattle.am_merge.proofs.Sorted.{Has, all_has, contains_has, filter_has, has_contains, has_filter, has_first, has_last}
 use Rattle.am_join.specs.Joined.{AreAmong, HaveJust}
-use Rattle.am_join.proofs.Standing.{has_either, has_left, has_right}
+use Rattle.am_join.proofs.Standing.{has_either}
 use Rattle.am_node.specs.declared.NodePart.{NodePart}
 use Rattle.am_node.specs.Parts.{all_logs, log_of, logs_of_part}
 use Rattle.am_moves.specs.Logs.{kept}
@@ -98,7 +98,7 @@ module _ (layout : Layout) (q : Entry → Bool) (shares : (y z : Entry) → q y 
 
   all_above : (x : Entry) (past xs : List Entry) → Has past x → q x ≡ true → EachAfter (MayFollow layout) past xs → AllAre (λ (y : Entry). x.stamp < y.stamp) (filter q xs)
   all_above x past [] has at each = tt
-  all_above x past (y ∷ xs) has at each = by_test (q y) refl (all_above x (past ++ y ∷ []) xs (has_left past (y ∷ []) x has) at each.1)
+  all_above x past (y ∷ xs) has at each = by_test (q y) refl (all_above x (past ++ y ∷ []) xs (has_first past (y ∷ []) x has) at each.1)
     where
       by_test : (b : Bool) → q y ≡ b → AllAre (λ (z : Entry). x.stamp < z.stamp) (filter q xs) → AllAre (λ (z : Entry). x.stamp < z.stamp) (cond b (y ∷ filter q xs) (filter q xs))
       by_test true is more = (above_it x y past has at is each.0.later, more)
@@ -109,7 +109,7 @@ module _ (layout : Layout) (q : Entry → Bool) (shares : (y z : Entry) → q y 
   rises past (x ∷ xs) each = by_test (q x) refl (rises (past ++ x ∷ []) xs each.1)
     where
       by_test : (b : Bool) → q x ≡ b → IsRising (filter q xs) → IsRising (cond b (x ∷ filter q xs) (filter q xs))
-      by_test true is more = (all_above x (past ++ x ∷ []) xs (has_right past (x ∷ []) x (inl refl)) is each.1, more)
+      by_test true is more = (all_above x (past ++ x ∷ []) xs (has_last past (x ∷ []) x (inl refl)) is each.1, more)
       by_test false is more = more
 
 part_rises : (layout : Layout) (journal log : List Entry) → IsHistory layout journal → IsPartOf journal log → IsRising log
@@ -172,17 +172,17 @@ got_mapped f (x ∷ xs) (suc k) y at = got_mapped f xs k y at
 -- the log of an endpoint or of an interface is among those of the node
 log_there : (vs : List EndpointView) (k : ℕ) (v : EndpointView) (x : Entry) → slice_get vs k ≡ Some v → Has v.log x → Has (entries_of (map log_of vs)) x
 log_there [] k v x at h = absurd (cc)
-log_there (w ∷ vs) zero v x at h = let same : w ≡ v = cc in has_left w.log (entries_of (map log_of vs)) x (subst (λ (u : EndpointView). Has u.log x) (sym same) h)
-log_there (w ∷ vs) (suc k) v x at h = has_right w.log (entries_of (map log_of vs)) x (log_there vs k v x at h)
+log_there (w ∷ vs) zero v x at h = let same : w ≡ v = cc in has_first w.log (entries_of (map log_of vs)) x (subst (λ (u : EndpointView). Has u.log x) (sym same) h)
+log_there (w ∷ vs) (suc k) v x at h = has_last w.log (entries_of (map log_of vs)) x (log_there vs k v x at h)
 
 pub entries_left : (ls bs : List (List Entry)) (x : Entry) → Has (entries_of ls) x → Has (entries_of (ls ++ bs)) x
 entries_left [] bs x h = absurd h
 entries_left (a ∷ ls) bs x h =
-    ⊎_elim (λ (here : Has a x). has_left a (entries_of (ls ++ bs)) x here) (λ (there : Has (entries_of ls) x). has_right a (entries_of (ls ++ bs)) x (entries_left ls bs x there)) (has_either a (entries_of ls) x h)
+    ⊎_elim (λ (here : Has a x). has_first a (entries_of (ls ++ bs)) x here) (λ (there : Has (entries_of ls) x). has_last a (entries_of (ls ++ bs)) x (entries_left ls bs x there)) (has_either a (entries_of ls) x h)
 
 pub entries_right : (ls bs : List (List Entry)) (x : Entry) → Has (entries_of bs) x → Has (entries_of (ls ++ bs)) x
 entries_right [] bs x h = h
-entries_right (a ∷ ls) bs x h = has_right a (entries_of (ls ++ bs)) x (entries_right ls bs x h)
+entries_right (a ∷ ls) bs x h = has_last a (entries_of (ls ++ bs)) x (entries_right ls bs x h)
 
 part_there : (parts : List NodePart) (k : ℕ) (p : NodePart) (x : Entry) → slice_get parts k ≡ Some p → Has (entries_of (logs_of_part p)) x → Has (entries_of (all_logs parts)) x
 part_there [] k p x at h = absurd (cc)
@@ -198,7 +198,7 @@ module _ (layout : Layout) (journal : List Entry) (parts : List NodePart) (lawfu
       let part = a.each n.0 p.0 p.1 in
       part_there parts n.0 p.0 x p.1
       (entries_right (map log_of p.0.ends.items) (p.0.iface.log ∷ []) x
-      (has_left p.0.iface.log [] x (subst (λ (l : List Entry). Has l x) (sym part.interface.part) (filter_has (touches_node (node_at n.0)) journal x h is))))
+      (has_first p.0.iface.log [] x (subst (λ (l : List Entry). Has l x) (sym part.interface.part) (filter_has (touches_node (node_at n.0)) journal x h is))))
 
   in_end : (x : Entry) (e : EndpointId) → Has journal x → declared layout e ≡ true → touches e x ≡ true → Has (entries_of (all_logs parts)) x
   in_end x e h known is =

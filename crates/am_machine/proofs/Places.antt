@@ -3,7 +3,8 @@ use Rattle.std.specs.Prelude.{slice_get, slice_set, slice_index_or, not, OnOk, R
 use Rattle.std.specs.List.{list_any, position, position_or_len}
 use Rattle.std.proofs.lemmas.List.{take_at}
 use Rattle.std.proofs.Common.{take, drop, ◌≡◌, ℕ, zero, suc, ◌+◌, ◌<◌, Bool, true, false, cond, ◌||◌, List, [], ◌∷◌, ◌++◌, map, length, Some, None, refl, sym, ap, ◌∙◌, subst, arith, eqb-true, ltb-true, ltb, lt-ltb, if◌then◌else◌}
-use Rattle.std.proofs.lemmas.Option.{slice_get_within}
+use Rattle.std.proofs.lemmas.Option.{slice_get_within, slice_get-get_or}
+use Rattle.am_lemmas.proofs.Lists.{slice_get-set_here}
 use Rattle.am_names.specs.declared.EndpointId.{EndpointId}
 use Rattle.am_office.specs.declared.Entry.{Entry}
 use Rattle.am_model.specs.Layout.{has_id}
@@ -13,13 +14,8 @@ use Rattle.am_machine.specs.Ends.{setting_in, is_of, logged_at}
 use Rattle.am_machine.specs.Carries.{At, is_place, carried_at}
 use Rattle.am_machine.proofs.Tied.{kept_set}
 
-pub index_got : {X : Type 0} (xs : List X) (k : ℕ) (one : X) → k < length xs → slice_get xs k ≡ Some (slice_index_or xs k one)
-index_got [] k one h = absurd (omega (arith, h))
-index_got (x ∷ xs) zero one h = refl
-index_got (x ∷ xs) (suc k) one h = index_got xs k one (omega (arith, h))
-
 pub at_read : (vs : List EndpointView) (k : ℕ) (P : EndpointView → Type 0) (one : EndpointView) → k < length vs → At vs k P → P (slice_index_or vs k one)
-at_read vs k P one h at = at (slice_index_or vs k one) (index_got vs k one h)
+at_read vs k P one h at = at (slice_index_or vs k one) (slice_get-get_or vs k one h)
 
 pub set_other : {X : Type 0} (xs : List X) (k j : ℕ) (w : X) → is_place k j ≡ false → slice_get (slice_set xs k w) j ≡ slice_get xs j
 set_other [] k j w h = refl
@@ -27,11 +23,6 @@ set_other (x ∷ xs) zero zero w h = absurd (cc)
 set_other (x ∷ xs) zero (suc j) w h = refl
 set_other (x ∷ xs) (suc k) zero w h = refl
 set_other (x ∷ xs) (suc k) (suc j) w h = set_other xs k j w h
-
-pub set_here : {X : Type 0} (xs : List X) (k : ℕ) (w : X) → k < length xs → slice_get (slice_set xs k w) k ≡ Some w
-set_here [] k w h = absurd (omega (arith, h))
-set_here (x ∷ xs) zero w h = refl
-set_here (x ∷ xs) (suc k) w h = set_here xs k w (omega (arith, h))
 
 pub place_apart : (k j : ℕ) → (k ≡ j → ⊥) → is_place k j ≡ false
 place_apart zero zero h = absurd (h refl)
@@ -116,7 +107,7 @@ not_found vs e h declared = by_test (ltb (position_or_len (is_of e) vs) (length 
 -- ---- room
 
 pub room_here : (vs : List EndpointView) (k : ℕ) (w : EndpointView) (P : EndpointView → Type 0) → k < length vs → P w → At (slice_set vs k w) k P
-room_here vs k w P h p v at = let got = set_here vs k w h in let same : w ≡ v = cc in subst P same p
+room_here vs k w P h p v at = let got = slice_get-set_here vs k w h in let same : w ≡ v = cc in subst P same p
 
 pub still_at : (vs us : List EndpointView) (k : ℕ) (P : EndpointView → Type 0) → slice_get us k ≡ slice_get vs k → At vs k P → At us k P
 still_at vs us k P same at v is = at v (sym same ∙ is)

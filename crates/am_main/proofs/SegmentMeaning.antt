@@ -4,6 +4,7 @@ use Rattle.std.specs.Prelude.{slice_get, ◌||◌, ◌≢◌, filter_map}
 use Rattle.std.specs.List.{All, cons_option}
 use Rattle.std.proofs.lemmas.List.Elements.{All-head, All-tail}
 use Rattle.std.proofs.lemmas.List.FromFn.{get_or-map-range_with_len}
+use Rattle.am_lemmas.proofs.Lists.{All-slice_get}
 use mathlib.Core.Bool.{or-true}
 use Rattle.am_names.specs.Names.{has_serial}
 use Rattle.am_names.specs.Rules.{is_transient}
@@ -41,19 +42,13 @@ use Rattle.am_main.specs.Runs.{IsRunOf}
 use Rattle.am_main.specs.Segments.{BlocksArrived, IsSegmentsAnswer, RanOrReturned}
 use Rattle.am_main.proofs.RunMeaning.{is_run_of}
 
--- what holds of all holds of each
-all_at : {X : Type 0} (P : X → Type 0) (xs : List X) (i : ℕ) (x : X) → All P xs → slice_get xs i ≡ Some x → P x
-all_at P [] i x all at = absurd (cc)
-all_at P (y ∷ ys) zero x all at = let same : y ≡ x = cc in subst P same (All-head P y ys all)
-all_at P (y ∷ ys) (suc i) x all at = all_at P ys i x (All-tail P y ys all) at
-
 byte_in_segment : (s : SegmentLine) (journal : List Entry) (place : ℕ) → place < s.size → slice_index (segment_bytes s journal) place ≡ byte_at s journal place
 unfolding segment_bytes
 byte_in_segment s journal place below = get_or-map-range_with_len (byte_at s journal) 0 s.size place place 0 below (zero-add place)
 
 blocks_arrived : (e : ExpandedLists) (journal : List Entry) → All (HasSegment e.segments) e.transfers → BlocksArrived e journal
 blocks_arrived e journal placed i t s at is all undisturbed k below =
-    let has : HasSegment e.segments t = all_at (HasSegment e.segments) e.transfers i t placed at in
+    let has : HasSegment e.segments t = All-slice_get (HasSegment e.segments) e.transfers i t placed at in
     let found : Some has.segment ≡ Some s = sym has.is ∙ is in
     let same : has.segment ≡ s = cc in
     let own : IsFor has.segment t = record { within = has.within; size = has.size; bytes = has.bytes } in

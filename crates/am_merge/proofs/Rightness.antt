@@ -3,7 +3,7 @@ use Rattle.std.specs.Prelude.{nat_le, nat_lt, not, slice_get, ◌↔◌}
 use Rattle.std.specs.List.{filter, list_any, list_all}
 use Rattle.std.proofs.Common.{◌≡◌, ℕ, zero, suc, ◌-◌, ◌<◌, ◌≤◌, Bool, true, false, cond, ◌||◌, ◌&&◌, List, [], ◌∷◌, ◌++◌, length, Option, Some, None, refl, sym, ap, ◌∙◌, subst, arith, append_assoc, ltb-true, ltb-false, leb-true, eq-eqb}
 use Rattle.std.proofs.lemmas.Bool.{and_parts}
-use Rattle.am_lemmas.proofs.Lists.{slice_get-None}
+use Rattle.am_lemmas.proofs.Lists.{slice_get-None, slice_get-append_left}
 use Rattle.am_names.specs.Names.{same_end}
 use Rattle.am_names.specs.declared.EndpointId.{EndpointId}
 use Rattle.am_names.specs.declared.NodeId.{NodeId}
@@ -211,11 +211,6 @@ work_right layout journal past x rest t node w packet is emitted sent =
         subst (λ (v : Event). HasEnd (ends_touched v x.outcome) (needs i w)) (sym is)
         (subst (λ (o : Outcome). HasEnd (ends_touched (event_of node w) o) (needs i w)) (sym outcome) (just_has (ends_touched (event_of node w) (outcome_at i s w)) (needs i w) (needs_touched i s w)))
 
-got_left : {X : Type 0} (xs ys : List X) (k : ℕ) (p : X) → slice_get xs k ≡ Some p → slice_get (xs ++ ys) k ≡ Some p
-got_left [] ys k p h = absurd (cc)
-got_left (x ∷ xs) ys zero p h = h
-got_left (x ∷ xs) ys (suc k) p h = got_left xs ys k p h
-
 there_is : (b : Bool) (rest : Option Condition) → cond b (Some Needs.NoPacket) rest ≡ None → b ≡ false
 there_is true rest h = absurd (cc)
 there_is false rest h = refl
@@ -267,7 +262,7 @@ receive_right layout journal past x rest t node peer number is = by_packet (slic
         sent =
             ap (λ (ps : List Packet). slice_get ps (number_of p - 1))
             (emitted_own (from_of p) node journal ∙ ap (emitted (from_of p) node) (sym t.whole) ∙ emitted_append (from_of p) node past (x ∷ rest))
-            ∙ got_left (emitted (from_of p) node past) (emitted (from_of p) node (x ∷ rest)) (number_of p - 1) (restamped (stamp_of p) p) here
+            ∙ slice_get-append_left (emitted (from_of p) node past) (emitted (from_of p) node (x ∷ rest)) (number_of p - 1) (restamped (stamp_of p) p) here
 
         later : stamp_of p < x.stamp
         later =

@@ -1,6 +1,7 @@
 -- A page call on its parts.
 use Rattle.std.specs.Prelude.{IfOk, Result, Ok, Err}
 use Rattle.std.proofs.Common.{◌≡◌, ◌⊎◌, inl, inr, ℕ, Bool, true, false, List, [], Option, Some, None, refl, sym, ap, ◌∙◌, subst, true≢false, if◌then◌else◌}
+use Rattle.am_model.proofs.PlaceKinds.{on_host_unframed}
 use Rattle.am_names.specs.declared.EndpointId.{EndpointId}
 use Rattle.am_names.specs.declared.NodeId.{NodeId}
 use Rattle.am_office.specs.declared.Event.TheVariants as Events
@@ -24,15 +25,9 @@ use Rattle.am_swap.specs.Decoded.{FindsEach}
 use Rattle.am_moves.specs.Logs.{EndLog, kept, state_in}
 use Rattle.am_moves.specs.Pages.{CanPageIn, CanPageOut, page_outcome}
 
-host_no_frame : (p : Place) → is_on_host p ≡ true → is_in_a_frame p ≡ false
-host_no_frame (Frame frame) h = absurd (true≢false (sym h))
-host_no_frame Direct h = absurd (true≢false (sym h))
-host_no_frame Host h = refl
-host_no_frame Disk h = absurd (true≢false (sym h))
-
 -- on the host nothing is in flight
 pub none_flying : (pool : Option ℕ) (e : EndpointId) (s : State) → IsInOrder pool e s → is_on_host s.head.place ≡ true → s.body.in_flight ≡ []
-none_flying pool e s order host = order.grounded (host_no_frame s.head.place host)
+none_flying pool e s order host = order.grounded (on_host_unframed s.head.place host)
 
 -- so its body is one that it may have on disk
 pub body_valid : (pool : Option ℕ) (e : EndpointId) (s : State) → IsInOrder pool e s → is_on_host s.head.place ≡ true → IsInRange s.body → IsValid e pool s.body

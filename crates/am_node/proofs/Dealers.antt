@@ -6,8 +6,8 @@ use Rattle.std.proofs.lemmas.List.{append-nil, reverse-append, reverse-reverse, 
 use Rattle.std.proofs.lemmas.List.Sums.{sum_by-cons, sum_by_push}
 use Rattle.am_model.specs.Layout.{AllAre, node_at}
 use Rattle.am_lemmas.proofs.Lists.{slice_get-set_cases}
+use Rattle.std.proofs.lemmas.Option.{slice_get-get_or}
 use Rattle.am_endpoint.specs.View.{EndpointView}
-use Rattle.am_journal.proofs.Lists.{index_got}
 use Rattle.am_node.specs.declared.shells.Shell.{Shell}
 use Rattle.am_node.specs.Shells.{is_at}
 use Rattle.am_node.specs.Dealt.{AreDealt, FitsShells, IsFilled, IsPut}
@@ -81,7 +81,7 @@ pub next_fits : (rest : List EndpointView) (now : List Shell) (x : EndpointView)
 next_fits rest now x d r =
     let j = x.settings.node.0 in
     let within = all_last (λ (v : EndpointView). v.settings.node.0 < length now) rest x r.nodes in
-    let fits = r.room j (slice_index_or now j d) (index_got now j d within) in
+    let fits = r.room j (slice_index_or now j d) (slice_get-get_or now j d within) in
     let push = count_push j rest x in
     let own : ◌≡◌ {A = ℕ} (cond (is_at (node_at j) x) 1 0) 1 = ap (λ (b : Bool). cond b 1 0) (eq-eqb j j refl) in
     omega (arith, fits, push, own)
@@ -94,7 +94,7 @@ module _ (whole rest : List EndpointView) (old now : List Shell) (x : EndpointVi
   was = slice_index_or now x.settings.node.0 d
 
   was_there : slice_get now x.settings.node.0 ≡ Some (slice_index_or now x.settings.node.0 d)
-  was_there = index_got now x.settings.node.0 d (all_last (λ (v : EndpointView). v.settings.node.0 < length now) rest x a.room.nodes)
+  was_there = slice_get-get_or now x.settings.node.0 d (all_last (λ (v : EndpointView). v.settings.node.0 < length now) rest x a.room.nodes)
 
   room_here : (k : ℕ) (t : Shell) → (k ≡ x.settings.node.0) × (t ≡ u) → vec_len t.ends + count_by (is_at (node_at k)) rest ≤ vec_capacity t.ends
   room_here k t here =

@@ -4,14 +4,14 @@ use Rattle.std.specs.List.{filter}
 use Rattle.std.specs.Global.{Vec}
 use Rattle.std.proofs.Common.{◌≡◌, ◌⊎◌, inl, inr, ⊎_elim, ℕ, zero, suc, ◌+◌, ◌<◌, ◌==◌, Bool, true, false, cond, Some, List, [], ◌∷◌, ◌++◌, map, reverse, length, take, drop, get_or, refl, sym, ap, ◌∙◌, subst, arith, eq-eqb, eqb-true}
 use Rattle.std.proofs.lemmas.List.{append-nil, reverse-append, map-append, length-set}
-use Rattle.std.proofs.lemmas.Option.{slice_get_within}
+use Rattle.std.proofs.lemmas.Option.{slice_get_within, slice_get-get_or}
 use Rattle.am_lemmas.proofs.Lists.{slice_get-set_cases}
+use Rattle.am_lemmas.proofs.Options.{some_is}
 use Rattle.am_names.specs.declared.NodeId.{NodeId}
 use Rattle.am_model.specs.Layout.{AllAre, EndSetting, node_at}
 use Rattle.am_endpoint.specs.View.{EndpointView}
 use Rattle.am_scripts.specs.Layout.{setting_of}
 use Rattle.am_scenario_types.specs.declared.parts.EndLine.{EndLine}
-use Rattle.am_journal.proofs.Lists.{index_got}
 use Rattle.am_join.proofs.Standing.{behind, first_or_behind, in_front}
 use Rattle.am_node.specs.Gathered.{AreDeclared, AreOfGroups, HasOne, IsLastOf, is_declared_at, setting_in}
 
@@ -64,9 +64,6 @@ before_last (y ∷ xs) x v c =
 at_end : (xs : List EndpointView) (x : EndpointView) → Contains (xs ++ x ∷ []) x
 at_end [] x = in_front x []
 at_end (y ∷ xs) x = behind y (xs ++ x ∷ []) x (at_end xs x)
-
-same_some : {X : Type 0} (x y : X) → Some x ≡ Some y → x ≡ y
-same_some {X} x y e = (cc)
 
 module _ (line : EndLine) (rest : List EndLine) (groups now new : List (Vec EndpointView)) (x : EndpointView) (declared : AreDeclared (line ∷ rest) now) (last : IsLastOf now line.node x new) where
   -- what stood in a group that stands there now
@@ -197,12 +194,12 @@ last_taken old node x d h within items =
   where
     at_node : (k : ℕ) (g t : Vec EndpointView) → slice_get old k ≡ Some g → (k ≡ node.0) × (t ≡ h) → g.items ≡ t.items ++ (if k == node.0 then x ∷ [] else [])
     at_node k g t before here =
-        let same : g ≡ slice_index_or old node.0 d = same_some g (slice_index_or old node.0 d) (sym before ∙ ap (slice_get old) here.0 ∙ index_got old node.0 d within) in
+        let same : g ≡ slice_index_or old node.0 d = some_is g (slice_index_or old node.0 d) (sym before ∙ ap (slice_get old) here.0 ∙ slice_get-get_or old node.0 d within) in
         ap (λ (v : Vec EndpointView). v.items) same ∙ items ∙ ap (λ (v : Vec EndpointView). v.items ++ x ∷ []) (sym here.1) ∙ ap (λ (b : Bool). t.items ++ (if b then x ∷ [] else [])) (sym (eq-eqb k node.0 here.0))
 
     elsewhere : (k : ℕ) (g t : Vec EndpointView) → slice_get old k ≡ Some g → (k ≡ node.0 → ⊥) × (slice_get old k ≡ Some t) → g.items ≡ t.items ++ (if k == node.0 then x ∷ [] else [])
     elsewhere k g t before there =
-        let same : g ≡ t = same_some g t (sym before ∙ there.1) in
+        let same : g ≡ t = some_is g t (sym before ∙ there.1) in
         ap (λ (v : Vec EndpointView). v.items) same ∙ sym (append-nil t.items) ∙ ap (λ (b : Bool). t.items ++ (if b then x ∷ [] else [])) (sym (other (k == node.0) refl))
       where
         other : (b : Bool) → (k == node.0) ≡ b → b ≡ false

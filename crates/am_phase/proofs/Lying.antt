@@ -2,6 +2,7 @@
 use Rattle.std.specs.Prelude.{not}
 use Rattle.std.proofs.Common.{◌≡◌, ℕ, Bool, true, false, ◌||◌, List, [], ◌∷◌, ◌++◌, Option, None, refl, ap, ◌∙◌}
 use Rattle.std.proofs.lemmas.Bool.{and_parts, and_from}
+use Rattle.am_lemmas.proofs.Bools.{implied}
 use Rattle.am_names.specs.declared.Cause.{Cause}
 use Rattle.am_names.specs.declared.Cause.TheVariants.{NotResident}
 use Rattle.am_names.specs.declared.Message.{Message}
@@ -61,15 +62,11 @@ body_kept e s (Events.PageOut node end) o h = paged_out_body s o
 body_kept e s (Events.PageIn node end) o h = paged_in_body s o
 body_kept e s event o h = absurd (cc)
 
-or_kept : (d k : Bool) → d ≡ true → (not d || k) ≡ true → k ≡ true
-or_kept true k on h = h
-or_kept false k on h = absurd (cc)
-
 bodies : (e : EndpointId) (s : State) (xs : List Entry) → rests e s xs ≡ true → is_on_disk s.head.place ≡ true → AllAre (λ (x : Entry). moves_by x.event ≡ false) xs → (replay e s xs).body ≡ s.body
 bodies e s [] r on h = refl
 bodies e s (x ∷ xs) r on h =
     let parts = and_parts (keeps_on_disk s x) (rests e (after e s x) xs) r in
-    let kept : keeps_body x.event x.outcome ≡ true = or_kept (is_on_disk s.head.place) (keeps_body x.event x.outcome) on parts.0 in
+    let kept : keeps_body x.event x.outcome ≡ true = implied (is_on_disk s.head.place) (keeps_body x.event x.outcome) on parts.0 in
     let there : is_on_disk (after e s x).head.place ≡ true = ap is_on_disk (still e s (x ∷ []) (h.0, tt)) ∙ on in
     bodies e (after e s x) xs parts.1 there h.1 ∙ body_kept e s x.event x.outcome kept
 

@@ -2,7 +2,7 @@
 use Rattle.std.proofs.Common.{◌≡◌, ℕ, ◌+◌, List, [], ◌∷◌, ◌++◌, length, refl, sym, ◌∙◌, ap, append_assoc, append-nil, true, false, Bool, arith, eqb-true, ltb-true, lt-ltb}
 use Rattle.std.specs.Prelude.{Option, Some, None, map, ◌==◌, if◌then◌else◌}
 use Rattle.std.specs.List.{filter, flat_map}
-use Rattle.std.proofs.lemmas.List.{length_push, length-map}
+use Rattle.std.proofs.lemmas.List.{length_push, length-map, map-append}
 use Rattle.std.proofs.lemmas.List.Elements.{filter-append}
 use Rattle.am_names.specs.declared.Packet.{Packet}
 use Rattle.am_names.specs.declared.Packet.TheVariants as Packets
@@ -12,10 +12,6 @@ use Rattle.am_plan.specs.Shape.{at_once, is_late_until, late_from, number_of, st
 use Rattle.am_release.specs.declared.stage.Held.{Held}
 use Rattle.am_release.specs.Laws.{HoldsOn, NumbersLeave, PacketsLeave}
 use Rattle.am_release.specs.Stages.{all_held, copies, falls_due, freed, held_after, held_back, is_later}
-
-pub map_append : {X Y : Type 0} (f : X → Y) (xs ys : List X) → map f (xs ++ ys) ≡ map f xs ++ map f ys
-map_append f [] ys = refl
-map_append f (x ∷ xs) ys = ap (λ l. f x ∷ l) (map_append f xs ys)
 
 map_same : {X : Type 0} (xs : List X) → map (λ (x : X). x) xs ≡ xs
 map_same [] = refl
@@ -128,7 +124,7 @@ pub packets_leave : PacketsLeave
 packets_leave faults sent p =
     ap (λ (l : List Packet). map (stamped (stamp_of p)) (freed (length sent + 1) fault p (held_after faults l))) (sym (map_same sent))
     ∙ ap (map (stamped (stamp_of p))) (leaves (λ (q : Packet). q) faults sent p ∙ ap (λ (l : List Packet). copies fault p ++ l) (map_same late))
-    ∙ map_append (stamped (stamp_of p)) (copies fault p) late
+    ∙ map-append (stamped (stamp_of p)) (copies fault p) late
     ∙ ap (λ (l : List Packet). l ++ map (stamped (stamp_of p)) late) (stamped_at_once fault p)
   where
     fault : Option LinkFault
@@ -154,7 +150,7 @@ pub numbers_leave : NumbersLeave
 numbers_leave faults sent p =
     leaves number_of faults sent (number_of p)
     ∙ (λ i. numbers_at_once (faults (length sent + 1)) p i ++ sym (number_stamped (stamp_of p) late) i)
-    ∙ sym (map_append number_of (at_once (faults (length sent + 1)) p) (map (stamped (stamp_of p)) late))
+    ∙ sym (map-append number_of (at_once (faults (length sent + 1)) p) (map (stamped (stamp_of p)) late))
   where
     late : List Packet
     late = late_from faults (length sent + 1) 1 sent

@@ -6,18 +6,12 @@ use Rattle.std.specs.declared.cmp.Ordering.TheVariants.{Less, Equal, Greater}
 use Rattle.std.proofs.lemmas.Cmp.{ranked}
 use Rattle.std.proofs.lemmas.List.{drop_more}
 use Rattle.std.proofs.Common.{◌≡◌, ℕ, ◌+◌, ◌-◌, ◌<◌, ◌==◌, ◌&&◌, Bool, true, false, cond, List, ◌∷◌, length, drop, slice_index_or, Option, Some, refl, sym, ap, ◌∙◌, subst, arith, eq-eqb, eqb-true}
+use Rattle.am_lemmas.proofs.Numbers.{nat_cmp-is_eq}
 use Rattle.am_names.specs.declared.NodeId.{NodeId}
 use Rattle.am_plan.specs.declared.plan.LinkFault.{LinkFault}
 use Rattle.am_plan.specs.declared.plan.PlanLine.{PlanLine}
 use Rattle.am_plan.specs.Shape.{fault_at, fault_in, is_line_of}
 use Rattle.am_release.specs.Faults.{SaysOf, said}
-
-pub equal_test : (k q : ℕ) → is_eq (nat_cmp k q) ≡ (q == k)
-equal_test k q = by_order (nat_cmp k q) refl
-  where
-    apart : (q ≡ k → ⊥) → (b : Bool) → (q == k) ≡ b → false ≡ b
-    apart no' true is = absurd (no' (eqb-true q k is))
-    apart no' false is = refl
 
     by_order : (o : Ordering) → nat_cmp k q ≡ o → is_eq o ≡ (q == k)
     by_order Less is = let lt : k < q = ranked k q Less (sym is) in apart (λ same. omega (arith, lt, same)) (q == k) refl

@@ -8,6 +8,7 @@ use Rattle.std.proofs.lemmas.List.Elements.{filter_map-append}
 use mathlib.Core.Bool.{or-false, or-true}
 use Rattle.am_lemmas.proofs.Numbers.{nat_cmp-is_eq}
 use Rattle.am_lemmas.proofs.Lists.{list_any-push}
+use Rattle.am_lemmas.proofs.Options.{option_or-None}
 use Rattle.am_names.specs.declared.Serial.{Serial}
 use Rattle.am_names.specs.declared.Cause.{Cause}
 use Rattle.am_names.specs.Names.{same_serial, has_serial, serial_order}
@@ -30,10 +31,6 @@ order_same about s =
     sym (tied_then (nat_cmp about.source.0 s.source.0) (nat_cmp about.count s.count))
     ∙ rw (nat_cmp-is_eq about.source.0 s.source.0, nat_cmp-is_eq about.count s.count) refl
 
-or_none : {X : Type 0} (o : Option X) → option_or o None ≡ o
-or_none None = refl
-or_none (Some x) = refl
-
 -- what is known after an entry that says these
 grown : Known → Option Cause → Bool → Bool → Known
 grown k cause unknown ran = record { cause = option_or k.cause cause; unknown = k.unknown || unknown; ran = k.ran || ran }
@@ -44,16 +41,16 @@ grown_parts k cause more unknown left ran run e1 e2 e3 = rw (e1, e2, e3) refl
 
 grown_none : (k : Known) → grown k None false false ≡ k
 unfolding grown
-grown_none k = rw (or_none k.cause, or-false k.unknown, or-false k.ran) refl
+grown_none k = rw (option_or-None k.cause, or-false k.unknown, or-false k.ran) refl
 
 grown_ran : (b : Bool) (k : Known) → grown k None false b ≡ cond b (known_with k Latest.Ran) k
 unfolding grown
-grown_ran true k = rw (or_none k.cause, or-false k.unknown, or-true k.ran) refl
+grown_ran true k = rw (option_or-None k.cause, or-false k.unknown, or-true k.ran) refl
 grown_ran false k = grown_none k
 
 grown_unknown : (b : Bool) (k : Known) → grown k None b false ≡ cond b (known_with k Latest.Unknown) k
 unfolding grown
-grown_unknown true k = rw (or_none k.cause, or-true k.unknown, or-false k.ran) refl
+grown_unknown true k = rw (option_or-None k.cause, or-true k.unknown, or-false k.ran) refl
 grown_unknown false k = grown_none k
 
 grown_returned : (b : Bool) (k : Known) (c : Cause) → grown k (cause_if b c) false false ≡ cond b (known_with k (Latest.Returned c)) k

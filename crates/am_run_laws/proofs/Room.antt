@@ -3,6 +3,8 @@ use Rattle.std.specs.Prelude.{◌&&◌, ◌||◌, ◌==◌, not, nat_le, nat_lt,
 use Rattle.std.specs.List.{list_all}
 use Rattle.std.proofs.Common.{◌≡◌, ⊎_elim, ℕ, Bool, true, false, cond, List, [], ◌∷◌, ◌++◌, length, Option, Some, None, refl, sym, ap, ◌∙◌, subst, arith, true≢false, eqb-true, ltb-true}
 use Rattle.std.proofs.lemmas.Bool.{and_parts, and_from, and_right, or_cases, lt-leb, not-true}
+use Rattle.am_lemmas.proofs.Lists.{find_passes}
+use Rattle.am_model.proofs.PlaceKinds.{framed_is_resident}
 use Rattle.am_names.specs.Names.{same_end, is_request, is_answer}
 use Rattle.am_names.specs.declared.EndpointId.{EndpointId}
 use Rattle.am_names.specs.declared.Message.{Message}
@@ -25,7 +27,7 @@ use Rattle.am_scripts.specs.Layout.{layout_of}
 use Rattle.am_scripts.proofs.Lawful.{lawful_layout}
 use Rattle.am_scripts.specs.Links.{first_some}
 use Rattle.am_scripts.specs.Standings.{Standing, standings, is_standing_of}
-use Rattle.am_scripts.proofs.Lists.{found_in, found_true, none_all}
+use Rattle.am_scripts.proofs.Lists.{found_in, none_all}
 use Rattle.am_drain.specs.declared.Turn.{Turn}
 use Rattle.am_drain.specs.declared.Turn.TheVariants.{Send}
 use Rattle.am_drain.specs.Drain.{after_turn}
@@ -35,7 +37,7 @@ use Rattle.am_drain.specs.Rules.{has_reply, has_room, finds_room, has_request, n
 use Rattle.am_drain.proofs.Quiet.{Quiet, then, ready-quiet, ready_dest-quiet}
 use Rattle.am_drain_steps.specs.Enabled.{IsOfRun}
 use Rattle.am_drain_steps.proofs.Calls.{home_seated, declared_home}
-use Rattle.am_drain_steps.proofs.Emptying.{AsSource, AsDest, IsGrounded, framed_resident}
+use Rattle.am_drain_steps.proofs.Emptying.{AsSource, AsDest, IsGrounded}
 use Rattle.am_drain_steps.proofs.Enabled.{IsStanding, is_standing, of_packets}
 use Rattle.am_drain_steps.proofs.Moves.{spares_then}
 use Rattle.am_drain_steps.proofs.Readying.{IsReady, readies, spared_ground}
@@ -83,7 +85,7 @@ room_found : (layout : Layout) (past : List Entry) (m : Message) (o : Option Sta
 room_found layout past m None ok is h = absurd (true≢false (sym h))
 room_found layout past m (Some d) ok is h =
     let k : IsStanding layout past d = is_standing layout past (is_standing_of m.dest) d ok is in
-    let same : m.dest ≡ d.setting.id = same_end-is m.dest d.setting.id (found_true (is_standing_of m.dest) (standings layout past) d is) in
+    let same : m.dest ≡ d.setting.id = same_end-is m.dest d.setting.id (find_passes (is_standing_of m.dest) (standings layout past) d is) in
     let here : d.state ≡ state_of layout past m.dest = k.state ∙ ap (state_of layout past) (sym same) in
     subst (λ (z : State). HasRoomFor z m) here (room_there d m h)
 
@@ -107,7 +109,7 @@ front_room s past st q run sender has = by_reply (find has_reply ends) refl send
         let all : list_all (λ (z : Standing). not (has_reply z)) ends ≡ true = none_all has_reply ends none in
         let bare : not (has_reply st) ≡ true = found_in (has_request ends) (λ (z : Standing). not (has_reply z)) ends st found all in
         let first : slice_get st.state.body.requests 0 ≡ Some q = request_first st.state.body.replies st.state.body.requests q bare has in
-        let passes : has_request ends st ≡ true = found_true (has_request ends) ends st found in
+        let passes : has_request ends st ≡ true = find_passes (has_request ends) ends st found in
         room_found layout past q.message (find (is_standing_of q.message.dest) ends) ok refl (sym (ap (finds_room ends) first) ∙ passes)
 
     by_reply : (o : Option Standing) → find has_reply (standings (layout_of s) past) ≡ o → first_some (o ∷ find (has_request (standings (layout_of s) past)) (standings (layout_of s) past) ∷ []) ≡ Some st → HasRoomFor (state_of (layout_of s) past q.message.dest) q.message
@@ -117,7 +119,7 @@ front_room s past st q run sender has = by_reply (find has_reply ends) refl send
         let found : find has_reply ends ≡ Some st = is ∙ ap (λ (z : Standing). Some z) same in
         let k : IsStanding layout past st = is_standing layout past has_reply st ok found in
         let answers : AllAre Answers st.state.body.replies = subst (λ (z : State). AllAre Answers z.body.replies) (sym k.state) (replies_answer layout past (of_packets s run.packet) run.history st.setting.id) in
-        let no : is_request q.message ≡ false = reply_first st.state.body.replies st.state.body.requests q (found_true has_reply ends st found) has answers in
+        let no : is_request q.message ≡ false = reply_first st.state.body.replies st.state.body.requests q (find_passes has_reply ends st found) has answers in
         λ opened. ap (λ (b : Bool). b && nat_le 16 (count_by is_request (state_of layout past q.message.dest).body.received)) no
 
 -- ---- the destination is ready
@@ -133,7 +135,7 @@ source_stands layout past one e dest r true b is closed h =
     record {
       body' = r.spares'.body' dest;
       closed' = r.spares'.closed' dest;
-      resident = λ opened. framed_resident (state_of layout one dest).head.place (subst (λ (i : EndpointId). is_in_a_frame (state_of layout one i).head.place ≡ true) (same_end-is e dest is) r.framed);
+      resident = λ opened. framed_is_resident (state_of layout one dest).head.place (subst (λ (i : EndpointId). is_in_a_frame (state_of layout one i).head.place ≡ true) (same_end-is e dest is) r.framed);
     }
 source_stands layout past one e dest r false true is closed h =
     record { body' = r.spares'.body' dest; closed' = r.spares'.closed' dest; resident = λ opened. absurd (true≢false (sym closed ∙ opened)) }
@@ -152,7 +154,7 @@ dest_stands s past one e dest peer run ground at r = by_test (not (same_end e de
         let d : IsReady layout e dest dest one next = readies layout one s.keep peer e dest dest (of_packets s run.packet) ok r.history (home_seated layout dest peer ok at) (AsDest refl) (spared_ground layout past one r.spares' ground) (not-true (state_of layout one dest).head.closed both.1) in
         let all = spares_then layout past one next r.spares' d.spares' in
         subst (λ (o : Option NodeId). Stands layout past (ready_at o layout s.keep e dest one) dest) (sym at)
-        (record { body' = all.body' dest; closed' = all.closed' dest; resident = λ opened. framed_resident (state_of layout next dest).head.place d.framed })
+        (record { body' = all.body' dest; closed' = all.closed' dest; resident = λ opened. framed_is_resident (state_of layout next dest).head.place d.framed })
 
 -- and the source holds what it held
 source_body : (s : ScenarioLists) (past one : List Entry) (e dest : EndpointId) (peer : NodeId) → IsOfRun s past → IsGrounded (layout_of s) past → home (layout_of s) dest ≡ Some peer → IsReady (layout_of s) e dest e past one → (state_of (layout_of s) (ready_dest (layout_of s) s.keep e dest one) e).body ≡ (state_of (layout_of s) past e).body

@@ -8,8 +8,8 @@ use Rattle.std.proofs.lemmas.List.Elements.{All-nil, All-cons, All-append, All-w
 use Rattle.std.proofs.lemmas.List.Folds.{find-append}
 use Rattle.std.proofs.lemmas.List.Sums.{sum_by-append, sum_by-cons}
 use Rattle.std.proofs.lemmas.Bool.{eqb-true, eq-eqb}
-use Rattle.am_lemmas.proofs.Lists.{all_pairs_grow}
-use Rattle.am_lines_laws.proofs.Words.{find_passes}
+use Rattle.am_lemmas.proofs.Lists.{all_pairs_grow, find_passes}
+use Rattle.am_lemmas.proofs.Options.{option_or-None}
 use Rattle.am_lines_laws.proofs.Growing.{apart}
 
 abbrev pub has_key : {A : Type 0} → (A → ℕ) → ℕ → A → Bool
@@ -63,10 +63,6 @@ rising key xs (suc n) = rising_more key n (below key xs n) (find (has_key key n)
 
 -- ---- what is found
 
-or_none : {A : Type 0} (o : Option A) → option_or o None ≡ o
-or_none None = refl
-or_none (Some x) = refl
-
 find_other : {A : Type 0} (key : A → ℕ) (k n : ℕ) (o : Option A) → ((x : A) → o ≡ Some x → key x ≡ n) → k ≢ n → find (has_key key k) (option_to_list o) ≡ None
 find_other key k n None at differ = refl
 find_other key k n (Some x) at differ = find_other_at (key x == k) refl
@@ -100,7 +96,7 @@ found_before : {A : Type 0} (key : A → ℕ) (xs : List A) (k n : ℕ) → k �
 found_before key xs k n differ before =
     find-append (has_key key k) (below key xs n) (option_to_list (find (has_key key n) xs))
     ∙ (ap (λ (o : Option _). option_or (find (has_key key k) (below key xs n)) o) (find_other key k n (find (has_key key n) xs) (λ x e. key_of_found key xs n x e) differ)
-    ∙ (or_none (find (has_key key k) (below key xs n)) ∙ before))
+    ∙ (option_or-None (find (has_key key k) (below key xs n)) ∙ before))
 
 found_by : {A : Type 0} (key : A → ℕ) (xs : List A) (k n : ℕ) (b : Bool) → (k == n) ≡ b → k < suc n → (k < n → find (has_key key k) (below key xs n) ≡ find (has_key key k) xs)
     → find (has_key key k) (below key xs n ++ option_to_list (find (has_key key n) xs)) ≡ find (has_key key k) xs

@@ -5,6 +5,7 @@ use Rattle.std.specs.List.{All, AllPairs, slice_index}
 use Rattle.std.specs.Option.{option_to_list, option_map, unwrap_or}
 use Rattle.std.proofs.lemmas.List.Elements.{All-weaker}
 use Rattle.std.proofs.lemmas.Bool.{not-false, or_parts, ltb-false, eqb-true}
+use Rattle.am_lemmas.proofs.Lists.{find_passes}
 use Rattle.am_lexer.specs.declared.what.What.{What}
 use Rattle.am_lexer.specs.declared.what.What.TheVariants.{UnknownWord, Missing, NotText, OutOfPlace}
 use Rattle.am_lexer.specs.Text.{lines_of, words_of, is_text_line}
@@ -39,7 +40,7 @@ use Rattle.am_lines_laws.specs.LineLaws.{network_of, section_said, fits_form, Is
 use Rattle.am_lines_laws.specs.Sound.{SettingsAreSound, EndsAreSound, ThreadsAreSound, IsSound, HasForm}
 use Rattle.am_lines_laws.proofs.Meets.{Meets, refuses, gives, bind, test, anything, found}
 use Rattle.am_lines_laws.proofs.Calling.{lines_are_lawful}
-use Rattle.am_lines_laws.proofs.Words.{find_passes, on_is_declared}
+use Rattle.am_lines_laws.proofs.Words.{on_is_declared}
 use Rattle.am_lines_laws.proofs.Growing.{stays_sound, begins_sound}
 use Rattle.am_scenario.specs.Order.{placed, after_words, after_line}
 use Rattle.am_scenario.specs.Grammar.{ends_below, threads_below, tries_of, bounces_of, pool_of, whole, on_line, read_from, grammar}

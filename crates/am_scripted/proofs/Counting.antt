@@ -3,9 +3,8 @@ use Rattle.std.specs.Prelude.{AllPairs, ◌==◌, slice_get, slice_index_or, sli
 use Rattle.std.proofs.Common.{◌≡◌, ◌⊎◌, ℕ, zero, suc, ◌+◌, ◌<◌, ◌≤◌, Bool, true, false, cond, List, [], ◌∷◌, map, length, Option, Some, None, refl, sym, ap, ◌∙◌, arith, eqb-true, ⊎_elim}
 use Rattle.std.proofs.lemmas.Bool.{cases_lt, eqb-false}
 use Rattle.std.proofs.lemmas.List.{length-map}
-use Rattle.std.proofs.lemmas.Option.{slice_get_within}
+use Rattle.std.proofs.lemmas.Option.{slice_get_within, slice_get-get_or}
 use Rattle.am_lemmas.proofs.Lists.{Some-slice_get_map}
-use Rattle.am_journal.proofs.Lists.{index_got}
 use Rattle.am_office.specs.declared.Entry.{Entry}
 use Rattle.am_scenario_types.specs.declared.parts.ScriptCall.{ScriptCall}
 use Rattle.am_scenario_types.specs.declared.parts.ThreadLine.{ThreadLine}
@@ -68,8 +67,8 @@ rises : (lines : List ThreadLine) → AllPairs (λ (a b : ThreadLine). a.id < b.
 rises lines rise i j a b at to lt =
     let low = slice_get_within lines i a at in
     let high = slice_get_within lines j b to in
-    let first : Some (slice_index_or lines i a) ≡ Some a = sym (index_got lines i a low) ∙ at in
-    let second : Some (slice_index_or lines j a) ≡ Some b = sym (index_got lines j a high) ∙ to in
+    let first : Some (slice_index_or lines i a) ≡ Some a = sym (slice_get-get_or lines i a low) ∙ at in
+    let second : Some (slice_index_or lines j a) ≡ Some b = sym (slice_get-get_or lines j a high) ∙ to in
     let less = rise i j a lt high in
     let third : slice_index_or lines i a ≡ a = cc in
     let fourth : slice_index_or lines j a ≡ b = cc in

@@ -3,6 +3,7 @@ use Rattle.std.specs.Prelude.{slice_get, slice_index_or, if◌then◌else◌, If
 use Rattle.std.specs.List.{cons_option}
 use Rattle.std.proofs.Common.{◌≡◌, ℕ, ◌+◌, ◌*◌, ◌<◌, ◌≤◌, Bool, true, false, cond, ◌&&◌, List, [], ◌∷◌, length, Option, Some, None, refl, sym, ◌∙◌, arith}
 use Rattle.std.proofs.lemmas.List.Sums.{sum_by-cons}
+use Rattle.std.proofs.lemmas.Option.{slice_get-get_or}
 use Rattle.am_names.specs.declared.NodeId.{NodeId}
 use Rattle.am_names.specs.Names.{same_node}
 use Rattle.am_office.specs.declared.Event.{Event}
@@ -11,7 +12,6 @@ use Rattle.am_office.specs.declared.Entry.{Entry}
 use Rattle.am_model.specs.Channels.{emitted}
 use Rattle.am_model.specs.History.{IsHistory}
 use Rattle.am_journal.specs.View.{is_receipt, receipts}
-use Rattle.am_journal.proofs.Lists.{index_got}
 use Rattle.am_scenario_types.specs.Lists.{ScenarioLists}
 use Rattle.am_scripts.specs.Layout.{layout_of}
 use Rattle.am_drain_steps.specs.Enabled.{DuesAreCounted}
@@ -54,7 +54,7 @@ due_read s past rs from to n fed low lower count =
     (λ i. slice_get (is i).numbers (counted i))
   where
     is : slice_index_or rs (16 * from.0 + to.0) nothing ≡ released_of s.plan from to (emitted from to past)
-    is = fed.each from.0 to.0 (slice_index_or rs (16 * from.0 + to.0) nothing) lower (index_got rs (16 * from.0 + to.0) nothing (let all = fed.all in omega (arith, all, low, lower)))
+    is = fed.each from.0 to.0 (slice_index_or rs (16 * from.0 + to.0) nothing) lower (slice_get-get_or rs (16 * from.0 + to.0) nothing (let all = fed.all in omega (arith, all, low, lower)))
 
     counted : n ≡ length (received from to past)
     counted = count ∙ receipts_are from to past

@@ -5,6 +5,7 @@ use Rattle.std.specs.List.{filter, cons_option}
 use Rattle.std.proofs.lemmas.Bool.{and_parts}
 use Rattle.std.proofs.lemmas.List.{append-nil, length-set}
 use Rattle.am_lemmas.proofs.Lists.{slice_get-set_cases}
+use Rattle.std.proofs.lemmas.Option.{slice_get-get_or}
 use Rattle.am_names.specs.declared.NodeId.{NodeId}
 use Rattle.am_names.specs.declared.Packet.{Packet}
 use Rattle.am_names.specs.declared.Packet.TheVariants as Packets
@@ -14,7 +15,6 @@ use Rattle.am_model.specs.Channels.{emitted, is_on_link}
 use Rattle.am_model.specs.Packets.{receiver_of, from_of}
 use Rattle.am_model.specs.Layout.{node_at}
 use Rattle.am_local.proofs.Growing.{emitted_append}
-use Rattle.am_journal.proofs.Lists.{index_got}
 use Rattle.am_plan.specs.declared.plan.PlanLine.{PlanLine}
 use Rattle.am_plan.specs.Shape.{fault_at, number_of}
 use Rattle.am_scripted.specs.Links.{AreFed, Released, fed, fed_at, nothing, released_of}
@@ -74,7 +74,7 @@ fed_packet plan past rs x p are is low lower =
     new = fed (length sent + 1) (fault_at plan from to (length sent + 1)) (number_of p) (slice_index_or rs k nothing)
 
     was : slice_index_or rs k nothing ≡ released_of plan from to sent
-    was = are.each from.0 to.0 (slice_index_or rs k nothing) lower (index_got rs k nothing (let all = are.all in omega (arith, all, low, lower)))
+    was = are.each from.0 to.0 (slice_index_or rs k nothing) lower (slice_get-get_or rs k nothing (let all = are.all in omega (arith, all, low, lower)))
 
     now : new ≡ released_of plan from to (emitted from to (past ++ x ∷ []))
     now =

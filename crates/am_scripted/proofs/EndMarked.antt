@@ -3,7 +3,7 @@ use Rattle.std.specs.Prelude.{slice_get, slice_index_or, is_some, ◌==◌, if�
 use Rattle.std.specs.List.{All, AllPairs, list_any}
 use Rattle.std.proofs.Common.{◌≡◌, ℕ, zero, suc, ◌+◌, ◌<◌, ◌≤◌, Bool, true, false, ◌||◌, List, [], ◌∷◌, ◌++◌, length, Option, Some, None, refl, sym, ap, ◌∙◌, subst, arith, eq-eqb, eqb-true, ⊎_elim}
 use Rattle.std.proofs.lemmas.Bool.{cases_lt, cases_order, eqb-false}
-use Rattle.std.proofs.lemmas.Option.{slice_get_past, slice_get_within}
+use Rattle.std.proofs.lemmas.Option.{slice_get_past, slice_get_within, slice_get-get_or}
 use Rattle.am_lemmas.proofs.Lists.{slice_get-map_Some, Some-slice_get_map}
 use Rattle.am_marks.specs.Places.{IsNextMark, is_marked}
 use Rattle.am_marks.specs.declared.Marks.{Marks}
@@ -17,7 +17,6 @@ use Rattle.am_model.specs.History.{IsHistory, state_of}
 use Rattle.am_model.specs.Layout.{EndSetting, Layout, has_id}
 use Rattle.am_model.proofs.Names.{same_end-refl}
 use Rattle.am_model.proofs.Each.{state_of_push}
-use Rattle.am_journal.proofs.Lists.{index_got}
 use Rattle.am_endpoint.specs.View.{EndpointView, state_after}
 use Rattle.am_scenario_types.specs.declared.parts.EndLine.{EndLine}
 use Rattle.am_scenario_types.specs.Lawful as lawful
@@ -60,8 +59,8 @@ same_place : (ends : List EndLine) → AllPairs (λ (a b : EndLine). a.id.0 < b.
 same_place ends rise i j a b at to same lt =
     let high = slice_get_within ends j b to in
     let low = slice_get_within ends i a at in
-    let first : Some (slice_index_or ends i a) ≡ Some a = sym (index_got ends i a low) ∙ at in
-    let second : Some (slice_index_or ends j a) ≡ Some b = sym (index_got ends j a high) ∙ to in
+    let first : Some (slice_index_or ends i a) ≡ Some a = sym (slice_get-get_or ends i a low) ∙ at in
+    let second : Some (slice_index_or ends j a) ≡ Some b = sym (slice_get-get_or ends j a high) ∙ to in
     let less = rise i j a lt high in
     let third : slice_index_or ends i a ≡ a = cc in
     let fourth : slice_index_or ends j a ≡ b = cc in

@@ -3,7 +3,7 @@ use Rattle.std.specs.Prelude.{slice_get, option_map, not, ◌==◌, is_some, cou
 use Rattle.std.specs.List.{list_all, list_any, find}
 use Rattle.std.proofs.Common.{◌≡◌, ℕ, zero, suc, ◌+◌, Bool, true, false, cond, ◌&&◌, ◌||◌, List, [], ◌∷◌, map, take, length, Option, Some, None, refl, sym, ap, ◌∙◌, subst, arith, eqb-true}
 use Rattle.std.proofs.lemmas.Bool.{and_parts, or_parts}
-use Rattle.am_lemmas.proofs.Lists.{slice_get-map_Some}
+use Rattle.am_lemmas.proofs.Lists.{slice_get-map_Some, find_passes}
 use Rattle.am_names.specs.declared.EndpointId.{EndpointId}
 use Rattle.am_names.specs.declared.NodeId.{NodeId}
 use Rattle.am_names.specs.declared.Message.{Message}
@@ -35,7 +35,7 @@ use Rattle.am_scripts.specs.Layout.{layout_of}
 use Rattle.am_model.proofs.Alls.{all_at}
 use Rattle.am_model.proofs.Names.{same_end-is}
 use Rattle.am_scripts.specs.Standings.{Standing, is_missed, standings, standing_in}
-use Rattle.am_scripts.proofs.Lists.{found_in, found_true, none_all, none_mapped}
+use Rattle.am_scripts.proofs.Lists.{found_in, none_all, none_mapped}
 use Rattle.am_drain.specs.Rules.{next_page_in, page_in_of}
 use Rattle.am_drainer.specs.Reads.{head_of, is_seat, mail_of}
 use Rattle.am_drain_steps.specs.Away.{AwayIsSettled, is_settled, is_settled_at}
@@ -244,7 +244,7 @@ all_mapped f p (x ∷ xs) = ap (λ (b : Bool). p (f x) && b) (all_mapped f p xs)
 pub quiet_of : (layout : Layout) (past : List Entry) (e : EndpointId) → AwayIsSettled → layout.direct ≡ false → IsHistory layout past → next_page_in (standings layout past) ≡ None → declared layout e ≡ true → IsQuietOnDisk (state_of layout past e)
 quiet_of layout past e away packet history none known =
     let found = found_at e layout.ends known in
-    let own : e ≡ found.0.id = same_end-is e found.0.id (found_true (has_id e) layout.ends found.0 found.1) in
+    let own : e ≡ found.0.id = same_end-is e found.0.id (find_passes (has_id e) layout.ends found.0 found.1) in
     let all = none_all is_missed (standings layout past) (none_mapped page_in_of (find is_missed (standings layout past)) none) in
     let free = found_in (has_id e) (λ (s : EndSetting). not (is_missed (standing_in layout past s))) layout.ends found.0 found.1 (all_mapped (standing_in layout past) (λ (s : Standing). not (is_missed s)) layout.ends ∙ all) in
     quiet_where (state_of layout past e) (away layout past packet history e)

@@ -2,9 +2,10 @@
 use Rattle.std.specs.Prelude.{option_map, slice_get, not, is_some, nat_le, nat_lt, ◌==◌, ◌||◌, if◌then◌else◌}
 use Rattle.std.specs.List.{cons_option, list_all, range_with_len}
 use Rattle.std.proofs.Common.{◌≡◌, ⊎_elim, ℕ, zero, suc, ◌+◌, ◌*◌, ◌/◌, ◌%◌, ◌<◌, ◌≤◌, Bool, true, false, ◌&&◌, List, [], ◌∷◌, ◌++◌, map, length, Option, Some, None, refl, sym, ap, ◌∙◌, subst, arith, eqb-true, ltb-true}
-use Rattle.std.proofs.lemmas.Bool.{and_parts, cases_lt, eqb-false, lt-ltb}
+use Rattle.std.proofs.lemmas.Bool.{and_parts, cases_lt, eqb-false, lt-ltb, le-ltb}
 use Rattle.std.proofs.lemmas.List.{append-nil}
 use Rattle.std.proofs.lemmas.List.Elements.{filter_map-append}
+use Rattle.am_lemmas.proofs.Bools.{and_second_fails}
 use Rattle.am_marks.specs.Places.{IsNextMark, is_marked}
 use Rattle.am_marks.specs.declared.Marks.{Marks}
 use Rattle.am_names.specs.declared.NodeId.{NodeId}
@@ -93,10 +94,6 @@ no_pair a b c d t apart = by_tests (a == b) (c == d) refl refl
     by_tests true false is at = refl
     by_tests false q is at = refl
 
-no_end : (t b : Bool) → b ≡ false → (t && b) ≡ false
-no_end true b is = is
-no_end false b is = refl
-
 -- a pair other than the one that an entry touches, this way
 abbrev IsOther : NodeId → NodeId → Option NodePair → Type 0
 IsOther node peer None = Unit {0}
@@ -108,8 +105,8 @@ other_of node peer (Some pair) apart = apart.0
 
 unbound_by : (c : Channel) (event : Event) (o : Outcome) → IsOther c.node c.peer (pair_touched event o) → (binds c event o || frees c event o) ≡ false
 unbound_by c (Events.Bind node end) (Out.Sent m peer channel seq attempt number) apart = ap (λ (t : Bool). t || false) (no_pair c.node.0 node.0 c.peer.0 peer.0 (c.number == channel) apart)
-unbound_by c (Events.Expire node peer channel) o apart = no_end (ends_tries o) (same_channel c node peer channel) (no_pair c.node.0 node.0 c.peer.0 peer.0 (c.number == channel) apart)
-unbound_by c (Events.Receive node peer number) (Out.Received channel seq attempt result) apart = no_end (frees_by result) (same_channel c node peer channel) (no_pair c.node.0 node.0 c.peer.0 peer.0 (c.number == channel) apart)
+unbound_by c (Events.Expire node peer channel) o apart = and_second_fails (ends_tries o) (same_channel c node peer channel) (no_pair c.node.0 node.0 c.peer.0 peer.0 (c.number == channel) apart)
+unbound_by c (Events.Receive node peer number) (Out.Received channel seq attempt result) apart = and_second_fails (frees_by result) (same_channel c node peer channel) (no_pair c.node.0 node.0 c.peer.0 peer.0 (c.number == channel) apart)
 unbound_by c event o apart = refl
 
 bound_kept : (past : List Entry) (x : Entry) (c : Channel) → IsOther c.node c.peer (pair_touched x.event x.outcome) → is_bound c (past ++ x ∷ []) ≡ is_bound c past
@@ -312,20 +309,13 @@ pub paired_more : (s : ScenarioLists) (past : List Entry) (n : ℕ) (old new : P
 paired_more s past n old new to due bound =
     record { due = one_more s (has_due s past) n old.due new.due to.due due; bound = one_more s (has_bound s past) n old.bound new.bound to.bound bound }
 
-no_less : (a b : ℕ) → b ≤ a → nat_lt a b ≡ false
-no_less a b le = by_test (nat_lt a b) refl
-  where
-    by_test : (t : Bool) → nat_lt a b ≡ t → t ≡ false
-    by_test true is = let lt = ltb-true a b is in absurd (omega (arith, lt, le))
-    by_test false is = refl
-
 pub paired_all : (s : ScenarioLists) (past : List Entry) (m : PairMarks) → s.nodes ≤ 16 → ArePairedTo s past 256 m → ArePaired s past m
 paired_all s past m few to = record { due = so (has_due s past) m.due to.due; bound = so (has_bound s past) m.bound to.bound }
   where
     so : (passes : NodeId → NodeId → Bool) (marks : Marks) → IsPairedTo s passes 256 marks → AreOfPairs s passes marks
     so passes marks to k =
         ⊎_elim (λ (lt : k < 256). to.below k lt)
-        (λ (le : 256 ≤ k). (to.rest k le ∙ sym (ap (λ (b : Bool). (b && nat_lt (k % 16) s.nodes) && passes (node_at (k / 16)) (node_at (k % 16))) (no_less (k / 16) s.nodes (omega (arith, le, few))))))
+        (λ (le : 256 ≤ k). (to.rest k le ∙ sym (ap (λ (b : Bool). (b && nat_lt (k % 16) s.nodes) && passes (node_at (k / 16)) (node_at (k % 16))) (le-ltb (k / 16) s.nodes (omega (arith, le, few))))))
         (cases_lt k 256)
 
 pub first_none : (s : ScenarioLists) (passes : NodeId → NodeId → Bool) (marks : Marks) → s.nodes ≤ 16 → AreOfPairs s passes marks → IsNextMark marks 0 None → IsFirstPair s passes None
@@ -353,7 +343,7 @@ one_bound node peer past first zero k le lt is = absurd (omega (arith, le, lt))
 one_bound node peer past first (suc n) k le lt is = ⊎_elim (λ (less : first < k). later (one_bound node peer past (first + 1) n k (omega (arith, less)) (omega (arith, lt)) is)) here (cases_lt first k)
   where
     later : list_all (λ (j : ℕ). not (is_bound (channel_to node peer j) past)) (range_with_len (first + 1) n) ≡ false → (not (is_bound (channel_to node peer first) past) && list_all (λ (j : ℕ). not (is_bound (channel_to node peer j) past)) (range_with_len (first + 1) n)) ≡ false
-    later none = no_end (not (is_bound (channel_to node peer first) past)) (list_all (λ (j : ℕ). not (is_bound (channel_to node peer j) past)) (range_with_len (first + 1) n)) none
+    later none = and_second_fails (not (is_bound (channel_to node peer first) past)) (list_all (λ (j : ℕ). not (is_bound (channel_to node peer j) past)) (range_with_len (first + 1) n)) none
 
     here : k ≤ first → (not (is_bound (channel_to node peer first) past) && list_all (λ (j : ℕ). not (is_bound (channel_to node peer j) past)) (range_with_len (first + 1) n)) ≡ false
     here most =

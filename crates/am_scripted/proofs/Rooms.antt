@@ -1,7 +1,7 @@
 -- Room on each link.
 use Rattle.std.proofs.Common.{◌≡◌, ⊎_elim, ℕ, zero, suc, Bool, true, false, List, [], ◌∷◌, refl, sym, ap, ◌∙◌, subst, ◌++◌, ◌==◌, eqb-true, eq-eqb, true≢false}
 use Rattle.std.specs.Prelude.{slice_get, slice_set, OnOk, Result, Ok, Err}
-use Rattle.am_lemmas.proofs.Lists.{slice_get-set_cases}
+use Rattle.am_lemmas.proofs.Lists.{slice_get-set_cases, slice_get-set_elsewhere}
 use Rattle.am_release.specs.Staged.{Staged}
 use Rattle.am_scripted.specs.Links.{HasAllRoom, HasSpare, HasSpareAt}
 use Rattle.am_scripted.proofs.Indexing.{got_push}
@@ -9,14 +9,6 @@ use Rattle.am_scripted.proofs.Indexing.{got_push}
 pub on_ok : {A E P Q : Type 0} (r : Result A E) → OnOk r P → (P → Q) → OnOk r Q
 on_ok (Ok a) p f = f p
 on_ok (Err e) p f = p
-
--- what stands elsewhere after a write
-pub got_elsewhere : {X : Type 0} (xs : List X) (i k : ℕ) (v : X) → (k ≡ i → ⊥) → slice_get (slice_set xs i v) k ≡ slice_get xs k
-got_elsewhere [] i k v apart = refl
-got_elsewhere (x ∷ xs) zero zero v apart = absurd (apart refl)
-got_elsewhere (x ∷ xs) zero (suc k) v apart = refl
-got_elsewhere (x ∷ xs) (suc i) zero v apart = refl
-got_elsewhere (x ∷ xs) (suc i) (suc k) v apart = got_elsewhere xs i k v (λ e. apart (ap suc e))
 
 -- the link that was written has room where it had before
 pub room_written : (links : List (Staged ℕ)) (k : ℕ) (new : Staged ℕ) → HasSpare new → HasSpareAt (slice_set links k new) k

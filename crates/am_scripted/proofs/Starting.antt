@@ -3,11 +3,10 @@ use Rattle.std.specs.Prelude.{slice_get, count_by}
 use Rattle.std.specs.List.{All}
 use Rattle.std.proofs.Common.{◌≡◌, ℕ, ◌+◌, ◌*◌, ◌≤◌, List, [], map, length, Some, sym, ◌∙◌, subst, arith}
 use Rattle.std.proofs.lemmas.List.{length-map}
-use Rattle.am_lemmas.proofs.Lists.{Some-slice_get_map}
+use Rattle.am_lemmas.proofs.Lists.{Some-slice_get_map, All-slice_get}
 use Rattle.am_office.specs.declared.Entry.{Entry}
 use Rattle.am_model.specs.Channels.{emitted}
 use Rattle.am_model.specs.Layout.{node_at}
-use Rattle.am_journal.proofs.Lists.{got_all}
 use Rattle.am_plan.specs.declared.plan.PlanLine.{PlanLine}
 use Rattle.am_scenario_types.specs.Lists.{ScenarioLists}
 use Rattle.am_model.specs.Parts.{touches_part}
@@ -30,7 +29,7 @@ fed_nothing plan links all none =
     here : (from to : ℕ) (r : Released) → slice_get (map released_in links) (16 * from + to) ≡ Some r → r ≡ released_of plan (node_at from) (node_at to) (emitted (node_at from) (node_at to) [])
     here from to r h =
         let l = Some-slice_get_map released_in links (16 * from + to) r h in
-        sym l.2 ∙ got_all (λ (x : Staged ℕ). released_in x ≡ nothing) links (16 * from + to) l.0 none l.1
+        sym l.2 ∙ All-slice_get (λ (x : Staged ℕ). released_in x ≡ nothing) links (16 * from + to) l.0 none l.1
 
 pub fits_nothing : (s : ScenarioLists) (journal : List Entry) → journal ≡ [] → HasShortLogs s journal
 fits_nothing s journal none part = subst (λ (j : List Entry). count_by (touches_part part) j ≤ s.log) (sym none) (omega arith)

@@ -3,6 +3,7 @@ use Rattle.std.specs.Prelude.{slice_index_or, slice_set, IfSome}
 use Rattle.std.proofs.Common.{◌≡◌, ℕ, ◌+◌, ◌*◌, ◌<◌, ◌≤◌, List, [], ◌∷◌, ◌++◌, map, length, take, drop, Option, Some, None, refl, sym, ap, ◌∙◌, subst, arith}
 use Rattle.std.proofs.lemmas.List.{length-take-le, take-append-drop, take_more}
 use Rattle.std.proofs.lemmas.List.Edits.{map_over_more}
+use Rattle.std.proofs.lemmas.Option.{slice_get-get_or}
 use Rattle.am_names.specs.declared.Packet.{Packet}
 use Rattle.am_office.specs.declared.Entry.{Entry}
 use Rattle.am_office.specs.Entries.{emitted_of}
@@ -10,7 +11,6 @@ use Rattle.am_model.specs.History.{IsHistory, MayFollow}
 use Rattle.am_model.specs.Layout.{IsLawful, Layout}
 use Rattle.am_model.proofs.Each.{each_front}
 use Rattle.am_model.specs.Packets.{receiver_of, from_of}
-use Rattle.am_journal.proofs.Lists.{index_got}
 use Rattle.am_plan.specs.declared.plan.PlanLine.{PlanLine}
 use Rattle.am_scenario_types.specs.declared.parts.ScriptCall.{ScriptCall}
 use Rattle.am_scenario_types.specs.Lists.{ScenarioLists}
@@ -49,7 +49,7 @@ uncalled o ts is = subst (λ (c : Option ScriptCall). ts ≡ map (with_call_if c
 
 other_default : {X : Type 0} (xs : List X) (i : ℕ) (d e : X) → i < length xs → slice_index_or xs i d ≡ slice_index_or xs i e
 other_default xs i d e lt =
-    let both : Some (slice_index_or xs i d) ≡ Some (slice_index_or xs i e) = sym (index_got xs i d lt) ∙ index_got xs i e lt in cc
+    let both : Some (slice_index_or xs i d) ≡ Some (slice_index_or xs i e) = sym (slice_get-get_or xs i d lt) ∙ slice_get-get_or xs i e lt in cc
 
 pub counted_more : {X : Type 0} (f : X → X) (all now new : List X) (i : ℕ) (d : X) → i < length all → i < length now → now ≡ map f (take i all) ++ drop i all → new ≡ slice_set now i (f (slice_index_or now i d)) → new ≡ map f (take (i + 1) all) ++ drop (i + 1) all
 counted_more f all now new i d lt within is set =

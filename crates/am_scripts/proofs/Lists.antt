@@ -3,6 +3,7 @@ use Rattle.std.proofs.Common.{◌≡◌, ℕ, zero, suc, List, [], ◌∷◌, �
 use Rattle.std.specs.Prelude.{◌&&◌, not, find, slice_get, option_map}
 use Rattle.std.specs.List.{list_all}
 use Rattle.std.proofs.lemmas.Bool.{and_parts}
+use Rattle.am_lemmas.proofs.Lists.{find_passes}
 use Rattle.am_scripts.specs.Links.{first_some}
 
 pub take_all : {X : Type 0} (n : ℕ) (xs : List X) → slice_get xs n ≡ None → take n xs ≡ xs
@@ -71,8 +72,3 @@ true_step p true y x rest b e h =
     let same : y ≡ x = cc in
     ap p (sym same) ∙ b
 true_step p false y x rest b e h = h e
-
--- what is found passes
-pub found_true : {X : Type 0} (p : X → Bool) (xs : List X) (x : X) → find p xs ≡ Some x → p x ≡ true
-found_true p [] x e = absurd (cc)
-found_true p (y ∷ ys) x e = true_step p (p y) y x (find p ys) refl e (found_true p ys x)

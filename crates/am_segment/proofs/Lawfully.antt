@@ -4,6 +4,7 @@ use Rattle.std.specs.Prelude.{◌==◌, ◌&&◌, nat_lt, nat_le, find, is_some}
 use Rattle.std.specs.List.{All}
 use Rattle.std.proofs.lemmas.Bool.{leb-true, and_parts, eqb-true}
 use Rattle.std.proofs.lemmas.List.Elements.{All-weaker, All-push, All-nil}
+use Rattle.am_lemmas.proofs.Lists.{find_passes}
 use Rattle.am_lexer.specs.declared.what.What.{What}
 use Rattle.am_lexer.specs.declared.what.What.TheVariants.{BadNumber, OutOfRange, Undeclared, Twice, TooMany, OutOfPlace, NotText}
 use Rattle.am_lexer.specs.Text.{lines_of, words_of, is_text_line, is_digit, has_bytes}
@@ -12,7 +13,7 @@ use Rattle.am_lexer.specs.Lines.{line_after}
 use Rattle.am_scenario_types.specs.declared.faults.ScenarioFault.{ScenarioFault}
 use Rattle.am_scenario.specs.Grammar.{on_line}
 use Rattle.am_lines_laws.proofs.Meets.{Meets, refuses, gives, bind, test, anything, found}
-use Rattle.am_lines_laws.proofs.Words.{find_passes, is_within}
+use Rattle.am_lines_laws.proofs.Words.{is_within}
 use Rattle.am_scenario.proofs.Below.{found_holds}
 use Rattle.am_names.specs.declared.EndpointId.{EndpointId}
 use Rattle.am_pieces.specs.declared.segment.SegmentLine.{SegmentLine}

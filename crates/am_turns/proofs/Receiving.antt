@@ -4,6 +4,7 @@ use Rattle.std.proofs.Common.{◌≡◌, ℕ, ◌+◌, ◌-◌, ◌<◌, ◌≤�
 use Rattle.std.specs.List.{filter, list_any, slice_get}
 use Rattle.std.specs.Option.{option_to_list}
 use Rattle.std.proofs.lemmas.List.Elements.{filter-append}
+use Rattle.am_lemmas.proofs.Numbers.{eqb_less}
 use Rattle.am_names.specs.declared.EndpointId.{EndpointId}
 use Rattle.am_names.specs.declared.NodeId.{NodeId}
 use Rattle.am_names.specs.declared.Message.{Message}
@@ -63,13 +64,6 @@ touches_one i s w x e told event outcome one = ((λ d. touched_by i s w x d told
 
 -- ---- the last try is left to others
 
-not_equal : (n m : ℕ) → n < m → (n == m) ≡ false
-not_equal n m lt = by_test (n == m) refl
-  where
-    by_test : (b : Bool) → (n == m) ≡ b → b ≡ false
-    by_test true h = absurd (let e : n ≡ m = eqb-true n m h in omega arith)
-    by_test false h = refl
-
 last_bind : (s : ScenarioLists) (i : InterfaceLog) (state : State) (node : NodeId) (end : EndpointId) → 2 ≤ s.tries → is_bounced_out s.bounces (front state) ≡ false → is_last_by s (λ (e : EndpointId). state) (Events.Bind node end) (bind_at i (front state)) ≡ false
 last_bind s i state node end tries bounces = by_front (front state) bounces
   where
@@ -80,7 +74,7 @@ last_bind s i state node end tries bounces = by_front (front state) bounces
         by_home : (home : Option NodeId) (channel : Option ℕ) → is_last_by s (λ (e : EndpointId). state) (Events.Bind node end) (bind_to i.settings.node i.log q home channel) ≡ false
         by_home None channel = refl
         by_home (Some peer) None = refl
-        by_home (Some peer) (Some channel) = ap (λ (b : Bool). b || is_bounced_out s.bounces (front state)) (not_equal 1 s.tries (omega arith)) ∙ h
+        by_home (Some peer) (Some channel) = ap (λ (b : Bool). b || is_bounced_out s.bounces (front state)) (eqb_less 1 s.tries (omega arith)) ∙ h
 
 last_expire : (s : ScenarioLists) (i : InterfaceLog) (state : State) (node peer : NodeId) (channel : ℕ) → i.settings.tries ≡ s.tries → attempt (channel_in i peer channel) i.log + 2 < i.settings.tries
     → is_last_by s (λ (e : EndpointId). state) (Events.Expire node peer channel) (expire_at i state peer channel (bound_message (channel_in i peer channel) i.log)) ≡ false
@@ -96,7 +90,7 @@ last_expire s i state node peer channel same lt = by_bound (bound_message (chann
     by_bound None = refl
     by_bound (Some m) =
         ap (λ (b : Bool). is_last_by s (λ (e : EndpointId). state) (Events.Expire node peer channel) (cond b (sent i.settings.node peer channel i.log m (sequence (channel_in i peer channel) i.log) (n + 1)) (cond (is_answered (flying_of m.serial state.body.in_flight)) (Out.Delivered m.serial) (Out.Unknown m.serial)))) (lt-ltb (n + 1) i.settings.tries less)
-        ∙ not_equal (n + 1 + 1) s.tries (let l : n + 2 < i.settings.tries = lt in omega arith)
+        ∙ eqb_less (n + 1 + 1) s.tries (let l : n + 2 < i.settings.tries = lt in omega arith)
 
 -- the work is none that is left to others
 abbrev pub LastFree : InterfaceView → State → Work → Type 0

@@ -3,6 +3,7 @@ use Rattle.std.proofs.Common.{◌≡◌, ℕ, zero, suc, ◌+◌, ◌^◌, ◌<�
 use Rattle.std.specs.Prelude.{not}
 use Rattle.std.specs.List.{filter, filter_map, slice_get}
 use Rattle.std.proofs.lemmas.Option.{slice_get_within}
+use Rattle.am_lemmas.proofs.Lists.{take-slice_get}
 use mathlib.Core.Option.{some}
 use lib.ListN.{get_elem?}
 use Rattle.am_names.specs.declared.EndpointId.{EndpointId}
@@ -50,13 +51,8 @@ later_by clock n stamp is = omega arith
 
 -- ---- the calls
 
-take_one : {X : Type 0} (xs : List X) (n : ℕ) (x : X) → slice_get xs n ≡ Some x → take (suc n) xs ≡ take n xs ++ x ∷ []
-take_one [] n x h = absurd (cc)
-take_one (y ∷ ys) zero x h = let e : y ≡ x = cc in ap (λ z. z ∷ []) e
-take_one (y ∷ ys) (suc n) x h = ap (λ zs. y ∷ zs) (take_one ys n x h)
-
 take_more : (xs : List ScriptCall) (n : ℕ) (x : ScriptCall) → slice_get xs n ≡ Some x → take (n + 1) xs ≡ take n xs ++ x ∷ []
-take_more xs n x h = let e : n + 1 ≡ suc n = omega arith in ap (λ (m : ℕ). take m xs) e ∙ take_one xs n x h
+take_more xs n x h = let e : n + 1 ≡ suc n = omega arith in ap (λ (m : ℕ). take m xs) e ∙ take-slice_get xs n x h
 
 one_call : (thread : ℕ) (x : Entry) (c : ScriptCall) → call_made x.event ≡ Some c → c.thread ≡ thread → calls_of thread (x ∷ []) ≡ c ∷ []
 one_call thread x c made same = by_option (call_made x.event) made

@@ -5,6 +5,7 @@ use Rattle.std.proofs.Common.{◌≡◌, ◌⊎◌, inl, inr, ⊎_elim, ℕ, ◌
 use Rattle.std.proofs.lemmas.Option.{slice_get_within}
 use Rattle.std.proofs.Math.Seq.{drop-append_seam}
 use Rattle.am_lemmas.proofs.Lists.{slice_get-Some}
+use Rattle.am_places.proofs.Ends.{rejoined}
 use Rattle.am_names.specs.declared.NodeId.{NodeId}
 use Rattle.am_office.specs.declared.Entry.{Entry}
 use Rattle.am_join.proofs.Standing.{behind}
@@ -48,10 +49,6 @@ all_of_map f P (x ∷ xs) h = (h.0, all_of_map f P xs h.1)
 all_with : {X : Type 0} (P Q : X → Type 0) (xs : List X) → AllAre P xs → ((x : X) → IsIn xs x → P x → Q x) → AllAre Q xs
 all_with P Q [] h step = tt
 all_with P Q (x ∷ xs) h step = (step x (inl refl) h.0, all_with P Q xs h.1 (λ y there p. step y (inr there) p))
-
--- a beginning, and what comes behind it
-begun : {X : Type 0} (whole part : List X) → Begins whole part → part ++ drop (length part) whole ≡ whole
-begun {X} whole part b = ap (λ (xs : List X). part ++ drop (length part) xs) b.1 ∙ ap (λ (xs : List X). part ++ xs) (drop-append_seam part b.0) ∙ sym b.1
 
 -- ---- a node of the run
 
@@ -178,7 +175,7 @@ module _ (s : ScenarioLists) (teams : List Team) (a : AreTeams s teams) where
   is_closed from to d e =
       let f = team_of from d in
       let t = team_of to e in
-      begun (shape s.plan from to (sent_in (slice_get teams from.0) to)) (taken_in (slice_get teams to.0) from)
+      rejoined (shape s.plan from to (sent_in (slice_get teams from.0) to)) (taken_in (slice_get teams to.0) from)
       (subst (λ (o : Option Team). Begins (shape s.plan from to (sent_in (slice_get teams from.0) to)) (taken_in o from)) (sym t.1.at)
       (subst (λ (o : Option Team). Begins (shape s.plan from to (sent_in o to)) (t.0.taken from)) (sym f.1.at) (a.closed from.0 to.0 f.0 t.0 f.1.at t.1.at)))
 

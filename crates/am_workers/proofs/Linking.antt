@@ -3,6 +3,7 @@ use Rattle.std.specs.Prelude.{is_some, slice_get, slice_index_or, slice_set}
 use Rattle.std.proofs.Common.{◌≡◌, ◌≢◌, ◌⊎◌, inl, inr, ⊎_elim, ℕ, zero, suc, ◌<◌, ◌≤◌, ◌==◌, Bool, true, false, cond, List, [], ◌∷◌, ◌++◌, length, get_or, Option, Some, None, refl, sym, ap, ◌∙◌, subst, arith, append-nil, eqb-true, eq-eqb, true≢false}
 use Rattle.std.proofs.lemmas.Option.{slice_get-get_or, slice_get_within}
 use Rattle.std.proofs.lemmas.List.{length-set}
+use Rattle.am_lemmas.proofs.Lists.{slice_get-set_elsewhere}
 use Rattle.am_names.specs.declared.NodeId.{NodeId}
 use Rattle.am_names.specs.declared.Packet.{Packet}
 use Rattle.am_model.specs.Packets.{receiver_of}
@@ -109,26 +110,19 @@ here_set [] k o p here = absurd (cc)
 here_set (x ∷ xs) zero o p here = refl
 here_set (x ∷ xs) (suc k) o p here = here_set xs k o p here
 
-other_set : {X : Type 0} (xs : List X) (k n : ℕ) (p : X) → (n ≡ k → ⊥) → slice_get (slice_set xs k p) n ≡ slice_get xs n
-other_set [] k n p apart = refl
-other_set (x ∷ xs) zero zero p apart = absurd (apart refl)
-other_set (x ∷ xs) zero (suc n) p apart = refl
-other_set (x ∷ xs) (suc k) zero p apart = refl
-other_set (x ∷ xs) (suc k) (suc n) p apart = other_set xs k n p (λ e. apart (ap suc e))
-
 sent_set : (a : List LinkOut) (k n : ℕ) (o p : LinkOut) → slice_get a k ≡ Some o → sent_on (slice_get (slice_set a k p) n) ≡ cond (n == k) (emitted p) (sent_on (slice_get a n))
 sent_set a k n o p here = by_test (n == k) refl
   where
     by_test : (b : Bool) → (n == k) ≡ b → sent_on (slice_get (slice_set a k p) n) ≡ cond b (emitted p) (sent_on (slice_get a n))
     by_test true is = ap sent_on (ap (slice_get (slice_set a k p)) (eqb-true n k is) ∙ here_set a k o p here)
-    by_test false is = ap sent_on (other_set a k n p (λ same. true≢false (sym (eq-eqb n k same) ∙ is)))
+    by_test false is = ap sent_on (slice_get-set_elsewhere a k n p (λ same. true≢false (sym (eq-eqb n k same) ∙ is)))
 
 taken_set : (a : List LinkIn) (k n : ℕ) (o p : LinkIn) → slice_get a k ≡ Some o → taken_on (slice_get (slice_set a k p) n) ≡ cond (n == k) (received p) (taken_on (slice_get a n))
 taken_set a k n o p here = by_test (n == k) refl
   where
     by_test : (b : Bool) → (n == k) ≡ b → taken_on (slice_get (slice_set a k p) n) ≡ cond b (received p) (taken_on (slice_get a n))
     by_test true is = ap taken_on (ap (slice_get (slice_set a k p)) (eqb-true n k is) ∙ here_set a k o p here)
-    by_test false is = ap taken_on (other_set a k n p (λ same. true≢false (sym (eq-eqb n k same) ∙ is)))
+    by_test false is = ap taken_on (slice_get-set_elsewhere a k n p (λ same. true≢false (sym (eq-eqb n k same) ∙ is)))
 
 -- nothing more was emitted on the link that changed
 pub kept_set : (a : List LinkOut) (k : ℕ) (o p : LinkOut) → slice_get a k ≡ Some o → SameLink o p → emitted p ≡ emitted o → AreKept a (slice_set a k p)

@@ -2,6 +2,7 @@
 use Rattle.std.specs.Prelude.{not}
 use Rattle.std.proofs.Common.{◌≡◌, ◌∙◌, ℕ, suc, ◌+◌, ◌-◌, ◌<◌, ◌≤◌, Bool, true, false, ◌||◌, List, [], ◌∷◌, ◌++◌, length, sym, refl, ap, subst, arith, length-append}
 use Rattle.std.specs.List.{slice_get}
+use Rattle.am_lemmas.proofs.Bools.{not_implied, implied_anyway}
 use Rattle.am_office.specs.declared.Entry.{Entry}
 use Rattle.am_body.specs.declared.settings.EndSettings.{EndSettings}
 use Rattle.am_endpoint.specs.View.{EndpointView, state_after}
@@ -54,16 +55,8 @@ same_book e f b set log =
 
 -- what an entry keeps of an endpoint that is not on disk, and one that keeps the body
 
-not_or : (d k : Bool) → d ≡ false → (not d || k) ≡ true
-not_or true k h = absurd (cc)
-not_or false k h = refl
-
-or_kept : (d k : Bool) → k ≡ true → (not d || k) ≡ true
-or_kept true k h = h
-or_kept false k h = refl
-
 pub here_keeps : (s : State) (x : Entry) → is_on_disk s.head.place ≡ false → keeps_on_disk s x ≡ true
-here_keeps s x here = not_or (is_on_disk s.head.place) (keeps_body x.event x.outcome) here
+here_keeps s x here = not_implied (is_on_disk s.head.place) (keeps_body x.event x.outcome) here
 
 pub kept_keeps : (s : State) (x : Entry) → keeps_body x.event x.outcome ≡ true → keeps_on_disk s x ≡ true
-kept_keeps s x kept = or_kept (is_on_disk s.head.place) (keeps_body x.event x.outcome) kept
+kept_keeps s x kept = implied_anyway (is_on_disk s.head.place) (keeps_body x.event x.outcome) kept

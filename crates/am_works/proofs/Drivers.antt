@@ -7,7 +7,7 @@ use Rattle.std.proofs.lemmas.List.Sums.{count_by-le-length}
 use mathlib.Core.Bool.{or-false}
 use Rattle.std.proofs.lemmas.Bool.{and_from, not-true, or_right}
 use Rattle.am_lemmas.proofs.Bools.{and_first, and_second}
-use Rattle.am_lemmas.proofs.Options.{some_is}
+use Rattle.am_lemmas.proofs.Options.{some_is, cond-None}
 use Rattle.am_names.specs.declared.EndpointId.{EndpointId}
 use Rattle.am_names.specs.declared.NodeId.{NodeId}
 use Rattle.am_names.specs.Names.{same_end, same_node}
@@ -27,7 +27,7 @@ use Rattle.am_model.specs.Changes.{after, replay}
 use Rattle.am_model.specs.Endpoint.{State, fresh, is_on_disk, is_on_host}
 use Rattle.am_model.specs.History.{is_in_frame, is_in_range, is_page_call, page_calls}
 use Rattle.am_model.specs.Layout.{AllAre, EndSetting, Layout, declared, has_id, opening}
-use Rattle.am_model.proofs.Names.{same_end-is}
+use Rattle.am_model.proofs.Names.{same_end-is, same_node-refl}
 use Rattle.am_local.specs.Driver.{DriverLog, changes_frame, end_moved, failing_move, is_frame_held_by, lies_in, outcome_move, page_number}
 use Rattle.am_local.specs.Together.{faults_of}
 use Rattle.am_model.proofs.PlaceKinds.{on_host_in_no_frame, framed_is_resident}
@@ -48,7 +48,6 @@ use Rattle.am_places.specs.Rule.{Begins, holder_word, joined, known_at, read}
 use Rattle.am_places.specs.declared.board.Known.{Known}
 use Rattle.am_places.specs.declared.board.Tenure.{Tenure}
 use Rattle.am_scenario_types.specs.Lists.{ScenarioLists}
-use Rattle.am_driver.proofs.Enabled.{skip}
 use Rattle.am_moves.proofs.Stores.{call_fails, one_more_is, call_calls}
 use Rattle.am_scripts.specs.Layout.{layout_of}
 use Rattle.am_works.specs.Drivers.{DriversGoOn, DriversLook, DriversRest, DriversWait}
@@ -215,9 +214,6 @@ swap_fails s e event = refl
 calls_push : (node : NodeId) (made : List Entry) (x : Entry) (b : Bool) → is_page_call node x.event ≡ b → page_calls node (made ++ x ∷ []) ≡ page_calls node made + (if b then 1 else 0)
 calls_push node made x b is = (readings_push made x).pages node ∙ ap (λ (t : Bool). page_calls node made + (if t then 1 else 0)) is
 
-node_same : (node : NodeId) → same_node node node ≡ true
-node_same node = eq-eqb node.0 node.0 refl
-
 no_more : (n : ℕ) → n + 0 ≡ n
 no_more n = omega arith
 
@@ -235,8 +231,8 @@ swap_calls node made x s e m event is of calls few = by_event event is (is_drive
 
     by_event : (event : Event) → x.event ≡ event → driver_of event ≡ Some node → (swap_with s e event).calls ≡ page_calls node (made ++ x ∷ [])
     by_event (Events.PageOut at end) is by =
-        call_calls s (with_held s e.settings.id (image (state_in e).body)) refl ∙ more ∙ sym (calls_push node made x true (ap (is_page_call node) is ∙ ap (same_node node) (some_node at by) ∙ node_same node))
-    by_event (Events.PageIn at end) is by = call_calls s s refl ∙ more ∙ sym (calls_push node made x true (ap (is_page_call node) is ∙ ap (same_node node) (some_node at by) ∙ node_same node))
+        call_calls s (with_held s e.settings.id (image (state_in e).body)) refl ∙ more ∙ sym (calls_push node made x true (ap (is_page_call node) is ∙ ap (same_node node) (some_node at by) ∙ same_node-refl node))
+    by_event (Events.PageIn at end) is by = call_calls s s refl ∙ more ∙ sym (calls_push node made x true (ap (is_page_call node) is ∙ ap (same_node node) (some_node at by) ∙ same_node-refl node))
     by_event (Events.Drain at end) is by = same (Events.Drain at end) is refl
     by_event (Events.Unload at end) is by = same (Events.Unload at end) is refl
     by_event (Events.Load at end frame) is by = same (Events.Load at end frame) is refl
@@ -257,39 +253,39 @@ enabled view node d set log (Moves.Unload e) event suits is ours free =
     let leaving = and_first (is_leaving l) (l.in_flight == 0) suits.1 in
     let mine : list_any (same_end e) d.settings.ends ≡ true = subst (λ (i : EndpointId). list_any (same_end i) d.settings.ends ≡ true) suits.0 ours in
     subst (λ (v : Event). failing_move d (state_by set log) v ≡ None) (same_event (Events.Unload node e) event is)
-    (skip _ _ _ (not_true _ mine)
-    (skip _ _ _ (not_true _ (framed_is_resident l.place (and_first (has_frame l) l.draining leaving)))
-    (skip _ _ _ (not_true _ (and_second (has_frame l) l.draining leaving))
-    (skip _ _ _ (not_true _ (and_second (is_leaving l) (l.in_flight == 0) suits.1)) refl))))
+    (cond-None _ _ _ (not_true _ mine)
+    (cond-None _ _ _ (not_true _ (framed_is_resident l.place (and_first (has_frame l) l.draining leaving)))
+    (cond-None _ _ _ (not_true _ (and_second (has_frame l) l.draining leaving))
+    (cond-None _ _ _ (not_true _ (and_second (is_leaving l) (l.in_flight == 0) suits.1)) refl))))
 enabled view node d set log (Moves.PageIn e) event suits is ours free =
     let l = line_by set log in
     let mine : list_any (same_end e) d.settings.ends ≡ true = subst (λ (i : EndpointId). list_any (same_end i) d.settings.ends ≡ true) suits.0 ours in
     subst (λ (v : Event). failing_move d (state_by set log) v ≡ None) (same_event (Events.PageIn node e) event is)
-    (skip _ _ _ (not_true _ mine) (skip _ _ _ (not_true _ (and_first (is_on_disk l.place) l.wanted suits.1)) refl))
+    (cond-None _ _ _ (not_true _ mine) (cond-None _ _ _ (not_true _ (and_first (is_on_disk l.place) l.wanted suits.1)) refl))
 enabled view node d set log (Moves.Load e frame) event suits is ours free =
     let l = line_by set log in
     let on_host = and_first (is_open_on_host l) l.wanted suits.1 in
     let mine : list_any (same_end e) d.settings.ends ≡ true = subst (λ (i : EndpointId). list_any (same_end i) d.settings.ends ≡ true) suits.0 ours in
     subst (λ (v : Event). failing_move d (state_by set log) v ≡ None) (same_event (Events.Load node e frame) event is)
-    (skip _ _ _ (not_true _ mine)
-    (skip _ _ _ (not_true _ (and_first (is_on_host l.place) (not l.closed) on_host))
-    (skip _ _ _ (not-true l.closed (and_second (is_on_host l.place) (not l.closed) on_host))
-    (skip _ _ _ (free e frame refl) refl))))
+    (cond-None _ _ _ (not_true _ mine)
+    (cond-None _ _ _ (not_true _ (and_first (is_on_host l.place) (not l.closed) on_host))
+    (cond-None _ _ _ (not-true l.closed (and_second (is_on_host l.place) (not l.closed) on_host))
+    (cond-None _ _ _ (free e frame refl) refl))))
 enabled view node d set log (Moves.Drain e) event suits is ours free =
     let l = line_by set log in
     let mine : list_any (same_end e) d.settings.ends ≡ true = subst (λ (i : EndpointId). list_any (same_end i) d.settings.ends ≡ true) suits.0 ours in
     subst (λ (v : Event). failing_move d (state_by set log) v ≡ None) (same_event (Events.Drain node e) event is)
-    (skip _ _ _ (not_true _ mine)
-    (skip _ _ _ (not_true _ (framed_is_resident l.place suits.1))
-    (skip _ _ _ suits.2 refl)))
+    (cond-None _ _ _ (not_true _ mine)
+    (cond-None _ _ _ (not_true _ (framed_is_resident l.place suits.1))
+    (cond-None _ _ _ suits.2 refl)))
 enabled view node d set log (Moves.PageOut e) event suits is ours free =
     let l = line_by set log in
     let on_host = and_first (is_open_on_host l) (not l.wanted) suits.1 in
     let mine : list_any (same_end e) d.settings.ends ≡ true = subst (λ (i : EndpointId). list_any (same_end i) d.settings.ends ≡ true) suits.0 ours in
     subst (λ (v : Event). failing_move d (state_by set log) v ≡ None) (same_event (Events.PageOut node e) event is)
-    (skip _ _ _ (not_true _ mine)
-    (skip _ _ _ (not_true _ (and_first (is_on_host l.place) (not l.closed) on_host))
-    (skip _ _ _ (not-true l.closed (and_second (is_on_host l.place) (not l.closed) on_host)) refl)))
+    (cond-None _ _ _ (not_true _ mine)
+    (cond-None _ _ _ (not_true _ (and_first (is_on_host l.place) (not l.closed) on_host))
+    (cond-None _ _ _ (not-true l.closed (and_second (is_on_host l.place) (not l.closed) on_host)) refl)))
 enabled view node d set log Moves.Nothing event suits is ours free = absurd suits
 
 none_of : (p : EndpointId → Bool) (ids : Ids) → ((j : ℕ) (e : EndpointId) → slice_get ids j ≡ Some e → p e ≡ false) → list_any p ids ≡ false
@@ -352,7 +348,7 @@ drivers_go_on s ids node turns k clock view view' swap swap' v w x d h m =
             low = all_push (λ (y : Entry). y.stamp ≤ 2 ^ 63) h.made x h.clocked.low times.1;
           };
       few = (let few = h.few in let longer = length_push h.made x in omega (arith, few, longer));
-      own = all_push (λ (y : Entry). is_by_driver node y ≡ true) h.made x h.own (ap (λ (o : Option NodeId). is_node node o) by ∙ node_same node);
+      own = all_push (λ (y : Entry). is_by_driver node y ≡ true) h.made x h.own (ap (λ (o : Option NodeId). is_node node o) by ∙ same_node-refl node);
       ranged = all_push (λ (y : Entry). is_in_range (layout_of s) y.event ≡ true) h.made x h.ranged ranged;
       right =
           λ logs seen.

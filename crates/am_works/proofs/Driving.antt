@@ -45,7 +45,7 @@ use Rattle.am_works.proofs.Keeping.{joined_append, push_all}
 use Rattle.am_works.proofs.Keeps.{left_log, same_or}
 use Rattle.am_works.proofs.Lies.{LeavesFree, MaySo, frames_long, lies_beside, lies_moved, lies_on, owned_after}
 use Rattle.am_works.proofs.Staying.{replay_append}
-use Rattle.am_works.proofs.Stands.{set_here, set_length, set_there}
+use Rattle.am_works.proofs.Stands.{set_here, set_there}
 
 -- ---- lists
 
@@ -201,7 +201,7 @@ can_after frames node view swap swap' fs line last v k set x c born sized owned 
       marked = c.marked;
       drives = c.drives;
       all = length-set view.ends k line ∙ c.all;
-      wide = set_length v.known k x ∙ c.wide;
+      wide = length-set v.known k x ∙ c.wide;
       framed = c.framed;
       sized = sized;
       owned = owned;

@@ -1,6 +1,7 @@
 -- What a seat keeps of its node over a stay.
 use Rattle.std.proofs.Common.{◌≡◌, ◌≢◌, ◌⊎◌, inl, inr, ⊎_elim, ℕ, ◌<◌, ◌==◌, Bool, true, false, cond, List, [], ◌∷◌, ◌++◌, length, drop, sym, refl, ap, ◌∙◌, subst, append_assoc, append-nil, eq-eqb, eqb-true, get_or-set_same, get_or-set_other}
 use Rattle.std.specs.List.{filter}
+use Rattle.am_model.proofs.Names.{same_end-is}
 use Rattle.am_names.specs.declared.EndpointId.{EndpointId}
 use Rattle.am_names.specs.Names.{same_end}
 use Rattle.am_office.specs.declared.Entry.{Entry}
@@ -39,14 +40,11 @@ filter_else : (d e : EndpointId) (new : List Entry) → same_end d e ≡ false �
 filter_else d e [] ne h = refl
 filter_else d e (x ∷ xs) ne h = ap (λ (b : Bool). cond b (x ∷ filter (touches d) xs) (filter (touches d) xs)) (h.0 d ∙ ne) ∙ filter_else d e xs ne h.1
 
-same_end_is : (d e : EndpointId) → same_end d e ≡ true → d ≡ e
-same_end_is d e h = let n : d.0 ≡ e.0 = eqb-true d.0 e.0 h in λ i. record { 0 = n i }
-
 end_cases : (d e : EndpointId) → (d ≡ e) ⊎ (same_end d e ≡ false)
 end_cases d e = by_test (same_end d e) refl
   where
     by_test : (b : Bool) → same_end d e ≡ b → (d ≡ e) ⊎ (same_end d e ≡ false)
-    by_test true h = inl (same_end_is d e h)
+    by_test true h = inl (same_end-is d e h)
     by_test false h = inr h
 
 pub only_of : (e : EndpointId) (new : List Entry) → AreOf e new → TouchOnly e new

@@ -1,6 +1,7 @@
 -- A guest that has entered an endpoint and added entries that don't move it: it may leave, and what it knows then.
 use Rattle.std.specs.Prelude.{slice_index_or, slice_set}
 use Rattle.std.proofs.Common.{◌≡◌, ◌≢◌, ⊎_elim, arith, ℕ, ◌<◌, Bool, true, false, ◌||◌, List, [], ◌∷◌, ◌++◌, length, drop, Option, None, sym, refl, ap, ◌∙◌, subst, set-set, get_or-set_same}
+use Rattle.std.proofs.lemmas.List.{length-set}
 use lib.Seq.{drop-append_seam}
 use Rattle.atomic_table.specs.Seated.{TableId}
 use Rattle.atomic_table.specs.Table.{Me, rest}
@@ -23,7 +24,7 @@ use Rattle.am_places.specs.Rule.{Begins, Comes, IsOutside, has, inside_with, joi
 use Rattle.am_works.specs.Drives.{with_frames}
 use Rattle.am_works.specs.Seats.{EndPass, IsIdle, Stays}
 use Rattle.am_works.proofs.Keeps.{same_or}
-use Rattle.am_works.proofs.Stands.{set_here, set_length, set_there}
+use Rattle.am_works.proofs.Stands.{set_here, set_there}
 
 -- what a book stands for
 pub items_of : EndBook → List Entry
@@ -230,7 +231,7 @@ left_idle id fs k at me now between b y last s w framed out is table =
     whole = ap (λ (z : M). z.0) is ∙ ap (with_known at y) inner
 
     long : length (slice_set me.0.known k x) ≡ length me.0.known
-    long = set_length me.0.known k x
+    long = length-set me.0.known k x
 
     all_outside : IsOutside (with_known at y (with_frames fs (with_known k x me.0)))
     all_outside j low =
@@ -240,5 +241,5 @@ left_idle id fs k at me now between b y last s w framed out is table =
         ap (λ (z : Known Entry). z.inside) (ap (λ (n : ℕ). slice_index_or (slice_set (slice_set me.0.known k x) at y) n nothing) same ∙ set_here (slice_set me.0.known k x) at y near) ∙ out))
         (λ (other : j ≢ at).
         ap (λ (z : Known Entry). z.inside) (set_there (slice_set me.0.known k x) at j y other ∙ set_there me.0.known k j x (λ same. other (same ∙ sym w.1)))
-        ∙ s.outside j (let e = set_length (slice_set me.0.known k x) at y in omega (arith, low, e, long)))
+        ∙ s.outside j (let e = length-set (slice_set me.0.known k x) at y in omega (arith, low, e, long)))
         (same_or j at)

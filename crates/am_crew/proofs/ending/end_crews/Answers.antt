@@ -1,9 +1,10 @@
 use Rattle.std.specs.Prelude.{slice_get}
 use Rattle.std.proofs.Common.{◌≡◌, ◌∙◌, List, ◌∷◌, ◌++◌, length, Some, sym, ap, subst}
+use Rattle.am_lemmas.proofs.Lists.{slice_get-append_seam}
 use Rattle.am_names.specs.declared.NodeId.{NodeId}
 use Rattle.am_crew_opening.specs.Crews.{IsCrew}
 use Rattle.am_crew_opening.specs.declared.crew.NodeCrew.{NodeCrew}
-use Rattle.am_crew.proofs.Adding.{at_seam, ended_more, moved_on}
+use Rattle.am_crew.proofs.Adding.{ended_more, moved_on}
 use Rattle.am_crew.proofs.ending.end_crews.Goals as goal
 
 pub end_crew-requires : goal.end_crew-requires
@@ -12,7 +13,7 @@ end_crew-requires c =
     sym (ap (λ (more : List NodeCrew). c.loop-crew.yielded ++ more) c.in-Some.ensures.steps.0) ∙ c.loop-crew.invariant.left
     in
     let at : slice_get c.args.crews.items (length c.loop-crew.yielded) ≡ Some c.in-Some.crew =
-    subst (λ (xs : List NodeCrew). slice_get xs (length c.loop-crew.yielded) ≡ Some c.in-Some.crew) all (at_seam c.loop-crew.yielded c.in-Some.crew c.next.new.self.rest.items)
+    subst (λ (xs : List NodeCrew). slice_get xs (length c.loop-crew.yielded) ≡ Some c.in-Some.crew) all (slice_get-append_seam c.loop-crew.yielded c.in-Some.crew c.next.new.self.rest.items)
     in
     let own = c.requires.crews.each (length c.loop-crew.yielded) c.in-Some.crew at in
     record { crew = subst (λ (n : NodeId). IsCrew c.args.scenario.now n c.args.scenario.now.turns c.in-Some.crew) (sym own.is_node) own }

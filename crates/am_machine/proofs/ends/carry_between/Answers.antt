@@ -1,7 +1,8 @@
 use Rattle.std.proofs.Common.{◌≡◌, false, sym, arith, slice_index_or, slice_set, length, ◌<◌}
 use Rattle.std.proofs.lemmas.List.{length-set}
+use Rattle.std.proofs.lemmas.Option.{slice_get-get_or}
 use Rattle.am_machine.specs.Carries.{ArrivesAt, CarriesFrom, is_place}
-use Rattle.am_machine.proofs.Places.{at_read, index_got, place_apart, set_other, still_at, carried_one, carried_two}
+use Rattle.am_machine.proofs.Places.{at_read, place_apart, set_other, still_at, carried_one, carried_two}
 use Rattle.am_machine.proofs.ends.carry_between.Goals as goal
 
 pub carry_out-requires-clause-ready : goal.carry_out-requires-clause-ready
@@ -45,10 +46,10 @@ returns-then-dest-source c =
     carried_two c.args.ends.now c.args.source c.args.dest
     (slice_index_or c.args.ends.now c.args.source c.index-ends-source.result) c.carry_out.new.self
     (slice_index_or vs c.args.dest c.index-ends-dest.result) c.put.new.self c.args.entry apart
-    (index_got c.args.ends.now c.args.source c.index-ends-source.result c.requires.source) c.carry_out.ensures.settings c.carry_out.ensures.log
-    (index_got vs c.args.dest c.index-ends-dest.result within) c.put.ensures.settings c.put.ensures.log
+    (slice_get-get_or c.args.ends.now c.args.source c.index-ends-source.result c.requires.source) c.carry_out.ensures.settings c.carry_out.ensures.log
+    (slice_get-get_or vs c.args.dest c.index-ends-dest.result within) c.put.ensures.settings c.put.ensures.log
 
 pub returns-else-dest-source : goal.returns-else-dest-source
 returns-else-dest-source c =
     carried_one c.args.ends.now c.args.source c.args.dest (slice_index_or c.args.ends.now c.args.source c.index-ends-source.result) c.carry_out.new.self c.args.entry
-    (sym c.if-dest-source.false) (index_got c.args.ends.now c.args.source c.index-ends-source.result c.requires.source) c.carry_out.ensures.settings c.carry_out.ensures.log
+    (sym c.if-dest-source.false) (slice_get-get_or c.args.ends.now c.args.source c.index-ends-source.result c.requires.source) c.carry_out.ensures.settings c.carry_out.ensures.log

@@ -1,13 +1,14 @@
 use Rattle.std.proofs.Common.{slice_index_or, slice_set}
+use Rattle.std.proofs.lemmas.Option.{slice_get-get_or}
 use Rattle.am_machine.specs.Carries.{At, IsReady}
-use Rattle.am_machine.proofs.Places.{index_got, on_ok_then, room_here, set_other}
+use Rattle.am_machine.proofs.Places.{on_ok_then, room_here, set_other}
 use Rattle.am_machine.proofs.Tied.{kept_same}
 use Rattle.am_machine.proofs.ends.make_room.Goals as goal
 
 pub returns-clause-same : goal.returns-clause-same
 returns-clause-same c =
     kept_same c.args.ends.now c.args.place (slice_index_or c.args.ends.now c.args.place c.index-ends-place.result) c.room.new.self
-    (index_got c.args.ends.now c.args.place c.index-ends-place.result c.requires)
+    (slice_get-get_or c.args.ends.now c.args.place c.index-ends-place.result c.requires)
     (λ i. record { settings = c.room.ensures.settings i; log = c.room.ensures.log i })
 
 pub returns-clause-ready : goal.returns-clause-ready

@@ -1,9 +1,10 @@
 use Rattle.std.specs.Prelude.{slice_set}
 use Rattle.std.proofs.Common.{◌≡◌, map, sym, ap, ◌∙◌, arith}
 use Rattle.std.proofs.lemmas.List.{length-set}
+use Rattle.am_lemmas.proofs.Lists.{slice_get-set_elsewhere}
 use Rattle.am_journal.proofs.Lists.{index_map, map_set}
 use Rattle.am_scripted.specs.Links.{fed, nothing, released_in}
-use Rattle.am_scripted.proofs.Rooms.{got_elsewhere, room_elsewhere}
+use Rattle.am_scripted.proofs.Rooms.{room_elsewhere}
 use Rattle.am_scripted.proofs.links.feed_at.Goals as goal
 
 pub returns-clause-fed : goal.returns-clause-fed
@@ -24,5 +25,5 @@ returns-clause-spared c =
     let k = c.args.index in
     record {
       within = omega (arith, length-set vs k c.emit.new.self, c.requires.within);
-      others = room_elsewhere vs (slice_set vs k c.emit.new.self) k (λ j apart. c.requires.room j) (λ j apart. got_elsewhere vs k j c.emit.new.self apart);
+      others = room_elsewhere vs (slice_set vs k c.emit.new.self) k (λ j apart. c.requires.room j) (λ j apart. slice_get-set_elsewhere vs k j c.emit.new.self apart);
     }

@@ -1,8 +1,9 @@
 use Rattle.std.proofs.Common.{◌≡◌, map, sym, ap, ◌∙◌, arith}
 use Rattle.std.proofs.lemmas.List.{length-map}
+use Rattle.am_lemmas.proofs.Lists.{slice_get-set_elsewhere}
 use Rattle.am_journal.proofs.Lists.{index_map, map_set, set_same}
 use Rattle.am_scripted.specs.Links.{released_in}
-use Rattle.am_scripted.proofs.Rooms.{got_elsewhere, on_ok, room_written}
+use Rattle.am_scripted.proofs.Rooms.{on_ok, room_written}
 use Rattle.am_scripted.proofs.links.make_room_at.Goals as goal
 
 pub returns-clause-same : goal.returns-clause-same
@@ -21,4 +22,4 @@ returns-clause-room c =
     on_ok c.room.result c.room.ensures.spare (room_written c.args.links.now.items c.args.index c.room.new.self)
 
 pub returns-clause-others : goal.returns-clause-others
-returns-clause-others c = λ k apart. got_elsewhere c.args.links.now.items c.args.index k c.room.new.self apart
+returns-clause-others c = λ k apart. slice_get-set_elsewhere c.args.links.now.items c.args.index k c.room.new.self apart

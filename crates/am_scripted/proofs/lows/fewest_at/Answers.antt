@@ -1,9 +1,8 @@
 use Rattle.std.specs.Prelude.{option_map, slice_get}
 use Rattle.std.proofs.Common.{◌≡◌, ◌∙◌, ap, sym, map, arith, Some}
 use Rattle.std.proofs.lemmas.List.{length-map}
-use Rattle.std.proofs.lemmas.Option.{slice_get_within}
+use Rattle.std.proofs.lemmas.Option.{slice_get_within, slice_get-get_or}
 use Rattle.am_lemmas.proofs.Lists.{slice_get-map_Some}
-use Rattle.am_journal.proofs.Lists.{index_got}
 use Rattle.am_drainer.specs.Reads.{left_of}
 use Rattle.am_scripted.specs.Threads.{scripted_in}
 use Rattle.am_scripted.proofs.Lowest.{fewest_low}
@@ -18,5 +17,5 @@ returns-in-Some c =
     let len = length-map ts scripted_in in
     let one = c.index-threads-place.result in
     fewest_low (map scripted_in ts) c.args.mark.made c.args.mark.from k (scripted_in one) (option_map left_of c.left_to.result) c.requires next
-    (slice_get-map_Some scripted_in ts k one (index_got ts k one (omega (arith, within, len)) ∙ ap Some (sym c.index-threads-place.is)))
+    (slice_get-map_Some scripted_in ts k one (slice_get-get_or ts k one (omega (arith, within, len)) ∙ ap Some (sym c.index-threads-place.is)))
     c.left_to.ensures

@@ -2,9 +2,8 @@ use Rattle.std.specs.Prelude.{slice_get}
 use Rattle.std.proofs.Common.{◌≡◌, ◌+◌, ◌<◌, ◌≤◌, ℕ, ◌∙◌, ap, sym, map, length, refl, arith, Some, ⊎_elim}
 use Rattle.std.proofs.lemmas.Bool.{cases_lt}
 use Rattle.std.proofs.lemmas.List.{length-map}
-use Rattle.std.proofs.lemmas.Option.{slice_get_within}
+use Rattle.std.proofs.lemmas.Option.{slice_get_within, slice_get-get_or}
 use Rattle.am_lemmas.proofs.Lists.{slice_get-map_Some}
-use Rattle.am_journal.proofs.Lists.{index_got}
 use Rattle.am_scripted.specs.Lows.{is_low}
 use Rattle.am_scripted.specs.Threads.{Scripted, scripted_in}
 use Rattle.am_scripted.proofs.Lowest.{seen_more}
@@ -15,7 +14,7 @@ loop-index-preserved c =
     let ts = c.args.threads.now in
     let k = c.loop-index.index in
     let one = c.index-threads-index.result in
-    let at : slice_get (map scripted_in ts) k ≡ Some (scripted_in one) = slice_get-map_Some scripted_in ts k one (index_got ts k one (let lt = c.loop-index-test.true in let count = c.loop-index.invariant.count in omega (arith, lt, count)) ∙ ap Some (sym c.index-threads-index.is)) in
+    let at : slice_get (map scripted_in ts) k ≡ Some (scripted_in one) = slice_get-map_Some scripted_in ts k one (slice_get-get_or ts k one (let lt = c.loop-index-test.true in let count = c.loop-index.invariant.count in omega (arith, lt, count)) ∙ ap Some (sym c.index-threads-index.is)) in
     record {
       count = c.loop-index.invariant.count;
       behind = let low = c.loop-index.invariant.behind in omega (arith, low);
@@ -30,7 +29,7 @@ returns-then-is_low c =
     record {
       behind = c.loop-index.invariant.behind;
       one = scripted_in one;
-      at_place = slice_get-map_Some scripted_in ts k one (index_got ts k one (let lt = c.loop-index-test.true in let count = c.loop-index.invariant.count in omega (arith, lt, count)) ∙ ap Some (sym c.index-threads-index.is));
+      at_place = slice_get-map_Some scripted_in ts k one (slice_get-get_or ts k one (let lt = c.loop-index-test.true in let count = c.loop-index.invariant.count in omega (arith, lt, count)) ∙ ap Some (sym c.index-threads-index.is));
       passes' = sym c.is_low.ensures ∙ c.if-is_low.true;
       least = c.loop-index.invariant.least;
     }

@@ -1,7 +1,8 @@
 use Rattle.std.specs.Prelude.{slice_set}
 use Rattle.std.proofs.Common.{map, sym, ap, ◌∙◌, Some}
 use Rattle.am_lemmas.proofs.Lists.{slice_get-map_Some}
-use Rattle.am_journal.proofs.Lists.{index_got, index_map, map_set}
+use Rattle.std.proofs.lemmas.Option.{slice_get-get_or}
+use Rattle.am_journal.proofs.Lists.{index_map, map_set}
 use Rattle.am_scripted.specs.Threads.{no_thread, scripted_in, with_call}
 use Rattle.am_scripted.proofs.threads.count_at.Goals as goal
 
@@ -21,4 +22,4 @@ count_on-requires c =
     let ts = c.args.threads.now.items in
     let k = c.args.index in
     let was = c.index_mut.result.now in
-    c.requires.small (scripted_in was) (slice_get-map_Some scripted_in ts k was (index_got ts k was c.requires.within ∙ ap Some (sym c.index_mut.ensures.value)))
+    c.requires.small (scripted_in was) (slice_get-map_Some scripted_in ts k was (slice_get-get_or ts k was c.requires.within ∙ ap Some (sym c.index_mut.ensures.value)))

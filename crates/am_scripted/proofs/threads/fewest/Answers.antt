@@ -1,9 +1,8 @@
 use Rattle.std.specs.Prelude.{option_map, slice_get}
 use Rattle.std.proofs.Common.{◌≡◌, ◌+◌, ◌∙◌, ap, sym, map, subst, refl, arith, Some, Option}
 use Rattle.std.proofs.lemmas.List.{length-map}
-use Rattle.std.proofs.lemmas.Option.{slice_get_within}
+use Rattle.std.proofs.lemmas.Option.{slice_get_within, slice_get-get_or}
 use Rattle.am_lemmas.proofs.Lists.{slice_get-map_Some}
-use Rattle.am_journal.proofs.Lists.{index_got}
 use Rattle.am_drain.specs.Rules.{Left}
 use Rattle.am_drainer.specs.Reads.{left_of}
 use Rattle.am_scripted.specs.Threads.{fewer_of, scripted_in}
@@ -19,7 +18,7 @@ loop-index-preserved c =
     let k = c.loop-index.index in
     let one = c.index-threads-index.result in
     let best = option_map left_of c.loop-index.best in
-    let at : slice_get (map scripted_in ts) k ≡ Some (scripted_in one) = slice_get-map_Some scripted_in ts k one (index_got ts k one c.loop-index-test.true ∙ ap Some (sym c.index-threads-index.is)) in
+    let at : slice_get (map scripted_in ts) k ≡ Some (scripted_in one) = slice_get-map_Some scripted_in ts k one (slice_get-get_or ts k one c.loop-index-test.true ∙ ap Some (sym c.index-threads-index.is)) in
     record {
       count = refl;
       few =

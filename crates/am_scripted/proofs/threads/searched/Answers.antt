@@ -1,7 +1,6 @@
 use Rattle.std.specs.Prelude.{slice_get}
 use Rattle.std.proofs.Common.{◌≡◌, ◌∙◌, ap, sym, refl, arith, Some, eqb-true}
-use Rattle.std.proofs.lemmas.Option.{slice_get_within}
-use Rattle.am_journal.proofs.Lists.{index_got}
+use Rattle.std.proofs.lemmas.Option.{slice_get_within, slice_get-get_or}
 use Rattle.am_scripted.proofs.Counting.{seen_more}
 use Rattle.am_scripted.proofs.threads.searched.Goals as goal
 
@@ -15,7 +14,7 @@ loop-index-preserved c =
     let one = c.index-threads-index.result in
     record {
       count = refl;
-      others = seen_more ts c.args.id k one (index_got ts k one c.loop-index-test.true ∙ ap Some (sym c.index-threads-index.is)) (sym c.has_id.ensures ∙ c.if-has_id.false) c.loop-index.invariant.others;
+      others = seen_more ts c.args.id k one (slice_get-get_or ts k one c.loop-index-test.true ∙ ap Some (sym c.index-threads-index.is)) (sym c.has_id.ensures ∙ c.if-has_id.false) c.loop-index.invariant.others;
     }
 
 pub returns-then-has_id : goal.returns-then-has_id
@@ -23,7 +22,7 @@ returns-then-has_id c =
     let ts = c.args.threads.now in
     let k = c.loop-index.index in
     let one = c.index-threads-index.result in
-    (one, index_got ts k one c.loop-index-test.true ∙ ap Some (sym c.index-threads-index.is), eqb-true one.id c.args.id (sym c.has_id.ensures ∙ c.if-has_id.true))
+    (one, slice_get-get_or ts k one c.loop-index-test.true ∙ ap Some (sym c.index-threads-index.is), eqb-true one.id c.args.id (sym c.has_id.ensures ∙ c.if-has_id.true))
 
 pub returns : goal.returns
 returns c = λ k t at same.

@@ -1,8 +1,8 @@
 use Rattle.std.specs.Prelude.{List, slice_get}
 use Rattle.std.proofs.Common.{rules, ◌≡◌, Some, ap, sym, ◌∙◌, arith}
+use Rattle.std.proofs.lemmas.Option.{slice_get-get_or}
 use Rattle.am_plan.specs.declared.plan.PlanLine.{PlanLine}
 use Rattle.am_plan.specs.Shape.{fault_at}
-use Rattle.am_journal.proofs.Lists.{index_got}
 use Rattle.am_release.specs.Faults.{said}
 use Rattle.am_scripted.proofs.plan_index.PlanIndex.fault.Goals as goal
 
@@ -11,7 +11,7 @@ returns c =
     let links = c.self.inside.faults.items in
     let m = c.index-link.result.now in
     let number : c.from.result ≡ c.args.place = search rules in
-    let got = index_got links c.link_place.result m (omega (arith, c.link_place.ensures, c.requires.from, c.requires.to, c.self.invariant.all)) in
+    let got = slice_get-get_or links c.link_place.result m (omega (arith, c.link_place.ensures, c.requires.from, c.requires.to, c.self.invariant.all)) in
     c.fault.ensures
     ∙ ap (said m) number
     ∙ c.self.invariant.each c.args.from.0 c.args.to.0 m c.requires.to (ap (slice_get links) (sym c.link_place.ensures) ∙ got ∙ ap (λ w. Some w) (sym c.index-link.ensures)) c.args.place
