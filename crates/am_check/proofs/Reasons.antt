@@ -1,5 +1,6 @@
 -- A line is stopped for one reason.
 use Rattle.std.proofs.Common.{◌≡◌, ◌⊎◌, ℕ, List, Option, Some, None, refl, sym, ap, ◌∙◌, subst, inl, inr, ⊎_elim}
+use Rattle.am_scripted.proofs.Applying.{stop_refused}
 use Rattle.am_office.specs.declared.Condition.{Condition}
 use Rattle.am_office.specs.declared.Part.{Part}
 use Rattle.am_office.specs.declared.Entry.{Entry}
@@ -46,11 +47,6 @@ ToldOrNot form s past line why =
     ((event_of line ≡ None) × (why ≡ Stops.What Whats.Form))
     ⊎ ((event : Event) × (event_of line ≡ Some event) × MayOrNot form s past event why)
 
-condition_of : (f : Option Condition) (g : Option Part) (condition : Condition) → stop_by f g ≡ Some (NotEnabled condition) → f ≡ Some condition
-condition_of None None condition e = absurd (cc)
-condition_of None (Some part) condition e = absurd (cc)
-condition_of (Some c) g condition e = let same : c ≡ condition = cc in ap Some same
-
 no_condition_full : (f : Option Condition) (g : Option Part) (part : Part) → stop_by f g ≡ Some (LogFull part) → f ≡ None
 no_condition_full None g part e = refl
 no_condition_full (Some c) g part e = absurd (cc)
@@ -67,7 +63,7 @@ asked form s past line (Stops.What Whats.Follows) reason p =
           p.2,
     )
 asked form s past line (Stops.What (Whats.NotEnabled condition)) reason p =
-    inr (p.0, p.1.told, inr (p.1.may, inl (condition, condition_of (failing (layout_of s) past p.0) (full_log (layout_of s) past p.0) condition p.2, refl)))
+    inr (p.0, p.1.told, inr (p.1.may, inl (condition, stop_refused (failing (layout_of s) past p.0) (full_log (layout_of s) past p.0) condition p.2, refl)))
 asked form s past line (Stops.LogFull part) reason p =
     inr (p.0, p.1.told, inr (p.1.may, inr (no_condition_full (failing (layout_of s) past p.0) (full_log (layout_of s) past p.0) part p.3, inr (p.2, inl (part, p.3, refl)))))
 asked form s past line (Stops.What Whats.Outcome) reason p =

@@ -13,7 +13,7 @@ use Rattle.am_office.specs.declared.Entry.{Entry}
 use Rattle.am_office.specs.Entries.{emitted_in}
 use Rattle.am_model.specs.Channels.{emitted, is_on_link}
 use Rattle.am_model.specs.History.{EachAfter}
-use Rattle.am_model.proofs.Each.{each_push}
+use Rattle.am_model.proofs.Each.{each_push, each_imply}
 use Rattle.am_plan.specs.Shape.{shape, number_of}
 use Rattle.am_scenario_types.specs.Lists.{ScenarioLists}
 use Rattle.am_scripts.specs.Layout.{layout_of}
@@ -32,10 +32,6 @@ use Rattle.am_drain.proofs.TurnKinds.{IsDueReceipt, Kind, Receipt, Plain, Call, 
 -- an entry is none of those that are left to the end, or all was received before it
 abbrev pub Keeps : ScenarioLists → List Entry → Entry → Type 0
 Keeps scenario past x = (not (is_last scenario past x) || is_all_received scenario past) ≡ true
-
-each_map : (A B : List Entry → Entry → Type 0) → ((past : List Entry) (x : Entry) → A past x → B past x) → (past xs : List Entry) → EachAfter A past xs → EachAfter B past xs
-each_map A B h past [] e = tt
-each_map A B h past (x ∷ xs) e = (h past x e.0, each_map A B h (past ++ x ∷ []) xs e.1)
 
 -- drivers' entries are none of those that are left to the end, send nothing and receive nothing
 driven_last : (scenario : ScenarioLists) (past : List Entry) (event : Event) (outcome : Outcome) → is_some (driver_of event) ≡ true → is_last_in scenario past event outcome ≡ false
@@ -114,5 +110,5 @@ by_kind scenario past t h (Call none is) = all_grown scenario past (after_turn s
 
 pub last_tries_come_last : LastTriesComeLast
 last_tries_come_last scenario phase journal is_phase (n, drained) =
-    let first = each_map (λ (past : List Entry) (x : Entry). is_last scenario past x ≡ false) (Keeps scenario) (λ (past : List Entry) (x : Entry) e. not_implied (is_last scenario past x) (is_all_received scenario past) e) [] phase is_phase.no_last in
+    let first = each_imply (λ (past : List Entry) (x : Entry). is_last scenario past x ≡ false) (Keeps scenario) (λ (past : List Entry) (x : Entry) e. not_implied (is_last scenario past x) (is_all_received scenario past) e) [] phase is_phase.no_last in
     over_turns n scenario (KeepsLastTries scenario) (λ (before : List Entry) (t : Turn) k is. by_kind scenario before t k (kind_of scenario before t is)) phase journal first drained.made

@@ -17,7 +17,7 @@ use Rattle.am_drain.specs.Laws.{ReceiptsGoOn}
 use Rattle.am_drain.proofs.Turns.{Grows, turn_grows, event_of, over_turns, ready_keeps}
 use Rattle.am_drain.proofs.TurnKinds.{IsDueReceipt, IsNoReceipt, Kind, Receipt, Plain, Call, kind_of}
 
-no_receipt : (scenario : ScenarioLists) (past : List Entry) (event : Event) → IsNoReceipt event → IsReceiptInOrder scenario past event
+pub no_receipt : (scenario : ScenarioLists) (past : List Entry) (event : Event) → IsNoReceipt event → IsReceiptInOrder scenario past event
 no_receipt scenario past (Events.Receive node peer number) none = absurd none
 no_receipt scenario past event none = tt
 

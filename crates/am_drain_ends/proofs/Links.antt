@@ -4,6 +4,7 @@ use Rattle.std.specs.Prelude.{◌==◌, ◌&&◌, nat_lt, sum_by, drop, filter, 
 use Rattle.std.specs.List.{cons_option}
 use Rattle.std.proofs.lemmas.Bool.{and_from, and_parts}
 use Rattle.std.proofs.lemmas.List.Sums.{sum_by-cons, sum_by-append, sum_by-take-drop}
+use Rattle.am_drain_steps.proofs.Receipts.{at_once_so}
 use Rattle.am_names.specs.declared.NodeId.{NodeId}
 use Rattle.am_names.specs.declared.Packet.{Packet}
 use Rattle.am_names.specs.declared.Packet.TheVariants as Packets
@@ -173,12 +174,6 @@ takes s from to sent n m r next e =
 
 -- ---- what is released is what was emitted
 
-once_all : (P : Packet → Type 0) (o : Option LinkFault) (p : Packet) → P p → AllAre P (at_once o p)
-once_all P None p h = (h, tt)
-once_all P (Some Repeat) p h = (h, (h, tt))
-once_all P (Some Lose) p h = tt
-once_all P (Some (Late by)) p h = tt
-
 late_all : (P : Packet → Type 0) → ((stamp : ℕ) (p : Packet) → P p → P (stamped stamp p)) → (stamp : ℕ) (fault : ℕ → Option LinkFault) (now place : ℕ) (ps : List Packet) → AllAre P ps → AllAre P (map (stamped stamp) (late_from fault now place ps))
 late_all P keeps stamp fault now place [] h = tt
 late_all P keeps stamp fault now place (p ∷ ps) h = by_test (is_late_until now place (fault place)) (late_all P keeps stamp fault now (place + 1) ps h.1)
@@ -192,7 +187,7 @@ shape_all P keeps fault before [] h k = tt
 shape_all P keeps fault before (p ∷ ps) h k =
     all_append P (released_by fault before p) (shape_after fault (before ++ p ∷ []) ps)
     (all_append P (at_once (fault (length before + 1)) p) (map (stamped (stamp_of p)) (late_from fault (length before + 1) 1 before))
-    (once_all P (fault (length before + 1)) p k.0)
+    (at_once_so P (fault (length before + 1)) p k.0)
     (late_all P keeps (stamp_of p) fault (length before + 1) 1 before h))
     (shape_all P keeps fault (before ++ p ∷ []) ps (all_append P before (p ∷ []) h (k.0, tt)) k.1)
 

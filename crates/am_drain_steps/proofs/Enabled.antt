@@ -22,7 +22,7 @@ use Rattle.am_model.specs.Changes.{has_queued, has_arrivals}
 use Rattle.am_model.specs.Layout.{Layout, EndSetting, AllAre, IsLawful, IsSettingLawful, has_id, declared, node_at}
 use Rattle.am_model.specs.History.{MayFollow, IsHistory, state_of, failing, is_in_range, is_home, is_bound, channel_to}
 use Rattle.am_model.proofs.Each.{each_push}
-use Rattle.am_model.proofs.Names.{same_end-refl, same_node-refl}
+use Rattle.am_model.proofs.Names.{same_end-refl, same_node-refl, nodes_fused}
 use Rattle.am_laws_messages.proofs.Alls.{all_map}
 use Rattle.am_scenario_types.specs.declared.parts.Network.TheVariants.{Packet}
 use Rattle.am_scenario_types.specs.Lists.{ScenarioLists}
@@ -163,13 +163,9 @@ range_so P f a zero h = tt
 range_so P f a (suc n) h =
     first_so P (f a) (map f (range_with_len (a + 1) n)) (h a (omega arith)) (range_so P f (a + 1) n (λ (k : ℕ) low. h k (omega (arith, low))))
 
-fused : {Y : Type 0} (f : NodeId → Option Y) (ns : List ℕ) → map (λ (k : ℕ). f (node_at k)) ns ≡ map f (map node_at ns)
-fused f [] = refl
-fused f (k ∷ ks) = ap (λ ys. f (node_at k) ∷ ys) (fused f ks)
-
 pub nodes_so : {Y : Type 0} (P : Y → Type 0) (s : ScenarioLists) (f : NodeId → Option Y) → ((node : NodeId) → node.0 < s.nodes → Maybe P (f node)) → Maybe P (first_some (map f (nodes_of s)))
 nodes_so {Y} P s f h =
-    subst (λ (ys : List (Option Y)). Maybe P (first_some ys)) (fused f (range_with_len 0 s.nodes))
+    subst (λ (ys : List (Option Y)). Maybe P (first_some ys)) (nodes_fused f (range_with_len 0 s.nodes))
     (range_so P (λ (k : ℕ). f (node_at k)) 0 s.nodes (λ (k : ℕ) low. h (node_at k) (omega (arith, low))))
 
 expire_may : (layout : Layout) (past : List Entry) (node peer : NodeId) (channel : ℕ) → layout.direct ≡ false → IsHistory layout past → node.0 < layout.nodes → peer.0 < layout.nodes → channel < layout.channels → is_bound (channel_to node peer channel) past ≡ true → IsHistory layout (after_event layout (Events.Expire node peer channel) past)

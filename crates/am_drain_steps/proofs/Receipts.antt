@@ -165,7 +165,7 @@ stamped_numbered : (most stamp : ℕ) (p : Packet) → IsNumbered most p → IsN
 stamped_numbered most stamp (Packets.Parcel p) h = h
 stamped_numbered most stamp (Packets.Answer p) h = h
 
-at_once_so : (P : Packet → Type 0) (fault : Option LinkFault) (p : Packet) → P p → AllAre P (at_once fault p)
+pub at_once_so : (P : Packet → Type 0) (fault : Option LinkFault) (p : Packet) → P p → AllAre P (at_once fault p)
 at_once_so P None p h = (h, tt)
 at_once_so P (Some Repeat) p h = (h, (h, tt))
 at_once_so P (Some Lose) p h = tt

@@ -6,7 +6,7 @@ use Rattle.am_names.specs.declared.Packet.TheVariants as Packets
 use Rattle.am_plan.specs.declared.plan.LinkFault.{LinkFault}
 use Rattle.am_plan.specs.declared.plan.LinkFault.TheVariants.{Lose, Repeat, Late}
 use Rattle.am_plan.specs.Shape.{fault_at, at_once, is_late_until, late_from, stamped, stamp_of, number_of, released_by, shape_after, shape}
-use Rattle.am_plan.proofs.Shapes.{shape_after-append}
+use Rattle.am_plan.proofs.Shapes.{shape_after-append, number_stamped}
 use Rattle.am_drain_steps.specs.Endings.{is_among, IsFaultOf, UnreleasedIsPlanned}
 
 -- ---- among
@@ -32,10 +32,6 @@ among_first n p ps same = ap (λ (b : Bool). b || is_among n (map number_of ps))
 
 among_later : (n : ℕ) (p : Packet) (ps : List Packet) → is_among n (map number_of ps) ≡ true → is_among n (map number_of (p ∷ ps)) ≡ true
 among_later n p ps h = among_right n (p ∷ []) ps h
-
-number_stamped : (stamp : ℕ) (p : Packet) → number_of (stamped stamp p) ≡ number_of p
-number_stamped stamp (Packets.Parcel p) = refl
-number_stamped stamp (Packets.Answer p) = refl
 
 -- ---- a late packet comes out
 

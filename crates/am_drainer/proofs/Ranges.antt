@@ -2,6 +2,7 @@
 use Rattle.std.proofs.Common.{◌≡◌, ℕ, zero, suc, ◌+◌, ◌-◌, ◌<◌, ◌≤◌, List, [], ◌∷◌, Option, Some, None, Bool, true, false, cond, map, refl, sym, ◌∙◌, ap, arith}
 use Rattle.std.specs.Prelude.{find, option_map}
 use Rattle.std.specs.List.{range_with_len}
+use Rattle.am_model.proofs.Names.{nodes_fused}
 use Rattle.am_names.specs.declared.NodeId.{NodeId}
 use Rattle.am_model.specs.Layout.{node_at}
 use Rattle.am_scripts.specs.Links.{first_some}
@@ -28,10 +29,6 @@ range_all n m e =
 
 pub rest_all : {X : Type 0} (f : ℕ → Option X) (n m : ℕ) → n ≡ m → rest f 0 n ≡ first_some (map f (range_with_len 0 m))
 rest_all {X} f n m e = ap (λ (ns : List ℕ). first_some {X = X} (map f ns)) (range_all n m e)
-
-nodes_fused : {X : Type 0} (h : NodeId → Option X) (ns : List ℕ) → map (λ (k : ℕ). h (node_at k)) ns ≡ map h (map node_at ns)
-nodes_fused h [] = refl
-nodes_fused h (k ∷ ks) = ap (λ xs. h (node_at k) ∷ xs) (nodes_fused h ks)
 
 pub rest_nodes : {X : Type 0} (h : NodeId → Option X) (n m : ℕ) → n ≡ m → rest (λ (k : ℕ). h (node_at k)) 0 n ≡ first_some (map h (map node_at (range_with_len 0 m)))
 rest_nodes {X} h n m e = rest_all (λ (k : ℕ). h (node_at k)) n m e ∙ ap (first_some {X = X}) (nodes_fused h (range_with_len 0 m))

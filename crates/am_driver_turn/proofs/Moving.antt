@@ -1,7 +1,7 @@
 -- The move that a driver makes, and what its turn answers.
 use Rattle.std.specs.Prelude.{not, slice_index, slice_set}
 use Rattle.std.proofs.Common.{◌≡◌, ◌≢◌, ◌⊎◌, ⊎_elim, ℕ, zero, suc, ◌+◌, ◌<◌, ◌==◌, true, false, List, [], ◌∷◌, ◌++◌, length, Option, Some, None, Ok, Err, refl, sym, ap, ◌∙◌, subst, arith, append-nil, eq-eqb, eqb-true, true≢false, set-set}
-use Rattle.std.proofs.lemmas.Bool.{not-true}
+use Rattle.std.proofs.lemmas.Bool.{not-true, cases_eq}
 use Rattle.am_lemmas.proofs.Bools.{and_first, and_second}
 use Rattle.am_names.specs.declared.EndpointId.{EndpointId}
 use Rattle.am_names.specs.declared.NodeId.{NodeId}
@@ -35,7 +35,6 @@ use Rattle.am_places.specs.declared.board.Tenure.{Tenure}
 use Rattle.am_works.specs.Drives.{CanDrive, frames_after, last_after, line_by, log_of, with_frames, with_line}
 use Rattle.am_works.specs.Seats.{EndPass, Stays}
 use Rattle.am_works.proofs.Driving.{IsFoundAt, born_at, free_at, lies_there, line_at, line_there, may_of, moved_id, same_event, suits_here}
-use Rattle.am_works.proofs.Keeps.{same_or}
 use Rattle.am_works.proofs.Lies.{low_of, lies_moved, set_length}
 use Rattle.am_works.proofs.Staying.{FoundThere, M, Stands, replay_append}
 use Rattle.am_driver_turn.specs.Turns.{Answer, CanSettle, DecideFound, Follows, IsFull, IsHeld, IsLate, IsLeft, IsMade, IsSpent, IsStarved, MakeFound, MoveTurns, SettlesAfter, added_by, clock_after, frames_by, frames_of}
@@ -164,7 +163,7 @@ module _ (frames : ℕ) (node : NodeId) (view : ViewLists) (swap : Store) (v : E
           let out : is_in_frame frame had.0.place ≡ false = free_at shown.ends j frame had.0 free (line_there view.ends k j (line_by set (joined log)) other ∙ had.1) in
           let code : place_code (state_by b.set (joined (known_at j v).seen)).head.place ≡ 2 + frame = (p.lies.fits.1 frame in_frames).0 claim in
           in_it (state_by b.set (joined (known_at j v).seen)).head.place p.lies.network code (ap (λ (l : EndView). is_in_frame frame l.place) (sym p.shows) ∙ out)))
-          (same_or j k)
+          (cases_eq j k)
         where
           in_host : (p : Place) → is_on_host p ≡ true → (slice_index v.frames frame ≡ k + 1 → place_code p ≡ 2 + frame) → slice_index v.frames frame ≡ k + 1 → ⊥
           in_host (Frame g) h to claim = absurd (true≢false (sym h))

@@ -30,11 +30,11 @@ use Rattle.am_model.proofs.Received.{bit}
 use Rattle.std.proofs.lemmas.Bool.{eqb-false}
 use Rattle.am_office.specs.Entries.{emitted_of, emitted_in, answer_packet, answer_by}
 use Rattle.am_model.specs.Channels.{Mark, same_channel, frees, frees_by, binds}
-use Rattle.am_model.specs.Cluster.{has_put, puts_in, put_on, HasComeTo, AnswerSays, AnswersAreTrue, comes_back, comes_back_by, EndedSequencePutNothing, answer_channel, parcel_channel}
+use Rattle.am_model.specs.Cluster.{has_put, puts_in, put_on, HasComeTo, AnswerSays, AnswersAreTrue, comes_back, comes_back_by, EndedSequencePutNothing, answer_channel, parcel_channel, other_end}
 use Rattle.am_model.proofs.Ends.{EmittedIn, emitted_more, was_emitted, bound_push, sequence_push}
 use Rattle.am_laws_order.proofs.Senders.{SenderMoves, sender, sender_moves, same_channel-is}
 use Rattle.am_laws_order.proofs.Parcels.{IsOf, IsCurrent, new_parcel}
-use Rattle.am_laws_order.proofs.Marks.{IsPast, mark_moves, mark_after, back, link_of, again_at, Agrees, IsAnswered, ChannelsKept, refusal_marks, no_answer, settle_answers, parcel_no_answer}
+use Rattle.am_laws_order.proofs.Marks.{IsPast, mark_moves, mark_after, link_of, again_at, Agrees, IsAnswered, ChannelsKept, refusal_marks, no_answer, settle_answers, parcel_no_answer}
 use Rattle.am_laws_order.proofs.Effects.{IsRefusal, link_of_answer}
 use Rattle.am_laws_channels.proofs.Sent.{gave_emitted, emitted_gave, emitted_later, sendings}
 use Rattle.am_laws_channels.proofs.Taken.{takes_is, took_push, took_later, mark_then, Takings, takings, come_past, come_on}
@@ -73,7 +73,7 @@ arrive_seq layout past stamp node peer number p reply Fresh is q e = by_verdict 
 record IsReplied (past : List Entry) (new : Channel → Mark) (q : AnswerPacket) : Type 0 where
   pub by : Parcel
   pub emitted : EmittedIn (Packets.Parcel by) past
-  pub on : parcel_channel by ≡ back (answer_channel q)
+  pub on : parcel_channel by ≡ other_end (answer_channel q)
   pub seq : by.seq ≡ q.seq
   pub attempt : by.attempt ≡ q.attempt
   pub marked : (new (answer_channel q)).seq ≡ q.seq
@@ -88,7 +88,7 @@ receive_replied layout past stamp node peer number i (Some (Packets.Parcel p)) i
     record {
       by = p;
       emitted = was.0;
-      on = (λ j. channel_to (link.0 j) (link.1 j) p.channel) ∙ sym (ap back end);
+      on = (λ j. channel_to (link.0 j) (link.1 j) p.channel) ∙ sym (ap other_end end);
       seq = sym a.seq';
       attempt = sym a.attempt';
       marked = subst (λ (d : Channel). (mark_after d (mark d past) (Events.Receive node peer number) (receive layout node peer past (Some (Packets.Parcel p)))).seq ≡ q.seq) (sym end)
@@ -139,7 +139,7 @@ TookOnSome past a = (most : ℕ) × (has_put (answer_channel a) a.seq most past 
 pub record IsKnown (past : List Entry) (a : AnswerPacket) : Type 0 where
   pub by : Parcel
   pub emitted : EmittedIn (Packets.Parcel by) past
-  pub on : parcel_channel by ≡ back (answer_channel a)
+  pub on : parcel_channel by ≡ other_end (answer_channel a)
   pub seq : by.seq ≡ a.seq
   pub attempt : by.attempt ≡ a.attempt
   pub accepts : a.verdict ≡ Verdicts.Accepted → TookOnSome past a
@@ -321,9 +321,9 @@ coming_back layout past x may c k last h =
 
 -- a sequence that is over
 pub record IsDone (past : List Entry) (c : Channel) (k last : ℕ) : Type 0 where
-  pub come : HasComeTo (mark (back c) past) k last
+  pub come : HasComeTo (mark (other_end c) past) k last
   pub attempts : (q : Parcel) → EmittedIn (Packets.Parcel q) past → parcel_channel q ≡ c → q.seq ≡ k → q.attempt ≤ last
-  pub nothing : (most : ℕ) → has_put (back c) k most past ≡ false
+  pub nothing : (most : ℕ) → has_put (other_end c) k most past ≡ false
   pub gone : (k < sequence c past) ⊎ ((k ≡ sequence c past) × (bound_message c past ≡ None))
 
 gone_more : (layout : Layout) (past : List Entry) (x : Entry) → MayFollow layout past x → (c : Channel) (k : ℕ) → (k < sequence c past) ⊎ ((k ≡ sequence c past) × (bound_message c past ≡ None)) → (k < sequence c (past ++ x ∷ [])) ⊎ ((k ≡ sequence c (past ++ x ∷ [])) × (bound_message c (past ++ x ∷ []) ≡ None))
@@ -359,20 +359,20 @@ attempts_more layout past x may c k last gone before q there on seq =
     (emitted_more (Packets.Parcel q) past x there)
 
 -- nothing of it is taken
-nothing_more : (layout : Layout) (past : List Entry) (x : Entry) → MayFollow layout past x → (c : Channel) (k last : ℕ) → HasComeTo (mark (back c) past) k last → ((q : Parcel) → EmittedIn (Packets.Parcel q) past → parcel_channel q ≡ c → q.seq ≡ k → q.attempt ≤ last) → ((most : ℕ) → has_put (back c) k most past ≡ false) → (most : ℕ) → has_put (back c) k most (past ++ x ∷ []) ≡ false
-nothing_more layout past x may c k last come attempts before most = took_push (back c) k most past x ∙ ap (λ (b : Bool). b || puts_in (back c) k most x.event x.outcome) (before most) ∙ by_now (puts_in (back c) k most x.event x.outcome) refl
+nothing_more : (layout : Layout) (past : List Entry) (x : Entry) → MayFollow layout past x → (c : Channel) (k last : ℕ) → HasComeTo (mark (other_end c) past) k last → ((q : Parcel) → EmittedIn (Packets.Parcel q) past → parcel_channel q ≡ c → q.seq ≡ k → q.attempt ≤ last) → ((most : ℕ) → has_put (other_end c) k most past ≡ false) → (most : ℕ) → has_put (other_end c) k most (past ++ x ∷ []) ≡ false
+nothing_more layout past x may c k last come attempts before most = took_push (other_end c) k most past x ∙ ap (λ (b : Bool). b || puts_in (other_end c) k most x.event x.outcome) (before most) ∙ by_now (puts_in (other_end c) k most x.event x.outcome) refl
   where
-    by_now : (b : Bool) → puts_in (back c) k most x.event x.outcome ≡ b → b ≡ false
+    by_now : (b : Bool) → puts_in (other_end c) k most x.event x.outcome ≡ b → b ≡ false
     by_now false e = refl
     by_now true e =
-        let g = takes_is layout past x may (back c) k most e in
-        absurd (come_past (mark (back c) past) k last g.by.attempt come (subst (λ (k' : ℕ). IsPast (mark (back c) past) k' g.by.attempt) (sym g.seq) g.fresh) (attempts g.by g.emitted g.on (sym g.seq)))
+        let g = takes_is layout past x may (other_end c) k most e in
+        absurd (come_past (mark (other_end c) past) k last g.by.attempt come (subst (λ (k' : ℕ). IsPast (mark (other_end c) past) k' g.by.attempt) (sym g.seq) g.fresh) (attempts g.by g.emitted g.on (sym g.seq)))
 
 later_done : (layout : Layout) (past : List Entry) (x : Entry) → MayFollow layout past x → (c : Channel) (k last : ℕ) → IsDone past c k last → IsDone (past ++ x ∷ []) c k last
 later_done layout past x may c k last d =
     let gone = gone_more layout past x may c k d.gone in
     record {
-      come = come_on past (back c) (mark (back c) past) (mark (back c) (past ++ x ∷ [])) k last (mark_moves layout (back c) past x may) d.come;
+      come = come_on past (other_end c) (mark (other_end c) past) (mark (other_end c) (past ++ x ∷ [])) k last (mark_moves layout (other_end c) past x may) d.come;
       attempts = attempts_more layout past x may c k last gone d.attempts;
       nothing = nothing_more layout past x may c k last d.come d.attempts d.nothing;
       gone = gone;
@@ -381,9 +381,9 @@ later_done layout past x may c k last d =
 now_done : (layout : Layout) (past : List Entry) (x : Entry) → IsHistory layout past → MayFollow layout past x → (c : Channel) (k last : ℕ) → comes_back c k last x.event x.outcome ≡ true → IsDone (past ++ x ∷ []) c k last
 now_done layout past x h may c k last e =
     record {
-      come = come_on past (back c) (mark (back c) past) (mark (back c) (past ++ x ∷ [])) k last (mark_moves layout (back c) past x may) come;
+      come = come_on past (other_end c) (mark (other_end c) past) (mark (other_end c) (past ++ x ∷ [])) k last (mark_moves layout (other_end c) past x may) come;
       attempts = attempts_more layout past x may c k last gone attempts;
-      nothing = nothing_more layout past x may c k last come attempts (λ most. by_took most (has_put (back c) k most past) refl);
+      nothing = nothing_more layout past x may c k last come attempts (λ most. by_took most (has_put (other_end c) k most past) refl);
       gone = gone;
     }
   where
@@ -393,25 +393,25 @@ now_done layout past x h may c k last e =
     channels : ChannelsKept past
     channels = (sendings layout past h).channels
 
-    there : c ≡ back (answer_channel b.answer)
+    there : c ≡ other_end (answer_channel b.answer)
     there = sym b.refusal.on
 
-    m : ((mark (answer_channel b.answer) past).seq ≡ sequence (back (answer_channel b.answer)) past) × ((mark (answer_channel b.answer) past).attempt ≡ attempt (back (answer_channel b.answer)) past) × ((mark (answer_channel b.answer) past).verdict ≡ Verdicts.Refused b.cause)
+    m : ((mark (answer_channel b.answer) past).seq ≡ sequence (other_end (answer_channel b.answer)) past) × ((mark (answer_channel b.answer) past).attempt ≡ attempt (other_end (answer_channel b.answer)) past) × ((mark (answer_channel b.answer) past).verdict ≡ Verdicts.Refused b.cause)
     m = refusal_marks past channels b.answer b.cause b.refusal.emitted b.refusal.verdict (b.refusal.seq ∙ ap (λ (d : Channel). sequence d past) there) (b.refusal.attempt ∙ ap (λ (d : Channel). attempt d past) there)
 
-    at : mark (back c) past ≡ mark (answer_channel b.answer) past
-    at = ap (λ (d : Channel). mark (back d) past) there
+    at : mark (other_end c) past ≡ mark (answer_channel b.answer) past
+    at = ap (λ (d : Channel). mark (other_end d) past) there
 
-    seq : k ≡ (mark (back c) past).seq
+    seq : k ≡ (mark (other_end c) past).seq
     seq = b.seq ∙ b.refusal.seq ∙ ap (λ (d : Channel). sequence d past) there ∙ sym m.0 ∙ ap (λ (w : Mark). w.seq) (sym at)
 
-    last' : last ≡ (mark (back c) past).attempt
+    last' : last ≡ (mark (other_end c) past).attempt
     last' = b.attempt ∙ b.refusal.attempt ∙ ap (λ (d : Channel). attempt d past) there ∙ sym m.1 ∙ ap (λ (w : Mark). w.attempt) (sym at)
 
-    refused : (mark (back c) past).verdict ≡ Verdicts.Refused b.cause
+    refused : (mark (other_end c) past).verdict ≡ Verdicts.Refused b.cause
     refused = ap (λ (w : Mark). w.verdict) at ∙ m.2
 
-    come : HasComeTo (mark (back c) past) k last
+    come : HasComeTo (mark (other_end c) past) k last
     come = inr (seq, omega (arith, last'))
 
     attempts : (q : Parcel) → EmittedIn (Packets.Parcel q) past → parcel_channel q ≡ c → q.seq ≡ k → q.attempt ≤ last
@@ -422,13 +422,13 @@ now_done layout past x h may c k last e =
     gone : (k < sequence c (past ++ x ∷ [])) ⊎ ((k ≡ sequence c (past ++ x ∷ [])) × (bound_message c (past ++ x ∷ []) ≡ None))
     gone = inr (omega (arith, b.seq, b.refusal.seq, sequence_push c past x, ap bit b.unmoved), bound_push c past x true ((λ i. b.unmoved i || b.freed i)) ∙ b.unbound)
 
-    by_took : (most : ℕ) (t : Bool) → has_put (back c) k most past ≡ t → t ≡ false
+    by_took : (most : ℕ) (t : Bool) → has_put (other_end c) k most past ≡ t → t ≡ false
     by_took most false is = refl
     by_took most true is =
         absurd (⊎_elim
-        (λ (low : k < (mark (back c) past).seq). omega (arith, low, seq))
-        (λ (on : (k ≡ (mark (back c) past).seq) × ((mark (back c) past).attempt ≤ most) × ((mark (back c) past).verdict ≡ Verdicts.Accepted)). let both : Verdicts.Refused b.cause ≡ Verdicts.Accepted = sym refused ∙ on.2 in cc)
-        ((takings layout past h).stands (back c) k most is))
+        (λ (low : k < (mark (other_end c) past).seq). omega (arith, low, seq))
+        (λ (on : (k ≡ (mark (other_end c) past).seq) × ((mark (other_end c) past).attempt ≤ most) × ((mark (other_end c) past).verdict ≡ Verdicts.Accepted)). let both : Verdicts.Refused b.cause ≡ Verdicts.Accepted = sym refused ∙ on.2 in cc)
+        ((takings layout past h).stands (other_end c) k most is))
 
 record Over (layout : Layout) (past : List Entry) : Type 0 where
   pub history : IsHistory layout past

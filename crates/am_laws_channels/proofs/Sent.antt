@@ -27,11 +27,11 @@ use Rattle.am_model.proofs.Each.{over_each}
 use Rattle.am_office.specs.Entries.{emitted_of, emitted_in}
 use Rattle.am_model.specs.Channels.{Mark}
 use Rattle.am_model.specs.History.{bind_to, channel_for, sent}
-use Rattle.am_model.specs.Cluster.{ParcelsFitSender, MarkIsOfParcel, AreOfOneSequence, IsSentAfter, parcel_channel}
+use Rattle.am_model.specs.Cluster.{ParcelsFitSender, MarkIsOfParcel, AreOfOneSequence, IsSentAfter, parcel_channel, other_end}
 use Rattle.am_model.proofs.Ends.{EmittedIn, emitted_more}
 use Rattle.am_laws_order.proofs.Senders.{SenderMoves, sender, sender_moves}
 use Rattle.am_laws_order.proofs.Parcels.{IsOf, IsCurrent, ParcelsAreOf, new_parcel, receive_no_parcel}
-use Rattle.am_laws_order.proofs.Marks.{Decides, mark_moves, back, ChannelsKept, channels_more, channels_begin}
+use Rattle.am_laws_order.proofs.Marks.{Decides, mark_moves, ChannelsKept, channels_more, channels_begin}
 use Rattle.am_laws_credits.proofs.Given.{cons_gave}
 
 pub gave_emitted : (p : Packet) (xs : List Entry) → Gave emitted_of xs p → EmittedIn p xs
@@ -168,7 +168,7 @@ rises_more layout past x known before may i j p q at_i at_j later one' =
 pub record IsOfParcel (past : List Entry) (c : Channel) : Type 0 where
   pub by : Parcel
   pub emitted : EmittedIn (Packets.Parcel by) past
-  pub on : parcel_channel by ≡ back c
+  pub on : parcel_channel by ≡ other_end c
   pub seq : (mark c past).seq ≡ by.seq
   pub attempt : (mark c past).attempt ≡ by.attempt
 

@@ -33,10 +33,10 @@ use Rattle.am_model.proofs.Books.{role_push}
 use Rattle.std.proofs.Common.{le-leb}
 use mathlib.Core.Bool.{or-false}
 use Rattle.am_model.specs.Channels.{Mark, same_channel, decides_by}
-use Rattle.am_model.specs.Cluster.{has_put, puts_in, puts_by, HasComeTo, put_on, put_on_in, parcel_channel}
+use Rattle.am_model.specs.Cluster.{has_put, puts_in, puts_by, HasComeTo, put_on, put_on_in, parcel_channel, other_end}
 use Rattle.am_model.proofs.Ends.{EmittedIn, was_emitted, mark_push}
 use Rattle.am_laws_order.proofs.Senders.{same_channel-is}
-use Rattle.am_laws_order.proofs.Marks.{IsPast, Decides, MarkMoves, mark_moves, mark_after, back, link_of, fresh_means, settle_decides}
+use Rattle.am_laws_order.proofs.Marks.{IsPast, Decides, MarkMoves, mark_moves, mark_after, link_of, fresh_means, settle_decides}
 use Rattle.am_laws_messages.proofs.Alls.{gave_more, gave_now}
 use Rattle.am_laws_channels.proofs.Sent.{emitted_later}
 
@@ -44,7 +44,7 @@ use Rattle.am_laws_channels.proofs.Sent.{emitted_later}
 pub record IsTaking (past : List Entry) (d : Channel) (k most : ℕ) (event : Event) (o : Outcome) : Type 0 where
   pub by : Parcel
   pub emitted : EmittedIn (Packets.Parcel by) past
-  pub on : parcel_channel by ≡ back d
+  pub on : parcel_channel by ≡ other_end d
   pub seq : k ≡ by.seq
   pub low : by.attempt ≤ most
   pub fresh : IsPast (mark d past) by.seq by.attempt
@@ -70,7 +70,7 @@ arrive_takes layout past d k most node peer number p reply Fresh is here link h 
         record {
           by = p;
           emitted = here;
-          on = (λ i. channel_to (link.0 i) (link.1 i) p.channel) ∙ sym (ap back same);
+          on = (λ i. channel_to (link.0 i) (link.1 i) p.channel) ∙ sym (ap other_end same);
           seq = eqb-true k p.seq inner.1;
           low = leb-true p.attempt most outer.1;
           fresh = subst (λ (w : Channel). IsPast (mark w past) p.seq p.attempt) (sym same) (fresh_means (mark (channel_to node peer p.channel) past) p.seq p.attempt is);
@@ -138,7 +138,7 @@ accepted_now d m event o h = inl refl
 pub record IsTaken (past : List Entry) (d : Channel) (k : ℕ) : Type 0 where
   pub by : Parcel
   pub emitted : EmittedIn (Packets.Parcel by) past
-  pub on : parcel_channel by ≡ back d
+  pub on : parcel_channel by ≡ other_end d
   pub seq : by.seq ≡ k
   pub put' : 1 ≤ times put_of (has_serial by.message.serial) past
   pub put_there : Gave (put_on d k) past by.message

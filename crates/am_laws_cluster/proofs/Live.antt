@@ -37,7 +37,7 @@ use Rattle.am_model.proofs.Books.{role_push}
 use Rattle.am_laws_order.proofs.Everywhere.{each_once}
 use Rattle.am_laws_messages.proofs.Alls.{all_found}
 use Rattle.std.proofs.lemmas.List.Sums.{sum_by-le-sum_by}
-use Rattle.am_model.specs.Cluster.{OneLiveSequence, count_queued, count_flying, answer_channel}
+use Rattle.am_model.specs.Cluster.{OneLiveSequence, count_queued, count_flying, answer_channel, other_end}
 use Rattle.am_model.specs.PostOffice.{only_if}
 use Rattle.am_model.proofs.Received.{held, weight, run_at, put_at}
 use Rattle.am_model.proofs.Books.{ReceivedBalance, balance_received, count_role}
@@ -46,7 +46,6 @@ use Rattle.am_laws_order.proofs.Waiting.{weight_serial}
 use Rattle.am_laws_order.proofs.Once.{put_apart_all, runs_somewhere, put_at_le}
 use Rattle.am_laws_order.proofs.Senders.{sender}
 use Rattle.am_laws_order.proofs.Parcels.{IsOf}
-use Rattle.am_laws_order.proofs.Marks.{back}
 use Rattle.am_laws_order.proofs.Effects.{link_of_answer}
 use Rattle.am_laws_fates.proofs.Numbers.{end_in, end_of_entry}
 use Rattle.am_laws_fates.proofs.Balance.{balanced, serial_push}
@@ -142,7 +141,7 @@ delivered_in event o = None
 abbrev delivered_of : Entry → Option Serial
 delivered_of x = delivered_in x.event x.outcome
 
-settle_delivers : (layout : Layout) (past : List Entry) → IsHistory layout past → (c : Channel) (a : AnswerPacket) (b : Option Message) → bound_message c past ≡ b → EmittedIn (Packets.Answer a) past → back (answer_channel a) ≡ c → (t : Serial) → delivered_by (settle layout c past a b) ≡ Some t → 1 ≤ times put_of (has_serial t) past
+settle_delivers : (layout : Layout) (past : List Entry) → IsHistory layout past → (c : Channel) (a : AnswerPacket) (b : Option Message) → bound_message c past ≡ b → EmittedIn (Packets.Answer a) past → other_end (answer_channel a) ≡ c → (t : Serial) → delivered_by (settle layout c past a b) ≡ Some t → 1 ≤ times put_of (has_serial t) past
 settle_delivers layout past h c a None is here on t e = absurd (cc)
 settle_delivers layout past h c a (Some m) is here on t e = by_test ((a.seq == sequence c past) && counts a.verdict (a.attempt == attempt c past)) refl e
   where

@@ -20,7 +20,7 @@ use Rattle.am_model.specs.declared.Awaited.{Awaited}
 use Rattle.am_model.specs.declared.Mapping.{Mapping}
 use Rattle.am_model.specs.Endpoint.{State, Body, waits_for, entry_at}
 use Rattle.am_model.specs.Calls.{outcome_of_call, unless, request_refusal, new_request, has_no_credit, is_over_share, is_at, records_at, excess_at, excess_from, excess, share_of, shares, map_refusal, unmap_refusal}
-use Rattle.am_model.specs.Changes.{called, changed}
+use Rattle.am_model.specs.Changes.{called, changed, with_mapped}
 use Rattle.am_office.specs.Entries.{touches, is_serial}
 use Rattle.am_model.specs.Layout.{Layout, EndSetting, has_id, opening_by, IsLawful}
 use Rattle.am_model.specs.History.{state_of, MayFollow, IsHistory}
@@ -178,11 +178,7 @@ requested_empty at serial b mapping is h = λ i none. by_test i none (at == i) r
         let both : ◌≡◌ {A = Option Mapping} (Some mapping) None = sym is ∙ ap (entry_at b.mapped) (eqb-true at i e) ∙ none in absurd (cc)
     by_test i none false e = omega (arith, push_at at i serial b, h i none, ap bit e)
 
--- another mapping of an index that has no records
-abbrev anew : Body → ℕ → Option Mapping → Body
-anew b at v = record b { mapped = slice_set b.mapped at v }
-
-anew_over : (b : Body) (at : ℕ) (v : Option Mapping) → at < length b.mapped → records_at b at ≡ 0 → (i : ℕ) → over_at (anew b at v) i ≤ over_at b i
+anew_over : (b : Body) (at : ℕ) (v : Option Mapping) → at < length b.mapped → records_at b at ≡ 0 → (i : ℕ) → over_at (with_mapped b at v) i ≤ over_at b i
 anew_over b at v low none i = subst (λ (w : Option Mapping). excess_at b i w ≤ over_at b i) (sym (set_entry b.mapped at i v low)) (by_test (i == at) refl)
   where
     nothing : (w : Option Mapping) (n : ℕ) → records_at b i ≡ 0 → excess_at b i w ≤ n
@@ -193,17 +189,17 @@ anew_over b at v low none i = subst (λ (w : Option Mapping). excess_at b i w �
     by_test true e = nothing v (over_at b i) (ap (records_at b) (eqb-true i at e) ∙ none)
     by_test false e = omega arith
 
-anew_share : (b : Body) (at : ℕ) (v : Option Mapping) → at < length b.mapped → length b.mapped ≡ 16 → below (share_at (anew b at v)) 16 + share_at b at ≡ below (share_at b) 16 + share_of v
+anew_share : (b : Body) (at : ℕ) (v : Option Mapping) → at < length b.mapped → length b.mapped ≡ 16 → below (share_at (with_mapped b at v)) 16 + share_at b at ≡ below (share_at b) 16 + share_of v
 anew_share b at v low size =
-    below_but (share_at (anew b at v)) (share_at b) at 16 (omega (arith, low, size)) away ∙ ap (λ (n : ℕ). below (share_at b) 16 + n) here
+    below_but (share_at (with_mapped b at v)) (share_at b) at 16 (omega (arith, low, size)) away ∙ ap (λ (n : ℕ). below (share_at b) 16 + n) here
   where
-    here : share_at (anew b at v) at ≡ share_of v
+    here : share_at (with_mapped b at v) at ≡ share_of v
     here = ap share_of (set_entry b.mapped at at v low ∙ ap (λ (t : Bool). unwrap_or (if t then Some v else None) (entry_at b.mapped at)) (eq-eqb at at refl))
 
-    away : (i : ℕ) → (i == at) ≡ false → share_at (anew b at v) i ≡ share_at b i
+    away : (i : ℕ) → (i == at) ≡ false → share_at (with_mapped b at v) i ≡ share_at b i
     away i apart = ap share_of (set_entry b.mapped at i v low ∙ ap (λ (t : Bool). unwrap_or (if t then Some v else None) (entry_at b.mapped i)) apart)
 
-anew_empty : (b : Body) (at : ℕ) (v : Option Mapping) → at < length b.mapped → records_at b at ≡ 0 → UnmappedIsEmpty b → UnmappedIsEmpty (anew b at v)
+anew_empty : (b : Body) (at : ℕ) (v : Option Mapping) → at < length b.mapped → records_at b at ≡ 0 → UnmappedIsEmpty b → UnmappedIsEmpty (with_mapped b at v)
 anew_empty b at v low none h = λ i is. by_test i (i == at) refl (sym (set_entry b.mapped at i v low) ∙ is)
   where
     by_test : (i : ℕ) (t : Bool) → (i == at) ≡ t → unwrap_or (if t then Some v else None) (entry_at b.mapped i) ≡ None → records_at b i ≡ 0
@@ -258,14 +254,14 @@ called_pooled pool end st (Calls.Map at name tag credits) Out.Done fits size h p
     let v : Option Mapping = Some (record { name = name; tag = tag; credits = credits }) in
     let room : shares st.body + credits + pool ≤ 32 = ltb-false 32 (shares st.body + credits + pool) told.1 in
     record {
-      over = omega (arith, p.over, below_le (over_at (anew st.body at (Some (record { name = name; tag = tag; credits = credits })))) (over_at st.body) 16 (λ i small. anew_over st.body at (Some (record { name = name; tag = tag; credits = credits })) low (h at none) i));
+      over = omega (arith, p.over, below_le (over_at (with_mapped st.body at (Some (record { name = name; tag = tag; credits = credits })))) (over_at st.body) 16 (λ i small. anew_over st.body at (Some (record { name = name; tag = tag; credits = credits })) low (h at none) i));
       sum = omega (arith, room, shares_is st.body size, anew_share st.body at (Some (record { name = name; tag = tag; credits = credits })) low size);
     }
 called_pooled pool end st (Calls.Unmap at) Out.Done fits size h p =
     let low : at < length st.body.mapped = omega (arith, map_in (Some pool) end st (Calls.Unmap at) fits, size) in
     let none : records_at st.body at ≡ 0 = unmap_told st at (unless_done (unmap_refusal st at) fits) in
     record {
-      over = omega (arith, p.over, below_le (over_at (anew st.body at None)) (over_at st.body) 16 (λ i small. anew_over st.body at None low none i));
+      over = omega (arith, p.over, below_le (over_at (with_mapped st.body at None)) (over_at st.body) 16 (λ i small. anew_over st.body at None low none i));
       sum = omega (arith, p.sum, anew_share st.body at None low size);
     }
 called_pooled pool end st (Calls.SetHandler at kind) Out.Done fits size h p = record { over = p.over; sum = p.sum }

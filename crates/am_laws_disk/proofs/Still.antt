@@ -25,7 +25,7 @@ use Rattle.am_office.specs.declared.Received.TheVariants as Got
 use Rattle.am_office.specs.declared.Entry.{Entry}
 use Rattle.am_office.specs.Entries.{ends_touched, put_in, touched_by_expiry, touched_by_result, touches}
 use Rattle.am_model.specs.Changes.{changed, flying_of, received}
-use Rattle.am_model.specs.Channels.{Again, Arrival, Channel, Fresh, Stale, arrival, attempt, bound_message, emitted, mark, sequence}
+use Rattle.am_model.specs.Channels.{Again, Arrival, Channel, Fresh, Stale, arrival, attempt, bound_message, emitted, mark, sequence, frees_by}
 use Rattle.am_model.specs.Endpoint.{State, front, is_on_disk, is_resident}
 use Rattle.am_model.specs.History.{IsHistory, MayFollow, arrive, bounced, channel_to, counts, decided, expire, failing, is_answered, is_home, next_number, outcome_of, receive, sent, settle, settle_by, state_of}
 use Rattle.am_model.specs.Layout.{IsLawful, Layout}
@@ -73,22 +73,15 @@ expiry_off_disk layout past lawful history node peer channel e (Some m) at t =
     by_tests false true h = one_off_disk layout past e m.serial.source h (bound_off_disk layout past lawful history (channel_to node peer channel) m at)
     by_tests false false h = one_off_disk layout past e m.serial.source h (bound_off_disk layout past lawful history (channel_to node peer channel) m at)
 
--- whether a result ends a flight
-abbrev lands : Received → Bool
-lands (Got.Delivered serial) = true
-lands (Got.Requeued serial cause bounces) = true
-lands (Got.Returned serial cause) = true
-lands r = false
-
 abbrev lands_in : Outcome → Bool
-lands_in (Out.Received channel seq attempt r) = lands r
+lands_in (Out.Received channel seq attempt r) = frees_by r
 lands_in o = false
 
-decided_stays : (m : Message) (answer : ℕ) (v : Verdict) → lands (decided m answer v) ≡ false
+decided_stays : (m : Message) (answer : ℕ) (v : Verdict) → frees_by (decided m answer v) ≡ false
 decided_stays m answer Verdicts.Accepted = refl
 decided_stays m answer (Verdicts.Refused cause) = refl
 
-arrive_stays : (layout : Layout) (past : List Entry) (m : Message) (answer : ℕ) (a : Arrival) → lands (arrive layout past m answer a) ≡ false
+arrive_stays : (layout : Layout) (past : List Entry) (m : Message) (answer : ℕ) (a : Arrival) → frees_by (arrive layout past m answer a) ≡ false
 arrive_stays layout past m answer Stale = refl
 arrive_stays layout past m answer (Again verdict) = refl
 arrive_stays layout past m answer Fresh = decided_stays m answer _

@@ -31,9 +31,8 @@ use Rattle.am_model.specs.declared.Queued.{Queued}
 use Rattle.am_model.proofs.Received.{bit}
 use Rattle.am_office.specs.Entries.{put_in, returned_in}
 use Rattle.am_model.proofs.Names.{same_node-is, same_channel-refl}
-use Rattle.am_laws_order.proofs.Marks.{back}
 use Rattle.am_laws_order.proofs.Waiting.{requeued_in, bound_at}
-use Rattle.am_model.specs.Cluster.{answer_channel}
+use Rattle.am_model.specs.Cluster.{answer_channel, other_end}
 
 -- a sending end is as it was
 pub record IsSame (old new : Sender) : Type 0 where
@@ -52,7 +51,7 @@ IsFreedAt at c old new = ((c ≡ at) × (new.seq ≡ old.seq) × (new.bound ≡ 
 pub record IsRefusal (past : List Entry) (at : Channel) (a : AnswerPacket) (cause : Cause) : Type 0 where
   pub emitted : EmittedIn (Packets.Answer a) past
   pub verdict : a.verdict ≡ Verdicts.Refused cause
-  pub on : back (answer_channel a) ≡ at
+  pub on : other_end (answer_channel a) ≡ at
   pub seq : a.seq ≡ sequence at past
   pub attempt : a.attempt ≡ attempt at past
 
@@ -111,14 +110,14 @@ expire_effect layout past node peer channel (Some m) is = by_tries (nat_lt (atte
     by_tries false = given_up (is_answered (flying_of m.serial (state_of layout past m.serial.source).body.in_flight))
 
 -- an answer whose packet is on this link comes to the end that it is for
-pub link_of_answer : (peer node : NodeId) (a : AnswerPacket) → is_on_link peer node (Packets.Answer a) ≡ true → back (answer_channel a) ≡ channel_to node peer a.channel
+pub link_of_answer : (peer node : NodeId) (a : AnswerPacket) → is_on_link peer node (Packets.Answer a) ≡ true → other_end (answer_channel a) ≡ channel_to node peer a.channel
 link_of_answer peer node a h =
     let parts = and_parts (same_node peer a.from) (same_node node a.to) h in
     let from : a.from ≡ peer = sym (same_node-is peer a.from parts.0) in
     let to : a.to ≡ node = sym (same_node-is node a.to parts.1) in
     λ i. channel_to (to i) (from i) a.channel
 
-settle_effect : (layout : Layout) (past : List Entry) (node peer : NodeId) (number : ℕ) (a : AnswerPacket) (b : Option Message) → bound_message (channel_to node peer a.channel) past ≡ b → EmittedIn (Packets.Answer a) past → back (answer_channel a) ≡ channel_to node peer a.channel → let o = Out.Received a.channel a.seq a.attempt (settle layout (channel_to node peer a.channel) past a b) in Effect past (Events.Receive node peer number) o (after_at past (Events.Receive node peer number) o)
+settle_effect : (layout : Layout) (past : List Entry) (node peer : NodeId) (number : ℕ) (a : AnswerPacket) (b : Option Message) → bound_message (channel_to node peer a.channel) past ≡ b → EmittedIn (Packets.Answer a) past → other_end (answer_channel a) ≡ channel_to node peer a.channel → let o = Out.Received a.channel a.seq a.attempt (settle layout (channel_to node peer a.channel) past a b) in Effect past (Events.Receive node peer number) o (after_at past (Events.Receive node peer number) o)
 settle_effect layout past node peer number a None is here on = Keeps (keep past) refl refl refl
 settle_effect layout past node peer number a (Some m) is here on = by_test ((a.seq == sequence (channel_to node peer a.channel) past) && counts a.verdict (a.attempt == attempt (channel_to node peer a.channel) past)) refl
   where

@@ -31,17 +31,13 @@ pub use Rattle.am_model.proofs.Marks.{IsPast, fresh_means, settle_answers}
 use Rattle.am_model.proofs.Names.{same_node-is, same_channel-refl}
 use Rattle.am_laws_order.proofs.Senders.{Sender, SenderMoves, sender, sender_moves, same_channel-is}
 use Rattle.am_laws_order.proofs.Parcels.{IsOf, ParcelsAreOf, parcels_more}
-use Rattle.am_model.specs.Cluster.{answer_channel, parcel_channel}
-
--- the channel of a receiving end, as its sender has it
-abbrev pub back : Channel → Channel
-back d = channel_to d.peer d.node d.number
+use Rattle.am_model.specs.Cluster.{answer_channel, parcel_channel, other_end}
 
 -- a parcel that decides a receiving end
 pub record Decides (past : List Entry) (old new : Mark) (d : Channel) : Type 0 where
   pub by : Parcel
   pub emitted : EmittedIn (Packets.Parcel by) past
-  pub on : parcel_channel by ≡ back d
+  pub on : parcel_channel by ≡ other_end d
   pub fresh : IsPast old by.seq by.attempt
   pub seq : new.seq ≡ by.seq
   pub attempt : new.attempt ≡ by.attempt
@@ -70,7 +66,7 @@ arrives_moves layout d past node peer number p answer Fresh is here link = by_ve
         inr (record {
           by = p;
           emitted = here;
-          on = (λ i. channel_to (ends.0 i) (ends.1 i) p.channel) ∙ sym (ap back same);
+          on = (λ i. channel_to (ends.0 i) (ends.1 i) p.channel) ∙ sym (ap other_end same);
           fresh = subst (λ (w : Channel). IsPast (mark w past) p.seq p.attempt) (sym same) (fresh_means (mark (channel_to node peer p.channel) past) p.seq p.attempt is);
           seq = s;
           attempt = a;
@@ -131,15 +127,15 @@ mark_moves_on old new m moves is =
     moves.up
 
 abbrev pub MarksAreOf : List Entry → Type 0
-MarksAreOf past = (d : Channel) → IsMarkOf (sender (back d) past) (mark d past)
+MarksAreOf past = (d : Channel) → IsMarkOf (sender (other_end d) past) (mark d past)
 
 pub marks_more : (layout : Layout) (past : List Entry) (x : Entry) → ParcelsAreOf past → MarksAreOf past → MayFollow layout past x → MarksAreOf (past ++ x ∷ [])
 marks_more layout past x parcels marks may = λ d.
-    mark_moves_on (sender (back d) past) (sender (back d) (past ++ x ∷ [])) (mark d (past ++ x ∷ [])) (sender_moves layout (back d) past x may)
+    mark_moves_on (sender (other_end d) past) (sender (other_end d) (past ++ x ∷ [])) (mark d (past ++ x ∷ [])) (sender_moves layout (other_end d) past x may)
     (⊎_elim
-    (λ (same : mark d (past ++ x ∷ []) ≡ mark d past). subst (λ (m : Mark). IsMarkOf (sender (back d) past) m) (sym same) (marks d))
+    (λ (same : mark d (past ++ x ∷ []) ≡ mark d past). subst (λ (m : Mark). IsMarkOf (sender (other_end d) past) m) (sym same) (marks d))
     (λ (by : Decides past (mark d past) (mark d (past ++ x ∷ [])) d).
-    let of : IsOf (sender (back d) past) by.by = subst (λ (c : Channel). IsOf (sender c past) by.by) by.on (parcels by.by by.emitted) in
+    let of : IsOf (sender (other_end d) past) by.by = subst (λ (c : Channel). IsOf (sender c past) by.by) by.on (parcels by.by by.emitted) in
     record { seq = omega (arith, of.seq, by.seq); attempt = λ e. omega (arith, of.attempt (sym by.seq ∙ e), by.attempt) })
     (mark_moves layout d past x may))
 
@@ -271,25 +267,25 @@ pub channels_begin : ChannelsKept []
 channels_begin = record { parcels = λ q h. absurd h; marks = λ d. record { seq = omega arith; attempt = λ e. omega arith }; answers = λ q h. absurd h }
 
 -- a refusal of the current try is what the mark says, at the current sequence and try
-pub refusal_marks : (past : List Entry) → ChannelsKept past → (a : AnswerPacket) (cause : Cause) → EmittedIn (Packets.Answer a) past → a.verdict ≡ Verdicts.Refused cause → a.seq ≡ sequence (back (answer_channel a)) past → a.attempt ≡ attempt (back (answer_channel a)) past → ((mark (answer_channel a) past).seq ≡ sequence (back (answer_channel a)) past) × ((mark (answer_channel a) past).attempt ≡ attempt (back (answer_channel a)) past) × ((mark (answer_channel a) past).verdict ≡ Verdicts.Refused cause)
+pub refusal_marks : (past : List Entry) → ChannelsKept past → (a : AnswerPacket) (cause : Cause) → EmittedIn (Packets.Answer a) past → a.verdict ≡ Verdicts.Refused cause → a.seq ≡ sequence (other_end (answer_channel a)) past → a.attempt ≡ attempt (other_end (answer_channel a)) past → ((mark (answer_channel a) past).seq ≡ sequence (other_end (answer_channel a)) past) × ((mark (answer_channel a) past).attempt ≡ attempt (other_end (answer_channel a)) past) × ((mark (answer_channel a) past).verdict ≡ Verdicts.Refused cause)
 refusal_marks past k a cause here refused seq try =
     let said = k.answers a here in
     let of = k.marks (answer_channel a) in
     let at : a.seq ≡ (mark (answer_channel a) past).seq = omega (arith, said.seq, of.seq, seq) in
     let agrees : Agrees (Verdicts.Refused cause) a.attempt (mark (answer_channel a) past) = subst (λ (v : Verdict). Agrees v a.attempt (mark (answer_channel a) past)) refused (said.agrees at) in
-    let low : (mark (answer_channel a) past).attempt ≤ attempt (back (answer_channel a)) past = of.attempt (sym at ∙ seq) in
+    let low : (mark (answer_channel a) past).attempt ≤ attempt (other_end (answer_channel a)) past = of.attempt (sym at ∙ seq) in
     ⊎_elim
     (λ (below : a.attempt < (mark (answer_channel a) past).attempt). absurd (omega (arith, below, low, try)))
     (λ (equal : (a.attempt ≡ (mark (answer_channel a) past).attempt) × ((mark (answer_channel a) past).verdict ≡ Verdicts.Refused cause)). (sym at ∙ seq, sym equal.0 ∙ try, equal.1))
     agrees
 
 -- a refusal of the current try stands: no packet of the channel that was ever emitted is fresh
-pub refusal_stands : (past : List Entry) → ChannelsKept past → (a : AnswerPacket) (cause : Cause) → EmittedIn (Packets.Answer a) past → a.verdict ≡ Verdicts.Refused cause → a.seq ≡ sequence (back (answer_channel a)) past → a.attempt ≡ attempt (back (answer_channel a)) past → (q : Parcel) → EmittedIn (Packets.Parcel q) past → parcel_channel q ≡ back (answer_channel a) → IsPast (mark (answer_channel a) past) q.seq q.attempt → ⊥
+pub refusal_stands : (past : List Entry) → ChannelsKept past → (a : AnswerPacket) (cause : Cause) → EmittedIn (Packets.Answer a) past → a.verdict ≡ Verdicts.Refused cause → a.seq ≡ sequence (other_end (answer_channel a)) past → a.attempt ≡ attempt (other_end (answer_channel a)) past → (q : Parcel) → EmittedIn (Packets.Parcel q) past → parcel_channel q ≡ other_end (answer_channel a) → IsPast (mark (answer_channel a) past) q.seq q.attempt → ⊥
 refusal_stands past k a cause here refused seq try q there on fresh =
     let m = refusal_marks past k a cause here refused seq try in
-    let parcel_of : IsOf (sender (back (answer_channel a)) past) q = subst (λ (c : Channel). IsOf (sender c past) q) on (k.parcels q there) in
+    let parcel_of : IsOf (sender (other_end (answer_channel a)) past) q = subst (λ (c : Channel). IsOf (sender c past) q) on (k.parcels q there) in
     ⊎_elim
     (λ (above : (mark (answer_channel a) past).seq < q.seq). omega (arith, above, parcel_of.seq, m.0))
     (λ (same : (q.seq ≡ (mark (answer_channel a) past).seq) × ((mark (answer_channel a) past).attempt < q.attempt) × ((mark (answer_channel a) past).verdict ≢ Verdicts.Accepted)).
-    let last : q.attempt ≤ attempt (back (answer_channel a)) past = parcel_of.attempt (same.0 ∙ m.0) in omega (arith, m.1, last, same.1))
+    let last : q.attempt ≤ attempt (other_end (answer_channel a)) past = parcel_of.attempt (same.0 ∙ m.0) in omega (arith, m.1, last, same.1))
     fresh

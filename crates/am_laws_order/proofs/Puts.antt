@@ -27,15 +27,14 @@ use Rattle.am_model.specs.History.{bounced, state_of, MayFollow, outcome_of, rec
 use Rattle.am_model.proofs.Ends.{EmittedIn, was_emitted, mark_push}
 use Rattle.am_names.specs.declared.EndpointId.{EndpointId}
 use Rattle.am_office.specs.Entries.{put_in, put_of}
-use Rattle.am_laws_order.proofs.Marks.{back}
 use Rattle.am_laws_order.proofs.Marks.{IsPast, fresh_means, Decides, MarkMoves, mark_moves, mark_after}
 use Rattle.am_model.proofs.Ends.{mark_push}
 use Rattle.am_model.proofs.Names.{same_node-is, same_channel-refl}
-use Rattle.am_model.specs.Cluster.{parcel_channel}
+use Rattle.am_model.specs.Cluster.{parcel_channel, other_end}
 
 -- a parcel that its receiving end would take for fresh
 abbrev pub IsFresh : List Entry → Parcel → Type 0
-IsFresh past q = IsPast (mark (back (parcel_channel q)) past) q.seq q.attempt
+IsFresh past q = IsPast (mark (other_end (parcel_channel q)) past) q.seq q.attempt
 
 past_before : (old new : Mark) (past : List Entry) (d : Channel) → MarkMoves past old new d → (seq attempt : ℕ) → IsPast new seq attempt → IsPast old seq attempt
 past_before old new past d moves seq attempt h =
@@ -58,7 +57,7 @@ past_before old new past d moves seq attempt h =
 -- what is fresh after one entry more was so before
 pub fresh_before : (layout : Layout) (past : List Entry) (x : Entry) → MayFollow layout past x → (q : Parcel) → IsFresh (past ++ x ∷ []) q → IsFresh past q
 fresh_before layout past x may q h =
-    past_before (mark (back (parcel_channel q)) past) (mark (back (parcel_channel q)) (past ++ x ∷ [])) past (back (parcel_channel q)) (mark_moves layout (back (parcel_channel q)) past x may) q.seq q.attempt h
+    past_before (mark (other_end (parcel_channel q)) past) (mark (other_end (parcel_channel q)) (past ++ x ∷ [])) past (other_end (parcel_channel q)) (mark_moves layout (other_end (parcel_channel q)) past x may) q.seq q.attempt h
 
 -- what is put comes in a fresh parcel, and its receiving end then stands at it
 pub record IsPut (past : List Entry) (new : Channel → Mark) (m : Message) : Type 0 where
@@ -66,17 +65,17 @@ pub record IsPut (past : List Entry) (new : Channel → Mark) (m : Message) : Ty
   pub emitted : EmittedIn (Packets.Parcel by) past
   pub message : by.message ≡ m
   pub fresh : IsFresh past by
-  pub marked : new (back (parcel_channel by)) ≡ record { seq = by.seq; attempt = by.attempt; verdict = Verdicts.Accepted }
+  pub marked : new (other_end (parcel_channel by)) ≡ record { seq = by.seq; attempt = by.attempt; verdict = Verdicts.Accepted }
 
 abbrev pub marks_after : List Entry → Event → Outcome → Channel → Mark
 marks_after past event o d = mark_after d (mark d past) event o
 
-arrive_put : (layout : Layout) (past : List Entry) (node peer : NodeId) (number : ℕ) (p : Parcel) (reply : ℕ) (a : Arrival) → arrival (mark (channel_to node peer p.channel) past) p.seq p.attempt ≡ a → EmittedIn (Packets.Parcel p) past → back (parcel_channel p) ≡ channel_to node peer p.channel → (m : Message) → put_in (Events.Receive node peer number) (Out.Received p.channel p.seq p.attempt (arrive layout past p.message reply a)) ≡ Some m → IsPut past (marks_after past (Events.Receive node peer number) (Out.Received p.channel p.seq p.attempt (arrive layout past p.message reply a))) m
+arrive_put : (layout : Layout) (past : List Entry) (node peer : NodeId) (number : ℕ) (p : Parcel) (reply : ℕ) (a : Arrival) → arrival (mark (channel_to node peer p.channel) past) p.seq p.attempt ≡ a → EmittedIn (Packets.Parcel p) past → other_end (parcel_channel p) ≡ channel_to node peer p.channel → (m : Message) → put_in (Events.Receive node peer number) (Out.Received p.channel p.seq p.attempt (arrive layout past p.message reply a)) ≡ Some m → IsPut past (marks_after past (Events.Receive node peer number) (Out.Received p.channel p.seq p.attempt (arrive layout past p.message reply a))) m
 arrive_put layout past node peer number p reply Stale is here on m e = absurd (cc)
 arrive_put layout past node peer number p reply (Again v) is here on m e = absurd (cc)
 arrive_put layout past node peer number p reply Fresh is here on m e = by_verdict (verdict (state_of layout past p.message.dest) p.message) e
   where
-    at : (t : Bool) → t ≡ true → (if t then record { seq = p.seq; attempt = p.attempt; verdict = Verdicts.Accepted } else mark (back (parcel_channel p)) past) ≡ record { seq = p.seq; attempt = p.attempt; verdict = Verdicts.Accepted }
+    at : (t : Bool) → t ≡ true → (if t then record { seq = p.seq; attempt = p.attempt; verdict = Verdicts.Accepted } else mark (other_end (parcel_channel p)) past) ≡ record { seq = p.seq; attempt = p.attempt; verdict = Verdicts.Accepted }
     at true h = refl
     at false h = absurd (true≢false (sym h))
 
@@ -87,7 +86,7 @@ arrive_put layout past node peer number p reply Fresh is here on m e = by_verdic
           emitted = here;
           message = let same : p.message ≡ m = cc in same;
           fresh = subst (λ (d : Channel). IsPast (mark d past) p.seq p.attempt) (sym on) (fresh_means (mark (channel_to node peer p.channel) past) p.seq p.attempt is);
-          marked = at (same_channel (back (parcel_channel p)) node peer p.channel) (ap (λ (d : Channel). same_channel d node peer p.channel) on ∙ same_channel-refl (channel_to node peer p.channel));
+          marked = at (same_channel (other_end (parcel_channel p)) node peer p.channel) (ap (λ (d : Channel). same_channel d node peer p.channel) on ∙ same_channel-refl (channel_to node peer p.channel));
         }
     by_verdict (Verdicts.Refused cause) f = absurd (cc)
 
@@ -107,7 +106,7 @@ settle_puts layout past node peer number a (Some m) = by_test ((a.seq == sequenc
     by_test true = by_verdict a.verdict (bounced (flying_of m.serial (state_of layout past m.serial.source).body.in_flight))
     by_test false = refl
 
-pub link_of_parcel : (peer node : NodeId) (p : Parcel) → is_on_link peer node (Packets.Parcel p) ≡ true → back (parcel_channel p) ≡ channel_to node peer p.channel
+pub link_of_parcel : (peer node : NodeId) (p : Parcel) → is_on_link peer node (Packets.Parcel p) ≡ true → other_end (parcel_channel p) ≡ channel_to node peer p.channel
 link_of_parcel peer node p h =
     let parts = and_parts (same_node peer p.from) (same_node node p.to) h in
     let from : p.from ≡ peer = sym (same_node-is peer p.from parts.0) in

@@ -17,7 +17,6 @@ use Rattle.am_laws_order.proofs.Parcels.{IsOf}
 use Rattle.am_names.specs.declared.EndpointId.{EndpointId}
 use Rattle.am_model.proofs.Received.{bit}
 use Rattle.am_office.specs.Entries.{put_in, put_of, passes}
-use Rattle.am_laws_order.proofs.Marks.{back}
 use Rattle.am_laws_order.proofs.Marks.{IsPast}
 use Rattle.am_names.specs.declared.Serial.{Serial}
 use Rattle.am_names.specs.Names.{same_serial, has_serial}
@@ -29,7 +28,7 @@ use Rattle.am_laws_order.proofs.Parcels.{IsOf, IsCurrent, new_parcel}
 use Rattle.am_model.proofs.Ends.{emitted_more}
 use Rattle.am_laws_order.proofs.Puts.{IsFresh, IsPut, fresh_before, put_is}
 use Rattle.am_model.proofs.Books.{role_push}
-use Rattle.am_model.specs.Cluster.{answer_channel, parcel_channel}
+use Rattle.am_model.specs.Cluster.{answer_channel, parcel_channel, other_end}
 
 -- no fresh parcel has the serial
 abbrev pub NoneFresh : Serial → List Entry → Type 0
@@ -55,7 +54,7 @@ puts s past = times put_of (has_serial s) past
 
 -- the receiving end stands at this sequence, accepted
 abbrev pub IsAcceptedAt : Channel → ℕ → List Entry → Type 0
-IsAcceptedAt c k past = ((mark (back c) past).seq ≡ k) × ((mark (back c) past).verdict ≡ Verdicts.Accepted)
+IsAcceptedAt c k past = ((mark (other_end c) past).seq ≡ k) × ((mark (other_end c) past).verdict ≡ Verdicts.Accepted)
 
 -- w messages of the serial are to be sent, and n were ever accepted
 pub data Situation (s : Serial) (past : List Entry) (w n : ℕ) : Type 0 where
@@ -72,10 +71,10 @@ put_at_most_once s past w n few (Ended c k unbound fresh put w' n') = ⊎_elim (
 -- an accepted mark at a sequence leaves nothing fresh there
 none_at_accepted : (past : List Entry) (q : Parcel) (c : Channel) (k : ℕ) → parcel_channel q ≡ c → q.seq ≡ k → IsAcceptedAt c k past → IsFresh past q → ⊥
 none_at_accepted past q c k on seq at fresh =
-    let f : IsPast (mark (back c) past) q.seq q.attempt = subst (λ (d : Channel). IsPast (mark (back d) past) q.seq q.attempt) on fresh in
+    let f : IsPast (mark (other_end c) past) q.seq q.attempt = subst (λ (d : Channel). IsPast (mark (other_end d) past) q.seq q.attempt) on fresh in
     ⊎_elim
-    (λ (above : (mark (back c) past).seq < q.seq). omega (arith, above, at.0, seq))
-    (λ (here : (q.seq ≡ (mark (back c) past).seq) × ((mark (back c) past).attempt < q.attempt) × ((mark (back c) past).verdict ≢ Verdicts.Accepted)). here.2 at.1)
+    (λ (above : (mark (other_end c) past).seq < q.seq). omega (arith, above, at.0, seq))
+    (λ (here : (q.seq ≡ (mark (other_end c) past).seq) × ((mark (other_end c) past).attempt < q.attempt) × ((mark (other_end c) past).verdict ≢ Verdicts.Accepted)). here.2 at.1)
     f
 
 -- parcels after one entry more: those before, or the one of a channel that then has its message
@@ -108,14 +107,14 @@ fresh_on_bound layout past x may s c k on seq only = λ q h is fresh.
 accepted_stays : (layout : Layout) (past : List Entry) (x : Entry) → MayFollow layout past x → ChannelsKept past → (c : Channel) → IsAcceptedAt c (sequence c past) past → IsAcceptedAt c (sequence c past) (past ++ x ∷ [])
 accepted_stays layout past x may k c at =
     ⊎_elim
-    (λ (same : mark (back c) (past ++ x ∷ []) ≡ mark (back c) past). (ap (λ (m : Mark). m.seq) same ∙ at.0, ap (λ (m : Mark). m.verdict) same ∙ at.1))
-    (λ (by : Decides past (mark (back c) past) (mark (back c) (past ++ x ∷ [])) (back c)).
+    (λ (same : mark (other_end c) (past ++ x ∷ []) ≡ mark (other_end c) past). (ap (λ (m : Mark). m.seq) same ∙ at.0, ap (λ (m : Mark). m.verdict) same ∙ at.1))
+    (λ (by : Decides past (mark (other_end c) past) (mark (other_end c) (past ++ x ∷ [])) (other_end c)).
     let of : IsOf (sender c past) by.by = subst (λ (d : Channel). IsOf (sender d past) by.by) by.on (k.parcels by.by by.emitted) in
     absurd (⊎_elim
-    (λ (above : (mark (back c) past).seq < by.by.seq). omega (arith, above, of.seq, at.0))
-    (λ (here : (by.by.seq ≡ (mark (back c) past).seq) × ((mark (back c) past).attempt < by.by.attempt) × ((mark (back c) past).verdict ≢ Verdicts.Accepted)). here.2 at.1)
+    (λ (above : (mark (other_end c) past).seq < by.by.seq). omega (arith, above, of.seq, at.0))
+    (λ (here : (by.by.seq ≡ (mark (other_end c) past).seq) × ((mark (other_end c) past).attempt < by.by.attempt) × ((mark (other_end c) past).verdict ≢ Verdicts.Accepted)). here.2 at.1)
     by.fresh))
-    (mark_moves layout (back c) past x may)
+    (mark_moves layout (other_end c) past x may)
 
 pub puts_push : (s : Serial) (past : List Entry) (x : Entry) → puts s (past ++ x ∷ []) ≡ puts s past + bit (passes (has_serial s) (put_of x))
 puts_push s past x = role_push put_in (has_serial s) past x
@@ -143,7 +142,7 @@ only_same s at old new same only = λ c m h is. only c m (sym (same c).bound ∙
 put_there : (layout : Layout) (past : List Entry) (x : Entry) (s : Serial) (c : Channel) (k : ℕ) (m : Message) → m.serial ≡ s → FreshOn s c k past → IsPut past (λ d. mark d (past ++ x ∷ [])) m → IsAcceptedAt c k (past ++ x ∷ []) × (IsAcceptedAt c k past → ⊥)
 put_there layout past x s c k m is on p =
     let at = on p.by p.emitted (ap (λ (w : Message). w.serial) p.message ∙ is) p.fresh in
-    let mk : mark (back c) (past ++ x ∷ []) ≡ record { seq = p.by.seq; attempt = p.by.attempt; verdict = Verdicts.Accepted } = subst (λ (d : Channel). mark (back d) (past ++ x ∷ []) ≡ record { seq = p.by.seq; attempt = p.by.attempt; verdict = Verdicts.Accepted }) at.0 p.marked in
+    let mk : mark (other_end c) (past ++ x ∷ []) ≡ record { seq = p.by.seq; attempt = p.by.attempt; verdict = Verdicts.Accepted } = subst (λ (d : Channel). mark (other_end d) (past ++ x ∷ []) ≡ record { seq = p.by.seq; attempt = p.by.attempt; verdict = Verdicts.Accepted }) at.0 p.marked in
     ((ap (λ (w : Mark). w.seq) mk ∙ at.1, ap (λ (w : Mark). w.verdict) mk), λ before. none_at_accepted past p.by c k at.0 at.1 before p.fresh)
 
 -- nothing is fresh where all was on a sequence that is accepted
@@ -317,20 +316,20 @@ refuses_this layout past x may k s w n w' n' at m held frees a cause r still is 
 refuses_this layout past x may k s w n w' n' at m held frees a cause r still is (Ended c j unbound on put none one) hw hn top = absurd (unbound at m held is)
 refuses_this layout past x may k s w n w' n' at m held frees a cause r still is (Flies c f bound of only on put none one) hw hn top =
     let same : at ≡ c = only at m held is in
-    let there : back (answer_channel a) ≡ c = r.on ∙ same in
-    let seq : a.seq ≡ sequence (back (answer_channel a)) past = r.seq ∙ ap (λ (d : Channel). sequence d past) (sym r.on) in
-    let try : a.attempt ≡ attempt (back (answer_channel a)) past = r.attempt ∙ ap (λ (d : Channel). attempt d past) (sym r.on) in
+    let there : other_end (answer_channel a) ≡ c = r.on ∙ same in
+    let seq : a.seq ≡ sequence (other_end (answer_channel a)) past = r.seq ∙ ap (λ (d : Channel). sequence d past) (sym r.on) in
+    let try : a.attempt ≡ attempt (other_end (answer_channel a)) past = r.attempt ∙ ap (λ (d : Channel). attempt d past) (sym r.on) in
     let marks = refusal_marks past k a cause r.emitted r.verdict seq try in
     let unbound' = unbound_freed s at (sent_by past) (sent_by (past ++ x ∷ [])) frees (λ d g h e. only d g h e ∙ sym same) in
     let nothing : NoneFresh s past = λ q h e fresh.
     let on_c = on q h e fresh in
-    let to_end : parcel_channel q ≡ back (answer_channel a) = on_c.0 ∙ sym there in
-    refusal_stands past k a cause r.emitted r.verdict seq try q h to_end (subst (λ (d : Channel). IsPast (mark d past) q.seq q.attempt) (ap back to_end) fresh) in
+    let to_end : parcel_channel q ≡ other_end (answer_channel a) = on_c.0 ∙ sym there in
+    refusal_stands past k a cause r.emitted r.verdict seq try q h to_end (subst (λ (d : Channel). IsPast (mark d past) q.seq q.attempt) (ap other_end to_end) fresh) in
     Waits
     (⊎_elim
     (λ (z : puts s past ≡ 0). no_puts s past x still ∙ z)
     (λ (o : (puts s past ≡ 1) × IsAcceptedAt c (sequence c past) past).
-    let at_end : (mark (answer_channel a) past).verdict ≡ Verdicts.Accepted = ap (λ (d : Channel). (mark (back d) past).verdict) there ∙ o.1.1 in
+    let at_end : (mark (answer_channel a) past).verdict ≡ Verdicts.Accepted = ap (λ (d : Channel). (mark (other_end d) past).verdict) there ∙ o.1.1 in
     let both : Verdicts.Refused cause ≡ Verdicts.Accepted = sym marks.2 ∙ at_end in absurd (cc))
     put)
     (none_fresh_more layout past x may s nothing unbound') unbound' (omega (arith, none, one, hw, hn, top))
@@ -341,19 +340,19 @@ refused_for_good layout past x may k s w n at m held frees a cause r still is (W
 refused_for_good layout past x may k s w n at m held frees a cause r still is (Ended c j unbound on put none one) = absurd (unbound at m held is)
 refused_for_good layout past x may k s w n at m held frees a cause r still is (Flies c f bound of only on put none one) =
     let same : at ≡ c = only at m held is in
-    let there : back (answer_channel a) ≡ c = r.on ∙ same in
-    let seq : a.seq ≡ sequence (back (answer_channel a)) past = r.seq ∙ ap (λ (d : Channel). sequence d past) (sym r.on) in
-    let try : a.attempt ≡ attempt (back (answer_channel a)) past = r.attempt ∙ ap (λ (d : Channel). attempt d past) (sym r.on) in
+    let there : other_end (answer_channel a) ≡ c = r.on ∙ same in
+    let seq : a.seq ≡ sequence (other_end (answer_channel a)) past = r.seq ∙ ap (λ (d : Channel). sequence d past) (sym r.on) in
+    let try : a.attempt ≡ attempt (other_end (answer_channel a)) past = r.attempt ∙ ap (λ (d : Channel). attempt d past) (sym r.on) in
     let marks = refusal_marks past k a cause r.emitted r.verdict seq try in
     let unbound' = unbound_freed s at (sent_by past) (sent_by (past ++ x ∷ [])) frees (λ d g h e. only d g h e ∙ sym same) in
     let nothing : NoneFresh s past = λ q h e fresh.
     let on_c = on q h e fresh in
-    let to_end : parcel_channel q ≡ back (answer_channel a) = on_c.0 ∙ sym there in
-    refusal_stands past k a cause r.emitted r.verdict seq try q h to_end (subst (λ (d : Channel). IsPast (mark d past) q.seq q.attempt) (ap back to_end) fresh) in (
+    let to_end : parcel_channel q ≡ other_end (answer_channel a) = on_c.0 ∙ sym there in
+    refusal_stands past k a cause r.emitted r.verdict seq try q h to_end (subst (λ (d : Channel). IsPast (mark d past) q.seq q.attempt) (ap other_end to_end) fresh) in (
       ⊎_elim
           (λ (z : puts s past ≡ 0). no_puts s past x still ∙ z)
           (λ (o : (puts s past ≡ 1) × IsAcceptedAt c (sequence c past) past).
-          let at_end : (mark (answer_channel a) past).verdict ≡ Verdicts.Accepted = ap (λ (d : Channel). (mark (back d) past).verdict) there ∙ o.1.1 in
+          let at_end : (mark (answer_channel a) past).verdict ≡ Verdicts.Accepted = ap (λ (d : Channel). (mark (other_end d) past).verdict) there ∙ o.1.1 in
           let both : Verdicts.Refused cause ≡ Verdicts.Accepted = sym marks.2 ∙ at_end in absurd (cc))
           put,
       none_fresh_more layout past x may s nothing unbound',

@@ -11,7 +11,7 @@ use Rattle.am_names.specs.Names.{same_end, is_request, has_serial, same_serial}
 use Rattle.am_model.specs.declared.Queued.{Queued}
 use Rattle.am_model.specs.Endpoint.{State, Body, front}
 use Rattle.am_model.specs.Changes.{changed, received, expired, bound, flying_of, requeued_flight, without_flight}
-use Rattle.am_office.specs.Entries.{ends_touched, passes, accepted_in}
+use Rattle.am_office.specs.Entries.{ends_touched, passes, accepted_in, requeue_by}
 use Rattle.am_names.specs.declared.Serial.{Serial}
 use Rattle.am_names.specs.declared.Cause.TheVariants.{NotResident}
 use Rattle.am_office.specs.declared.Received.{Received}
@@ -22,11 +22,6 @@ use Rattle.am_model.proofs.Received.{bit}
 use Rattle.am_model.proofs.Names.{same_serial-is}
 use Rattle.am_model.proofs.Queues.{to_send, called_sends, front_leaves, both_appended, paged_out_sends, paged_in_sends}
 use Rattle.am_model.proofs.Chosen.{flying_of-has_serial}
-
--- the serial that an outcome puts back into its queue
-abbrev pub requeued_by : Received → Option Serial
-requeued_by (Got.Requeued serial cause used) = Some serial
-requeued_by result = None
 
 abbrev pub weight_serial : Serial → Option Serial → ℕ
 weight_serial s None = 0
@@ -53,7 +48,7 @@ bound_at (Events.Bind node end) o = sent_message o
 bound_at event o = None
 
 abbrev pub requeued_in : Event → Outcome → Option Serial
-requeued_in (Events.Receive node peer number) (Out.Received channel seq attempt r) = requeued_by r
+requeued_in (Events.Receive node peer number) (Out.Received channel seq attempt r) = requeue_by r
 requeued_in event o = None
 
 -- an event of the packet network, and a bind of the front message or of nothing
@@ -75,7 +70,7 @@ expired_sends p s (Out.Unknown serial) = refl
 expired_sends p s o = refl
 
 -- a message of this serial is to be sent once more where it is requeued
-received_sends : (t : Serial) (e : EndpointId) (s : State) (r : Received) → to_send (has_serial t) (received e s r).body ≤ to_send (has_serial t) s.body + weight_serial t (requeued_by r)
+received_sends : (t : Serial) (e : EndpointId) (s : State) (r : Received) → to_send (has_serial t) (received e s r).body ≤ to_send (has_serial t) s.body + weight_serial t (requeue_by r)
 received_sends t e s (Got.Accepted m answer) = omega arith
 received_sends t e s (Got.Refused m NotResident answer) = omega arith
 received_sends t e s (Got.Delivered serial) = omega arith

@@ -1,5 +1,5 @@
 -- Which entries each reading reads, and what one entry more makes of it.
-use Rattle.std.proofs.Common.{◌≡◌, ℕ, Bool, true, false, List, [], ◌∷◌, ◌++◌, Option, Some, refl, ap, ◌∙◌, if◌then◌else◌, ◌||◌}
+use Rattle.std.proofs.Common.{◌≡◌, ◌+◌, ℕ, Bool, true, false, List, [], ◌∷◌, ◌++◌, Option, Some, refl, ap, ◌∙◌, if◌then◌else◌, ◌||◌}
 use Rattle.std.specs.List.{filter, filter_map, cons_option}
 use Rattle.std.proofs.lemmas.List.Elements.{filter-append, filter_map-append}
 use Rattle.std.proofs.lemmas.List.Sums.{sum_by_push}
@@ -9,7 +9,7 @@ use Rattle.am_names.specs.declared.Packet.{Packet}
 use Rattle.am_office.specs.declared.Entry.{Entry}
 use Rattle.am_office.specs.Entries.{emitted_of, touches}
 use Rattle.am_model.specs.Channels.{binds, frees, sends, decides, emitted, is_on_link, last_such}
-use Rattle.am_model.specs.History.{channel_to, is_page_call}
+use Rattle.am_model.specs.History.{channel_to, is_page_call, page_calls}
 use Rattle.am_model.proofs.Each.{state_of_push}
 use Rattle.am_model.proofs.Ends.{last_such_push, sequence_push, attempt_push, bound_push, mark_push}
 use Rattle.am_model.proofs.Received.{bit}
@@ -59,3 +59,7 @@ readings_push log x =
       pages = λ node. sum_by_push (λ (y : Entry). bit (is_page_call node y.event)) log x;
       states = λ layout e. state_of_push layout log x e (touches e x) refl;
     }
+
+-- one more page call of a node's driver, or none
+pub calls_push : (node : NodeId) (log : List Entry) (x : Entry) (t : Bool) → is_page_call node x.event ≡ t → page_calls node (log ++ x ∷ []) ≡ page_calls node log + (if t then 1 else 0)
+calls_push node log x t is = (readings_push log x).pages node ∙ ap (λ (b : Bool). page_calls node log + (if b then 1 else 0)) is

@@ -26,7 +26,7 @@ use Rattle.am_model.specs.Changes.{flying_of}
 use Rattle.am_model.specs.Layout.{Layout, home}
 use Rattle.am_model.specs.Channels.{Again, Arrival, Channel, Fresh, Stale, arrival, attempt, bound_message, emitted, is_on_link, mark, sequence}
 use Rattle.am_model.specs.History.{EachAfter, IsHistory, MayFollow, arrive, bind, bind_to, bounced, channel_for, channel_to, counts, decided, expire, is_answered, next_number, outcome_of, receive, sent, settle, settle_by, state_of}
-use Rattle.am_model.proofs.Each.{over_each}
+use Rattle.am_model.proofs.Each.{over_each, each_imply}
 use Rattle.am_local.specs.declared.work.Work.{Work}
 use Rattle.am_local.specs.declared.work.Work.TheVariants as Works
 use Rattle.am_local.specs.Interface.{InterfaceLog, arrival_in, arrive_at, bind_at, channel_in, channel_of_front, event_of, expire_at, has_try_left, home_in, outcome_at, settle_at}
@@ -128,10 +128,6 @@ event_next layout past stamp (Events.Expire node peer channel) =
 event_next layout past stamp (Events.Receive node peer number) =
     numbered node past stamp (emitted_in stamp (Events.Receive node peer number) (outcome_of layout past (Events.Receive node peer number))) (receive_after layout node peer number past stamp (slice_get (emitted peer node past) (number - 1)))
 event_next layout past stamp event = tt
-
-each_imply : (P Q : List Entry → Entry → Type 0) → ((past : List Entry) (x : Entry) → P past x → Q past x) → (past xs : List Entry) → EachAfter P past xs → EachAfter Q past xs
-each_imply P Q imply past [] h = tt
-each_imply P Q imply past (x ∷ xs) h = (imply past x h.0, each_imply P Q imply (past ++ x ∷ []) xs h.1)
 
 pub history_numbered : (layout : Layout) (journal : List Entry) → IsHistory layout journal → AreNumbered journal
 history_numbered layout journal history =

@@ -30,7 +30,7 @@ use Rattle.am_body.specs.declared.settings.EndSettings.{EndSettings}
 use Rattle.am_endpoint.specs.View.{EndpointView, state_after, state_by}
 use Rattle.am_machine.specs.declared.settings.Settings.{Settings}
 use Rattle.am_machine.specs.Carries.{At, IsReady, CarriesFrom, ArrivesAt, carried_at, is_place, least_full}
-use Rattle.am_moves.specs.Logs.{EndLog, kept}
+use Rattle.am_moves.specs.Logs.{EndLog, kept, state_in}
 use Rattle.am_machine.specs.Ends.{grown, logged_at}
 use Rattle.am_machine.specs.Kept.{IsTied, layout_in}
 use Rattle.am_machine.proofs.Applied.{IsHere, IsNext, full_here, only_here, own_here, state_here}
@@ -164,15 +164,12 @@ same_kept vs us k one w same at now =
     let both : Some (kept w) ≡ Some (kept one) = sym (kept_at us k w now) ∙ ap (λ (es : List EndLog). slice_get es k) same ∙ kept_at vs k one at in
     cc
 
-abbrev pub state_in_log : EndLog → State
-state_in_log e = state_by e.settings e.log
-
 pub carriage_carries : (c : Carriage) (x : Entry) → IsEntryOf c x → (us : List EndpointView) → map kept us ≡ map kept c.ends → At us c.from IsReady → At us c.from (CarriesFrom x)
 carriage_carries c x is us same ready w now =
     let as' = same_kept c.ends us c.from c.one w same c.source.at now in
     let own = own_here (layout_of c) c.ends c.journal c.end c.from c.one c.tied c.source in
     let set = ap (λ (e : EndLog). e.settings) as' in
-    let state : state_after w ≡ state_after c.one = ap state_in_log as' in
+    let state : state_after w ≡ state_after c.one = ap state_in as' in
     record {
       ready = ready w now;
       room =
@@ -199,7 +196,7 @@ pub carriage_arrives : (c : Carriage) (x : Entry) → IsEntryOf c x → (us : Li
 carriage_arrives c x is us same ready apart w now =
     let as' = same_kept c.ends us c.to c.two w same c.dest.at now in
     let own = own_here (layout_of c) c.ends c.journal c.queued.message.dest c.to c.two c.tied c.dest in
-    let state : state_after w ≡ state_after c.two = ap state_in_log as' in
+    let state : state_after w ≡ state_after c.two = ap state_in as' in
     let id : w.settings.id ≡ c.two.settings.id = ap (λ (e : EndLog). e.settings.id) as' in
     let came = judged_arrives c.end c.settings.bounces c.queued.message c.queued.bounces c.there in
     record {

@@ -21,7 +21,7 @@ use Rattle.am_model.proofs.Each.{state_of_push}
 use Rattle.am_model.proofs.Names.{same_end-is, same_end-refl}
 use Rattle.am_model.proofs.Unchanged.{paged_out_body}
 use Rattle.am_model.proofs.PlaceKinds.{on_host_not_on_disk}
-use Rattle.am_local.proofs.Growing.{readings_push}
+use Rattle.am_local.proofs.Growing.{readings_push, calls_push}
 use Rattle.am_local.proofs.Homes.{one_home}
 use Rattle.am_laws_disk.specs.Disk.{StaysOnDisk, pages_out}
 use Rattle.am_laws_disk.proofs.Still.{stays}
@@ -45,10 +45,6 @@ unpaged_call node event h = refl
 unpaged_out : (e : EndpointId) (event : Event) → is_page event ≡ false → pages_out e event ≡ false
 unpaged_out e (Events.PageOut at end) h = absurd (true≢false h)
 unpaged_out e event h = refl
-
--- one more call, or none
-calls_push : (node : NodeId) (journal : List Entry) (x : Entry) (t : Bool) → is_page_call node x.event ≡ t → page_calls node (journal ++ x ∷ []) ≡ page_calls node journal + (if t then 1 else 0)
-calls_push node journal x t is = (readings_push journal x).pages node ∙ ap (λ (b : Bool). page_calls node journal + (if b then 1 else 0)) is
 
 -- what is held for another body that is the same
 holds_same : (s t : Store) (pool : Option ℕ) (e : EndpointId) (a b : Body) → held_for t.held e ≡ held_for s.held e → b ≡ a → HoldsBody s pool e a → HoldsBody t pool e b

@@ -97,7 +97,7 @@ interface_found layout journal is node one are packet lt value =
 -- ---- receipts
 
 -- a receipt touches the interface of its node
-receipt_touches : (from to : NodeId) (event : Event) → is_receipt from to event ≡ true → is_node to (node_touched event) ≡ true
+pub receipt_touches : (from to : NodeId) (event : Event) → is_receipt from to event ≡ true → is_node to (node_touched event) ≡ true
 receipt_touches from to (Events.Receive node peer number) h = (and_parts _ _ h).0
 receipt_touches from to event h = absurd (cc)
 

@@ -23,7 +23,7 @@ use Rattle.am_iface.specs.View.{InterfaceView}
 use Rattle.am_device.specs.Memory.{Store}
 use Rattle.am_scripts.specs.Layout.{fault_of, layout_of, setting_of}
 use Rattle.am_journal.specs.View.{AreNodes, IsEarly, IsBetweenNodes}
-use Rattle.am_journal.proofs.Lists.{got_all as all_got}
+use Rattle.am_lemmas.proofs.Lists.{All-slice_get as all_got}
 use Rattle.am_join.proofs.Standing.{behind}
 use Rattle.am_merge.specs.Logs.{IsRising}
 use Rattle.am_merge.specs.Merged.{entries_of}

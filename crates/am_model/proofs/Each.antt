@@ -55,3 +55,8 @@ pub each_append : (May : List Entry → Entry → Type 0) (past xs ys : List Ent
 each_append May past [] ys h k = subst (λ (zs : List Entry). EachAfter May zs ys) (append-nil past) k
 each_append May past (x ∷ xs) ys h k =
     (h.0, each_append May (past ++ x ∷ []) xs ys h.1 (subst (λ (zs : List Entry). EachAfter May zs ys) (sym (append_assoc past (x ∷ []) xs)) k))
+
+-- what holds of each entry by what is before it follows from what does
+pub each_imply : (P Q : List Entry → Entry → Type 0) → ((past : List Entry) (x : Entry) → P past x → Q past x) → (past xs : List Entry) → EachAfter P past xs → EachAfter Q past xs
+each_imply P Q imply past [] h = tt
+each_imply P Q imply past (x ∷ xs) h = (imply past x h.0, each_imply P Q imply (past ++ x ∷ []) xs h.1)

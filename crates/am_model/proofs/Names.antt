@@ -1,11 +1,12 @@
 -- What the tests on names tell.
-use Rattle.std.proofs.Common.{◌≡◌, ◌==◌, true, refl, eqb-true, eq-eqb, List, ◌∷◌, ap, Bool, ◌||◌}
+use Rattle.std.proofs.Common.{◌≡◌, ◌==◌, ℕ, true, refl, eqb-true, eq-eqb, List, [], ◌∷◌, ap, Bool, ◌||◌, Option, map}
 use Rattle.std.proofs.lemmas.Bool.{and_parts, and_from}
 use Rattle.std.specs.List.{list_any}
 use Rattle.am_names.specs.declared.EndpointId.{EndpointId}
 use Rattle.am_names.specs.declared.Serial.{Serial}
 use Rattle.am_names.specs.Names.{same_end, same_serial, same_node}
 use Rattle.am_names.specs.declared.NodeId.{NodeId}
+use Rattle.am_model.specs.Layout.{node_at}
 use Rattle.am_model.specs.Channels.{Channel, same_channel}
 
 pub same_end-is : (a b : EndpointId) → same_end a b ≡ true → a ≡ b
@@ -35,3 +36,8 @@ same_channel-refl c = and_from _ _ (and_from _ _ (same_node-refl c.node) (same_n
 
 pub same_end-first : (e : EndpointId) (es : List EndpointId) → list_any (same_end e) (e ∷ es) ≡ true
 same_end-first e es = ap (λ (b : Bool). b || list_any (same_end e) es) (same_end-refl e)
+
+-- a reading of nodes by their numbers
+pub nodes_fused : {X : Type 0} (f : NodeId → Option X) (ns : List ℕ) → map (λ (k : ℕ). f (node_at k)) ns ≡ map f (map node_at ns)
+nodes_fused f [] = refl
+nodes_fused f (k ∷ ks) = ap (λ xs. f (node_at k) ∷ xs) (nodes_fused f ks)

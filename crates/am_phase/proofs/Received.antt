@@ -2,6 +2,7 @@
 use Rattle.std.specs.Prelude.{slice_get, slice_index_or, MatchOption}
 use Rattle.std.specs.List.{filter, filter_map, cons_option}
 use Rattle.std.proofs.Common.{◌≡◌, ℕ, zero, suc, ◌-◌, ◌<◌, ◌≤◌, Bool, true, false, cond, List, [], ◌∷◌, ◌++◌, length, Option, Some, None, refl, sym, ap, ◌∙◌, subst, arith, Contains}
+use Rattle.am_plan.proofs.Shapes.{number_stamped}
 use Rattle.am_names.specs.declared.NodeId.{NodeId}
 use Rattle.am_names.specs.declared.Packet.{Packet}
 use Rattle.am_names.specs.declared.Packet.TheVariants as Packets
@@ -60,10 +61,6 @@ same_from : (t : ℕ) (p : Packet) → from_of (stamped t p) ≡ from_of p
 same_from t (Packets.Parcel p) = refl
 same_from t (Packets.Answer p) = refl
 
-same_number : (t : ℕ) (p : Packet) → number_of (stamped t p) ≡ number_of p
-same_number t (Packets.Parcel p) = refl
-same_number t (Packets.Answer p) = refl
-
 same_stamped : (t : ℕ) (p : Packet) → stamped t p ≡ restamped t p
 same_stamped t (Packets.Parcel p) = refl
 same_stamped t (Packets.Answer p) = refl
@@ -109,7 +106,7 @@ got_was_sent s logs from to link p rising numbered has =
     from_is = sym (same_from r.stamp p) ∙ at.from
 
     place_is : number_of p - 1 ≡ r.place
-    place_is = let n : number_of (stamped r.stamp p) ≡ number_of p = same_number r.stamp p in let m = at.number in omega (arith, n, m)
+    place_is = let n : number_of (stamped r.stamp p) ≡ number_of p = number_stamped r.stamp p in let m = at.number in omega (arith, n, m)
 
 -- ---- the numbers of an interface's packets
 

@@ -3,6 +3,7 @@ use Rattle.std.specs.Prelude.{drop, nat_lt}
 use Rattle.std.specs.List.{filter}
 use Rattle.std.proofs.Common.{◌≡◌, ◌⊎◌, inl, inr, ℕ, zero, suc, ◌<◌, ◌≤◌, ◌==◌, Bool, true, false, cond, List, [], ◌∷◌, ◌++◌, length, refl, sym, ap, ◌∙◌, subst, arith, append_assoc, append-nil, eq-eqb, ltb-true, ltb-false}
 use Rattle.std.proofs.lemmas.List.Elements.{filter-append}
+use Rattle.am_merge.specs.Merged.{entries_of}
 use lib.Seq.{drop-append_seam}
 use Rattle.am_office.specs.declared.Entry.{Entry}
 use Rattle.am_office.specs.Entries.{touches}
@@ -14,21 +15,17 @@ use Rattle.am_phase.specs.Tenures.{IsAboveAll, IsSeat, RisesFor, own}
 use Rattle.am_phase.specs.Seats.{Enters, Leaves, TakenIsGathered}
 use Rattle.am_phase.proofs.Tenures.{nothing_added, own_append, rises_more}
 
-flat : List (List Entry) → List Entry
-flat [] = []
-flat (xs ∷ xss) = xs ++ flat xss
-
-own_of : (m : ℕ) (ts : List (Tenure Entry)) → own m ts ≡ flat (of m ts)
-unfolding flat
+own_of : (m : ℕ) (ts : List (Tenure Entry)) → own m ts ≡ entries_of (of m ts)
+unfolding entries_of
 own_of m [] = refl
 own_of m (t ∷ ts) = by_test (t.by == m) (own_of m ts)
   where
-    by_test : (b : Bool) → own m ts ≡ flat (of m ts) → cond b (t.items ++ own m ts) (own m ts) ≡ flat (cond b (t.items ∷ of m ts) (of m ts))
+    by_test : (b : Bool) → own m ts ≡ entries_of (of m ts) → cond b (t.items ++ own m ts) (own m ts) ≡ entries_of (cond b (t.items ∷ of m ts) (of m ts))
     by_test true more = ap (λ (xs : List Entry). t.items ++ xs) more
     by_test false more = more
 
 same_own : (m : ℕ) (ts us : List (Tenure Entry)) → of m ts ≡ of m us → own m ts ≡ own m us
-same_own m ts us h = own_of m ts ∙ ap flat h ∙ sym (own_of m us)
+same_own m ts us h = own_of m ts ∙ ap entries_of h ∙ sym (own_of m us)
 
 pub enters : Enters
 enters made e m place x log k begins own_tenures =

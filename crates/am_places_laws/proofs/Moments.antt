@@ -3,9 +3,10 @@ use Rattle.std.proofs.Common.{◌≡◌, ◌≢◌, ◌↔◌, inl, inr, [], ◌
 use mathlib.Core.Option.{some, some-injective}
 use lib.ListN.{get_elem?}
 use Rattle.std.specs.Prelude.{Some, slice_get}
+use Rattle.std.proofs.lemmas.Bool.{cases_eq}
 use Rattle.atomic_table.proofs.Lists.{at_longer, at_map}
 use Rattle.am_names.specs.declared.EndpointId.{EndpointId}
-use Rattle.am_places.proofs.Ends.{and_left, and_right, both_ways, decided, held_by, which}
+use Rattle.am_places.proofs.Ends.{and_left, and_right, both_ways, held_by, which}
 use Rattle.am_places.proofs.Steps.{at_map_back}
 use Rattle.am_places.specs.Rule.{At, FrameFits, Line, calm, column, has, joined, known_at, line, stirs, word_of}
 use Rattle.am_places.specs.declared.board.Pass.{Pass}
@@ -59,7 +60,7 @@ module _ {B I T : Type 0} (items : B → List I) (birth : B → T) (stands : B �
       let r : Here k = t.kept.each k near in
       let h = held_by items birth stands moves t.kept.facts k (holder items birth stands moves t k) (shown items birth stands moves t k) (get_elem? t.state.homes k) (column k views) r p (line k v) (at_map (line k) views p v at) inside in
       record {
-        alone = λ q w there yes. ⊎_elim (λ (e : q ≡ p). e) (λ ne. both_ways (known_at k w).inside yes (h.6 q (line k w) (at_map (line k) views q w there) ne)) (decided q p);
+        alone = λ q w there yes. ⊎_elim (λ (e : q ≡ p). e) (λ ne. both_ways (known_at k w).inside yes (h.6 q (line k w) (at_map (line k) views q w there) ne)) (cases_eq q p);
         all = λ q w there. let b = r.seen q (line k w) (at_map (line k) views q w there) in (b.0, h.3 ∙ b.1);
         shows = h.4 ∙ ap (λ (l : List (Tenure I)). word_of (known_at k v).place (length (joined l))) (sym h.3);
       }
@@ -134,4 +135,4 @@ module _ {B I T : Type 0} (items : B → List I) (birth : B → T) (stands : B �
         claimed = λ q w at drives. ap (λ (l : List ℕ). get_or l f 0) (t.kept.drives q w at drives) ∙ claimed_for k f e is frame names;
       }))
       (λ other. let fit = frame_words_fit_places p k v e live is other in inl (fit.1, fit.2 ∙ ap (λ (place : ℕ). word_of place fit.1) ((fit.3 f frame).0 names)))
-      (decided (holder items birth stands moves t k) v.seats)
+      (cases_eq (holder items birth stands moves t k) v.seats)

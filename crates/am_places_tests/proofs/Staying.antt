@@ -1,6 +1,7 @@
 -- How a stay changes what is known of a seat.
 use Rattle.std.proofs.Common.{◌≡◌, ℕ, ◌<◌, ◌≢◌, Bool, true, false, List, [], ◌∷◌, ◌++◌, zero, suc, ◌≤◌, arith, get_or, set, length, sym, refl, ap, ◌∙◌, subst, ⊎_elim, append-nil, append_assoc, eq-eqb, length-set, get_or-set_same, get_or-set_other}
 use Rattle.std.specs.Prelude.{None, ◌==◌}
+use Rattle.std.proofs.lemmas.Bool.{cases_eq}
 use mathlib.Core.Option.{some}
 use lib.ListN.{get_elem?}
 use Rattle.atomic_table.specs.Table.{rest}
@@ -11,7 +12,6 @@ use Rattle.am_places.specs.Rule.{Comes, FrameFits, IsOutside, joined, known_at, 
 use Rattle.am_places.specs.declared.board.Known.{Known}
 use Rattle.am_places.specs.declared.board.Pass.{Pass}
 use Rattle.am_places.specs.declared.board.Tenure.{Tenure}
-use Rattle.am_places.proofs.Ends.{decided}
 use Rattle.am_places_tests.specs.Stays.{IsInside, IsWaiting, Token}
 use Rattle.am_places_tests.specs.declared.notes.Notes.{Notes}
 
@@ -84,7 +84,7 @@ leaves id at m was now b i same near is =
       outside = λ k near'. ap (λ (m : V). (known_at k m).inside) u ∙ ⊎_elim
           (λ (e : k ≡ at). ap (λ (m : ℕ). (known_at m z).inside) e ∙ ap (λ m. m.inside) (get_or-set_same v.known at x nothing near))
           (λ (ne : k ≢ at). ap (λ m. m.inside) (get_or-set_other v.known at k x nothing ne) ∙ i.elsewhere k ne (subst (λ (m : ℕ). k < m) (ap (λ (m : V). length m.known) u ∙ length-set v.known at x) near'))
-          (decided k at);
+          (cases_eq k at);
       keeps = ap (λ (m : V). m.keeps) u ∙ i.keeps ∙ ap (λ (m : V). m.mark ∷ []) (sym u);
     }
 

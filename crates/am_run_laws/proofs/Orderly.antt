@@ -16,13 +16,10 @@ use Rattle.am_drain.specs.declared.Turn.TheVariants.{Make}
 use Rattle.am_drain.specs.Drain.{after_turn, after_turns}
 use Rattle.am_drain.specs.Follows.{IsGoodPhase}
 use Rattle.am_drain.specs.Made.{next_entry}
-use Rattle.am_drain.proofs.LastTries.{receipt_same}
+use Rattle.am_drain.proofs.LastTries.{receipt_same, Keeps}
 use Rattle.am_drain.proofs.TurnKinds.{IsDueReceipt, IsNoReceipt, Kind, Receipt, Plain, Call, kind_of}
 use Rattle.am_drain.proofs.Turns.{Grows, event_of, over_turns, ready_keeps, turn_grows}
-use Rattle.am_drain.proofs.Receipts.{driven_receipt}
-
-abbrev ComesLast : ScenarioLists → List Entry → Entry → Type 0
-ComesLast s past x = (not (is_last s past x) || is_all_received s past) ≡ true
+use Rattle.am_drain.proofs.Receipts.{driven_receipt, no_receipt}
 
 abbrev IsInTurn : ScenarioLists → List Entry → Entry → Type 0
 IsInTurn s past x = IsReceiptInOrder s past x.event
@@ -31,9 +28,9 @@ pub record IsKept (s : ScenarioLists) (past : List Entry) : Type 0 where
   pub in_order : ReceivesInOrder s past
   pub last_tries : KeepsLastTries s past
 
-kept_more : (s : ScenarioLists) (past : List Entry) (x : Entry) → IsKept s past → IsInTurn s past x → ComesLast s past x → IsKept s (past ++ x ∷ [])
+kept_more : (s : ScenarioLists) (past : List Entry) (x : Entry) → IsKept s past → IsInTurn s past x → Keeps s past x → IsKept s (past ++ x ∷ [])
 kept_more s past x k turn last =
-    record { in_order = each_push (IsInTurn s) [] past x k.in_order turn; last_tries = each_push (ComesLast s) [] past x k.last_tries last }
+    record { in_order = each_push (IsInTurn s) [] past x k.in_order turn; last_tries = each_push (Keeps s) [] past x k.last_tries last }
 
 -- ---- while nothing is to be received
 
@@ -41,13 +38,9 @@ record IsCalm (s : ScenarioLists) (past : List Entry) : Type 0 where
   kept : IsKept s past
   none : next_receipt s past ≡ None
 
-receives_none : (s : ScenarioLists) (past : List Entry) (event : Event) → IsNoReceipt event → IsReceiptInOrder s past event
-receives_none s past (Events.Receive node peer number) none = absurd none
-receives_none s past event none = tt
-
 calm_more : (s : ScenarioLists) (past : List Entry) (x : Entry) → IsCalm s past → IsNoReceipt x.event → IsKept s (past ++ x ∷ [])
 calm_more s past x c none =
-    kept_more s past x c.kept (receives_none s past x.event none)
+    kept_more s past x c.kept (no_receipt s past x.event none)
     (ap (λ (o : Option Event). not (is_last s past x) || is_none o) c.none ∙ or-true (not (is_last s past x)))
 
 calm_grows : (s : ScenarioLists) (past next : List Entry) (event : Event) → Grows (layout_of s) past event next → IsCalm s past → IsNoReceipt event → IsKept s next
@@ -76,5 +69,5 @@ turns_keep n s phase journal good e =
     over_turns n s (IsKept s) (λ (before : List Entry) (t : Turn) k is. kept_by s before t k (kind_of s before t is)) phase journal
     (record {
       in_order = good.in_order;
-      last_tries = over_each (λ (past : List Entry) (x : Entry). is_last s past x ≡ false) (KeepsLastTries s) (λ past x k e'. each_push (ComesLast s) [] past x k (ap (λ (b : Bool). not b || is_all_received s past) e')) [] phase tt good.is_phase.no_last;
+      last_tries = over_each (λ (past : List Entry) (x : Entry). is_last s past x ≡ false) (KeepsLastTries s) (λ past x k e'. each_push (Keeps s) [] past x k (ap (λ (b : Bool). not b || is_all_received s past) e')) [] phase tt good.is_phase.no_last;
     }) e

@@ -29,11 +29,11 @@ use Rattle.am_model.specs.History.{state_of, is_in_range, is_four_bytes, receive
 use Rattle.am_model.specs.Layout.{Layout}
 use Rattle.am_model.proofs.Ends.{was_emitted}
 use Rattle.am_laws_order.proofs.Effects.{link_of_answer}
-use Rattle.am_laws_order.proofs.Marks.{IsPast, back, fresh_means, link_of, no_answer, settle_answers, settle_decides}
+use Rattle.am_laws_order.proofs.Marks.{IsPast, fresh_means, link_of, no_answer, settle_answers, settle_decides}
 use Rattle.am_laws_order.proofs.Puts.{link_of_parcel}
 use Rattle.am_run_laws.proofs.Fits.{IsForGood, fits_for_good}
 use Rattle.am_run_laws.proofs.Zone.{FitsOf, Zone, Receives, Comes, undeciding, undecided_more, decided_more}
-use Rattle.am_model.specs.Cluster.{answer_channel}
+use Rattle.am_model.specs.Cluster.{answer_channel, other_end}
 
 -- what is answered again is what the mark says, on the sequence that it is at
 again_is : (m : Mark) (v : Verdict) (seq attempt : ℕ) (w : Verdict) → arrival_at m v seq attempt ≡ Again w → (w ≡ v) × (seq ≡ m.seq)
@@ -172,7 +172,7 @@ parcel_stays layout from past x node peer number o p r is z = by_arrival (arriva
               (λ b new above.
               let same : record { from = node; to = peer; channel = p.channel; seq = p.seq; attempt = p.attempt; number = next_number node peer past; stamp = x.stamp; verdict = v } ≡ b = again_answer node peer p.channel p.seq p.attempt x.stamp (next_number node peer past) v b (sym (silent_emits layout past x node peer number (Out.Received p.channel p.seq p.attempt (Got.Again p.message.serial v (next_number node peer past))) r now) ∙ new) in
               let w = again_is (mark (channel_to node peer p.channel) past) (mark (channel_to node peer p.channel) past).verdict p.seq p.attempt v at in
-              let first : sequence (back (channel_to node peer p.channel)) from < p.seq = subst (λ (c : AnswerPacket). sequence (back (answer_channel c)) from < c.seq) (sym same) above in
+              let first : sequence (other_end (channel_to node peer p.channel)) from < p.seq = subst (λ (c : AnswerPacket). sequence (other_end (answer_channel c)) from < c.seq) (sym same) above in
               let good : IsForGood (mark (channel_to node peer p.channel) past).verdict = z.good.marks (channel_to node peer p.channel) (omega (arith, first, w.1)) in
               subst (λ (c : AnswerPacket). IsForGood c.verdict) same (subst (λ (u : Verdict). IsForGood u) (sym w.0) good))
               z;
@@ -240,8 +240,8 @@ returns_for_good layout from past x node peer number o s cause r z e =
     let k = return_is layout past x node peer number s cause r e in
     let a : AnswerPacket = k.answer in
     let was = was_emitted peer node past (number - 1) (Packets.Answer a) k.packet in
-    let on : back (answer_channel a) ≡ channel_to node peer a.channel = link_of_answer peer node a was.1 in
+    let on : other_end (answer_channel a) ≡ channel_to node peer a.channel = link_of_answer peer node a was.1 in
     let since : sequence (channel_to node peer a.channel) from < sequence (channel_to node peer a.channel) past = z.since.bound (channel_to node peer a.channel) k.message k.bound in
-    let first : sequence (back (answer_channel a)) from ≡ sequence (channel_to node peer a.channel) from = ap (λ (c : Channel). sequence c from) on in
+    let first : sequence (other_end (answer_channel a)) from ≡ sequence (channel_to node peer a.channel) from = ap (λ (c : Channel). sequence c from) on in
     let good : IsForGood a.verdict = z.good.answers a was.0 (omega (arith, since, first, k.seq')) in
     subst (λ (v : Verdict). IsForGood v) k.refused good

@@ -25,12 +25,12 @@ use Rattle.am_model.specs.Layout.{Layout}
 use Rattle.am_model.proofs.Each.{state_of_push}
 use Rattle.am_model.proofs.Ends.{EmittedIn, emitted_more, mark_push}
 use Rattle.am_model.proofs.Names.{same_channel-refl}
-use Rattle.am_laws_order.proofs.Marks.{IsPast, back, parcel_no_answer}
+use Rattle.am_laws_order.proofs.Marks.{IsPast, parcel_no_answer}
 use Rattle.am_laws_order.proofs.Parcels.{receive_no_parcel}
 use Rattle.am_laws_order.proofs.Puts.{IsFresh, fresh_before}
 use Rattle.am_laws_order.proofs.Senders.{SenderMoves, sender, sender_moves}
 use Rattle.am_run_laws.proofs.Fits.{fits, IsForGood, received_fits}
-use Rattle.am_model.specs.Cluster.{answer_channel, parcel_channel}
+use Rattle.am_model.specs.Cluster.{answer_channel, parcel_channel, other_end}
 
 -- ---- what is on its way
 
@@ -50,8 +50,8 @@ pub record OneFresh (layout : Layout) (past : List Entry) (o : Option Parcel) : 
 
 -- the verdicts on sequences that began since are for good, and so are the answers
 pub record ForGoodSince (from past : List Entry) : Type 0 where
-  pub marks : (d : Channel) → sequence (back d) from < (mark d past).seq → IsForGood (mark d past).verdict
-  pub answers : (a : AnswerPacket) → EmittedIn (Packets.Answer a) past → sequence (back (answer_channel a)) from < a.seq → IsForGood a.verdict
+  pub marks : (d : Channel) → sequence (other_end d) from < (mark d past).seq → IsForGood (mark d past).verdict
+  pub answers : (a : AnswerPacket) → EmittedIn (Packets.Answer a) past → sequence (other_end (answer_channel a)) from < a.seq → IsForGood a.verdict
 
 -- a channel that is bound was bound since
 pub record BoundSince (from past : List Entry) : Type 0 where
@@ -113,7 +113,7 @@ good_more : (from past : List Entry) (x : Entry) → receives_nothing x.event �
 good_more from past x nothing k =
     record {
       marks = λ d.
-          subst (λ (m : Mark). sequence (back d) from < m.seq → IsForGood m.verdict) (sym (same_mark past x d (undecided d x.event x.outcome nothing))) (k.marks d);
+          subst (λ (m : Mark). sequence (other_end d) from < m.seq → IsForGood m.verdict) (sym (same_mark past x d (undecided d x.event x.outcome nothing))) (k.marks d);
       answers = λ a there above.
           ⊎_elim
           (λ (old : EmittedIn (Packets.Answer a) past). k.answers a old above)
@@ -184,7 +184,7 @@ room_more layout past x node peer number (Some p) ev none room = by_test (touche
 
 -- what a receipt answers is for good, where it is on a sequence that began since
 abbrev pub AnswersForGood : List Entry → Entry → Type 0
-AnswersForGood from x = (a : AnswerPacket) → emitted_of x ≡ Some (Packets.Answer a) → sequence (back (answer_channel a)) from < a.seq → IsForGood a.verdict
+AnswersForGood from x = (a : AnswerPacket) → emitted_of x ≡ Some (Packets.Answer a) → sequence (other_end (answer_channel a)) from < a.seq → IsForGood a.verdict
 
 pub undecided_more : (layout : Layout) (from past : List Entry) (x : Entry) (node peer : NodeId) (number : ℕ) (o : Option Parcel) → Receives layout past x node peer number → undeciding x.outcome ≡ true → AnswersForGood from x → Zone layout from past o → Zone layout from (past ++ x ∷ []) o
 undecided_more layout from past x node peer number o r none answers k =
@@ -201,7 +201,7 @@ undecided_more layout from past x node peer number o r none answers k =
       good =
           record {
             marks = λ d.
-                subst (λ (m : Mark). sequence (back d) from < m.seq → IsForGood m.verdict)
+                subst (λ (m : Mark). sequence (other_end d) from < m.seq → IsForGood m.verdict)
                 (sym (same_mark past x d (ap (λ (v : Event). decides d v x.outcome) r.event' ∙ not_decided d node peer number x.outcome none))) (k.good.marks d);
             answers = λ a there above.
                 ⊎_elim
@@ -218,7 +218,7 @@ undecided_more layout from past x node peer number o r none answers k =
 pub record Comes (layout : Layout) (past : List Entry) (node peer : NodeId) (p : Parcel) : Type 0 where
   pub there : EmittedIn (Packets.Parcel p) past
   pub within : IsBetween layout p
-  pub on : back (parcel_channel p) ≡ channel_to node peer p.channel
+  pub on : other_end (parcel_channel p) ≡ channel_to node peer p.channel
   pub fresh : IsFresh past p
 
 pub not_past : (v : Verdict) (seq attempt : ℕ) → IsPast (record { seq = seq; attempt = attempt; verdict = v }) seq attempt → ⊥
@@ -267,11 +267,11 @@ decided_more layout from past x node peer number p n v o k z =
     now : Outcome
     now = Out.Received p.channel p.seq p.attempt (decided p.message n v)
 
-    marked : mark (back (parcel_channel p)) (past ++ x ∷ []) ≡ record { seq = p.seq; attempt = p.attempt; verdict = v }
+    marked : mark (other_end (parcel_channel p)) (past ++ x ∷ []) ≡ record { seq = p.seq; attempt = p.attempt; verdict = v }
     marked =
-        mark_push (back (parcel_channel p)) past x true
-        (ap (λ (w : Event). decides (back (parcel_channel p)) w x.outcome) k.receives.event'
-        ∙ (ap (decides (back (parcel_channel p)) (Events.Receive node peer number)) k.outcome'
+        mark_push (other_end (parcel_channel p)) past x true
+        (ap (λ (w : Event). decides (other_end (parcel_channel p)) w x.outcome) k.receives.event'
+        ∙ (ap (decides (other_end (parcel_channel p)) (Events.Receive node peer number)) k.outcome'
         ∙ (ap (λ (c : Channel). decides c (Events.Receive node peer number) (Out.Received p.channel p.seq p.attempt (decided p.message n v))) k.comes.on
         ∙ decides_now node peer number p.channel p.seq p.attempt p.message n v)))
         ∙ (ap mark_in k.outcome' ∙ decided_mark p.channel p.seq p.attempt p.message n v)
@@ -282,14 +282,14 @@ decided_more layout from past x node peer number p n v o k z =
         let same : q ≡ p = cc in
         not_past v p.seq p.attempt (subst (λ (m : Mark). IsPast m p.seq p.attempt) marked (subst (λ (r : Parcel). IsFresh (past ++ x ∷ []) r) same fresh))
 
-    marks : (d : Channel) (b : Bool) → decides d x.event x.outcome ≡ b → sequence (back d) from < (mark d (past ++ x ∷ [])).seq → IsForGood (mark d (past ++ x ∷ [])).verdict
+    marks : (d : Channel) (b : Bool) → decides d x.event x.outcome ≡ b → sequence (other_end d) from < (mark d (past ++ x ∷ [])).seq → IsForGood (mark d (past ++ x ∷ [])).verdict
     marks d true is above =
         subst (λ (m : Mark). IsForGood m.verdict)
         (sym (mark_push d past x true is ∙ (ap mark_in k.outcome' ∙ decided_mark p.channel p.seq p.attempt p.message n v))) k.good
     marks d false is above =
-        subst (λ (m : Mark). sequence (back d) from < m.seq → IsForGood m.verdict) (sym (same_mark past x d is)) (z.good.marks d) above
+        subst (λ (m : Mark). sequence (other_end d) from < m.seq → IsForGood m.verdict) (sym (same_mark past x d is)) (z.good.marks d) above
 
-    answers : (a : AnswerPacket) → EmittedIn (Packets.Answer a) (past ++ x ∷ []) → sequence (back (answer_channel a)) from < a.seq → IsForGood a.verdict
+    answers : (a : AnswerPacket) → EmittedIn (Packets.Answer a) (past ++ x ∷ []) → sequence (other_end (answer_channel a)) from < a.seq → IsForGood a.verdict
     answers a there above =
         ⊎_elim
         (λ (old : EmittedIn (Packets.Answer a) past). z.good.answers a old above)

@@ -33,7 +33,7 @@ stop_none None None h = (refl, refl)
 stop_none None (Some p) h = absurd (cc)
 stop_none (Some c) l h = absurd (cc)
 
-stop_refused : (f : Option Condition) (l : Option Part) (c : Condition) → stop_by f l ≡ Some (NotEnabled c) → f ≡ Some c
+pub stop_refused : (f : Option Condition) (l : Option Part) (c : Condition) → stop_by f l ≡ Some (NotEnabled c) → f ≡ Some c
 stop_refused None None c h = absurd (cc)
 stop_refused None (Some p) c h = absurd (cc)
 stop_refused (Some d) l c h = cc

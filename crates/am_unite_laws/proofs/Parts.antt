@@ -6,6 +6,7 @@ use Rattle.std.proofs.lemmas.Bool.{and_parts}
 use lib.ListN.{get_elem?}
 use mathlib.Core.Option.{some}
 use Rattle.am_lemmas.proofs.Lists.{map_twice}
+use Rattle.am_machine.proofs.Looks.{receipt_touches}
 use Rattle.am_names.specs.declared.NodeId.{NodeId}
 use Rattle.am_names.specs.Names.{same_node}
 use Rattle.am_office.specs.declared.Entry.{Entry}
@@ -86,10 +87,6 @@ same_lists s r (p ∷ ps) a (suc n) all each =
     λ i. head i ++ tail i
 
 -- ---- receipts
-
-receipt_here : (from to : NodeId) (e : Event) → is_receipt from to e ≡ true → is_node to (node_touched e) ≡ true
-receipt_here from to (Events.Receive node peer number) h = (and_parts (same_node to node) (same_node from peer) h).0
-receipt_here from to e h = absurd (cc)
 
 -- ---- a declared endpoint of the node
 
@@ -190,5 +187,5 @@ module _ (s : ScenarioLists) (r : RunEnd) (end : IsEnded s r) (node : NodeId) (d
         received' =
             λ k n at.
             e.received' k n at ∙ ap (receipts (node_at k) node) own_log
-            ∙ count_within (λ (x : Entry). is_receipt (node_at k) node x.event) (touches_node node) (λ x h. receipt_here (node_at k) node x.event h) journal;
+            ∙ count_within (λ (x : Entry). is_receipt (node_at k) node x.event) (touches_node node) (λ x h. receipt_touches (node_at k) node x.event h) journal;
       }

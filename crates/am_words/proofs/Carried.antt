@@ -3,7 +3,8 @@ use Rattle.std.proofs.Common.{◌≡◌, ℕ, zero, suc, ◌-◌, ◌<◌, ◌�
 use Rattle.std.proofs.lemmas.Bool.{le-leb}
 use Rattle.std.proofs.lemmas.List.{length-replicate, take_at, drop_at}
 use Rattle.am_lemmas.proofs.Bytes.{three_words_back, bytes-padded}
-use Rattle.am_words.specs.Codes.{code, padded, word_in}
+use Rattle.am_pieces.specs.Blocks.{padded}
+use Rattle.am_words.specs.Codes.{code, word_in}
 use Rattle.am_pieces.specs.Pieces.{bytes_in, are_zero}
 
 all_zero : (n : ℕ) → are_zero (replicate n 0) ≡ true

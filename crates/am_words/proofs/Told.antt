@@ -15,6 +15,7 @@ use Rattle.std.proofs.lemmas.List.Elements.{All-nil, All-cons, All-head, All-tai
 use Rattle.std.proofs.lemmas.Map.Entries.{lookup_from_place}
 use Rattle.std.proofs.lemmas.Map.Keys.{sorted_head, sorted_tail, IsDistinct-from_sorted}
 use Rattle.std.proofs.lemmas.Option.{slice_get-get_or}
+use Rattle.am_lemmas.proofs.Numbers.{eqb_more}
 use Rattle.am_words.specs.declared.tally.Count.{Count}
 use Rattle.am_words.specs.Counts.{Counted, IsCountOf, Tells, capped, count_at, row_of, rows_of, same_word, times}
 use Rattle.am_words.specs.Lists.{WordCountLists}
@@ -111,9 +112,6 @@ pair asked ran = record { asked = asked; ran = ran }
 positive : (n : ℕ) → (n == 0) ≡ false → 0 < n
 positive n e = grind (arith, nat_tests)
 
-not_zero : (n : ℕ) → 0 < n → (n == 0) ≡ false
-not_zero n e = grind (arith, nat_tests)
-
 some_sent : (e : List ℕ × Count) (a r : ℕ) → e.1 ≡ pair (capped a) (capped r) → (e.1.asked == 0) ≡ false → 0 < a
 some_sent e a r is some =
     let here : e.1.asked ≡ capped a = ap (λ (c : Count). c.asked) is in
@@ -131,7 +129,7 @@ has_word : (word : List ℕ) (counted : Counted) (o : Option Count) (a r : ℕ) 
 has_word word counted None a r at is some = let none : 0 ≡ capped a = ap (λ (c : Count). c.asked) is in absurd (omega arith)
 has_word word counted (Some count) a r at is some =
     let here : count.asked ≡ capped a = ap (λ (c : Count). c.asked) is in
-    has_row word counted count at (not_zero count.asked (omega arith))
+    has_row word counted count at (eqb_more count.asked 0 (omega arith))
 
 pub rows_count : (counted : Counted) (asked ran : List (List ℕ)) → IsStrictlySortedBy (slice_cmp nat_cmp) (keys_of counted) → Tells counted asked ran → ((word : List ℕ) → times ran word ≤ times asked word) → ((word : List ℕ) → times asked word < 0xffff_ffff_ffff_ffff) → IsCountOf asked ran (rows_of counted)
 rows_count counted asked ran sorted tells few small =

@@ -1,13 +1,10 @@
 -- A word in the four words of a request: its length, and its bytes with zeros after them.
 use Rattle.std.specs.Prelude.{ℕ, ◌-◌, ◌^◌, ◌<◌, ◌&&◌, nat_le, List, ◌++◌, length, take, drop, map, sum, replicate, if◌then◌else◌, Option, Some, None}
+use Rattle.am_pieces.specs.Blocks.{padded}
 use Rattle.am_names.specs.declared.Words.{Words}
 use Rattle.am_words.specs.declared.codes.CodedWord.{CodedWord}
 use Rattle.am_words.specs.Texts.{short_words}
 use Rattle.am_pieces.specs.Pieces.{word_at, bytes_in, are_zero}
-
--- 24 bytes: these, and zeros after them
-abbrev pub padded : List ℕ → List ℕ
-padded word = word ++ replicate (24 - length word) 0
 
 -- the four words that carry a word
 unfoldable pub code : List ℕ → Words

@@ -2,7 +2,8 @@
 
 ghost use Rattle.std.specs.Prelude.{◌≡◌, ◌<◌, ◌≤◌, ◌^◌, length, sum};
 ghost use Rattle.am_pieces.specs.Pieces.{word_at};
-ghost use Rattle.am_words.specs.Codes.{Fits, code, coded, padded};
+ghost use Rattle.am_pieces.specs.Blocks.{padded};
+ghost use Rattle.am_words.specs.Codes.{Fits, code, coded};
 
 use am_names::Words;
 

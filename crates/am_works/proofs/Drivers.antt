@@ -5,7 +5,7 @@ use Rattle.std.proofs.Common.{◌≡◌, ◌≢◌, ◌⊎◌, ⊎_elim, ℕ, su
 use Rattle.std.proofs.lemmas.List.{length_push}
 use Rattle.std.proofs.lemmas.List.Sums.{count_by-le-length}
 use mathlib.Core.Bool.{or-false}
-use Rattle.std.proofs.lemmas.Bool.{and_from, not-true, or_right}
+use Rattle.std.proofs.lemmas.Bool.{and_from, not-true, or_right, cases_eq}
 use Rattle.am_lemmas.proofs.Bools.{and_first, and_second}
 use Rattle.am_lemmas.proofs.Options.{some_is, cond-None}
 use Rattle.am_names.specs.declared.EndpointId.{EndpointId}
@@ -31,7 +31,7 @@ use Rattle.am_model.proofs.Names.{same_end-is, same_node-refl}
 use Rattle.am_local.specs.Driver.{DriverLog, changes_frame, end_moved, failing_move, is_frame_held_by, lies_in, outcome_move, page_number}
 use Rattle.am_local.specs.Together.{faults_of}
 use Rattle.am_model.proofs.PlaceKinds.{on_host_in_no_frame, framed_is_resident}
-use Rattle.am_local.proofs.Growing.{readings_push}
+use Rattle.am_local.proofs.Growing.{readings_push, calls_push}
 use Rattle.am_driver.specs.Chosen.{Suits}
 use Rattle.am_driver.specs.Lists.{ViewLists}
 use Rattle.am_driver.specs.Moves.{has_frame, is_free, is_leaving, is_open_on_host, next_move}
@@ -58,7 +58,7 @@ use Rattle.am_works.specs.Stands.{TouchOnly}
 use Rattle.am_works.specs.Works.{DriverWorks, IsMoveThenHere}
 use Rattle.am_works.proofs.Driving.{IsFoundAt, born_at, found_of, free_at, line_at, line_there, looks_keep, moves_keep, others_still, same_event, suits_here, unframed}
 use Rattle.am_works.proofs.Keeping.{joined_append, known_else, only_of, seen_here, seen_more}
-use Rattle.am_works.proofs.Keeps.{all_push, all_within, begins_then, rising_push, same_or}
+use Rattle.am_works.proofs.Keeps.{all_push, all_within, begins_then, rising_push}
 use Rattle.am_works.proofs.Staying.{replay_append}
 use Rattle.am_works.proofs.Stands.{got_any, got_low, stands_on, stays_keep}
 
@@ -133,7 +133,7 @@ drivers_look s ids node turns k clock view view' swap v w h l =
         (let id : l.set.id ≡ e = some_end (sym at_place ∙ ap (slice_get ids) (sym same) ∙ at) in
         coe 0 1 (i. LiesAsMoved h.made (id i) (replay (id i) (opening (layout_of s) (id i)) (seen_log (sym same i) w))) here))
         (λ (other : j ≢ k). subst (λ (xs : List Entry). LiesAsMoved h.made e (replay e (opening (layout_of s) e) xs)) (sym (log_else s ids h.made [] k l.set l.place l.log v w h.knows l.stays j other)) (h.frames j e at))
-        (same_or j k)
+        (cases_eq j k)
       where
         some_end : Some l.set.id ≡ Some e → l.set.id ≡ e
         some_end g = cc
@@ -210,9 +210,6 @@ swap_fails : (s : Store) (e : EndLog) (event : Event) → (swap_with s e event).
 swap_fails s e (Events.PageOut node end) = call_fails s (with_held s e.settings.id (image (state_in e).body)) refl
 swap_fails s e (Events.PageIn node end) = call_fails s s refl
 swap_fails s e event = refl
-
-calls_push : (node : NodeId) (made : List Entry) (x : Entry) (b : Bool) → is_page_call node x.event ≡ b → page_calls node (made ++ x ∷ []) ≡ page_calls node made + (if b then 1 else 0)
-calls_push node made x b is = (readings_push made x).pages node ∙ ap (λ (t : Bool). page_calls node made + (if t then 1 else 0)) is
 
 no_more : (n : ℕ) → n + 0 ≡ n
 no_more n = omega arith
@@ -441,7 +438,7 @@ drivers_go_on s ids node turns k clock view view' swap swap' v w x d h m =
             let seen : is_in_frame frame (replay b.set.id (opening (layout_of s) b.set.id) (seen_log j v)).head.place ≡ false =
             ap (λ (o : State). is_in_frame frame (replay b.set.id o (seen_log j v)).head.place) (sym (h.born j b.set b.at).opens) ∙ ap (λ (l : EndView). is_in_frame frame l.place) (sym p.shows) ∙ free in
             sym (h.frames j g at frame) ∙ ap (λ (i : EndpointId). is_in_frame frame (replay i (opening (layout_of s) i) (seen_log j v)).head.place) (sym id) ∙ seen))
-            (same_or j k)
+            (cases_eq j k)
 
     may_now : failing_move log state x.event ≡ None
     may_now = enabled shown node log m.set (joined m.log) (next_move shown) x.event suits event in_ends none_held
@@ -482,7 +479,7 @@ drivers_go_on s ids node turns k clock view view' swap swap' v w x d h m =
         (λ (other : j ≢ k).
         subst (λ (xs : List Entry). LiesAsMoved (h.made ++ x ∷ []) e (replay e (opening (layout_of s) e) xs)) (sym (log_else s ids h.made (x ∷ []) k m.set m.place m.log framed w knows_framed m.stays j other))
         (frames_are_known.elsewhere h.made e (replay e (opening (layout_of s) e) (seen_log j v)) x (h.frames j e at) (frame_kept e m.set.id x.event m.end (other_end other (same_end e m.set.id) refl))))
-        (same_or j k)
+        (cases_eq j k)
       where
         other_end : j ≢ k → (b : Bool) → same_end e m.set.id ≡ b → b ≡ false
         other_end apart false is = refl

@@ -2,10 +2,11 @@
 use Rattle.std.specs.Prelude.{not, slice_get, slice_index, slice_index_or, slice_set}
 use Rattle.std.specs.List.{list_any}
 use Rattle.std.proofs.Common.{◌≡◌, ◌≢◌, ◌⊎◌, ⊎_elim, ℕ, zero, suc, ◌+◌, ◌<◌, ◌≤◌, ◌==◌, Bool, true, false, cond, ◌||◌, ◌&&◌, List, [], ◌∷◌, ◌++◌, length, drop, Option, Some, None, refl, sym, ap, ◌∙◌, subst, arith, append-nil, eqb-true, length-append, true≢false}
-use Rattle.std.proofs.lemmas.Bool.{and_parts}
+use Rattle.std.proofs.lemmas.Bool.{and_parts, cases_eq}
 use lib.ListN.{get_elem?}
 use mathlib.Core.Option.{some}
 use Rattle.std.proofs.lemmas.List.{length-set}
+use Rattle.am_lemmas.proofs.Numbers.{eqb_more}
 use Rattle.am_lemmas.proofs.Bools.{and_first}
 use Rattle.am_names.specs.declared.EndpointId.{EndpointId}
 use Rattle.am_names.specs.declared.NodeId.{NodeId}
@@ -42,7 +43,7 @@ use Rattle.am_moves.specs.Moves.{swap_with}
 use Rattle.am_works.specs.Drives.{CanDrive, KnowsPlace, LiesSo, LooksKeep, MovesKeep, frames_after, last_after, line_by, log_of, with_frames, with_line}
 use Rattle.am_works.specs.Seats.{EndPass, Stays}
 use Rattle.am_works.proofs.Keeping.{joined_append, push_all}
-use Rattle.am_works.proofs.Keeps.{left_log, same_or}
+use Rattle.am_works.proofs.Keeps.{left_log}
 use Rattle.am_works.proofs.Lies.{LeavesFree, MaySo, frames_long, lies_beside, lies_moved, lies_on, owned_after}
 use Rattle.am_works.proofs.Staying.{replay_append}
 use Rattle.am_works.proofs.Stands.{set_here, set_there}
@@ -163,14 +164,6 @@ lies_found frames swap k set line log v last p f =
 
 -- ---- what it knows when it has left
 
-not_zero : (m : ℕ) → 0 < m → (m == 0) ≡ false
-not_zero zero h = absurd (omega (arith, h))
-not_zero (suc m) h = by_test (suc m == 0) refl
-  where
-    by_test : (b : Bool) → (suc m == 0) ≡ b → b ≡ false
-    by_test false is = refl
-    by_test true is = absurd (let same : suc m ≡ 0 = eqb-true (suc m) 0 is in omega (arith, same))
-
 abbrev left_known : ℕ → ℕ → List (Tenure Entry) → List Entry → ℕ → EndPass → Known Entry
 left_known k place log new before v = left_with v.mark (joined log ++ new) place (inside_with before log (known_at k v))
 
@@ -183,7 +176,7 @@ knows_left frames swap k place before set line log new v marked f shows l =
       own = of_append v.mark log (t ∷ []) ∙ ap (λ (xs : List (List Entry)). xs ++ of v.mark (t ∷ [])) f.own ∙ sym (of_append v.mark (known_at k v).made (t ∷ []));
       once =
           ap length (of_append 0 log (t ∷ []))
-          ∙ ap (λ (b : Bool). length (of 0 log ++ cond b (t.items ∷ []) [])) (not_zero v.mark marked)
+          ∙ ap (λ (b : Bool). length (of 0 log ++ cond b (t.items ∷ []) [])) (eqb_more v.mark 0 marked)
           ∙ ap length (append-nil (of 0 log))
           ∙ f.once;
     }
@@ -223,7 +216,7 @@ can_after frames node view swap swap' fs line last v k set x c born sized owned 
         coe 0 1 (i. KnowsPlace fs swap' v.mark (sym same i) (same_set i) (same_line i) (sym known i)) here))
         (λ (apart : j ≢ k).
         subst (KnowsPlace fs swap' v.mark j other its) (sym (set_there v.known k j x apart)) (others j other its apart there (sym (line_there view.ends k j line apart) ∙ at)))
-        (same_or j k)
+        (cases_eq j k)
       where
         some_set : some set ≡ some other → set ≡ other
         some_set e = cc
@@ -310,7 +303,7 @@ suits_here frames node view swap v k set log event c born is end =
             let b = born_at v.births o.place (omega (arith, less, c.all)) in
             let p = c.each o.place b.set o.line b.at at in
             absurd (other (c.apart o.place k b.set set b.at born (ap (λ (l : EndView). l.id) (sym p.shows) ∙ id)))))
-            (same_or o.place k)
+            (cases_eq o.place k)
 
         same_line : line ≡ o.line
         same_line = some_line (sym (line_here view.ends k line low) ∙ ap (slice_get (slice_set view.ends k line)) (sym same_place) ∙ o.at)

@@ -1,6 +1,7 @@
 -- How an endpoint lies, for its driver, after what others added, and after a move.
 use Rattle.std.specs.Prelude.{slice_index, slice_set}
 use Rattle.std.proofs.Common.{◌≡◌, ◌≢◌, ◌⊎◌, ◌↔◌, inl, inr, ⊎_elim, ℕ, zero, suc, ◌+◌, ◌<◌, ◌≤◌, Bool, true, false, List, [], ◌∷◌, length, Option, Some, refl, sym, ap, ◌∙◌, subst, arith, eq-eqb, eqb-true, true≢false, get_or-set_same, get_or-set_other, if◌then◌else◌}
+use Rattle.std.proofs.lemmas.Bool.{cases_eq}
 use Rattle.am_names.specs.declared.EndpointId.{EndpointId}
 use Rattle.am_names.specs.Names.{same_end}
 use Rattle.am_office.specs.declared.Event.{Event}
@@ -56,12 +57,6 @@ set_length [] f n = refl
 set_length (x ∷ xs) zero n = refl
 set_length (x ∷ xs) (suc f) n = ap suc (set_length xs f n)
 
-same_or : (j k : ℕ) → (j ≡ k) ⊎ (j ≢ k)
-same_or zero zero = inl refl
-same_or zero (suc k) = inr (λ same. absurd (omega (arith, same)))
-same_or (suc j) zero = inr (λ same. absurd (omega (arith, same)))
-same_or (suc j) (suc k) = ⊎_elim (λ (same : j ≡ k). inl (ap suc same)) (λ (other : j ≢ k). inr (λ same. other (omega (arith, same)))) (same_or j k)
-
 -- a frame that is set to another owner, for an endpoint that doesn't lie there
 fits_other : (fs : List ℕ) (f n j place : ℕ) → f < length fs → n ≢ j + 1 → place ≢ 2 + f → FrameFits fs j place → FrameFits (slice_set fs f n) j place
 fits_other fs f n j place low not_mine not_there fits = ((let below = fits.0 in omega (arith, below, set_length fs f n)), others)
@@ -77,7 +72,7 @@ fits_other fs f n j place low not_mine not_there fits = ((let below = fits.0 in 
           (λ is. was.0 (sym (set_else fs f g n other) ∙ is)),
           (λ is. set_else fs f g n other ∙ was.1 is),
         )))
-        (same_or g f)
+        (cases_eq g f)
 
 -- a frame that the endpoint claims, where it lay in none
 fits_claimed : (fs : List ℕ) (f k place : ℕ) → f < length fs → ((g : ℕ) → place ≢ 2 + g) → FrameFits fs k place → FrameFits (slice_set fs f (k + 1)) k (2 + f)
@@ -94,7 +89,7 @@ fits_claimed fs f k place low nowhere fits = (omega (arith, low, set_length fs f
           (λ is. absurd (nowhere g (was.0 (sym (set_else fs f g (k + 1) other) ∙ is)))),
           (λ is. absurd (other (omega (arith, is)))),
         )))
-        (same_or g f)
+        (cases_eq g f)
 
 -- the frame that it leaves
 fits_freed : (fs : List ℕ) (f k : ℕ) → f < length fs → FrameFits fs k (2 + f) → FrameFits (slice_set fs f 0) k 0
@@ -111,7 +106,7 @@ fits_freed fs f k low fits = (omega (arith), others)
           (λ is. absurd (let e : 2 + f ≡ 2 + g = was.0 (sym (set_else fs f g 0 other) ∙ is) in other (omega (arith, e)))),
           (λ is. absurd (omega (arith, is))),
         )))
-        (same_or g f)
+        (cases_eq g f)
 
 -- from a place that is no frame to another
 fits_nowhere : (fs : List ℕ) (k a b : ℕ) → ((g : ℕ) → a ≢ 2 + g) → b < 2 → FrameFits fs k a → FrameFits fs k b
@@ -187,7 +182,7 @@ owned_set fs f n m g low few was =
     ⊎_elim
     (λ (same : g ≡ f). (let is : slice_index (slice_set fs f n) g ≡ n = ap (slice_index (slice_set fs f n)) same ∙ set_same fs f n low in omega (arith, is, few)))
     (λ (other : g ≢ f). (let is : slice_index (slice_set fs f n) g ≡ slice_index fs g = set_else fs f g n other in omega (arith, is, was)))
-    (same_or g f)
+    (cases_eq g f)
 
 module _ (frames : List ℕ) (swap : Store) (k : ℕ) (set : EndSettings) (log : List Entry) where
   abbrev one : EndLog

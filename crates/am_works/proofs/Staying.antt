@@ -2,6 +2,7 @@
 use Rattle.std.specs.Prelude.{slice_index_or, slice_set}
 use Rattle.std.proofs.Common.{◌≡◌, ◌≢◌, ⊎_elim, arith, ℕ, ◌<◌, Bool, true, false, ◌||◌, List, [], ◌∷◌, ◌++◌, length, drop, Option, None, sym, refl, ap, ◌∙◌, subst, set-set, get_or-set_same}
 use Rattle.std.proofs.lemmas.List.{length-set}
+use Rattle.std.proofs.lemmas.Bool.{cases_eq}
 use lib.Seq.{drop-append_seam}
 use Rattle.atomic_table.specs.Seated.{TableId}
 use Rattle.atomic_table.specs.Table.{Me, rest}
@@ -23,7 +24,6 @@ use Rattle.am_places.specs.declared.board.Tenure.{Tenure}
 use Rattle.am_places.specs.Rule.{Begins, Comes, IsOutside, has, inside_with, joined, known_at, nothing, outside, published_with, stirs, with_known}
 use Rattle.am_works.specs.Drives.{with_frames}
 use Rattle.am_works.specs.Seats.{EndPass, IsIdle, Stays}
-use Rattle.am_works.proofs.Keeps.{same_or}
 use Rattle.am_works.proofs.Stands.{set_here, set_there}
 
 -- what a book stands for
@@ -242,4 +242,4 @@ left_idle id fs k at me now between b y last s w framed out is table =
         (λ (other : j ≢ at).
         ap (λ (z : Known Entry). z.inside) (set_there (slice_set me.0.known k x) at j y other ∙ set_there me.0.known k j x (λ same. other (same ∙ sym w.1)))
         ∙ s.outside j (let e = length-set (slice_set me.0.known k x) at y in omega (arith, low, e, long)))
-        (same_or j at)
+        (cases_eq j at)
