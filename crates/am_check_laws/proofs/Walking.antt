@@ -1,6 +1,6 @@
 -- The journal of a checked report, one entry after the other.
-use Rattle.std.proofs.Common.{◌≡◌, ℕ, zero, suc, Bool, true, false, ◌||◌, List, [], ◌∷◌, ◌++◌, map, length, take, Some, None, refl, sym, ap, ◌∙◌, subst, arith, length-append, add-one}
-use Rattle.std.specs.Prelude.{slice_get, not}
+use Rattle.std.proofs.Common.{◌≡◌, ℕ, suc, Bool, true, false, ◌||◌, List, [], ◌∷◌, ◌++◌, map, length, take, None, refl, sym, ap, ◌∙◌, subst, arith, length-append, add-one}
+use Rattle.std.specs.Prelude.{not}
 use Rattle.std.proofs.lemmas.List.{take_all, map_push, length-map}
 use Rattle.std.proofs.lemmas.List.Folds.{list_all-append}
 use Rattle.am_lemmas.proofs.Lists.{take-slice_get}

@@ -1,5 +1,5 @@
 -- What a drain makes of a phase keeps the last tries for the end.
-use Rattle.std.proofs.Common.{◌≡◌, ℕ, List, [], ◌∷◌, ◌++◌, length, map, Option, None, Bool, true, false, refl, sym, ◌∙◌, ap, subst, append-nil}
+use Rattle.std.proofs.Common.{◌≡◌, ℕ, List, [], ◌∷◌, ◌++◌, length, map, Option, None, true, false, refl, sym, ◌∙◌, ap, subst, append-nil}
 use Rattle.std.specs.Prelude.{◌||◌, not, is_some, is_none, filter, slice_get}
 use Rattle.std.specs.List.{cons_option}
 use Rattle.am_lemmas.proofs.Lists.{map_alike}
@@ -12,7 +12,6 @@ use Rattle.am_office.specs.declared.Outcome.{Outcome}
 use Rattle.am_office.specs.declared.Entry.{Entry}
 use Rattle.am_office.specs.Entries.{emitted_in}
 use Rattle.am_model.specs.Channels.{emitted, is_on_link}
-use Rattle.am_model.specs.History.{EachAfter}
 use Rattle.am_model.proofs.Each.{each_push, each_imply}
 use Rattle.am_plan.specs.Shape.{shape, number_of}
 use Rattle.am_scenario_types.specs.Lists.{ScenarioLists}

@@ -31,7 +31,6 @@ use Rattle.am_scripts.proofs.Lawful.{lawful_layout}
 use Rattle.am_scripts.specs.Scripts.{call_made, is_of_thread, calls_of, script_of, call_left}
 use Rattle.am_scripts.specs.Standings.{Standing, standings}
 use Rattle.am_scripts.specs.Follows.{is_thread}
-use Rattle.am_model.specs.Parts.{driver_of}
 use Rattle.am_scripts.proofs.Lists.{some_mapped, none_all, found_in}
 use Rattle.am_drain.specs.declared.Turn.{Turn}
 use Rattle.am_drain.specs.Made.{next_entry, after_event}

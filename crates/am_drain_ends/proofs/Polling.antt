@@ -8,7 +8,6 @@ use Rattle.am_names.specs.declared.Message.{Message}
 use Rattle.am_names.specs.declared.Words.{Words}
 use Rattle.am_names.specs.Names.{is_request, is_answer}
 use Rattle.am_office.specs.declared.HandlerKind.{HandlerKind}
-use Rattle.am_office.specs.declared.HandlerKind.TheVariants.{Note, Echo, Add}
 use Rattle.am_office.specs.declared.Refusal.{Refusal}
 use Rattle.am_office.specs.declared.Call.{Call}
 use Rattle.am_office.specs.declared.Call.TheVariants as Calls

@@ -1,8 +1,8 @@
 -- What is planned, as the drain tells it from what it reads.
-use Rattle.std.proofs.Common.{◌≡◌, ℕ, List, [], ◌∷◌, ◌++◌, Option, Some, None, Bool, true, false, cond, map, length, refl, sym, ◌∙◌, ap, append_assoc, eqb-true, ltb-true, arith}
-use Rattle.std.specs.Prelude.{◌&&◌, ◌||◌, ◌≤◌, not, nat_lt, find, filter, option_map, count_by}
+use Rattle.std.proofs.Common.{◌≡◌, ℕ, List, [], ◌∷◌, ◌++◌, Option, Some, None, Bool, true, false, cond, map, length, refl, sym, ◌∙◌, ap, append_assoc}
+use Rattle.std.specs.Prelude.{◌&&◌, ◌||◌, not, nat_lt, find, filter, option_map, count_by}
 use Rattle.std.specs.List.{list_any}
-use Rattle.std.proofs.lemmas.Bool.{and_parts, le-ltb}
+use Rattle.std.proofs.lemmas.Bool.{and_parts}
 use Rattle.am_model.proofs.Names.{same_end-is}
 use Rattle.am_names.specs.declared.EndpointId.{EndpointId}
 use Rattle.am_names.specs.declared.NodeId.{NodeId}

@@ -13,7 +13,6 @@ use Rattle.am_office.specs.declared.Entry.{Entry}
 use Rattle.am_body.specs.declared.settings.EndSettings.{EndSettings}
 use Rattle.am_device.specs.Memory.{Store}
 use Rattle.am_endpoint.specs.View.{state_by}
-use Rattle.am_model.specs.Parts.{last_stamp}
 use Rattle.am_model.specs.Changes.{after}
 use Rattle.am_model.specs.Endpoint.{State, fresh, is_direct, is_in_a_frame, is_on_disk, is_on_host}
 use Rattle.am_model.specs.History.{is_in_frame}

@@ -2,7 +2,6 @@
 use Rattle.std.specs.Prelude.{is_none, not}
 use Rattle.std.proofs.Common.{◌≡◌, ◌+◌, ℕ, Bool, true, false, List, [], ◌∷◌, Option, Some, None, refl, sym, ap, ◌∙◌, subst, true≢false}
 use Rattle.std.proofs.lemmas.Bool.{not-false}
-use Rattle.am_model.proofs.PlaceKinds.{resident_not_on_disk}
 use Rattle.am_names.specs.declared.EndpointId.{EndpointId}
 use Rattle.am_names.specs.declared.NodeId.{NodeId}
 use Rattle.am_office.specs.declared.Condition.{Condition}
@@ -11,12 +10,11 @@ use Rattle.am_office.specs.declared.Event.TheVariants as Events
 use Rattle.am_office.specs.declared.Outcome.{Outcome}
 use Rattle.am_office.specs.declared.Outcome.TheVariants as Out
 use Rattle.am_office.specs.declared.Place.{Place}
-use Rattle.am_office.specs.declared.Place.TheVariants.{Host, Disk, Frame, Direct}
 use Rattle.am_office.specs.declared.Entry.{Entry}
 use Rattle.am_model.specs.declared.Queued.{Queued}
 use Rattle.am_office.specs.Entries.{is_node}
 use Rattle.am_model.specs.Allowed.{MayBind}
-use Rattle.am_model.specs.Endpoint.{State, front, is_direct, is_on_disk, is_resident}
+use Rattle.am_model.specs.Endpoint.{State, front, is_direct, is_resident}
 use Rattle.am_model.specs.History.{bind_to, free_from, next_number}
 use Rattle.am_model.proofs.Names.{same_node-is}
 use Rattle.am_block.specs.declared.Slot.{Slot}

@@ -1,9 +1,6 @@
 -- Reads after a write.
-use Rattle.std.specs.Prelude.{slice_get, slice_set, slice_index_or}
-use Rattle.std.specs.List.{All}
-use Rattle.std.proofs.Common.{◌≡◌, ℕ, zero, suc, ◌<◌, subst, List, [], ◌∷◌, map, length, Some, refl, ap, arith}
-use Rattle.std.proofs.lemmas.Option.{slice_get_within, get_or_from_slice_get, slice_get-get_or}
-use Rattle.am_lemmas.proofs.Lists.{All-slice_get}
+use Rattle.std.specs.Prelude.{slice_set, slice_index_or}
+use Rattle.std.proofs.Common.{◌≡◌, ℕ, zero, suc, ◌<◌, List, [], ◌∷◌, map, length, refl, ap, arith}
 
 pub map_set : {X Y : Type 0} (f : X → Y) (xs : List X) (k : ℕ) (v : X) → map f (slice_set xs k v) ≡ slice_set (map f xs) k (f v)
 map_set f [] k v = refl

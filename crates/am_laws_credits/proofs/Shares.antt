@@ -1,5 +1,5 @@
 -- The records of an endpoint are within its shares and its pool.
-use Rattle.std.specs.Prelude.{not, nat_le, nat_lt, is_none, is_some, slice_set, unwrap_or, count_by, sum_by}
+use Rattle.std.specs.Prelude.{not, nat_le, nat_lt, is_none, is_some, unwrap_or, count_by, sum_by}
 use Rattle.std.proofs.Common.{◌≡◌, ◌==◌, ℕ, suc, ◌+◌, ◌-◌, ◌≤◌, ◌<◌, Bool, true, false, cond, ◌&&◌, List, [], ◌∷◌, ◌++◌, length, Option, Some, None, refl, sym, ap, ◌∙◌, subst, arith, eqb-true, eq-eqb, leb-false, ltb-true, ltb-false, true≢false, if◌then◌else◌}
 use Rattle.std.proofs.lemmas.List.Sums.{sum_by_push, sum_by-cons}
 use Rattle.std.specs.List.{find}

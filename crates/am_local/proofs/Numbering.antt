@@ -1,12 +1,11 @@
 -- The packets of a link are numbered from 1 in the order in which they are emitted.
 use Rattle.std.specs.Prelude.{nat_lt, slice_get, MatchOption}
 use Rattle.std.specs.List.{filter, cons_option}
-use Rattle.std.proofs.Common.{◌≡◌, ◌⊎◌, inl, inr, ⊎_elim, ℕ, zero, suc, ◌+◌, ◌-◌, ◌≤◌, ◌==◌, Bool, true, false, cond, ◌&&◌, List, [], ◌∷◌, ◌++◌, length, Option, Some, None, refl, sym, ap, ◌∙◌, subst, arith, eqb-true, if◌then◌else◌}
+use Rattle.std.proofs.Common.{◌≡◌, ◌⊎◌, inl, inr, ⊎_elim, ℕ, zero, suc, ◌+◌, ◌-◌, ◌≤◌, Bool, true, false, cond, List, [], ◌∷◌, ◌++◌, length, Option, Some, None, refl, sym, ap, ◌∙◌, subst, arith, eqb-true, if◌then◌else◌}
 use Rattle.std.proofs.lemmas.Bool.{and_parts}
 use Rattle.am_names.specs.Names.{same_node}
 use Rattle.am_names.specs.declared.NodeId.{NodeId}
 use Rattle.am_names.specs.declared.Message.{Message}
-use Rattle.am_names.specs.declared.AnswerPacket.{AnswerPacket}
 use Rattle.am_names.specs.declared.Packet.{Packet}
 use Rattle.am_names.specs.declared.Packet.TheVariants as Packets
 use Rattle.am_names.specs.declared.Verdict.{Verdict}
@@ -19,13 +18,12 @@ use Rattle.am_office.specs.declared.Outcome.{Outcome}
 use Rattle.am_office.specs.declared.Outcome.TheVariants as Out
 use Rattle.am_office.specs.declared.Entry.{Entry}
 use Rattle.am_office.specs.Entries.{answer_by, answer_packet, emitted_in, emitted_of, parcel}
-use Rattle.am_model.specs.declared.Flying.{Flying}
 use Rattle.am_model.specs.declared.Queued.{Queued}
 use Rattle.am_model.specs.Endpoint.{State, front, verdict}
 use Rattle.am_model.specs.Changes.{flying_of}
 use Rattle.am_model.specs.Layout.{Layout, home}
 use Rattle.am_model.specs.Channels.{Again, Arrival, Channel, Fresh, Stale, arrival, attempt, bound_message, emitted, is_on_link, mark, sequence}
-use Rattle.am_model.specs.History.{EachAfter, IsHistory, MayFollow, arrive, bind, bind_to, bounced, channel_for, channel_to, counts, decided, expire, is_answered, next_number, outcome_of, receive, sent, settle, settle_by, state_of}
+use Rattle.am_model.specs.History.{IsHistory, MayFollow, arrive, bind, bind_to, channel_for, channel_to, decided, expire, is_answered, next_number, outcome_of, receive, sent, settle, state_of}
 use Rattle.am_model.proofs.Each.{over_each, each_imply}
 use Rattle.am_local.specs.declared.work.Work.{Work}
 use Rattle.am_local.specs.declared.work.Work.TheVariants as Works
@@ -34,7 +32,7 @@ use Rattle.am_model.specs.Packets.{receiver_of, from_of}
 use Rattle.am_model.proofs.Marks.{settle_answers}
 use Rattle.am_local.specs.Numbered.{AreNumbered, HasNextNumber, IsNextPacket, IsPacketAt}
 use Rattle.am_local.proofs.Growing.{emitted_append}
-use Rattle.am_local.proofs.Touched.{settle_silent, settling_silent}
+use Rattle.am_local.proofs.Touched.{settle_silent}
 
 -- ---- one entry
 

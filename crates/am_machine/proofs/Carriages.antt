@@ -27,7 +27,7 @@ use Rattle.am_drain.specs.Made.{next_entry, next_stamp}
 use Rattle.am_model.proofs.Names.{same_end-is, same_end-refl}
 use Rattle.am_scenario_types.specs.declared.parts.FaultLine.{FaultLine}
 use Rattle.am_body.specs.declared.settings.EndSettings.{EndSettings}
-use Rattle.am_endpoint.specs.View.{EndpointView, state_after, state_by}
+use Rattle.am_endpoint.specs.View.{EndpointView, state_after}
 use Rattle.am_machine.specs.declared.settings.Settings.{Settings}
 use Rattle.am_machine.specs.Carries.{At, IsReady, CarriesFrom, ArrivesAt, carried_at, is_place, least_full}
 use Rattle.am_moves.specs.Logs.{EndLog, kept, state_in}

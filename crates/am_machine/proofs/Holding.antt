@@ -21,7 +21,7 @@ use Rattle.am_model.proofs.Each.{state_of_push}
 use Rattle.am_model.proofs.Names.{same_end-is, same_end-refl}
 use Rattle.am_model.proofs.Unchanged.{paged_out_body}
 use Rattle.am_model.proofs.PlaceKinds.{on_host_not_on_disk}
-use Rattle.am_local.proofs.Growing.{readings_push, calls_push}
+use Rattle.am_local.proofs.Growing.{calls_push}
 use Rattle.am_local.proofs.Homes.{one_home}
 use Rattle.am_laws_disk.specs.Disk.{StaysOnDisk, pages_out}
 use Rattle.am_laws_disk.proofs.Still.{stays}

@@ -2,7 +2,6 @@
 use Rattle.std.proofs.Common.{◌≡◌, ℕ, zero, suc, ◌+◌, ◌<◌, ◌≤◌, true, false, List, [], ◌∷◌, ◌++◌, length, Option, Some, None, Result, Ok, Err, inl, inr, refl, sym, ◌∙◌, subst, arith, zero-add, slice_index}
 use Rattle.std.specs.Prelude.{slice_get, ◌||◌, ◌≢◌, filter_map}
 use Rattle.std.specs.List.{All, cons_option}
-use Rattle.std.proofs.lemmas.List.Elements.{All-head, All-tail}
 use Rattle.std.proofs.lemmas.List.FromFn.{get_or-map-range_with_len}
 use Rattle.am_lemmas.proofs.Lists.{All-slice_get}
 use mathlib.Core.Bool.{or-true}

@@ -1,7 +1,7 @@
 -- Each entry of a history is right by the logs that the history is made of.
 use Rattle.std.specs.Prelude.{nat_le, nat_lt, not, slice_get, ◌↔◌}
 use Rattle.std.specs.List.{filter, list_any, list_all}
-use Rattle.std.proofs.Common.{◌≡◌, ℕ, zero, suc, ◌-◌, ◌<◌, ◌≤◌, Bool, true, false, cond, ◌||◌, ◌&&◌, List, [], ◌∷◌, ◌++◌, length, Option, Some, None, refl, sym, ap, ◌∙◌, subst, arith, append_assoc, ltb-true, ltb-false, leb-true, eq-eqb}
+use Rattle.std.proofs.Common.{◌≡◌, ℕ, ◌-◌, ◌<◌, ◌≤◌, Bool, true, false, cond, ◌||◌, ◌&&◌, List, [], ◌∷◌, ◌++◌, length, Option, Some, None, refl, sym, ap, ◌∙◌, subst, arith, append_assoc, ltb-true, ltb-false, leb-true, eq-eqb}
 use Rattle.std.proofs.lemmas.Bool.{and_parts}
 use Rattle.am_lemmas.proofs.Lists.{slice_get-None, slice_get-append_left}
 use Rattle.am_names.specs.Names.{same_end}

@@ -1,6 +1,6 @@
 -- A page call on its parts.
 use Rattle.std.specs.Prelude.{IfOk, Result, Ok, Err}
-use Rattle.std.proofs.Common.{◌≡◌, ◌⊎◌, inl, inr, ℕ, Bool, true, false, List, [], Option, Some, None, refl, sym, ap, ◌∙◌, subst, true≢false, if◌then◌else◌}
+use Rattle.std.proofs.Common.{◌≡◌, ◌⊎◌, inl, inr, ℕ, Bool, true, false, List, [], Option, Some, None, refl, sym, ap, ◌∙◌, subst, if◌then◌else◌}
 use Rattle.am_model.proofs.PlaceKinds.{on_host_unframed}
 use Rattle.am_names.specs.declared.EndpointId.{EndpointId}
 use Rattle.am_names.specs.declared.NodeId.{NodeId}
@@ -8,11 +8,10 @@ use Rattle.am_office.specs.declared.Event.TheVariants as Events
 use Rattle.am_office.specs.declared.Outcome.{Outcome}
 use Rattle.am_office.specs.declared.Outcome.TheVariants as Out
 use Rattle.am_office.specs.declared.Place.{Place}
-use Rattle.am_office.specs.declared.Place.TheVariants.{Host, Disk, Frame, Direct}
 use Rattle.am_office.specs.declared.Entry.{Entry}
 use Rattle.am_model.specs.Tables.{page_ended}
 use Rattle.am_model.specs.Allowed.{MayPageIn, MayPageOut}
-use Rattle.am_model.specs.Endpoint.{Body, State, is_in_a_frame, is_on_host}
+use Rattle.am_model.specs.Endpoint.{Body, State, is_on_host}
 use Rattle.am_model.specs.Order.{IsInOrder}
 use Rattle.am_body.specs.Views.{View}
 use Rattle.am_device.specs.Causes.{fails_after}

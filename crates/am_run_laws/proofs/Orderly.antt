@@ -1,6 +1,6 @@
 -- In what some turns of a drain make of a good phase each packet is received in its turn, and the last tries come last.
 use Rattle.std.specs.Prelude.{not, is_none}
-use Rattle.std.proofs.Common.{◌≡◌, ℕ, Bool, true, false, ◌||◌, List, [], ◌∷◌, ◌++◌, Option, Some, None, refl, sym, ap, ◌∙◌, subst}
+use Rattle.std.proofs.Common.{◌≡◌, ℕ, Bool, false, ◌||◌, List, [], ◌∷◌, ◌++◌, Option, Some, None, refl, sym, ap, ◌∙◌, subst}
 use mathlib.Core.Bool.{or-true}
 use Rattle.am_office.specs.declared.Event.{Event}
 use Rattle.am_office.specs.declared.Event.TheVariants as Events
@@ -9,7 +9,6 @@ use Rattle.am_model.proofs.Each.{each_push, over_each}
 use Rattle.am_scenario_types.specs.Lists.{ScenarioLists}
 use Rattle.am_scripts.specs.Layout.{layout_of}
 use Rattle.am_scripts.specs.Follows.{is_last, KeepsLastTries}
-use Rattle.am_model.specs.Parts.{driver_of}
 use Rattle.am_scripts.specs.Links.{IsReceiptInOrder, ReceivesInOrder, is_all_received, next_receipt}
 use Rattle.am_drain.specs.declared.Turn.{Turn}
 use Rattle.am_drain.specs.declared.Turn.TheVariants.{Make}

@@ -1,7 +1,7 @@
 -- Room on each link.
-use Rattle.std.proofs.Common.{◌≡◌, ⊎_elim, ℕ, zero, suc, Bool, true, false, List, [], ◌∷◌, refl, sym, ap, ◌∙◌, subst, ◌++◌, ◌==◌, eqb-true, eq-eqb, true≢false}
+use Rattle.std.proofs.Common.{◌≡◌, ⊎_elim, ℕ, Bool, true, false, List, [], ◌∷◌, refl, sym, ap, ◌∙◌, subst, ◌++◌, ◌==◌, eqb-true, eq-eqb, true≢false}
 use Rattle.std.specs.Prelude.{slice_get, slice_set, OnOk, Result, Ok, Err}
-use Rattle.am_lemmas.proofs.Lists.{slice_get-set_cases, slice_get-set_elsewhere}
+use Rattle.am_lemmas.proofs.Lists.{slice_get-set_cases}
 use Rattle.am_release.specs.Staged.{Staged}
 use Rattle.am_scripted.specs.Links.{HasAllRoom, HasSpare, HasSpareAt}
 use Rattle.am_scripted.proofs.Indexing.{got_push}

@@ -1,5 +1,5 @@
 -- A turn of a thread keeps what it works by.
-use Rattle.std.proofs.Common.{◌≡◌, ℕ, zero, suc, ◌+◌, ◌^◌, ◌<◌, ◌≤◌, ◌||◌, Bool, true, false, cond, max, List, [], ◌∷◌, ◌++◌, length, take, Option, Some, None, sym, refl, ap, ◌∙◌, subst, arith, append_assoc, append-nil, eq-eqb}
+use Rattle.std.proofs.Common.{◌≡◌, ℕ, suc, ◌+◌, ◌^◌, ◌<◌, ◌≤◌, ◌||◌, Bool, true, false, cond, max, List, [], ◌∷◌, ◌++◌, length, take, Option, Some, None, sym, refl, ap, ◌∙◌, subst, arith, append_assoc, append-nil, eq-eqb}
 use Rattle.std.specs.Prelude.{not}
 use Rattle.std.specs.List.{filter, filter_map, slice_get}
 use Rattle.std.proofs.lemmas.Option.{slice_get_within}

@@ -2,17 +2,15 @@
 use Rattle.std.specs.Prelude.{slice_get}
 use Rattle.std.specs.List.{filter, range_with_len}
 use Rattle.std.proofs.Common.{◌≡◌, inl, inr, ℕ, zero, suc, ◌+◌, ◌<◌, Bool, true, false, cond, List, [], ◌∷◌, ◌++◌, map, length, Some, refl, sym, ap, ◌∙◌, subst, arith, eq-eqb}
-use Rattle.std.proofs.lemmas.Bool.{and_parts}
 use lib.ListN.{get_elem?}
 use mathlib.Core.Option.{some}
 use Rattle.am_lemmas.proofs.Lists.{map_twice}
 use Rattle.am_machine.proofs.Looks.{receipt_touches}
 use Rattle.am_names.specs.declared.NodeId.{NodeId}
-use Rattle.am_names.specs.Names.{same_node}
 use Rattle.am_office.specs.declared.Entry.{Entry}
 use Rattle.am_office.specs.declared.Event.{Event}
 use Rattle.am_office.specs.declared.Event.TheVariants as Events
-use Rattle.am_office.specs.Entries.{is_node, node_touched, touches_node}
+use Rattle.am_office.specs.Entries.{is_node, touches_node}
 use Rattle.am_body.specs.declared.settings.EndSettings.{EndSettings}
 use Rattle.am_endpoint.specs.View.{EndpointView}
 use Rattle.am_model.specs.Channels.{emitted}

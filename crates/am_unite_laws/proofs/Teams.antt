@@ -1,9 +1,8 @@
 -- The workers of all nodes end a run, and what their nodes have can be united.
-use Rattle.std.specs.Prelude.{drop, slice_get}
+use Rattle.std.specs.Prelude.{slice_get}
 use Rattle.std.specs.List.{filter}
-use Rattle.std.proofs.Common.{◌≡◌, ◌⊎◌, inl, inr, ⊎_elim, ℕ, ◌<◌, ◌≤◌, List, [], ◌∷◌, ◌++◌, map, length, Option, Some, None, refl, sym, ap, ◌∙◌, subst, arith, Contains}
+use Rattle.std.proofs.Common.{◌≡◌, ◌⊎◌, inl, inr, ⊎_elim, ℕ, ◌<◌, ◌≤◌, List, [], ◌∷◌, map, length, Option, Some, None, refl, sym, ap, ◌∙◌, subst, arith, Contains}
 use Rattle.std.proofs.lemmas.Option.{slice_get_within}
-use Rattle.std.proofs.Math.Seq.{drop-append_seam}
 use Rattle.am_lemmas.proofs.Lists.{slice_get-Some}
 use Rattle.am_places.proofs.Ends.{rejoined}
 use Rattle.am_names.specs.declared.NodeId.{NodeId}

@@ -1,7 +1,7 @@
 -- A look and a move keep what a driver's worker keeps.
 use Rattle.std.specs.Prelude.{nat_lt, not, slice_get}
 use Rattle.std.specs.List.{filter, list_any}
-use Rattle.std.proofs.Common.{◌≡◌, ◌≢◌, ◌⊎◌, ⊎_elim, ℕ, suc, ◌+◌, ◌<◌, ◌≤◌, ◌^◌, ◌==◌, max, Bool, true, false, cond, ◌||◌, ◌&&◌, List, [], ◌∷◌, ◌++◌, map, length, Option, Some, None, refl, sym, ap, ◌∙◌, subst, arith, append_assoc, append-nil, eq-eqb, lt-ltb, true≢false, if◌then◌else◌}
+use Rattle.std.proofs.Common.{◌≡◌, ◌≢◌, ◌⊎◌, ⊎_elim, ℕ, suc, ◌+◌, ◌<◌, ◌≤◌, ◌^◌, ◌==◌, max, Bool, true, false, cond, ◌||◌, ◌&&◌, List, [], ◌∷◌, ◌++◌, map, length, Option, Some, None, refl, sym, ap, ◌∙◌, subst, arith, append_assoc, append-nil, lt-ltb, true≢false, if◌then◌else◌}
 use Rattle.std.proofs.lemmas.List.{length_push}
 use Rattle.std.proofs.lemmas.List.Sums.{count_by-le-length}
 use mathlib.Core.Bool.{or-false}
@@ -31,7 +31,7 @@ use Rattle.am_model.proofs.Names.{same_end-is, same_node-refl}
 use Rattle.am_local.specs.Driver.{DriverLog, changes_frame, end_moved, failing_move, is_frame_held_by, lies_in, outcome_move, page_number}
 use Rattle.am_local.specs.Together.{faults_of}
 use Rattle.am_model.proofs.PlaceKinds.{on_host_in_no_frame, framed_is_resident}
-use Rattle.am_local.proofs.Growing.{readings_push, calls_push}
+use Rattle.am_local.proofs.Growing.{calls_push}
 use Rattle.am_driver.specs.Chosen.{Suits}
 use Rattle.am_driver.specs.Lists.{ViewLists}
 use Rattle.am_driver.specs.Moves.{has_frame, is_free, is_leaving, is_open_on_host, next_move}

@@ -1,11 +1,10 @@
 use Rattle.std.specs.Prelude.{slice_get}
-use Rattle.std.proofs.Common.{◌≡◌, ◌+◌, ◌<◌, ◌≤◌, ℕ, ◌∙◌, ap, sym, map, length, refl, arith, Some, ⊎_elim}
-use Rattle.std.proofs.lemmas.Bool.{cases_lt}
+use Rattle.std.proofs.Common.{◌≡◌, ◌∙◌, ap, sym, map, arith, Some}
 use Rattle.std.proofs.lemmas.List.{length-map}
 use Rattle.std.proofs.lemmas.Option.{slice_get_within, slice_get-get_or}
 use Rattle.am_lemmas.proofs.Lists.{slice_get-map_Some}
 use Rattle.am_scripted.specs.Lows.{is_low}
-use Rattle.am_scripted.specs.Threads.{Scripted, scripted_in}
+use Rattle.am_scripted.specs.Threads.{scripted_in}
 use Rattle.am_scripted.proofs.Lowest.{seen_more}
 use Rattle.am_scripted.proofs.lows.next_low.Goals as goal
 

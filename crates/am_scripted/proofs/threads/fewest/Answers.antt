@@ -5,7 +5,7 @@ use Rattle.std.proofs.lemmas.Option.{slice_get_within, slice_get-get_or}
 use Rattle.am_lemmas.proofs.Lists.{slice_get-map_Some}
 use Rattle.am_drain.specs.Rules.{Left}
 use Rattle.am_drainer.specs.Reads.{left_of}
-use Rattle.am_scripted.specs.Threads.{fewer_of, scripted_in}
+use Rattle.am_scripted.specs.Threads.{scripted_in}
 use Rattle.am_scripted.proofs.Fewest.{FewestTo, fewest_all, fewest_more, fewest_none}
 use Rattle.am_scripted.proofs.threads.fewest.Goals as goal
 

@@ -1,5 +1,4 @@
-use Rattle.std.specs.Prelude.{slice_get}
-use Rattle.std.proofs.Common.{◌≡◌, ◌∙◌, ap, sym, refl, arith, Some, eqb-true}
+use Rattle.std.proofs.Common.{◌∙◌, ap, sym, refl, arith, Some, eqb-true}
 use Rattle.std.proofs.lemmas.Option.{slice_get_within, slice_get-get_or}
 use Rattle.am_scripted.proofs.Counting.{seen_more}
 use Rattle.am_scripted.proofs.threads.searched.Goals as goal
