@@ -1,6 +1,6 @@
 // The numbers of what is held fit the bytes that an image has for them, since their types do. Nothing runs here.
 ghost use Rattle.am_image.specs.Range.{fits_about, fits_handler, fits_mapping, fits_message, fits_notice, fits_queued, fits_record, fits_serial};
-ghost use Rattle.am_model.specs.History.{are_words_in_range};
+ghost use Rattle.am_model.specs.History.{are_words_in_range, is_byte, is_eight_bytes};
 ghost use Rattle.std.specs.List.{list_all};
 ghost use Rattle.std.specs.Prelude.{◌≡◌, ◌<◌, ◌^◌, true};
 
@@ -26,10 +26,21 @@ fn words_in_range(words: Words)
     ensures { are_words_in_range words ≡ true }
 {}
 
+fn byte_in_range(byte: u8)
+    ensures { is_byte byte ≡ true }
+{}
+
+fn tags_in_range(tag: Tag, reply_tag: Tag)
+    ensures tag { is_eight_bytes tag.0 ≡ true }
+    ensures reply_tag { is_eight_bytes reply_tag.0 ≡ true }
+{}
+
 pub(crate) fn message_in_range(message: Message)
     ensures { fits_message message ≡ true }
 {
     serial_in_range(message.serial);
+    tags_in_range(message.tag, message.reply_tag);
+    byte_in_range(message.handler);
     words_in_range(message.words);
     about_in_range(message.about);
 }

@@ -39,7 +39,7 @@ pub use am_body::{Body, EndSettings};
 use am_model::{Flying, Head, Queued, is_on_disk};
 pub use am_names::NoMemory;
 use am_names::{Cause, EndpointId, Message, NodeId, Serial, Verdict};
-use am_office::{Actor, Call, Entry, Event, Outcome, Place, Received};
+use am_office::{Actor, Call, Entry, Event, Outcome, Place, Received, growth};
 use std::alloc::Global;
 use std::marker::Model;
 use std::mem::replace;
@@ -325,7 +325,7 @@ impl Endpoint {
         if self.log.len() >= self.settings.log as usize {
             return Err(EndFault::LogFull);
         }
-        match self.log.reserve(1) {
+        match self.log.reserve(growth(&self.log)) {
             Ok(()) => Ok(()),
             Err(_) => Err(EndFault::NoMemory),
         }

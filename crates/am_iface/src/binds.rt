@@ -24,7 +24,7 @@ use am_channel::Ends;
 use am_endpoint::Endpoint;
 use am_model::{EntryFault, Queued, is_resident};
 use am_names::{EndpointId, Message, NodeId};
-use am_office::{Condition, Entry, Part};
+use am_office::{Condition, Entry, Part, growth};
 
 impl Interface {
     /// The node of an endpoint, if it is declared.
@@ -129,7 +129,7 @@ impl Interface {
         if let Err(fault) = self.room_with(endpoint) {
             return Err(fault);
         }
-        if self.log.reserve(1).is_err() {
+        if self.log.reserve(growth(&self.log)).is_err() {
             return Err(EntryFault::NoMemory);
         }
         let mut ends = idle;

@@ -50,7 +50,7 @@ pub use am_local::work::Work;
 pub use am_model::EntryFault;
 use am_names::{AnswerPacket, EndpointId, NodeId, Packet, Parcel};
 pub use am_office::NoMemory;
-use am_office::{Condition, Entry, Part, Received};
+use am_office::{Condition, Entry, Part, Received, growth};
 use std::alloc::Global;
 use std::marker::Model;
 
@@ -273,7 +273,7 @@ impl Interface {
         if self.log.len() >= self.limits.log as usize {
             return Err(EntryFault::LogFull(Part::Interface(self.limits.node)));
         }
-        if self.log.reserve(1).is_err() {
+        if self.log.reserve(growth(&self.log)).is_err() {
             return Err(EntryFault::NoMemory);
         }
         write(

@@ -12,11 +12,6 @@ use Rattle.am_plan.specs.declared.plan.PlanLine.{PlanLine}
 use Rattle.am_plan.specs.Shape.{fault_at, fault_in, is_line_of}
 use Rattle.am_release.specs.Faults.{SaysOf, said}
 
-    by_order : (o : Ordering) → nat_cmp k q ≡ o → is_eq o ≡ (q == k)
-    by_order Less is = let lt : k < q = ranked k q Less (sym is) in apart (λ same. omega (arith, lt, same)) (q == k) refl
-    by_order Equal is = let same : k ≡ q = ranked k q Equal (sym is) in sym (eq-eqb q k (sym same))
-    by_order Greater is = let lt : q < k = ranked k q Greater (sym is) in apart (λ same. omega (arith, lt, same)) (q == k) refl
-
 said_first : (b : Bool) (line : PlanLine) (rest : Option PlanLine) → fault_in (cond b (Some line) rest) ≡ cond b (Some line.fault) (fault_in rest)
 said_first true line rest = refl
 said_first false line rest = refl
