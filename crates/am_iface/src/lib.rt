@@ -45,12 +45,12 @@ pub use crate::settings::IfaceSettings;
 use crate::settings::Limits;
 pub use am_channel::Bound;
 use am_channel::{Ends, TimedOut};
-use am_endpoint::Endpoint;
+use am_endpoint::{Endpoint, growth};
 pub use am_local::work::Work;
 pub use am_model::EntryFault;
 use am_names::{AnswerPacket, EndpointId, NodeId, Packet, Parcel};
 pub use am_office::NoMemory;
-use am_office::{Condition, Entry, Part, Received, growth};
+use am_office::{Condition, Entry, Part, Received};
 use std::alloc::Global;
 use std::marker::Model;
 

@@ -5,7 +5,7 @@ ghost use Rattle.std.specs.Prelude.{◌≡◌, ◌<◌, [], true, false, length,
 
 use crate::places::link;
 use am_names::Packet;
-use am_office::{NoMemory, growth};
+use am_office::NoMemory;
 use std::alloc::Global;
 
 /// No packets on any link.
@@ -28,8 +28,7 @@ pub(crate) fn space_on(links: &mut Vec<Vec<Packet>>, place: usize) -> Result<(),
     ensures same { map items_of links.new.items ≡ map items_of links.old.items }
     ensures space { OnOk result (slice_index_or (map has_space links.new.items) place false ≡ true) }
 {
-    let more = growth(&links[place]);
-    match links[place].reserve(more) {
+    match links[place].reserve(1) {
         Ok(()) => Ok(()),
         Err(_) => Err(NoMemory),
     }
