@@ -16,7 +16,6 @@ use Rattle.am_phase.specs.Seats.{Enters, Leaves, TakenIsGathered}
 use Rattle.am_phase.proofs.Tenures.{nothing_added, own_append, rises_more}
 
 own_of : (m : ℕ) (ts : List (Tenure Entry)) → own m ts ≡ entries_of (of m ts)
-unfolding entries_of
 own_of m [] = refl
 own_of m (t ∷ ts) = by_test (t.by == m) (own_of m ts)
   where
