@@ -28,7 +28,7 @@ fn fault_of(line: u32, fault: EntryFault) -> StepFault
     }
 }
 
-/// Applies the events of the steps in order, up to the first that can't be made.
+/// Makes the events of the steps in order, up to the first that can't be made.
 fn make_steps(cluster: &mut Cluster, steps: &[StepLine]) -> Result<(), StepFault>
     requires fresh { cluster.old.journal ≡ [] }
     requires in_range { AreInRange cluster.old.layout (events_of steps.now) }
@@ -36,8 +36,8 @@ fn make_steps(cluster: &mut Cluster, steps: &[StepLine]) -> Result<(), StepFault
     ensures makes { Makes steps.now cluster.new.journal (made cluster.old.layout (events_of steps.now)) result }
 {
     for step in steps {
-        match cluster.apply(&step.event) {
-            Ok(_) => {}
+        match cluster.make(&step.event) {
+            Ok(()) => {}
             Err(fault) => return Err(fault_of(step.line, fault)),
         }
     }
