@@ -1,6 +1,6 @@
 -- What an application of an event makes of the journal of a drain.
 use Rattle.std.specs.Prelude.{Result, Ok, Err}
-use Rattle.std.proofs.Common.{◌≡◌, List, [], ◌∷◌, ◌++◌, map, length, ◌*◌, ◌≤◌, Option, Some, None, refl, sym, ap, ◌∙◌, subst}
+use Rattle.std.proofs.Common.{◌≡◌, Bor, List, [], ◌∷◌, ◌++◌, map, length, ◌*◌, ◌≤◌, Option, Some, None, refl, sym, ap, ◌∙◌, subst}
 use Rattle.am_office.specs.declared.Condition.{Condition}
 use Rattle.am_office.specs.declared.Part.{Part}
 use Rattle.am_office.specs.declared.Event.{Event}
@@ -9,7 +9,10 @@ use Rattle.am_model.specs.Layout.{Layout}
 use Rattle.am_office.specs.Entries.{emitted_of}
 use Rattle.am_model.specs.History.{IsHistory, failing}
 use Rattle.am_model.specs.Steps.{LogFull, NotEnabled, full_log, stop, stop_by}
-use Rattle.am_machine.specs.View.{Applies, ClusterView}
+use Rattle.std.specs.Option.{option_copied}
+use Rattle.am_machine.specs.View.{Applies, ClusterView, Makes}
+use Rattle.am_machine.proofs.LastMade.{not_none, read_last}
+use Rattle.am_machine.proofs.Making.{applied_as}
 use Rattle.am_model.specs.declared.EntryFault.{EntryFault}
 use Rattle.am_model.specs.declared.EntryFault.TheVariants as Faults
 use Rattle.am_plan.specs.declared.plan.PlanLine.{PlanLine}
@@ -105,6 +108,11 @@ acts_err {U} s old new event (Faults.NotEnabled c) same h = acts_refused {U = U}
 acts_err {U} s old new event (Faults.LogFull p) same h = acts_full {U = U} s old.journal new.journal event p (ap (λ (l : Layout). stop l old.journal event) (sym same) ∙ h.0) (ap (λ (v : ClusterView). v.journal) h.1)
 acts_err {U} s old new event Faults.NoMemory same h = acts_memory {U = U} s old.journal new.journal event (ap (λ (v : ClusterView). v.journal) h)
 
+pub acts_made : (s : ScenarioLists) (old new : ClusterView) (event : Event) (r : Result (Unit {0}) EntryFault) → old.layout ≡ layout_of s → Makes old new event r → Acts s r old.journal (after_event (layout_of s) event old.journal) new.journal
+acts_made s old new event (Ok made) same h =
+    acts_ok s old.journal new.journal event (next_entry old.layout old.journal event) made (ap (λ (l : Layout). stop l old.journal event) (sym same) ∙ h.0) (ap (λ (l : Layout). next_entry l old.journal event) same) (ap (λ (v : ClusterView). v.journal) h.1)
+acts_made s old new event (Err fault) same h = acts_err {U = Unit {0}} s old new event fault same h
+
 -- a cluster, with the layout of a scenario
 abbrev pub of_layout : ScenarioLists → ClusterView → ClusterView
 of_layout s v = record { layout = layout_of s; journal = v.journal }
@@ -143,6 +151,28 @@ step_of s old new event x parts after told =
 
     layout : new.layout ≡ layout_of s
     layout = ap (λ (v : ClusterView). v.layout) told.2 ∙ parts.layout
+
+-- an event that was made, with the entry that is read where it was logged
+pub made_step : (s : ScenarioLists) (old new : ClusterView) (event : Event) (made : Unit {0}) (read : Option (Bor Entry)) (entry : Bor Entry) → AreParts s old → IsHistory new.layout new.journal → Makes old new event (Ok made) → ((past : List Entry) (x : Entry) → new.journal ≡ past ++ x ∷ [] → x.event ≡ event → option_copied read ≡ Some x) → read ≡ Some entry → IsStep s old new event entry.now
+made_step s old new event made read entry parts after told reads is =
+    step_of s old new event entry.now parts after
+    (applied_as old new event made entry.now told (sym (read_last read entry x (reads old.journal x (ap (λ (v : ClusterView). v.journal) told.1) refl) is)))
+  where
+    x : Entry
+    x = next_entry old.layout old.journal event
+
+-- and such an entry is read
+pub made_read : (old new : ClusterView) (event : Event) (made : Unit {0}) (read : Option (Bor Entry)) → Makes old new event (Ok made) → ((past : List Entry) (x : Entry) → new.journal ≡ past ++ x ∷ [] → x.event ≡ event → option_copied read ≡ Some x) → read ≡ None → ⊥
+made_read old new event made read told reads is =
+    not_none read (next_entry old.layout old.journal event) (reads old.journal (next_entry old.layout old.journal event) (ap (λ (v : ClusterView). v.journal) told.1) refl) is
+
+-- what is made in a cluster of a scenario is so made
+pub makes_in : (s : ScenarioLists) (old new : ClusterView) (event : Event) (r : Result (Unit {0}) EntryFault) → old.layout ≡ layout_of s → Makes old new event r → Makes (of_layout s old) (of_layout s new) event r
+makes_in s old new event (Ok made) same told = (
+  ap (λ (l : Layout). stop l old.journal event) (sym same) ∙ told.0,
+  ap (of_layout s) told.1 ∙ ap (λ (l : Layout). record { layout = layout_of s; journal = old.journal ++ next_entry l old.journal event ∷ [] }) same,
+)
+makes_in s old new event (Err fault) same told = applies_to s old new event (Err fault) same told
 
 pub step_acts : {U : Type 0} (s : ScenarioLists) (old new : ClusterView) (event : Event) (x : Entry) (u : U) → IsStep s old new event x → Acts s (Ok u) old.journal (after_event (layout_of s) event old.journal) new.journal
 step_acts s old new event x u step = acts_ok s old.journal new.journal event x u step.free step.entry step.made

@@ -132,13 +132,6 @@ set_again told layout past place old new b is set k = set k ∙ by_test (k == pl
     by_test true at = is ∙ ap (λ (i : ℕ). told_at told layout past (slice_get layout.ends i)) (sym (eqb-true k place at))
     by_test false at = refl
 
-pub front_told : (s : State) (f : Option Queued) → f ≡ (if is_on_disk s.head.place then None else front s) → is_some f ≡ told_front s
-front_told s f is = ap (λ (o : Option Queued). is_some o) is ∙ by_test (is_on_disk s.head.place)
-  where
-    by_test : (b : Bool) → is_some (if b then None else front s) ≡ (if b then false else is_some (front s))
-    by_test true = refl
-    by_test false = refl
-
 -- ---- an endpoint by its number
 
 lines_of : (s : ScenarioLists) (k : ℕ) (line : EndLine) → slice_get s.ends k ≡ Some line → slice_get (layout_of s).ends k ≡ Some (setting_of line)

@@ -18,3 +18,4 @@ pub mod Fewest
 pub mod Lowest
 pub mod Counting
 pub mod Marking
+pub mod Ways

@@ -16,6 +16,7 @@ use Rattle.am_scripted.specs.PairMarks.{ArePaired}
 use Rattle.am_scripted.specs.Links.{AreFed, IsSpared, Released, fed_at, released_in}
 use Rattle.am_scripted.specs.Lows.{IsLow}
 use Rattle.am_scripted.specs.Threads.{scripted_in, scripted_of}
+use Rattle.am_scripted.specs.declared.emissions.Way.{Way}
 use Rattle.am_scripted.specs.declared.scripted.ScriptedCluster.TheInside.{Inside}
 
 -- a scenario, and the journal that was made of it
@@ -29,6 +30,14 @@ view_of m = record { scenario = m.scenario.now; journal = m.cluster.journal }
 -- its cluster, as callers of a cluster see it
 abbrev pub cluster_of : RunView → ClusterView
 cluster_of v = record { layout = layout_of v.scenario; journal = v.journal }
+
+-- the way of a packet
+abbrev pub way_of : Packet → Way
+way_of p = record { from = from_of p; to = receiver_of p; number = number_of p }
+
+-- the links after one packet more on its way
+abbrev pub fed_on : List PlanLine → Way → List Released → List Released
+fed_on plan way rs = fed_at (16 * way.from.0 + way.to.0) way.number (fault_at plan way.from way.to way.number) way.number rs
 
 -- the links after one packet more, if there is one: its number is its place among those that were emitted on its link
 abbrev pub fed_by : List PlanLine → Option Packet → List Released → List Released

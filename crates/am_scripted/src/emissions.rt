@@ -1,21 +1,19 @@
 // The packets that a cluster emits and its links release.
 ghost use Rattle.am_scripted.specs.Links.{AreFed, HasAllRoom, IsSpared, released_in};
-ghost use Rattle.am_scripted.specs.Scripted.{AreParts, fed_by};
+ghost use Rattle.am_scripted.specs.Scripted.{AreParts, fed_by, fed_on, way_of};
 ghost use Rattle.am_scripts.specs.Layout.{layout_of};
 ghost use Rattle.am_model.specs.Packets as packets;
 ghost use Rattle.am_model.specs.History.{IsHistory};
-ghost use Rattle.am_office.specs.Entries.{emitted_of};
-ghost use Rattle.am_plan.specs.Shape as shapes;
+ghost use Rattle.am_office.specs.Entries as does;
 ghost use Rattle.am_scenario_types.specs.Lawful.{IsLawful};
 ghost use Rattle.am_scripts.specs.Links.{due};
-ghost use Rattle.std.specs.Prelude.{◌≡◌, ◌≤◌, ◌<◌, IfOk, IfSome, OnOk, Some, length, map};
+ghost use Rattle.std.specs.Prelude.{◌≡◌, ℕ, ◌≤◌, ◌<◌, IfOk, IfSome, OnOk, length, map, option_map};
 
 use crate::links::{LinkTable, due_at, feed_at, link_place, make_all_room, no_links};
 use crate::plan_index::PlanIndex;
-use am_iface::emitted_of;
 use am_machine::Cluster;
-use am_names::{NodeId, Packet};
-use am_office::{Entry, NoMemory};
+use am_names::NodeId;
+use am_office::{Entry, Event, NoMemory, Outcome, Received};
 use am_release::Stage;
 use am_scenario_types::Scenario;
 use std::alloc::Global;
@@ -40,48 +38,76 @@ pub(crate) fn due_on(
     due_at(links, link_place(peer, node), received)
 }
 
-/// The node that a packet comes from.
-fn from_of(packet: &Packet) -> NodeId
-    ensures { result ≡ packets.from_of packet.now }
+/// The way of a packet: the link that it goes on, and its number there.
+#[derive(Clone, Copy)]
+struct Way {
+    from: NodeId,
+    to: NodeId,
+    number: u32,
+}
+
+/// The way of the answer that a receipt with this result sends to this peer, if it sends one.
+fn result_way(node: NodeId, peer: NodeId, received: &Received) -> Option<Way>
+    ensures { (channel seq attempt stamp : ℕ) → result ≡ option_map way_of (does.answer_packet node peer channel seq attempt stamp (does.answer_by received.now)) }
 {
-    match packet {
-        Packet::Parcel(parcel) => parcel.from,
-        Packet::Answer(answer) => answer.from,
+    match *received {
+        Received::Accepted { answer, .. }
+        | Received::Refused { answer, .. }
+        | Received::Again { answer, .. } => Some(Way {
+            from: node,
+            to: peer,
+            number: answer,
+        }),
+        _ => None,
     }
 }
 
-/// The node that a packet goes to.
-fn receiver_of(packet: &Packet) -> NodeId
-    ensures { result ≡ packets.receiver_of packet.now }
+/// The way of the parcel that an entry of this node emits, if its outcome is one that sends a message.
+fn parcel_way(node: NodeId, outcome: &Outcome) -> Option<Way>
+    ensures { (stamp : ℕ) → result ≡ option_map way_of (does.parcel node stamp outcome.now) }
 {
-    match packet {
-        Packet::Parcel(parcel) => parcel.to,
-        Packet::Answer(answer) => answer.to,
+    match *outcome {
+        Outcome::Sent { peer, number, .. } => Some(Way {
+            from: node,
+            to: peer,
+            number,
+        }),
+        _ => None,
     }
 }
 
-/// The packet's number on its link.
-fn number_of(packet: &Packet) -> u32
-    ensures { result ≡ shapes.number_of packet.now }
+/// The way of the answer that the receipt of a packet from this peer emits, if it sends one.
+fn answer_way(node: NodeId, peer: NodeId, outcome: &Outcome) -> Option<Way>
+    ensures { (stamp number : ℕ) → result ≡ option_map way_of (does.emitted_in stamp (Event.Receive node peer number) outcome.now) }
 {
-    match packet {
-        Packet::Parcel(parcel) => parcel.number,
-        Packet::Answer(answer) => answer.number,
+    match outcome {
+        Outcome::Received { result, .. } => result_way(node, peer, result),
+        _ => None,
     }
 }
 
-/// One packet more, which goes on its link. Its number is its place among those that were emitted there.
-fn feed_packet(links: &mut LinkTable, plan: &PlanIndex, packet: Packet)
-    requires from { (packets.from_of packet).0 < 16 }
-    requires to { (packets.receiver_of packet).0 < 16 }
+/// The way of the packet that an entry emits, if it emits one.
+fn way_emitted(entry: &Entry) -> Option<Way>
+    ensures { result ≡ option_map way_of (does.emitted_of entry.now) }
+{
+    match entry.event {
+        Event::Bind { node, .. } => parcel_way(node, &entry.outcome),
+        Event::Expire { node, .. } => parcel_way(node, &entry.outcome),
+        Event::Receive { node, peer, .. } => answer_way(node, peer, &entry.outcome),
+        _ => None,
+    }
+}
+
+/// One packet more, which goes on its way. Its number is its place among those that were emitted there.
+fn feed_way(links: &mut LinkTable, plan: &PlanIndex, way: Way)
+    requires from { way.from.0 < 16 }
+    requires to { way.to.0 < 16 }
     requires len { length links.old.all.items ≡ 256 }
     requires room { HasAllRoom links.old.all.items }
-    ensures fed { map released_in links.new.all.items ≡ fed_by plan.now (Some packet) (map released_in links.old.all.items) }
+    ensures fed { map released_in links.new.all.items ≡ fed_on plan.now way (map released_in links.old.all.items) }
     ensures spared { IsSpared links.new }
 {
-    let from = from_of(&packet);
-    let to = receiver_of(&packet);
-    let number = number_of(&packet);
+    let Way { from, to, number } = way;
     let fault = plan.fault(from, to, number);
     feed_at(
         links,
@@ -94,29 +120,29 @@ fn feed_packet(links: &mut LinkTable, plan: &PlanIndex, packet: Packet)
 
 /// The packet that an entry emits, if it emits one, goes on its link.
 pub(crate) fn feed_entry(links: &mut LinkTable, plan: &PlanIndex, entry: &Entry)
-    requires from { IfSome (emitted_of entry.now) (λ packet. (packets.from_of packet).0 < 16) }
-    requires to { IfSome (emitted_of entry.now) (λ packet. (packets.receiver_of packet).0 < 16) }
+    requires from { IfSome (does.emitted_of entry.now) (λ packet. (packets.from_of packet).0 < 16) }
+    requires to { IfSome (does.emitted_of entry.now) (λ packet. (packets.receiver_of packet).0 < 16) }
     requires len { length links.old.all.items ≡ 256 }
     requires room { HasAllRoom links.old.all.items }
     requires spared { IsSpared links.old }
-    ensures fed { map released_in links.new.all.items ≡ fed_by plan.now (emitted_of entry.now) (map released_in links.old.all.items) }
+    ensures fed { map released_in links.new.all.items ≡ fed_by plan.now (does.emitted_of entry.now) (map released_in links.old.all.items) }
     ensures spared { IsSpared links.new }
 {
-    match emitted_of(entry) {
-        Some(packet) => feed_packet(links, plan, packet),
+    match way_emitted(entry) {
+        Some(way) => feed_way(links, plan, way),
         None => {}
     }
 }
 
 /// One entry more, with room made for what it emits.
 fn add_entry(links: &mut LinkTable, plan: &PlanIndex, entry: &Entry) -> Result<(), NoMemory>
-    requires from { IfSome (emitted_of entry.now) (λ packet. (packets.from_of packet).0 < 16) }
-    requires to { IfSome (emitted_of entry.now) (λ packet. (packets.receiver_of packet).0 < 16) }
+    requires from { IfSome (does.emitted_of entry.now) (λ packet. (packets.from_of packet).0 < 16) }
+    requires to { IfSome (does.emitted_of entry.now) (λ packet. (packets.receiver_of packet).0 < 16) }
     requires len { length links.old.all.items ≡ 256 }
     requires spared { IsSpared links.old }
     ensures len { length links.new.all.items ≡ 256 }
     ensures spared { IsSpared links.new }
-    ensures fed { OnOk result (map released_in links.new.all.items ≡ fed_by plan.now (emitted_of entry.now) (map released_in links.old.all.items)) }
+    ensures fed { OnOk result (map released_in links.new.all.items ≡ fed_by plan.now (does.emitted_of entry.now) (map released_in links.old.all.items)) }
 {
     make_all_room(links)?;
     feed_entry(links, plan, entry);

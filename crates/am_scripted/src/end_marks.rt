@@ -4,7 +4,7 @@ ghost use Rattle.am_scripted.specs.Scripted.{AreParts};
 ghost use Rattle.am_scripts.specs.Layout.{layout_of};
 ghost use Rattle.std.specs.Prelude.{◌≡◌, ◌<◌, Some, length};
 
-use crate::reads::{front_of, has_arrivals_of, has_reply_of, is_missed};
+use crate::reads::{has_arrivals_of, has_front_of, has_reply_of, is_missed};
 use crate::touched::{Touched, ends_touched};
 use am_machine::Cluster;
 use am_marks::Marks;
@@ -46,7 +46,7 @@ fn mark_place(marks: &mut EndMarks, cluster: &Cluster, scenario: &Scenario, plac
     let end = cluster.end_at(place);
     marks.missed.set(place, is_missed(end));
     marks.replies.set(place, has_reply_of(end));
-    marks.fronts.set(place, front_of(end).is_some());
+    marks.fronts.set(place, has_front_of(end));
     marks.arrivals.set(place, has_arrivals_of(end));
 }
 

@@ -1,6 +1,6 @@
 // What a drain reads of an endpoint of a cluster.
 ghost use Rattle.am_endpoint.specs.View.{state_after};
-ghost use Rattle.am_scripted.specs.EndMarks.{told_missed};
+ghost use Rattle.am_scripted.specs.EndMarks.{told_front, told_missed};
 ghost use Rattle.am_model.specs.Changes.{has_arrivals};
 ghost use Rattle.am_model.specs.Endpoint as endpoint;
 ghost use Rattle.am_model.specs.History as history;
@@ -59,6 +59,13 @@ pub(crate) fn front_of(end: &Endpoint) -> Option<Queued>
     ensures { result ≡ (if endpoint.is_on_disk (state_after end.now).head.place then None else endpoint.front (state_after end.now)) }
 {
     if is_on_disk(end) { None } else { end.front() }
+}
+
+/// Whether there is a message that it sends next, and none where it is on disk.
+pub(crate) fn has_front_of(end: &Endpoint) -> bool
+    ensures { result ≡ told_front (state_after end.now) }
+{
+    !is_on_disk(end) && end.has_front()
 }
 
 /// Whether there is something to poll, and nothing where it is on disk.

@@ -2,7 +2,7 @@
 ghost use Rattle.am_scripted.specs.EndMarks.{AreMarked};
 ghost use Rattle.am_scripted.specs.Links.{AreFed, IsSpared, released_in};
 ghost use Rattle.am_scripted.specs.PairMarks.{ArePaired};
-ghost use Rattle.am_machine.specs.View.{Applies};
+ghost use Rattle.am_machine.specs.View.{Applies, Makes};
 ghost use Rattle.am_model.specs.History.{IsHistory, is_in_range};
 ghost use Rattle.am_scripted.specs.Scripted.{AreParts, cluster_of};
 ghost use Rattle.am_scripted.specs.Tries.{IsLastIfMade};
@@ -142,25 +142,46 @@ impl<'a> ScriptedCluster<'a> {
         ensures applies { Applies (cluster_of self.old) (cluster_of self.new) event result }
         ensures short { OnOk result (length self.new.journal ≤ 272 * self.new.scenario.log) }
     {
+        match self.advance(&event) {
+            Ok(()) => {
+                let Some(entry) = self.cluster.last_of(&event) else {
+                    unreachable!()
+                };
+                Ok(*entry)
+            }
+            Err(fault) => Err(fault),
+        }
+    }
+
+    /// Makes the entry of an event, as `step` does, and answers no copy of it.
+    fn advance(&mut self, event: &Event) -> Result<(), EntryFault>
+        requires { is_in_range (layout_of self.old.scenario) event.now ≡ true }
+        ensures scenario { self.new.scenario ≡ self.old.scenario }
+        ensures makes { Makes (cluster_of self.old) (cluster_of self.new) event.now result }
+        ensures short { OnOk result (length self.new.journal ≤ 272 * self.new.scenario.log) }
+    {
         self.cluster.laws();
         if make_all_room(&mut self.links).is_err() {
             return Err(EntryFault::NoMemory);
         }
-        match self.cluster.apply(&event) {
-            Ok(entry) => {
+        match self.cluster.make(event) {
+            Ok(()) => {
                 self.cluster.laws();
-                feed_entry(&mut self.links, &self.plan, &entry);
-                count_event(&mut self.threads, &event);
-                self.low = low_after(&self.threads, self.low, &event);
-                mark_touched(&mut self.ends, &self.cluster, self.scenario, &entry);
+                let Some(entry) = self.cluster.last_of(event) else {
+                    unreachable!()
+                };
+                feed_entry(&mut self.links, &self.plan, entry);
+                count_event(&mut self.threads, event);
+                self.low = low_after(&self.threads, self.low, event);
+                mark_touched(&mut self.ends, &self.cluster, self.scenario, entry);
                 mark_pair(
                     &mut self.pairs,
                     &self.cluster,
                     self.scenario,
                     &self.links.all,
-                    &entry,
+                    entry,
                 );
-                Ok(entry)
+                Ok(())
             }
             Err(fault) => Err(fault),
         }
@@ -341,10 +362,7 @@ impl<'a> Machine for ScriptedCluster<'a> {
     }
 
     fn apply(&mut self, event: Event) -> Result<(), EntryFault> {
-        match self.step(event) {
-            Ok(_) => Ok(()),
-            Err(fault) => Err(fault),
-        }
+        self.advance(&event)
     }
 
     fn turns_fall(&self) {

@@ -1,8 +1,6 @@
 use Rattle.am_scripts.specs.Layout.{layout_of}
-use Rattle.am_endpoint.specs.View.{state_after}
 use Rattle.am_scripted.specs.EndMarks.{told_arrival, told_front, told_missed, told_reply}
-use Rattle.am_scripted.proofs.EndMarked.{front_told, places_few, set_again, told_here}
-use Rattle.std.proofs.Common.{◌∙◌}
+use Rattle.am_scripted.proofs.EndMarked.{places_few, set_again, told_here}
 use Rattle.am_scripted.proofs.Looking.{IsSeen, seen_in}
 use Rattle.am_scripted.proofs.end_marks.mark_place.Goals as goal
 
@@ -28,6 +26,6 @@ returns c =
     record {
       missed = set_again told_missed (layout_of s) past k c.args.marks.now.missed c.set.new.self c.is_missed.result (told_here told_missed (layout_of s) past k one c.is_missed.result seen c.is_missed.ensures) c.set.ensures;
       replies = set_again told_reply (layout_of s) past k c.args.marks.now.replies c.set-2.new.self c.has_reply_of.result (told_here told_reply (layout_of s) past k one c.has_reply_of.result seen c.has_reply_of.ensures) c.set-2.ensures;
-      fronts = set_again told_front (layout_of s) past k c.args.marks.now.fronts c.set-3.new.self c.is_some.result (told_here told_front (layout_of s) past k one c.is_some.result seen (c.is_some.ensures ∙ front_told (state_after one) c.front_of.result c.front_of.ensures)) c.set-3.ensures;
+      fronts = set_again told_front (layout_of s) past k c.args.marks.now.fronts c.set-3.new.self c.has_front_of.result (told_here told_front (layout_of s) past k one c.has_front_of.result seen c.has_front_of.ensures) c.set-3.ensures;
       arrivals = set_again told_arrival (layout_of s) past k c.args.marks.now.arrivals c.set-4.new.self c.has_arrivals_of.result (told_here told_arrival (layout_of s) past k one c.has_arrivals_of.result seen c.has_arrivals_of.ensures) c.set-4.ensures;
     }

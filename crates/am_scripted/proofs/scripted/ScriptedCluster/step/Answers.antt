@@ -1,127 +1,21 @@
-use Rattle.std.specs.Prelude.{Ok, Err}
-use Rattle.std.proofs.Common.{ℕ, List, map, subst, sym}
-use Rattle.am_scripts.specs.Layout.{layout_of}
-use Rattle.am_scripts.proofs.Lawful.{lawful_layout}
-use Rattle.am_machine.specs.View.{Applies}
-use Rattle.am_release.specs.Staged.{Staged}
-use Rattle.am_scripted.specs.Links.{AreFed, released_in}
-use Rattle.am_scripted.specs.Scripted.{RunView, cluster_of}
-use Rattle.am_scripts.specs.Scripts.{call_made}
-use Rattle.am_scripted.specs.Lows.{IsLow}
-use Rattle.am_scripted.specs.Threads.{scripted_in}
-use Rattle.am_scripted.specs.declared.threads.ThreadScript.{ThreadScript}
-use Rattle.am_scripted.proofs.Counting.{threads_distinct}
-use Rattle.am_scripted.proofs.Lowest.{low_counted}
-use Rattle.am_scripted.proofs.Applying.{applies_to, of_layout, short_of, step_called, step_fed, step_of, step_parts}
-use Rattle.am_scripted.proofs.Growing.{goes_from, goes_to, made_small}
-use Rattle.am_scripted.proofs.Marking.{step_marked, step_paired, step_within}
+use Rattle.std.proofs.Common.{refl, sym, ap}
+use Rattle.am_drain.specs.Made.{next_entry}
+use Rattle.am_machine.specs.View.{ClusterView}
+use Rattle.am_machine.proofs.LastMade as lasts
+use Rattle.am_machine.proofs.Making.{applied_as}
+use Rattle.am_scripted.specs.Scripted.{cluster_of}
 use Rattle.am_scripted.proofs.scripted.ScriptedCluster.step.Goals as goal
 
-pub feed_entry-requires-clause-from : goal.feed_entry-requires-clause-from
-feed_entry-requires-clause-from c =
-    let s = c.self.inside.scenario.now in
-    let old = c.self.inside.cluster in
-    let step = step_of s old c.apply.new.self c.args.event c.in-Ok.entry c.self.invariant.parts c.laws-in-Ok.ensures.history c.in-Ok.ensures in
-    goes_from (layout_of s) old.journal c.in-Ok.entry (lawful_layout s c.self.invariant.parts.lawful) step.history
+pub returns-in-Some-clause-applies : goal.returns-in-Some-clause-applies
+returns-in-Some-clause-applies c =
+    let v = cluster_of c.args.self.now in
+    let x = next_entry v.layout v.journal c.args.event in
+    let read = c.last_of.ensures v.journal x (ap (λ (w : ClusterView). w.journal) c.in-Ok.ensures.makes.1) refl in
+    applied_as v (cluster_of c.advance.new.self) c.args.event tt c.in-Some.entry.now c.in-Ok.ensures.makes (sym (lasts.read_last c.last_of.result c.in-Some.entry x read c.in-Some.is))
 
-pub feed_entry-requires-clause-to : goal.feed_entry-requires-clause-to
-feed_entry-requires-clause-to c =
-    let s = c.self.inside.scenario.now in
-    let old = c.self.inside.cluster in
-    let step = step_of s old c.apply.new.self c.args.event c.in-Ok.entry c.self.invariant.parts c.laws-in-Ok.ensures.history c.in-Ok.ensures in
-    goes_to (layout_of s) old.journal c.in-Ok.entry (lawful_layout s c.self.invariant.parts.lawful) step.history
-
-pub count_event-requires-clause-distinct : goal.count_event-requires-clause-distinct
-count_event-requires-clause-distinct c = threads_distinct c.self.inside.scenario.now c.self.inside.cluster.journal (map scripted_in c.self.inside.threads.items) c.self.invariant.parts.lawful c.self.invariant.threads
-
-pub low_after-self-inside-requires : goal.low_after-self-inside-requires
-low_after-self-inside-requires c =
-    subst (λ (l : List ThreadScript). IsLow (map scripted_in l) c.self.inside.low) (sym c.deref.ensures.value)
-    (low_counted (map scripted_in c.self.inside.threads.items) (map scripted_in c.count_event.new.threads.items) (call_made c.args.event) c.self.inside.low c.count_event.ensures c.self.invariant.low)
-
-pub count_event-requires-clause-small : goal.count_event-requires-clause-small
-count_event-requires-clause-small c =
-    let s = c.self.inside.scenario.now in
-    let old = c.self.inside.cluster in
-    made_small s old.journal (map scripted_in c.self.inside.threads.items) c.self.invariant.threads (short_of s old c.self.invariant.parts c.laws.ensures.history) c.self.invariant.parts.lawful.settings.log.1
-
-pub mark_touched-requires : goal.mark_touched-requires
-mark_touched-requires c =
-    let s = c.self.inside.scenario.now in
-    let old = c.self.inside.cluster in
-    let new = c.apply.new.self in
-    step_parts s old new c.args.event c.in-Ok.entry c.self.invariant.parts (step_of s old new c.args.event c.in-Ok.entry c.self.invariant.parts c.laws-in-Ok.ensures.history c.in-Ok.ensures)
-
-pub mark_pair-requires-clause-parts : goal.mark_pair-requires-clause-parts
-mark_pair-requires-clause-parts c =
-    let s = c.self.inside.scenario.now in
-    let old = c.self.inside.cluster in
-    let new = c.apply.new.self in
-    step_parts s old new c.args.event c.in-Ok.entry c.self.invariant.parts (step_of s old new c.args.event c.in-Ok.entry c.self.invariant.parts c.laws-in-Ok.ensures.history c.in-Ok.ensures)
-
-pub mark_pair-requires-clause-fed : goal.mark_pair-requires-clause-fed
-mark_pair-requires-clause-fed c =
-    let s = c.self.inside.scenario.now in
-    let old = c.self.inside.cluster in
-    let new = c.apply.new.self in
-    let x = c.in-Ok.entry in
-    let step = step_of s old new c.args.event x c.self.invariant.parts c.laws-in-Ok.ensures.history c.in-Ok.ensures in
-    subst (λ (l : List (Staged ℕ)). AreFed s.plan new.journal (map released_in l)) (sym c.deref-in-Ok.ensures.value)
-    (step_fed s old new c.args.event x c.self.inside.plan (map released_in c.self.inside.links.all.items) (map released_in c.make_all_room.new.table.all.items) (map released_in c.feed_entry.new.links.all.items) c.self.invariant.parts step c.self.invariant.fed
-    c.make_all_room.ensures.same
-    c.self.invariant.plan
-    c.feed_entry.ensures.fed)
-
-pub mark_pair-requires-clause-within : goal.mark_pair-requires-clause-within
-mark_pair-requires-clause-within c =
-    let s = c.self.inside.scenario.now in
-    let old = c.self.inside.cluster in
-    let new = c.apply.new.self in
-    let x = c.in-Ok.entry in
-    step_within s old new c.args.event x c.self.invariant.parts (step_of s old new c.args.event x c.self.invariant.parts c.laws-in-Ok.ensures.history c.in-Ok.ensures)
-
-pub invariant_of-self-in-Ok : goal.invariant_of-self-in-Ok
-invariant_of-self-in-Ok c =
-    let s = c.self.inside.scenario.now in
-    let old = c.self.inside.cluster in
-    let new = c.apply.new.self in
-    let x = c.in-Ok.entry in
-    let step = step_of s old new c.args.event x c.self.invariant.parts c.laws-in-Ok.ensures.history c.in-Ok.ensures in
-    record {
-      parts = step_parts s old new c.args.event x c.self.invariant.parts step;
-      plan = c.self.invariant.plan;
-      fed =
-          step_fed s old new c.args.event x c.self.inside.plan (map released_in c.self.inside.links.all.items) (map released_in c.make_all_room.new.table.all.items) (map released_in c.feed_entry.new.links.all.items) c.self.invariant.parts step c.self.invariant.fed
-          c.make_all_room.ensures.same
-          c.self.invariant.plan
-          c.feed_entry.ensures.fed;
-      spared = c.feed_entry.ensures.spared;
-      low = subst (λ (l : List ThreadScript). IsLow (map scripted_in l) c.low_after-self-inside.result) c.deref.ensures.value c.low_after-self-inside.ensures;
-      ends = step_marked s old new c.args.event x c.self.inside.ends c.mark_touched.new.marks step c.self.invariant.ends c.mark_touched.ensures;
-      pairs = step_paired s old new c.args.event x c.self.inside.pairs c.mark_pair.new.marks c.self.invariant.parts step c.self.invariant.pairs c.mark_pair.ensures;
-      threads = step_called s old new c.args.event x (map scripted_in c.self.inside.threads.items) (map scripted_in c.count_event.new.threads.items) step c.self.invariant.threads c.count_event.ensures;
-    }
-
-pub returns-in-Ok-clause-applies : goal.returns-in-Ok-clause-applies
-returns-in-Ok-clause-applies c =
-    let s = c.self.inside.scenario.now in
-    let old = c.self.inside.cluster in
-    let new = c.apply.new.self in
-    subst (λ (w : RunView). Applies (cluster_of w) (of_layout s new) c.args.event (Ok c.in-Ok.entry)) c.self.view_is
-    (applies_to s old new c.args.event (Ok c.in-Ok.entry) c.self.invariant.parts.layout c.in-Ok.ensures)
-
-pub returns-in-Ok-clause-short : goal.returns-in-Ok-clause-short
-returns-in-Ok-clause-short c =
-    let s = c.self.inside.scenario.now in
-    let old = c.self.inside.cluster in
-    let new = c.apply.new.self in
-    let step = step_of s old new c.args.event c.in-Ok.entry c.self.invariant.parts c.laws-in-Ok.ensures.history c.in-Ok.ensures in
-    short_of s new (step_parts s old new c.args.event c.in-Ok.entry c.self.invariant.parts step) c.laws-in-Ok.ensures.history
-
-pub returns-in-Err-clause-applies : goal.returns-in-Err-clause-applies
-returns-in-Err-clause-applies c =
-    let s = c.self.inside.scenario.now in
-    let old = c.self.inside.cluster in
-    let new = c.apply.new.self in
-    subst (λ (w : RunView). Applies (cluster_of w) (of_layout s new) c.args.event (Err c.in-Err.fault)) c.self.view_is
-    (applies_to s old new c.args.event (Err c.in-Err.fault) c.self.invariant.parts.layout c.in-Err.ensures)
+pub unreachable-requires : goal.unreachable-requires
+unreachable-requires c =
+    let v = cluster_of c.args.self.now in
+    let x = next_entry v.layout v.journal c.args.event in
+    let read = c.last_of.ensures v.journal x (ap (λ (w : ClusterView). w.journal) c.in-Ok.ensures.makes.1) refl in
+    lasts.not_none c.last_of.result x read c.in-None.is
