@@ -11,7 +11,6 @@ use Rattle.am_names.specs.declared.EndpointId.{EndpointId}
 use Rattle.am_names.specs.Names.{same_end}
 use Rattle.am_office.specs.declared.Entry.{Entry}
 use Rattle.am_office.specs.Entries.{ends_touched, touches}
-use Rattle.am_model.specs.declared.Queued.{Queued}
 use Rattle.am_model.specs.Endpoint.{State, front, front_of, is_on_disk}
 use Rattle.am_model.specs.History.{IsHistory, state_of}
 use Rattle.am_model.specs.Layout.{EndSetting, Layout, has_id}

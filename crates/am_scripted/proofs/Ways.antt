@@ -1,6 +1,6 @@
 -- The way of a packet that is emitted, if one is.
 use Rattle.std.specs.Prelude.{IfSome, option_map}
-use Rattle.std.proofs.Common.{◌≡◌, List, Option, Some, None, refl, sym, ap, subst}
+use Rattle.std.proofs.Common.{◌≡◌, List, Option, Some, None, refl, ap, subst}
 use Rattle.am_names.specs.declared.Packet.{Packet}
 use Rattle.am_plan.specs.declared.plan.PlanLine.{PlanLine}
 use Rattle.am_scripted.specs.Links.{Released}

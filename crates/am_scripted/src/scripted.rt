@@ -143,14 +143,13 @@ impl<'a> ScriptedCluster<'a> {
         ensures short { OnOk result (length self.new.journal ≤ 272 * self.new.scenario.log) }
     {
         match self.advance(&event) {
-            Ok(()) => {
-                let Some(entry) = self.cluster.last_of(&event) else {
-                    unreachable!()
-                };
-                Ok(*entry)
-            }
-            Err(fault) => Err(fault),
+            Ok(()) => {}
+            Err(fault) => return Err(fault),
         }
+        let Some(entry) = self.cluster.last_of(&event) else {
+            unreachable!()
+        };
+        Ok(*entry)
     }
 
     /// Makes the entry of an event, as `step` does, and answers no copy of it.

@@ -80,8 +80,8 @@ mark_pair-requires-clause-within c =
     let x = c.in-Some.entry.now in
     step_within s old new c.args.event.now x c.self.invariant.parts (made_step s old new c.args.event.now tt c.last_of.result c.in-Some.entry c.self.invariant.parts c.laws-in-Ok.ensures.history c.in-Ok.ensures c.last_of.ensures c.in-Some.is)
 
-pub invariant_of-self-in-Some : goal.invariant_of-self-in-Some
-invariant_of-self-in-Some c =
+pub invariant_of-self-in-Ok : goal.invariant_of-self-in-Ok
+invariant_of-self-in-Ok c =
     let s = c.self.inside.scenario.now in
     let old = c.self.inside.cluster in
     let new = c.make.new.self in
@@ -104,7 +104,7 @@ invariant_of-self-in-Some c =
 
 pub unreachable-requires : goal.unreachable-requires
 unreachable-requires c =
-    made_read c.self.inside.cluster c.make.new.self c.args.event.now tt c.last_of.result c.in-Ok.ensures c.last_of.ensures c.in-None.is
+    made_read c.self.inside.cluster c.make.new.self c.args.event.now tt c.last_of.result c.in-Ok.ensures c.last_of.ensures c.in_default.is
 
 pub returns-in-Some-clause-makes : goal.returns-in-Some-clause-makes
 returns-in-Some-clause-makes c =
