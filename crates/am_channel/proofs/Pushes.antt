@@ -18,6 +18,7 @@ use Rattle.am_office.specs.declared.Entry.{Entry}
 use Rattle.am_model.specs.Channels.{Channel, Mark, Arrival, Stale, Again, Fresh, same_channel, sequence, bound_message, attempt, mark, verdict_by, frees_by, decides_by, arrival}
 use Rattle.am_model.specs.History.{decided, settle_by}
 use Rattle.am_model.proofs.Received.{bit}
+use Rattle.am_model.proofs.Channels.{decided_frees_none}
 use Rattle.am_model.proofs.Ends.{sequence_push, bound_push, attempt_push, mark_push}
 use Rattle.am_model.proofs.Names.{same_channel-refl}
 use Rattle.am_block.specs.declared.Slot.{Slot}
@@ -182,10 +183,6 @@ answer_counted c log seq b k p Settles.Nothing x is tells =
     (receipt_leaves c log x.stamp tells.number p.seq p.attempt Got.Nothing (ends_with seq b k) refl refl is)
 
 -- a verdict frees nothing
-verdict_frees : (m : Message) (answer : ℕ) (v : Verdict) → frees_by (decided m answer v) ≡ false
-verdict_frees m answer Verdicts.Accepted = refl
-verdict_frees m answer (Verdicts.Refused cause) = refl
-
 verdict_decides : (m : Message) (answer : ℕ) (v : Verdict) → decides_by (decided m answer v) ≡ true
 verdict_decides m answer Verdicts.Accepted = refl
 verdict_decides m answer (Verdicts.Refused cause) = refl
@@ -206,7 +203,7 @@ arrival_counted c log s k p v (Again before) x is tells =
 arrival_counted c log s k p v Fresh x is tells =
     subst (λ (y : Entry). AreCounted c (log ++ y ∷ []) (record { sending = s; receiving = record { seq = p.seq; attempt = p.attempt; verdict = v } }))
     (entry_is x (Events.Receive c.node c.peer tells.number) (Out.Received c.number p.seq p.attempt (decided p.message tells.answer v)) tells.event tells.outcome)
-    (receipt_decides c log x.stamp tells.number p.seq p.attempt (decided p.message tells.answer v) s k v (verdict_frees p.message tells.answer v) (verdict_decides p.message tells.answer v) (verdict_is_told p.message tells.answer v) is)
+    (receipt_decides c log x.stamp tells.number p.seq p.attempt (decided p.message tells.answer v) s k v (decided_frees_none p.message tells.answer v) (verdict_decides p.message tells.answer v) (verdict_is_told p.message tells.answer v) is)
 
 -- the ends that a call leaves are those of the log with its entry
 pub call_counted : (c : Channel) (log : List Entry) (e : Ends) (call : Call) (x : Entry) → AreCounted c log e → Tells c e call x → AreCounted c (log ++ x ∷ []) (after e call)

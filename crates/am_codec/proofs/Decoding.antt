@@ -3,7 +3,7 @@ use Rattle.std.proofs.Common.{◌≡◌, ℕ, true, false, List, Option, Some, N
 use Rattle.am_names.specs.declared.EndpointId.{EndpointId}
 use Rattle.am_model.specs.Endpoint.{Body}
 use Rattle.am_image.specs.Image.{image}
-use Rattle.am_image.specs.Laws.{IsBytes}
+use Rattle.am_lemmas.specs.Bytes.{AreBytes}
 use Rattle.am_image.specs.Reading.{whole_body}
 use Rattle.am_image.specs.Valid.{IsValid}
 use Rattle.am_image.proofs.Bodies.{IsImage, is_written, whole_again, whole_takes}
@@ -33,7 +33,7 @@ not_passed e pool bytes x found failed b is h = apart (sym failed ∙ (ap (passe
     apart : false ≡ true → ⊥
     apart e = cc
 
-pub passed : (e : EndpointId) (pool : Option ℕ) (bytes : List ℕ) (x : Body) → IsBytes bytes → whole_body e bytes ≡ Some x → passes e pool x ≡ true → Decodes e pool bytes (Some x)
+pub passed : (e : EndpointId) (pool : Option ℕ) (bytes : List ℕ) (x : Body) → AreBytes bytes → whole_body e bytes ≡ Some x → passes e pool x ≡ true → Decodes e pool bytes (Some x)
 passed e pool bytes x fits found h =
     let is : IsImage e bytes x = whole_takes e bytes x fits found in
     (is.image_is, passes_valid e pool x is.written h)

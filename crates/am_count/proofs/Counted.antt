@@ -12,6 +12,7 @@ use Rattle.std.proofs.lemmas.List.{append-nil, length-map}
 use Rattle.std.proofs.lemmas.List.FromFn.{map-range_with_len_more}
 use Rattle.std.proofs.lemmas.List.Sums.{sum_by-append, sum_by-cons}
 use Rattle.std.proofs.lemmas.Slice.Zip.{all_zipped_more}
+use Rattle.am_lemmas.specs.Bytes.{AreBytes}
 use Rattle.am_office.specs.declared.Entry.{Entry}
 use Rattle.am_office.specs.declared.Part.{Part}
 use Rattle.am_scenario_types.specs.Lists.{ScenarioLists}
@@ -19,7 +20,7 @@ use Rattle.am_words.specs.declared.codes.CodedWord.{CodedWord}
 use Rattle.am_words.specs.Codes.{coded, sent_words}
 use Rattle.am_words.specs.Counts.{Counted, IsCountOf, Tells, rows_of, same_word, see_journal, times, words_run}
 use Rattle.am_words.specs.Lists.{WordCountLists}
-use Rattle.am_words.specs.Texts.{IsText, is_long, is_short, long_count, short_words, words_of}
+use Rattle.am_words.specs.Texts.{is_long, is_short, long_count, short_words, words_of}
 use Rattle.am_words.proofs.Tallied.{same_is, tells_journal, tells_nothing}
 use Rattle.am_words.proofs.Told.{rows_count}
 use Rattle.am_job.specs.Asked.{ask_script, asked_in_all, run_in_all, words_asked}
@@ -163,7 +164,7 @@ left_told : (asked : List (List ℕ)) (journals : List (List Entry)) (rows : Lis
 left_told asked journals rows count ends = λ (k : ℕ) (d : WordCountLists) (below : k < length rows). omega (arith, count.both k d below, count.ran' k d below, ends (get_or rows k d).word)
 
 pub text_counted : (is_run : ScenarioLists → List Entry → Type 0) (w turns : ℕ) (text : List ℕ) (sent : List CodedWord) (counted : Counted) (rows : List WordCountLists) (all long : ℕ) (printed : List ℕ)
-    → 0 < w → w ≤ 8 → IsText text → length text ≤ 1_048_576 → sent ≡ sent_words text → IsStrictlySortedBy (slice_cmp nat_cmp) (keys_of counted) → CountsAll is_run w turns sent (round_count w (length sent)) counted → rows ≡ rows_of counted
+    → 0 < w → w ≤ 8 → AreBytes text → length text ≤ 1_048_576 → sent ≡ sent_words text → IsStrictlySortedBy (slice_cmp nat_cmp) (keys_of counted) → CountsAll is_run w turns sent (round_count w (length sent)) counted → rows ≡ rows_of counted
     → long ≡ long_count text → all ≡ min (length sent + long) 0xffff_ffff_ffff_ffff → printed ≡ count_text w turns all long rows → PrintsCount is_run w turns text printed
 text_counted is_run w turns text sent counted rows all long printed some nodes is small sent_is sorted counts' rows_are long_is all_is print =
     let counts : CountsAll is_run w turns (sent_words text) (round_count w (length (sent_words text))) counted = subst (λ (l : List CodedWord). CountsAll is_run w turns l (round_count w (length l)) counted) sent_is counts' in

@@ -17,6 +17,7 @@ use Rattle.am_office.specs.declared.Entry.{Entry}
 use Rattle.am_office.specs.Entries.{emitted_of, answer_by, answer_packet}
 use Rattle.am_model.specs.Channels.{Channel, arrival, emitted, is_on_link}
 use Rattle.am_model.proofs.Names.{same_node-refl}
+use Rattle.am_model.proofs.Received.{bit}
 use Rattle.am_channel.specs.declared.ends.Ends.{Ends}
 use Rattle.am_channel.specs.declared.sending.Bound.{Bound}
 use Rattle.am_channel.specs.declared.sending.TimedOut.{TimedOut}
@@ -24,7 +25,6 @@ use Rattle.am_channel.specs.declared.sending.TimedOut.TheVariants as Times
 use Rattle.am_channel.specs.Sending.{timed_out, settled}
 use Rattle.am_channel.specs.Calls.{Call, Bind, TimeOut, Answer, Arrive, Tells, TellsTimedOut, TellsTimeOut, settled_as, arrived_as}
 use Rattle.am_channel.proofs.Pushes.{entry_is}
-use Rattle.am_iface.specs.Made.{bit}
 use Rattle.am_local.proofs.Growing.{on_link}
 
 pub emitted_push : (node peer : NodeId) (xs : List Entry) (x : Entry) → emitted node peer (xs ++ x ∷ []) ≡ emitted node peer xs ++ on_link node peer (emitted_of x)

@@ -11,6 +11,7 @@ use Rattle.am_office.specs.Entries.{emitted_of}
 use Rattle.am_model.specs.Channels.{Channel, emitted}
 use Rattle.am_model.specs.History.{channel_to}
 use Rattle.am_model.specs.Layout.{node_at}
+use Rattle.am_model.proofs.Received.{bit, bit_at_most}
 use Rattle.am_channel.specs.declared.ends.Ends.{Ends}
 use Rattle.am_channel.specs.Counted.{AreCounted}
 use Rattle.am_channel.proofs.Pushes.{call_counted}
@@ -20,7 +21,7 @@ use Rattle.am_iface.specs.Kept.{AreOfLog, AreEndsOf, AreEmissionsOf, IsCounted, 
 use Rattle.am_iface.specs.View.{InterfaceView, own}
 use Rattle.am_iface.specs.declared.Interface.TheInside.{Inside}
 use Rattle.am_local.specs.Interface.{channel_in}
-use Rattle.am_iface.specs.Made.{IsMade, bit}
+use Rattle.am_iface.specs.Made.{IsMade}
 use Rattle.am_iface.proofs.Emissions.{call_emits}
 
 -- the ends of the call's channel are new, and those of the others as they were
@@ -45,10 +46,6 @@ ends_made node peer channel log ends new x below are made to k e lt got =
         let same_peer : peer.0 ≡ to = ap (λ (c : Channel). c.peer.0) same in
         let same_channel : channel ≡ k = ap (λ (c : Channel). c.number) same in
         both.0 (omega (arith, same_peer, same_channel)))
-
-bit_at_most : (b : Bool) → bit b ≤ 1
-bit_at_most true = omega arith
-bit_at_most false = omega arith
 
 -- one packet more to its peer, if it emits one
 emissions_made : (node peer : NodeId) (channel : ℕ) (log : List Entry) (counts : List ℕ) (n : ℕ) (new : Ends) (x : Entry) → AreEmissionsOf node log counts → IsMade (channel_to node peer channel) log new x → slice_get counts peer.0 ≡ Some n → AreEmissionsOf node (log ++ x ∷ []) (slice_set counts peer.0 (n + bit (is_some (emitted_of x))))

@@ -1,5 +1,5 @@
 -- A call on a channel of an interface, and the entry that tells of it.
-use Rattle.std.specs.Prelude.{◌≡◌, ℕ, Bool, true, false, List}
+use Rattle.std.specs.Prelude.{◌≡◌, List}
 use Rattle.am_office.specs.declared.Entry.{Entry}
 use Rattle.am_model.specs.Channels.{Channel}
 use Rattle.am_channel.specs.declared.ends.Ends.{Ends}
@@ -13,8 +13,3 @@ pub record IsMade (c : Channel) (log : List Entry) (new : Ends) (x : Entry) : Ty
   pub call : Call
   pub tells : Tells c old call x
   pub leaves : new ≡ after old call
-
--- 1 for true, 0 for false
-abbrev pub bit : Bool → ℕ
-bit true = 1
-bit false = 0

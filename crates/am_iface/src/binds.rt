@@ -21,10 +21,10 @@ use crate::entries::{bind_entry, sent};
 use crate::packets::emits;
 use crate::{Interface, write};
 use am_channel::Ends;
-use am_endpoint::{Endpoint, growth};
+use am_endpoint::Endpoint;
 use am_model::{EntryFault, Queued, is_resident};
 use am_names::{EndpointId, Message, NodeId};
-use am_office::{Condition, Entry, Part};
+use am_office::{Condition, Entry, Part, growth};
 
 impl Interface {
     /// The node of an endpoint, if it is declared.

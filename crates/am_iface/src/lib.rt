@@ -19,12 +19,12 @@ ghost use Rattle.am_model.specs.History.{is_bound, next_number};
 ghost use Rattle.am_names.specs.declared.Packet.TheVariants as Packets;
 ghost use Rattle.am_model.specs.Channels.{attempt, bound_message, emitted};
 ghost use Rattle.std.specs.Option.{option_copied, option_map};
-ghost use Rattle.am_iface.specs.Made.{IsMade, bit};
+ghost use Rattle.am_iface.specs.Made.{IsMade};
 ghost use Rattle.am_office.specs.Entries.{emitted_of};
 ghost use Rattle.am_office.specs.declared.Entry.{Entry};
 ghost use Rattle.am_office.specs.declared.Condition.{Condition};
 ghost use Rattle.am_office.specs.declared.Part.{Part};
-ghost use Rattle.std.specs.Prelude.{◌≡◌, ◌≢◌, ◌↔◌, ◌+◌, ◌-◌, ◌*◌, ◌<◌, ◌≤◌, ◌^◌, IsTrue, false, max, None, Some, [], ◌∷◌, ◌++◌, length, IfOk, IfSome, List, OnOk, OnErr, Err, get_or, slice_get, slice_set};
+ghost use Rattle.std.specs.Prelude.{◌≡◌, ◌≢◌, ◌↔◌, ◌+◌, ◌-◌, ◌*◌, ◌<◌, ◌≤◌, ◌^◌, IsTrue, cond, false, max, None, Some, [], ◌∷◌, ◌++◌, length, IfOk, IfSome, List, OnOk, OnErr, Err, get_or, slice_get, slice_set};
 
 mod binds;
 mod by_ends;
@@ -45,12 +45,12 @@ pub use crate::settings::IfaceSettings;
 use crate::settings::Limits;
 pub use am_channel::Bound;
 use am_channel::{Ends, TimedOut};
-use am_endpoint::{Endpoint, growth};
+use am_endpoint::Endpoint;
 pub use am_local::work::Work;
 pub use am_model::EntryFault;
 use am_names::{AnswerPacket, EndpointId, NodeId, Packet, Parcel};
 pub use am_office::NoMemory;
-use am_office::{Condition, Entry, Part, Received};
+use am_office::{Condition, Entry, Part, Received, growth};
 use std::alloc::Global;
 use std::marker::Model;
 
@@ -567,9 +567,9 @@ fn write(
 )
     requires peer { peer.0 < length emissions.old.items }
     requires channel { 4 * peer.0 + channel < length all.old.items }
-    requires count { get_or emissions.old.items peer.0 0 + bit emits < 2 ^ 32 }
+    requires count { get_or emissions.old.items peer.0 0 + cond emits 1 0 < 2 ^ 32 }
     ensures ends { all.new.items ≡ slice_set all.old.items (4 * peer.0 + channel) ends.now }
-    ensures emissions { emissions.new.items ≡ slice_set emissions.old.items peer.0 (get_or emissions.old.items peer.0 0 + bit emits) }
+    ensures emissions { emissions.new.items ≡ slice_set emissions.old.items peer.0 (get_or emissions.old.items peer.0 0 + cond emits 1 0) }
 {
     let to = peer.0 as usize;
     all[4 * to + channel as usize] = *ends;
@@ -577,7 +577,7 @@ fn write(
 }
 
 fn one_if(is: bool) -> u32
-    ensures { result ≡ bit is }
+    ensures { result ≡ cond is 1 0 }
 {
     if is { 1 } else { 0 }
 }

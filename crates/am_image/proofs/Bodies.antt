@@ -8,6 +8,8 @@ use Rattle.std.proofs.lemmas.List.{append-nil, nil_from_length}
 use Rattle.std.proofs.lemmas.List.Sums.{count_by-le-length}
 use Rattle.std.proofs.lemmas.Slice.Eq.{starts_is}
 use Rattle.std.proofs.lemmas.Option.{cond_some}
+use Rattle.am_lemmas.specs.Bytes.{AreBytes}
+use Rattle.am_lemmas.proofs.Bytes.{bytes-drop}
 use Rattle.am_lemmas.proofs.Bools.{and_first, and_second}
 use Rattle.am_names.specs.declared.EndpointId.{EndpointId}
 use Rattle.am_names.specs.declared.Message.{Message}
@@ -26,7 +28,7 @@ use Rattle.am_image.specs.Range.{fits_mapping, fits_record, fits_handler, fits_q
 use Rattle.am_image.specs.Valid.{IsValid}
 use Rattle.am_image.specs.Laws.{EachBodyHasItsImage, ImagesAreRead, ReadingIsOfImages}
 use Rattle.am_image.specs.Reading.{Read, long_at, short_at, mapping_at, record_at, handler_at, message_at, notice_at, received_at, many_at, counted_at, magic_at, body_of, body_at, whole_body}
-use Rattle.am_image.proofs.Fields.{IsBytes, IsBytes-drop, IsReader, then_some, step, some_is, turn_parts, short_reader, long_reader}
+use Rattle.am_image.proofs.Fields.{IsReader, then_some, step, some_is, turn_parts, short_reader, long_reader}
 use Rattle.am_image.proofs.Messages.{message_reader, notice_reader, received_reader}
 use Rattle.am_image.proofs.Sizes.{split}
 use Rattle.am_image.proofs.Parts.{fits_own, mapping_reader, record_reader, handler_reader, many_takes, many_again, fits_counted, counted_reader}
@@ -145,11 +147,11 @@ magic_takes bytes rest e =
     let told = starts_is Decides-eqb bytes magic (starts_with nat_eq bytes magic) refl in
     told.0 g.0 ∙ ap (λ (w : List ℕ). magic ++ w) g.1
 
-magic_fits : (bytes rest : List ℕ) → IsBytes bytes → magic_at bytes ≡ Some rest → IsBytes rest
+magic_fits : (bytes rest : List ℕ) → AreBytes bytes → magic_at bytes ≡ Some rest → AreBytes rest
 unfolding magic_at
 magic_fits bytes rest fits e =
     let g = cond_some (starts_with nat_eq bytes magic) (drop 5 bytes) rest e in
-    subst IsBytes g.1 (IsBytes-drop 5 bytes fits)
+    subst AreBytes g.1 (bytes-drop 5 bytes fits)
 
 -- the parts of a body, each taken behind the one before it
 body_parts : (bytes head : List ℕ) (t s a : ℕ × List ℕ) (m : List (Option Mapping) × List ℕ) (w : List Awaited × List ℕ) (h : List (Option HandlerKind) × List ℕ) (q p : List Queued × List ℕ) (n : List Notice × List ℕ) (r : List Message × List ℕ) → bytes ≡ magic ++ head → head ≡ long t.0 ++ t.1 → t.1 ≡ long s.0 ++ s.1 → s.1 ≡ short a.0 ++ a.1 → a.1 ≡ flat_map mapping_bytes m.0 ++ m.1 → m.1 ≡ counted record_bytes w.0 ++ w.1 → w.1 ≡ flat_map handler_bytes h.0 ++ h.1 → h.1 ≡ counted queued_bytes q.0 ++ q.1 → q.1 ≡ counted queued_bytes p.0 ++ p.1 → p.1 ≡ counted notice_bytes n.0 ++ n.1 → n.1 ≡ counted received_bytes r.0 ++ r.1 → bytes ≡ image (body_of t.0 s.0 a.0 m.0 w.0 h.0 q.0 p.0 n.0 r.0) ++ r.1
@@ -176,7 +178,7 @@ body_parts bytes head t s a m w h q p n r eg et es ea em ew eh eq ep en er =
     let e1 : head ≡ in_turn p1 ++ r.1 = turn_parts head (long t.0) t.1 p2 r.1 et e2 in
     turn_parts bytes magic head p1 r.1 eg e1
 
-body_takes : (e : EndpointId) (bytes : List ℕ) (x : Body) (rest : List ℕ) → IsBytes bytes → body_at e bytes ≡ Some (x, rest) → TookAll e bytes x rest
+body_takes : (e : EndpointId) (bytes : List ℕ) (x : Body) (rest : List ℕ) → AreBytes bytes → body_at e bytes ≡ Some (x, rest) → TookAll e bytes x rest
 unfolding body_at
 body_takes e bytes x rest fits is =
     then_some (magic_at bytes) _ (x, rest) is (λ g eg g'.
@@ -228,7 +230,7 @@ pub record IsImage (e : EndpointId) (bytes : List ℕ) (b : Body) : Type 0 where
   pub image_is : image b ≡ bytes
   pub written : IsWritten e b
 
-pub whole_takes : (e : EndpointId) (bytes : List ℕ) (b : Body) → IsBytes bytes → whole_body e bytes ≡ Some b → IsImage e bytes b
+pub whole_takes : (e : EndpointId) (bytes : List ℕ) (b : Body) → AreBytes bytes → whole_body e bytes ≡ Some b → IsImage e bytes b
 unfolding whole_body
 whole_takes e bytes b fits is =
     then_some (body_at e bytes) _ b is (λ x ex x'.

@@ -3,6 +3,7 @@ use Rattle.std.proofs.Common.{◌≡◌, ℕ, true, ◌&&◌, List, [], ◌∷�
 use Rattle.std.specs.Prelude.{◌==◌}
 use Rattle.std.proofs.lemmas.Bool.{eqb-true, and_from}
 use Rattle.std.proofs.lemmas.Option.{cond_some}
+use Rattle.am_lemmas.specs.Bytes.{AreBytes}
 use Rattle.am_lemmas.proofs.Bools.{and_first, and_second}
 use Rattle.am_lemmas.proofs.Binds.{bind_some}
 use Rattle.am_names.specs.declared.Serial.{Serial}
@@ -19,11 +20,11 @@ use Rattle.am_model.specs.History.{is_byte, is_four_bytes, is_eight_bytes, are_w
 use Rattle.am_image.specs.Image.{in_turn, byte, short, long, serial_bytes, words_bytes, about_bytes, kind_number, why_number, message_bytes, queued_bytes, notice_bytes, received_bytes}
 use Rattle.am_image.specs.Range.{fits_serial, fits_about, fits_message, fits_queued, fits_notice}
 use Rattle.am_image.specs.Reading.{Read, byte_at, short_at, long_at, serial_at, words_at, some_serial_at, about_at, kind_of, why_of, made, message_at, notice_at, received_at}
-use Rattle.am_image.proofs.Fields.{IsBytes, Took, IsReader, then_some, step, some_is, none_some, by_mark, by_number, turn_again, turn_parts, byte_reader, short_reader, long_reader}
+use Rattle.am_image.proofs.Fields.{Took, IsReader, then_some, step, some_is, none_some, by_mark, by_number, turn_again, turn_parts, byte_reader, short_reader, long_reader}
 
 -- ---- serials and words
 
-serial_takes : (bytes : List ℕ) (x : Serial) (rest : List ℕ) → IsBytes bytes → serial_at bytes ≡ Some (x, rest) → Took fits_serial serial_bytes bytes x rest
+serial_takes : (bytes : List ℕ) (x : Serial) (rest : List ℕ) → AreBytes bytes → serial_at bytes ≡ Some (x, rest) → Took fits_serial serial_bytes bytes x rest
 unfolding serial_at
 serial_takes bytes x rest fits e =
     let a = bind_some (byte_at bytes) _ (x, rest) e in
@@ -49,7 +50,7 @@ serial_again x rest h =
 pub serial_reader : IsReader fits_serial serial_bytes serial_at
 serial_reader = record { takes = serial_takes; again = serial_again }
 
-words_takes : (bytes : List ℕ) (x : Words) (rest : List ℕ) → IsBytes bytes → words_at bytes ≡ Some (x, rest) → Took are_words_in_range words_bytes bytes x rest
+words_takes : (bytes : List ℕ) (x : Words) (rest : List ℕ) → AreBytes bytes → words_at bytes ≡ Some (x, rest) → Took are_words_in_range words_bytes bytes x rest
 unfolding words_at
 words_takes bytes x rest fits e =
     let a = bind_some (long_at bytes) _ (x, rest) e in
@@ -91,7 +92,7 @@ words_reader = record { takes = words_takes; again = words_again }
 abbrev none_read : List ℕ → Read (Option Serial)
 none_read rest = Some (None, rest)
 
-some_serial_takes : (bytes : List ℕ) (x : Option Serial) (rest : List ℕ) → IsBytes bytes → some_serial_at bytes ≡ Some (x, rest) → Took fits_about about_bytes (1 ∷ bytes) x rest
+some_serial_takes : (bytes : List ℕ) (x : Option Serial) (rest : List ℕ) → AreBytes bytes → some_serial_at bytes ≡ Some (x, rest) → Took fits_about about_bytes (1 ∷ bytes) x rest
 unfolding some_serial_at
 some_serial_takes bytes x rest fits e =
     let a = bind_some (serial_at bytes) _ (x, rest) e in
@@ -101,7 +102,7 @@ some_serial_takes bytes x rest fits e =
     subst (λ (y : Option Serial × List ℕ). Took fits_about about_bytes (1 ∷ bytes) y.0 y.1) (some_is made (x, rest) a.2)
     (record { parts = ap (λ (w : List ℕ). 1 ∷ w) p; rest_fits = t.rest_fits; in_range = t.in_range })
 
-about_takes : (bytes : List ℕ) (x : Option Serial) (rest : List ℕ) → IsBytes bytes → about_at bytes ≡ Some (x, rest) → Took fits_about about_bytes bytes x rest
+about_takes : (bytes : List ℕ) (x : Option Serial) (rest : List ℕ) → AreBytes bytes → about_at bytes ≡ Some (x, rest) → Took fits_about about_bytes bytes x rest
 unfolding about_at
 about_takes bytes x rest fits e =
     let a = bind_some (byte_at bytes) _ (x, rest) e in
@@ -112,7 +113,7 @@ about_takes bytes x rest fits e =
     with_mark : (n mark : ℕ) (after : List ℕ) → mark ≡ n → Took is_byte byte bytes mark after → Took fits_about about_bytes (n ∷ after) x rest → Took fits_about about_bytes bytes x rest
     with_mark n mark after is t took = subst (λ (w : List ℕ). Took fits_about about_bytes w x rest) (sym (t.parts ∙ ap (λ (k : ℕ). k ∷ after) is)) took
 
-    none : (after : List ℕ) → IsBytes after → none_read after ≡ Some (x, rest) → Took fits_about about_bytes (0 ∷ after) x rest
+    none : (after : List ℕ) → AreBytes after → none_read after ≡ Some (x, rest) → Took fits_about about_bytes (0 ∷ after) x rest
     none after after_fits h =
         let read : Option Serial × List ℕ = (None, after) in
         subst (λ (y : Option Serial × List ℕ). Took fits_about about_bytes (0 ∷ after) y.0 y.1) (some_is read (x, rest) h) (record { parts = refl; rest_fits = after_fits; in_range = refl })
@@ -179,7 +180,7 @@ message_fits : (a : Serial) (k : MsgKind) (d t h : ℕ) (w : Words) (r : ℕ) (o
 message_fits a k d t h w r o fa fd ft fh fw fr fo =
     and_from (fits_serial a) _ fa (and_from (is_byte d) _ fd (and_from (is_eight_bytes t) _ ft (and_from (is_byte h) _ fh (and_from (are_words_in_range w) _ fw (and_from (is_eight_bytes r) (fits_about o) fr fo)))))
 
-message_takes : (bytes : List ℕ) (x : Queued) (rest : List ℕ) → IsBytes bytes → message_at bytes ≡ Some (x, rest) → Took fits_queued queued_bytes bytes x rest
+message_takes : (bytes : List ℕ) (x : Queued) (rest : List ℕ) → AreBytes bytes → message_at bytes ≡ Some (x, rest) → Took fits_queued queued_bytes bytes x rest
 unfolding message_at
 message_takes bytes x rest fits e =
     then_some (serial_at bytes) _ (x, rest) e (λ a ea a'.
@@ -241,7 +242,7 @@ message_reader = record { takes = message_takes; again = message_again }
 
 -- ---- notices and received messages
 
-notice_takes : (bytes : List ℕ) (x : Notice) (rest : List ℕ) → IsBytes bytes → notice_at bytes ≡ Some (x, rest) → Took fits_notice notice_bytes bytes x rest
+notice_takes : (bytes : List ℕ) (x : Notice) (rest : List ℕ) → AreBytes bytes → notice_at bytes ≡ Some (x, rest) → Took fits_notice notice_bytes bytes x rest
 unfolding notice_at
 notice_takes bytes x rest fits e =
     then_some (message_at bytes) _ (x, rest) e (λ a ea a'.
@@ -277,7 +278,7 @@ notice_again x rest h =
 pub notice_reader : IsReader fits_notice notice_bytes notice_at
 notice_reader = record { takes = notice_takes; again = notice_again }
 
-received_takes : (bytes : List ℕ) (x : Message) (rest : List ℕ) → IsBytes bytes → received_at bytes ≡ Some (x, rest) → Took fits_message received_bytes bytes x rest
+received_takes : (bytes : List ℕ) (x : Message) (rest : List ℕ) → AreBytes bytes → received_at bytes ≡ Some (x, rest) → Took fits_message received_bytes bytes x rest
 unfolding received_at
 received_takes bytes x rest fits e =
     then_some (message_at bytes) _ (x, rest) e (λ a ea a'.

@@ -4,6 +4,7 @@ use Rattle.std.specs.Prelude.{flat_map}
 use Rattle.std.specs.List.{list_all}
 use Rattle.std.proofs.lemmas.List.Concat.{flat_map-cons}
 use Rattle.std.proofs.lemmas.Bool.{and_from}
+use Rattle.am_lemmas.specs.Bytes.{AreBytes}
 use Rattle.am_lemmas.proofs.Bools.{and_first, and_second}
 use Rattle.am_names.specs.declared.EndpointId.{EndpointId}
 use Rattle.am_names.specs.Names.{same_end}
@@ -16,14 +17,14 @@ use Rattle.am_model.proofs.Names.{same_end-is, same_end-refl}
 use Rattle.am_image.specs.Image.{in_turn, byte, short, long, counted, mapping_bytes, record_bytes, state_number, handler_bytes}
 use Rattle.am_image.specs.Range.{fits_mapping, fits_record, fits_handler}
 use Rattle.am_image.specs.Reading.{Read, byte_at, short_at, long_at, some_mapping_at, mapping_at, state_of, record_at, echo_at, add_at, handler_by, handler_at, many_at, counted_at}
-use Rattle.am_image.proofs.Fields.{IsBytes, Took, IsReader, then_some, step, some_is, none_some, by_mark, by_number, turn_again, turn_parts, byte_reader, short_reader, long_reader}
+use Rattle.am_image.proofs.Fields.{Took, IsReader, then_some, step, some_is, none_some, by_mark, by_number, turn_again, turn_parts, byte_reader, short_reader, long_reader}
 
 -- a value behind a mark
 behind : {X : Type 0} (fits : X → Bool) (text : X → List ℕ) (bytes : List ℕ) (x : X) (rest : List ℕ) (n mark : ℕ) (after : List ℕ) → mark ≡ n → Took is_byte byte bytes mark after → Took fits text (n ∷ after) x rest → Took fits text bytes x rest
 behind fits text bytes x rest n mark after is t took = subst (λ (w : List ℕ). Took fits text w x rest) (sym (t.parts ∙ ap (λ (k : ℕ). k ∷ after) is)) took
 
 -- a value that is written as a mark alone
-alone : {X : Type 0} (fits : X → Bool) (text : X → List ℕ) (n : ℕ) (v x : X) (after rest : List ℕ) → fits v ≡ true → text v ≡ n ∷ [] → IsBytes after → ◌≡◌ {A = Option (X × List ℕ)} (let read : X × List ℕ = (v, after) in Some read) (let found : X × List ℕ = (x, rest) in Some found) → Took fits text (n ∷ after) x rest
+alone : {X : Type 0} (fits : X → Bool) (text : X → List ℕ) (n : ℕ) (v x : X) (after rest : List ℕ) → fits v ≡ true → text v ≡ n ∷ [] → AreBytes after → ◌≡◌ {A = Option (X × List ℕ)} (let read : X × List ℕ = (v, after) in Some read) (let found : X × List ℕ = (x, rest) in Some found) → Took fits text (n ∷ after) x rest
 alone {X} fits text n v x after rest in_range is after_fits h =
     let read : X × List ℕ = (v, after) in
     let found : X × List ℕ = (x, rest) in
@@ -31,7 +32,7 @@ alone {X} fits text n v x after rest in_range is after_fits h =
 
 -- ---- mappings
 
-some_mapping_takes : (bytes : List ℕ) (x : Option Mapping) (rest : List ℕ) → IsBytes bytes → some_mapping_at bytes ≡ Some (x, rest) → Took fits_mapping mapping_bytes (1 ∷ bytes) x rest
+some_mapping_takes : (bytes : List ℕ) (x : Option Mapping) (rest : List ℕ) → AreBytes bytes → some_mapping_at bytes ≡ Some (x, rest) → Took fits_mapping mapping_bytes (1 ∷ bytes) x rest
 unfolding some_mapping_at
 some_mapping_takes bytes x rest fits e =
     then_some (byte_at bytes) _ (x, rest) e (λ a ea a'.
@@ -51,7 +52,7 @@ some_mapping_takes bytes x rest fits e =
       in_range = and_from (is_byte a.0) (is_eight_bytes b.0 && is_byte c.0) at.in_range (and_from (is_eight_bytes b.0) (is_byte c.0) bt.in_range ct.in_range);
     }))))
 
-mapping_takes : (bytes : List ℕ) (x : Option Mapping) (rest : List ℕ) → IsBytes bytes → mapping_at bytes ≡ Some (x, rest) → Took fits_mapping mapping_bytes bytes x rest
+mapping_takes : (bytes : List ℕ) (x : Option Mapping) (rest : List ℕ) → AreBytes bytes → mapping_at bytes ≡ Some (x, rest) → Took fits_mapping mapping_bytes bytes x rest
 unfolding mapping_at
 mapping_takes bytes x rest fits e =
     then_some (byte_at bytes) _ (x, rest) e (λ a ea a'.
@@ -92,7 +93,7 @@ state_fits true = refl
 abbrev pub fits_own : EndpointId → Awaited → Bool
 fits_own e a = same_end e a.serial.source && fits_record a
 
-record_takes : (own : EndpointId) (bytes : List ℕ) (x : Awaited) (rest : List ℕ) → IsBytes bytes → record_at own bytes ≡ Some (x, rest) → Took (fits_own own) record_bytes bytes x rest
+record_takes : (own : EndpointId) (bytes : List ℕ) (x : Awaited) (rest : List ℕ) → AreBytes bytes → record_at own bytes ≡ Some (x, rest) → Took (fits_own own) record_bytes bytes x rest
 unfolding record_at
 record_takes own bytes x rest fits e =
     then_some (byte_at bytes) _ (x, rest) e (λ a ea a'.
@@ -134,7 +135,7 @@ record_reader own = record { takes = record_takes own; again = record_again own 
 
 -- ---- handlers
 
-echo_takes : (bytes : List ℕ) (x : Option HandlerKind) (rest : List ℕ) → IsBytes bytes → echo_at bytes ≡ Some (x, rest) → Took fits_handler handler_bytes (2 ∷ bytes) x rest
+echo_takes : (bytes : List ℕ) (x : Option HandlerKind) (rest : List ℕ) → AreBytes bytes → echo_at bytes ≡ Some (x, rest) → Took fits_handler handler_bytes (2 ∷ bytes) x rest
 unfolding echo_at
 echo_takes bytes x rest fits e =
     then_some (byte_at bytes) _ (x, rest) e (λ a ea a'.
@@ -143,7 +144,7 @@ echo_takes bytes x rest fits e =
     subst (λ (y : Option HandlerKind × List ℕ). Took fits_handler handler_bytes (2 ∷ bytes) y.0 y.1) (some_is read (x, rest) a')
     (record { parts = ap (λ (w : List ℕ). 2 ∷ w) at.parts; rest_fits = at.rest_fits; in_range = at.in_range }))
 
-add_takes : (bytes : List ℕ) (x : Option HandlerKind) (rest : List ℕ) → IsBytes bytes → add_at bytes ≡ Some (x, rest) → Took fits_handler handler_bytes (3 ∷ bytes) x rest
+add_takes : (bytes : List ℕ) (x : Option HandlerKind) (rest : List ℕ) → AreBytes bytes → add_at bytes ≡ Some (x, rest) → Took fits_handler handler_bytes (3 ∷ bytes) x rest
 unfolding add_at
 add_takes bytes x rest fits e =
     then_some (byte_at bytes) _ (x, rest) e (λ a ea a'.
@@ -152,7 +153,7 @@ add_takes bytes x rest fits e =
     subst (λ (y : Option HandlerKind × List ℕ). Took fits_handler handler_bytes (3 ∷ bytes) y.0 y.1) (some_is read (x, rest) a')
     (record { parts = ap (λ (w : List ℕ). 3 ∷ w) at.parts; rest_fits = at.rest_fits; in_range = at.in_range }))
 
-handler_takes : (bytes : List ℕ) (x : Option HandlerKind) (rest : List ℕ) → IsBytes bytes → handler_at bytes ≡ Some (x, rest) → Took fits_handler handler_bytes bytes x rest
+handler_takes : (bytes : List ℕ) (x : Option HandlerKind) (rest : List ℕ) → AreBytes bytes → handler_at bytes ≡ Some (x, rest) → Took fits_handler handler_bytes bytes x rest
 unfolding handler_at handler_by
 handler_takes bytes x rest fits e =
     then_some (byte_at bytes) _ (x, rest) e (λ a ea a'.
@@ -181,7 +182,7 @@ pub record TookMany {X : Type 0} (fits : X → Bool) (text : X → List ℕ) (n 
   pub took : Took (list_all fits) (flat_map text) bytes xs rest
   pub len : length xs ≡ n
 
-pub many_takes : {X : Type 0} (fits : X → Bool) (text : X → List ℕ) (at : List ℕ → Read X) → IsReader fits text at → (n : ℕ) (bytes : List ℕ) (xs : List X) (rest : List ℕ) → IsBytes bytes → many_at at n bytes ≡ Some (xs, rest) → TookMany fits text n bytes xs rest
+pub many_takes : {X : Type 0} (fits : X → Bool) (text : X → List ℕ) (at : List ℕ → Read X) → IsReader fits text at → (n : ℕ) (bytes : List ℕ) (xs : List X) (rest : List ℕ) → AreBytes bytes → many_at at n bytes ≡ Some (xs, rest) → TookMany fits text n bytes xs rest
 unfolding many_at
 many_takes {X} fits text at reader zero bytes xs rest byte_fits e =
     let read : List X × List ℕ = ([], bytes) in
@@ -214,7 +215,7 @@ many_again {X} fits text at reader (x ∷ xs) rest h =
 abbrev pub fits_counted : {X : Type 0} → (X → Bool) → List X → Bool
 fits_counted fits xs = is_byte (length xs) && list_all fits xs
 
-counted_takes : {X : Type 0} (fits : X → Bool) (text : X → List ℕ) (at : List ℕ → Read X) → IsReader fits text at → (bytes : List ℕ) (xs : List X) (rest : List ℕ) → IsBytes bytes → counted_at at bytes ≡ Some (xs, rest) → Took (fits_counted fits) (counted text) bytes xs rest
+counted_takes : {X : Type 0} (fits : X → Bool) (text : X → List ℕ) (at : List ℕ → Read X) → IsReader fits text at → (bytes : List ℕ) (xs : List X) (rest : List ℕ) → AreBytes bytes → counted_at at bytes ≡ Some (xs, rest) → Took (fits_counted fits) (counted text) bytes xs rest
 unfolding counted_at
 counted_takes {X} fits text at reader bytes xs rest byte_fits e =
     then_some (byte_at bytes) _ (xs, rest) e (λ a ea a'.

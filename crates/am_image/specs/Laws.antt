@@ -1,5 +1,6 @@
 -- What is said of images.
-use Rattle.std.specs.Prelude.{◌≡◌, ℕ, ◌<◌, Option, Some, List, length, slice_index}
+use Rattle.std.specs.Prelude.{◌≡◌, ℕ, ◌<◌, Option, Some, List, length}
+use Rattle.am_lemmas.specs.Bytes.{AreBytes}
 use Rattle.am_names.specs.declared.EndpointId.{EndpointId}
 use Rattle.am_model.specs.Endpoint.{Body}
 use Rattle.am_image.specs.Image.{image, image_size}
@@ -19,13 +20,9 @@ EachBodyHasItsImage =
 abbrev pub ImagesAreShort : Type 0
 ImagesAreShort = (e : EndpointId) (pool : Option ℕ) (b : Body) → IsValid e pool b → length (image b) < 6000
 
--- each of these numbers is a byte
-abbrev pub IsBytes : List ℕ → Type 0
-IsBytes bytes = (i : ℕ) → slice_index bytes i < 256
-
 -- bytes from which a body is read are its image
 abbrev pub ReadingIsOfImages : Type 0
-ReadingIsOfImages = (e : EndpointId) (bytes : List ℕ) (b : Body) → IsBytes bytes → whole_body e bytes ≡ Some b → image b ≡ bytes
+ReadingIsOfImages = (e : EndpointId) (bytes : List ℕ) (b : Body) → AreBytes bytes → whole_body e bytes ≡ Some b → image b ≡ bytes
 
 -- from the image of a valid body that body is read
 abbrev pub ImagesAreRead : Type 0

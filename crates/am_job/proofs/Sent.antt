@@ -12,6 +12,7 @@ use Rattle.std.proofs.lemmas.List.{length-map, take-map, drop-map, drop-take, ta
 use Rattle.std.proofs.lemmas.List.Elements.{All-nil, All-cons, All-head, All-tail, All-append, All-take, All-drop, All-filter, filter_map-append, filter_passes}
 use Rattle.std.proofs.lemmas.List.Sums.{count_by-le-length}
 use Rattle.std.proofs.lemmas.List.FromFn.{map-range_with_len_more}
+use Rattle.am_lemmas.specs.Bytes.{AreBytes}
 use Rattle.am_office.specs.declared.Entry.{Entry}
 use Rattle.am_office.specs.declared.Call.TheVariants.{Poll, Request, SetHandler}
 use Rattle.am_office.specs.declared.HandlerKind.TheVariants.{Note}
@@ -21,7 +22,7 @@ use Rattle.am_words.specs.declared.codes.CodedWord.{CodedWord}
 use Rattle.am_words.specs.Codes.{coded, sent_words}
 use Rattle.am_words.specs.Counts.{Counted, IsCountOf, Tells, ask, rows_of, same_word, see_journal, times, word_asked, words_run}
 use Rattle.am_words.specs.Lists.{WordCountLists}
-use Rattle.am_words.specs.Texts.{IsText, closed, is_gap, is_short, short_words, words_after, words_of}
+use Rattle.am_words.specs.Texts.{closed, is_gap, is_short, short_words, words_after, words_of}
 use Rattle.am_words.proofs.Carried.{IsWord, code_carries}
 use Rattle.am_words.proofs.Tallied.{grown, listed, tells_ask, tells_journal}
 use Rattle.am_words.proofs.Told.{rows_count}
@@ -141,18 +142,15 @@ ceiling n size some = omega arith
 
 -- ---- the words of a text
 
-abbrev IsRun : List ℕ → Type 0
-IsRun run = (i : ℕ) → get_or run i 0 < 256
-
 pub record IsFound (word : List ℕ) : Type 0 where
   pub some : 0 < length word
   pub small : (i : ℕ) → get_or word i 0 < 256
 
-closed_found : (run : List ℕ) → IsRun run → All IsFound (closed run)
+closed_found : (run : List ℕ) → AreBytes run → All IsFound (closed run)
 closed_found [] small = All-nil IsFound
 closed_found (byte ∷ run) small = All-cons IsFound (byte ∷ run) [] (record { some = omega arith; small = small }) (All-nil IsFound)
 
-push_small : (run : List ℕ) (byte : ℕ) → IsRun run → byte < 256 → IsRun (run ++ byte ∷ [])
+push_small : (run : List ℕ) (byte : ℕ) → AreBytes run → byte < 256 → AreBytes (run ++ byte ∷ [])
 push_small [] byte small low zero = low
 push_small [] byte small low (suc i) = lit< tt
 push_small (b ∷ run) byte small low zero = small zero
@@ -162,7 +160,7 @@ either_all : (b : Bool) (xs ys : List (List ℕ)) → All IsFound xs → All IsF
 either_all true xs ys p q = p
 either_all false xs ys p q = q
 
-words_found : (text begun : List ℕ) → IsText text → IsRun begun → All IsFound (words_after begun text)
+words_found : (text begun : List ℕ) → AreBytes text → AreBytes begun → All IsFound (words_after begun text)
 unfolding words_after
 words_found [] begun is small = closed_found begun small
 words_found (byte ∷ text) begun is small =
@@ -170,7 +168,7 @@ words_found (byte ∷ text) begun is small =
     (All-append IsFound (closed begun) (words_after [] text) (closed_found begun small) (words_found text [] (λ (i : ℕ). is (suc i)) (λ (i : ℕ). lit< tt)))
     (words_found text (begun ++ byte ∷ []) (λ (i : ℕ). is (suc i)) (push_small begun byte small (is zero)))
 
-pub short_are_words : (text : List ℕ) → IsText text → All IsWord (short_words text)
+pub short_are_words : (text : List ℕ) → AreBytes text → All IsWord (short_words text)
 short_are_words text is =
     λ (k : ℕ) (d : List ℕ) (below : k < length (short_words text)).
     let found : IsFound (get_or (short_words text) k d) = All-filter is_short IsFound (words_of text) (words_found text [] is (λ (i : ℕ). lit< tt)) k d below in
@@ -179,7 +177,7 @@ short_are_words text is =
 
 -- ---- the whole job
 
-pub rounds_send : (w turns : ℕ) (text : List ℕ) → 0 < w → w ≤ 8 → IsText text → asked_in_all (rounds_of w turns (sent_words text)) ≡ short_words text
+pub rounds_send : (w turns : ℕ) (text : List ℕ) → 0 < w → w ≤ 8 → AreBytes text → asked_in_all (rounds_of w turns (sent_words text)) ≡ short_words text
 rounds_send w turns text some few is =
     let words : List (List ℕ) = short_words text in
     let n : ℕ = round_count w (length (sent_words text)) in

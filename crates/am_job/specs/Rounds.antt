@@ -1,13 +1,14 @@
 -- The rounds in which the words of a text are sent, and the scenario of each.
 use Rattle.std.specs.Prelude.{◌≡◌, ℕ, ◌+◌, ◌-◌, ◌*◌, ◌/◌, ◌<◌, ◌≤◌, false, List, [], length, take, drop, map, None}
 use Rattle.std.specs.List.{range_with_len}
+use Rattle.am_lemmas.specs.Bytes.{AreBytes}
 use Rattle.am_scenario_types.specs.declared.parts.Network.TheVariants.{Packet}
 use Rattle.am_scenario_types.specs.declared.parts.EndLine.{EndLine}
 use Rattle.am_scenario_types.specs.declared.parts.ThreadLine.{ThreadLine}
 use Rattle.am_scenario_types.specs.Lists.{ScenarioLists}
 use Rattle.am_words.specs.declared.codes.CodedWord.{CodedWord}
 use Rattle.am_words.specs.Codes.{sent_words}
-use Rattle.am_words.specs.Texts.{IsText, long_count}
+use Rattle.am_words.specs.Texts.{long_count}
 use Rattle.am_job.specs.Lists.{JobLists}
 use Rattle.am_job.specs.Scripts.{script}
 
@@ -76,7 +77,7 @@ pub record IsJob (job : JobLists) : Type 0 where
   pub text : List ℕ
   pub w : ℕ
   pub turns : ℕ
-  pub is_text : IsText text
+  pub is_text : AreBytes text
   pub size : length text ≤ 1_048_576
   pub some : 0 < w
   pub nodes : w ≤ 8

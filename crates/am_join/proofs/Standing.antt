@@ -8,7 +8,7 @@ use Rattle.am_model.specs.Layout.{AllAre}
 use Rattle.am_model.specs.Merge.{is_before, is_ordered}
 use Rattle.am_merge.specs.Logs.{IsRising}
 use Rattle.am_merge.specs.Merged.{entries_of, is_same}
-use Rattle.am_merge.proofs.Sorted.{Has, has_first, has_last}
+use Rattle.am_merge.proofs.Sorted.{Has, has_first, has_last, has_append}
 use Rattle.am_join.specs.Heads.{log_at}
 use Rattle.am_join.specs.Joined.{added, is_last}
 
@@ -42,11 +42,6 @@ has_log [] x h = absurd h
 has_log (y ∷ log) x h =
     ⊎_elim (λ (here : y ≡ x). (0, ap (λ (z : Entry). Some z) here)) (λ (there : Has log x). (let r = has_log log x there in (suc r.0, r.1))) h
 
-pub has_either : (xs ys : List Entry) (z : Entry) → Has (xs ++ ys) z → Has xs z ⊎ Has ys z
-has_either [] ys z h = inr h
-has_either (x ∷ xs) ys z h =
-    ⊎_elim (λ (here : x ≡ z). inl (inl here)) (λ (there : Has (xs ++ ys) z). ⊎_elim (λ (a : Has xs z). inl (inr a)) (λ (b : Has ys z). inr b) (has_either xs ys z there)) h
-
 pub entry_there : (logs : List (List Entry)) (k place : ℕ) (x : Entry) → slice_get (log_at logs k) place ≡ Some x → Has (entries_of logs) x
 entry_there [] k place x is = absurd (none_there x is)
 entry_there (log ∷ logs) zero place x is = has_first log (entries_of logs) x (log_has log place x is)
@@ -58,7 +53,7 @@ there_entry (log ∷ logs) x h =
     ⊎_elim
     (λ (here : Has log x). (0, has_log log x here))
     (λ (there : Has (entries_of logs) x). (let r = there_entry logs x there in (suc r.0, r.1)))
-    (has_either log (entries_of logs) x h)
+    (has_append log (entries_of logs) x h)
 
 -- ---- a log in which stamps rise
 
@@ -134,7 +129,7 @@ added_has x xs z h = by_test (is_last x (slice_get xs (length xs - 1))) h
   where
     by_test : (b : Bool) → Has (if b then xs else xs ++ x ∷ []) z → Has xs z ⊎ (x ≡ z)
     by_test true g = inl g
-    by_test false g = ⊎_elim (λ (a : Has xs z). inl a) (λ (b : Has (x ∷ []) z). ⊎_elim (λ (here : x ≡ z). inr here) (λ (no : ⊥). absurd no) b) (has_either xs (x ∷ []) z g)
+    by_test false g = ⊎_elim (λ (a : Has xs z). inl a) (λ (b : Has (x ∷ []) z). ⊎_elim (λ (here : x ≡ z). inr here) (λ (no : ⊥). absurd no) b) (has_append xs (x ∷ []) z g)
 
 pub added_keeps : (x : Entry) (xs : List Entry) (z : Entry) → Has xs z → Has (added x xs) z
 added_keeps x xs z h = by_test (is_last x (slice_get xs (length xs - 1)))

@@ -5,7 +5,7 @@ ghost use Rattle.std.specs.Prelude.{◌≡◌, ◌<◌, [], true, false, length,
 
 use crate::places::link;
 use am_names::Packet;
-use am_office::NoMemory;
+use am_office::{NoMemory, growth};
 use std::alloc::Global;
 
 /// No packets on any link.
@@ -28,7 +28,8 @@ pub(crate) fn space_on(links: &mut Vec<Vec<Packet>>, place: usize) -> Result<(),
     ensures same { map items_of links.new.items ≡ map items_of links.old.items }
     ensures space { OnOk result (slice_index_or (map has_space links.new.items) place false ≡ true) }
 {
-    match links[place].reserve(1) {
+    let more = growth(&links[place]);
+    match links[place].reserve(more) {
         Ok(()) => Ok(()),
         Err(_) => Err(NoMemory),
     }

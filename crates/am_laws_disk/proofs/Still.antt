@@ -27,9 +27,10 @@ use Rattle.am_office.specs.Entries.{ends_touched, put_in, touched_by_expiry, tou
 use Rattle.am_model.specs.Changes.{changed, flying_of, received}
 use Rattle.am_model.specs.Channels.{Again, Arrival, Channel, Fresh, Stale, arrival, attempt, bound_message, emitted, mark, sequence, frees_by}
 use Rattle.am_model.specs.Endpoint.{State, front, is_on_disk, is_resident}
-use Rattle.am_model.specs.History.{IsHistory, MayFollow, arrive, bounced, channel_to, counts, decided, expire, failing, is_answered, is_home, next_number, outcome_of, receive, sent, settle, settle_by, state_of}
+use Rattle.am_model.specs.History.{IsHistory, MayFollow, arrive, bounced, channel_to, counts, expire, failing, is_answered, is_home, next_number, outcome_of, receive, sent, settle, settle_by, state_of}
 use Rattle.am_model.specs.Layout.{IsLawful, Layout}
 use Rattle.am_model.proofs.Each.{state_of_push}
+use Rattle.am_model.proofs.Channels.{decided_frees_none}
 use Rattle.am_model.proofs.Names.{same_end-is}
 use Rattle.am_model.proofs.Received.{one_touched}
 use Rattle.am_model.proofs.PlaceKinds.{resident_not_on_disk, framed_not_on_disk}
@@ -77,14 +78,10 @@ abbrev lands_in : Outcome → Bool
 lands_in (Out.Received channel seq attempt r) = frees_by r
 lands_in o = false
 
-decided_stays : (m : Message) (answer : ℕ) (v : Verdict) → frees_by (decided m answer v) ≡ false
-decided_stays m answer Verdicts.Accepted = refl
-decided_stays m answer (Verdicts.Refused cause) = refl
-
 arrive_stays : (layout : Layout) (past : List Entry) (m : Message) (answer : ℕ) (a : Arrival) → frees_by (arrive layout past m answer a) ≡ false
 arrive_stays layout past m answer Stale = refl
 arrive_stays layout past m answer (Again verdict) = refl
-arrive_stays layout past m answer Fresh = decided_stays m answer _
+arrive_stays layout past m answer Fresh = decided_frees_none m answer _
 
 settled_source : (e : EndpointId) (limit : ℕ) (m : Message) (bounces : ℕ) (v : Verdict) → list_any (same_end e) (touched_by_result (settle_by limit m bounces v)) ≡ true → list_any (same_end e) (m.serial.source ∷ []) ≡ true
 settled_source e limit m bounces Verdicts.Accepted t = t

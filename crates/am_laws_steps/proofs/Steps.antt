@@ -11,9 +11,10 @@ use Rattle.am_office.specs.declared.Entry.{Entry}
 use Rattle.am_model.specs.Layout.{Layout}
 use Rattle.am_model.specs.History.{MayFollow, EachAfter, IsHistory, is_in_range, failing, outcome_of}
 use Rattle.am_model.specs.Steps.{FollowsSteps, Made, Stop, stop, stop_by, full_log, step_entry, made, made_by, made_from}
+use Rattle.am_model.specs.Parts.{AreBelow}
 use Rattle.am_model.proofs.Each.{each_push}
 use Rattle.am_model.proofs.Stamps.{later_than_all}
-use Rattle.am_laws_steps.specs.Laws.{AreBelow, Walked, AreInRange, StopsAt, IsUnstopped, IsMade}
+use Rattle.am_laws_steps.specs.Laws.{Walked, AreInRange, StopsAt, IsUnstopped, IsMade}
 
 below_more : (n k : ℕ) (xs : List Entry) → n ≤ k → AreBelow n xs → AreBelow k xs
 below_more n k [] le h = tt

@@ -1,15 +1,12 @@
 -- What the steps of a script make, in other words.
-use Rattle.std.specs.Prelude.{◌≡◌, ℕ, ◌+◌, ◌<◌, true, Option, Some, None, List, [], map, length, take, slice_get}
+use Rattle.std.specs.Prelude.{◌≡◌, ◌+◌, true, Option, Some, None, List, [], map, length, take, slice_get}
 use Rattle.std.specs.List.{range_with_len}
 use Rattle.am_office.specs.declared.Event.{Event}
 use Rattle.am_office.specs.declared.Entry.{Entry}
 use Rattle.am_model.specs.Layout.{Layout, AllAre}
 use Rattle.am_model.specs.History.{EachAfter, IsHistory, is_in_range}
+use Rattle.am_model.specs.Parts.{AreBelow}
 use Rattle.am_model.specs.Steps.{FollowsSteps, Made, Stop, stop}
-
--- each stamp is below this number
-abbrev pub AreBelow : ℕ → List Entry → Type 0
-AreBelow n xs = AllAre (λ (x : Entry). x.stamp < n) xs
 
 -- a history whose stamps are 1, 2, 3 and so on
 pub record Walked (layout : Layout) (past : List Entry) : Type 0 where

@@ -33,8 +33,7 @@ use Rattle.am_model.proofs.Names.{same_end-is, same_end-refl}
 use Rattle.am_model.proofs.Chosen.{least_such-None}
 use Rattle.am_scenario_types.specs.declared.parts.FaultLine.{FaultLine}
 use Rattle.am_endpoint.specs.View.{EndpointView, state_after}
-use Rattle.am_model.specs.Parts.{last_stamp, stamp_by}
-use Rattle.am_laws_steps.specs.Laws.{AreBelow}
+use Rattle.am_model.specs.Parts.{last_stamp, stamp_by, AreBelow}
 use Rattle.am_machine.specs.declared.settings.Settings.{Settings}
 use Rattle.am_machine.specs.Carries.{is_place}
 use Rattle.am_moves.specs.Logs.{EndLog, kept}

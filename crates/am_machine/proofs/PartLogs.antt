@@ -19,9 +19,8 @@ use Rattle.am_model.proofs.Alls.{all_at, all_by_place, all_append}
 use Rattle.am_endpoint.specs.View.{EndpointView}
 use Rattle.am_merge.specs.Logs.{IsRising}
 use Rattle.am_merge.specs.Merged.{entries_of}
-use Rattle.am_merge.proofs.Sorted.{Has, all_has, contains_has, filter_has, has_contains, has_filter, has_first, has_last}
+use Rattle.am_merge.proofs.Sorted.{Has, all_has, contains_has, filter_has, has_contains, has_filter, has_first, has_last, has_append}
 use Rattle.am_join.specs.Joined.{AreAmong, HaveJust}
-use Rattle.am_join.proofs.Standing.{has_either}
 use Rattle.am_node.specs.declared.NodePart.{NodePart}
 use Rattle.am_node.specs.Parts.{all_logs, log_of, logs_of_part}
 use Rattle.am_moves.specs.Logs.{kept}
@@ -57,7 +56,7 @@ of_journal journal log x (OfNode node is) h = (has_filter (touches_node node) jo
 among : (journal : List Entry) (logs : List (List Entry)) → AllAre (IsPartOf journal) logs → (x : Entry) → Has (entries_of logs) x → Has journal x
 among journal [] all x h = absurd h
 among journal (log ∷ logs) all x h =
-    ⊎_elim (λ (here : Has log x). of_journal journal log x all.0 here) (λ (there : Has (entries_of logs) x). among journal logs all.1 x there) (has_either log (entries_of logs) x h)
+    ⊎_elim (λ (here : Has log x). of_journal journal log x all.0 here) (λ (there : Has (entries_of logs) x). among journal logs all.1 x there) (has_append log (entries_of logs) x h)
 
 pub are_among : (journal : List Entry) (logs : List (List Entry)) → AllAre (IsPartOf journal) logs → AreAmong journal (entries_of logs)
 are_among journal logs all x c = has_contains journal x (among journal logs all x (contains_has (entries_of logs) x c))
@@ -178,7 +177,7 @@ log_there (w ∷ vs) (suc k) v x at h = has_last w.log (entries_of (map log_of v
 pub entries_left : (ls bs : List (List Entry)) (x : Entry) → Has (entries_of ls) x → Has (entries_of (ls ++ bs)) x
 entries_left [] bs x h = absurd h
 entries_left (a ∷ ls) bs x h =
-    ⊎_elim (λ (here : Has a x). has_first a (entries_of (ls ++ bs)) x here) (λ (there : Has (entries_of ls) x). has_last a (entries_of (ls ++ bs)) x (entries_left ls bs x there)) (has_either a (entries_of ls) x h)
+    ⊎_elim (λ (here : Has a x). has_first a (entries_of (ls ++ bs)) x here) (λ (there : Has (entries_of ls) x). has_last a (entries_of (ls ++ bs)) x (entries_left ls bs x there)) (has_append a (entries_of ls) x h)
 
 pub entries_right : (ls bs : List (List Entry)) (x : Entry) → Has (entries_of bs) x → Has (entries_of (ls ++ bs)) x
 entries_right [] bs x h = h

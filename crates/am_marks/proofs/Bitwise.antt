@@ -1,13 +1,13 @@
 -- The bits of a word that is shifted, and of words in a row.
 use Rattle.std.specs.Prelude.{slice_index, slice_set, if◌then◌else◌}
 use Rattle.std.specs.Int.{bit_at, trailing_zeros}
-use Rattle.std.proofs.Common.{◌≡◌, ◌≢◌, ℕ, ◌+◌, ◌-◌, ◌*◌, ◌/◌, ◌%◌, ◌^◌, ◌<◌, ◌≤◌, ◌==◌, ⊎_elim, zero, suc, Bool, true, false, Option, Some, None, List, [], ◌∷◌, length, w64, refl, sym, ap, ◌∙◌, arith, eq-eqb, eqb-true}
+use Rattle.std.proofs.Common.{◌≡◌, ◌≢◌, ℕ, ◌+◌, ◌-◌, ◌*◌, ◌/◌, ◌%◌, ◌^◌, ◌<◌, ◌≤◌, ◌==◌, ⊎_elim, zero, suc, Bool, true, false, cond, Option, Some, None, List, [], ◌∷◌, length, w64, refl, sym, ap, ◌∙◌, arith, eq-eqb, eqb-true}
 use Rattle.std.proofs.Math.Nat.{div-add-mod, mod-lt, mul_comm}
 use Rattle.std.proofs.lemmas.Bool.{cases_eq, cases_lt, eqb-false}
 use Rattle.std.proofs.lemmas.List.{get_or-set_same, get_or-set_other, get_or_past}
 use Rattle.std.proofs.lemmas.Nat.{pow_pos}
 use Rattle.std.proofs.lemmas.Nat.Bits.{bit_at-trailing_zeros, bit_at-zero, bit_at_above, bit_at_cat_high}
-use Rattle.am_marks.specs.Bits.{IsNext, bit_by, bit_in}
+use Rattle.am_marks.specs.Bits.{IsNext, bit_in}
 use Rattle.am_marks.specs.Places.{IsNextMark, is_marked}
 use Rattle.am_marks.specs.declared.Marks.{Marks}
 
@@ -145,11 +145,11 @@ bit_set ws place w k len small others apart = ⊎_elim here there (cases_eq (k /
 bit_here : (ws : List ℕ) (place w : ℕ) → length ws ≡ 4 → place < 256 → bit_in (slice_set ws (place / 64) w) place ≡ bit_at w (place % 64)
 bit_here ws place w len small = ap (λ (x : ℕ). bit_at x (place % 64)) (get_or-set_same ws (place / 64) w 0 (omega (arith, len, small)))
 
-by_bit : (b : Bool) → (bit_by b == 1) ≡ b
+by_bit : (b : Bool) → (cond b 1 0 == 1) ≡ b
 by_bit true = refl
 by_bit false = refl
 
-pub is_set : (old new : Marks) (place w k : ℕ) (marked : Bool) → length old.words ≡ 4 → place < 256 → new.words ≡ slice_set old.words (place / 64) w → bit_at w (place % 64) ≡ bit_by marked → ((i : ℕ) → i < 64 → i ≢ place % 64 → bit_at w i ≡ bit_at (slice_index old.words (place / 64)) i) → is_marked new k ≡ (if k == place then marked else is_marked old k)
+pub is_set : (old new : Marks) (place w k : ℕ) (marked : Bool) → length old.words ≡ 4 → place < 256 → new.words ≡ slice_set old.words (place / 64) w → bit_at w (place % 64) ≡ cond marked 1 0 → ((i : ℕ) → i < 64 → i ≢ place % 64 → bit_at w i ≡ bit_at (slice_index old.words (place / 64)) i) → is_marked new k ≡ (if k == place then marked else is_marked old k)
 unfolding is_marked
 is_set old new place w k marked len small is bit others = by_test (k == place) refl
   where

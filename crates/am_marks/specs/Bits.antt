@@ -1,5 +1,5 @@
 -- The bits of a word of 64, and of words in a row.
-use Rattle.std.specs.Prelude.{◌≡◌, ℕ, ◌/◌, ◌%◌, ◌<◌, ◌≤◌, Bool, true, false, Option, Some, None, List, slice_index}
+use Rattle.std.specs.Prelude.{◌≡◌, ℕ, ◌/◌, ◌%◌, ◌<◌, ◌≤◌, Option, Some, None, List, slice_index}
 use Rattle.std.specs.Int.{bit_at}
 
 -- a number is the place of the least bit at or behind a place, and there is none exactly where no bit is there
@@ -10,8 +10,3 @@ IsNext bits from (Some place) = (from ≤ place) × (bits place ≡ 1) × ((k : 
 -- the bit at a place of words in a row, 64 to a word
 abbrev pub bit_in : List ℕ → ℕ → ℕ
 bit_in words k = bit_at (slice_index words (k / 64)) (k % 64)
-
--- the number of a bit that is to be set, or not
-abbrev pub bit_by : Bool → ℕ
-bit_by true = 1
-bit_by false = 0

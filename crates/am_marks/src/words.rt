@@ -1,7 +1,7 @@
 // The bits of a word, and of words in a row.
-ghost use Rattle.am_marks.specs.Bits.{IsNext, bit_by, bit_in};
+ghost use Rattle.am_marks.specs.Bits.{IsNext, bit_in};
 ghost use Rattle.std.specs.Int.{bit_at};
-ghost use Rattle.std.specs.Prelude.{◌≡◌, ◌≢◌, ℕ, ◌*◌, ◌<◌, IfSome, length};
+ghost use Rattle.std.specs.Prelude.{◌≡◌, ◌≢◌, ℕ, ◌*◌, ◌<◌, IfSome, cond, length};
 
 /// The word with a bit.
 fn with_bit(word: u64, bit: u32) -> u64
@@ -24,7 +24,7 @@ fn without_bit(word: u64, bit: u32) -> u64
 /// The word where a bit of it is as this says.
 pub(crate) fn put_bit(word: u64, bit: u32, set: bool) -> u64
     requires { bit < 64 }
-    ensures here { bit_at result bit ≡ bit_by set }
+    ensures here { bit_at result bit ≡ cond set 1 0 }
     ensures others { (i : ℕ) → i < 64 → i ≢ bit → bit_at result i ≡ bit_at word i }
 {
     if set {

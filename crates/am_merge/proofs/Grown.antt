@@ -6,10 +6,7 @@ use Rattle.am_local.specs.Readings.{with_entry}
 use Rattle.am_model.specs.Layout.{AllAre}
 use Rattle.am_model.specs.Merge.{rank, is_before}
 use Rattle.am_merge.specs.Merged.{IsBelow, PartLog, entries_of, grown, inserted, is_same, journal_after, journal_of, merged, sorted, touches_one}
-use Rattle.am_model.specs.Parts.{touches_part}
-
-abbrev AreBelow : ℕ → List Entry → Type 0
-AreBelow stamp xs = AllAre (λ (y : Entry). y.stamp < stamp) xs
+use Rattle.am_model.specs.Parts.{touches_part, AreBelow}
 
 -- an entry that is stamped lower is another one, and comes before
 other_later : (x z : Entry) → z.stamp < x.stamp → (is_same x z ≡ false) × (is_before x z ≡ false)

@@ -1,6 +1,6 @@
 -- What an entry does to the messages that an endpoint has received.
 use Rattle.std.specs.Prelude.{nat_le}
-use Rattle.std.proofs.Common.{◌≡◌, ℕ, ◌+◌, Bool, true, false, cond, ◌||◌, List, [], ◌∷◌, Option, Some, None, refl, sym, subst, arith, if◌then◌else◌}
+use Rattle.std.proofs.Common.{◌≡◌, ℕ, ◌+◌, ◌≤◌, Bool, true, false, cond, ◌||◌, List, [], ◌∷◌, Option, Some, None, refl, sym, subst, arith, if◌then◌else◌}
 use Rattle.std.specs.List.{count_by, find, list_any}
 use Rattle.std.proofs.lemmas.List.Sums.{sum_by_push, sum_by-cons}
 use Rattle.am_names.specs.declared.EndpointId.{EndpointId}
@@ -26,6 +26,10 @@ use Rattle.am_model.specs.PostOffice.{only_if}
 
 abbrev pub bit : Bool → ℕ
 bit b = cond b 1 0
+
+pub bit_at_most : (b : Bool) → bit b ≤ 1
+bit_at_most true = omega arith
+bit_at_most false = omega arith
 
 -- one if the message is there and passes
 abbrev pub weight : (Message → Bool) → Option Message → ℕ

@@ -1,5 +1,5 @@
 -- Which entries stand in the log of a part, and which a node's driver makes.
-use Rattle.std.specs.Prelude.{ℕ, ◌-◌, Bool, Option, Some, None, List, length, slice_get}
+use Rattle.std.specs.Prelude.{ℕ, ◌-◌, ◌<◌, Bool, Option, Some, None, List, length, slice_get}
 use Rattle.am_names.specs.declared.NodeId.{NodeId}
 use Rattle.am_office.specs.declared.Event.{Event}
 use Rattle.am_office.specs.declared.Event.TheVariants as Events
@@ -7,6 +7,7 @@ use Rattle.am_office.specs.declared.Entry.{Entry}
 use Rattle.am_office.specs.declared.Part.{Part}
 use Rattle.am_office.specs.declared.Part.TheVariants as Parts
 use Rattle.am_office.specs.Entries.{is_node, touches, touches_node}
+use Rattle.am_model.specs.Layout.{AllAre}
 
 -- whether an entry stands in the log of a part
 abbrev pub touches_part : Part → Entry → Bool
@@ -33,3 +34,7 @@ stamp_by (Some x) = x.stamp
 -- the stamp of the last entry, and 0 where there is none
 abbrev pub last_stamp : List Entry → ℕ
 last_stamp log = stamp_by (slice_get log (length log - 1))
+
+-- each stamp is below this number
+abbrev pub AreBelow : ℕ → List Entry → Type 0
+AreBelow n xs = AllAre (λ (x : Entry). x.stamp < n) xs

@@ -3,6 +3,7 @@
 
 mod endings;
 mod fates;
+mod growing;
 mod roles;
 mod touched;
 
@@ -10,6 +11,7 @@ pub use am_names::NoMemory;
 use am_names::{Cause, EndpointId, Message, NodeId, Serial, Tag, Verdict, Why, Words};
 pub use endings::Fate;
 pub use fates::fate;
+pub use growing::growth;
 pub use roles::{accepted_of, return_of, run_of, unknown_of};
 use std::marker::Model;
 pub use touched::node_touched;

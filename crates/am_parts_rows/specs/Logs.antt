@@ -1,6 +1,5 @@
 -- The logs of the parts in worked journals: which of the journal's entries stand in each.
 use Rattle.std.specs.Prelude.{ℕ, ◌-◌, Some, List, [], ◌∷◌, map, slice_index_or}
-use Rattle.am_names.specs.declared.EndpointId.{EndpointId}
 use Rattle.am_names.specs.declared.NodeId.{NodeId}
 use Rattle.am_names.specs.declared.Packet.{Packet}
 use Rattle.am_names.specs.declared.Packet.TheVariants as Packets
@@ -11,7 +10,7 @@ use Rattle.am_office.specs.declared.Event.TheVariants as Events
 use Rattle.am_office.specs.declared.Outcome.TheVariants as Out
 use Rattle.am_office.specs.declared.Part.TheVariants as Parts
 use Rattle.am_office.specs.declared.Entry.{Entry}
-use Rattle.am_model.specs.Layout.{node_at}
+use Rattle.am_model.specs.Layout.{end_at, node_at}
 use Rattle.am_local.specs.Driver.{DriverLog}
 use Rattle.am_local.specs.Interface.{InterfaceLog, InterfaceSettings}
 use Rattle.am_merge.specs.Merged.{PartLog}
@@ -19,11 +18,8 @@ use Rattle.am_rows.specs.FailedRead as failed_read
 use Rattle.am_rows.specs.Frames as frames
 use Rattle.am_rows.specs.LostAcknowledgement as lost
 
-abbrev pub end : ℕ → EndpointId
-end number = record { 0 = number }
-
 abbrev pub call_at_first : Entry
-call_at_first = record { stamp = 1; event = Events.Call Outside (end 0) Calls.Poll; outcome = Out.Empty }
+call_at_first = record { stamp = 1; event = Events.Call Outside (end_at 0) Calls.Poll; outcome = Out.Empty }
 
 -- the entries of a journal at these positions, counted from 1
 abbrev pub picked : List Entry → List ℕ → List Entry
@@ -46,8 +42,8 @@ at_node_1 = picked lost.journal (7 ∷ 9 ∷ [])
 -- the same without the last entry, an answer that counts for nothing, which node 0's interface alone has
 abbrev pub parts_before : List PartLog
 parts_before =
-    record { part = Parts.Endpoint (end 0); log = at_end_0 }
-    ∷ record { part = Parts.Endpoint (end 1); log = at_end_1 }
+    record { part = Parts.Endpoint (end_at 0); log = at_end_0 }
+    ∷ record { part = Parts.Endpoint (end_at 1); log = at_end_1 }
     ∷ record { part = Parts.Interface (node_at 0); log = picked lost.journal (6 ∷ 8 ∷ 10 ∷ []) }
     ∷ record { part = Parts.Interface (node_at 1); log = at_node_1 }
     ∷ []
@@ -91,7 +87,7 @@ driver_after positions =
 -- ---- entries with one stamp
 
 abbrev pub poll_of : ℕ → Entry
-poll_of number = record { stamp = 5; event = Events.Call Outside (end number) Calls.Poll; outcome = Out.Empty }
+poll_of number = record { stamp = 5; event = Events.Call Outside (end_at number) Calls.Poll; outcome = Out.Empty }
 
 abbrev pub try_of : ℕ → Entry
 try_of number = record { stamp = 5; event = Events.Expire (node_at number) (node_at 9) 0; outcome = Out.Sent lost.m1 (node_at 9) 0 1 1 2 }

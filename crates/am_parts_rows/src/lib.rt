@@ -14,7 +14,7 @@ ghost use Rattle.am_office.specs.declared.Condition.TheVariants as Needs;
 ghost use Rattle.am_office.specs.declared.Event.TheVariants as Events;
 ghost use Rattle.am_office.specs.declared.Outcome.TheVariants as Out;
 ghost use Rattle.am_office.specs.declared.Received.TheVariants as Got;
-ghost use Rattle.am_parts_rows.specs.Logs.{acknowledgement, at_end_0, at_end_1, at_node_0, at_node_1, driver_after, end, held_acknowledgement, last_entry, pager_after, parts_before, picked, poll_of, receiver, second_try, sender, try_of};
+ghost use Rattle.am_parts_rows.specs.Logs.{acknowledgement, at_end_0, at_end_1, at_node_0, at_node_1, driver_after, held_acknowledgement, last_entry, pager_after, parts_before, picked, poll_of, receiver, second_try, sender, try_of};
 ghost use Rattle.am_rows.specs.FailedRead as failed_read_row;
 ghost use Rattle.am_rows.specs.Frames as frames_row;
 ghost use Rattle.am_rows.specs.LostAcknowledgement as lost_row;

@@ -6,6 +6,7 @@ use Rattle.am_office.specs.Entries.{touches}
 use Rattle.am_model.specs.Layout.{AllAre}
 use Rattle.am_model.specs.History.{EachAfter}
 use Rattle.am_model.proofs.Each.{each_append}
+use Rattle.am_model.proofs.Alls.{all_push}
 use Rattle.am_merge.specs.Logs.{IsRising}
 use Rattle.am_merge.proofs.Sorted.{Has, contains_has, filter_has, has_contains, has_filter, has_append, has_first, has_last}
 use Rattle.am_places.specs.Rule.{joined}
@@ -55,13 +56,9 @@ all_above seats past (t ∷ ts) each rises =
     (⊎_elim (λ (none : t.items ≡ []). subst (EachAfter IsAboveAll past) (sym none) tt) (λ (seat : IsSeat seats t.by). (rises t.by seat).0 refl) each.0)
     (all_above seats (past ++ t.items) ts each.1 (λ m seat. (rises m seat).1))
 
-all_push : (n : ℕ) (xs : List Entry) (x : Entry) → AllAre (λ (y : Entry). n < y.stamp) xs → n < x.stamp → AllAre (λ (y : Entry). n < y.stamp) (xs ++ x ∷ [])
-all_push n [] x h more = (more, tt)
-all_push n (y ∷ ys) x h more = (h.0, all_push n ys x h.1 more)
-
 rising_push : (xs : List Entry) (x : Entry) → IsRising xs → IsAboveAll xs x → IsRising (xs ++ x ∷ [])
 rising_push [] x h more = (tt, tt)
-rising_push (y ∷ ys) x h more = (all_push y.stamp ys x h.0 more.0, rising_push ys x h.1 more.1)
+rising_push (y ∷ ys) x h more = (all_push (λ (z : Entry). y.stamp < z.stamp) ys x h.0 more.0, rising_push ys x h.1 more.1)
 
 rising_from : (past xs : List Entry) → IsRising past → EachAfter IsAboveAll past xs → IsRising (past ++ xs)
 rising_from past [] h each = subst IsRising (sym (append-nil past)) h

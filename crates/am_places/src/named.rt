@@ -1,6 +1,7 @@
 //! The same calls by the number of an endpoint.
 ghost use Rattle.std.specs.Prelude.{◌≡◌, ℕ, ◌+◌, ◌<◌, ◌≤◌, ◌∷◌, true, List, Contains, None, IfNone, IfOk, IfErr, IfSome, position, slice_get, length};
-ghost use Rattle.am_places.specs.Codes.{frame_at, holder_code, is_end, place_code};
+ghost use Rattle.am_names.specs.Names.{same_end};
+ghost use Rattle.am_places.specs.Codes.{frame_at, holder_code, place_code};
 ghost use Rattle.am_places.specs.Rule.{Comes, HasGathered, Met, known_at, joined, holder_word, state_word, word_of, with_known, inside_with, read};
 
 use crate::book::Book;
@@ -10,7 +11,7 @@ use am_names::EndpointId;
 impl<B: Book + Send + Drop> Places<B> {
     /// The position of an endpoint: the first where its number stands. None where it is none of these.
     pub fn position(&self, end: EndpointId) -> Option<usize>
-        ensures { result ≡ position (is_end end) self.now.ids.items }
+        ensures { result ≡ position (same_end end) self.now.ids.items }
     {
         self.ids.iter().position(|other| end.0 == other.0)
     }

@@ -1,7 +1,6 @@
 -- The order of bindings: by the sender's incarnation, then the receiver's, then the sequence.
-use Rattle.std.specs.Prelude.{nat_lt}
-use Rattle.std.proofs.Common.{◌≡◌, ◌≢◌, ℕ, ◌≤◌, ◌<◌, Bool, true, false, ◌==◌, ◌⊎◌, inl, inr, refl, sym, ◌∙◌, arith}
-use Rattle.std.proofs.lemmas.Bool.{ltb-true, ltb-false}
+use Rattle.std.proofs.Common.{◌≡◌, ◌≢◌, ◌≤◌, ◌<◌, true, false, ◌==◌, ◌⊎◌, inl, inr, sym, ◌∙◌, arith}
+use Rattle.std.proofs.lemmas.Bool.{cases_lt}
 use Rattle.std.proofs.lemmas.Bool.Decides.{eqb_tells}
 use Rattle.am_restart_laws.proofs.Keys.{Numbers, IsSame}
 
@@ -56,16 +55,9 @@ place k p up = by_tests (eqb_tells p.sender k.sender) (eqb_tells p.receiver k.re
     by_tests (inl s) (inl r) (inr q) = inl (record { sender' = up.sender'; receiver' = up.receiver'; seq' = λ e f. let le : p.seq ≤ k.seq = up.seq' e f in let ne : p.seq ≢ k.seq = q.1 in omega (arith, le, ne) })
     by_tests (inl s) (inl r) (inl q) = inr (record { receiver = r.1; sender' = s.1; seq = q.1 })
 
-pub compared : (a b : ℕ) → (a < b) ⊎ (b ≤ a)
-compared a b = by_test (nat_lt a b) refl
-  where
-    by_test : (t : Bool) → nat_lt a b ≡ t → (a < b) ⊎ (b ≤ a)
-    by_test true e = inl (ltb-true a b e)
-    by_test false e = inr (ltb-false a b e)
-
 -- of two bindings one is earlier, or they are the same
 pub ordered : (p q : Numbers) → UpTo q p ⊎ Before p q
-ordered p q = by_sender (compared p.sender q.sender) (compared q.sender p.sender) (compared p.receiver q.receiver) (compared q.receiver p.receiver) (compared q.seq p.seq)
+ordered p q = by_sender (cases_lt p.sender q.sender) (cases_lt q.sender p.sender) (cases_lt p.receiver q.receiver) (cases_lt q.receiver p.receiver) (cases_lt q.seq p.seq)
   where
     by_sender : (p.sender < q.sender) ⊎ (q.sender ≤ p.sender) → (q.sender < p.sender) ⊎ (p.sender ≤ q.sender) → (p.receiver < q.receiver) ⊎ (q.receiver ≤ p.receiver) → (q.receiver < p.receiver) ⊎ (p.receiver ≤ q.receiver) → (q.seq < p.seq) ⊎ (p.seq ≤ q.seq) → UpTo q p ⊎ Before p q
     by_sender (inl lt) b c d e = inl (record { sender' = omega arith; receiver' = λ same. absurd (omega arith); seq' = λ same r. absurd (omega arith) })

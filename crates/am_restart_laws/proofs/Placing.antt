@@ -1,6 +1,6 @@
 -- Where each message is after a move.
 use Rattle.std.specs.Prelude.{count_by, slice_get, drop}
-use Rattle.std.proofs.Common.{◌≡◌, ℕ, ◌+◌, ◌≤◌, Bool, true, false, ◌==◌, ◌⊎◌, inl, inr, Option, Some, None, List, [], ◌∷◌, ◌++◌, ap, ◌∙◌, arith}
+use Rattle.std.proofs.Common.{◌≡◌, ℕ, ◌+◌, ◌≤◌, true, false, ◌==◌, ◌⊎◌, inl, inr, Option, Some, None, List, [], ◌∷◌, ◌++◌, ap, ◌∙◌, arith}
 use Rattle.std.proofs.lemmas.Bool.{ne_eqb}
 use Rattle.std.proofs.lemmas.Bool.Decides.{eqb_tells}
 use Rattle.am_channel.specs.declared.sending.Bound.{Bound}
@@ -10,7 +10,7 @@ use Rattle.am_restart.specs.Fates.{puts, returns, leaves_unknown, is_of}
 use Rattle.am_restart_laws.proofs.MoveKinds.{Tells}
 use Rattle.am_restart_laws.proofs.Lists.{count_more, count_front, count_first}
 use Rattle.am_restart_laws.proofs.Parts.{Places, Tally, offers, delivers, bound_bit, is_taken}
-use Rattle.am_model.proofs.Received.{bit}
+use Rattle.am_model.proofs.Received.{bit, bit_at_most}
 
 -- what the entries tell with one more
 pub record Pushed (past next : List SessionEntry) (o p r u d : Option ℕ) : Type 0 where
@@ -70,10 +70,6 @@ places_bind bound after offered queue past next n h more idle is front =
       later = λ m lt. omega (arith, h.later m lt, more.offers' m);
     }
 
-bit_le : (b : Bool) → bit b ≤ 1
-bit_le true = omega arith
-bit_le false = omega arith
-
 -- the next message waits
 pub places_offer : (bound : Option Bound) (offered : ℕ) (queue : List ℕ) (past next : List SessionEntry) → Places bound offered queue past → Pushed past next (Some (offered + 1)) None None None None → Places bound (offered + 1) (queue ++ (offered + 1) ∷ []) next
 places_offer bound offered queue past next h more =
@@ -87,7 +83,7 @@ places_offer bound offered queue past next h more =
     }
   where
     over : (m : ℕ) → (((m == (offered + 1)) ≡ true) × (m ≡ offered + 1)) ⊎ (((m == (offered + 1)) ≡ false) × (m ≡ offered + 1 → ⊥)) → count_by (offers m) next ≤ 1
-    over m (inl same) = omega (arith, h.later m (let e : m ≡ offered + 1 = same.1 in omega (arith, e)), more.offers' m, bit_le (m == (offered + 1)))
+    over m (inl same) = omega (arith, h.later m (let e : m ≡ offered + 1 = same.1 in omega (arith, e)), more.offers' m, bit_at_most (m == (offered + 1)))
     over m (inr other) = let none : ◌≡◌ {A = ℕ} (bit (m == (offered + 1))) 0 = ap bit other.0 in omega (arith, h.once m, more.offers' m, none)
 
 -- nothing more is put
@@ -105,5 +101,5 @@ tally_put past next taken f h more none =
     over : (m : ℕ) → (((m == f.message) ≡ true) × (m ≡ f.message)) ⊎ (((m == f.message) ≡ false) × (m ≡ f.message → ⊥)) → count_by (is_taken m) (f ∷ taken) ≤ 1
     over m (inl same) =
         let zero : ◌≡◌ {A = ℕ} (count_by (is_taken m) taken) 0 = ap (λ (n : ℕ). count_by (is_taken n) taken) same.1 ∙ none in
-        omega (arith, count_first (is_taken m) f taken, bit_le (m == f.message), zero)
+        omega (arith, count_first (is_taken m) f taken, bit_at_most (m == f.message), zero)
     over m (inr other) = let no_bit : ◌≡◌ {A = ℕ} (bit (m == f.message)) 0 = ap bit other.0 in omega (arith, count_first (is_taken m) f taken, h.once m, no_bit)

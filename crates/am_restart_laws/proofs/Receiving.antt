@@ -1,7 +1,7 @@
 -- What the receiver's moves keep.
 use Rattle.std.specs.Prelude.{count_by}
 use Rattle.std.proofs.Common.{◌≡◌, ℕ, ◌≤◌, ◌<◌, ◌⊎◌, inl, inr, List, [], ◌∷◌, ◌++◌, refl, sym, ap, ◌∙◌, subst, arith}
-use Rattle.std.proofs.lemmas.Bool.{ne_eqb}
+use Rattle.std.proofs.lemmas.Bool.{ne_eqb, cases_lt}
 use Rattle.am_names.specs.declared.Verdict.{Verdict}
 use Rattle.am_model.specs.Channels.{arrival}
 use Rattle.am_model.specs.Channels as Arrivals
@@ -16,7 +16,7 @@ use Rattle.am_restart.specs.declared.packets.ReceiverPacket.TheVariants as FromR
 use Rattle.am_restart.specs.Ends as Ends
 use Rattle.am_restart_laws.proofs.Keys.{Point, Numbers, IsClosed, IsSettled, IsFresh, IsSame, not_fresh, settled_closed, earlier_closed}
 use Rattle.am_restart_laws.proofs.Lists.{Among, among_cases, none_pass}
-use Rattle.am_restart_laws.proofs.Orders.{UpTo, Before, turned, place, ordered, compared}
+use Rattle.am_restart_laws.proofs.Orders.{UpTo, Before, turned, place, ordered}
 use Rattle.am_restart_laws.proofs.Parts.{Emitted, SenderPart, Dead, DeadPart, ReceiverPart, Refuses, answer_numbers, is_taken}
 use Rattle.am_restart_laws.proofs.Points.{Stays, HasMet, has_met, IsAt, again_of, point, numbers, weight}
 
@@ -88,7 +88,7 @@ receiver_takes out back o later taken f h e stays open' settled =
 
     over_untaken : (a : SessionAnswer) → Refuses o taken a → (d : SessionParcel) → Among d (f ∷ taken) → IsSame (numbers d) (answer_numbers a) → a.attempt < d.attempt
     over_untaken a r d (inr there) same = r.untaken d there same
-    over_untaken a r d (inl is) same = by_order (compared a.attempt d.attempt)
+    over_untaken a r d (inl is) same = by_order (cases_lt a.attempt d.attempt)
       where
         by_order : (a.attempt < d.attempt) ⊎ (d.attempt ≤ a.attempt) → a.attempt < d.attempt
         by_order (inl lt) = lt

@@ -1,6 +1,7 @@
 -- What holds of a session holds after each move.
 use Rattle.std.specs.Prelude.{count_by, slice_get, drop}
 use Rattle.std.proofs.Common.{◌≡◌, ℕ, ◌+◌, ◌≤◌, ◌<◌, ◌==◌, ◌⊎◌, inl, inr, Option, Some, None, List, [], ◌∷◌, ◌++◌, refl, sym, ap, ◌∙◌, subst, arith, eq-eqb}
+use Rattle.std.proofs.lemmas.Bool.{cases_lt}
 use Rattle.am_names.specs.declared.Verdict.{Verdict}
 use Rattle.am_model.specs.Channels.{arrival}
 use Rattle.am_model.specs.Channels as Arrivals
@@ -27,7 +28,6 @@ use Rattle.am_restart.specs.State.{SessionState, moved}
 use Rattle.am_restart_laws.proofs.Keys.{IsClosed, IsFresh, not_fresh, settled_closed, fresh_closed, fresh_settled}
 use Rattle.am_restart_laws.proofs.MoveKinds.{Tells, IsMute, Refusal, GoesOn, Frees, Meets, Restarts, turn, go, Kind, Quiet, Offers, Hellos, Binds, Resends, Idles, Loses, Delivers, Returns, Requeues, Turns, Welcomes, Repeats, Decides, mute}
 use Rattle.am_restart_laws.proofs.Lists.{Among, among_more, count_front}
-use Rattle.am_restart_laws.proofs.Orders.{compared}
 use Rattle.am_restart_laws.proofs.Parts.{Places, Emitted, SenderPart, Holds, waiting, bound_bit, offers}
 use Rattle.am_restart_laws.proofs.Points.{Stays, HasMet, has_met, fresh_of, point, numbers, weight, stays_kept, stays_then, stays_same}
 use Rattle.am_restart_laws.proofs.Sending.{IsSent, sender_same, sender_on, sender_hello, sender_sends, sender_binds, sender_tries}
@@ -81,7 +81,7 @@ alone bound offered queue past m h = omega (arith, h.sum m, h.once m)
 
 -- a message that waits, or is bound, was offered
 offered_by : (m offered count : ℕ) → (offered < m → count ≡ 0) → 1 ≤ count → m ≤ offered
-offered_by m offered count later one = over (compared offered m)
+offered_by m offered count later one = over (cases_lt offered m)
   where
     over : (offered < m) ⊎ (m ≤ offered) → m ≤ offered
     over (inl lt) = absurd (omega (arith, later lt, one))

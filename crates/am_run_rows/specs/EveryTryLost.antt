@@ -10,7 +10,7 @@ use Rattle.am_office.specs.declared.Entry.{Entry}
 use Rattle.am_scenario_types.specs.declared.parts.Network.TheVariants as Networks
 use Rattle.am_plan.specs.declared.plan.LinkFault.TheVariants.{Lose}
 use Rattle.am_scenario_types.specs.Lists.{ScenarioLists}
-use Rattle.am_run_rows.specs.Asked.{message_0_1}
+use Rattle.am_model.specs.DelayedTry.{request}
 
 abbrev pub scenario : ScenarioLists
 scenario =
@@ -50,11 +50,11 @@ abbrev pub journal : List Entry
 journal =
     record { stamp = 1; event = Events.Call (Thread 0) (record { 0 = 1 }) (Calls.SetHandler 1 Note); outcome = Out.Done }
     ∷ record { stamp = 2; event = Events.Call (Thread 0) (record { 0 = 0 }) (Calls.Map 0 (record { 0 = 1 }) (record { 0 = 7 }) 1); outcome = Out.Done }
-    ∷ record { stamp = 3; event = Events.Call (Thread 0) (record { 0 = 0 }) (Calls.Request 0 1 (record { a = 9; b = 0; c = 0; d = 0 })); outcome = Out.Requested message_0_1 }
+    ∷ record { stamp = 3; event = Events.Call (Thread 0) (record { 0 = 0 }) (Calls.Request 0 1 (record { a = 9; b = 0; c = 0; d = 0 })); outcome = Out.Requested request }
     ∷ record { stamp = 4; event = Events.Load (record { 0 = 0 }) (record { 0 = 0 }) 0; outcome = Out.Silent }
     ∷ record { stamp = 5; event = Events.Load (record { 0 = 0 }) (record { 0 = 1 }) 1; outcome = Out.Silent }
-    ∷ record { stamp = 6; event = Events.Bind (record { 0 = 0 }) (record { 0 = 0 }); outcome = Out.Sent message_0_1 (record { 0 = 0 }) 0 1 0 1 }
-    ∷ record { stamp = 7; event = Events.Expire (record { 0 = 0 }) (record { 0 = 0 }) 0; outcome = Out.Sent message_0_1 (record { 0 = 0 }) 0 1 1 2 }
-    ∷ record { stamp = 8; event = Events.Expire (record { 0 = 0 }) (record { 0 = 0 }) 0; outcome = Out.Unknown message_0_1.serial }
-    ∷ record { stamp = 9; event = Events.Call Outside (record { 0 = 0 }) Calls.Poll; outcome = Out.Zero message_0_1.serial Whys.Unknown }
+    ∷ record { stamp = 6; event = Events.Bind (record { 0 = 0 }) (record { 0 = 0 }); outcome = Out.Sent request (record { 0 = 0 }) 0 1 0 1 }
+    ∷ record { stamp = 7; event = Events.Expire (record { 0 = 0 }) (record { 0 = 0 }) 0; outcome = Out.Sent request (record { 0 = 0 }) 0 1 1 2 }
+    ∷ record { stamp = 8; event = Events.Expire (record { 0 = 0 }) (record { 0 = 0 }) 0; outcome = Out.Unknown request.serial }
+    ∷ record { stamp = 9; event = Events.Call Outside (record { 0 = 0 }) Calls.Poll; outcome = Out.Zero request.serial Whys.Unknown }
     ∷ []

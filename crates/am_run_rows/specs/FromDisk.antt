@@ -13,7 +13,7 @@ use Rattle.am_office.specs.declared.Entry.{Entry}
 use Rattle.am_scenario_types.specs.declared.parts.Network.TheVariants as Networks
 use Rattle.am_plan.specs.declared.plan.LinkFault.TheVariants.{Late, Repeat}
 use Rattle.am_scenario_types.specs.Lists.{ScenarioLists}
-use Rattle.am_run_rows.specs.Asked.{message_0_1}
+use Rattle.am_model.specs.DelayedTry.{request}
 
 abbrev pub scenario : ScenarioLists
 scenario =
@@ -54,16 +54,16 @@ scenario =
 abbrev pub journal : List Entry
 journal =
     record { stamp = 1; event = Events.Call (Thread 0) (record { 0 = 0 }) (Calls.Map 0 (record { 0 = 1 }) (record { 0 = 7 }) 0); outcome = Out.Done }
-    ∷ record { stamp = 2; event = Events.Call (Thread 0) (record { 0 = 0 }) (Calls.Request 0 1 (record { a = 9; b = 0; c = 0; d = 0 })); outcome = Out.Requested message_0_1 }
+    ∷ record { stamp = 2; event = Events.Call (Thread 0) (record { 0 = 0 }) (Calls.Request 0 1 (record { a = 9; b = 0; c = 0; d = 0 })); outcome = Out.Requested request }
     ∷ record { stamp = 3; event = Events.Load (record { 0 = 0 }) (record { 0 = 0 }) 0; outcome = Out.Silent }
     ∷ record { stamp = 4; event = Events.PageIn (record { 0 = 0 }) (record { 0 = 1 }); outcome = Out.Failed }
     ∷ record { stamp = 5; event = Events.PageIn (record { 0 = 0 }) (record { 0 = 1 }); outcome = Out.Done }
     ∷ record { stamp = 6; event = Events.Load (record { 0 = 0 }) (record { 0 = 1 }) 1; outcome = Out.Silent }
-    ∷ record { stamp = 7; event = Events.Bind (record { 0 = 0 }) (record { 0 = 0 }); outcome = Out.Sent message_0_1 (record { 0 = 0 }) 0 1 0 1 }
-    ∷ record { stamp = 8; event = Events.Receive (record { 0 = 0 }) (record { 0 = 0 }) 1; outcome = Out.Received 0 1 0 (Got.Refused message_0_1 BadHandler 2) }
-    ∷ record { stamp = 9; event = Events.Receive (record { 0 = 0 }) (record { 0 = 0 }) 1; outcome = Out.Received 0 1 0 (Got.Again message_0_1.serial (Verdicts.Refused BadHandler) 3) }
-    ∷ record { stamp = 10; event = Events.Receive (record { 0 = 0 }) (record { 0 = 0 }) 3; outcome = Out.Received 0 1 0 (Got.Returned message_0_1.serial BadHandler) }
+    ∷ record { stamp = 7; event = Events.Bind (record { 0 = 0 }) (record { 0 = 0 }); outcome = Out.Sent request (record { 0 = 0 }) 0 1 0 1 }
+    ∷ record { stamp = 8; event = Events.Receive (record { 0 = 0 }) (record { 0 = 0 }) 1; outcome = Out.Received 0 1 0 (Got.Refused request BadHandler 2) }
+    ∷ record { stamp = 9; event = Events.Receive (record { 0 = 0 }) (record { 0 = 0 }) 1; outcome = Out.Received 0 1 0 (Got.Again request.serial (Verdicts.Refused BadHandler) 3) }
+    ∷ record { stamp = 10; event = Events.Receive (record { 0 = 0 }) (record { 0 = 0 }) 3; outcome = Out.Received 0 1 0 (Got.Returned request.serial BadHandler) }
     ∷ record { stamp = 11; event = Events.Receive (record { 0 = 0 }) (record { 0 = 0 }) 2; outcome = Out.Received 0 1 0 Got.Nothing }
     ∷ record { stamp = 12; event = Events.Call (Thread 0) (record { 0 = 1 }) (Calls.SetHandler 1 Note); outcome = Out.Done }
-    ∷ record { stamp = 13; event = Events.Call Outside (record { 0 = 0 }) Calls.Poll; outcome = Out.Zero message_0_1.serial (Whys.Refused BadHandler) }
+    ∷ record { stamp = 13; event = Events.Call Outside (record { 0 = 0 }) Calls.Poll; outcome = Out.Zero request.serial (Whys.Refused BadHandler) }
     ∷ []

@@ -1,4 +1,3 @@
-pub mod Asked
 pub mod ClientsAndServer
 pub mod PagingOut
 pub mod FailedPageOut

@@ -9,7 +9,7 @@ ghost use Rattle.am_drain.specs.Rules.{next_turn};
 ghost use Rattle.am_scripts.specs.Layout.{layout_of};
 ghost use Rattle.am_model.specs.History.{IsHistory};
 ghost use Rattle.am_office.specs.Fates.{fate};
-ghost use Rattle.am_run_rows.specs.Asked.{message_0_1};
+ghost use Rattle.am_model.specs.DelayedTry.{request};
 ghost use Rattle.am_run_rows.specs.ClientsAndServer as server;
 ghost use Rattle.am_run_rows.specs.EveryTryLost as lost;
 ghost use Rattle.am_run_rows.specs.FailedPageOut as failed;
@@ -52,7 +52,7 @@ pub fn failed_page_out()
 pub fn last_answer_lost()
     ensures drained { IsDrainedIn 13 answer.scenario [] answer.journal }
     ensures history { IsHistory (layout_of answer.scenario) answer.journal }
-    ensures request { fate answer.journal message_0_1.serial ≡ Some Fate.UnknownButRan }
+    ensures first { fate answer.journal request.serial ≡ Some Fate.UnknownButRan }
     ensures reply { fate answer.journal answer.message_1_1.serial ≡ Some (Fate.Returned Cause.NoRequest) }
 {}
 
@@ -61,7 +61,7 @@ pub fn every_try_lost()
     ensures drained { IsDrainedIn 7 lost.scenario [] lost.journal }
     ensures history { IsHistory (layout_of lost.scenario) lost.journal }
     ensures follows { FollowsScripts lost.scenario lost.journal }
-    ensures request { fate lost.journal message_0_1.serial ≡ Some Fate.Unknown }
+    ensures first { fate lost.journal request.serial ≡ Some Fate.Unknown }
 {}
 
 /// With a log of two entries the same run is stopped for its first endpoint: so it is by what the drain adds, and so by the
@@ -78,7 +78,7 @@ pub fn phase_then_drain()
     ensures drained { IsDrainedIn 10 phase.scenario phase.phase phase.journal }
     ensures history { IsHistory (layout_of phase.scenario) phase.journal }
     ensures follows { FollowsScripts phase.scenario phase.journal }
-    ensures request { fate phase.journal message_0_1.serial ≡ Some Fate.Ran }
+    ensures request { fate phase.journal request.serial ≡ Some Fate.Ran }
 {}
 
 /// An endpoint comes from disk at the second try; a packet is repeated, and its first answer is late. The endpoint that
@@ -86,7 +86,7 @@ pub fn phase_then_drain()
 pub fn from_disk()
     ensures drained { IsDrainedIn 9 disk.scenario [] disk.journal }
     ensures history { IsHistory (layout_of disk.scenario) disk.journal }
-    ensures request { fate disk.journal message_0_1.serial ≡ Some (Fate.Returned Cause.BadHandler) }
+    ensures request { fate disk.journal request.serial ≡ Some (Fate.Returned Cause.BadHandler) }
 {}
 
 /// A run with late, repeated and lost packets, endpoints on disk, page calls that fail and few frames ends after 68 turns,

@@ -30,9 +30,10 @@ use Rattle.am_drain_steps.proofs.Away.{away_is_settled}
 use Rattle.am_drain_steps.proofs.Enabled.{of_packets}
 use Rattle.am_scenario_types.specs.declared.parts.Network.TheVariants.{Packet}
 use Rattle.am_scripted.specs.EndMarks.{AreAgain, AreMarked, AreNone, AreOf, HasPlace, IsAgain, MarksEnd, MarksPlace, MarksTouched, is_end, is_touched, told_arrival, told_at, told_by, told_front, told_missed, told_reply}
+use Rattle.am_machine.proofs.Placed.{IsPlaced}
 use Rattle.am_scripted.specs.Touched.{both}
 use Rattle.am_scripted.specs.declared.end_marks.EndMarks.{EndMarks}
-use Rattle.am_scripted.proofs.Looking.{HoldsNothing, IsQuietOnDisk, IsSeen, arrivals_read, quiet_of, reply_read}
+use Rattle.am_scripted.proofs.Looking.{HoldsNothing, IsQuietOnDisk, arrivals_read, quiet_of, reply_read}
 
 -- ---- places
 
@@ -121,7 +122,7 @@ none_again layout past m f none =
 -- ---- one place
 
 -- what is told of the endpoint at a place
-pub told_here : (told : State → Bool) (layout : Layout) (past : List Entry) (k : ℕ) (one : EndpointView) (b : Bool) → IsSeen layout past k one → b ≡ told (state_after one) → b ≡ told_at told layout past (slice_get layout.ends k)
+pub told_here : (told : State → Bool) (layout : Layout) (past : List Entry) (k : ℕ) (one : EndpointView) (b : Bool) → IsPlaced layout past k one → b ≡ told (state_after one) → b ≡ told_at told layout past (slice_get layout.ends k)
 told_here told layout past k one b seen is = is ∙ ap told seen.state ∙ sym (ap (told_at told layout past) seen.setting)
 
 pub set_again : (told : State → Bool) (layout : Layout) (past : List Entry) (place : ℕ) (old new : Marks) (b : Bool) → b ≡ told_at told layout past (slice_get layout.ends place) → ((k : ℕ) → is_marked new k ≡ (if k == place then b else is_marked old k)) → IsAgain (λ (k : ℕ). k == place) told layout past old new

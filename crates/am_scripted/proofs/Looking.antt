@@ -29,6 +29,7 @@ use Rattle.am_machine.specs.Ends.{setting_in}
 use Rattle.am_machine.specs.Interfaces.{IsInterface}
 use Rattle.am_machine.specs.Moves.{is_in_frame_of}
 use Rattle.am_machine.specs.View.{ClusterView}
+use Rattle.am_machine.proofs.Placed.{IsPlaced}
 use Rattle.am_scenario_types.specs.declared.parts.Network.TheVariants.{Packet}
 use Rattle.am_scenario_types.specs.Lists.{ScenarioLists}
 use Rattle.am_scripts.specs.Layout.{layout_of}
@@ -79,24 +80,20 @@ any_later p (y ∷ xs) (suc k) h = by_test (p y) h (any_later p xs k)
 -- ---- endpoints by their places
 
 -- an endpoint of a cluster by its place, as the cluster tells it
-pub record IsSeen (layout : Layout) (past : List Entry) (k : ℕ) (one : EndpointView) : Type 0 where
-  pub setting : slice_get layout.ends k ≡ Some (setting_in (kept one))
-  pub state : state_after one ≡ state_of layout past one.settings.id
-
-standing_at : (layout : Layout) (past : List Entry) (k : ℕ) (one : EndpointView) → IsSeen layout past k one → slice_get (standings layout past) k ≡ Some (standing_in layout past (setting_in (kept one)))
+standing_at : (layout : Layout) (past : List Entry) (k : ℕ) (one : EndpointView) → IsPlaced layout past k one → slice_get (standings layout past) k ≡ Some (standing_in layout past (setting_in (kept one)))
 standing_at layout past k one seen = slice_get-map_Some (standing_in layout past) layout.ends k (setting_in (kept one)) seen.setting
 
 -- what the cluster of a scenario tells of an endpoint at a place
-pub seen_in : (s : ScenarioLists) (v : ClusterView) (k : ℕ) (one : EndpointView) → v.layout ≡ layout_of s → slice_get v.layout.ends k ≡ Some (setting_in (kept one)) → state_after one ≡ state_of v.layout v.journal one.settings.id → IsSeen (layout_of s) v.journal k one
+pub seen_in : (s : ScenarioLists) (v : ClusterView) (k : ℕ) (one : EndpointView) → v.layout ≡ layout_of s → slice_get v.layout.ends k ≡ Some (setting_in (kept one)) → state_after one ≡ state_of v.layout v.journal one.settings.id → IsPlaced (layout_of s) v.journal k one
 seen_in s v k one same setting state =
-    subst (λ (l : Layout). IsSeen l v.journal k one) same (record { setting = setting; state = state })
+    subst (λ (l : Layout). IsPlaced l v.journal k one) same (record { setting = setting; state = state })
 
-pub seat_at : (layout : Layout) (past : List Entry) (k : ℕ) (one : EndpointView) (node : NodeId) (id : EndpointId) → IsLawful layout → IsSeen layout past k one → node ≡ one.settings.node → id ≡ one.settings.id → is_seat layout node id ≡ true
+pub seat_at : (layout : Layout) (past : List Entry) (k : ℕ) (one : EndpointView) (node : NodeId) (id : EndpointId) → IsLawful layout → IsPlaced layout past k one → node ≡ one.settings.node → id ≡ one.settings.id → is_seat layout node id ≡ true
 seat_at layout past k one node id ok seen at of =
     (λ i. is_seat layout (at i) (of i))
     ∙ seat_in_range layout one.settings.id one.settings.node (all_at (IsSeatedSetting layout) layout.ends k (setting_in (kept one)) (all_seated layout ok) seen.setting)
 
-pub head_read : (layout : Layout) (past : List Entry) (k : ℕ) (one : EndpointView) (id : EndpointId) (node : NodeId) (h : Head) → IsSeen layout past k one → id ≡ one.settings.id → node ≡ one.settings.node → h ≡ (state_after one).head → slice_get (map head_of (standings layout past)) k ≡ Some (record { id = id; node = node; head = h })
+pub head_read : (layout : Layout) (past : List Entry) (k : ℕ) (one : EndpointView) (id : EndpointId) (node : NodeId) (h : Head) → IsPlaced layout past k one → id ≡ one.settings.id → node ≡ one.settings.node → h ≡ (state_after one).head → slice_get (map head_of (standings layout past)) k ≡ Some (record { id = id; node = node; head = h })
 head_read layout past k one id node h seen of at is =
     slice_get-map_Some head_of (standings layout past) k (standing_in layout past (setting_in (kept one))) (standing_at layout past k one seen)
     ∙ sym same
@@ -168,7 +165,7 @@ quiet_where s settled missed at = settled_on_disk s settled (by_test s.head.want
     by_test false h = refl
     by_test true h = absurd (let both : false ≡ true = sym (ap not at) ∙ h in cc)
 
-pub quiet_at : (layout : Layout) (past : List Entry) (k : ℕ) (one : EndpointView) → AwayIsSettled → layout.direct ≡ false → IsHistory layout past → next_page_in (standings layout past) ≡ None → IsSeen layout past k one → IsQuietOnDisk (state_of layout past one.settings.id)
+pub quiet_at : (layout : Layout) (past : List Entry) (k : ℕ) (one : EndpointView) → AwayIsSettled → layout.direct ≡ false → IsHistory layout past → next_page_in (standings layout past) ≡ None → IsPlaced layout past k one → IsQuietOnDisk (state_of layout past one.settings.id)
 quiet_at layout past k one away packet history none seen =
     quiet_where (state_of layout past one.settings.id) (away layout past packet history one.settings.id)
     (all_got (λ (s : Standing). not (is_missed s)) (standings layout past) k (standing_in layout past (setting_in (kept one)))
@@ -198,7 +195,7 @@ pub record ReadsMail (one : EndpointView) (front' : Option Queued) (reply arriva
   pub reply_is : reply ≡ (if is_on_disk (state_after one).head.place then false else not (length (state_after one).body.replies == 0))
   pub arrivals_is : arrivals ≡ (if is_on_disk (state_after one).head.place then false else has_arrivals (state_after one).body)
 
-pub mail_read : (layout : Layout) (past : List Entry) (k : ℕ) (one : EndpointView) (id : EndpointId) (node : NodeId) (f : Option Queued) (r a : Bool) → IsSeen layout past k one → IsQuietOnDisk (state_of layout past one.settings.id) → id ≡ one.settings.id → node ≡ one.settings.node → ReadsMail one f r a → slice_get (map mail_of (standings layout past)) k ≡ Some (record { id = id; node = node; front = f; has_reply = r; has_arrivals = a })
+pub mail_read : (layout : Layout) (past : List Entry) (k : ℕ) (one : EndpointView) (id : EndpointId) (node : NodeId) (f : Option Queued) (r a : Bool) → IsPlaced layout past k one → IsQuietOnDisk (state_of layout past one.settings.id) → id ≡ one.settings.id → node ≡ one.settings.node → ReadsMail one f r a → slice_get (map mail_of (standings layout past)) k ≡ Some (record { id = id; node = node; front = f; has_reply = r; has_arrivals = a })
 mail_read layout past k one id node f r a seen still of at read =
     slice_get-map_Some mail_of (standings layout past) k (standing_in layout past (setting_in (kept one))) (standing_at layout past k one seen)
     ∙ sym same
@@ -272,10 +269,10 @@ bound_read layout past node peer channel i b one is =
 
 -- ---- frames
 
-pub lies_read : (layout : Layout) (past : List Entry) (node : NodeId) (frame k : ℕ) (one : EndpointView) → IsSeen layout past k one → holds_frame layout past node frame (setting_in (kept one)) ≡ is_in_frame_of node frame one
+pub lies_read : (layout : Layout) (past : List Entry) (node : NodeId) (frame k : ℕ) (one : EndpointView) → IsPlaced layout past k one → holds_frame layout past node frame (setting_in (kept one)) ≡ is_in_frame_of node frame one
 lies_read layout past node frame k one seen = ap (λ (s : State). same_node node one.settings.node && is_in_frame frame s.head.place) (sym seen.state)
 
-pub held_more : (layout : Layout) (past : List Entry) (node : NodeId) (frame k : ℕ) (one : EndpointView) (b : Bool) → IsSeen layout past k one → b ≡ is_in_frame_of node frame one → list_any (holds_frame layout past node frame) (take k layout.ends) ≡ false → list_any (holds_frame layout past node frame) (take (k + 1) layout.ends) ≡ b
+pub held_more : (layout : Layout) (past : List Entry) (node : NodeId) (frame k : ℕ) (one : EndpointView) (b : Bool) → IsPlaced layout past k one → b ≡ is_in_frame_of node frame one → list_any (holds_frame layout past node frame) (take k layout.ends) ≡ false → list_any (holds_frame layout past node frame) (take (k + 1) layout.ends) ≡ b
 held_more layout past node frame k one b seen is before =
     let next : suc k ≡ k + 1 = omega arith in
     subst (λ (n : ℕ). list_any (holds_frame layout past node frame) (take n layout.ends) ≡ b) next

@@ -25,6 +25,7 @@ use Rattle.am_model.specs.Layout.{IsLawful, Layout, node_at}
 use Rattle.am_model.specs.Packets.{from_of, receiver_of}
 use Rattle.am_model.specs.Tables.{tries_ended}
 use Rattle.am_model.proofs.Ends.{bound_push}
+use Rattle.am_journal.specs.Places.{link}
 use Rattle.am_machine.proofs.Between.{emits_between}
 use Rattle.am_scenario_types.specs.Lists.{ScenarioLists}
 use Rattle.am_scripts.specs.Layout.{layout_of}
@@ -32,7 +33,7 @@ use Rattle.am_scripts.specs.Links.{due, number_received, received}
 use Rattle.am_plan.specs.Shape.{number_of, shape}
 use Rattle.am_drainer.specs.Firsts.{IsFirstPair, has_bound, has_due}
 use Rattle.am_drainer.specs.declared.NodePair.{NodePair}
-use Rattle.am_scripted.specs.PairMarks.{AreOfPairs, ArePaired, ArePairsAgain, IsPairAgain, IsPlaceAgain, IsWithin, pair_at, passes_in, place_of}
+use Rattle.am_scripted.specs.PairMarks.{AreOfPairs, ArePaired, ArePairsAgain, IsPairAgain, IsPlaceAgain, IsWithin, pair_at, passes_in}
 use Rattle.am_scripted.specs.Touched.{pair_touched}
 use Rattle.am_scripted.specs.declared.pair_marks.PairMarks.{PairMarks}
 use Rattle.am_scripted.proofs.Emitting.{emission, emitted_none, other_link}
@@ -181,7 +182,7 @@ pair_within s past x pair ok may is = within_by s past x.stamp x.event x.outcome
 
 -- ---- the marks after an entry
 
-pub pair_of : (node peer : NodeId) → peer.0 < 16 → pair_at (place_of node peer) ≡ record { node = node; peer = peer }
+pub pair_of : (node peer : NodeId) → peer.0 < 16 → pair_at (link node peer) ≡ record { node = node; peer = peer }
 pair_of node peer low =
     let first : (16 * node.0 + peer.0) / 16 ≡ node.0 = omega (arith, low) in
     let second : (16 * node.0 + peer.0) % 16 ≡ peer.0 = omega (arith, low) in
@@ -192,16 +193,16 @@ passes_own s passes pair within =
     λ i. (lt-ltb pair.node.0 s.nodes within.node i && lt-ltb pair.peer.0 s.nodes within.peer i) && passes pair.node pair.peer
 
 -- what one pair is read again for, where the others are as they were
-pair_set : (s : ScenarioLists) (passes : NodeId → NodeId → Bool) (node peer : NodeId) (old new : Marks) (k : ℕ) → s.nodes ≤ 16 → IsWithin s (record { node = node; peer = peer }) → IsPairAgain passes node peer old new → ((k ≡ place_of node peer → ⊥) → is_marked old k ≡ passes_in s passes (pair_at k)) → is_marked new k ≡ passes_in s passes (pair_at k)
-pair_set s passes node peer old new k few within again rest = again k ∙ by_test (k == place_of node peer) refl
+pair_set : (s : ScenarioLists) (passes : NodeId → NodeId → Bool) (node peer : NodeId) (old new : Marks) (k : ℕ) → s.nodes ≤ 16 → IsWithin s (record { node = node; peer = peer }) → IsPairAgain passes node peer old new → ((k ≡ link node peer → ⊥) → is_marked old k ≡ passes_in s passes (pair_at k)) → is_marked new k ≡ passes_in s passes (pair_at k)
+pair_set s passes node peer old new k few within again rest = again k ∙ by_test (k == link node peer) refl
   where
-    by_test : (t : Bool) → (k == place_of node peer) ≡ t → (if t then passes node peer else is_marked old k) ≡ passes_in s passes (pair_at k)
+    by_test : (t : Bool) → (k == link node peer) ≡ t → (if t then passes node peer else is_marked old k) ≡ passes_in s passes (pair_at k)
     by_test true at =
         let low = within.peer in
-        sym (ap (λ (i : ℕ). passes_in s passes (pair_at i)) (eqb-true k (place_of node peer) at) ∙ ap (passes_in s passes) (pair_of node peer (omega (arith, low, few))) ∙ passes_own s passes (record { node = node; peer = peer }) within)
-    by_test false at = rest (eqb-false k (place_of node peer) at)
+        sym (ap (λ (i : ℕ). passes_in s passes (pair_at i)) (eqb-true k (link node peer) at) ∙ ap (passes_in s passes) (pair_of node peer (omega (arith, low, few))) ∙ passes_own s passes (record { node = node; peer = peer }) within)
+    by_test false at = rest (eqb-false k (link node peer) at)
 
-place_is : (k : ℕ) (node peer : NodeId) → (pair_at k).node.0 ≡ node.0 → (pair_at k).peer.0 ≡ peer.0 → k ≡ place_of node peer
+place_is : (k : ℕ) (node peer : NodeId) → (pair_at k).node.0 ≡ node.0 → (pair_at k).peer.0 ≡ peer.0 → k ≡ link node peer
 place_is k node peer first second = omega (arith, first, second)
 
 passes_kept : (s : ScenarioLists) (f g : NodeId → NodeId → Bool) (pair : NodePair) → f pair.node pair.peer ≡ g pair.node pair.peer → passes_in s f pair ≡ passes_in s g pair
@@ -236,12 +237,12 @@ paired_last s past x old new few ok may are again = by_pair (pair_touched x.even
         back : IsWithin s (record { node = pair.peer; peer = pair.node })
         back = record { node = within.peer; peer = within.node }
 
-        apart : (k : ℕ) → (k ≡ place_of pair.node pair.peer → ⊥) → (k ≡ place_of pair.peer pair.node → ⊥) → IsApart (pair_at k).node (pair_at k).peer (pair_touched x.event x.outcome)
+        apart : (k : ℕ) → (k ≡ link pair.node pair.peer → ⊥) → (k ≡ link pair.peer pair.node → ⊥) → IsApart (pair_at k).node (pair_at k).peer (pair_touched x.event x.outcome)
         apart k here there =
             subst (λ (o : Option NodePair). IsApart (pair_at k).node (pair_at k).peer o) (sym is)
             ((λ a b. here (place_is k pair.node pair.peer a b)), (λ a b. there (place_is k pair.peer pair.node a b)))
 
-        unbound : (k : ℕ) → (k ≡ place_of pair.node pair.peer → ⊥) → is_marked old.bound k ≡ passes_in s (has_bound s now) (pair_at k)
+        unbound : (k : ℕ) → (k ≡ link pair.node pair.peer → ⊥) → is_marked old.bound k ≡ passes_in s (has_bound s now) (pair_at k)
         unbound k here =
             are.bound k ∙ passes_kept s (has_bound s past) (has_bound s now) (pair_at k) (sym (bound_elsewhere s past x (pair_at k).node (pair_at k).peer pair is (λ a b. here (place_is k pair.node pair.peer a b))))
 
@@ -251,7 +252,7 @@ pub first_read : (s : ScenarioLists) (passes : NodeId → NodeId → Bool) (mark
 first_read s passes marks None few are none =
     λ node peer low lower. sym (passes_own s passes (record { node = node; peer = peer }) (record { node = low; peer = lower }))
     ∙ ap (passes_in s passes) (sym (pair_of node peer (omega (arith, lower, few))))
-    ∙ sym (are (place_of node peer)) ∙ none (place_of node peer) (omega arith)
+    ∙ sym (are (link node peer)) ∙ none (link node peer) (omega arith)
 first_read s passes marks (Some place) few are found =
     record {
       node = ltb-true (place / 16) s.nodes nodes.0;
@@ -267,11 +268,11 @@ first_read s passes marks (Some place) few are found =
     nodes : (nat_lt (place / 16) s.nodes ≡ true) × (nat_lt (place % 16) s.nodes ≡ true)
     nodes = and_parts (nat_lt (place / 16) s.nodes) (nat_lt (place % 16) s.nodes) here.0
 
-    before : (node peer : NodeId) → node.0 < s.nodes → peer.0 < s.nodes → place_of node peer < place → passes node peer ≡ false
+    before : (node peer : NodeId) → node.0 < s.nodes → peer.0 < s.nodes → link node peer < place → passes node peer ≡ false
     before node peer low lower lt =
         sym (passes_own s passes (record { node = node; peer = peer }) (record { node = low; peer = lower }))
         ∙ ap (passes_in s passes) (sym (pair_of node peer (omega (arith, lower, few))))
-        ∙ sym (are (place_of node peer)) ∙ found.3 (place_of node peer) (omega arith) lt
+        ∙ sym (are (link node peer)) ∙ found.3 (link node peer) (omega arith) lt
 
 -- ---- all pairs, place by place
 
@@ -355,5 +356,5 @@ bound_found s past node peer k lt is = sym (ap not (one_bound node peer past 0 s
 
 -- ---- one pair is put
 
-pub pair_put : (passes : NodeId → NodeId → Bool) (node peer : NodeId) (old new : Marks) (place : ℕ) (b : Bool) → place ≡ place_of node peer → b ≡ passes node peer → ((k : ℕ) → is_marked new k ≡ (if k == place then b else is_marked old k)) → IsPairAgain passes node peer old new
+pub pair_put : (passes : NodeId → NodeId → Bool) (node peer : NodeId) (old new : Marks) (place : ℕ) (b : Bool) → place ≡ link node peer → b ≡ passes node peer → ((k : ℕ) → is_marked new k ≡ (if k == place then b else is_marked old k)) → IsPairAgain passes node peer old new
 pair_put passes node peer old new place b at is put k = put k ∙ (λ i. if k == at i then is i else is_marked old k)

@@ -1,21 +1,19 @@
 -- What is due and bound between the nodes of a journal, and where this was read again.
-use Rattle.std.specs.Prelude.{◌≡◌, ℕ, ◌+◌, ◌*◌, ◌/◌, ◌%◌, ◌<◌, Bool, ◌==◌, ◌&&◌, nat_lt, Option, Some, None, List, if◌then◌else◌}
+use Rattle.std.specs.Prelude.{◌≡◌, ℕ, ◌/◌, ◌%◌, ◌<◌, Bool, ◌==◌, ◌&&◌, nat_lt, Option, Some, None, List, if◌then◌else◌}
 use Rattle.am_marks.specs.Places.{is_marked}
 use Rattle.am_marks.specs.declared.Marks.{Marks}
 use Rattle.am_names.specs.declared.NodeId.{NodeId}
 use Rattle.am_office.specs.declared.Entry.{Entry}
 use Rattle.am_model.specs.Layout.{node_at}
+use Rattle.am_journal.specs.Places.{link}
 use Rattle.am_scenario_types.specs.Lists.{ScenarioLists}
 use Rattle.am_drainer.specs.Firsts.{has_bound, has_due}
 use Rattle.am_drainer.specs.declared.NodePair.{NodePair}
 use Rattle.am_scripted.specs.declared.pair_marks.PairMarks.{PairMarks}
 
--- the pair at a place, sixteen to a node, and its place
+-- the pair at a place, sixteen to a node
 abbrev pub pair_at : ℕ → NodePair
 pair_at place = record { node = node_at (place / 16); peer = node_at (place % 16) }
-
-abbrev pub place_of : NodeId → NodeId → ℕ
-place_of node peer = 16 * node.0 + peer.0
 
 -- whether a pair is of nodes of the scenario and passes
 abbrev pub passes_in : ScenarioLists → (NodeId → NodeId → Bool) → NodePair → Bool
@@ -40,7 +38,7 @@ IsPlaceAgain s passes place old new = (k : ℕ) → is_marked new k ≡ (if k ==
 
 -- one pair is read again
 abbrev pub IsPairAgain : (NodeId → NodeId → Bool) → NodeId → NodeId → Marks → Marks → Type 0
-IsPairAgain passes node peer old new = (k : ℕ) → is_marked new k ≡ (if k == place_of node peer then passes node peer else is_marked old k)
+IsPairAgain passes node peer old new = (k : ℕ) → is_marked new k ≡ (if k == link node peer then passes node peer else is_marked old k)
 
 -- both ways of a pair are read again for what is due, and its one way for what is bound
 pub record IsReadAgain (s : ScenarioLists) (past : List Entry) (pair : NodePair) (old new : PairMarks) : Type 0 where

@@ -1,5 +1,5 @@
 -- The words of a text: its longest runs of bytes other than tab, line feed, carriage return and space.
-use Rattle.std.specs.Prelude.{ℕ, Bool, ◌||◌, ◌==◌, nat_lt, nat_le, List, [], ◌∷◌, ◌++◌, length, slice_index, ◌<◌, filter, count_by, if◌then◌else◌}
+use Rattle.std.specs.Prelude.{ℕ, Bool, ◌||◌, ◌==◌, nat_lt, nat_le, List, [], ◌∷◌, ◌++◌, length, filter, count_by, if◌then◌else◌}
 
 -- whether a byte stands between words: tab, line feed, carriage return or space
 abbrev pub is_gap : ℕ → Bool
@@ -32,7 +32,3 @@ short_words text = filter is_short (words_of text)
 -- how many words are long
 abbrev pub long_count : List ℕ → ℕ
 long_count text = count_by is_long (words_of text)
-
--- a text: each byte of it is below 256
-abbrev pub IsText : List ℕ → Type 0
-IsText text = (i : ℕ) → slice_index text i < 256

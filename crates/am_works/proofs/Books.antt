@@ -1,5 +1,4 @@
 -- A book to which an entry was added is a book again.
-use Rattle.std.specs.Prelude.{not}
 use Rattle.std.proofs.Common.{◌≡◌, ◌∙◌, ℕ, suc, ◌+◌, ◌-◌, ◌<◌, ◌≤◌, true, false, List, [], ◌∷◌, ◌++◌, length, sym, ap, subst, arith, length-append}
 use Rattle.std.specs.List.{slice_get}
 use Rattle.am_lemmas.proofs.Bools.{not_implied, implied_anyway}
@@ -9,6 +8,7 @@ use Rattle.am_endpoint.specs.View.{EndpointView, state_after}
 use Rattle.am_model.specs.Parts.{last_stamp, stamp_by}
 use Rattle.am_model.specs.Endpoint.{State, fresh, is_on_disk}
 use Rattle.am_model.specs.Layout.{AllAre}
+use Rattle.am_model.proofs.Alls.{all_push}
 use Rattle.am_merge.specs.Logs.{IsRising}
 use Rattle.am_books.specs.Books.{IsBook}
 use Rattle.am_phase.specs.Lying.{keeps_body, keeps_on_disk, rests}
@@ -24,10 +24,6 @@ first_below : (y : Entry) (ys : List Entry) → AllAre (λ (z : Entry). y.stamp 
 first_below y [] above rising = omega arith
 first_below y (z ∷ zs) above rising = let more : z.stamp ≤ last_stamp (z ∷ zs) = first_below z zs rising.0 rising.1 in let same : last_stamp (y ∷ z ∷ zs) ≡ last_stamp (z ∷ zs) = last_of_more y z zs in let less : y.stamp < z.stamp = above.0 in omega arith
 
-above_push : (n : ℕ) (ys : List Entry) (x : Entry) → AllAre (λ (z : Entry). n < z.stamp) ys → n < x.stamp → AllAre (λ (z : Entry). n < z.stamp) (ys ++ x ∷ [])
-above_push n [] x above h = (h, tt)
-above_push n (y ∷ ys) x above h = (above.0, above_push n ys x above.1 h)
-
 last_below_more : (y : Entry) (ys : List Entry) (n : ℕ) → last_stamp (y ∷ ys) < n → last_stamp ys < n
 last_below_more y [] n h = omega arith
 last_below_more y (z ∷ zs) n h = let same : last_stamp (y ∷ z ∷ zs) ≡ last_stamp (z ∷ zs) = last_of_more y z zs in omega arith
@@ -36,7 +32,7 @@ pub rising_push : (log : List Entry) (x : Entry) → IsRising log → last_stamp
 rising_push [] x rising h = (tt, tt)
 rising_push (y ∷ ys) x rising h =
     let first : y.stamp ≤ last_stamp (y ∷ ys) = first_below y ys rising.0 rising.1 in
-    (above_push y.stamp ys x rising.0 (omega arith), rising_push ys x rising.1 (last_below_more y ys x.stamp h))
+    (all_push (λ (z : Entry). y.stamp < z.stamp) ys x rising.0 (omega arith), rising_push ys x rising.1 (last_below_more y ys x.stamp h))
 
 pub grown_book : (e f : EndpointView) (x : Entry) → IsBook e → f.settings ≡ e.settings → f.log ≡ e.log ++ x ∷ [] → (length e.log ≡ e.settings.log → ⊥) → last_stamp e.log < x.stamp → keeps_on_disk (state_after e) x ≡ true → IsBook f
 grown_book e f x b set log full later keeps =

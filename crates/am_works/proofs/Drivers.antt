@@ -31,6 +31,7 @@ use Rattle.am_model.proofs.Names.{same_end-is, same_node-refl}
 use Rattle.am_local.specs.Driver.{DriverLog, changes_frame, end_moved, failing_move, is_frame_held_by, lies_in, outcome_move, page_number}
 use Rattle.am_local.specs.Together.{faults_of}
 use Rattle.am_model.proofs.PlaceKinds.{on_host_in_no_frame, framed_is_resident}
+use Rattle.am_model.proofs.Alls.{all_push}
 use Rattle.am_local.proofs.Growing.{calls_push}
 use Rattle.am_driver.specs.Chosen.{Suits}
 use Rattle.am_driver.specs.Lists.{ViewLists}
@@ -58,7 +59,7 @@ use Rattle.am_works.specs.Stands.{TouchOnly}
 use Rattle.am_works.specs.Works.{DriverWorks, IsMoveThenHere}
 use Rattle.am_works.proofs.Driving.{IsFoundAt, born_at, found_of, free_at, line_at, line_there, looks_keep, moves_keep, others_still, same_event, suits_here, unframed}
 use Rattle.am_works.proofs.Keeping.{joined_append, known_else, only_of, seen_here, seen_more}
-use Rattle.am_works.proofs.Keeps.{all_push, all_within, begins_then, rising_push}
+use Rattle.am_works.proofs.Keeps.{all_within, begins_then, rising_push}
 use Rattle.am_works.proofs.Staying.{replay_append}
 use Rattle.am_works.proofs.Stands.{got_any, got_low, stands_on, stays_keep}
 

@@ -22,6 +22,7 @@ use Rattle.am_model.specs.Endpoint.{State, fresh, is_in_a_frame, is_on_disk, is_
 use Rattle.am_model.specs.History.{is_in_frame}
 use Rattle.am_model.specs.Layout.{AllAre}
 use Rattle.am_model.proofs.Names.{same_end-is}
+use Rattle.am_model.proofs.Alls.{all_append}
 use Rattle.am_local.specs.Driver.{end_moved}
 use Rattle.am_books.specs.Books.{moves}
 use Rattle.am_driver.specs.Chosen.{IsOfLine, Suits}
@@ -42,7 +43,7 @@ use Rattle.am_places.specs.declared.board.Tenure.{Tenure}
 use Rattle.am_moves.specs.Moves.{swap_with}
 use Rattle.am_works.specs.Drives.{CanDrive, KnowsPlace, LiesSo, LooksKeep, MovesKeep, frames_after, last_after, line_by, log_of, with_frames, with_line}
 use Rattle.am_works.specs.Seats.{EndPass, Stays}
-use Rattle.am_works.proofs.Keeping.{joined_append, push_all}
+use Rattle.am_works.proofs.Keeping.{joined_append}
 use Rattle.am_works.proofs.Keeps.{left_log}
 use Rattle.am_works.proofs.Lies.{LeavesFree, MaySo, frames_long, lies_beside, lies_moved, lies_on, owned_after}
 use Rattle.am_works.proofs.Staying.{replay_append}
@@ -102,7 +103,7 @@ calm_still d (t ∷ ts) c z o = by_tests (t.by == 0) (t.by == d) c z o (calm_sti
     by_tests false true g y p more = absurd (omega (arith, p))
     by_tests false false g y p more =
         let parts = and_parts (not (stirs moves t.items)) (calm moves d ts) g in
-        push_all (λ (x : Entry). moves_by x.event ≡ false) t.items (joined ts) (not_stirred t.items parts.0) (more parts.1 y p)
+        all_append (λ (x : Entry). moves_by x.event ≡ false) t.items (joined ts) (not_stirred t.items parts.0) (more parts.1 y p)
 
 calm_then : (d : ℕ) (ts us : List (Tenure Entry)) → calm moves d (ts ++ us) ≡ true → calm moves d us ≡ true
 calm_then d [] us h = h

@@ -18,10 +18,6 @@ use Rattle.am_works.specs.Seats.{EndPass, Ids, KnowsNode, Stays, seen_log}
 
 -- ---- lists
 
-pub push_all : {X : Type 0} (P : X → Type 0) (xs new : List X) → AllAre P xs → AllAre P new → AllAre P (xs ++ new)
-push_all P [] new h k = k
-push_all P (y ∷ ys) new h k = (h.0, push_all P ys new h.1 k)
-
 pub joined_append : (ts us : List (Tenure Entry)) → joined (ts ++ us) ≡ joined ts ++ joined us
 joined_append [] us = refl
 joined_append (t ∷ ts) us = ap (λ (xs : List Entry). t.items ++ xs) (joined_append ts us) ∙ sym (append_assoc t.items (joined ts) (joined us))

@@ -21,7 +21,7 @@ returns-in-Ok-clause-space c =
     let vs = c.args.links.now.items in
     let new = c.reserve.new.self in
     let all = length-set vs c.args.place new in
-    let room : vec_len new < vec_capacity new = omega (arith, c.in-Ok.ensures.ok, c.reserve.ensures.len) in
+    let room : vec_len new < vec_capacity new = omega (arith, c.in-Ok.ensures.ok, c.reserve.ensures.len, c.growth-more.ensures) in
     index_map has_space (slice_set vs c.args.place new) c.args.place new false (omega (arith, all, c.requires))
     ∙ ap has_space (index_set vs c.args.place new new c.requires)
     ∙ le-leb _ _ room
