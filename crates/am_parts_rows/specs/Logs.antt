@@ -82,7 +82,7 @@ held_acknowledgement =
 -- the driver of the node after so many entries, all of which it made
 abbrev pub driver_after : List ℕ → DriverLog
 driver_after positions =
-    record { settings = record { node = node_at 0; ends = end 0 ∷ end 1 ∷ end 2 ∷ []; faults = [] }; log = picked frames.journal positions }
+    record { settings = record { node = node_at 0; ends = end_at 0 ∷ end_at 1 ∷ end_at 2 ∷ []; faults = [] }; log = picked frames.journal positions }
 
 -- ---- entries with one stamp
 
@@ -96,4 +96,4 @@ try_of number = record { stamp = 5; event = Events.Expire (node_at number) (node
 
 abbrev pub pager_after : List ℕ → DriverLog
 pager_after positions =
-    record { settings = record { node = node_at 0; ends = end 0 ∷ []; faults = 2 ∷ [] }; log = picked failed_read.journal positions }
+    record { settings = record { node = node_at 0; ends = end_at 0 ∷ []; faults = 2 ∷ [] }; log = picked failed_read.journal positions }
