@@ -78,7 +78,7 @@ pub fn phase_then_drain()
     ensures drained { IsDrainedIn 10 phase.scenario phase.phase phase.journal }
     ensures history { IsHistory (layout_of phase.scenario) phase.journal }
     ensures follows { FollowsScripts phase.scenario phase.journal }
-    ensures request { fate phase.journal request.serial ≡ Some Fate.Ran }
+    ensures first { fate phase.journal request.serial ≡ Some Fate.Ran }
 {}
 
 /// An endpoint comes from disk at the second try; a packet is repeated, and its first answer is late. The endpoint that
@@ -86,7 +86,7 @@ pub fn phase_then_drain()
 pub fn from_disk()
     ensures drained { IsDrainedIn 9 disk.scenario [] disk.journal }
     ensures history { IsHistory (layout_of disk.scenario) disk.journal }
-    ensures request { fate disk.journal request.serial ≡ Some (Fate.Returned Cause.BadHandler) }
+    ensures first { fate disk.journal request.serial ≡ Some (Fate.Returned Cause.BadHandler) }
 {}
 
 /// A run with late, repeated and lost packets, endpoints on disk, page calls that fail and few frames ends after 68 turns,
