@@ -1,6 +1,7 @@
 #!/usr/bin/env bash
 # The words of texts, counted over the cluster, against a plain walk over each text; and the example that counts the README.
 set -u
+. .ci/program.sh
 failed=0
 python3 -B check/counts.py bin/am2 || failed=1
 most=$(examples/count-readme.sh | head -n 1)

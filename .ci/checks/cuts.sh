@@ -1,6 +1,7 @@
 #!/usr/bin/env bash
 # The scenario of the stored run, cut after every byte: each beginning of it is a scenario whose run ends (0), or is refused (3).
 set -u
+. .ci/program.sh
 text=crates/am2/stdin
 size=$(wc -c < "$text")
 for ((count = 0; count <= size; count++)); do

@@ -1,7 +1,8 @@
 #!/usr/bin/env bash
-# Each example against its stored report: those named run-* by the command run, those named segments* by segments, those named session* by session, the others by step. bin/am2 builds the program where it
-# isn't built; without one this fails.
+# Each example against its stored report: those named run-* by the command run, those named segments* by segments, those named session* by session,
+# the others by step.
 set -u
+. .ci/program.sh
 failed=0
 compared=0
 for example in examples/*.am2; do

@@ -2,6 +2,7 @@
 # The program against the second reading of the rules in check/: fifty random step scripts, fifty random runs and a made run, byte by byte; and the
 # examples' runs are judged by what can be read off a report, and made again entry by entry, as are forty random runs with turns.
 set -u
+. .ci/program.sh
 failed=0
 python3 -B check/compare.py bin/am2 1 50 || failed=1
 for run in examples/run-*.am2; do

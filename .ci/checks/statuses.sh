@@ -1,6 +1,7 @@
 #!/usr/bin/env bash
 # The program's own edge, which no contract reaches: the words after its name, the real streams, and the exit status.
 set -u
+. .ci/program.sh
 failed=0
 first=examples/first.am2
 errors=$(mktemp)

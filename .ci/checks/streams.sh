@@ -1,6 +1,7 @@
 #!/usr/bin/env bash
 # Each command over real streams that fail, and over an input that ends in the middle of a line.
 set -u
+. .ci/program.sh
 failed=0
 folder=$(mktemp -d)
 errors=$folder/errors
