@@ -1,11 +1,13 @@
+ghost use Rattle.std.specs.Prelude.{◌≤◌, IfOk, length};
+
 use crate::tables::{HEAD, OTHER_FAULTS, OWN_FAULTS};
 use am_lexer::What;
 use am_names::{EndpointId, Message, MsgKind, Serial, Tag, Words};
 use am_office::{Actor, Call, Entry, Event, Journal, Outcome};
 use am_scenario::{ReadFault, Scenario};
 use am_segment::{
-    Expanded, SegmentLine, TransferRan, expand, piece, read_segments, segment_bytes, segments_text,
-    transfers_ran,
+    Expanded, SegmentLine, SegmentScenario, TransferRan, expand, piece, read_segments,
+    segment_bytes, segments_text, transfers_ran,
 };
 use std::alloc::Global;
 use std::fmt::Write;
@@ -35,10 +37,33 @@ fn expanded(alloc: Global, text: &str) -> Result<Expanded, Fail> {
     }
 }
 
+// The head, and these lines behind it.
+fn behind_head(alloc: Global, lines: &str) -> Result<String, Fail> {
+    let mut text = String::from_str(alloc, HEAD)?;
+    text.push_str(lines)?;
+    Ok(text)
+}
+
+// Appends a line again and again.
+fn put_often(text: &mut String, line: &str, times: u32) -> Result<(), Fail> {
+    for _ in 0..times {
+        text.push_str(line)?;
+    }
+    Ok(())
+}
+
+// Appends numbered lines.
+fn put_numbered(text: &mut String, word: &str, behind: &str, count: u32) -> Result<(), Fail> {
+    for number in 0..count {
+        write!(text, "{word} {number} {behind}\n")?;
+    }
+    Ok(())
+}
+
 #[test]
 fn faults_of_own_lines(rt: HostRuntime) -> Result<(), Fail> {
     for (lines, line, what) in OWN_FAULTS.iter() {
-        let text = format!(in rt.alloc(); "{HEAD}{lines}")?;
+        let text = behind_head(rt.alloc(), lines)?;
         assert!(rt;
             own_fault(rt.alloc(), text.as_str()) == Some((*line, *what)),
             "{lines}"
@@ -54,7 +79,7 @@ fn faults_of_own_lines(rt: HostRuntime) -> Result<(), Fail> {
 #[test]
 fn faults_of_other_lines(rt: HostRuntime) -> Result<(), Fail> {
     for (lines, line, what) in OTHER_FAULTS.iter() {
-        let text = format!(in rt.alloc(); "{HEAD}{lines}")?;
+        let text = behind_head(rt.alloc(), lines)?;
         assert!(rt; own_fault(rt.alloc(), text.as_str()) == None, "{lines}");
         assert!(rt;
             fault(rt.alloc(), text.as_str()) == Some((*line, *what)),
@@ -68,23 +93,18 @@ fn faults_of_other_lines(rt: HostRuntime) -> Result<(), Fail> {
 // Sixteen segments and no more; and 16,384 calls, and no more.
 #[test]
 fn too_many(rt: HostRuntime) -> Result<(), Fail> {
-    let mut text = format!(in rt.alloc(); "am2 1\nnetwork packet\nnodes 1\n")?;
-    for end in 0..17u32 {
-        write!(text, "endpoint {end} 0 5\n")?;
-    }
-    for end in 0..16u32 {
-        write!(text, "segment {end} 1 4\n")?;
-    }
-    assert!(rt; own_fault(rt.alloc(), text.as_str()) == None);
-    write!(text, "segment 16 1 4\n")?;
-    assert!(rt; own_fault(rt.alloc(), text.as_str()) == Some((37, What::TooMany)));
-    let mut text = format!(in rt.alloc(); "{HEAD}")?;
-    for _ in 0..16u32 {
-        write!(text, "t0 serve 1 1024\n")?;
-    }
-    assert!(rt; own_fault(rt.alloc(), text.as_str()) == None);
-    write!(text, "t0 serve 1 1\n")?;
-    assert!(rt; own_fault(rt.alloc(), text.as_str()) == Some((23, What::TooMany)));
+    let alloc = rt.alloc();
+    let mut text = String::from_str(alloc, "am2 1\nnetwork packet\nnodes 1\n")?;
+    put_numbered(&mut text, "endpoint", "0 5", 17)?;
+    put_numbered(&mut text, "segment", "1 4", 16)?;
+    assert!(rt; own_fault(alloc, text.as_str()) == None);
+    text.push_str("segment 16 1 4\n")?;
+    assert!(rt; own_fault(alloc, text.as_str()) == Some((37, What::TooMany)));
+    let mut text = behind_head(alloc, "")?;
+    put_often(&mut text, "t0 serve 1 1024\n", 16)?;
+    assert!(rt; own_fault(alloc, text.as_str()) == None);
+    text.push_str("t0 serve 1 1\n")?;
+    assert!(rt; own_fault(alloc, text.as_str()) == Some((23, What::TooMany)));
     Ok(())
 }
 
@@ -93,11 +113,11 @@ fn too_many(rt: HostRuntime) -> Result<(), Fail> {
 fn text_and_origins(rt: HostRuntime) -> Result<(), Fail> {
     let lines =
         "segment 1 1 4\nt0 handler 1 1 note\n # more\nt0 map 0 0 1 7 1\nt00 xfer 00 0 1 01 6869\nt7  serve 1 2";
-    let text = format!(in rt.alloc(); "{HEAD}{lines}")?;
+    let text = behind_head(rt.alloc(), lines)?;
     let expanded = expanded(rt.alloc(), text.as_str())?;
     let behind =
         "t0 handler 1 1 note\n # more\nt0 map 0 0 1 7 1\nt0 request 0 0 1 4295098369 7523544652499124224 0 0\nt0 poll 0\nt7 poll 1\nt7 poll 1\n";
-    let wanted = format!(in rt.alloc(); "{HEAD}{behind}")?;
+    let wanted = behind_head(rt.alloc(), behind)?;
     assert!(rt; expanded.text.as_slice() == wanted.as_bytes());
     let origin: [u32; 13] = [1, 2, 3, 4, 5, 6, 8, 9, 10, 11, 11, 12, 12];
     assert!(rt; expanded.origin.as_slice() == origin.as_slice());
@@ -228,51 +248,68 @@ fn all_run(alloc: Global, scenario: &Scenario) -> Result<Journal, Fail> {
     Ok(Journal { entries })
 }
 
+const FRONT: &str =
+    "segment 1 3 600\n0000000000000000000000000000000000000000000000000000000000000000\n00000000000000005aa55aa55aa55aa55aa55aa55aa55aa55aa55aa55aa55aa5\n";
+
+const ROW: &str = "5aa55aa55aa55aa55aa55aa55aa55aa55aa55aa55aa55aa55aa55aa55aa55aa5\n";
+
+const BACK: &str =
+    "5aa55aa55aa55aa5000000000000000000000000000000000000000000000000\n000000000000000000000000000000000000000000000000\ntransfer 1 ran 22 of 22\n";
+
+// A text, read.
+fn read_of(alloc: Global, text: &str) -> Result<SegmentScenario, Fail>
+    ensures few { IfOk result (λ s. length s.expanded.transfers ≤ 16384) }
+{
+    match read_segments(alloc, text.as_bytes()) {
+        Ok(read) => Ok(read),
+        Err(_) => Err("not read")?,
+    }
+}
+
+// How much of each transfer ran, and what is printed of the segments, where each request of the scripts runs.
+fn told(alloc: Global, read: &SegmentScenario) -> Result<(Vec<TransferRan>, Vec<u8>), Fail>
+    requires { length read.now.expanded.transfers ≤ 16384 }
+{
+    let journal = all_run(alloc, &read.scenario)?;
+    let expanded = &read.expanded;
+    let rows = transfers_ran(alloc, &journal, &expanded.segments, &expanded.transfers)
+        .ok()
+        .ok_or("no memory")?;
+    let printed = segments_text(alloc, expanded, &journal)
+        .ok()
+        .ok_or("no memory")?;
+    Ok((rows, printed))
+}
+
+// The block between zeros, as it is printed.
+fn block_text(alloc: Global) -> Result<String, Fail> {
+    let mut wanted = String::from_str(alloc, FRONT)?;
+    put_often(&mut wanted, ROW, 15)?;
+    wanted.push_str(BACK)?;
+    Ok(wanted)
+}
+
+// The scenario that sends the block.
+fn block_scenario(alloc: Global) -> Result<SegmentScenario, Fail>
+    ensures few { IfOk result (λ s. length s.expanded.transfers ≤ 16384) }
+{
+    let mut text = behind_head(alloc, "segment 1 3 600\nt0 xfer 0 0 1 40 ")?;
+    put_often(&mut text, "5aa5", 256)?;
+    read_of(alloc, text.as_str())
+}
+
 // A block of 512 bytes, whole: 22 pieces.
 #[test]
 fn whole_block(rt: HostRuntime) -> Result<(), Fail> {
-    let alloc = rt.alloc();
-    let mut text = format!(in alloc; "{HEAD}segment 1 3 600\nt0 xfer 0 0 1 40 ")?;
-    for _ in 0..256u32 {
-        write!(text, "5aa5")?;
-    }
-    let Ok(read) = read_segments(alloc, text.as_bytes()) else {
-        return Err("not read")?;
-    };
-    let journal = all_run(alloc, &read.scenario)?;
-    assert!(rt; journal.entries.len() == 22);
-    let Ok(rows) = transfers_ran(
-        alloc,
-        &journal,
-        &read.expanded.segments,
-        &read.expanded.transfers,
-    ) else {
-        return Err("no memory")?;
-    };
+    let read = block_scenario(rt.alloc())?;
+    let (rows, printed) = told(rt.alloc(), &read)?;
     let row = TransferRan {
         number: 1,
         ran: 22,
         pieces: 22,
     };
     assert!(rt; rows.as_slice() == [row].as_slice());
-    let Ok(printed) = segments_text(alloc, &read.expanded, &journal) else {
-        return Err("no memory")?;
-    };
-    let mut wanted = format!(in alloc; "segment 1 3 600\n")?;
-    let zeros = "0000000000000000";
-    let block = "5aa55aa55aa55aa5";
-    write!(
-        wanted,
-        "{zeros}{zeros}{zeros}{zeros}\n{zeros}{block}{block}{block}\n"
-    )?;
-    for _ in 0..15u32 {
-        write!(wanted, "{block}{block}{block}{block}\n")?;
-    }
-    write!(
-        wanted,
-        "{block}{zeros}{zeros}{zeros}\n{zeros}{zeros}{zeros}\n"
-    )?;
-    write!(wanted, "transfer 1 ran 22 of 22\n")?;
+    let wanted = block_text(rt.alloc())?;
     assert!(rt; printed.as_slice() == wanted.as_bytes());
     Ok(())
 }
