@@ -8,7 +8,7 @@ import sys
 from drain import Run
 from machine import Cluster, LogFull, NotEnabled
 from made import make
-from scenario import read
+from scenario import NotRead, read
 
 
 def step(scenario):
@@ -46,7 +46,19 @@ def answer(words, text):
     return status, "".join(line + "\n" for line in lines)
 
 
-if __name__ == "__main__":
-    status, printed = answer(sys.argv[1:], "" if sys.argv[1] == "make" else sys.stdin.read())
+def main(words, source):
+    """Prints the answer, and gives the status. A text with a fault is one for am2, which tells what is wrong with it."""
+    if len(words) != (2 if words[:1] == ["make"] else 1) or words[0] not in ("step", "run", "make"):
+        print("usage: reading.py step < SCENARIO | reading.py run < SCENARIO | reading.py make N", file=sys.stderr)
+        return 2
+    try:
+        status, printed = answer(words, "" if words[0] == "make" else source.read())
+    except (NotRead, LookupError, ValueError, TypeError, AttributeError) as why:
+        print(f"reading.py reads texts without a fault only. {why if isinstance(why, NotRead) else 'This one has a fault'}: am2 tells which", file=sys.stderr)
+        return 3
     sys.stdout.write(printed)
-    sys.exit(status)
+    return status
+
+
+if __name__ == "__main__":
+    sys.exit(main(sys.argv[1:], sys.stdin))

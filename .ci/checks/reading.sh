@@ -5,7 +5,7 @@ set -u
 . .ci/program.sh
 failed=0
 python3 -B check/compare.py bin/am2 1 50 || failed=1
-for run in examples/run-*.am2; do
+for run in examples/run-*.am2 examples/turns-*.am2; do
     python3 -B check/judge.py "$run" "${run%.am2}.out" >/dev/null || { echo "judged as wrong: $run"; failed=1; }
     python3 -B check/replay.py "$run" "${run%.am2}.out" >/dev/null || { echo "made again in another way: $run"; failed=1; }
 done
