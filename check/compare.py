@@ -3,7 +3,7 @@
 import subprocess
 import sys
 
-from randoms import run_script, step_script
+from randoms import run_script, segments_script, session_script, step_script
 from reading import answer
 
 
@@ -16,14 +16,14 @@ def differs(program, words, text):
 def main(program, first, count):
     bad = 0
     for seed in range(first, first + count):
-        for words, text in ((["step"], step_script(seed)), (["run"], run_script(seed))):
-            if differs(program, words, text):
+        for word, script in (("step", step_script), ("run", run_script), ("segments", segments_script), ("session", session_script)):
+            if differs(program, [word], script(seed)):
                 bad += 1
-                print(f"the second reading differs: am2 {words[0]} on random scenario {seed}")
+                print(f"the second reading differs: am2 {word} on random scenario {seed}")
     if differs(program, ["make", str(first)], ""):
         bad += 1
         print(f"the second reading differs: am2 make {first}")
-    print(f"second reading: {2 * count + 1} compared, {bad} differ")
+    print(f"second reading: {4 * count + 1} compared, {bad} differ")
     return 1 if bad else 0
 
 

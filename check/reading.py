@@ -1,10 +1,12 @@
 #!/usr/bin/env python3
-"""A second reading of the rules: `reading.py step`, `reading.py run` and `reading.py make N` print what am2 should print, for texts without a fault.
+"""A second reading of the rules: `reading.py step`, `run`, `make N`, `segments` and `session` print what am2 should print, for texts without a fault.
 
 It is written from docs/MANUAL.md and not from the code, and shares nothing with it. It answers with the same statuses: 0, 3 for a step that can't happen, 6.
 """
 import sys
 
+import segments
+import session
 from drain import Run
 from machine import Cluster, LogFull, NotEnabled
 from made import make
@@ -42,14 +44,19 @@ def made_run(number):
 
 def answer(words, text):
     """The status and the text for these words and this input."""
-    status, lines = made_run(words[1]) if words[0] == "make" else {"step": step, "run": run}[words[0]](read(text))
+    if words[0] == "make":
+        status, lines = made_run(words[1])
+    elif words[0] in ("segments", "session"):
+        status, lines = {"segments": segments.run, "session": session.play}[words[0]](text)
+    else:
+        status, lines = {"step": step, "run": run}[words[0]](read(text))
     return status, "".join(line + "\n" for line in lines)
 
 
 def main(words, source):
     """Prints the answer, and gives the status. A text with a fault is one for am2, which tells what is wrong with it."""
-    if len(words) != (2 if words[:1] == ["make"] else 1) or words[0] not in ("step", "run", "make"):
-        print("usage: reading.py step < SCENARIO | reading.py run < SCENARIO | reading.py make N", file=sys.stderr)
+    if len(words) != (2 if words[:1] == ["make"] else 1) or words[0] not in ("step", "run", "make", "segments", "session"):
+        print("usage: reading.py step | run | segments | session < TEXT, reading.py make N", file=sys.stderr)
         return 2
     try:
         status, printed = answer(words, "" if words[0] == "make" else source.read())
