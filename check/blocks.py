@@ -3,7 +3,8 @@
 
 A block that is marked `am2 step`, `am2 run`, `am2 segments` or `am2 session` is a whole input of that command, and ends with status 0; where a block marked `report` follows,
 that is what the program prints, and it may be a refusal. A block marked `possible report` is one of several reports of the block before, and `am2 check` says so. A block marked
-`console` has commands behind `$ `, each with what it prints. A line `...` stands for lines that are left out. Without a program the second reading of the rules is taken, and what it can't do is left out.
+`console` has commands behind `$ `, each with what it prints. A line `...` stands for lines that are left out. Without a program the second reading of the rules is taken, and what it can't do is left out; a script
+of the examples, which calls bin/am2, is run for that program alone.
 """
 import glob
 import re
@@ -11,7 +12,8 @@ import subprocess
 import sys
 
 READING = "python3 -B check/reading.py"
-UNKNOWN = re.compile(r"bin/am2 (check|count)|count-readme")
+UNKNOWN = re.compile(r"bin/am2 (check|count)")
+SCRIPT = re.compile(r"examples/\S+\.sh")
 BLOCK = re.compile(r"^```([^\n]*)\n(.*?)^```$", re.M | re.S)
 
 
@@ -72,7 +74,7 @@ class Blocks:
         return printed
 
     def console(self, path, command, given, shown):
-        if not self.built and UNKNOWN.search(command):
+        if not self.built and UNKNOWN.search(command) or self.program != "bin/am2" and SCRIPT.search(command):
             self.left_out += 1
             return
         _, printed = shell(re.sub(r"\bbin/am2\b", self.program, command), given)
