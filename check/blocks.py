@@ -29,9 +29,13 @@ def fits(shown, printed):
 
 
 def split(lines):
+    """The lines between those that stand for what is left out."""
     parts = [[]]
     for line in lines:
-        parts.append([]) if line == "..." else parts[-1].append(line)
+        if line == "...":
+            parts.append([])
+        else:
+            parts[-1].append(line)
     return parts
 
 

@@ -6,13 +6,13 @@ VERDICTS = {"accept": "delivered", "full": "requeued", "bad": "returned"}
 
 class Sender:
     def __init__(self):
-        self.incarnation, self.peer = 1, None
+        self.incarnation, self.peer, self.bound = 1, None, None
         self.queue, self.packets = [], []
         self.renew()
 
     def renew(self):
         """A new end of the channel, with nothing bound; what was bound is the answer."""
-        left, self.bound = getattr(self, "bound", None), None
+        left, self.bound = self.bound, None
         self.sequence = self.attempt = 0
         return left
 
