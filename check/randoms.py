@@ -1,4 +1,4 @@
-"""Random scenarios for `run`, with and without turns, for `segments` and for `step`, and random sessions. A step script is made event by event beside the second reading, mostly of events that may happen."""
+"""Random scenarios for `run`, with and without turns, for `segments` and for `step`, random sessions, and reports that were spoiled. A step script is made event by event beside the second reading, mostly of events that may happen."""
 import copy
 import random
 
@@ -248,3 +248,47 @@ def session_script(seed):
                 continue
         text.append(line)
     return "\n".join(text) + "\n"
+
+
+SPOILING_WORDS = ["ok", "x", "t0", "i0", "d0", "->", "nothing", "ran", "poll", "none", "all", "", "sent", "4294967296", "18446744073709551615", "18446744073709551616"]
+
+
+def spoiled_line(draw, line):
+    """A line with another word, or with something else behind its event."""
+    if draw.random() < 0.2:
+        return line.split(" -> ")[0] + draw.choice(["", " -> ", " -> x", " ->", "  -> ok"])
+    words = line.split(" ")
+    place = draw.randrange(len(words))
+    number = int(words[place]) if words[place].isdigit() else 0
+    words[place] = draw.choice([str(number + 1), str(max(0, number - 1)), f"0{number}", "256", *SPOILING_WORDS])
+    return " ".join(words)
+
+
+def spoiled(draw, report):
+    """A report in which something was changed behind its first line, or nothing."""
+    lines = report.split("\n")
+    count = int(lines[1].split()[1])
+    place = draw.randrange(1, count + 2 if draw.random() < 0.8 else len(lines) - 1)
+    odds = draw.random()
+    if odds < 0.15:
+        return report
+    if odds < 0.25:
+        return report[: draw.randrange(len(lines[0]), len(report))]
+    if odds < 0.35:
+        del lines[place]
+    elif odds < 0.45:
+        lines[place:place] = [draw.choice(lines[1:])]
+    elif odds < 0.6:
+        lines[place], lines[place + 1] = lines[place + 1], lines[place]
+    elif odds < 0.7:
+        lines[1] = f"entries {draw.choice([count + 1, max(0, count - 1), 0])}"
+    else:
+        lines[place] = spoiled_line(draw, lines[place])
+    return "\n".join(lines)
+
+
+def with_log(draw, text):
+    """The scenario, which may get a line that bounds its logs."""
+    if draw.random() > 0.2 or "\nlog " in text:
+        return text
+    return text.replace("\nendpoint ", f"\nlog {draw.randint(1, 40)}\nendpoint ", 1)
