@@ -23,10 +23,11 @@ def examples():
     """Each example with the form of its scenario: the name, the scenario, its report."""
     for path in sorted(glob.glob("examples/*.am2")):
         name = path[: -len(".am2")]
-        if name.startswith(("examples/segments", "examples/session")):
+        if name.startswith(("examples/segments", "examples/session", "examples/check-")):
             continue
         with open(path, "rb") as scenario, open(f"{name}.out", "rb") as report:
-            yield name, "run" if name.startswith("examples/run-") else "step", scenario.read(), report.read()
+            form = "run" if name.startswith(("examples/run-", "examples/turns-")) else "step"
+            yield name, form, scenario.read(), report.read()
 
 
 def runs(program, path):

@@ -1,10 +1,26 @@
 #!/usr/bin/env python3
-"""compare.py PROGRAM FIRST COUNT: random scenarios FIRST, FIRST + 1 .., each given to the program and to the second reading, which must agree byte by byte."""
+"""compare.py PROGRAM FIRST COUNT: random texts of the seeds FIRST, FIRST + 1 .., each given to the program and to the second reading, which must agree byte by byte: scenarios for
+`step`, `run` and `segments`, sessions, and for `check` reports that were mostly spoiled."""
+import random
 import subprocess
 import sys
 
-from randoms import run_script, step_script
+from randoms import run_script, segments_script, session_script, spoiled, step_script, with_log
 from reading import answer
+
+SCRIPTS = {"step": step_script, "run": run_script, "segments": segments_script, "session": session_script}
+
+
+def texts(seed):
+    """The words of a command and its input, for each kind."""
+    for word, script in SCRIPTS.items():
+        yield [word], script(seed)
+    for form in ("step", "run"):
+        draw, text = random.Random(f"check {form} {seed}"), SCRIPTS[form](seed)
+        status, report = answer([form], text)
+        if status == 0:
+            yield ["check", form], with_log(draw, text) + spoiled(draw, report)
+    yield ["make", str(seed)], ""
 
 
 def differs(program, words, text):
@@ -14,17 +30,17 @@ def differs(program, words, text):
 
 
 def main(program, first, count):
-    bad = 0
+    compared = bad = 0
     for seed in range(first, first + count):
-        for words, text in ((["step"], step_script(seed)), (["run"], run_script(seed))):
+        for words, text in texts(seed):
+            if words[0] == "make" and seed > first:
+                continue
+            compared += 1
             if differs(program, words, text):
                 bad += 1
-                print(f"the second reading differs: am2 {words[0]} on random scenario {seed}")
-    if differs(program, ["make", str(first)], ""):
-        bad += 1
-        print(f"the second reading differs: am2 make {first}")
-    print(f"second reading: {2 * count + 1} compared, {bad} differ")
-    return 1 if bad else 0
+                print(f"the second reading differs: am2 {' '.join(words)} on the random text {seed}")
+    print(f"second reading: {compared} compared, {bad} differ")
+    return 1 if bad or compared < 4 * count else 0
 
 
 if __name__ == "__main__":

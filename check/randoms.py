@@ -1,9 +1,10 @@
-"""Random scenarios for `run`, with and without turns, and for `step`. A step script is made event by event beside the second reading, mostly of events that may happen."""
+"""Random scenarios for `run`, with and without turns, for `segments` and for `step`, random sessions, and reports that were spoiled. A step script is made event by event beside the second reading, mostly of events that may happen."""
 import copy
 import random
 
 from machine import Cluster, LogFull, NotEnabled
 from scenario import read
+from session import Session
 
 
 def settings(draw, version, packet):
@@ -187,3 +188,107 @@ def step_script(seed):
                 continue
         text.append(line)
     return "\n".join(text) + "\n"
+
+
+def block_call(draw, thread, own, ends, blocks):
+    """A line of a thread that sends a block, serves, or makes an ordinary call."""
+    end, odds = draw.choice(own), draw.random()
+    if odds < 0.2:
+        return f"t{thread} handler {end} {draw.randint(1, 3)} " + draw.choice(["note", "echo 1", "add 2"])
+    if odds < 0.45:
+        to = draw.choice(list(ends))
+        return f"t{thread} map {end} {draw.randint(0, 2)} {to} {ends[to][1]} {draw.randint(1, 8)}"
+    if odds < 0.6:
+        return f"t{thread} serve {end} {draw.randint(1, 20)}"
+    to = draw.choice(list(blocks))
+    count = draw.randint(1, min(blocks[to], 512))
+    return f"t{thread} xfer {end} {draw.randint(0, 2)} {to} {draw.randint(0, blocks[to] - count)} {draw.randbytes(count).hex()}"
+
+
+def segments_script(seed):
+    """A scenario for `segments`: blocks of 1 to 512 bytes between at most five endpoints."""
+    draw = random.Random(f"segments {seed}")
+    nodes = draw.randint(1, 3)
+    ends = {id: (draw.randrange(nodes), draw.randint(1, 4)) for id in range(draw.randint(2, 5))}
+    of = {thread: ends[id][0] for thread, id in enumerate(draw.sample(list(ends), draw.randint(1, 2)))}
+    blocks = {id: draw.choice([1, 8, 40, 100, 3000]) for id in draw.sample(list(ends), draw.randint(1, len(ends)))}
+    plan, pages = faults(draw, nodes)
+    text = ["am2 1", "network packet", f"nodes {nodes}", f"frames {draw.randint(2, 4)}", f"keep {draw.randint(0, 2)}"]
+    text += [f"log {draw.randint(1, 60)}"] if draw.random() < 0.1 else []
+    text += [*(f"endpoint {id} {node} {tag}" for id, (node, tag) in ends.items()), *(f"thread {it} {node}" for it, node in of.items()), *plan, *pages]
+    text += [f"segment {id} {draw.randint(1, 3)} {size}" for id, size in blocks.items()]
+    own = {thread: [id for id, (home, _) in ends.items() if home == node] for thread, node in of.items()}
+    for _ in range(draw.randint(3, 40)):
+        thread = draw.choice(list(of))
+        text.append(block_call(draw, thread, own[thread], ends, blocks))
+    return "\n".join(text) + "\n"
+
+
+def session_event(draw, session):
+    odds = draw.random()
+    for chance, event in ((0.12, "a offer"), (0.20, "a hello"), (0.36, "a bind"), (0.46, "a expire"), (0.49, "a restart"), (0.52, "b restart")):
+        if odds < chance:
+            return event
+    if odds < 0.75:
+        return f"a receive {draw.randint(1, len(session.b.packets) + 1)}"
+    return f"b receive {draw.randint(1, len(session.a.packets) + 1)} {draw.choice(['accept', 'accept', 'full', 'bad'])}"
+
+
+def session_script(seed):
+    """A session, mostly of events that may happen."""
+    draw = random.Random(f"session {seed}")
+    tries = draw.randint(2, 5)
+    text, session = ["am2session 1", f"tries {tries}"], Session(tries)
+    for _ in range(draw.randint(0, 200)):
+        line = session_event(draw, session)
+        try:
+            session.apply(line.split())
+        except NotEnabled:
+            if draw.random() > 0.01:
+                continue
+        text.append(line)
+    return "\n".join(text) + "\n"
+
+
+SPOILING_WORDS = ["ok", "x", "t0", "i0", "d0", "->", "nothing", "ran", "poll", "none", "all", "", "sent", "4294967296", "18446744073709551615", "18446744073709551616"]
+
+
+def spoiled_line(draw, line):
+    """A line with another word, or with something else behind its event."""
+    if draw.random() < 0.2:
+        return line.split(" -> ")[0] + draw.choice(["", " -> ", " -> x", " ->", "  -> ok"])
+    words = line.split(" ")
+    place = draw.randrange(len(words))
+    number = int(words[place]) if words[place].isdigit() else 0
+    words[place] = draw.choice([str(number + 1), str(max(0, number - 1)), f"0{number}", "256", *SPOILING_WORDS])
+    return " ".join(words)
+
+
+def spoiled(draw, report):
+    """A report in which something was changed behind its first line, or nothing."""
+    lines = report.split("\n")
+    count = int(lines[1].split()[1])
+    place = draw.randrange(1, count + 2 if draw.random() < 0.8 else len(lines) - 1)
+    odds = draw.random()
+    if odds < 0.15:
+        return report
+    if odds < 0.25:
+        return report[: draw.randrange(len(lines[0]), len(report))]
+    if odds < 0.35:
+        del lines[place]
+    elif odds < 0.45:
+        lines[place:place] = [draw.choice(lines[1:])]
+    elif odds < 0.6:
+        lines[place], lines[place + 1] = lines[place + 1], lines[place]
+    elif odds < 0.7:
+        lines[1] = f"entries {draw.choice([count + 1, max(0, count - 1), 0])}"
+    else:
+        lines[place] = spoiled_line(draw, lines[place])
+    return "\n".join(lines)
+
+
+def with_log(draw, text):
+    """The scenario, which may get a line that bounds its logs."""
+    if draw.random() > 0.2 or "\nlog " in text:
+        return text
+    return text.replace("\nendpoint ", f"\nlog {draw.randint(1, 40)}\nendpoint ", 1)

@@ -1,14 +1,17 @@
 #!/usr/bin/env python3
-"""A second reading of the rules: `reading.py step`, `reading.py run` and `reading.py make N` print what am2 should print, for texts without a fault.
+"""A second reading of the rules: `reading.py step`, `run`, `make N`, `segments`, `session`, `check step` and `check run` print what am2 should print, for scenarios without a fault.
 
-It is written from docs/MANUAL.md and not from the code, and shares nothing with it. It answers with the same statuses: 0, 3 for a step that can't happen, 6.
+It is written from docs/MANUAL.md and not from the code, and shares nothing with it. It answers with the same statuses: 0, 3 for a step that can't happen, 6, 10.
 """
 import sys
 
+import segments
+import session
+import verdict
 from drain import Run
 from machine import Cluster, LogFull, NotEnabled
 from made import make
-from scenario import read
+from scenario import NotRead, read
 
 
 def step(scenario):
@@ -42,11 +45,34 @@ def made_run(number):
 
 def answer(words, text):
     """The status and the text for these words and this input."""
-    status, lines = made_run(words[1]) if words[0] == "make" else {"step": step, "run": run}[words[0]](read(text))
+    if words[0] == "make":
+        status, lines = made_run(words[1])
+    elif words[0] == "check":
+        status, lines = verdict.check(words[1], text)
+    elif words[0] in ("segments", "session"):
+        status, lines = {"segments": segments.run, "session": session.play}[words[0]](text)
+    else:
+        status, lines = {"step": step, "run": run}[words[0]](read(text))
     return status, "".join(line + "\n" for line in lines)
 
 
-if __name__ == "__main__":
-    status, printed = answer(sys.argv[1:], "" if sys.argv[1] == "make" else sys.stdin.read())
+COMMANDS = ("step", "run", "segments", "session", "check step", "check run")
+
+
+def main(words, source):
+    """Prints the answer, and gives the status. A scenario with a fault is one for am2, which tells what is wrong with it."""
+    is_make = len(words) == 2 and words[0] == "make" and words[1].isdigit()
+    if not is_make and " ".join(words) not in COMMANDS:
+        print(f"usage: reading.py {' | '.join(COMMANDS)} < TEXT, reading.py make N", file=sys.stderr)
+        return 2
+    try:
+        status, printed = answer(words, "" if is_make else source.read())
+    except (NotRead, LookupError, ValueError, TypeError, AttributeError) as why:
+        print(f"reading.py reads scenarios without a fault only. {why if isinstance(why, NotRead) else 'This one has a fault'}: am2 tells which", file=sys.stderr)
+        return 3
     sys.stdout.write(printed)
-    sys.exit(status)
+    return status
+
+
+if __name__ == "__main__":
+    sys.exit(main(sys.argv[1:], sys.stdin))
