@@ -1,11 +1,11 @@
 #!/usr/bin/env python3
 """compare.py PROGRAM FIRST COUNT: random texts of the seeds FIRST, FIRST + 1 .., each given to the program and to the second reading, which must agree byte by byte: scenarios for
-`step`, `run` and `segments`, sessions, and for `check` reports that were mostly spoiled."""
+`step`, `run` and `segments`, and sessions, each as it is and with one line or two changed, and for `check` reports that were mostly spoiled."""
 import random
 import subprocess
 import sys
 
-from randoms import run_script, segments_script, session_script, spoiled, step_script, with_log
+from randoms import faulty, run_script, segments_script, session_script, spoiled, step_script, with_log
 from reading import answer
 
 SCRIPTS = {"step": step_script, "run": run_script, "segments": segments_script, "session": session_script}
@@ -14,7 +14,10 @@ SCRIPTS = {"step": step_script, "run": run_script, "segments": segments_script, 
 def texts(seed):
     """The words of a command and its input, for each kind."""
     for word, script in SCRIPTS.items():
-        yield [word], script(seed)
+        text, draw = script(seed), random.Random(f"faulty {word} {seed}")
+        yield [word], text
+        for _ in range(2):
+            yield [word], faulty(draw, text)
     for form in ("step", "run"):
         draw, text = random.Random(f"check {form} {seed}"), SCRIPTS[form](seed)
         status, report = answer([form], text)
@@ -25,7 +28,7 @@ def texts(seed):
 
 def differs(program, words, text):
     wanted = answer(words, text)
-    found = subprocess.run([program, *words], input=text.encode(), capture_output=True, check=False)
+    found = subprocess.run([program, *words], input=text.encode("latin-1"), capture_output=True, check=False)
     return (found.returncode, found.stdout.decode()) != wanted or found.stderr
 
 

@@ -1,4 +1,4 @@
-"""Random scenarios for `run`, with and without turns, for `segments` and for `step`, random sessions, and reports that were spoiled. A step script is made event by event beside the second reading, mostly of events that may happen."""
+"""Random scenarios for `run`, with and without turns, for `segments` and for `step`, random sessions, reports that were spoiled, and texts with a fault. A step script is made event by event beside the second reading, mostly of events that may happen."""
 import copy
 import random
 
@@ -292,3 +292,37 @@ def with_log(draw, text):
     if draw.random() > 0.2 or "\nlog " in text:
         return text
     return text.replace("\nendpoint ", f"\nlog {draw.randint(1, 40)}\nendpoint ", 1)
+
+
+FAULTY_WORDS = """x t0 t9 i0 d9 i t x5 a b am2 am2session network direct packet nodes frames tries pool keep log bundle thread endpoint plan swapfault lose late disk none all note echo add poll request
+pollb eventb carry want event giveup close handler map load bind expire receive restart accept notempty noevents segment xfer serve 0 1 2 7 8 15 16 17 40 63 64 255 256 1024 1025 65536 65537 4294967295 4294967296
+18446744073709551615 18446744073709551616 00 007 -1 1.5 0.1 256.1 0.4294967296 1. # a0 0f0F 0f0 0f""".split() + ["# x", "\t", "\x7f", "\xe9", "disk 1"]
+
+
+def faulty_line(draw, line):
+    """A line with a word that is another, more or less."""
+    words = line.split(" ")
+    place, odds = draw.randrange(len(words)), draw.random()
+    if odds < 0.6:
+        words[place] = draw.choice(FAULTY_WORDS)
+    elif odds < 0.8:
+        words.insert(place + draw.randint(0, 1), draw.choice(FAULTY_WORDS))
+    else:
+        del words[place]
+    return " ".join(words)
+
+
+def faulty(draw, text):
+    """A text in which one line or two were changed, which mostly has a fault now."""
+    lines = text.split("\n")
+    for _ in range(draw.choice([1, 1, 1, 2])):
+        place, other, odds = draw.randrange(len(lines)), draw.randrange(len(lines)), draw.random()
+        if odds < 0.12 and len(lines) > 1:
+            del lines[place]
+        elif odds < 0.27:
+            lines.insert(place, lines[other])
+        elif odds < 0.4:
+            lines[place], lines[other] = lines[other], lines[place]
+        else:
+            lines[place] = faulty_line(draw, lines[place])
+    return "\n".join(lines)

@@ -1,7 +1,7 @@
 #!/usr/bin/env python3
-"""A second reading of the rules: `reading.py step`, `run`, `make N`, `segments`, `session`, `check step` and `check run` print what am2 should print, for scenarios without a fault.
+"""A second reading of the rules: `reading.py step`, `run`, `make N`, `segments`, `session`, `check step` and `check run` print what am2 should print.
 
-It is written from docs/MANUAL.md and not from the code, and shares nothing with it. It answers with the same statuses: 0, 3 for a step that can't happen, 6, 10.
+It is written from docs/MANUAL.md and not from the code, and shares nothing with it. It answers with the same statuses: 0, 2, 3, 6 and 10.
 """
 import sys
 
@@ -9,9 +9,10 @@ import segments
 import session
 import verdict
 from drain import Run
+from faults import first_fault, refused
 from machine import Cluster, LogFull, NotEnabled
 from made import make
-from scenario import NotRead, read
+from scenario import read
 
 
 def step(scenario):
@@ -52,7 +53,8 @@ def answer(words, text):
     elif words[0] in ("segments", "session"):
         status, lines = {"segments": segments.run, "session": session.play}[words[0]](text)
     else:
-        status, lines = {"step": step, "run": run}[words[0]](read(text))
+        fault = first_fault(words[0], text)
+        status, lines = refused(fault) if fault else {"step": step, "run": run}[words[0]](read(text))
     return status, "".join(line + "\n" for line in lines)
 
 
@@ -60,19 +62,15 @@ COMMANDS = ("step", "run", "segments", "session", "check step", "check run")
 
 
 def main(words, source):
-    """Prints the answer, and gives the status. A scenario with a fault is one for am2, which tells what is wrong with it."""
+    """Prints the answer, and gives the status."""
     is_make = len(words) == 2 and words[0] == "make" and words[1].isdigit()
     if not is_make and " ".join(words) not in COMMANDS:
         print(f"usage: reading.py {' | '.join(COMMANDS)} < TEXT, reading.py make N", file=sys.stderr)
         return 2
-    try:
-        status, printed = answer(words, "" if is_make else source.read())
-    except (NotRead, LookupError, ValueError, TypeError, AttributeError) as why:
-        print(f"reading.py reads scenarios without a fault only. {why if isinstance(why, NotRead) else 'This one has a fault'}: am2 tells which", file=sys.stderr)
-        return 3
+    status, printed = answer(words, "" if is_make else source.read().decode("latin-1"))
     sys.stdout.write(printed)
     return status
 
 
 if __name__ == "__main__":
-    sys.exit(main(sys.argv[1:], sys.stdin))
+    sys.exit(main(sys.argv[1:], sys.stdin.buffer))

@@ -45,19 +45,12 @@ class Scenario:
     steps: list = field(default_factory=list)
 
 
-class NotRead(Exception):
-    """A line has a fault."""
-
-
 def read(text):
     made = Scenario()
     for number, line in enumerate(text.split("\n"), 1):
         words = line.split()
         if words and not words[0].startswith("#"):
-            try:
-                read_line(made, number, words)
-            except (LookupError, ValueError) as why:
-                raise NotRead(f"line {number} can't be read: {line}") from why
+            read_line(made, number, words)
     made.threads.sort()
     if made.bounces is None:
         made.bounces = made.tries - 1

@@ -1,9 +1,16 @@
 """A scenario whose threads send blocks to segments, as docs/MANUAL.md tells it under "Segments"."""
+import re
+
 from drain import Run
+from faults import Fault, Words, first_fault, lines_of, number_in, refused, words_of
 from machine import LogFull
 from scenario import read
 
 SIZE = 24
+
+
+class OwnFault(Exception):
+    """The line and the cause of the first fault of the lines that a scenario doesn't have."""
 
 
 def pieces_of(block, place, number):
@@ -22,29 +29,74 @@ def piece_in(words):
 
 
 class Expanded:
-    """The scenario that a text with segments stands for, the segments by endpoint, and the transfers."""
+    """The scenario that a text with segments stands for, with the line that each of its lines came from; the segments by endpoint, and the transfers. A fault of one of its own lines is raised with the line."""
 
     def __init__(self, text):
-        self.lines, self.segments, self.transfers = [], {}, []
-        for line in text.split("\n"):
-            self.lines += self.stands_for(line.split(), line)
+        self.lines, self.origins, self.segments, self.transfers = [], [], {}, []
+        self.ends, self.scripted, self.calls = set(), False, 0
+        for number, line in enumerate(lines_of(text), 1):
+            try:
+                made = self.stands_for(line)
+            except Fault as why:
+                raise OwnFault(number, str(why)) from why
+            self.lines += made
+            self.origins += [number] * len(made)
 
-    def stands_for(self, words, line):
-        if words[:1] == ["segment"]:
-            end, handler, size = (int(it) for it in words[1:])
-            self.segments[end] = handler, size
-            return []
-        if words[1:2] == ["xfer"] and words[0][0] == "t":
-            return self.transfer(words[0], words[2], words[3], int(words[4]), int(words[5]), bytes.fromhex(words[6]))
-        if words[1:2] == ["serve"] and words[0][0] == "t":
-            return [f"{words[0]} poll {words[2]}"] * int(words[3])
-        return [line]
+    def stands_for(self, line):
+        words = [it for it in line.split(" ") if it]
+        first = words[0] if words else "#"
+        is_thread = first[0] == "t" and number_in(first[1:]) is not None
+        if first != "segment" and not (is_thread and words[1:2] in (["xfer"], ["serve"])):
+            self.ordinary(first, words[1:], is_thread)
+            return [line]
+        words_of(line)
+        if first == "segment":
+            return self.segment(Words(words[1:]))
+        made = {"xfer": self.transfer, "serve": self.serve}[words[1]](first, Words(words[2:]))
+        self.scripted = True
+        return made
 
-    def transfer(self, thread, source, index, end, place, block):
-        handler = self.segments[end][0]
+    def ordinary(self, first, words, is_thread):
+        """What a line that stays says of what may come."""
+        number = number_in(words[0]) if first == "endpoint" and words else None
+        self.ends |= {number} if number is not None and number <= 255 else set()
+        self.scripted = self.scripted or is_thread or first == "x" or (first[0] in "id" and number_in(first[1:]) is not None)
+
+    def segment(self, words):
+        if self.scripted:
+            raise Fault("out-of-place")
+        end, said = words.declared(self.ends), (words.number(1, 15), words.number(1, 65536))
+        words.end()
+        if end in self.segments:
+            raise Fault("twice")
+        if len(self.segments) == 16:
+            raise Fault("too-many")
+        self.segments[end] = said
+        return []
+
+    def counted(self, words, calls):
+        words.end()
+        if self.calls + calls > 16384:
+            raise Fault("too-many")
+        self.calls += calls
+
+    def serve(self, thread, words):
+        end, polls = words.declared(self.ends), words.number(1, 1024)
+        self.counted(words, polls)
+        return [f"{thread} poll {end}"] * polls
+
+    def transfer(self, thread, words):
+        source, index, end, place, digits = words.declared(self.ends), words.number(0, 15), words.declared(self.segments), words.number(), words.word()
+        if not re.fullmatch("(?:[0-9a-f]{2}){1,512}", digits):
+            raise Fault("bad-number")
+        handler, size = self.segments[end]
+        block = bytes.fromhex(digits)
+        if place + len(block) > size:
+            raise Fault("out-of-range")
         pieces = list(pieces_of(block, place, len(self.transfers) + 1))
+        self.counted(words, 2 * len(pieces))
         self.transfers.append((end, pieces))
-        return [line for words in pieces for line in (f"{thread} request {source} {index} {handler} " + " ".join(map(str, words)), f"{thread} poll {source}")]
+        return [line for piece in pieces for line in (f"{thread} request {source} {index} {handler} " + " ".join(map(str, piece)), f"{thread} poll {source}")]
 
 
 def runs_of(end, handler):
@@ -71,9 +123,17 @@ def printed(expanded, ends):
 
 
 def run(text):
-    """The status and the lines for a text without a fault."""
-    expanded = Expanded(text)
-    made = Run(read("\n".join(expanded.lines)))
+    """The status and the lines for a text."""
+    try:
+        expanded = Expanded(text)
+    except OwnFault as why:
+        return refused(why.args)
+    plain = "".join(line + "\n" for line in expanded.lines)
+    fault = first_fault("run", plain)
+    if fault:
+        line, cause = fault
+        return refused((expanded.origins[line - 1] if line <= len(expanded.origins) else len(lines_of(text)) + 1, cause))
+    made = Run(read(plain))
     try:
         made.finish()
     except LogFull as part:

@@ -1,4 +1,5 @@
 """A session of two interfaces that restart, as docs/MANUAL.md tells it under "Interfaces that restart"."""
+from faults import SessionReader, fault_for, refused
 from machine import NotEnabled
 
 VERDICTS = {"accept": "delivered", "full": "requeued", "bad": "returned"}
@@ -159,9 +160,12 @@ class Session:
 
 
 def play(text):
-    """The status and the lines for a session's text without a fault."""
+    """The status and the lines for a session's text."""
+    fault = fault_for(SessionReader(), text)
+    if fault:
+        return refused(fault)
     lines = [(number, line.split()) for number, line in enumerate(text.split("\n"), 1)]
-    said = [(number, words) for number, words in lines if words and not words[0].startswith("#")]
+    said = [(number, [str(int(it)) if it.isdigit() else it for it in words]) for number, words in lines if words and not words[0].startswith("#")]
     session = Session(int(said[1][1][1]))
     for number, words in said[2:]:
         try:

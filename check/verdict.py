@@ -2,6 +2,7 @@
 import re
 
 from drain import Run
+from faults import first_fault, lines_of, refused
 from machine import LogFull, NotEnabled
 from scenario import read, tag_of, tag_word
 
@@ -179,10 +180,6 @@ def pass_line(follower, number, line):
         raise Stopped(number, "outcome")
 
 
-def lines_of(text):
-    return text.split("\n")[: -1 if text.endswith("\n") else None] if text else []
-
-
 def check_report(follower, report):
     lines = lines_of(report)
     word = lines[1].removeprefix("entries ") if len(lines) > 1 else ""
@@ -202,13 +199,16 @@ def check_report(follower, report):
 
 
 def check(form, text):
-    """The status and the lines for a text whose scenario has no fault."""
+    """The status and the lines for a text."""
     begins = re.search(rf"^{FIRST}$", text, re.M)
+    front, report = (text[: begins.start()], text[begins.start() :]) if begins else (text, "")
+    fault = first_fault(form, front)
+    if fault:
+        return refused(fault)
     if not begins:
         return 10, ["check line 1 form"]
-    scenario = read(text[: begins.start()])
     try:
-        check_report((Steps if form == "step" else Scripts)(scenario), text[begins.start() :])
+        check_report((Steps if form == "step" else Scripts)(read(front)), report)
     except Stopped as stop:
         number, what = stop.args
         return (6, [what]) if number is None else (10, [f"check line {number} {what}"])

@@ -1,6 +1,6 @@
 #!/usr/bin/env bash
-# The program against the second reading of the rules in check/: fifty random step scripts, runs, runs with segments, sessions and spoiled reports each, and a made run, byte by
-# byte; and the examples' runs are judged by what can be read off a report, and made again entry by entry, as are forty random runs with turns.
+# The program against the second reading of the rules in check/: fifty random step scripts, runs, runs with segments and sessions, each also with a line or two
+# changed, spoiled reports, and a made run, byte by byte; and the examples' runs are judged by what can be read off a report, and made again entry by entry, as are forty random runs with turns.
 set -u
 . .ci/program.sh
 failed=0
