@@ -3,3 +3,4 @@ mod Loop
 mod Shares
 mod Validity
 mod Decoding
+pub mod InParts

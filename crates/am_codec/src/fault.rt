@@ -1,5 +1,5 @@
 /// Why no body was read.
-#[derive(Clone, Copy, PartialEq, Eq, Debug)]
+#[derive(Clone, Copy)]
 pub enum ReadFault {
     /// The bytes are no image of a body of the endpoint.
     NoBody,

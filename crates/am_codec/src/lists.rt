@@ -1,6 +1,7 @@
-ghost use Rattle.am_codec.specs.Answers.{Finds};
+ghost use Rattle.am_codec.specs.Answers.{Finds, Gives};
 ghost use Rattle.am_codec.specs.Counts.{AreCounted};
 ghost use Rattle.am_codec.specs.Decodes.{Decodes};
+ghost use Rattle.am_codec.specs.Parts.{arrivals_at, head_at, queues_at, tables_at};
 ghost use Rattle.am_image.specs.Image.{image};
 ghost use Rattle.am_image.specs.Range.{IsInRange};
 ghost use Rattle.am_image.specs.Reading.{body_at, whole_body};
@@ -123,22 +124,76 @@ impl BodyLists {
     }
 }
 
+// The tag, the sum and how many messages were accepted.
+type Head = ((u64, u64), u32);
+
+// The mappings, the records and the handlers.
+type Tables = (
+    (Vec<Option<Mapping>>, Vec<Awaited>),
+    Vec<Option<HandlerKind>>,
+);
+
+#[tactic(auto, unfolding(crate::specs::Parts::head_at))]
+fn take_head(bytes: &[u8]) -> Option<(Head, &[u8])>
+    ensures { Gives (λ x. (x.0, x.1.now)) result (head_at bytes.now) }
+{
+    let rest = take_magic(bytes)?;
+    let (tag, rest) = take_long(rest)?;
+    let (sum, rest) = take_long(rest)?;
+    let (accepted, rest) = take_short(rest)?;
+    Some((((tag, sum), accepted), rest))
+}
+
+#[tactic(auto, unfolding(crate::specs::Parts::tables_at))]
+fn take_tables(alloc: Global, id: EndpointId, bytes: &[u8]) -> Result<(Tables, &[u8]), ReadFault>
+    ensures { Finds (λ x. (((x.0.0.0.items, x.0.0.1.items), x.0.1.items), x.1.now)) result (tables_at id bytes.now) }
+{
+    let (mapped, rest) = take_many(alloc, id, 16, bytes)?;
+    let (awaited, rest) = take_counted(alloc, id, rest)?;
+    let (handlers, rest) = take_many(alloc, id, 16, rest)?;
+    Ok((((mapped, awaited), handlers), rest))
+}
+
+// The requests and the replies that are queued.
+#[tactic(auto, unfolding(crate::specs::Parts::queues_at))]
+fn take_queues(
+    alloc: Global,
+    id: EndpointId,
+    bytes: &[u8],
+) -> Result<((Vec<Queued>, Vec<Queued>), &[u8]), ReadFault>
+    ensures { Finds (λ x. ((x.0.0.items, x.0.1.items), x.1.now)) result (queues_at bytes.now) }
+{
+    let (requests, rest) = take_counted(alloc, id, bytes)?;
+    let (replies, rest) = take_counted(alloc, id, rest)?;
+    Ok(((requests, replies), rest))
+}
+
+// What came back, and what was received.
+#[tactic(auto, unfolding(crate::specs::Parts::arrivals_at))]
+fn take_arrivals(
+    alloc: Global,
+    id: EndpointId,
+    bytes: &[u8],
+) -> Result<((Vec<Notice>, Vec<Message>), &[u8]), ReadFault>
+    ensures { Finds (λ x. ((x.0.0.items, x.0.1.items), x.1.now)) result (arrivals_at bytes.now) }
+{
+    let (notices, rest) = take_counted(alloc, id, bytes)?;
+    let (received, rest) = take_counted(alloc, id, rest)?;
+    Ok(((notices, received), rest))
+}
+
 /// The body at the front of some bytes, and the bytes behind it.
-#[tactic(auto, unfolding(am_image::specs::Reading::body_at))]
+// Part by part: an early exit with all lists alive would be proved for each list.
+#[tactic(auto, using(crate::proofs::InParts::body_by_parts))]
 fn take_body(alloc: Global, id: EndpointId, bytes: &[u8]) -> Result<(BodyLists, &[u8]), ReadFault>
     ensures { Finds (λ x. (x.0, x.1.now)) result (body_at id bytes.now) }
 {
-    let rest = take_magic(bytes).ok_or(ReadFault::NoBody)?;
-    let (tag, rest) = take_long(rest).ok_or(ReadFault::NoBody)?;
-    let (sum, rest) = take_long(rest).ok_or(ReadFault::NoBody)?;
-    let (accepted, rest) = take_short(rest).ok_or(ReadFault::NoBody)?;
-    let (mapped, rest) = take_many(alloc, id, 16, rest)?;
-    let (awaited, rest) = take_counted(alloc, id, rest)?;
-    let (handlers, rest) = take_many(alloc, id, 16, rest)?;
-    let (requests, rest) = take_counted(alloc, id, rest)?;
-    let (replies, rest) = take_counted(alloc, id, rest)?;
-    let (notices, rest) = take_counted(alloc, id, rest)?;
-    let (received, rest) = take_counted(alloc, id, rest)?;
+    let Some((((tag, sum), accepted), rest)) = take_head(bytes) else {
+        return Err(ReadFault::NoBody);
+    };
+    let (((mapped, awaited), handlers), rest) = take_tables(alloc, id, rest)?;
+    let ((requests, replies), rest) = take_queues(alloc, id, rest)?;
+    let ((notices, received), rest) = take_arrivals(alloc, id, rest)?;
     let lists = BodyLists {
         tag: Tag(tag),
         sum,

@@ -9,7 +9,7 @@ use std::alloc::{AllocError, AllocFailed};
 use std::marker::Model;
 
 /// Calls on endpoints, in order.
-#[derive(Debug, Drop)]
+#[derive(Drop)]
 pub struct Calls {
     pub list: Vec<(EndpointId, Call)>,
 }
@@ -25,7 +25,7 @@ impl Model for Calls {
 }
 
 /// What a line says.
-#[derive(Debug, Drop)]
+#[derive(Drop)]
 pub enum Line {
     Version(Version),
     Setting(Setting),
@@ -42,7 +42,7 @@ pub enum Line {
 }
 
 /// Why a line was not taken.
-#[derive(Clone, Copy, Debug, PartialEq, Eq)]
+#[derive(Clone, Copy)]
 pub enum LineFault {
     What(What),
     NoMemory,

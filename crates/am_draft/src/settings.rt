@@ -5,7 +5,7 @@ ghost use Rattle.am_draft.specs.Said.{unsaid, with_setting, node_count, frame_co
 use am_scenario_types::Network;
 
 /// A version of the text.
-#[derive(Clone, Copy, PartialEq, Eq, Debug)]
+#[derive(Clone, Copy)]
 pub enum Version {
     One,
     /// The second version knows pools.
@@ -13,7 +13,7 @@ pub enum Version {
 }
 
 /// What a line of the settings says.
-#[derive(Clone, Copy, PartialEq, Eq, Debug)]
+#[derive(Clone, Copy)]
 pub enum Setting {
     Network(Network),
     Nodes(u8),
@@ -28,7 +28,7 @@ pub enum Setting {
 }
 
 /// The settings that stood so far.
-#[derive(Clone, Copy, PartialEq, Eq, Debug)]
+#[derive(Clone, Copy)]
 pub struct Settings {
     pub network: Option<Network>,
     pub nodes: Option<u8>,

@@ -84,3 +84,9 @@ setting_line form said Log words = do
 setting_line form said Turns words = do
   turns ← once_within 0 10_000 said.turns words
   Ok (setting.Turns turns)
+
+-- the line of a setting
+abbrev pub set_line : Form → Settings → SettingName → List (List ℕ) → Result Line What
+set_line form said name words = do
+  setting ← setting_line form said name words
+  Ok (line.Setting setting)

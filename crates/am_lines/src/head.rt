@@ -9,7 +9,7 @@ use am_lexer::parse_number;
 use am_scenario_types::Form;
 
 /// The word of a setting.
-#[derive(Clone, Copy, Debug, PartialEq, Eq)]
+#[derive(Clone, Copy)]
 pub enum SettingName {
     Network,
     Nodes,
@@ -24,7 +24,7 @@ pub enum SettingName {
 }
 
 /// What its first word says a line is.
-#[derive(Clone, Copy, Debug, PartialEq, Eq)]
+#[derive(Clone, Copy)]
 pub enum Head {
     Version,
     Setting(SettingName),

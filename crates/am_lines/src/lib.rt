@@ -6,6 +6,7 @@ mod calls;
 mod declarations;
 mod head;
 mod keyword;
+mod lined;
 mod places;
 mod script;
 mod settings;

@@ -7,6 +7,7 @@ ghost use Rattle.am_lines.specs.Script.{bundled, poll_bundle_line, test_bundle_l
 ghost use Rattle.am_lines.specs.Answers.{Yields};
 
 use crate::calls::take_call;
+use crate::lined::lined;
 use crate::places::take_bundle;
 use am_draft::{Calls, Draft, Line, LineFault};
 use am_lexer::{What, take_end, take_word};
@@ -42,7 +43,7 @@ fn poll_bundle_line(
     let (bundle, rest) = take_bundle(draft, thread.node, rest)?;
     take_end(rest)?;
     let calls = bundle.poll_calls(alloc)?;
-    Ok(bundled(draft, thread.id, calls)?)
+    lined(bundled(draft, thread.id, calls))
 }
 
 #[tactic(auto, unfolding(crate::specs::Script::test_bundle_line))]
@@ -57,7 +58,7 @@ fn test_bundle_line(
     let (bundle, rest) = take_bundle(draft, thread.node, rest)?;
     take_end(rest)?;
     let calls = bundle.test_calls(alloc)?;
-    Ok(bundled(draft, thread.id, calls)?)
+    lined(bundled(draft, thread.id, calls))
 }
 
 #[tactic(auto, unfolding(crate::specs::Script::thread_call_line))]
@@ -100,6 +101,6 @@ pub fn script_line(
     } else if verb == b"eventb".as_slice() {
         test_bundle_line(alloc, draft, thread, rest)
     } else {
-        Ok(thread_call_line(draft, thread, verb, rest)?)
+        lined(thread_call_line(draft, thread, verb, rest))
     }
 }

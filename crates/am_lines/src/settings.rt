@@ -4,7 +4,7 @@ ghost use Rattle.std.specs.Prelude.{◌≡◌, Option};
 ghost use Rattle.am_lexer.specs.Text.{words_of};
 ghost use Rattle.am_lexer.specs.Fields.{Gives};
 ghost use Rattle.am_draft.specs.Drafts.{said};
-ghost use Rattle.am_lines.specs.Settings.{version_of, version_line, once_within, network_of, network_setting, setting_line};
+ghost use Rattle.am_lines.specs.Settings.{version_of, version_line, once_within, network_of, network_setting, setting_line, set_line};
 
 use crate::head::SettingName;
 use am_draft::{Draft, Line, Setting, Settings, Version};
@@ -87,7 +87,7 @@ fn network_once(form: Form, stood: Option<Network>, rest: &[u8]) -> Result<Netwo
 }
 
 #[tactic(auto, unfolding(crate::specs::Settings::setting_line))]
-pub fn setting_line(
+fn setting_line(
     form: Form,
     said: &Settings,
     name: SettingName,
@@ -96,15 +96,23 @@ pub fn setting_line(
     ensures { Gives (λ setting. setting) result (setting_line form said.now name (words_of rest.now)) }
 {
     match name {
-        SettingName::Network => Ok(Setting::Network(network_once(form, said.network, rest)?)),
-        SettingName::Nodes => Ok(Setting::Nodes(byte_once(1, 16, said.nodes, rest)?)),
-        SettingName::Frames => Ok(Setting::Frames(byte_once(2, 16, said.frames, rest)?)),
-        SettingName::Channels => Ok(Setting::Channels(byte_once(1, 4, said.channels, rest)?)),
-        SettingName::Tries => Ok(Setting::Tries(byte_once(2, 16, said.tries, rest)?)),
-        SettingName::Bounces => Ok(Setting::Bounces(byte_once(0, 16, said.bounces, rest)?)),
-        SettingName::Pool => Ok(Setting::Pool(byte_once(0, 32, said.pool, rest)?)),
-        SettingName::Keep => Ok(Setting::Keep(byte_once(0, 64, said.keep, rest)?)),
-        SettingName::Log => Ok(Setting::Log(u32_once(1, 65_536, said.log, rest)?)),
-        SettingName::Turns => Ok(Setting::Turns(u32_once(0, 10_000, said.turns, rest)?)),
+        SettingName::Network => network_once(form, said.network, rest).map(Setting::Network),
+        SettingName::Nodes => byte_once(1, 16, said.nodes, rest).map(Setting::Nodes),
+        SettingName::Frames => byte_once(2, 16, said.frames, rest).map(Setting::Frames),
+        SettingName::Channels => byte_once(1, 4, said.channels, rest).map(Setting::Channels),
+        SettingName::Tries => byte_once(2, 16, said.tries, rest).map(Setting::Tries),
+        SettingName::Bounces => byte_once(0, 16, said.bounces, rest).map(Setting::Bounces),
+        SettingName::Pool => byte_once(0, 32, said.pool, rest).map(Setting::Pool),
+        SettingName::Keep => byte_once(0, 64, said.keep, rest).map(Setting::Keep),
+        SettingName::Log => u32_once(1, 65_536, said.log, rest).map(Setting::Log),
+        SettingName::Turns => u32_once(0, 10_000, said.turns, rest).map(Setting::Turns),
     }
+}
+
+/// The line of a setting.
+pub fn set_line(form: Form, said: &Settings, name: SettingName, rest: &[u8]) -> Result<Line, What>
+    ensures { Gives (λ line. line) result (set_line form said.now name (words_of rest.now)) }
+{
+    let setting = setting_line(form, said, name, rest)?;
+    Ok(Line::Setting(setting))
 }

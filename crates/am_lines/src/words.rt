@@ -8,8 +8,9 @@ ghost use Rattle.am_lines.specs.Answers.{Yields};
 use crate::bundle::bundle_line;
 use crate::declarations::{endpoint_line, plan_line, swap_fault_line, thread_line};
 use crate::head::Head;
+use crate::lined::lined;
 use crate::script::script_line;
-use crate::settings::{setting_line, version_line};
+use crate::settings::{set_line, version_line};
 use crate::steps::{driver_line, interface_line, outside_line};
 use am_draft::{Draft, Line, LineFault};
 use am_scenario_types::Form;
@@ -27,16 +28,16 @@ pub fn words_say(
     ensures { Yields (λ line. line) result (words_say form (said draft.now) head (words_of rest.now)) }
 {
     match head {
-        Head::Version => Ok(version_line(draft, rest)?),
-        Head::Setting(name) => Ok(Line::Setting(setting_line(form, &draft.settings, name, rest)?)),
-        Head::Endpoint => Ok(endpoint_line(draft, rest)?),
+        Head::Version => lined(version_line(draft, rest)),
+        Head::Setting(name) => lined(set_line(form, &draft.settings, name, rest)),
+        Head::Endpoint => lined(endpoint_line(draft, rest)),
         Head::Bundle => bundle_line(alloc, draft, rest),
-        Head::Thread => Ok(thread_line(draft, rest)?),
-        Head::Plan => Ok(plan_line(draft, rest)?),
-        Head::SwapFault => Ok(swap_fault_line(draft, rest)?),
-        Head::Outside => Ok(outside_line(draft, rest)?),
+        Head::Thread => lined(thread_line(draft, rest)),
+        Head::Plan => lined(plan_line(draft, rest)),
+        Head::SwapFault => lined(swap_fault_line(draft, rest)),
+        Head::Outside => lined(outside_line(draft, rest)),
         Head::OfThread(number) => script_line(alloc, draft, number, rest),
-        Head::OfInterface(number) => Ok(interface_line(draft, number, rest)?),
-        Head::OfDriver(number) => Ok(driver_line(draft, number, rest)?),
+        Head::OfInterface(number) => lined(interface_line(draft, number, rest)),
+        Head::OfDriver(number) => lined(driver_line(draft, number, rest)),
     }
 }
