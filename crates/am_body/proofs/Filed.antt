@@ -1,5 +1,5 @@
 -- What a body is after a free slot took a message.
-use Rattle.std.proofs.Common.{◌≡◌, ℕ, ◌<◌, true, false, List, [], ◌∷◌, ◌++◌, length, drop, refl, sym, ap, ◌∙◌, subst, arith}
+use Rattle.std.proofs.Common.{◌≡◌, ℕ, ◌<◌, Bool, true, false, List, [], ◌∷◌, ◌++◌, length, drop, refl, sym, ap, ◌∙◌, subst, arith}
 use Rattle.std.proofs.lemmas.List.{length-map}
 use Rattle.am_names.specs.Names.{has_serial, is_answer, is_request}
 use Rattle.am_names.specs.declared.Serial.{Serial}
@@ -75,16 +75,6 @@ module _ (tag : Tag) (sum accepted : ℕ) (t : Table) (hs : List (Option Handler
       (kept notice_in p.descriptors s d p.notices ok.notices)
       (grown message_in p.descriptors s d p.received ok.received ok.within)
 
-  flight_filed : (s : ℕ) (free : List ℕ) → p.free ≡ s ∷ free → body_over tag sum accepted t hs (filed p (s ∷ free) InFlight d) ≡ record (body_over tag sum accepted t hs p) { in_flight = (body_over tag sum accepted t hs p).in_flight ++ flying_in d ∷ [] }
-  flight_filed s free front =
-      let ok = first_free p s free b front in
-      same_lists (body_over tag sum accepted t hs p) _ _ _ _ _ _ _ _ _ _
-      (kept queued_in p.descriptors s d p.requests ok.requests)
-      (kept queued_in p.descriptors s d p.replies ok.replies)
-      (grown flying_in p.descriptors s d p.in_flight ok.in_flight ok.within)
-      (kept notice_in p.descriptors s d p.notices ok.notices)
-      (kept message_in p.descriptors s d p.received ok.received)
-
   pub received_added : size p ≡ 80 → slots_held (body_over tag sum accepted t hs p) < 80 → body_over tag sum accepted t hs (filed p p.free Received d) ≡ record (body_over tag sum accepted t hs p) { received = (body_over tag sum accepted t hs p).received ++ message_in d ∷ [] }
   received_added all held = by_free p.free refl
     where
@@ -131,7 +121,7 @@ with_both : (v : View) (b c : Body) (xs ys : List ℕ) → b ≡ c → xs ≡ ys
 with_both v b c xs ys to there = λ k. record v { body = to k; flights = there k }
 
 -- a body with another block, where its new body and its new slots in flight are known
-viewed_both : (i : Inside) (v : View) (q r : Pools) (change : Body → Body) (flights : View → List ℕ) → view_of i ≡ v → q ≡ r → (view_of (record i { block = r })).body ≡ change (view_of i).body → r.in_flight ≡ flights (view_of i) → view_of (record i { block = q }) ≡ record v { body = change v.body; flights = flights v }
+pub viewed_both : (i : Inside) (v : View) (q r : Pools) (change : Body → Body) (flights : View → List ℕ) → view_of i ≡ v → q ≡ r → (view_of (record i { block = r })).body ≡ change (view_of i).body → r.in_flight ≡ flights (view_of i) → view_of (record i { block = q }) ≡ record v { body = change v.body; flights = flights v }
 viewed_both i v q r change flights e is to there =
     ap (λ (p : Pools). view_of (record i { block = p })) is
     ∙ with_both (view_of i) _ _ _ _ to there
@@ -171,17 +161,17 @@ received_out_aside : (p : Pools) (r : Option ℕ) → (taken_out p Received r).i
 received_out_aside p None = refl
 received_out_aside p (Some s) = refl
 
-pub request_view : (i : Inside) (v : View) (q : Pools) (d : Descriptor) → view_of i ≡ v → IsSound i → q ≡ filed i.block i.block.free Requests d → is_request d.message ≡ true → slots_held v.body < 80 → view_of (record i { block = q }) ≡ record v { body = queued d.message d.used v.body }
-request_view i v q d e ok is kind held =
-    viewed i v q (filed i.block i.block.free Requests d) (queued d.message d.used) e is
-    (request_queued i.tag i.sum i.accepted i.translate i.handlers i.block d ok.block ok.slots (held_before i v e held) kind)
-    (requests_aside i.block d i.block.free)
+queue_aside : (p : Pools) (d : Descriptor) (is : Bool) → (filed p p.free (cond is Requests Replies) d).in_flight ≡ p.in_flight
+queue_aside p d true = requests_aside p d p.free
+queue_aside p d false = replies_aside p d p.free
 
-pub answer_view : (i : Inside) (v : View) (q : Pools) (d : Descriptor) → view_of i ≡ v → IsSound i → q ≡ filed i.block i.block.free Replies d → is_request d.message ≡ false → slots_held v.body < 80 → view_of (record i { block = q }) ≡ record v { body = queued d.message d.used v.body }
-answer_view i v q d e ok is kind held =
-    viewed i v q (filed i.block i.block.free Replies d) (queued d.message d.used) e is
-    (answer_queued i.tag i.sum i.accepted i.translate i.handlers i.block d ok.block ok.slots (held_before i v e held) kind)
-    (replies_aside i.block d i.block.free)
+pub queue_view : (i : Inside) (v : View) (q : Pools) (d : Descriptor) → view_of i ≡ v → IsSound i → q ≡ filed i.block i.block.free (cond (is_request d.message) Requests Replies) d → slots_held v.body < 80 → view_of (record i { block = q }) ≡ record v { body = queued d.message d.used v.body }
+queue_view i v q d e ok is held =
+    viewed i v q (filed i.block i.block.free (cond (is_request d.message) Requests Replies) d) (queued d.message d.used) e is (by_kind (is_request d.message) refl) (queue_aside i.block d (is_request d.message))
+  where
+    by_kind : (b : Bool) → is_request d.message ≡ b → (view_of (record i { block = filed i.block i.block.free (cond b Requests Replies) d })).body ≡ queued d.message d.used (view_of i).body
+    by_kind true kind = request_queued i.tag i.sum i.accepted i.translate i.handlers i.block d ok.block ok.slots (held_before i v e held) kind
+    by_kind false kind = answer_queued i.tag i.sum i.accepted i.translate i.handlers i.block d ok.block ok.slots (held_before i v e held) kind
 
 pub notice_view : (i : Inside) (v : View) (q : Pools) (d : Descriptor) → view_of i ≡ v → IsSound i → q ≡ filed i.block i.block.free Notices d → slots_held v.body < 80 → view_of (record i { block = q }) ≡ record v { body = record v.body { notices = v.body.notices ++ notice_in d ∷ [] } }
 notice_view i v q d e ok is held =
@@ -205,16 +195,6 @@ received_view i v q d e ok is held =
     viewed i v q (filed i.block i.block.free Received d) (λ b. record b { received = b.received ++ message_in d ∷ [] }) e is
     (received_added i.tag i.sum i.accepted i.translate i.handlers i.block d ok.block ok.slots (held_before i v e held))
     (received_aside i.block d i.block.free)
-
-pub flight_view : (i : Inside) (v : View) (q : Pools) (d : Descriptor) (s : ℕ) (free : List ℕ) → view_of i ≡ v → IsSound i → q ≡ filed i.block i.block.free InFlight d → i.block.free ≡ s ∷ free → view_of (record i { block = q }) ≡ record v { body = record v.body { in_flight = v.body.in_flight ++ flying_in d ∷ [] }; flights = v.flights ++ s ∷ [] }
-flight_view i v q d s free e ok is front =
-    viewed_both i v q (filed i.block (s ∷ free) InFlight d) (λ b. record b { in_flight = b.in_flight ++ flying_in d ∷ [] }) (λ w. w.flights ++ s ∷ []) e (is ∙ ap (λ xs. filed i.block xs InFlight d) front)
-    (flight_filed i.tag i.sum i.accepted i.translate i.handlers i.block d ok.block s free front)
-    refl
-
--- while fewer than 80 slots are held there is a slot for a message in flight
-pub slot_free : (i : Inside) (v : View) → view_of i ≡ v → IsSound i → slots_held v.body < 80 → i.block.free ≡ [] → ⊥
-slot_free i v e ok held none = some_free i.tag i.sum i.accepted i.translate i.handlers i.block ok.block ok.slots (held_before i v e held) none
 
 received_freed : (i : Inside) (xs : List ℕ) → i.block.received ≡ xs → (view_of (record i { block = freed i.block xs Received })).body ≡ record (view_of i).body { received = drop 1 (view_of i).body.received }
 received_freed i [] e = ap (λ (ms : List Message). record (view_of i).body { received = ms }) (ap (seen message_in i.block.descriptors) e ∙ sym (ap (λ ys. drop 1 (seen message_in i.block.descriptors ys)) e))

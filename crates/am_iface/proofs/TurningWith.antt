@@ -32,6 +32,7 @@ pub record Follows (e f : EndpointView) (w : Work) (x : Entry) (result : Result 
   pub flies : OnOk result (Flies w x e f)
   pub err : OnErr result (f.log ≡ e.log)
   pub err_flights : OnErr result (f.flights ≡ e.flights)
+  pub kept : OnErr result (f.ready ≡ e.ready)
 
 pub turns_with : (old new : InterfaceView) (e f : EndpointView) (stamp : ℕ) (w : Work) (x : Entry) (result : Result (Unit {0}) EntryFault) → IsEntryOf old (state_after e) stamp w x → EntersWith old new e x result → Follows e f w x result → TurnsWith old new e f stamp w result
 turns_with old new e f stamp w x (Ok u) is enters follows =
@@ -46,6 +47,7 @@ turns_with old new e f stamp w x (Ok u) is enters follows =
       err = tt;
       err_there = tt;
       err_flights = tt;
+      kept = tt;
     }
 turns_with old new e f stamp w x (Err fault) is enters follows =
     record {
@@ -58,6 +60,7 @@ turns_with old new e f stamp w x (Err fault) is enters follows =
       err = enters.err;
       err_there = follows.err;
       err_flights = follows.err_flights;
+      kept = follows.kept;
     }
 
 -- a turn that a condition keeps from being made
@@ -73,4 +76,12 @@ turns_with_by_failing old e stamp w why fails =
       err = refl;
       err_there = refl;
       err_flights = refl;
+      kept = refl;
     }
+
+-- where nothing else keeps a work from being done, its conditions are met and both logs have room
+
+pub no_condition : (o : Option Condition) (result : Result (Unit {0}) EntryFault) → ((c : Condition) → (result ≡ Err (Faults.NotEnabled c)) ↔ (o ≡ Some c)) → result ≡ Err Faults.NoMemory → o ≡ None
+no_condition None result disabled starved = refl
+no_condition (Some c) result disabled starved =
+    let both : ◌≡◌ {A = Result (Unit {0}) EntryFault} (Err Faults.NoMemory) (Err (Faults.NotEnabled c)) = sym starved ∙ (disabled c).1 refl in absurd (cc)

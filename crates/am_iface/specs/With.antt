@@ -55,6 +55,7 @@ pub record TurnsWith (old new : InterfaceView) (e f : EndpointView) (stamp : ℕ
   pub err : OnErr result (new ≡ old)
   pub err_there : OnErr result (f.log ≡ e.log)
   pub err_flights : OnErr result (f.flights ≡ e.flights)
+  pub kept : OnErr result (f.ready ≡ e.ready)
 
 -- the front message, if there is one, goes to an endpoint whose home is known and one of the nodes
 abbrev pub IsHomeKnown : InterfaceLog → Option Queued → Type 0

@@ -481,6 +481,7 @@ impl Interface {
         ensures err { OnErr result (self.new ≡ self.old) }
         ensures err_there { OnErr result (endpoint.new.log ≡ endpoint.old.log) }
         ensures err_flights { OnErr result (endpoint.new.flights ≡ endpoint.old.flights) }
+        ensures kept { OnErr result (endpoint.new.ready ≡ endpoint.old.ready) }
     {
         let stamp = self.stamp_with(floor, work, endpoint);
         self.work_with(stamp, work, endpoint)
@@ -513,7 +514,7 @@ impl Interface {
     }
 
     /// Does a work that touches this endpoint, and logs its entry here and in the endpoint. Room is made in both logs first.
-    /// Where it answers no entry, neither log has changed, nor what the endpoint has in flight.
+    /// Where it answers no entry, neither log has changed, nor what the endpoint has in flight and for how much it has room.
     pub fn turn_with(
         &mut self,
         floor: u64,
@@ -548,6 +549,7 @@ impl Interface {
         ensures err { OnErr result (self.new ≡ self.old) }
         ensures err_there { OnErr result (endpoint.new.log ≡ endpoint.old.log) }
         ensures err_flights { OnErr result (endpoint.new.flights ≡ endpoint.old.flights) }
+        ensures kept { OnErr result (endpoint.new.ready ≡ endpoint.old.ready) }
     {
         match self.make_with(floor, work, endpoint) {
             Ok(()) => Ok(self.last_turn()),

@@ -15,4 +15,5 @@ returns c =
       err = turns.err;
       err_there = turns.err_there;
       err_flights = turns.err_flights;
+      kept = turns.kept;
     }
