@@ -1,8 +1,9 @@
 -- What a turn with an endpoint answers, by what logging its entry answers.
 use Rattle.std.specs.Prelude.{◌↔◌, Result, Ok, Err, OnOk, OnErr}
-use Rattle.std.proofs.Common.{◌≡◌, ◌≢◌, ⊎_elim, ℕ, ◌<◌, [], ◌∷◌, ◌++◌, length, Some, None, refl, sym, ap, ◌∙◌, subst, arith}
+use Rattle.std.proofs.Common.{◌≡◌, ◌≢◌, inl, inr, ⊎_elim, ℕ, ◌<◌, [], ◌∷◌, ◌++◌, length, Some, None, refl, sym, ap, ◌∙◌, subst, arith}
 use Rattle.am_office.specs.declared.Condition.{Condition}
 use Rattle.am_office.specs.declared.Part.{Part}
+use Rattle.am_office.specs.declared.Part.TheVariants as Parts
 use Rattle.am_office.specs.declared.Entry.{Entry}
 use Rattle.am_endpoint.specs.View.{EndpointView, state_after}
 use Rattle.am_local.specs.Interface.{failing_at}
@@ -10,8 +11,8 @@ use Rattle.am_local.specs.declared.work.Work.{Work}
 use Rattle.am_model.specs.declared.EntryFault.{EntryFault}
 use Rattle.am_model.specs.declared.EntryFault.TheVariants as Faults
 use Rattle.am_iface.specs.View.{InterfaceView, own}
-use Rattle.am_iface.specs.With.{Flies, IsFullOf, TurnsWith}
-use Rattle.am_iface.proofs.Turning.{IsEntryOf, entry_is}
+use Rattle.am_iface.specs.With.{Flies, HasRoomWith, IsFullOf, TurnsWith}
+use Rattle.am_iface.proofs.Turning.{IsEntryOf, entry_is, no_condition, not_full}
 
 -- no log is full where both have room
 pub no_full_log : (v : InterfaceView) (e : EndpointView) (p : Part) → length v.log < v.settings.log → length e.log < e.settings.log → IsFullOf v e p → ⊥
@@ -79,9 +80,10 @@ turns_with_by_failing old e stamp w why fails =
       kept = refl;
     }
 
--- where nothing else keeps a work from being done, its conditions are met and both logs have room
-
-pub no_condition : (o : Option Condition) (result : Result (Unit {0}) EntryFault) → ((c : Condition) → (result ≡ Err (Faults.NotEnabled c)) ↔ (o ≡ Some c)) → result ≡ Err Faults.NoMemory → o ≡ None
-no_condition None result disabled starved = refl
-no_condition (Some c) result disabled starved =
-    let both : ◌≡◌ {A = Result (Unit {0}) EntryFault} (Err Faults.NoMemory) (Err (Faults.NotEnabled c)) = sym starved ∙ (disabled c).1 refl in absurd (cc)
+-- want of memory, where each other fault has its cause
+pub starved_with : (old new : InterfaceView) (e f : EndpointView) (stamp : ℕ) (w : Work) (result : Result (Unit {0}) EntryFault) → TurnsWith old new e f stamp w result → result ≡ Err Faults.NoMemory → HasRoomWith old e w
+starved_with old new e f stamp w result turns starved =
+    let none = no_condition (failing_at (own old) (state_after e) w) result turns.disabled starved in
+    let there : length e.log ≢ e.settings.log =
+    λ full. not_full (Parts.Endpoint e.settings.id) result starved ((turns.full (Parts.Endpoint e.settings.id)).1 (none, inl (refl, full))) in
+    record { enabled = none; there = there; here = λ full. not_full (Parts.Interface old.settings.node) result starved ((turns.full (Parts.Interface old.settings.node)).1 (none, inr (there, (refl, full)))) }

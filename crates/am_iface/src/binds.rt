@@ -29,6 +29,7 @@ use am_names::{EndpointId, Message, NodeId};
 use am_office::{Condition, Entry, Part, growth};
 
 /// A message that is to be bound, the node where it goes, and the channel to it that is free.
+#[derive(Drop)]
 struct Way {
     queued: Queued,
     peer: NodeId,
@@ -166,12 +167,7 @@ impl Interface {
     }
 
     /// Binds the front message, which nothing keeps from being bound, to the channel of its way.
-    fn bind_to(
-        &mut self,
-        stamp: u64,
-        way: &Way,
-        endpoint: &mut Endpoint,
-    ) -> Result<(), EntryFault>
+    fn bind_to(&mut self, stamp: u64, way: &Way, endpoint: &mut Endpoint) -> Result<(), EntryFault>
         requires enabled { failing_at (own self.old) (state_after endpoint.old) (Works.Bind endpoint.old.settings.id) ≡ None }
         requires at { home_in (own self.old) endpoint.old.settings.id ≡ Some endpoint.old.settings.node }
         requires packet { is_direct (state_after endpoint.old).head.place ≡ false }
