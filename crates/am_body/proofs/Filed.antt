@@ -7,9 +7,11 @@ use Rattle.am_names.specs.declared.Message.{Message}
 use Rattle.am_names.specs.declared.Tag.{Tag}
 use Rattle.am_office.specs.declared.HandlerKind.{HandlerKind}
 use Rattle.std.specs.Option.{option_map}
-use Rattle.am_block.specs.Pools.{Pools, IsBlock, moved, size, without}
+use Rattle.am_block.specs.Pools.{Pools, IsBlock, home, moved, size, without}
 use Rattle.am_block.specs.declared.Slot.{Slot}
 use Rattle.am_block.specs.declared.Descriptor.{Descriptor}
+use Rattle.am_block.specs.declared.List.{List as Which}
+use Rattle.am_block.proofs.Callers.{home_is}
 use Rattle.am_block.specs.declared.List.TheVariants.{Free, Requests, Replies, InFlight, Notices, Received}
 use Rattle.am_model.specs.declared.Flying.{Flying}
 use Rattle.am_model.specs.declared.Notice.{Notice}
@@ -21,12 +23,12 @@ use Rattle.am_translate.specs.Tables.{Table}
 use Rattle.std.specs.Prelude.{◌↔◌, Option, None, Some, cond, find, if◌then◌else◌}
 use Rattle.am_body.specs.Flights.{slot_of}
 use Rattle.am_body.specs.Moves.{filed, freed}
-use Rattle.am_body.specs.Walks.{is_sought_at, taken_out}
+use Rattle.am_body.specs.Walks.{is_sought_at}
 use Rattle.am_body.specs.declared.walks.Sought.TheVariants as Soughts
 use Rattle.am_body.specs.Kept.{IsSound, view_of}
 use Rattle.am_body.specs.declared.Body.TheInside.{Inside}
 use Rattle.am_body.specs.Views.{View, body_over, descriptor_at, flying_in, message_in, notice_in, queued_in, seen, slots_held}
-use Rattle.am_body.proofs.Seen.{first_free, grown, kept, none-seen, without-front, without-seen}
+use Rattle.am_body.proofs.Seen.{first_free, found-times, grown, kept, none-seen, stands-below, without-front, without-seen}
 
 -- a body with other lists
 abbrev pub with_lists : Body → List Queued → List Queued → List Flying → List Notice → List Message → Body
@@ -133,6 +135,11 @@ viewed i v q r change e is to there = viewed_both i v q r change (λ w. w.flight
 
 -- what is filed in another list, and what goes from another, leaves the slots in flight as they are
 
+-- p with this slot of a list free, if there is one
+abbrev taken_out : Pools → Which → Option ℕ → Pools
+taken_out p from None = p
+taken_out p from (Some s) = moved p from s Free
+
 requests_aside : (p : Pools) (d : Descriptor) (xs : List ℕ) → (filed p xs Requests d).in_flight ≡ p.in_flight
 requests_aside p d [] = refl
 requests_aside p d (s ∷ xs) = refl
@@ -156,10 +163,6 @@ notices_freed_aside p (s ∷ xs) = refl
 received_freed_aside : (p : Pools) (xs : List ℕ) → (freed p xs Received).in_flight ≡ p.in_flight
 received_freed_aside p [] = refl
 received_freed_aside p (s ∷ xs) = refl
-
-received_out_aside : (p : Pools) (r : Option ℕ) → (taken_out p Received r).in_flight ≡ p.in_flight
-received_out_aside p None = refl
-received_out_aside p (Some s) = refl
 
 queue_aside : (p : Pools) (d : Descriptor) (is : Bool) → (filed p p.free (cond is Requests Replies) d).in_flight ≡ p.in_flight
 queue_aside p d true = requests_aside p d p.free
@@ -207,13 +210,14 @@ received_gone i v q e is = viewed i v q (freed i.block i.block.received Received
 
 -- a body whose list loses what was found
 
-answer_out : (i : Inside) (r : Option ℕ) → find (λ s. is_sought_at Soughts.Answer i.block s) i.block.received ≡ r → (view_of (record i { block = taken_out i.block Received r })).body ≡ record (view_of i).body { received = without_first is_answer (view_of i).body.received }
-answer_out i None found = ap (λ (ms : List Message). record (view_of i).body { received = ms }) (sym (none-seen message_in is_answer i.block.descriptors i.block.received found))
-answer_out i (Some s) found = ap (λ (ms : List Message). record (view_of i).body { received = ms }) (without-seen message_in is_answer i.block.descriptors i.block.received s found)
+reply_out : (i : Inside) (s : ℕ) → find (λ s. is_sought_at Soughts.Reply i.block s) i.block.received ≡ Some s → (view_of (record i { block = moved i.block Received s Free })).body ≡ record (view_of i).body { received = without_first is_answer (view_of i).body.received }
+reply_out i s found = ap (λ (ms : List Message). record (view_of i).body { received = ms }) (without-seen message_in is_answer i.block.descriptors i.block.received s found)
 
-pub answer_gone : (i : Inside) (v : View) (q : Pools) → view_of i ≡ v → q ≡ taken_out i.block Received (find (λ s. is_sought_at Soughts.Answer i.block s) i.block.received) → view_of (record i { block = q }) ≡ record v { body = record v.body { received = without_first is_answer v.body.received } }
-answer_gone i v q e is =
-    viewed i v q (taken_out i.block Received (find (λ s. is_sought_at Soughts.Answer i.block s) i.block.received)) (λ b. record b { received = without_first is_answer b.received }) e is (answer_out i _ refl) (received_out_aside i.block _)
+pub reply_gone : (i : Inside) (v : View) (q : Pools) (s : ℕ) → view_of i ≡ v → IsSound i → q ≡ moved i.block (home i.block s) s Free → find (λ s. is_sought_at Soughts.Reply i.block s) i.block.received ≡ Some s → view_of (record i { block = q }) ≡ record v { body = record v.body { received = without_first is_answer v.body.received } }
+reply_gone i v q s e ok is found =
+    let some = found-times (λ s. is_sought_at Soughts.Reply i.block s) i.block.received s found in
+    let at : home i.block s ≡ Received = home_is i.block Received s ok.block (stands-below i.block Received s ok.block some) some in
+    viewed i v q (moved i.block Received s Free) (λ b. record b { received = without_first is_answer b.received }) e (is ∙ ap (λ h. moved i.block h s Free) at) (reply_out i s found) refl
 
 flight_out : (serial : Serial) (i : Inside) (r : Option ℕ) → find (λ s. is_sought_at (Soughts.Of serial) i.block s) i.block.in_flight ≡ r → (view_of (record i { block = taken_out i.block InFlight r })).body ≡ without_flight serial (view_of i).body
 flight_out serial i None found = ap (λ (fs : List Flying). record (view_of i).body { in_flight = fs }) (sym (none-seen flying_in (λ (f : Flying). has_serial serial f.message) i.block.descriptors i.block.in_flight found))

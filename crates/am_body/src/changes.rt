@@ -1,6 +1,7 @@
 // What arrivals, runs and returns make of a body.
+ghost use Rattle.am_body.specs.Replies.{reply_ran};
 ghost use Rattle.am_body.specs.Views.{on_host, slots_held};
-ghost use Rattle.am_model.specs.Changes.{answer_ran, noticed, put, request_ran};
+ghost use Rattle.am_model.specs.Changes.{noticed, put, request_ran};
 ghost use Rattle.std.specs.Prelude.{◌≡◌, ◌+◌, ◌<◌, ◌^◌};
 
 use crate::Body;
@@ -23,12 +24,11 @@ impl Body {
         }
     }
 
-    /// The first reply or empty reply that was received runs, by this handler, if by any.
-    pub fn run_answer(&mut self, message: &Message, handler: Option<u8>)
-        ensures { self.new ≡ record self.old { body = answer_ran message.now handler self.old.body } }
+    /// A reply or empty reply that was received runs, by this handler, if by any, and the record of its request goes.
+    pub fn run_reply(&mut self, message: &Message, handler: Option<u8>)
+        ensures { self.new ≡ record self.old { body = reply_ran message.now handler self.old.body } }
     {
         self.run(handler, message.words);
-        self.drop_answer();
         match message.about {
             None => {}
             Some(request) => self.settle(request),

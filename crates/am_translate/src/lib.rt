@@ -44,7 +44,7 @@ use std::marker::Model;
 use thiserror::Error;
 
 /// Where the requests of an index go, and the tag that they carry.
-#[derive(Clone, Copy, PartialEq, Eq, Debug)]
+#[derive(Clone, Copy, PartialEq, Eq)]
 pub struct Target {
     pub name: EndpointId,
     pub tag: Tag,
