@@ -20,7 +20,7 @@ use std::alloc::{AllocError, Global};
 use std::marker::Model;
 
 /// What is kept of a message.
-#[derive(Clone, Copy, PartialEq, Eq, Debug)]
+#[derive(Clone, Copy)]
 pub struct Descriptor {
     pub message: Message,
     /// How often the message bounced, 0 to 16.
@@ -32,7 +32,7 @@ pub struct Descriptor {
 }
 
 /// The six lists of a block.
-#[derive(Clone, Copy, PartialEq, Eq, Debug)]
+#[derive(Clone, Copy, PartialEq, Eq)]
 pub enum List {
     /// The slots that hold no message.
     Free,

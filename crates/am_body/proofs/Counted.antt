@@ -25,7 +25,7 @@ requests_counted i v a b c e queued flying back =
     let here : a + b + c ≡ requests_held (view_of i).body = omega (arith, queued, flying, back, fs, ns, length-seen queued_in i.block.descriptors i.block.requests) in
     here ∙ ap (λ (w : View). requests_held w.body) e
 
-pub replies_counted : (i : Inside) (v : View) (a b c : ℕ) → view_of i ≡ v → a ≡ length i.block.replies → b ≡ count_by (λ s. is_sought_at Soughts.Answer i.block s) i.block.in_flight → c ≡ count_by (λ s. is_sought_at Soughts.Answer i.block s) i.block.notices → a + b + c ≡ replies_held v.body
+pub replies_counted : (i : Inside) (v : View) (a b c : ℕ) → view_of i ≡ v → a ≡ length i.block.replies → b ≡ count_by (λ s. is_sought_at Soughts.Reply i.block s) i.block.in_flight → c ≡ count_by (λ s. is_sought_at Soughts.Reply i.block s) i.block.notices → a + b + c ≡ replies_held v.body
 replies_counted i v a b c e queued flying back =
     let fs = count-seen flying_in (λ (f : Flying). is_answer f.message) i.block.descriptors i.block.in_flight in
     let ns = count-seen notice_in (λ (n : Notice). is_answer n.message) i.block.descriptors i.block.notices in

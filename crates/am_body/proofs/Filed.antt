@@ -1,5 +1,5 @@
 -- What a body is after a free slot took a message.
-use Rattle.std.proofs.Common.{◌≡◌, ℕ, ◌<◌, true, false, List, [], ◌∷◌, ◌++◌, length, drop, refl, sym, ap, ◌∙◌, subst, arith}
+use Rattle.std.proofs.Common.{◌≡◌, ℕ, ◌<◌, Bool, true, false, List, [], ◌∷◌, ◌++◌, length, drop, refl, sym, ap, ◌∙◌, subst, arith}
 use Rattle.std.proofs.lemmas.List.{length-map}
 use Rattle.am_names.specs.Names.{has_serial, is_answer, is_request}
 use Rattle.am_names.specs.declared.Serial.{Serial}
@@ -7,9 +7,11 @@ use Rattle.am_names.specs.declared.Message.{Message}
 use Rattle.am_names.specs.declared.Tag.{Tag}
 use Rattle.am_office.specs.declared.HandlerKind.{HandlerKind}
 use Rattle.std.specs.Option.{option_map}
-use Rattle.am_block.specs.Pools.{Pools, IsBlock, moved, size, without}
+use Rattle.am_block.specs.Pools.{Pools, IsBlock, home, moved, size, without}
 use Rattle.am_block.specs.declared.Slot.{Slot}
 use Rattle.am_block.specs.declared.Descriptor.{Descriptor}
+use Rattle.am_block.specs.declared.List.{List as Which}
+use Rattle.am_block.proofs.Callers.{home_is}
 use Rattle.am_block.specs.declared.List.TheVariants.{Free, Requests, Replies, InFlight, Notices, Received}
 use Rattle.am_model.specs.declared.Flying.{Flying}
 use Rattle.am_model.specs.declared.Notice.{Notice}
@@ -21,12 +23,12 @@ use Rattle.am_translate.specs.Tables.{Table}
 use Rattle.std.specs.Prelude.{◌↔◌, Option, None, Some, cond, find, if◌then◌else◌}
 use Rattle.am_body.specs.Flights.{slot_of}
 use Rattle.am_body.specs.Moves.{filed, freed}
-use Rattle.am_body.specs.Walks.{is_sought_at, taken_out}
+use Rattle.am_body.specs.Walks.{is_sought_at}
 use Rattle.am_body.specs.declared.walks.Sought.TheVariants as Soughts
 use Rattle.am_body.specs.Kept.{IsSound, view_of}
 use Rattle.am_body.specs.declared.Body.TheInside.{Inside}
 use Rattle.am_body.specs.Views.{View, body_over, descriptor_at, flying_in, message_in, notice_in, queued_in, seen, slots_held}
-use Rattle.am_body.proofs.Seen.{first_free, grown, kept, none-seen, without-front, without-seen}
+use Rattle.am_body.proofs.Seen.{first_free, found-times, grown, kept, none-seen, stands-below, without-front, without-seen}
 
 -- a body with other lists
 abbrev pub with_lists : Body → List Queued → List Queued → List Flying → List Notice → List Message → Body
@@ -75,16 +77,6 @@ module _ (tag : Tag) (sum accepted : ℕ) (t : Table) (hs : List (Option Handler
       (kept notice_in p.descriptors s d p.notices ok.notices)
       (grown message_in p.descriptors s d p.received ok.received ok.within)
 
-  flight_filed : (s : ℕ) (free : List ℕ) → p.free ≡ s ∷ free → body_over tag sum accepted t hs (filed p (s ∷ free) InFlight d) ≡ record (body_over tag sum accepted t hs p) { in_flight = (body_over tag sum accepted t hs p).in_flight ++ flying_in d ∷ [] }
-  flight_filed s free front =
-      let ok = first_free p s free b front in
-      same_lists (body_over tag sum accepted t hs p) _ _ _ _ _ _ _ _ _ _
-      (kept queued_in p.descriptors s d p.requests ok.requests)
-      (kept queued_in p.descriptors s d p.replies ok.replies)
-      (grown flying_in p.descriptors s d p.in_flight ok.in_flight ok.within)
-      (kept notice_in p.descriptors s d p.notices ok.notices)
-      (kept message_in p.descriptors s d p.received ok.received)
-
   pub received_added : size p ≡ 80 → slots_held (body_over tag sum accepted t hs p) < 80 → body_over tag sum accepted t hs (filed p p.free Received d) ≡ record (body_over tag sum accepted t hs p) { received = (body_over tag sum accepted t hs p).received ++ message_in d ∷ [] }
   received_added all held = by_free p.free refl
     where
@@ -131,7 +123,7 @@ with_both : (v : View) (b c : Body) (xs ys : List ℕ) → b ≡ c → xs ≡ ys
 with_both v b c xs ys to there = λ k. record v { body = to k; flights = there k }
 
 -- a body with another block, where its new body and its new slots in flight are known
-viewed_both : (i : Inside) (v : View) (q r : Pools) (change : Body → Body) (flights : View → List ℕ) → view_of i ≡ v → q ≡ r → (view_of (record i { block = r })).body ≡ change (view_of i).body → r.in_flight ≡ flights (view_of i) → view_of (record i { block = q }) ≡ record v { body = change v.body; flights = flights v }
+pub viewed_both : (i : Inside) (v : View) (q r : Pools) (change : Body → Body) (flights : View → List ℕ) → view_of i ≡ v → q ≡ r → (view_of (record i { block = r })).body ≡ change (view_of i).body → r.in_flight ≡ flights (view_of i) → view_of (record i { block = q }) ≡ record v { body = change v.body; flights = flights v }
 viewed_both i v q r change flights e is to there =
     ap (λ (p : Pools). view_of (record i { block = p })) is
     ∙ with_both (view_of i) _ _ _ _ to there
@@ -142,6 +134,11 @@ pub viewed : (i : Inside) (v : View) (q r : Pools) (change : Body → Body) → 
 viewed i v q r change e is to there = viewed_both i v q r change (λ w. w.flights) e is to there
 
 -- what is filed in another list, and what goes from another, leaves the slots in flight as they are
+
+-- p with this slot of a list free, if there is one
+abbrev taken_out : Pools → Which → Option ℕ → Pools
+taken_out p from None = p
+taken_out p from (Some s) = moved p from s Free
 
 requests_aside : (p : Pools) (d : Descriptor) (xs : List ℕ) → (filed p xs Requests d).in_flight ≡ p.in_flight
 requests_aside p d [] = refl
@@ -167,21 +164,17 @@ received_freed_aside : (p : Pools) (xs : List ℕ) → (freed p xs Received).in_
 received_freed_aside p [] = refl
 received_freed_aside p (s ∷ xs) = refl
 
-received_out_aside : (p : Pools) (r : Option ℕ) → (taken_out p Received r).in_flight ≡ p.in_flight
-received_out_aside p None = refl
-received_out_aside p (Some s) = refl
+queue_aside : (p : Pools) (d : Descriptor) (is : Bool) → (filed p p.free (cond is Requests Replies) d).in_flight ≡ p.in_flight
+queue_aside p d true = requests_aside p d p.free
+queue_aside p d false = replies_aside p d p.free
 
-pub request_view : (i : Inside) (v : View) (q : Pools) (d : Descriptor) → view_of i ≡ v → IsSound i → q ≡ filed i.block i.block.free Requests d → is_request d.message ≡ true → slots_held v.body < 80 → view_of (record i { block = q }) ≡ record v { body = queued d.message d.used v.body }
-request_view i v q d e ok is kind held =
-    viewed i v q (filed i.block i.block.free Requests d) (queued d.message d.used) e is
-    (request_queued i.tag i.sum i.accepted i.translate i.handlers i.block d ok.block ok.slots (held_before i v e held) kind)
-    (requests_aside i.block d i.block.free)
-
-pub answer_view : (i : Inside) (v : View) (q : Pools) (d : Descriptor) → view_of i ≡ v → IsSound i → q ≡ filed i.block i.block.free Replies d → is_request d.message ≡ false → slots_held v.body < 80 → view_of (record i { block = q }) ≡ record v { body = queued d.message d.used v.body }
-answer_view i v q d e ok is kind held =
-    viewed i v q (filed i.block i.block.free Replies d) (queued d.message d.used) e is
-    (answer_queued i.tag i.sum i.accepted i.translate i.handlers i.block d ok.block ok.slots (held_before i v e held) kind)
-    (replies_aside i.block d i.block.free)
+pub queue_view : (i : Inside) (v : View) (q : Pools) (d : Descriptor) → view_of i ≡ v → IsSound i → q ≡ filed i.block i.block.free (cond (is_request d.message) Requests Replies) d → slots_held v.body < 80 → view_of (record i { block = q }) ≡ record v { body = queued d.message d.used v.body }
+queue_view i v q d e ok is held =
+    viewed i v q (filed i.block i.block.free (cond (is_request d.message) Requests Replies) d) (queued d.message d.used) e is (by_kind (is_request d.message) refl) (queue_aside i.block d (is_request d.message))
+  where
+    by_kind : (b : Bool) → is_request d.message ≡ b → (view_of (record i { block = filed i.block i.block.free (cond b Requests Replies) d })).body ≡ queued d.message d.used (view_of i).body
+    by_kind true kind = request_queued i.tag i.sum i.accepted i.translate i.handlers i.block d ok.block ok.slots (held_before i v e held) kind
+    by_kind false kind = answer_queued i.tag i.sum i.accepted i.translate i.handlers i.block d ok.block ok.slots (held_before i v e held) kind
 
 pub notice_view : (i : Inside) (v : View) (q : Pools) (d : Descriptor) → view_of i ≡ v → IsSound i → q ≡ filed i.block i.block.free Notices d → slots_held v.body < 80 → view_of (record i { block = q }) ≡ record v { body = record v.body { notices = v.body.notices ++ notice_in d ∷ [] } }
 notice_view i v q d e ok is held =
@@ -206,16 +199,6 @@ received_view i v q d e ok is held =
     (received_added i.tag i.sum i.accepted i.translate i.handlers i.block d ok.block ok.slots (held_before i v e held))
     (received_aside i.block d i.block.free)
 
-pub flight_view : (i : Inside) (v : View) (q : Pools) (d : Descriptor) (s : ℕ) (free : List ℕ) → view_of i ≡ v → IsSound i → q ≡ filed i.block i.block.free InFlight d → i.block.free ≡ s ∷ free → view_of (record i { block = q }) ≡ record v { body = record v.body { in_flight = v.body.in_flight ++ flying_in d ∷ [] }; flights = v.flights ++ s ∷ [] }
-flight_view i v q d s free e ok is front =
-    viewed_both i v q (filed i.block (s ∷ free) InFlight d) (λ b. record b { in_flight = b.in_flight ++ flying_in d ∷ [] }) (λ w. w.flights ++ s ∷ []) e (is ∙ ap (λ xs. filed i.block xs InFlight d) front)
-    (flight_filed i.tag i.sum i.accepted i.translate i.handlers i.block d ok.block s free front)
-    refl
-
--- while fewer than 80 slots are held there is a slot for a message in flight
-pub slot_free : (i : Inside) (v : View) → view_of i ≡ v → IsSound i → slots_held v.body < 80 → i.block.free ≡ [] → ⊥
-slot_free i v e ok held none = some_free i.tag i.sum i.accepted i.translate i.handlers i.block ok.block ok.slots (held_before i v e held) none
-
 received_freed : (i : Inside) (xs : List ℕ) → i.block.received ≡ xs → (view_of (record i { block = freed i.block xs Received })).body ≡ record (view_of i).body { received = drop 1 (view_of i).body.received }
 received_freed i [] e = ap (λ (ms : List Message). record (view_of i).body { received = ms }) (ap (seen message_in i.block.descriptors) e ∙ sym (ap (λ ys. drop 1 (seen message_in i.block.descriptors ys)) e))
 received_freed i (s ∷ xs) e =
@@ -227,13 +210,14 @@ received_gone i v q e is = viewed i v q (freed i.block i.block.received Received
 
 -- a body whose list loses what was found
 
-answer_out : (i : Inside) (r : Option ℕ) → find (λ s. is_sought_at Soughts.Answer i.block s) i.block.received ≡ r → (view_of (record i { block = taken_out i.block Received r })).body ≡ record (view_of i).body { received = without_first is_answer (view_of i).body.received }
-answer_out i None found = ap (λ (ms : List Message). record (view_of i).body { received = ms }) (sym (none-seen message_in is_answer i.block.descriptors i.block.received found))
-answer_out i (Some s) found = ap (λ (ms : List Message). record (view_of i).body { received = ms }) (without-seen message_in is_answer i.block.descriptors i.block.received s found)
+reply_out : (i : Inside) (s : ℕ) → find (λ s. is_sought_at Soughts.Reply i.block s) i.block.received ≡ Some s → (view_of (record i { block = moved i.block Received s Free })).body ≡ record (view_of i).body { received = without_first is_answer (view_of i).body.received }
+reply_out i s found = ap (λ (ms : List Message). record (view_of i).body { received = ms }) (without-seen message_in is_answer i.block.descriptors i.block.received s found)
 
-pub answer_gone : (i : Inside) (v : View) (q : Pools) → view_of i ≡ v → q ≡ taken_out i.block Received (find (λ s. is_sought_at Soughts.Answer i.block s) i.block.received) → view_of (record i { block = q }) ≡ record v { body = record v.body { received = without_first is_answer v.body.received } }
-answer_gone i v q e is =
-    viewed i v q (taken_out i.block Received (find (λ s. is_sought_at Soughts.Answer i.block s) i.block.received)) (λ b. record b { received = without_first is_answer b.received }) e is (answer_out i _ refl) (received_out_aside i.block _)
+pub reply_gone : (i : Inside) (v : View) (q : Pools) (s : ℕ) → view_of i ≡ v → IsSound i → q ≡ moved i.block (home i.block s) s Free → find (λ s. is_sought_at Soughts.Reply i.block s) i.block.received ≡ Some s → view_of (record i { block = q }) ≡ record v { body = record v.body { received = without_first is_answer v.body.received } }
+reply_gone i v q s e ok is found =
+    let some = found-times (λ s. is_sought_at Soughts.Reply i.block s) i.block.received s found in
+    let at : home i.block s ≡ Received = home_is i.block Received s ok.block (stands-below i.block Received s ok.block some) some in
+    viewed i v q (moved i.block Received s Free) (λ b. record b { received = without_first is_answer b.received }) e (is ∙ ap (λ h. moved i.block h s Free) at) (reply_out i s found) refl
 
 flight_out : (serial : Serial) (i : Inside) (r : Option ℕ) → find (λ s. is_sought_at (Soughts.Of serial) i.block s) i.block.in_flight ≡ r → (view_of (record i { block = taken_out i.block InFlight r })).body ≡ without_flight serial (view_of i).body
 flight_out serial i None found = ap (λ (fs : List Flying). record (view_of i).body { in_flight = fs }) (sym (none-seen flying_in (λ (f : Flying). has_serial serial f.message) i.block.descriptors i.block.in_flight found))

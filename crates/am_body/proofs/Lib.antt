@@ -1,5 +1,6 @@
 pub mod Seen
 pub mod Filed
+pub mod Refiled
 pub mod Walking
 pub mod Counted
 pub mod Gone

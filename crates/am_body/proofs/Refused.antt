@@ -75,21 +75,6 @@ request_refused v index =
     (sym (credit_tests (nat_le 16 index) (is_none (entry_at v.body.mapped index)) (has_no_credit v.pool (body_with (table_of v)) index (entry_at v.body.mapped index)) (nat_le 32 (length v.body.awaited)) (nat_le 16 (requests_held v.body)))
     ∙ ap (λ c. first_holding ((nat_le 16 index, No.BadIndex) ∷ (is_none (entry_at v.body.mapped index), No.NotMapped) ∷ (c, No.NoCredit) ∷ (nat_le 32 (length v.body.awaited), No.TableFull) ∷ (nat_le 16 (requests_held v.body), No.SendFull) ∷ [])) (credit_same v.pool v index (entry_at v.body.mapped index)))
 
--- where nothing is refused the table has no fault, and a request slot is free
-pub record IsUnrefused (v : View) (index : ℕ) : Type 0 where
-  pub fault : credit_fault (table_of v) index ≡ None
-  pub spare : requests_held v.body < 16
-
-pub unrefused : (v : View) (index : ℕ) → request_refusal v.pool (on_host v.body) index ≡ None → IsUnrefused v index
-unrefused v index none =
-    by_tests (v.body.tag.0 == 0) (credit_fault (table_of v) index) (nat_le 16 (requests_held v.body)) refl refl (request_refused v index ∙ none)
-  where
-    by_tests : (t : Bool) (f : Option CreditFault) (full : Bool) → credit_fault (table_of v) index ≡ f → nat_le 16 (requests_held v.body) ≡ full → cond t (Some No.OwnTagNone) (after_fault f full) ≡ None → IsUnrefused v index
-    by_tests true f full is tested h = absurd (cc)
-    by_tests false (Some fault) full is tested h = absurd (cc)
-    by_tests false None true is tested h = absurd (cc)
-    by_tests false None false is tested h = record { fault = is; spare = leb-false 16 (requests_held v.body) tested }
-
 -- a fault of the table that a body has, and what the body refuses
 
 pub map_told : (i : Inside) (v : View) (index share : ℕ) (f : Option MapFault) → view_of i ≡ v → f ≡ map_fault i.translate index share → option_map of_map f ≡ map_refusal v.pool (on_host v.body) index share

@@ -1,27 +1,20 @@
 -- What is looked for in a list of a block.
-use Rattle.std.specs.Prelude.{ℕ, Bool, ◌||◌, Option, None, Some, List, [], ◌∷◌, slice_set}
+use Rattle.std.specs.Prelude.{ℕ, Bool, ◌||◌, List, [], ◌∷◌, slice_set}
 use Rattle.am_names.specs.declared.Serial.{Serial}
 use Rattle.am_names.specs.Names.{has_serial, is_answer, is_request}
-use Rattle.am_block.specs.Pools.{Pools, moved}
+use Rattle.am_block.specs.Pools.{Pools}
 use Rattle.am_block.specs.declared.Descriptor.{Descriptor}
-use Rattle.am_block.specs.declared.List.{List as Which}
-use Rattle.am_block.specs.declared.List.TheVariants.{Free}
 use Rattle.am_body.specs.declared.walks.Sought.{Sought}
 use Rattle.am_body.specs.declared.walks.Sought.TheVariants as Soughts
 use Rattle.am_body.specs.Views.{descriptor_at}
 
 abbrev pub is_sought : Sought → Descriptor → Bool
 is_sought Soughts.Request d = is_request d.message
-is_sought Soughts.Answer d = is_answer d.message
+is_sought Soughts.Reply d = is_answer d.message
 is_sought (Soughts.Of serial) d = has_serial serial d.message
 
 abbrev pub is_sought_at : Sought → Pools → ℕ → Bool
 is_sought_at sought p s = is_sought sought (descriptor_at p.descriptors s)
-
--- p with this slot of a list free, if there is one
-abbrev pub taken_out : Pools → Which → Option ℕ → Pools
-taken_out p from None = p
-taken_out p from (Some s) = moved p from s Free
 
 -- the descriptor, as answered where its message has this serial
 abbrev pub answered_by : Serial → Descriptor → Descriptor

@@ -1,10 +1,10 @@
-// What arrivals, runs and answers make of a body.
-ghost use Rattle.am_body.specs.Views.{Fits, on_host, slots_held};
-ghost use Rattle.am_model.specs.Changes.{answer_ran, noticed, put, request_ran, requeued_flight, returned_flight};
+// What arrivals, runs and returns make of a body.
+ghost use Rattle.am_body.specs.Replies.{reply_ran};
+ghost use Rattle.am_body.specs.Views.{on_host, slots_held};
+ghost use Rattle.am_model.specs.Changes.{noticed, put, request_ran};
 ghost use Rattle.std.specs.Prelude.{◌≡◌, ◌+◌, ◌<◌, ◌^◌};
 
 use crate::Body;
-use am_model::Flying;
 use am_names::{Message, Serial, Why};
 
 impl Body {
@@ -24,12 +24,11 @@ impl Body {
         }
     }
 
-    /// The first reply or empty reply that was received runs, by this handler, if by any.
-    pub fn run_answer(&mut self, message: &Message, handler: Option<u8>)
-        ensures { self.new ≡ record self.old { body = answer_ran message.now handler self.old.body } }
+    /// A reply or empty reply that was received runs, by this handler, if by any, and the record of its request goes.
+    pub fn run_reply(&mut self, message: &Message, handler: Option<u8>)
+        ensures { self.new ≡ record self.old { body = reply_ran message.now handler self.old.body } }
     {
         self.run(handler, message.words);
-        self.drop_answer();
         match message.about {
             None => {}
             Some(request) => self.settle(request),
@@ -55,29 +54,5 @@ impl Body {
     {
         self.add_notice(message, bounces, why);
         self.give_up(message.serial);
-    }
-
-    /// A message that was in flight, if there was one, goes back to its queue, having bounced so often.
-    pub fn requeue_flight(&mut self, flight: Option<Flying>, bounces: u8)
-        requires { Fits (requeued_flight flight bounces self.old.body) }
-        ensures { self.new ≡ record self.old { body = requeued_flight flight bounces self.old.body } }
-    {
-        match flight {
-            None => {}
-            Some(flight) => self.queue(flight.message, bounces),
-        }
-    }
-
-    /// A message that was in flight, if there was one, comes back, for this reason, and the waiting record of the
-    /// request with this serial, if there is one, goes.
-    pub fn return_flight(&mut self, serial: Serial, flight: Option<Flying>, why: Why)
-        requires { Fits (returned_flight serial flight why self.old.body) }
-        ensures { self.new ≡ record self.old { body = returned_flight serial flight why self.old.body } }
-    {
-        self.give_up(serial);
-        match flight {
-            None => {}
-            Some(flight) => self.add_notice(flight.message, flight.bounces, why),
-        }
     }
 }

@@ -1,17 +1,19 @@
 // Messages of its own that an endpoint has in flight.
 ghost use Rattle.am_block.specs.Pools.{without};
-ghost use Rattle.am_body.specs.Flights.{slot_of};
-ghost use Rattle.am_body.specs.Views.{flying_in, slots_held};
-ghost use Rattle.am_model.specs.Changes.{flying_of, without_flight, marked};
+ghost use Rattle.am_body.specs.Flights.{flight_noticed, front_aloft, slot_of};
+ghost use Rattle.am_body.specs.Views.{flying_in};
+ghost use Rattle.am_model.specs.Changes.{flying_of, marked, requeued_flight, returned_flight, without_flight};
+ghost use Rattle.am_model.specs.Endpoint.{front_of};
 ghost use Rattle.std.specs.Option.{option_map};
-ghost use Rattle.std.specs.Prelude.{◌≡◌, ◌↔◌, ◌<◌, [], ◌∷◌, ◌++◌, None, Some, false, length, map};
+ghost use Rattle.std.specs.Prelude.{◌≡◌, ◌↔◌, [], ◌∷◌, ◌++◌, IsSome, None, Some, length, map};
 
 use crate::Body;
-use crate::moves::file_free;
+use crate::moves::{Change, front_slot, refile};
+use crate::queues::queue_of;
 use crate::walks::{Sought, answer_flights, find};
 use am_block::{Descriptor, List, Slot};
 use am_model::Flying;
-use am_names::{Message, Serial, Why};
+use am_names::{Serial, Why};
 
 fn as_flying(descriptor: &Descriptor) -> Flying
     ensures { result ≡ flying_in descriptor.now }
@@ -49,33 +51,53 @@ impl Body {
         find(&self.block, List::InFlight, Sought::Of(serial))
     }
 
-    /// The message in flight with this serial, whose slot this is, is in flight no more, and its slot is free. Tells the
-    /// message, how often it bounced and whether its reply was put.
-    pub fn land(&mut self, serial: Serial, slot: Slot) -> Flying
-        requires { slot_of serial self.old.body.in_flight self.old.flights ≡ Some slot.0 }
-        ensures flying { Some result ≡ flying_of serial self.old.body.in_flight }
-        ensures landed { self.new ≡ record self.old { body = without_flight serial self.old.body; flights = without slot.0 self.old.flights } }
+    /// The front message, of which there is one, is in flight from now on, and has no reply yet. Tells its slot.
+    pub fn fly_front(&mut self) -> Slot
+        requires { IsSome (front_of self.old.body.replies self.old.body.requests) }
+        ensures { self.new ≡ record self.old { body = front_aloft self.old.body; flights = self.old.flights ++ result.0 ∷ [] } }
     {
-        let flying = as_flying(self.block.get(slot));
-        self.block.move_slot(slot, List::Free);
-        flying
-    }
-
-    /// A message that bounced so often is in flight from now on, and has no reply yet. Tells its slot.
-    pub fn add_flight(&mut self, message: &Message, bounces: u8) -> Slot
-        requires { slots_held self.old.body < 80 }
-        ensures { self.new ≡ record self.old { body = record self.old.body { in_flight = self.old.body.in_flight ++ record { message = message.now; bounces = bounces; answered = false } ∷ [] }; flights = self.old.flights ++ result.0 ∷ [] } }
-    {
-        match file_free(
-            &mut self.block,
-            List::InFlight,
-            message,
-            bounces,
-            Why::Unknown,
-        ) {
-            Some(slot) => slot,
+        match front_slot(&self.block) {
+            Some(slot) => {
+                refile(&mut self.block, slot, List::InFlight, Change::Flies);
+                slot
+            }
             None => unreachable!(),
         }
+    }
+
+    /// The message in flight with this serial, whose slot this is, was delivered: its slot is free from now on.
+    pub fn land(&mut self, serial: Serial, slot: Slot)
+        requires { slot_of serial self.old.body.in_flight self.old.flights ≡ Some slot.0 }
+        ensures { self.new ≡ record self.old { body = without_flight serial self.old.body; flights = without slot.0 self.old.flights } }
+    {
+        self.block.move_slot(slot, List::Free);
+    }
+
+    /// The message in flight with this serial, whose slot this is, goes back to the tail of its queue, having bounced so often.
+    pub fn requeue_flight(&mut self, serial: Serial, slot: Slot, bounces: u8)
+        requires { slot_of serial self.old.body.in_flight self.old.flights ≡ Some slot.0 }
+        ensures { self.new ≡ record self.old { body = requeued_flight (flying_of serial self.old.body.in_flight) bounces (without_flight serial self.old.body); flights = without slot.0 self.old.flights } }
+    {
+        let queue = queue_of(&self.block.get(slot).message);
+        refile(&mut self.block, slot, queue, Change::Bounced(bounces));
+    }
+
+    /// The message in flight with this serial, whose slot this is, is a notice from now on, for this reason.
+    fn notice_flight(&mut self, serial: Serial, slot: Slot, why: Why)
+        requires { slot_of serial self.old.body.in_flight self.old.flights ≡ Some slot.0 }
+        ensures { self.new ≡ record self.old { body = flight_noticed serial why self.old.body; flights = without slot.0 self.old.flights } }
+    {
+        refile(&mut self.block, slot, List::Notices, Change::Back(why));
+    }
+
+    /// The message in flight with this serial, whose slot this is, comes back, for this reason, and its waiting record, if there is
+    /// one, goes.
+    pub fn return_flight(&mut self, serial: Serial, slot: Slot, why: Why)
+        requires { slot_of serial self.old.body.in_flight self.old.flights ≡ Some slot.0 }
+        ensures { self.new ≡ record self.old { body = returned_flight serial (flying_of serial self.old.body.in_flight) why (without_flight serial self.old.body); flights = without slot.0 self.old.flights } }
+    {
+        self.give_up(serial);
+        self.notice_flight(serial, slot, why);
     }
 
     /// The request is answered, where it is in flight.

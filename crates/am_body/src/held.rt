@@ -38,8 +38,8 @@ impl Body {
         ensures { result ≡ replies_held self.now.body }
     {
         let queued = self.block.len(List::Replies);
-        let flying = count(&self.block, List::InFlight, Sought::Answer);
-        let back = count(&self.block, List::Notices, Sought::Answer);
+        let flying = count(&self.block, List::InFlight, Sought::Reply);
+        let back = count(&self.block, List::Notices, Sought::Reply);
         queued + flying + back
     }
 

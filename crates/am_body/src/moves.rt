@@ -1,29 +1,20 @@
 // Slots of a block that go from list to list.
-ghost use Rattle.am_block.specs.Pools.{IsBlock, size, slots};
-ghost use Rattle.am_body.specs.Moves.{filed};
-ghost use Rattle.am_body.specs.Moves.{first_of, freed};
+ghost use Rattle.am_block.specs.Pools.{IsBlock, home, size, slots};
+ghost use Rattle.am_body.specs.Moves.{changed, filed, first_of, first_slot, freed, refiled};
 ghost use Rattle.std.specs.Option.{option_map};
-ghost use Rattle.std.specs.Prelude.{◌≡◌, [], ◌∷◌, MatchOption, drop, false};
+ghost use Rattle.std.specs.Prelude.{◌≡◌, ◌<◌, IfSome, false};
 
 use am_block::{Block, Descriptor, List, Slot};
 use am_names::{Message, Why};
 
-/// The first free slot, if there is one, takes a message for a list, with its bounces and why it came back. Tells which
-/// slot it is.
-pub(crate) fn file_free(
-    block: &mut Block,
-    to: List,
-    message: &Message,
-    used: u8,
-    why: Why,
-) -> Option<Slot>
-    ensures slot { MatchOption result (slots block.old List.Free ≡ []) (λ s. slots block.old List.Free ≡ s.0 ∷ drop 1 (slots block.old List.Free)) }
+/// The first free slot, if there is one, takes a message for a list, with its bounces and why it came back.
+pub(crate) fn file_free(block: &mut Block, to: List, message: &Message, used: u8, why: Why)
     ensures filed { block.new ≡ filed block.old (slots block.old List.Free) to (record { message = message.now; used = used; answered = false; why = why }) }
     ensures block { IsBlock block.new }
     ensures size { size block.new ≡ size block.old }
 {
     match block.move_front(List::Free, to) {
-        None => None,
+        None => {}
         Some(slot) => {
             *block.get_mut(slot) = Descriptor {
                 message: *message,
@@ -31,9 +22,40 @@ pub(crate) fn file_free(
                 answered: false,
                 why,
             };
-            Some(slot)
         }
     }
+}
+
+/// What becomes of a message that goes from list to list.
+#[derive(Clone, Copy)]
+pub(crate) enum Change {
+    /// It is in flight, and has no reply yet.
+    Flies,
+    /// It is to be sent again, having bounced so often.
+    Bounced(u8),
+    /// It came back, for this reason.
+    Back(Why),
+}
+
+fn put_change(descriptor: &mut Descriptor, becomes: Change)
+    ensures { descriptor.new ≡ changed becomes descriptor.old }
+{
+    match becomes {
+        Change::Flies => descriptor.answered = false,
+        Change::Bounced(used) => descriptor.used = used,
+        Change::Back(why) => descriptor.why = why,
+    }
+}
+
+/// A slot goes with its message from its list to the tail of another, or of the same.
+pub(crate) fn refile(block: &mut Block, slot: Slot, to: List, becomes: Change)
+    requires { slot.0 < size block.old }
+    ensures refiled { block.new ≡ refiled block.old (home block.old slot.0) slot.0 to becomes }
+    ensures block { IsBlock block.new }
+    ensures size { size block.new ≡ size block.old }
+{
+    block.move_slot(slot, to);
+    put_change(block.get_mut(slot), becomes);
 }
 
 /// The first slot of a list, if it has one, is free from now on.
@@ -43,6 +65,17 @@ pub(crate) fn free_front(block: &mut Block, from: List)
     ensures size { size block.new ≡ size block.old }
 {
     block.move_front(from, List::Free);
+}
+
+/// The slot of the front message, if there is one: the first of the replies, and where there is none the first of the requests.
+pub(crate) fn front_slot(block: &Block) -> Option<Slot>
+    ensures slot { option_map (λ s. s.0) result ≡ first_slot block.now.replies block.now.requests }
+    ensures below { IfSome result (λ s. s.0 < size block.now) }
+{
+    match block.front(List::Replies) {
+        Some(slot) => Some(slot),
+        None => block.front(List::Requests),
+    }
 }
 
 /// The descriptor of the first slot of a list, if it has one.

@@ -25,9 +25,9 @@ impl Body {
                 why: notice.why,
             };
         }
-        if let Some(message) = self.first_answer() {
+        if let Some(message) = self.take_reply() {
             let handler = self.handler_run(&message);
-            self.run_answer(&message, handler);
+            self.run_reply(&message, handler);
             return Outcome::Ran {
                 message,
                 handler,

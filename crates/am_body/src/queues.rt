@@ -1,11 +1,11 @@
 // Messages of its own that an endpoint has to send.
-ghost use Rattle.am_body.specs.Views.{slots_held};
-ghost use Rattle.am_body.specs.Views.{queued_in};
+ghost use Rattle.am_block.specs.declared.List.TheVariants as Which;
+ghost use Rattle.am_body.specs.Views.{queued_in, slots_held};
 ghost use Rattle.am_model.specs.Changes.{bounces_of, queued, without_front};
 ghost use Rattle.am_model.specs.Endpoint.{front_of};
 ghost use Rattle.am_names.specs.Names.{is_request};
 ghost use Rattle.std.specs.Option.{option_map};
-ghost use Rattle.std.specs.Prelude.{◌≡◌, ◌↔◌, ◌<◌, [], None};
+ghost use Rattle.std.specs.Prelude.{◌≡◌, ◌↔◌, ◌<◌, [], None, cond};
 
 use crate::Body;
 use crate::moves::{file_free, free_front, front_descriptor};
@@ -20,6 +20,17 @@ pub fn is_request(message: &Message) -> bool
     match message.kind {
         MsgKind::Request => true,
         MsgKind::Reply | MsgKind::Empty => false,
+    }
+}
+
+/// The list of the messages to be sent where this one goes.
+pub(crate) fn queue_of(message: &Message) -> List
+    ensures { result ≡ cond (is_request message.now) Which.Requests Which.Replies }
+{
+    if is_request(message) {
+        List::Requests
+    } else {
+        List::Replies
     }
 }
 
@@ -113,22 +124,7 @@ impl Body {
         requires { slots_held self.old.body < 80 }
         ensures { self.new ≡ record self.old { body = queued message.now bounces self.old.body } }
     {
-        if is_request(message) {
-            file_free(
-                &mut self.block,
-                List::Requests,
-                message,
-                bounces,
-                Why::Unknown,
-            );
-        } else {
-            file_free(
-                &mut self.block,
-                List::Replies,
-                message,
-                bounces,
-                Why::Unknown,
-            );
-        }
+        let list = queue_of(message);
+        file_free(&mut self.block, list, message, bounces, Why::Unknown);
     }
 }

@@ -2,11 +2,11 @@
 ghost use Rattle.am_body.specs.Views.{slots_held};
 ghost use Rattle.am_model.specs.Choice.{without_first};
 ghost use Rattle.am_names.specs.Names.{is_answer, is_request};
-ghost use Rattle.std.specs.Prelude.{◌≡◌, ◌<◌, [], ◌∷◌, ◌++◌, count_by, drop, find, length, slice_get};
+ghost use Rattle.std.specs.Prelude.{◌≡◌, ◌<◌, [], ◌∷◌, ◌++◌, MatchOption, count_by, drop, find, length, slice_get};
 
 use crate::Body;
 use crate::moves::{file_free, free_front, front_descriptor};
-use crate::walks::{Sought, count, find, free_found};
+use crate::walks::{Sought, count, find};
 use am_block::List;
 use am_names::{Message, Why};
 
@@ -35,16 +35,6 @@ impl Body {
         }
     }
 
-    /// The first reply or empty reply that was received.
-    pub fn first_answer(&self) -> Option<Message>
-        ensures { result ≡ find is_answer self.now.body.received }
-    {
-        match find(&self.block, List::Received, Sought::Answer) {
-            Some(slot) => Some(self.block.get(slot).message),
-            None => None,
-        }
-    }
-
     /// The front of the received messages goes.
     pub fn drop_received(&mut self)
         ensures { self.new ≡ record self.old { body = record self.old.body { received = drop 1 self.old.body.received } } }
@@ -52,11 +42,19 @@ impl Body {
         free_front(&mut self.block, List::Received);
     }
 
-    /// The first reply or empty reply that was received goes.
-    pub fn drop_answer(&mut self)
-        ensures { self.new ≡ record self.old { body = record self.old.body { received = without_first is_answer self.old.body.received } } }
+    /// The first reply or empty reply that was received, if there is one, goes. Tells the message.
+    pub fn take_reply(&mut self) -> Option<Message>
+        ensures reply { result ≡ find is_answer self.old.body.received }
+        ensures taken { MatchOption result (self.new ≡ self.old) (λ m. self.new ≡ record self.old { body = record self.old.body { received = without_first is_answer self.old.body.received } }) }
     {
-        free_found(&mut self.block, List::Received, Sought::Answer);
+        match find(&self.block, List::Received, Sought::Reply) {
+            Some(slot) => {
+                let message = self.block.get(slot).message;
+                self.block.move_slot(slot, List::Free);
+                Some(message)
+            }
+            None => None,
+        }
     }
 
     /// A message arrives. Records and messages in flight stay as they are.

@@ -3,7 +3,7 @@ ghost use Rattle.am_body.specs.Refusals.{of_credit};
 ghost use Rattle.am_body.specs.Views.{on_host, table_of};
 ghost use Rattle.am_model.specs.Calls.{new_request, new_serial, request_refusal};
 ghost use Rattle.am_model.specs.Changes.{request_accepted};
-ghost use Rattle.am_model.specs.Endpoint.{IsWithinBounds, entry_at};
+ghost use Rattle.am_model.specs.Endpoint.{IsWithinBounds, entry_at, requests_held};
 ghost use Rattle.am_office.specs.declared.Outcome.TheVariants as Out;
 ghost use Rattle.am_translate.specs.Tables.{credit_fault, is_known, target_at};
 ghost use Rattle.std.specs.Prelude.{◌≡◌, ◌+◌, ◌<◌, ◌^◌, [], ◌∷◌, ◌++◌, IfOk, None, OnErr, OnOk, Some, false};
@@ -37,34 +37,34 @@ impl Body {
         }
     }
 
-    /// Why no request can be made by an index: the first that holds of `OwnTagNone`, `BadIndex`, `NotMapped`, `NoCredit`,
-    /// `TableFull` and `SendFull`.
-    pub fn request_refusal(&self, index: u8) -> Option<Refusal>
-        ensures { result ≡ request_refusal self.now.pool (on_host self.now.body) index }
+    /// Where a request by an index goes. The refusal is the first that holds of `OwnTagNone`, `BadIndex`, `NotMapped`, `NoCredit`,
+    /// `TableFull` and `SendFull`; where there is none the index has a credit, and a request slot is free.
+    fn request_target(&self, index: u8) -> Result<Target, Refusal>
+        ensures refusal { result_err result ≡ request_refusal self.now.pool (on_host self.now.body) index }
+        ensures target { IfOk result (λ target. target_at (table_of self.now) index ≡ Some target) }
+        ensures credit { OnOk result (credit_fault (table_of self.now) index ≡ None) }
+        ensures spare { OnOk result (requests_held self.now.body < 16) }
     {
         if self.is_tagless() {
-            return Some(Refusal::OwnTagNone);
+            return Err(Refusal::OwnTagNone);
         }
         match self.translate.can_take(index) {
-            Err(fault) => Some(of_credit(fault)),
-            Ok(_) => if self.requests_held() >= 16 {
-                Some(Refusal::SendFull)
+            Err(fault) => Err(of_credit(fault)),
+            Ok(target) => if self.requests_held() >= 16 {
+                Err(Refusal::SendFull)
             } else {
-                None
+                Ok(target)
             },
         }
     }
 
-    /// Takes a credit of an index for a request that has no record yet: its record waits from now on. Tells where the
-    /// request goes. After a fault the body is as it was.
-    pub fn take_credit(&mut self, index: u8, request: Serial) -> Result<Target, CreditFault>
-        requires { is_known (table_of self.old) request ≡ false }
-        ensures fault { result_err result ≡ credit_fault (table_of self.old) index }
-        ensures target { IfOk result (λ target. target_at (table_of self.old) index ≡ Some target) }
-        ensures ok { OnOk result (self.new ≡ record self.old { body = record self.old.body { awaited = self.old.body.awaited ++ record { index = index; serial = request; arrived = false } ∷ [] } }) }
-        ensures err { OnErr result (self.new ≡ self.old) }
+    /// A request by an index that has a credit gets a record, which waits.
+    fn take_credit(&mut self, index: u8, request: Serial)
+        requires credit { credit_fault (table_of self.old) index ≡ None }
+        requires unknown { is_known (table_of self.old) request ≡ false }
+        ensures { self.new ≡ record self.old { body = record self.old.body { awaited = self.old.body.awaited ++ record { index = index; serial = request; arrived = false } ∷ [] } } }
     {
-        self.translate.take_credit(index, request)
+        self.translate.take(index, request);
     }
 
     /// One more message is accepted.
@@ -75,8 +75,8 @@ impl Body {
         self.accepted += 1;
     }
 
-    /// Makes a request by an index, from the endpoint `e`, whose body this is. The refusal is that of `request_refusal`;
-    /// then the body is as it was.
+    /// Makes a request by an index, from the endpoint `e`, whose body this is. The refusal is the first that holds of
+    /// `OwnTagNone`, `BadIndex`, `NotMapped`, `NoCredit`, `TableFull` and `SendFull`; then the body is as it was.
     pub fn request(
         &mut self,
         e: EndpointId,
@@ -92,25 +92,20 @@ impl Body {
         ensures ok { IfOk result (λ m. self.new ≡ record self.old { body = (request_accepted index m (on_host self.old.body)).body }) }
         ensures err { OnErr result (self.new ≡ self.old) }
     {
-        match self.request_refusal(index) {
-            Some(refusal) => return Err(refusal),
-            None => {}
-        }
-        let serial = self.new_serial(e);
-        let reply_tag = self.tag;
-        match self.take_credit(index, serial) {
-            Err(fault) => Err(of_credit(fault)),
+        match self.request_target(index) {
+            Err(refusal) => Err(refusal),
             Ok(target) => {
                 let message = Message {
-                    serial,
+                    serial: self.new_serial(e),
                     kind: MsgKind::Request,
                     dest: target.name,
                     tag: target.tag,
-                    reply_tag,
+                    reply_tag: self.tag,
                     handler,
                     words,
                     about: None,
                 };
+                self.take_credit(index, message.serial);
                 self.accept_next();
                 self.queue_copy(&message, 0);
                 Ok(message)

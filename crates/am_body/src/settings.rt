@@ -3,7 +3,7 @@ use am_names::{EndpointId, NodeId, Tag};
 use am_office::Place;
 
 /// What an endpoint begins with: whose it is, its tag and its place, and its limits.
-#[derive(Clone, Copy, PartialEq, Eq, Debug)]
+#[derive(Clone, Copy, PartialEq, Eq)]
 pub struct EndSettings {
     pub id: EndpointId,
     pub node: NodeId,

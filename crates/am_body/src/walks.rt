@@ -1,6 +1,6 @@
 // Walks along a list of a block.
 ghost use Rattle.am_block.specs.Pools.{IsBlock, size, slots};
-ghost use Rattle.am_body.specs.Walks.{answered_at, answered_by, is_sought, is_sought_at, taken_out};
+ghost use Rattle.am_body.specs.Walks.{answered_at, answered_by, is_sought, is_sought_at};
 ghost use Rattle.am_names.specs.Names.{has_serial};
 ghost use Rattle.std.specs.List.{find};
 ghost use Rattle.std.specs.Option.{option_map};
@@ -14,7 +14,7 @@ use am_names::{Message, Serial};
 #[derive(Clone, Copy)]
 pub(crate) enum Sought {
     Request,
-    Answer,
+    Reply,
     Of(Serial),
 }
 
@@ -29,7 +29,7 @@ fn is_sought(sought: Sought, descriptor: &Descriptor) -> bool
 {
     match sought {
         Sought::Request => is_request(&descriptor.message),
-        Sought::Answer => !is_request(&descriptor.message),
+        Sought::Reply => !is_request(&descriptor.message),
         Sought::Of(serial) => has_serial(serial, &descriptor.message),
     }
 }
@@ -69,18 +69,6 @@ pub(crate) fn count(block: &Block, list: List, sought: Sought) -> u8
         next = block.after(slot);
     }
     total
-}
-
-/// The first slot of a list with what is sought, if there is one, is free from now on.
-pub(crate) fn free_found(block: &mut Block, from: List, sought: Sought)
-    ensures freed { block.new ≡ taken_out block.old from (find (λ s. is_sought_at sought block.old s) (slots block.old from)) }
-    ensures block { IsBlock block.new }
-    ensures size { size block.new ≡ size block.old }
-{
-    match find(block, from, sought) {
-        None => {}
-        Some(slot) => block.move_slot(slot, List::Free),
-    }
 }
 
 /// The descriptor, as answered where its message has this serial.

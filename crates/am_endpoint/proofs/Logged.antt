@@ -1,7 +1,7 @@
 -- An endpoint whose log and state grow by one entry.
-use Rattle.std.specs.Prelude.{Vec}
+use Rattle.std.specs.Prelude.{IsSome, Vec}
 use Rattle.std.specs.declared.alloc.Global.{Global}
-use Rattle.std.proofs.Common.{◌≡◌, ℕ, Bool, true, ◌<◌, [], ◌∷◌, ◌++◌, length, Option, sym, ap, ◌∙◌, subst, arith}
+use Rattle.std.proofs.Common.{◌≡◌, ℕ, Bool, true, false, ◌<◌, List, [], ◌∷◌, ◌++◌, length, Option, Some, refl, sym, ap, ◌∙◌, subst, arith}
 use Rattle.std.proofs.lemmas.List.{length_push}
 use Rattle.am_office.specs.declared.Call.{Call}
 use Rattle.am_office.specs.declared.Entry.{Entry}
@@ -11,21 +11,23 @@ use Rattle.am_office.specs.declared.Outcome.TheVariants as Out
 use Rattle.am_office.specs.declared.Place.TheVariants.{Host}
 use Rattle.am_names.specs.declared.EndpointId.{EndpointId}
 use Rattle.am_names.specs.declared.NodeId.{NodeId}
+use Rattle.am_model.specs.declared.Flying.{Flying}
 use Rattle.am_model.specs.declared.Head.{Head}
-use Rattle.am_names.specs.declared.Message.{Message}
+use Rattle.am_model.specs.declared.Queued.{Queued}
 use Rattle.am_names.specs.declared.Serial.{Serial}
+use Rattle.am_body.specs.Flights.{aloft, front_aloft}
 use Rattle.am_body.specs.Views.{Fits, View}
 use Rattle.am_body.proofs.Slots.{fits_within}
-use Rattle.am_model.specs.Endpoint.{State, fresh, is_on_disk}
-use Rattle.am_model.specs.Allowed.{are_numbers_in_range}
+use Rattle.am_model.specs.Endpoint.{State, fresh, front_of, is_on_disk}
+use Rattle.am_model.specs.Allowed.{MayBind, are_numbers_in_range}
 use Rattle.am_model.specs.Calls.{outcome_of_call}
-use Rattle.am_model.specs.Changes.{after, called, changed, paged_in, paged_out, with_body}
+use Rattle.am_model.specs.Changes.{after, bounces_of, called, changed, paged_in, paged_out, with_body, without_front}
 use Rattle.am_model.specs.Order.{IsInOrder, KeepsOrder}
 use Rattle.am_model.proofs.Each.{replay_push}
 use Rattle.am_model.proofs.Order.{order_called}
 use Rattle.am_model.proofs.Sound.{accepted_after}
 use Rattle.am_endpoint.specs.Events.{keeps_in_memory}
-use Rattle.am_endpoint.specs.Flights.{IsSlotOf, front_flown}
+use Rattle.am_endpoint.specs.Flights.{IsSlotOf}
 use Rattle.am_endpoint.specs.Held.{IsHeldOf, IsHere, flights_of, held_wanted, with_wanted}
 use Rattle.am_endpoint.specs.Kept.{IsReplay, replayed, view_of}
 use Rattle.am_endpoint.specs.Seen.{state_in}
@@ -63,8 +65,31 @@ here_after i f g x keeps here changed pool =
     }
 
 -- a bind sets the front message in flight
-pub bound_so : (e : EndpointId) (s : State) (x : Entry) (node : NodeId) (end : EndpointId) (m : Message) (peer : NodeId) (channel seq attempt number : ℕ) → x.event ≡ Events.Bind node end → x.outcome ≡ Out.Sent m peer channel seq attempt number → after e s x ≡ with_body s (front_flown m s.body)
-bound_so e s x node end m peer channel seq attempt number event outcome = λ k. changed e s (event k) (outcome k)
+
+bounces_front : (replies requests : List Queued) (q : Queued) → front_of replies requests ≡ Some q → bounces_of replies requests ≡ q.bounces
+bounces_front [] [] q is = absurd (cc)
+bounces_front [] (x ∷ requests) q is = let same : x ≡ q = cc in ap (λ (y : Queued). y.bounces) same
+bounces_front (x ∷ replies) requests q is = let same : x ≡ q = cc in ap (λ (y : Queued). y.bounces) same
+
+bound_so : (node : NodeId) (end e : EndpointId) (s : State) (x : Entry) → MayBind node end s x → after e s x ≡ with_body s (front_aloft s.body)
+bound_so node end e s x may =
+    let flown : List Flying → State = λ fs. with_body s (record (without_front s.body) { in_flight = s.body.in_flight ++ fs }) in
+    (λ k. changed e s (may.event k) (may.outcome k))
+    ∙ ap (λ (n : ℕ). flown (record { message = may.queued.message; bounces = n; answered = false } ∷ [])) (bounces_front s.body.replies s.body.requests may.queued may.is_front)
+    ∙ ap (λ (f : Option Queued). flown (aloft f)) (sym may.is_front)
+
+-- an entry that binds the front message, by what is held
+pub record IsBound (i : Inside) (f : Fields) (x : Entry) : Type 0 where
+  pub some : IsSome (front_of f.body.body.replies f.body.body.requests)
+  pub change : after i.settings.id (state_in f) x ≡ with_body (state_in f) (front_aloft f.body.body)
+
+pub bound_here : (i : Inside) (v : EndpointView) (f : Fields) (x : Entry) → view_of i ≡ v → IsHere i.settings.pool (replayed i) f → MayBind v.settings.node v.settings.id (state_after v) x → IsBound i f x
+bound_here i v f x e here may =
+    let is : MayBind v.settings.node v.settings.id (state_in f) x = subst (λ (s : State). MayBind v.settings.node v.settings.id s x) (sym (here.state ∙ ap state_after e)) may in
+    record {
+      some = subst (λ (q : Option Queued). IsSome q) (sym is.is_front) refl;
+      change = bound_so v.settings.node v.settings.id i.settings.id (state_in f) x is;
+    }
 
 -- a body after an entry that keeps the order fits its slots
 pub fits_next : (i : Inside) (f : Fields) (x : Entry) → IsHere i.settings.pool (replayed i) f → IsInOrder i.settings.pool i.settings.id (after i.settings.id (replayed i) x) → Fits (after i.settings.id (state_in f) x).body

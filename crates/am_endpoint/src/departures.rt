@@ -1,10 +1,11 @@
 // What it makes of the state of an endpoint that its front message leaves.
+ghost use Rattle.am_body.specs.Flights.{front_aloft};
 ghost use Rattle.am_body.specs.Views.{Fits};
 ghost use Rattle.am_endpoint.specs.Seen.{state_in};
-ghost use Rattle.am_endpoint.specs.Flights.{front_flown};
 ghost use Rattle.am_model.specs.Changes.{bounces_of, carried, left, noticed, put, queued, reached, with_body, without_front};
+ghost use Rattle.am_model.specs.Endpoint.{front_of};
 ghost use Rattle.am_names.specs.Names.{same_end};
-ghost use Rattle.std.specs.Prelude.{◌≡◌, ◌++◌, ◌∷◌, [], cond};
+ghost use Rattle.std.specs.Prelude.{◌≡◌, ◌++◌, ◌∷◌, [], IsSome, cond};
 
 use crate::fields::Fields;
 use am_block::Slot;
@@ -52,16 +53,14 @@ impl Fields {
         self.body.come_back(message, bounces, why);
     }
 
-    /// The front message is in flight. Tells its slot.
-    pub fn fly_front(&mut self, message: &Message) -> Slot
-        requires { Fits (front_flown message.now self.old.body.body) }
-        ensures state { state_in self.new ≡ with_body (state_in self.old) (front_flown message.now self.old.body.body) }
+    /// The front message, of which there is one, is in flight. Tells its slot.
+    pub fn fly_front(&mut self) -> Slot
+        requires { IsSome (front_of self.old.body.body.replies self.old.body.body.requests) }
+        ensures state { state_in self.new ≡ with_body (state_in self.old) (front_aloft self.old.body.body) }
         ensures pool { self.new.body.pool ≡ self.old.body.pool }
         ensures flights { self.new.body.flights ≡ self.old.body.flights ++ result.0 ∷ [] }
     {
-        let bounces = self.front_bounces();
-        self.body.drop_front();
-        self.body.add_flight(message, bounces)
+        self.body.fly_front()
     }
 
     /// The source after a carry with this outcome.

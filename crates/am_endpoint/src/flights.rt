@@ -1,58 +1,30 @@
 // What becomes of the messages that an endpoint has in flight.
 ghost use Rattle.am_block.specs.Pools.{without};
-ghost use Rattle.am_body.specs.Flights.{slot_of};
-ghost use Rattle.am_body.specs.Views.{Fits};
 ghost use Rattle.am_endpoint.specs.Flights.{IsSlotOf};
-ghost use Rattle.am_model.specs.Changes.{given_up_by, settled_by, settled_in};
 ghost use Rattle.am_endpoint.specs.Seen.{state_in};
-ghost use Rattle.am_model.specs.Changes.{after, expired, received, requeued_flight, returned_flight, flying_of, without_flight, with_body};
-ghost use Rattle.std.specs.Prelude.{◌≡◌, Some};
+ghost use Rattle.am_model.specs.Changes.{after, expired, given_up_by, received, settled_by, settled_in};
+ghost use Rattle.std.specs.Prelude.{◌≡◌};
 
 use crate::fields::Fields;
 use am_block::Slot;
-use am_names::{EndpointId, Serial, Why};
+use am_names::{EndpointId, Why};
 use am_office::{Entry, Event, Outcome, Received};
 
 impl Fields {
-    /// A message in flight comes back, for this reason.
-    fn return_flight(&mut self, serial: Serial, slot: Slot, why: Why)
-        requires slot { slot_of serial self.old.body.body.in_flight self.old.body.flights ≡ Some slot.0 }
-        requires fits { Fits (returned_flight serial (flying_of serial self.old.body.body.in_flight) why (without_flight serial self.old.body.body)) }
-        ensures state { state_in self.new ≡ with_body (state_in self.old) (returned_flight serial (flying_of serial self.old.body.body.in_flight) why (without_flight serial self.old.body.body)) }
-        ensures pool { self.new.body.pool ≡ self.old.body.pool }
-        ensures flights { self.new.body.flights ≡ without slot.0 self.old.body.flights }
-    {
-        let flight = self.body.land(serial, slot);
-        self.body.return_flight(serial, Some(flight), why);
-    }
-
-    /// A message in flight goes back to its queue, having bounced so often.
-    fn requeue_flight(&mut self, serial: Serial, slot: Slot, bounces: u8)
-        requires slot { slot_of serial self.old.body.body.in_flight self.old.body.flights ≡ Some slot.0 }
-        requires fits { Fits (requeued_flight (flying_of serial self.old.body.body.in_flight) bounces (without_flight serial self.old.body.body)) }
-        ensures state { state_in self.new ≡ with_body (state_in self.old) (requeued_flight (flying_of serial self.old.body.body.in_flight) bounces (without_flight serial self.old.body.body)) }
-        ensures pool { self.new.body.pool ≡ self.old.body.pool }
-        ensures flights { self.new.body.flights ≡ without slot.0 self.old.body.flights }
-    {
-        let flight = self.body.land(serial, slot);
-        self.body.requeue_flight(Some(flight), bounces);
-    }
-
     /// After a receipt with this result, which settles the message in flight at this slot.
     fn settle_answered(&mut self, e: EndpointId, what: &Received, slot: Slot)
         requires slot { IsSlotOf (settled_by what.now) self.old.body.body.in_flight self.old.body.flights slot.0 }
-        requires fits { Fits (received e (state_in self.old) what.now).body }
         ensures state { state_in self.new ≡ received e (state_in self.old) what.now }
         ensures pool { self.new.body.pool ≡ self.old.body.pool }
         ensures flights { self.new.body.flights ≡ without slot.0 self.old.body.flights }
     {
         match *what {
-            Received::Delivered(serial) => {
-                self.body.land(serial, slot);
+            Received::Delivered(serial) => self.body.land(serial, slot),
+            Received::Requeued { serial, used, .. } => {
+                self.body.requeue_flight(serial, slot, used)
             }
-            Received::Requeued { serial, used, .. } => self.requeue_flight(serial, slot, used),
             Received::Returned { serial, cause } => {
-                self.return_flight(serial, slot, Why::Refused(cause))
+                self.body.return_flight(serial, slot, Why::Refused(cause))
             }
             _ => unreachable!(),
         }
@@ -61,16 +33,13 @@ impl Fields {
     /// After a time-out with this outcome, which gives up the message in flight at this slot.
     fn expire(&mut self, outcome: &Outcome, slot: Slot)
         requires slot { IsSlotOf (given_up_by outcome.now) self.old.body.body.in_flight self.old.body.flights slot.0 }
-        requires fits { Fits (expired (state_in self.old) outcome.now).body }
         ensures state { state_in self.new ≡ expired (state_in self.old) outcome.now }
         ensures pool { self.new.body.pool ≡ self.old.body.pool }
         ensures flights { self.new.body.flights ≡ without slot.0 self.old.body.flights }
     {
         match *outcome {
-            Outcome::Delivered(serial) => {
-                self.body.land(serial, slot);
-            }
-            Outcome::Unknown(serial) => self.return_flight(serial, slot, Why::Unknown),
+            Outcome::Delivered(serial) => self.body.land(serial, slot),
+            Outcome::Unknown(serial) => self.body.return_flight(serial, slot, Why::Unknown),
             _ => unreachable!(),
         }
     }
@@ -78,7 +47,6 @@ impl Fields {
     /// After an entry that settles the message in flight at this slot, or gives it up.
     pub fn settle(&mut self, e: EndpointId, entry: &Entry, slot: Slot)
         requires slot { IsSlotOf (settled_in entry.now.event entry.now.outcome) self.old.body.body.in_flight self.old.body.flights slot.0 }
-        requires fits { Fits (after e (state_in self.old) entry.now).body }
         ensures state { state_in self.new ≡ after e (state_in self.old) entry.now }
         ensures pool { self.new.body.pool ≡ self.old.body.pool }
         ensures flights { self.new.body.flights ≡ without slot.0 self.old.body.flights }

@@ -19,7 +19,7 @@ ghost use Rattle.am_model.specs.Endpoint.{front, is_on_disk, verdict};
 ghost use Rattle.am_model.specs.Order.{IsInOrder, KeepsOrder};
 ghost use Rattle.am_names.specs.Names.{is_request};
 ghost use Rattle.std.specs.Option.{option_map};
-ghost use Rattle.std.specs.Prelude.{◌≡◌, ◌||◌, ◌==◌, not, ◌+◌, ◌<◌, ◌≤◌, ◌^◌, [], ◌∷◌, ◌++◌, length, count_by, IfOk, OnErr, OnOk, IfSome, MatchOption, Err, None, is_some, max, true, false, ◌↔◌};
+ghost use Rattle.std.specs.Prelude.{◌≡◌, ◌||◌, ◌==◌, not, ◌+◌, ◌<◌, ◌≤◌, ◌^◌, [], ◌∷◌, ◌++◌, length, count_by, IfOk, IsTrue, OnErr, OnOk, IfSome, MatchOption, Err, None, is_some, max, true, false, ◌↔◌};
 
 mod arrivals;
 mod calls;
@@ -311,18 +311,28 @@ impl Endpoint {
 }
 
 impl Endpoint {
+    /// Whether its log has as many entries as it may.
+    pub fn is_full(&self) -> bool
+        ensures full { IsTrue result ↔ (length self.now.log ≡ self.now.settings.log) }
+        ensures bounded { length self.now.log ≤ self.now.settings.log }
+    {
+        self.log.len() >= self.settings.log as usize
+    }
+
     /// Makes room for one more entry, so that the next logged change takes no memory. `LogFull` comes exactly where the log
-    /// has as many entries as its limit, and `NoMemory` where there is none for one more entry.
-    /// Whether it succeeds or not, the endpoint is as it was.
+    /// has as many entries as its limit, and `NoMemory` only where it has fewer and there is none for one more entry.
+    /// Whether it succeeds or not, the endpoint is as it was; where it doesn't, room that was there stays.
     pub fn room(&mut self) -> Result<(), EndFault>
         ensures ok { OnOk result (self.new.ready ≡ true) }
         ensures spare { OnOk result (length self.new.log < self.new.settings.log) }
         ensures full { (result ≡ Err EndFault.LogFull) ↔ (length self.old.log ≡ self.old.settings.log) }
+        ensures starved { (result ≡ Err EndFault.NoMemory) → (length self.old.log < self.old.settings.log) }
         ensures settings { self.new.settings ≡ self.old.settings }
         ensures log { self.new.log ≡ self.old.log }
         ensures flights { self.new.flights ≡ self.old.flights }
+        ensures kept { OnErr result (self.new.ready ≡ self.old.ready) }
     {
-        if self.log.len() >= self.settings.log as usize {
+        if self.is_full() {
             return Err(EndFault::LogFull);
         }
         match self.log.reserve(growth(&self.log)) {
@@ -409,8 +419,8 @@ impl Endpoint {
     /// `floor` is the greatest stamp that the caller knows of, 0 where it knows none: the entry's stamp is one more than the
     /// greater of it and the stamp of the endpoint's last entry.
     ///
-    /// `LogFull` comes exactly where the log has as many entries as its limit, and `NoMemory` where there is none for one
-    /// more entry. Then the endpoint is as it was.
+    /// `LogFull` comes exactly where the log has as many entries as its limit, and `NoMemory` only where it has fewer and there is
+    /// none for one more entry. Then the endpoint is as it was, and keeps room that it had.
     pub fn call(&mut self, floor: u64, actor: Actor, call: Call) -> Result<Entry, EndFault>
         requires place { is_on_disk (state_after self.old).head.place ≡ false }
         requires numbers { are_numbers_in_range self.old.settings.pool call ≡ true }
@@ -423,7 +433,9 @@ impl Endpoint {
         ensures settings { self.new.settings ≡ self.old.settings }
         ensures flights { self.new.flights ≡ self.old.flights }
         ensures full { (result ≡ Err EndFault.LogFull) ↔ (length self.old.log ≡ self.old.settings.log) }
+        ensures starved { (result ≡ Err EndFault.NoMemory) → (length self.old.log < self.old.settings.log) }
         ensures err { OnErr result (self.new.log ≡ self.old.log) }
+        ensures kept { OnErr result (self.new.ready ≡ self.old.ready) }
     {
         self.room()?;
         Ok(self.make(self.next_stamp(floor), actor, call))
@@ -474,8 +486,8 @@ impl Endpoint {
     /// `floor` is the greatest stamp that the caller knows of, 0 where it knows none: the entry's stamp is one more than the
     /// greater of it and the stamp of the endpoint's last entry.
     ///
-    /// `LogFull` comes exactly where the log has as many entries as its limit, and `NoMemory` where there is none for one
-    /// more entry. Then the endpoint is as it was.
+    /// `LogFull` comes exactly where the log has as many entries as its limit, and `NoMemory` only where it has fewer and there is
+    /// none for one more entry. Then the endpoint is as it was, and keeps room that it had.
     pub fn want(&mut self, floor: u64, actor: Actor) -> Result<Entry, EndFault>
         requires place { is_on_disk (state_after self.old).head.place ≡ true }
         requires floor { floor + 1 < 2 ^ 64 }
@@ -487,7 +499,9 @@ impl Endpoint {
         ensures settings { self.new.settings ≡ self.old.settings }
         ensures flights { self.new.flights ≡ self.old.flights }
         ensures full { (result ≡ Err EndFault.LogFull) ↔ (length self.old.log ≡ self.old.settings.log) }
+        ensures starved { (result ≡ Err EndFault.NoMemory) → (length self.old.log < self.old.settings.log) }
         ensures err { OnErr result (self.new.log ≡ self.old.log) }
+        ensures kept { OnErr result (self.new.ready ≡ self.old.ready) }
         ensures same { (state_after self.new).body ≡ (state_after self.old).body }
     {
         self.room()?;
@@ -515,10 +529,7 @@ impl Endpoint {
         let Held::Here(fields) = &mut self.held else {
             unreachable!()
         };
-        let Outcome::Sent { message, .. } = &entry.outcome else {
-            unreachable!()
-        };
-        let slot = fields.fly_front(message);
+        let slot = fields.fly_front();
         self.log.push_reserved(entry);
         slot
     }

@@ -23,3 +23,11 @@ err_alike A B P f e is = (
   (λ h. is.0 (let same : f ≡ e = cc in ap Err same)),
   (λ p. let both : ◌≡◌ {A = Result A EntryFault} (Err f) (Err e) = is.1 p in let same : f ≡ e = cc in ap Err same),
 )
+
+-- and a fault tells the same whatever Ok would answer
+
+pub ok_no_fault : (B P : Type 0) (b : B) (e : EntryFault) → ◌≡◌ {A = Result B EntryFault} (Ok b) (Err e) → P
+ok_no_fault B P b e is = absurd (cc)
+
+pub err_told : (A B P : Type 0) (f e : EntryFault) → ((◌≡◌ {A = Result A EntryFault} (Err f) (Err e)) → P) → (◌≡◌ {A = Result B EntryFault} (Err f) (Err e)) → P
+err_told A B P f e tells is = tells (let same : f ≡ e = cc in ap Err same)

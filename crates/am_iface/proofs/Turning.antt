@@ -1,6 +1,6 @@
 -- What a turn answers, by what logging its entry answers.
 use Rattle.std.specs.Prelude.{◌↔◌, Result, Ok, Err, OnOk, OnErr}
-use Rattle.std.proofs.Common.{◌≡◌, ◌≢◌, ℕ, [], ◌∷◌, ◌++◌, length, Some, None, refl, sym, ap, ◌∙◌}
+use Rattle.std.proofs.Common.{◌≡◌, ◌≢◌, ℕ, [], ◌∷◌, ◌++◌, length, Option, Some, None, refl, sym, ap, ◌∙◌}
 use Rattle.am_office.specs.declared.Condition.{Condition}
 use Rattle.am_office.specs.declared.Part.{Part}
 use Rattle.am_office.specs.declared.Part.TheVariants as Parts
@@ -11,7 +11,7 @@ use Rattle.am_local.specs.Interface.{event_of, failing_at, outcome_at}
 use Rattle.am_model.specs.declared.EntryFault.{EntryFault}
 use Rattle.am_model.specs.declared.EntryFault.TheVariants as Faults
 use Rattle.am_iface.specs.View.{InterfaceView, own}
-use Rattle.am_iface.specs.Turns.{Turns, entry_by}
+use Rattle.am_iface.specs.Turns.{HasRoom, Turns, entry_by}
 
 -- what logging an entry answers
 pub record Enters (old new : InterfaceView) (x : Entry) (result : Result (Unit {0}) EntryFault) : Type 0 where
@@ -55,3 +55,19 @@ turns_by_failing old s stamp w why fails =
       full = λ p. ((λ h. absurd (cc)), (λ h. absurd (let both : Some why ≡ None = sym fails ∙ h.0 in cc)));
       err = refl;
     }
+
+-- want of memory, where each other fault has its cause
+
+pub no_condition : (o : Option Condition) (result : Result (Unit {0}) EntryFault) → ((c : Condition) → (result ≡ Err (Faults.NotEnabled c)) ↔ (o ≡ Some c)) → result ≡ Err Faults.NoMemory → o ≡ None
+no_condition None result disabled starved = refl
+no_condition (Some c) result disabled starved =
+    let both : ◌≡◌ {A = Result (Unit {0}) EntryFault} (Err Faults.NoMemory) (Err (Faults.NotEnabled c)) = sym starved ∙ (disabled c).1 refl in absurd (cc)
+
+pub not_full : (p : Part) (result : Result (Unit {0}) EntryFault) → result ≡ Err Faults.NoMemory → result ≡ Err (Faults.LogFull p) → ⊥
+not_full p result starved full =
+    let both : ◌≡◌ {A = Result (Unit {0}) EntryFault} (Err Faults.NoMemory) (Err (Faults.LogFull p)) = sym starved ∙ full in absurd (cc)
+
+pub starved_alone : (old new : InterfaceView) (s : State) (stamp : ℕ) (w : Work) (result : Result (Unit {0}) EntryFault) → Turns old new s stamp w result → result ≡ Err Faults.NoMemory → HasRoom old s w
+starved_alone old new s stamp w result turns starved =
+    let none = no_condition (failing_at (own old) s w) result turns.disabled starved in
+    record { enabled = none; here = λ full. not_full (Parts.Interface old.settings.node) result starved ((turns.full (Parts.Interface old.settings.node)).1 (none, (refl, full))) }

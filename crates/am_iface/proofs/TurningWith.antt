@@ -1,8 +1,9 @@
 -- What a turn with an endpoint answers, by what logging its entry answers.
 use Rattle.std.specs.Prelude.{◌↔◌, Result, Ok, Err, OnOk, OnErr}
-use Rattle.std.proofs.Common.{◌≡◌, ◌≢◌, ⊎_elim, ℕ, ◌<◌, [], ◌∷◌, ◌++◌, length, Some, None, refl, sym, ap, ◌∙◌, subst, arith}
+use Rattle.std.proofs.Common.{◌≡◌, ◌≢◌, inl, inr, ⊎_elim, ℕ, ◌<◌, [], ◌∷◌, ◌++◌, length, Some, None, refl, sym, ap, ◌∙◌, subst, arith}
 use Rattle.am_office.specs.declared.Condition.{Condition}
 use Rattle.am_office.specs.declared.Part.{Part}
+use Rattle.am_office.specs.declared.Part.TheVariants as Parts
 use Rattle.am_office.specs.declared.Entry.{Entry}
 use Rattle.am_endpoint.specs.View.{EndpointView, state_after}
 use Rattle.am_local.specs.Interface.{failing_at}
@@ -10,8 +11,8 @@ use Rattle.am_local.specs.declared.work.Work.{Work}
 use Rattle.am_model.specs.declared.EntryFault.{EntryFault}
 use Rattle.am_model.specs.declared.EntryFault.TheVariants as Faults
 use Rattle.am_iface.specs.View.{InterfaceView, own}
-use Rattle.am_iface.specs.With.{Flies, IsFullOf, TurnsWith}
-use Rattle.am_iface.proofs.Turning.{IsEntryOf, entry_is}
+use Rattle.am_iface.specs.With.{Flies, HasRoomWith, IsFullOf, TurnsWith}
+use Rattle.am_iface.proofs.Turning.{IsEntryOf, entry_is, no_condition, not_full}
 
 -- no log is full where both have room
 pub no_full_log : (v : InterfaceView) (e : EndpointView) (p : Part) → length v.log < v.settings.log → length e.log < e.settings.log → IsFullOf v e p → ⊥
@@ -32,6 +33,7 @@ pub record Follows (e f : EndpointView) (w : Work) (x : Entry) (result : Result 
   pub flies : OnOk result (Flies w x e f)
   pub err : OnErr result (f.log ≡ e.log)
   pub err_flights : OnErr result (f.flights ≡ e.flights)
+  pub kept : OnErr result (f.ready ≡ e.ready)
 
 pub turns_with : (old new : InterfaceView) (e f : EndpointView) (stamp : ℕ) (w : Work) (x : Entry) (result : Result (Unit {0}) EntryFault) → IsEntryOf old (state_after e) stamp w x → EntersWith old new e x result → Follows e f w x result → TurnsWith old new e f stamp w result
 turns_with old new e f stamp w x (Ok u) is enters follows =
@@ -46,6 +48,7 @@ turns_with old new e f stamp w x (Ok u) is enters follows =
       err = tt;
       err_there = tt;
       err_flights = tt;
+      kept = tt;
     }
 turns_with old new e f stamp w x (Err fault) is enters follows =
     record {
@@ -58,6 +61,7 @@ turns_with old new e f stamp w x (Err fault) is enters follows =
       err = enters.err;
       err_there = follows.err;
       err_flights = follows.err_flights;
+      kept = follows.kept;
     }
 
 -- a turn that a condition keeps from being made
@@ -73,4 +77,13 @@ turns_with_by_failing old e stamp w why fails =
       err = refl;
       err_there = refl;
       err_flights = refl;
+      kept = refl;
     }
+
+-- want of memory, where each other fault has its cause
+pub starved_with : (old new : InterfaceView) (e f : EndpointView) (stamp : ℕ) (w : Work) (result : Result (Unit {0}) EntryFault) → TurnsWith old new e f stamp w result → result ≡ Err Faults.NoMemory → HasRoomWith old e w
+starved_with old new e f stamp w result turns starved =
+    let none = no_condition (failing_at (own old) (state_after e) w) result turns.disabled starved in
+    let there : length e.log ≢ e.settings.log =
+    λ full. not_full (Parts.Endpoint e.settings.id) result starved ((turns.full (Parts.Endpoint e.settings.id)).1 (none, inl (refl, full))) in
+    record { enabled = none; there = there; here = λ full. not_full (Parts.Interface old.settings.node) result starved ((turns.full (Parts.Interface old.settings.node)).1 (none, inr (there, (refl, full)))) }

@@ -6,3 +6,4 @@ pub mod Made
 pub mod Touches
 pub mod Turns
 pub mod With
+pub mod Ways

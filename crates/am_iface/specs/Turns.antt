@@ -1,5 +1,5 @@
 -- What a turn of an interface answers, and what it leaves.
-use Rattle.std.specs.Prelude.{◌≡◌, ◌↔◌, ℕ, ◌+◌, max, Some, None, Result, Err, OnErr, OnOk, List, [], ◌∷◌, ◌++◌, length}
+use Rattle.std.specs.Prelude.{◌≡◌, ◌≢◌, ◌↔◌, ℕ, ◌+◌, max, Some, None, Result, Err, OnErr, OnOk, List, [], ◌∷◌, ◌++◌, length}
 use Rattle.am_office.specs.declared.Condition.{Condition}
 use Rattle.am_office.specs.declared.Part.{Part}
 use Rattle.am_office.specs.declared.Part.TheVariants as Parts
@@ -27,6 +27,11 @@ stamp_after floor log w = 1 + max (max floor (last_stamp log)) (stamp_in w)
 -- the interface's log has as many entries as it may
 abbrev pub IsFull : InterfaceView → Part → Type 0
 IsFull v part = (part ≡ Parts.Interface v.settings.node) × (length v.log ≡ v.settings.log)
+
+-- the work's conditions are met by an endpoint in this state, and the interface's log isn't full
+pub record HasRoom (v : InterfaceView) (s : State) (w : Work) : Type 0 where
+  pub enabled : failing_at (own v) s w ≡ None
+  pub here : length v.log ≢ v.settings.log
 
 -- the entry of a work that touches no endpoint, or one in this state
 abbrev pub entry_by : InterfaceView → State → ℕ → Work → Entry

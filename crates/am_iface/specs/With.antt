@@ -25,6 +25,12 @@ use Rattle.am_iface.specs.Turns.{IsFull, entry_by}
 abbrev pub IsFullOf : InterfaceView → EndpointView → Part → Type 0
 IsFullOf v e part = ((part ≡ Parts.Endpoint e.settings.id) × (length e.log ≡ e.settings.log)) ⊎ ((length e.log ≢ e.settings.log) × IsFull v part)
 
+-- the work's conditions are met by the endpoint, and neither log is full
+pub record HasRoomWith (v : InterfaceView) (e : EndpointView) (w : Work) : Type 0 where
+  pub enabled : failing_at (own v) (state_after e) w ≡ None
+  pub here : length v.log ≢ v.settings.log
+  pub there : length e.log ≢ e.settings.log
+
 abbrev pub slots_without : Option ℕ → List ℕ → List ℕ
 slots_without None slots = slots
 slots_without (Some slot) slots = without slot slots
@@ -55,6 +61,7 @@ pub record TurnsWith (old new : InterfaceView) (e f : EndpointView) (stamp : ℕ
   pub err : OnErr result (new ≡ old)
   pub err_there : OnErr result (f.log ≡ e.log)
   pub err_flights : OnErr result (f.flights ≡ e.flights)
+  pub kept : OnErr result (f.ready ≡ e.ready)
 
 -- the front message, if there is one, goes to an endpoint whose home is known and one of the nodes
 abbrev pub IsHomeKnown : InterfaceLog → Option Queued → Type 0

@@ -6,6 +6,7 @@ ghost use Rattle.am_channel.specs.Counted.{AreCounted};
 ghost use Rattle.am_endpoint.specs.View.{state_after};
 ghost use Rattle.am_iface.specs.View.{own};
 ghost use Rattle.am_iface.specs.Made.{IsMade};
+ghost use Rattle.am_iface.specs.Ways.{IsWay, missing_channel};
 ghost use Rattle.am_iface.specs.With.{IsFullOf, IsHomeKnown, TurnsWith};
 ghost use Rattle.am_local.specs.Interface.{channel_in, channel_of_front, failing_at, home_in};
 ghost use Rattle.am_local.specs.declared.work.Work.TheVariants as Works;
@@ -14,7 +15,8 @@ ghost use Rattle.am_model.specs.Endpoint.{front, is_direct};
 ghost use Rattle.am_model.specs.History.{free_from};
 ghost use Rattle.am_office.specs.declared.Condition.{Condition};
 ghost use Rattle.am_office.specs.declared.Part.{Part};
-ghost use Rattle.std.specs.Prelude.{◌≡◌, ◌≢◌, ◌↔◌, ◌-◌, ◌<◌, ◌^◌, ℕ, [], ◌∷◌, ◌++◌, Err, None, Some, false, IfSome, IsNone, OnErr, OnOk};
+ghost use Rattle.std.specs.Prelude.{◌≡◌, ◌≢◌, ◌↔◌, ◌-◌, ◌<◌, ◌^◌, ℕ, [], ◌∷◌, ◌++◌, Err, None, Some, false, IfOk, IfSome, IsNone, OnErr, OnOk};
+ghost use Rattle.std.specs.Result.{result_err};
 
 use crate::by_ends::{bind, first_try};
 use crate::entries::{bind_entry, sent};
@@ -25,6 +27,14 @@ use am_endpoint::Endpoint;
 use am_model::{EntryFault, Queued, is_resident};
 use am_names::{EndpointId, Message, NodeId};
 use am_office::{Condition, Entry, Part, growth};
+
+/// A message that is to be bound, the node where it goes, and the channel to it that is free.
+#[derive(Drop)]
+struct Way {
+    queued: Queued,
+    peer: NodeId,
+    channel: u8,
+}
 
 impl Interface {
     /// The node of an endpoint, if it is declared.
@@ -49,41 +59,45 @@ impl Interface {
         None
     }
 
-    /// The lowest free channel for an endpoint's front message, if there is one.
-    fn channel_for(&self, front: &Option<Queued>) -> Option<u8>
-        requires { IsHomeKnown (own self.now) front.now }
-        ensures { result ≡ channel_of_front (own self.now) front.now }
+    /// The front message of an endpoint with the lowest free channel to its destination's node, or the first condition that keeps
+    /// it from being bound.
+    fn way(&self, endpoint: &Endpoint) -> Result<Way, Condition>
+        requires { IsHomeKnown (own self.now) (front (state_after endpoint.now)) }
+        ensures fault { result_err result ≡ failing_at (own self.now) (state_after endpoint.now) (Works.Bind endpoint.now.settings.id) }
+        ensures way { IfOk result (λ way. IsWay self.now (front (state_after endpoint.now)) way) }
     {
-        match front {
-            Some(queued) => match self.home(queued.message.dest) {
-                Some(peer) => self.free_channel(peer),
-                None => None,
-            },
-            None => None,
+        if self.home(endpoint.id()) != Some(self.node()) {
+            return Err(Condition::OtherNode);
+        }
+        if !is_resident(endpoint.place()) {
+            return Err(Condition::NotResident);
+        }
+        if endpoint.draining() {
+            return Err(Condition::Draining);
+        }
+        match endpoint.front() {
+            Some(queued) => self.way_of(queued),
+            None => Err(Condition::NoMessage),
         }
     }
 
-    /// The first condition that keeps an endpoint's front message from being bound.
-    fn disabled_bind(&self, end: EndpointId, endpoint: &Endpoint) -> Option<Condition>
-        requires { IsHomeKnown (own self.now) (front (state_after endpoint.now)) }
-        ensures { result ≡ failing_at (own self.now) (state_after endpoint.now) (Works.Bind end) }
+    /// A queued message with the lowest free channel to its destination's node.
+    fn way_of(&self, queued: Queued) -> Result<Way, Condition>
+        requires { IsHomeKnown (own self.now) (Some queued) }
+        ensures fault { result_err result ≡ missing_channel (channel_of_front (own self.now) (Some queued)) }
+        ensures way { IfOk result (λ way. IsWay self.now (Some queued) way) }
     {
-        if self.home(end) != Some(self.node()) {
-            return Some(Condition::OtherNode);
+        match self.home(queued.message.dest) {
+            Some(peer) => match self.free_channel(peer) {
+                Some(channel) => Ok(Way {
+                    queued,
+                    peer,
+                    channel,
+                }),
+                None => Err(Condition::NoChannel),
+            },
+            None => unreachable!(),
         }
-        if !is_resident(endpoint.place()) {
-            return Some(Condition::NotResident);
-        }
-        if endpoint.draining() {
-            return Some(Condition::Draining);
-        }
-        if !endpoint.has_front() {
-            return Some(Condition::NoMessage);
-        }
-        if self.channel_for(&endpoint.front()).is_none() {
-            return Some(Condition::NoChannel);
-        }
-        None
     }
 
     /// Both ends of the lowest free channel to a peer. The sending end is idle, and was bound at most as often as the log
@@ -125,70 +139,48 @@ impl Interface {
         ensures err { OnErr result (self.new ≡ self.old) }
         ensures err_there { OnErr result (endpoint.new.log ≡ endpoint.old.log) }
         ensures err_flights { OnErr result (endpoint.new.flights ≡ endpoint.old.flights) }
+        ensures kept { OnErr result (endpoint.new.ready ≡ endpoint.old.ready) }
     {
-        if let Err(fault) = self.room_with(endpoint) {
+        if let Err(fault) = self.limits_with(endpoint) {
             return Err(fault);
         }
         if self.log.reserve(growth(&self.log)).is_err() {
             return Err(EntryFault::NoMemory);
         }
-        let mut ends = idle;
-        bind(&mut ends, message, endpoint.take(*entry));
-        write(
-            &mut self.ends,
-            &mut self.emissions,
-            peer,
-            channel,
-            &ends,
-            emits(entry),
-        );
-        self.log.push_reserved(*entry);
-        Ok(())
+        match endpoint.room() {
+            Err(_) => Err(EntryFault::NoMemory),
+            Ok(()) => {
+                let mut ends = idle;
+                bind(&mut ends, message, endpoint.take(*entry));
+                write(
+                    &mut self.ends,
+                    &mut self.emissions,
+                    peer,
+                    channel,
+                    &ends,
+                    emits(entry),
+                );
+                self.log.push_reserved(*entry);
+                Ok(())
+            }
+        }
     }
 
-    /// Binds the front message to the lowest free channel to its destination's node.
-    fn bind_to(
-        &mut self,
-        stamp: u64,
-        queued: &Queued,
-        peer: NodeId,
-        channel: u8,
-        endpoint: &mut Endpoint,
-    ) -> Result<(), EntryFault>
+    /// Binds the front message, which nothing keeps from being bound, to the channel of its way.
+    fn bind_to(&mut self, stamp: u64, way: &Way, endpoint: &mut Endpoint) -> Result<(), EntryFault>
         requires enabled { failing_at (own self.old) (state_after endpoint.old) (Works.Bind endpoint.old.settings.id) ≡ None }
         requires at { home_in (own self.old) endpoint.old.settings.id ≡ Some endpoint.old.settings.node }
         requires packet { is_direct (state_after endpoint.old).head.place ≡ false }
-        requires front { front (state_after endpoint.old) ≡ Some queued.now }
-        requires home { home_in (own self.old) queued.now.message.dest ≡ Some peer }
-        requires peer { peer.0 < self.old.settings.nodes }
-        requires free { free_from self.old.settings.node peer self.old.log 0 self.old.settings.channels ≡ Some channel }
+        requires way { IsWay self.old (front (state_after endpoint.old)) way.now }
         ensures { TurnsWith self.old self.new endpoint.old endpoint.new stamp (Works.Bind endpoint.old.settings.id) result }
     {
-        let ends = self.free_ends(peer, channel);
+        let ends = self.free_ends(way.peer, way.channel);
         let numbers = first_try(&ends);
-        let number = self.next_number(peer);
-        let outcome = sent(queued.message, peer, channel, numbers, number);
+        let number = self.next_number(way.peer);
+        let message = way.queued.message;
+        let outcome = sent(message, way.peer, way.channel, numbers, number);
         let entry = bind_entry(self.node(), stamp, endpoint.id(), outcome);
-        self.enter_bound(peer, channel, ends, queued.message, &entry, endpoint)
-    }
-
-    /// Binds the front message, which nothing keeps from being bound.
-    fn bind_front(&mut self, stamp: u64, endpoint: &mut Endpoint) -> Result<(), EntryFault>
-        requires enabled { failing_at (own self.old) (state_after endpoint.old) (Works.Bind endpoint.old.settings.id) ≡ None }
-        requires at { home_in (own self.old) endpoint.old.settings.id ≡ Some endpoint.old.settings.node }
-        requires packet { is_direct (state_after endpoint.old).head.place ≡ false }
-        ensures { TurnsWith self.old self.new endpoint.old endpoint.new stamp (Works.Bind endpoint.old.settings.id) result }
-    {
-        let Some(queued) = endpoint.front() else {
-            unreachable!()
-        };
-        let Some(peer) = self.home(queued.message.dest) else {
-            unreachable!()
-        };
-        let Some(channel) = self.free_channel(peer) else {
-            unreachable!()
-        };
-        self.bind_to(stamp, &queued, peer, channel, endpoint)
+        self.enter_bound(way.peer, way.channel, ends, message, &entry, endpoint)
     }
 
     /// Binds the front message, if it can be bound.
@@ -202,9 +194,9 @@ impl Interface {
         requires known { IsHomeKnown (own self.old) (front (state_after endpoint.old)) }
         ensures { TurnsWith self.old self.new endpoint.old endpoint.new stamp (Works.Bind endpoint.old.settings.id) result }
     {
-        match self.disabled_bind(endpoint.id(), endpoint) {
-            Some(why) => Err(EntryFault::NotEnabled(why)),
-            None => self.bind_front(stamp, endpoint),
+        match self.way(endpoint) {
+            Err(why) => Err(EntryFault::NotEnabled(why)),
+            Ok(way) => self.bind_to(stamp, &way, endpoint),
         }
     }
 }

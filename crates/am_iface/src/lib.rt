@@ -4,10 +4,10 @@
 
 ghost use Rattle.am_iface.specs.Settings.{AreLawful};
 ghost use Rattle.am_endpoint.specs.View.{state_after};
-ghost use Rattle.am_iface.specs.Turns.{IsFull, Turns, entry_by, stamp_after, stamp_in};
+ghost use Rattle.am_iface.specs.Turns.{HasRoom, IsFull, Turns, entry_by, stamp_after, stamp_in};
 ghost use Rattle.am_iface.specs.View.{FitsAnswer, FitsInterface, FitsParcel, InterfaceView, IsChannelOf, own};
 ghost use Rattle.am_model.specs.Parts.{last_stamp};
-ghost use Rattle.am_iface.specs.With.{IsFullOf, KnowsHome, Flies};
+ghost use Rattle.am_iface.specs.With.{Flies, HasRoomWith, IsFullOf, KnowsHome};
 ghost use Rattle.am_iface.specs.Touches.{EmitsNone, TouchesNone};
 ghost use Rattle.am_channel.specs.declared.sending.Bound.{Bound};
 ghost use Rattle.am_channel.specs.Counted.{AreCounted};
@@ -47,7 +47,7 @@ pub use am_channel::Bound;
 use am_channel::{Ends, TimedOut};
 use am_endpoint::Endpoint;
 pub use am_local::work::Work;
-pub use am_model::EntryFault;
+pub use am_model::{EntryFault, EntryFault as IfaceFault};
 use am_names::{AnswerPacket, EndpointId, NodeId, Packet, Parcel};
 pub use am_office::NoMemory;
 use am_office::{Condition, Entry, Part, Received, growth};
@@ -447,6 +447,7 @@ impl Interface {
         ensures logged { (s : State) → OnOk result (self.new ≡ record self.old { log = self.old.log ++ entry_by self.old s (stamp_after floor self.old.log work.now) work.now ∷ [] }) }
         ensures disabled { (s : State) (c : Condition) → (result ≡ Err (EntryFault.NotEnabled c)) ↔ (failing_at (own self.old) s work.now ≡ Some c) }
         ensures full { (s : State) (p : Part) → (result ≡ Err (EntryFault.LogFull p)) ↔ ((failing_at (own self.old) s work.now ≡ None) × IsFull self.old p) }
+        ensures starved { (s : State) → result ≡ Err EntryFault.NoMemory → HasRoom self.old s work.now }
         ensures err { OnErr result (self.new ≡ self.old) }
     {
         let stamp = self.stamp_after(floor, work);
@@ -478,16 +479,18 @@ impl Interface {
         ensures settings_there { endpoint.new.settings ≡ endpoint.old.settings }
         ensures disabled { (c : Condition) → (result ≡ Err (EntryFault.NotEnabled c)) ↔ (failing_at (own self.old) (state_after endpoint.old) work.now ≡ Some c) }
         ensures full { (p : Part) → (result ≡ Err (EntryFault.LogFull p)) ↔ ((failing_at (own self.old) (state_after endpoint.old) work.now ≡ None) × IsFullOf self.old endpoint.old p) }
+        ensures starved { result ≡ Err EntryFault.NoMemory → HasRoomWith self.old endpoint.old work.now }
         ensures err { OnErr result (self.new ≡ self.old) }
         ensures err_there { OnErr result (endpoint.new.log ≡ endpoint.old.log) }
         ensures err_flights { OnErr result (endpoint.new.flights ≡ endpoint.old.flights) }
+        ensures kept { OnErr result (endpoint.new.ready ≡ endpoint.old.ready) }
     {
         let stamp = self.stamp_with(floor, work, endpoint);
         self.work_with(stamp, work, endpoint)
     }
 
     /// Does a work that touches no endpoint, and logs its entry. Where it answers no entry, nothing has changed.
-    pub fn turn_alone(&mut self, floor: u64, work: &Work) -> Result<Turned, EntryFault>
+    pub fn turn_alone(&mut self, floor: u64, work: &Work) -> Result<Turned, IfaceFault>
         requires fits { FitsInterface self.old work.now }
         requires alone { needs (own self.old) work.now ≡ None }
         requires floor { floor + 1 < 2 ^ 64 }
@@ -501,9 +504,10 @@ impl Interface {
         ensures out { IfOk result (λ t. t.out ≡ emitted_of t.entry) }
         ensures logged { IfOk result (λ t. self.new ≡ record self.old { log = self.old.log ++ t.entry ∷ [] }) }
 
-        // the first condition that fails, or the full log where none does
+        // the first condition that fails, or the full log where none does, and want of memory only where neither is
         ensures disabled { (s : State) (c : Condition) → (result ≡ Err (EntryFault.NotEnabled c)) ↔ (failing_at (own self.old) s work.now ≡ Some c) }
         ensures full { (s : State) (p : Part) → (result ≡ Err (EntryFault.LogFull p)) ↔ ((failing_at (own self.old) s work.now ≡ None) × IsFull self.old p) }
+        ensures starved { (s : State) → result ≡ Err EntryFault.NoMemory → HasRoom self.old s work.now }
         ensures err { OnErr result (self.new ≡ self.old) }
     {
         match self.make_alone(floor, work) {
@@ -513,13 +517,13 @@ impl Interface {
     }
 
     /// Does a work that touches this endpoint, and logs its entry here and in the endpoint. Room is made in both logs first.
-    /// Where it answers no entry, neither log has changed, nor what the endpoint has in flight.
+    /// Where it answers no entry, neither log has changed, nor what the endpoint has in flight and for how much it has room.
     pub fn turn_with(
         &mut self,
         floor: u64,
         work: &Work,
         endpoint: &mut Endpoint,
-    ) -> Result<Turned, EntryFault>
+    ) -> Result<Turned, IfaceFault>
         requires fits { FitsInterface self.old work.now }
         requires needs { needs (own self.old) work.now ≡ Some endpoint.old.settings.id }
         requires home { home_in (own self.old) endpoint.old.settings.id ≡ Some endpoint.old.settings.node }
@@ -542,12 +546,14 @@ impl Interface {
         ensures flights_there { IfOk result (λ t. Flies work.now t.entry endpoint.old endpoint.new) }
         ensures settings_there { endpoint.new.settings ≡ endpoint.old.settings }
 
-        // the first condition that fails, or the first full log where none does
+        // the first condition that fails, or the first full log where none does, and want of memory only where neither is
         ensures disabled { (c : Condition) → (result ≡ Err (EntryFault.NotEnabled c)) ↔ (failing_at (own self.old) (state_after endpoint.old) work.now ≡ Some c) }
         ensures full { (p : Part) → (result ≡ Err (EntryFault.LogFull p)) ↔ ((failing_at (own self.old) (state_after endpoint.old) work.now ≡ None) × IsFullOf self.old endpoint.old p) }
+        ensures starved { result ≡ Err EntryFault.NoMemory → HasRoomWith self.old endpoint.old work.now }
         ensures err { OnErr result (self.new ≡ self.old) }
         ensures err_there { OnErr result (endpoint.new.log ≡ endpoint.old.log) }
         ensures err_flights { OnErr result (endpoint.new.flights ≡ endpoint.old.flights) }
+        ensures kept { OnErr result (endpoint.new.ready ≡ endpoint.old.ready) }
     {
         match self.make_with(floor, work, endpoint) {
             Ok(()) => Ok(self.last_turn()),

@@ -16,43 +16,37 @@ ghost use Rattle.am_office.specs.declared.Condition.{Condition};
 ghost use Rattle.am_office.specs.declared.Part.{Part};
 ghost use Rattle.std.specs.Prelude.{◌≡◌, ◌≢◌, ◌↔◌, ◌<◌, Err, Some, [], ◌∷◌, ◌++◌, false, true, length, IsSome, OnErr, OnOk};
 
-use crate::Interface;
 use crate::by_ends::{answer, decide, time_out};
 use crate::entries::{answer_receipt, decided, give_up, parcel_receipt, settled_by};
+use crate::packets::emits;
+use crate::{Interface, write};
 use am_channel::{Ends, Settled, TimedOut};
-use am_endpoint::{EndFault, Endpoint};
+use am_endpoint::Endpoint;
 use am_local::work::Work;
 use am_model::{EntryFault, Flying};
 use am_names::{AnswerPacket, Message, NodeId, Packet, Parcel, Serial, Verdict};
-use am_office::{Entry, Event, Outcome, Part};
+use am_office::{Entry, Event, Outcome, Part, growth};
 
 impl Interface {
-    /// Makes room for one more entry in an endpoint's log and finds it in the interface's. Neither log changes.
-    pub(crate) fn room_with(&self, endpoint: &mut Endpoint) -> Result<(), EntryFault>
-        ensures ready { OnOk result (endpoint.new.ready ≡ true) }
-        ensures there { OnOk result (length endpoint.new.log < endpoint.new.settings.log) }
+    /// Whether both logs have room for one more entry: `LogFull` names the endpoint's where it is full, and else the
+    /// interface's.
+    pub(crate) fn limits_with(&self, endpoint: &Endpoint) -> Result<(), EntryFault>
+        ensures there { OnOk result (length endpoint.now.log < endpoint.now.settings.log) }
         ensures here { OnOk result (length self.now.log < self.now.settings.log) }
-        ensures settings { endpoint.new.settings ≡ endpoint.old.settings }
-        ensures log { endpoint.new.log ≡ endpoint.old.log }
-        ensures flights { endpoint.new.flights ≡ endpoint.old.flights }
         ensures enabled { (c : Condition) → result ≢ Err (EntryFault.NotEnabled c) }
-        ensures full { (p : Part) → (result ≡ Err (EntryFault.LogFull p)) ↔ IsFullOf self.now endpoint.old p }
+        ensures full { (p : Part) → (result ≡ Err (EntryFault.LogFull p)) ↔ IsFullOf self.now endpoint.now p }
     {
-        let made = endpoint.room();
-        if let Err(EndFault::LogFull) = made {
+        if endpoint.is_full() {
             return Err(EntryFault::LogFull(Part::Endpoint(endpoint.id())));
         }
         if self.is_full() {
             return Err(EntryFault::LogFull(Part::Interface(self.node())));
         }
-        match made {
-            Ok(()) => Ok(()),
-            Err(_) => Err(EntryFault::NoMemory),
-        }
+        Ok(())
     }
 
     /// Logs the entry of a call on a channel, which leaves these ends, once there is room for it in both logs. The endpoint
-    /// is as it was, and ready for the entry.
+    /// is as it was, and ready for the entry; where it isn't logged, no room is lost.
     pub(crate) fn enter_with(
         &mut self,
         peer: NodeId,
@@ -73,11 +67,29 @@ impl Interface {
         ensures enabled { (c : Condition) → result ≢ Err (EntryFault.NotEnabled c) }
         ensures full { (p : Part) → (result ≡ Err (EntryFault.LogFull p)) ↔ IsFullOf self.old endpoint.old p }
         ensures err { OnErr result (self.new ≡ self.old) }
+        ensures kept { OnErr result (endpoint.new.ready ≡ endpoint.old.ready) }
     {
-        if let Err(fault) = self.room_with(endpoint) {
+        if let Err(fault) = self.limits_with(endpoint) {
             return Err(fault);
         }
-        self.enter(peer, channel, ends, entry)
+        if self.log.reserve(growth(&self.log)).is_err() {
+            return Err(EntryFault::NoMemory);
+        }
+        match endpoint.room() {
+            Err(_) => Err(EntryFault::NoMemory),
+            Ok(()) => {
+                write(
+                    &mut self.ends,
+                    &mut self.emissions,
+                    peer,
+                    channel,
+                    ends,
+                    emits(entry),
+                );
+                self.log.push_reserved(*entry);
+                Ok(())
+            }
+        }
     }
 
     /// Receives a fresh parcel, which gets its destination's verdict.

@@ -44,7 +44,7 @@ use std::marker::Model;
 use thiserror::Error;
 
 /// Where the requests of an index go, and the tag that they carry.
-#[derive(Clone, Copy, PartialEq, Eq, Debug)]
+#[derive(Clone, Copy, PartialEq, Eq)]
 pub struct Target {
     pub name: EndpointId,
     pub tag: Tag,
@@ -278,14 +278,24 @@ impl Translate {
         match self.can_take(index) {
             Err(fault) => Err(fault),
             Ok(target) => {
-                self.awaited.push(Awaited {
-                    index,
-                    serial,
-                    arrived: false,
-                });
+                self.take(index, serial);
                 Ok(target)
             }
         }
+    }
+
+    /// Takes a credit of an index that has one, as `can_take` tells, for a request, whose record then waits.
+    pub fn take(&mut self, index: u8, serial: Serial)
+        requires free { credit_fault self.old index ≡ None }
+        requires known { is_known self.old serial ≡ false }
+        ensures taken { self.new ≡ with_record self.old index serial }
+        ensures table { IsTable self.new }
+    {
+        self.awaited.push(Awaited {
+            index,
+            serial,
+            arrived: false,
+        });
     }
 }
 

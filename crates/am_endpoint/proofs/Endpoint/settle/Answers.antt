@@ -7,25 +7,19 @@ use Rattle.am_endpoint.specs.View.{EndpointView, state_after}
 use Rattle.am_endpoint.specs.declared.held.Held.TheVariants.{Here}
 use Rattle.am_endpoint.proofs.Holding.{here_of}
 use Rattle.am_endpoint.proofs.Keeping.{settling_keeps}
-use Rattle.am_endpoint.proofs.Logged.{entered, fits_next, here_after, order_next, slot_held}
+use Rattle.am_endpoint.proofs.Logged.{entered, here_after, order_next, slot_held}
 use Rattle.am_endpoint.proofs.Endpoint.settle.Goals as goal
 
-pub settle-requires-clause-slot : goal.settle-requires-clause-slot
-settle-requires-clause-slot c =
+pub settle-requires : goal.settle-requires
+settle-requires c =
     let i = c.self.inside in
     let x = c.args.entry in
     let f = c.in-Here.fields in
-    slot_held i c.args.self.now f (settled_in x.event x.outcome) c.args.slot.0 c.self.view_is c.in-Here.is
-    (here_of i.settings.pool (replayed i) i.held f c.self.invariant.held c.in-Here.is) c.requires.slot
-
-pub settle-requires-clause-fits : goal.settle-requires-clause-fits
-settle-requires-clause-fits c =
-    let i = c.self.inside in
-    let v = c.args.self.now in
-    let x = c.args.entry in
-    let f = c.in-Here.fields in
-    fits_next i f x (here_of i.settings.pool (replayed i) i.held f c.self.invariant.held c.in-Here.is)
-    (order_next i v x c.self.view_is c.self.invariant (order_settled v.settings.bounces v.settings.pool v.settings.id (state_after v) x c.requires.allowed))
+    record {
+      slot =
+          slot_held i c.args.self.now f (settled_in x.event x.outcome) c.args.slot.0 c.self.view_is c.in-Here.is
+          (here_of i.settings.pool (replayed i) i.held f c.self.invariant.held c.in-Here.is) c.requires.slot;
+    }
 
 pub invariant_of-self : goal.invariant_of-self
 invariant_of-self c =

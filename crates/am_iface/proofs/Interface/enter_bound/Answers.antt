@@ -21,8 +21,8 @@ write-requires-clause-count c =
     let counts = c.self.inside.emissions.items in
     omega (arith, entering.count_within c.self.inside c.args.self.now c.args.peer (get_or counts c.args.peer.0 0) c.emits.result c.self.view_is c.self.invariant c.requires.peer (entering.read_same counts c.args.peer.0 0))
 
-pub invariant_of-self-2 : goal.invariant_of-self-2
-invariant_of-self-2 c =
+pub invariant_of-self-in-Ok : goal.invariant_of-self-in-Ok
+invariant_of-self-in-Ok c =
     let v = c.args.self.now in
     let items : c.push_reserved.new.self.items ≡ c.self.inside.log.items ++ c.args.entry.now ∷ [] = grind (arith, common_steps) in
     let room : length c.self.inside.log.items < c.self.inside.limits.log = subst (λ (w : InterfaceView). length w.log < w.settings.log) (sym c.self.view_is) c.in_default.ensures.here in
@@ -30,5 +30,5 @@ invariant_of-self-2 c =
     entering.entered_seen c.self.inside v c.args.peer c.args.channel c.bind.new.ends c.args.entry.now c.emits.result c.write.new.all.items c.write.new.emissions.items c.push_reserved.new.self.items c.self.view_is c.self.invariant c.requires.peer c.requires.channel room made
     (record { emits = c.emits.ensures; ends = c.write.ensures.ends; emissions = c.write.ensures.emissions; log = items })
 
-pub returns-clause-flights : goal.returns-clause-flights
-returns-clause-flights c = (c.take.result.0, c.take.ensures.flights ∙ ap (λ xs. xs ++ c.take.result.0 ∷ []) c.room_with.ensures.flights)
+pub returns-in-Ok-clause-flights : goal.returns-in-Ok-clause-flights
+returns-in-Ok-clause-flights c = (c.take.result.0, c.take.ensures.flights ∙ ap (λ xs. xs ++ c.take.result.0 ∷ []) c.room.ensures.flights)

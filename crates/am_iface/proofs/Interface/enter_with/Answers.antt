@@ -1,17 +1,10 @@
 use Rattle.std.specs.Prelude.{Err}
-use Rattle.std.proofs.Common.{◌≡◌, ◌<◌, length, ap, arith}
-use Rattle.am_body.specs.declared.settings.EndSettings.{EndSettings}
+use Rattle.std.proofs.Common.{◌≡◌, ◌<◌, [], ◌∷◌, ◌++◌, length, get_or, sym, ap, subst, arith}
+use Rattle.std.proofs.lemmas.Grind.{common_steps}
+use Rattle.am_iface.specs.View.{InterfaceView}
 use Rattle.am_model.specs.declared.EntryFault.TheVariants as Faults
-use Rattle.am_iface.proofs.TurningWith as turning
+use Rattle.am_iface.proofs.Entering as entering
 use Rattle.am_iface.proofs.Interface.enter_with.Goals as goal
-
-pub returns-clause-full : goal.returns-clause-full
-returns-clause-full c =
-    let there : length c.args.endpoint.now.log < c.args.endpoint.now.settings.log = omega (arith, c.in_default.ensures.there, ap length c.in_default.ensures.log, ap (λ (s : EndSettings). s.log) c.in_default.ensures.settings) in
-    λ p. (
-      (λ h. absurd (omega (arith, ((c.enter.ensures.full p).0 h).1, c.in_default.ensures.here))),
-      (λ h. absurd (turning.no_full_log c.args.self.now c.args.endpoint.now p c.in_default.ensures.here there h)),
-    )
 
 pub returns-in-Err-clause-full : goal.returns-in-Err-clause-full
 returns-in-Err-clause-full c =
@@ -19,3 +12,16 @@ returns-in-Err-clause-full c =
       (λ h. (c.in-Err.ensures.full p).0 (let same : c.in-Err.fault ≡ Faults.LogFull p = cc in ap Err same)),
       (λ h. let full = (c.in-Err.ensures.full p).1 h in let same : c.in-Err.fault ≡ Faults.LogFull p = cc in ap Err same),
     )
+
+pub write-requires-clause-count : goal.write-requires-clause-count
+write-requires-clause-count c =
+    let counts = c.self.inside.emissions.items in
+    omega (arith, entering.count_within c.self.inside c.args.self.now c.args.peer (get_or counts c.args.peer.0 0) c.emits.result c.self.view_is c.self.invariant c.requires.peer (entering.read_same counts c.args.peer.0 0))
+
+pub invariant_of-self-in-Ok : goal.invariant_of-self-in-Ok
+invariant_of-self-in-Ok c =
+    let v = c.args.self.now in
+    let items : c.push_reserved.new.self.items ≡ c.self.inside.log.items ++ c.args.entry.now ∷ [] = grind (arith, common_steps) in
+    let room : length c.self.inside.log.items < c.self.inside.limits.log = subst (λ (w : InterfaceView). length w.log < w.settings.log) (sym c.self.view_is) c.in_default.ensures.here in
+    entering.entered_seen c.self.inside v c.args.peer c.args.channel c.args.ends.now c.args.entry.now c.emits.result c.write.new.all.items c.write.new.emissions.items c.push_reserved.new.self.items c.self.view_is c.self.invariant c.requires.peer c.requires.channel room c.requires.made
+    (record { emits = c.emits.ensures; ends = c.write.ensures.ends; emissions = c.write.ensures.emissions; log = items })

@@ -41,7 +41,7 @@ returns-in-Ok c =
     c.node.ensures c.parcel_receipt-entry.ensures in
     turning.turns_with c.args.self.now c.enter_with.new.self c.args.endpoint.now c.put.new.self c.args.stamp (Works.Receive (Packets.Parcel p)) c.parcel_receipt-entry.result _ entry
     (record { logged = c.in-Ok.ensures.logged; enabled = c.in-Ok.ensures.enabled; full = c.in-Ok.ensures.full; err = tt })
-    (record { same = c.put.ensures.settings ∙ c.enter_with.ensures.settings; there = c.put.ensures.log ∙ ap (λ (xs : List Entry). xs ++ c.parcel_receipt-entry.result ∷ []) c.enter_with.ensures.log; flies = arrives c.args.endpoint.now c.enter_with.new.endpoint c.put.new.self p c.node.result c.args.stamp c.next_number.result c.verdict-verdict.result c.decided-came.result c.parcel_receipt-entry.result c.decided-came.ensures c.parcel_receipt-entry.ensures c.enter_with.ensures.flights c.put.ensures.flights; err = tt; err_flights = tt })
+    (record { same = c.put.ensures.settings ∙ c.enter_with.ensures.settings; there = c.put.ensures.log ∙ ap (λ (xs : List Entry). xs ++ c.parcel_receipt-entry.result ∷ []) c.enter_with.ensures.log; flies = arrives c.args.endpoint.now c.enter_with.new.endpoint c.put.new.self p c.node.result c.args.stamp c.next_number.result c.verdict-verdict.result c.decided-came.result c.parcel_receipt-entry.result c.decided-came.ensures c.parcel_receipt-entry.ensures c.enter_with.ensures.flights c.put.ensures.flights; err = tt; err_flights = tt; kept = tt })
 
 pub returns-in-Err : goal.returns-in-Err
 returns-in-Err c =
@@ -51,4 +51,4 @@ returns-in-Err c =
     c.node.ensures c.parcel_receipt-entry.ensures in
     turning.turns_with c.args.self.now c.enter_with.new.self c.args.endpoint.now c.enter_with.new.endpoint c.args.stamp (Works.Receive (Packets.Parcel p)) c.parcel_receipt-entry.result _ entry
     (record { logged = tt; enabled = c.in-Err.ensures.enabled; full = c.in-Err.ensures.full; err = c.in-Err.ensures.err })
-    (record { same = c.enter_with.ensures.settings; there = tt; flies = tt; err = c.enter_with.ensures.log; err_flights = c.enter_with.ensures.flights })
+    (record { same = c.enter_with.ensures.settings; there = tt; flies = tt; err = c.enter_with.ensures.log; err_flights = c.enter_with.ensures.flights; kept = c.in-Err.ensures.kept })

@@ -29,7 +29,7 @@ returns-in-Ok c =
     refl c.settling_entry-entry.ensures in
     turning.turns_with c.args.self.now c.enter_with.new.self c.args.endpoint.now c.settle.new.endpoint c.args.stamp (Works.Receive (Packets.Answer c.args.p.now)) c.settling_entry-entry.result _ entry
     (record { logged = c.in-Ok.ensures.logged; enabled = c.in-Ok.ensures.enabled; full = c.in-Ok.ensures.full; err = tt })
-    (record { same = c.settle.ensures.settings ∙ c.enter_with.ensures.settings; there = c.settle.ensures.log ∙ ap (λ (xs : List Entry). xs ++ c.settling_entry-entry.result ∷ []) c.enter_with.ensures.log; flies = lands_from c.args.endpoint.now c.enter_with.new.endpoint c.settle.new.endpoint c.settling_entry-entry.result (record { settings = c.enter_with.ensures.settings; log = c.enter_with.ensures.log; flights = c.enter_with.ensures.flights }) c.settle.ensures.flights; err = tt; err_flights = tt })
+    (record { same = c.settle.ensures.settings ∙ c.enter_with.ensures.settings; there = c.settle.ensures.log ∙ ap (λ (xs : List Entry). xs ++ c.settling_entry-entry.result ∷ []) c.enter_with.ensures.log; flies = lands_from c.args.endpoint.now c.enter_with.new.endpoint c.settle.new.endpoint c.settling_entry-entry.result (record { settings = c.enter_with.ensures.settings; log = c.enter_with.ensures.log; flights = c.enter_with.ensures.flights }) c.settle.ensures.flights; err = tt; err_flights = tt; kept = tt })
 
 pub returns-in-Err : goal.returns-in-Err
 returns-in-Err c =
@@ -38,4 +38,4 @@ returns-in-Err c =
     refl c.settling_entry-entry.ensures in
     turning.turns_with c.args.self.now c.enter_with.new.self c.args.endpoint.now c.enter_with.new.endpoint c.args.stamp (Works.Receive (Packets.Answer c.args.p.now)) c.settling_entry-entry.result _ entry
     (record { logged = tt; enabled = c.in-Err.ensures.enabled; full = c.in-Err.ensures.full; err = c.in-Err.ensures.err })
-    (record { same = c.enter_with.ensures.settings; there = tt; flies = tt; err = c.enter_with.ensures.log; err_flights = c.enter_with.ensures.flights })
+    (record { same = c.enter_with.ensures.settings; there = tt; flies = tt; err = c.enter_with.ensures.log; err_flights = c.enter_with.ensures.flights; kept = c.in-Err.ensures.kept })

@@ -4,7 +4,7 @@ use Rattle.am_office.specs.Entries.{emitted_of}
 use Rattle.am_model.specs.declared.EntryFault.TheVariants as Faults
 use Rattle.am_local.specs.Interface.{failing_at}
 use Rattle.am_iface.specs.declared.Turned.{Turned}
-use Rattle.am_iface.specs.Turns.{IsFull, entry_by, stamp_after}
+use Rattle.am_iface.specs.Turns.{HasRoom, IsFull, entry_by, stamp_after}
 use Rattle.am_iface.specs.View.{InterfaceView, own}
 use Rattle.am_iface.proofs.Last as last
 use Rattle.am_iface.proofs.Telling.{some_state}
@@ -59,3 +59,9 @@ returns-in-Err-clause-disabled c s k =
 pub returns-in-Err-clause-full : goal.returns-in-Err-clause-full
 returns-in-Err-clause-full c s p =
     last.err_alike (Unit {0}) Turned ((failing_at (own c.args.self.now) s c.args.work.now ≡ None) × IsFull c.args.self.now p) c.in-Err.fault (Faults.LogFull p) (c.in-Err.ensures.full s p)
+
+pub returns-in-Ok-clause-starved : goal.returns-in-Ok-clause-starved
+returns-in-Ok-clause-starved c s = last.ok_no_fault Turned (HasRoom c.args.self.now s c.args.work.now) c.last_turn.result Faults.NoMemory
+
+pub returns-in-Err-clause-starved : goal.returns-in-Err-clause-starved
+returns-in-Err-clause-starved c s = last.err_told (Unit {0}) Turned (HasRoom c.args.self.now s c.args.work.now) c.in-Err.fault Faults.NoMemory (c.in-Err.ensures.starved s)

@@ -5,23 +5,26 @@ use Rattle.am_model.specs.Endpoint.{requests_held}
 use Rattle.am_translate.specs.Tables.{credit_fault}
 use Rattle.am_body.specs.Views.{View, table_of}
 use Rattle.am_body.proofs.Refused.{credit_told, untagged}
-use Rattle.am_body.proofs.Body.request_refusal.Goals as goal
+use Rattle.am_body.proofs.Body.request_target.Goals as goal
 
-pub returns-then-is_tagless : goal.returns-then-is_tagless
-returns-then-is_tagless c = untagged c.args.self.now c.args.index (sym c.is_tagless.ensures ∙ c.if-is_tagless.true)
+pub returns-then-is_tagless-clause-refusal : goal.returns-then-is_tagless-clause-refusal
+returns-then-is_tagless-clause-refusal c = untagged c.args.self.now c.args.index (sym c.is_tagless.ensures ∙ c.if-is_tagless.true)
 
-pub returns-in-Err : goal.returns-in-Err
-returns-in-Err c =
+pub returns-in-Err-clause-refusal : goal.returns-in-Err-clause-refusal
+returns-in-Err-clause-refusal c =
     ap (λ r. Some r) c.of_credit.ensures
     ∙ credit_told c.args.self.now c.args.index (Some c.in-Err.fault) (nat_le 16 (requests_held c.args.self.now.body)) (sym c.is_tagless.ensures ∙ c.if-is_tagless.false)
     (c.in-Err.ensures.fault ∙ ap (λ (v : View). credit_fault (table_of v) c.args.index) c.self.view_is) refl
 
-pub returns-then-requests_held-ge16 : goal.returns-then-requests_held-ge16
-returns-then-requests_held-ge16 c =
+pub returns-then-requests_held-ge16-clause-refusal : goal.returns-then-requests_held-ge16-clause-refusal
+returns-then-requests_held-ge16-clause-refusal c =
     credit_told c.args.self.now c.args.index None true (sym c.is_tagless.ensures ∙ c.if-is_tagless.false)
     (c.in-Ok.ensures.fault ∙ ap (λ (v : View). credit_fault (table_of v) c.args.index) c.self.view_is) (sym (le-leb 16 (requests_held c.args.self.now.body) (omega arith)))
 
-pub returns-else-requests_held-ge16 : goal.returns-else-requests_held-ge16
-returns-else-requests_held-ge16 c =
+pub returns-else-requests_held-ge16-clause-refusal : goal.returns-else-requests_held-ge16-clause-refusal
+returns-else-requests_held-ge16-clause-refusal c =
     credit_told c.args.self.now c.args.index None false (sym c.is_tagless.ensures ∙ c.if-is_tagless.false)
     (c.in-Ok.ensures.fault ∙ ap (λ (v : View). credit_fault (table_of v) c.args.index) c.self.view_is) (sym (lt-leb 16 (requests_held c.args.self.now.body) (omega arith)))
+
+pub returns-else-requests_held-ge16-clause-credit : goal.returns-else-requests_held-ge16-clause-credit
+returns-else-requests_held-ge16-clause-credit c = sym (c.in-Ok.ensures.fault ∙ ap (λ (v : View). credit_fault (table_of v) c.args.index) c.self.view_is)
