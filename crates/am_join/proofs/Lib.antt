@@ -4,3 +4,4 @@ pub mod Joining
 pub mod Starting
 pub mod OneJournal
 pub mod Lasts
+pub mod Placed

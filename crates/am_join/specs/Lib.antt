@@ -1,2 +1,3 @@
 pub mod Joined
 pub mod Heads
+pub mod Slots

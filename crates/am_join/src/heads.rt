@@ -55,7 +55,7 @@ pub(crate) fn next_head(logs: &[&[Entry]], log: usize, place: usize) -> Option<H
 }
 
 /// The entry at a place of a log.
-fn entry_at(log: &[Entry], place: usize) -> &Entry
+pub(crate) fn entry_at(log: &[Entry], place: usize) -> &Entry
     requires { place < length log.now }
     ensures shown { slice_get log.now place ≡ Some result.now }
     ensures place { place + 1 < 2 ^ 64 }

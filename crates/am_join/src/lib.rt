@@ -11,17 +11,32 @@ ghost use Rattle.std.specs.Prelude.{◌≡◌, ◌-◌, true, List, IfOk, length
 
 mod heads;
 mod parts;
+mod slots;
 
 use crate::heads::{entry_of, first_heads, first_of, is_again, next_head, taken};
+use crate::slots::{by_stamp, total};
 use am_office::{Entry, Journal, NoMemory};
 use std::alloc::Global;
 use std::slice::from_ref;
 
 /// The journal that the logs merge into: it has the entries of all logs, each once, by stamp and then by part. In a log
 /// stamps rise, and where two logs have entries with one stamp and one part, these are one entry, which stands in both.
-/// It costs a number of steps that grows as the entries times the logarithm of the number of logs, and takes memory once
-/// for the entries and once for the logs.
+/// Where no stamp is above the number of entries and no two parts have one stamp, it costs a number of steps that grows as the
+/// entries, and takes memory for the entries and for a place for each stamp. Else it costs a number of steps that grows as the entries
+/// times the logarithm of the number of logs, and takes memory once for the entries and once for the logs.
 pub fn join(alloc: Global, logs: &[&[Entry]]) -> Result<Journal, NoMemory>
+    requires rising { AllAre IsRising (lists_of logs.now) }
+    requires one { AreOne (entries_of (lists_of logs.now)) }
+    ensures { IfOk result (λ journal. journal ≡ merged (lists_of logs.now)) }
+{
+    match by_stamp(alloc, logs)? {
+        Some(entries) => Ok(Journal { entries }),
+        None => by_heads(alloc, logs),
+    }
+}
+
+/// The journal that the logs merge into, where the first of the entries that are left is taken again and again.
+fn by_heads(alloc: Global, logs: &[&[Entry]]) -> Result<Journal, NoMemory>
     requires rising { AllAre IsRising (lists_of logs.now) }
     requires one { AreOne (entries_of (lists_of logs.now)) }
     ensures { IfOk result (λ journal. journal ≡ merged (lists_of logs.now)) }
@@ -45,15 +60,6 @@ pub fn logs_of_one_journal()
     ensures one { (journal entries : List Entry) → is_ordered journal ≡ true → AreAmong journal entries → AreOne entries }
     ensures merged { (journal : List Entry) (logs : List (List Entry)) → is_ordered journal ≡ true → HaveJust journal logs → merged logs ≡ journal }
 {}
-
-/// How many entries the logs have together.
-fn total(logs: &[&[Entry]]) -> usize {
-    let mut total: usize = 0;
-    for log in logs {
-        total = total.saturating_add(log.len());
-    }
-    total
-}
 
 /// Adds an entry to those of the journal, unless it is the last of them, as was told.
 #[tactic(auto, using(crate::proofs::Lasts::told))]

@@ -6,6 +6,7 @@ ghost use Rattle.am_machine.specs.View.{Applies, Makes};
 ghost use Rattle.am_model.specs.Cluster.{ClusterInvariant};
 ghost use Rattle.am_model.specs.History.{IsHistory, is_in_range};
 ghost use Rattle.am_model.specs.Layout as layouts;
+ghost use Rattle.am_model.specs.Merge.{is_ordered};
 ghost use Rattle.am_model.specs.PostOffice.{PostOffice};
 ghost use Rattle.am_scenario_types.specs.Lawful.{IsLawful};
 ghost use Rattle.std.specs.Prelude.{◌≡◌, true, [], IfOk};
@@ -38,7 +39,7 @@ use am_join::join;
 use am_journal::JournalIndex;
 use am_laws::post_office;
 use am_laws_cluster::cluster_holds;
-pub use am_model::EntryFault;
+pub use am_model::EntryFault as ApplyFault;
 pub use am_node::NodePart;
 pub use am_office::NoMemory;
 use am_office::{Entry, Event, Journal};
@@ -111,7 +112,7 @@ impl Cluster {
 
     /// Applies an event: Ok is the one entry that the definitions give, and a refusal names the first condition that
     /// doesn't hold, or the log that is full, or tells that there is no memory for the entry. A refusal changes nothing.
-    pub fn apply(&mut self, event: &Event) -> Result<Entry, EntryFault>
+    pub fn apply(&mut self, event: &Event) -> Result<Entry, ApplyFault>
         requires in_range { is_in_range self.old.layout event.now ≡ true }
         ensures { Applies self.old self.new event.now result }
     {
@@ -125,7 +126,7 @@ impl Cluster {
     }
 
     /// Makes the entry of an event, as `apply` does, and answers no copy of it.
-    pub fn make(&mut self, event: &Event) -> Result<(), EntryFault>
+    pub fn make(&mut self, event: &Event) -> Result<(), ApplyFault>
         requires in_range { is_in_range self.old.layout event.now ≡ true }
         ensures { Makes self.old self.new event.now result }
     {
@@ -148,10 +149,11 @@ impl Cluster {
         }
     }
 
-    /// The entries in order, which are a history of a lawful layout, obey the laws of the post office and keep the invariant
-    /// of the cluster. They are merged from the logs of endpoints and interfaces: `NoMemory` comes where there is none for that.
+    /// The entries in the order of stamp and then part, which are a history of a lawful layout, obey the laws of the post office and
+    /// keep the invariant of the cluster. They are merged from the logs of endpoints and interfaces: `NoMemory` comes where there is none for that.
     pub fn journal(&self, alloc: Global) -> Result<Journal, NoMemory>
         ensures journal { IfOk result (λ journal. journal ≡ self.now.journal) }
+        ensures order { IfOk result (λ journal. is_ordered journal ≡ true) }
         ensures lawful { layouts.IsLawful self.now.layout }
         ensures history { IfOk result (λ journal. IsHistory self.now.layout journal) }
         ensures laws { IfOk result (λ journal. PostOffice self.now.layout journal) }

@@ -1,5 +1,5 @@
 -- The threads with their scripts, and how many calls of them were made.
-use Rattle.std.specs.Prelude.{◌≡◌, ℕ, ◌+◌, ◌<◌, ◌^◌, ◌==◌, nat_lt, Option, Some, None, List, [], find, length, option_map, slice_get, slice_set, slice_index_or, if◌then◌else◌}
+use Rattle.std.specs.Prelude.{◌≡◌, ℕ, ◌+◌, ◌<◌, ◌^◌, ◌==◌, nat_lt, Option, Some, None, List, [], ◌∷◌, ◌++◌, filter, find, length, option_map, slice_get, slice_set, slice_index_or, if◌then◌else◌}
 use Rattle.am_office.specs.declared.Entry.{Entry}
 use Rattle.am_scenario_types.specs.declared.parts.ScriptCall.{ScriptCall}
 use Rattle.am_scenario_types.specs.declared.parts.ThreadLine.{ThreadLine}
@@ -24,6 +24,10 @@ made_in t = t.made
 -- a declared thread after these entries
 abbrev pub scripted_of : ScenarioLists → List Entry → ThreadLine → Scripted
 scripted_of s past t = record { id = t.id; calls = script_of s t.id; made = length (calls_of t.id past) }
+
+-- a declared thread with its calls of these, before it made one
+abbrev pub begun_by : List ScriptCall → ThreadLine → Scripted
+begun_by script t = record { id = t.id; calls = filter (is_of_thread t.id) script; made = 0 }
 
 -- the call that comes next in its script
 abbrev pub call_in : Scripted → Option ScriptCall
@@ -53,6 +57,10 @@ abbrev pub with_call_if : Option ScriptCall → Scripted → Scripted
 with_call_if None t = t
 with_call_if (Some c) t = with_call c t
 
+-- one call more in the script of a thread, where it is of this thread
+abbrev pub with_line : ScriptCall → Scripted → Scripted
+with_line c t = record { id = t.id; calls = if is_of_thread t.id c then t.calls ++ c ∷ [] else t.calls; made = t.made }
+
 -- no thread
 abbrev pub no_thread : Scripted
 no_thread = record { id = 0; calls = []; made = 0 }
@@ -60,6 +68,10 @@ no_thread = record { id = 0; calls = []; made = 0 }
 -- one call more of the thread at a place
 abbrev pub with_call_at : ℕ → ScriptCall → List Scripted → List Scripted
 with_call_at k c ts = slice_set ts k (with_call c (slice_index_or ts k no_thread))
+
+-- one call more in the script of the thread at a place
+abbrev pub with_line_at : ℕ → ScriptCall → List Scripted → List Scripted
+with_line_at k c ts = slice_set ts k (with_line c (slice_index_or ts k no_thread))
 
 -- the thread at a place, and each, can count one call more
 abbrev pub IsSmallAt : List Scripted → ℕ → Type 0

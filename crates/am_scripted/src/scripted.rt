@@ -4,6 +4,7 @@ ghost use Rattle.am_scripted.specs.Links.{AreFed, IsSpared, released_in};
 ghost use Rattle.am_scripted.specs.PairMarks.{ArePaired};
 ghost use Rattle.am_machine.specs.View.{Applies, Makes};
 ghost use Rattle.am_model.specs.History.{IsHistory, is_in_range};
+ghost use Rattle.am_model.specs.Merge.{is_ordered};
 ghost use Rattle.am_scripted.specs.Scripted.{AreParts, cluster_of};
 ghost use Rattle.am_scripted.specs.Tries.{IsLastIfMade};
 ghost use Rattle.am_scripted.specs.Threads.{scripted_in, scripted_of};
@@ -95,9 +96,10 @@ impl<'a> ScriptedCluster<'a> {
         })
     }
 
-    /// The entries in order, which obey the laws of the post office. `NoMemory` comes where there is none for a copy of them.
+    /// The entries in the order of stamp and then part, which obey the laws of the post office. `NoMemory` comes where there is none for a copy of them.
     pub fn journal(&self, alloc: Global) -> Result<Journal, NoMemory>
         ensures journal { IfOk result (λ journal. journal ≡ self.now.journal) }
+        ensures order { IfOk result (λ journal. is_ordered journal ≡ true) }
         ensures laws { IfOk result (λ journal. PostOffice (layout_of self.now.scenario) journal) }
     {
         self.cluster.journal(alloc)

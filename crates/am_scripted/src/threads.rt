@@ -1,10 +1,10 @@
 // What each thread is still to call.
-ghost use Rattle.am_scripted.specs.Threads.{AreDistinct, AreSmall, HasThread, IsSmallAt, call_in, fewer_of, found_in, left_in, made_in, next_in, scripted_in, scripted_of, with_call, with_call_at, with_call_if};
+ghost use Rattle.am_scripted.specs.Threads.{AreDistinct, AreSmall, HasThread, IsSmallAt, begun_by, call_in, fewer_of, found_in, left_in, made_in, next_in, scripted_in, scripted_of, with_call, with_call_at, with_call_if, with_line, with_line_at};
 ghost use Rattle.am_drainer.specs.Firsts.{IsFewest};
 ghost use Rattle.am_drainer.specs.Reads.{left_of};
 ghost use Rattle.am_scenario_types.specs.Lawful.{IsLawful};
-ghost use Rattle.am_scripts.specs.Scripts.{call_made, script_of};
-ghost use Rattle.std.specs.Prelude.{◌≡◌, ◌==◌, ◌+◌, ◌*◌, ◌≤◌, ◌<◌, ◌^◌, [], IfOk, length, map, option_map, vec_len};
+ghost use Rattle.am_scripts.specs.Scripts.{call_made};
+ghost use Rattle.std.specs.Prelude.{◌≡◌, ◌==◌, ◌+◌, ◌*◌, ◌≤◌, ◌<◌, ◌^◌, [], IfOk, OnOk, length, map, option_map, vec_len};
 
 use am_drainer::LeftCall;
 use am_office::{Actor, Entry, Event, NoMemory};
@@ -19,33 +19,58 @@ pub(crate) struct ThreadScript {
     pub(crate) made: u32,
 }
 
-/// The calls that a thread is to make.
-fn script_of(alloc: Global, scenario: &Scenario, thread: u8) -> Result<Vec<ScriptCall>, NoMemory>
-    ensures { IfOk result (λ calls. calls.items ≡ script_of scenario.now thread) }
+/// The threads of a scenario without their scripts.
+fn bare_threads(alloc: Global, scenario: &Scenario) -> Result<Vec<ThreadScript>, NoMemory>
+    ensures { IfOk result (λ threads. map scripted_in threads.items ≡ map (begun_by []) scenario.now.threads) }
 {
-    let mut calls = Vec::new(alloc);
-    for call in &scenario.script {
-        if thread == call.thread && calls.push(*call).is_err() {
-            return Err(NoMemory);
-        }
+    let mut threads = Vec::with_capacity(alloc, scenario.threads.len())?;
+    for line in &scenario.threads {
+        threads.push(ThreadScript {
+            id: line.id,
+            calls: Vec::new(alloc),
+            made: 0,
+        })?;
     }
-    Ok(calls)
+    Ok(threads)
+}
+
+/// One call more in the script of a thread, where it is of this thread.
+fn add_on(thread: &mut ThreadScript, call: ScriptCall) -> Result<(), NoMemory>
+    ensures { OnOk result (scripted_in thread.new ≡ with_line call (scripted_in thread.old)) }
+{
+    if thread.id == call.thread && thread.calls.push(call).is_err() {
+        return Err(NoMemory);
+    }
+    Ok(())
+}
+
+/// One call more in the script of the thread at a place, where it is of that thread.
+fn add_at(threads: &mut Vec<ThreadScript>, index: usize, call: ScriptCall) -> Result<(), NoMemory>
+    requires { index < length threads.old.items }
+    ensures { OnOk result (map scripted_in threads.new.items ≡ with_line_at index call (map scripted_in threads.old.items)) }
+{
+    add_on(&mut threads[index], call)
+}
+
+/// One call more in the script of the thread whose it is.
+fn add_call(threads: &mut Vec<ThreadScript>, call: ScriptCall) -> Result<(), NoMemory>
+    requires { AreDistinct (map scripted_in threads.old.items) }
+    ensures { OnOk result (map scripted_in threads.new.items ≡ map (with_line call) (map scripted_in threads.old.items)) }
+{
+    match place_of(threads, call.thread) {
+        Some(place) => add_at(threads, place, call),
+        None => Ok(()),
+    }
 }
 
 /// The threads of a scenario before they made a call.
 pub(crate) fn all_scripts(alloc: Global, scenario: &Scenario) -> Result<Vec<ThreadScript>, NoMemory>
+    requires { IsLawful scenario.now }
     ensures { IfOk result (λ threads. map scripted_in threads.items ≡ map (scripted_of scenario.now []) scenario.now.threads) }
 {
-    let mut threads = Vec::new(alloc);
-    for line in &scenario.threads {
-        let thread = ThreadScript {
-            id: line.id,
-            calls: script_of(alloc, scenario, line.id)?,
-            made: 0,
-        };
-        if threads.push(thread).is_err() {
-            return Err(NoMemory);
-        }
+    let mut threads = bare_threads(alloc, scenario)?;
+    for call in &scenario.script {
+        add_call(&mut threads, *call)?;
     }
     Ok(threads)
 }

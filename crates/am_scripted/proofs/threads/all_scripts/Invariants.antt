@@ -1,6 +1,6 @@
-use Rattle.std.proofs.Common.{◌≡◌, [], map, take}
-use Rattle.am_scripted.specs.Threads.{scripted_in, scripted_of}
+use Rattle.std.proofs.Common.{◌≡◌, map, take}
+use Rattle.am_scripted.specs.Threads.{begun_by, scripted_in}
 use Rattle.am_scripted.proofs.threads.all_scripts.Given as goal
 
-abbrev pub invariant-loop-line : goal.invariant-loop-line
-invariant-loop-line l = map scripted_in l.threads.items ≡ map (scripted_of l.scenario []) (take l.line-index l.scenario.threads)
+abbrev pub invariant-loop-call : goal.invariant-loop-call
+invariant-loop-call l = map scripted_in l.threads.items ≡ map (begun_by (take l.call-index l.scenario.script)) l.scenario.threads

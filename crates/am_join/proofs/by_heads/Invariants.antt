@@ -7,7 +7,7 @@ use Rattle.am_join.specs.Joined.{lists_of}
 use Rattle.am_join.specs.Heads.{IsFirstOf, IsLeastFirst, log_at, option_reversed}
 use Rattle.am_join.proofs.Joining.{IsReached}
 use Rattle.am_join.proofs.Lasts.{IsOfLast}
-use Rattle.am_join.proofs.join.Given as goal
+use Rattle.am_join.proofs.by_heads.Given as goal
 
 abbrev pub invariant-loop-first : goal.invariant-loop-first
 invariant-loop-first l =

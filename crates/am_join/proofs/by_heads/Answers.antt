@@ -12,7 +12,7 @@ use Rattle.am_join.proofs.Firsts.{first_again, none_left, reversed}
 use Rattle.am_join.proofs.Joining.{IsReached, IsTaken, begins, ends, fewer, goes_on, left_of}
 use Rattle.am_join.proofs.Lasts.{IsOf, IsOfLast, again_is, head_is_of, of_added}
 use Rattle.am_join.proofs.Standing.{in_front}
-use Rattle.am_join.proofs.join.Goals as goal
+use Rattle.am_join.proofs.by_heads.Goals as goal
 
 is_head : (logs : List (Bor (List Entry))) (first : Option Head) (h : Head) (heads : List (Reverse Head)) (out : List Entry) → first ≡ Some h → IsReached (lists_of logs) (option_reversed first ++ heads) out → IsHead (lists_of logs) h
 is_head logs first h heads out is reached =
