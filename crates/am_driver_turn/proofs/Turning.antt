@@ -7,6 +7,8 @@ use Rattle.std.proofs.lemmas.List.Quantifiers.{position-Some}
 use Rattle.std.proofs.lemmas.Option.{get_or_from_slice_get, slice_get-get_or, slice_get_within}
 use Rattle.std.proofs.lemmas.List.Sums.{fails_before_first}
 use Rattle.std.proofs.lemmas.List.{length-set}
+use lib.ListN.{get_elem?}
+use mathlib.Core.Option.{some}
 use Rattle.am_names.specs.declared.EndpointId.{EndpointId}
 use Rattle.am_names.specs.declared.NodeId.{NodeId}
 use Rattle.am_names.specs.Names.{same_end}
@@ -36,7 +38,7 @@ use Rattle.am_works.specs.Works.{DriverWorks}
 use Rattle.am_works.proofs.Drivers.{can_wait, drivers_go_on, drivers_look, drivers_rest, drivers_wait}
 use Rattle.am_works.proofs.Driving.{looks_keep, moved_id, moves_keep}
 use Rattle.am_works.proofs.Same.{busy_same, stays_same}
-use Rattle.am_driver_turn.specs.Turns.{Answer, IsFull, IsHeld, IsLate, IsSpent, IsStarved, MeetsSeat, MoveTurns}
+use Rattle.am_driver_turn.specs.Turns.{Answer, DriverTurns, IsAtMove, IsFull, IsHeld, IsLate, IsSpent, IsStarved, MeetsSeat, MoveTurns}
 use Rattle.am_driver_turn.specs.declared.turns.DriverFault.TheVariants as Faults
 use Rattle.am_driver_turn.specs.declared.turns.DriverTurn.TheVariants as Turns
 
@@ -104,6 +106,12 @@ line_found e xs k is =
     let t = position-Some (λ (l : EndView). same_end e l.id) xs k (blank e) is in
     record { low = t.0; line = get_or xs k (blank e); at = slice_get-get_or xs k (blank e) t.0; id = sym (same_end-is e (get_or xs k (blank e)).id t.1) }
 
+-- an event that moves the endpoint of a line names the endpoint that was born at its place
+pub named_there : (frames : ℕ) (node : NodeId) (view : ViewLists) (swap : Store) (v : EndPass) (event : Event) (e : EndpointId) (k : ℕ) → CanDrive frames node view swap v → end_moved event ≡ Some e → position (λ (l : EndView). same_end e l.id) view.ends ≡ Some k → (set : EndSettings) → get_elem? v.births k ≡ some set → end_moved event ≡ Some set.id
+named_there frames node view swap v event e k can moved is set born =
+    let found = line_found e view.ends k is in
+    moved ∙ ap (λ (d : EndpointId). Some d) (sym found.id ∙ ap (λ (l : EndView). l.id) (can.each k set found.line born found.at).shows)
+
 past_all : (e : EndpointId) (xs : List EndView) → position (λ (l : EndView). same_end e l.id) xs ≡ None → length xs ≤ position_or_len (λ (l : EndView). same_end e l.id) xs
 past_all e xs none_is = grind (arith, common_steps)
 
@@ -161,3 +169,22 @@ moved_same node k clock now shown view' swap swap' u w (Err Faults.NoMemory) m =
 -- the same seat after the looks and the move
 pub turned_same : (n : ℕ) (node : NodeId) (k clock now : ℕ) (view shown view' : ViewLists) (swap swap' : Store) (v u w : EndPass) (r : Answer) → LooksTo n view shown v u → MoveTurns node k clock now shown view' swap swap' u w r → SameSeat v w
 turned_same n node k clock now view shown view' swap swap' v u w r looks m = same_then v u w (looks_same n view shown v u looks) (moved_same node k clock now shown view' swap swap' u w r m)
+
+-- ---- the turn
+
+-- the looks and then the move are a turn
+pub turns_so : (n : ℕ) (node : NodeId) (k clock now : ℕ) (view shown view' : ViewLists) (swap swap' : Store) (v u w : EndPass) (event : Event) (r : Answer) → LooksTo n view shown v u → event_of node (next_move shown) ≡ Some event → ((set : EndSettings) → get_elem? u.births k ≡ some set → end_moved event ≡ Some set.id)
+    → MoveTurns node k clock now shown view' swap swap' u w r → DriverTurns n node clock now view view' swap swap' v w r
+turns_so n node k clock now view shown view' swap swap' v u w event r looks chosen end m = by_answer r m
+  where
+    at_move : (a : Answer) → MoveTurns node k clock now shown view' swap swap' u w a → IsAtMove n node clock now view view' swap swap' v w a
+    at_move a m = record { k = k; shown = shown; between = u; looks = looks; event = event; chosen = chosen; end = end; turn = m }
+
+    by_answer : (a : Answer) → MoveTurns node k clock now shown view' swap swap' u w a → DriverTurns n node clock now view view' swap swap' v w a
+    by_answer (Ok (Turns.Did x)) m = at_move (Ok (Turns.Did x)) m
+    by_answer (Ok (Turns.Busy holder)) m = (record { looked = n; k = k; between = u; looks = subst (λ (z : ViewLists). LooksTo n view z v u) (sym m.1) looks; busy = m.0 }, m.2)
+    by_answer (Ok (Turns.Stale e)) m = at_move (Ok (Turns.Stale e)) m
+    by_answer (Ok (Turns.Spent e)) m = at_move (Ok (Turns.Spent e)) m
+    by_answer (Ok Turns.Nothing) m = absurd m
+    by_answer (Err (Faults.LogFull e)) m = at_move (Err (Faults.LogFull e)) m
+    by_answer (Err Faults.NoMemory) m = at_move (Err Faults.NoMemory) m

@@ -4,6 +4,7 @@ use Rattle.am_endpoint.specs.View.{EndpointView, state_after}
 use Rattle.am_model.specs.Parts.{last_stamp}
 use Rattle.am_model.specs.Endpoint.{is_on_disk}
 use Rattle.am_turns.specs.Turns.{IsCall}
+use Rattle.am_turns.proofs.Answering.{due_here}
 use Rattle.am_turns.proofs.Books.{call_keeps, called_book}
 use Rattle.am_turns.proofs.calls.make_call.Goals as goal
 
@@ -26,3 +27,9 @@ returns-in-Ok-clause-found c =
       stamped = c.in-Ok.ensures.stamp;
       low = subst (λ (d : EndpointView). max c.args.clock (last_stamp d.log) < 2 ^ 63) same c.requires.low;
     })
+
+pub returns-in-Err-LogFull-clause-found : goal.returns-in-Err-LogFull-clause-found
+returns-in-Err-LogFull-clause-found c = let v = c.args.book.now.end.value in (due_here c.args.clock v.settings v.log c.requires.here c.requires.low, ?)
+
+pub returns-in-Err-NoMemory-clause-found : goal.returns-in-Err-NoMemory-clause-found
+returns-in-Err-NoMemory-clause-found c = let v = c.args.book.now.end.value in (due_here c.args.clock v.settings v.log c.requires.here c.requires.low, ?)

@@ -37,3 +37,6 @@ returns-in-Err-LogFull-clause-found c =
     subst (λ (d : EndpointView). InterfaceFound w i c.turn_with.new.self Worked.Full d.settings d.log) c.deref_mut.ensures.value
     (full_found e i c.turn_with.new.self c.in-Err-LogFull.field-0-0 (failing_at (own i) (state_after e) w)
     (subst (λ (f : EntryFault). TellsFull (Err f) (failing_at (own i) (state_after e) w) (IsFullOf i e)) c.in-Err-LogFull.field-0-is c.in-Err-LogFull.ensures.full) c.in-Err-LogFull.ensures.err)
+
+pub returns-in-Err-NoMemory-clause-found : goal.returns-in-Err-NoMemory-clause-found
+returns-in-Err-NoMemory-clause-found c = ?
