@@ -98,6 +98,8 @@ fn part_of(
 ) -> Result<NodePart, NoMemory>
     ensures { IfOk result (λ part. IsPartOf nodes ended records.items part) }
 {
+    let emitted = emitted_of(alloc, records)?;
+    let received = counts_of(alloc, &ended.interface, ended.node, nodes)?;
     let NodeEnded {
         node,
         books,
@@ -105,13 +107,13 @@ fn part_of(
         swap,
         hand: _,
     } = ended;
-    let received = counts_of(alloc, &interface, node, nodes)?;
+    let ends = ends_of(alloc, books)?;
     Ok(NodePart {
         node,
-        ends: ends_of(alloc, books)?,
+        ends,
         iface: interface,
         swap,
-        emitted: emitted_of(alloc, records)?,
+        emitted,
         received,
     })
 }
@@ -126,7 +128,7 @@ fn assemble(
     requires all { length records.items ≡ length nodes.items }
     ensures { IfOk result (λ parts. ArePartsOf count nodes.items records.items parts.items) }
 {
-    let mut parts = Vec::with_capacity(alloc, nodes.len())?;
+    let mut parts = Vec::new(alloc);
     for (ended, row) in nodes.into_iter().zip(records) {
         parts.push(part_of(alloc, ended, row, count)?)?;
     }

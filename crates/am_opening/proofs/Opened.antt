@@ -33,7 +33,7 @@ use Rattle.am_works.specs.Begins.{AreFresh, ids_of}
 use Rattle.am_works.specs.Seats.{IsBorn, setting_by}
 use Rattle.am_works.specs.Stands.{fresh_pass}
 use Rattle.am_crew_laws.proofs.Homes.{ends_apart}
-use Rattle.am_opening.specs.Openings.{AreDeclared, AreOpenings, ArePlacesOf, EndPlaces, EndSeat, IsFreshSeat, IsOpening, IsReadOf, births_of, lines_of}
+use Rattle.am_opening.specs.Openings.{AreDeclared, AreOpenings, ArePlacesOf, EndPlaces, EndSeat, IsOpening, IsReadOf, births_of, lines_of}
 use Rattle.am_opening.specs.declared.nodes.Reading.{Reading}
 use Rattle.am_opening.specs.declared.opening.Opening.{Opening}
 use Rattle.am_opening.proofs.Fresh.{is_born, is_homely, no_log, part_at, part_books, part_disk, part_few, part_home, part_ids}
@@ -91,20 +91,20 @@ module _ (s : ScenarioLists) (p : NodePart) (ok : lawful.IsLawful s) (packet : s
   abbrev pub opened_as : Reading → EndPlaces → Vec EndSeat → Opening
   opened_as r places seats = record { node = p.node; places = places; seats = seats; threads = r.threads; interface = p.iface; set = r.set; swap = p.swap; view = r.view }
 
-  pub opening_is : (r : Reading) (places : EndPlaces) (seats : Vec EndSeat) → IsReadOf s p r → ArePlacesOf p.ends.items r.ids.items s.frames (length r.threads.items + 2) places seats.items → IsOpening s p.node (opened_as r places seats)
+  pub opening_is : (r : Reading) (places : EndPlaces) (seats : Vec EndSeat) → IsReadOf s p r → ArePlacesOf p.ends.items s.frames (length r.threads.items + 2) places seats.items → IsOpening s p.node (opened_as r places seats)
   opening_is r places seats read q =
       record {
         is_node = refl;
-        ids = q.ids ∙ read.ids' ∙ part_ids (layout_of s) p.node p (lawful_layout s ok) part;
+        ids = q.ids ∙ part_ids (layout_of s) p.node p (lawful_layout s ok) part;
         frames = q.framed;
         books = q.books;
-        named = books_ids q.books q.made ∙ sym (q.ids ∙ read.ids');
+        named = books_ids q.books q.made ∙ sym q.ids;
         declared = books_declared q.books q.made;
         homes = books_home q.books q.made;
         fresh_books = books_fresh q.books q.made;
         threads' = read.threads';
         all = q.all;
-        seats' = λ k seat at. subst (λ (named : List EndpointId). IsFreshSeat places.board.shared.table_id q.books named k (length r.threads.items + 2) s.frames seat) (sym q.ids) (q.seats' k seat at);
+        seats' = q.seats';
         interface' = part.interface;
         set' = read.set';
         lawful = read.lawful;
@@ -135,15 +135,15 @@ module _ (ends : List EndpointView) (books : List EndBook) (are : map end_in boo
   homely_books homely k b at =
       got_all (λ (e : EndpointView). stands_at e < 2) ends k b.end.value homely (subst (λ (l : List EndpointView). slice_get l k ≡ Some b.end.value) are (got_map end_in books k b (elem_got books k b at)))
 
-  pub places_are : (ids : List EndpointId) (frames count : ℕ) (places : EndPlaces) (seats : List EndSeat) → (places.ids.items ≡ ids) × (places.count ≡ length books) × (places.frames ≡ frames) → AreSeats places.board.shared.table_id books ids count frames seats → ArePlacesOf ends ids frames count places seats
-  places_are ids frames count places seats told sat =
+  pub places_are : (ids : List EndpointId) (frames count : ℕ) (places : EndPlaces) (seats : List EndSeat) → ids ≡ map (λ (e : EndpointView). e.settings.id) ends → (places.ids.items ≡ ids) × (places.count ≡ length books) × (places.frames ≡ frames) → AreSeats places.board.shared.table_id books ids count frames seats → ArePlacesOf ends frames count places seats
+  places_are ids frames count places seats named told sat =
       record {
-        ids = told.0;
+        ids = told.0 ∙ named;
         framed = told.2;
         books = books;
         made = are;
         all = sat.0;
-        seats' = λ k seat at. (let one = sat.1 k seat (got_elem seats k seat at) in record { table_is = one.0; pass = one.2 });
+        seats' = λ k seat at. (let one = sat.1 k seat (got_elem seats k seat at) in record { table_is = one.0; pass = one.2 ∙ ap (λ (own : List EndpointId). (fresh_pass books own k count frames, [])) (sym told.0) });
       }
 
 -- what holds of a value in two ways

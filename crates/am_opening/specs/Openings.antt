@@ -67,20 +67,19 @@ pub record IsFreshSeat (table : TableId) (books : List EndBook) (named : List En
 abbrev pub EndPlaces : Type 0
 EndPlaces = Places EndBook Entry EndSettings
 
--- these are places for the books of these endpoints, which have these numbers, and so many seats that were just made
-pub record ArePlacesOf (ends : List EndpointView) (named : List EndpointId) (frames count : ℕ) (places : EndPlaces) (seats : List EndSeat) : Type 0 where
-  pub ids : places.ids.items ≡ named
+-- these are places for the books of these endpoints, and so many seats that were just made
+pub record ArePlacesOf (ends : List EndpointView) (frames count : ℕ) (places : EndPlaces) (seats : List EndSeat) : Type 0 where
+  pub ids : places.ids.items ≡ map (λ (e : EndpointView). e.settings.id) ends
   pub framed : places.frames ≡ frames
   pub books : List EndBook
   pub made : map end_in books ≡ ends
   pub all : length seats ≡ count
-  pub seats' : (k : ℕ) (seat : EndSeat) → slice_get seats k ≡ Some seat → IsFreshSeat places.board.shared.table_id books named k count frames seat
+  pub seats' : (k : ℕ) (seat : EndSeat) → slice_get seats k ≡ Some seat → IsFreshSeat places.board.shared.table_id books places.ids.items k count frames seat
 
 -- what is read of the part of a node, before the part is taken apart
 pub record IsReadOf (s : ScenarioLists) (p : NodePart) (r : Reading) : Type 0 where
   pub threads' : r.threads.items ≡ threads_of s p.node
   pub few : length r.threads.items ≤ 4
-  pub ids' : r.ids.items ≡ map (λ (e : EndpointView). e.settings.id) p.ends.items
   pub view' : r.view ≡ record { ends = lines_of p.ends.items; frames = s.frames; keep = s.keep; last = None }
   pub set' : r.set ≡ p.iface.settings
   pub lawful : AreLawful r.set

@@ -4,7 +4,7 @@ use Rattle.am_crew.proofs.parting.assemble.Goals as goal
 
 pub loop-ended-init : goal.loop-ended-init
 loop-ended-init c =
-    none_parted c.args.count c.args.nodes.items c.args.records.items c.in_ok-parts.parts.items c.into_iter-ended-iterator.result.a.rest.items c.into_iter-ended-iterator.result.b.rest.items c.in_ok-parts.ensures.items (search) (search)
+    none_parted c.args.count c.args.nodes.items c.args.records.items c.new-parts.result.items c.into_iter-ended-iterator.result.a.rest.items c.into_iter-ended-iterator.result.b.rest.items c.new-parts.ensures.items (search) (search)
 
 pub loop-ended-preserved : goal.loop-ended-preserved
 loop-ended-preserved c =

@@ -4,8 +4,8 @@ use Rattle.std.specs.Option.{option_to_list}
 use Rattle.am_opening.specs.Openings.{EndSeat}
 use Rattle.am_crew_opening.proofs.making.seat_all.Goals as goal
 
-pub open_threads-threads-requires : goal.open_threads-threads-requires
-open_threads-threads-requires c =
+pub open_threads-requires : goal.open_threads-requires
+open_threads-requires c =
     let first : c.args.seats.now.items ≡ c.pop.new.self.items ++ c.unwrap-driver.result ∷ [] = c.pop.ensures.items ∙ ap (λ (x : Option EndSeat). c.pop.new.self.items ++ option_to_list x) c.unwrap-driver.ensures in
     let second : c.pop.new.self.items ≡ c.pop-2.new.self.items ++ c.unwrap-interface.result ∷ [] = c.pop-2.ensures.items ∙ ap (λ (x : Option EndSeat). c.pop-2.new.self.items ++ option_to_list x) c.unwrap-interface.ensures in
     let all = c.requires in

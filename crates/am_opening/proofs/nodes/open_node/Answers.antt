@@ -38,4 +38,4 @@ returns c =
     let frames = ap (λ (w : ScenarioLists). w.frames) c.scenario.view_is in
     let n : c.len.result ≡ length r.threads.items = search rules in
     opening_is c.args.scenario.now p c.requires.lawful c.requires.packet c.requires.part r c.in_ok-places.places c.in_ok-places.seats c.in_ok-read.ensures
-    (coe 0 1 (i. ArePlacesOf p.ends.items r.ids.items (frames i) (n i + 2) c.in_ok-places.places c.in_ok-places.seats.items) c.in_ok-places.ensures)
+    (coe 0 1 (i. ArePlacesOf p.ends.items (frames i) (n i + 2) c.in_ok-places.places c.in_ok-places.seats.items) c.in_ok-places.ensures)

@@ -1,5 +1,4 @@
-use Rattle.std.proofs.Common.{◌≡◌, ◌∙◌, List, length, map, None, refl, sym, subst, ap}
-use Rattle.am_endpoint.specs.View.{EndpointView}
+use Rattle.std.proofs.Common.{◌≡◌, ◌∙◌, List, length, None, refl, sym, subst, ap}
 use Rattle.am_iface.specs.Settings.{AreLawful}
 use Rattle.am_scenario_types.specs.declared.parts.ThreadLine.{ThreadLine}
 use Rattle.am_scenario_types.specs.Lists.{ScenarioLists}
@@ -16,8 +15,7 @@ returns c =
     record {
       threads' = c.in_ok-threads.ensures ∙ ap (λ (ls : List ThreadLine). thread_ids ls p.node) lines;
       few = count_low c.args.scenario.now p.node (length c.in_ok-threads.threads.items) c.in_ok-threads.threads.items c.deref.result.now c.requires.lawful refl c.in_ok-threads.ensures lines;
-      ids' = c.in_ok-ids.ensures ∙ ap (map (λ (e : EndpointView). e.settings.id)) c.deref-2.ensures.value;
-      view' = c.in_ok-view.ensures ∙ (λ i. record { ends = lines_of (c.deref-3.ensures.value i); frames = frames i; keep = keep i; last = None });
+      view' = c.in_ok-view.ensures ∙ (λ i. record { ends = lines_of (c.deref-2.ensures.value i); frames = frames i; keep = keep i; last = None });
       set' = c.in_ok-set.ensures.settings;
       lawful = subst AreLawful (sym c.in_ok-set.ensures.settings) c.in_ok-set.ensures.lawful;
     }
