@@ -1,7 +1,7 @@
 -- What a driver's looks and its move come to.
 use Rattle.std.specs.Prelude.{position, slice_get}
 use Rattle.std.specs.List.{position_or_len}
-use Rattle.std.proofs.Common.{◌≡◌, ◌⊎◌, ⊎_elim, ℕ, zero, suc, ◌+◌, ◌<◌, ◌≤◌, false, true, List, [], ◌∷◌, length, Some, None, Ok, Err, get_or, refl, sym, ap, ◌∙◌, subst, arith, eq-eqb, true≢false}
+use Rattle.std.proofs.Common.{◌≡◌, ◌⊎◌, ⊎_elim, ℕ, zero, suc, ◌+◌, ◌<◌, ◌≤◌, false, true, List, [], ◌∷◌, length, Option, Some, None, Ok, Err, get_or, refl, sym, ap, ◌∙◌, subst, arith, eq-eqb, true≢false}
 use Rattle.std.proofs.lemmas.Grind.{common_steps}
 use Rattle.std.proofs.lemmas.List.Quantifiers.{position-Some}
 use Rattle.std.proofs.lemmas.Option.{get_or_from_slice_get, slice_get-get_or, slice_get_within}
@@ -36,7 +36,7 @@ use Rattle.am_works.specs.Drives.{CanDrive, LooksTo, frames_after, line_by, with
 use Rattle.am_works.specs.Seats.{EndPass, Ids, SameSeat}
 use Rattle.am_works.specs.Works.{DriverWorks}
 use Rattle.am_works.proofs.Drivers.{can_wait, drivers_go_on, drivers_look, drivers_rest, drivers_wait}
-use Rattle.am_works.proofs.Driving.{looks_keep, moved_id, moves_keep}
+use Rattle.am_works.proofs.Driving.{looks_keep, moved_id, moves_keep, same_event}
 use Rattle.am_works.proofs.Same.{busy_same, stays_same}
 use Rattle.am_driver_turn.specs.Turns.{Answer, DriverTurns, IsAtMove, IsFull, IsHeld, IsLate, IsSpent, IsStarved, MeetsSeat, MoveTurns}
 use Rattle.am_driver_turn.specs.declared.turns.DriverFault.TheVariants as Faults
@@ -121,6 +121,24 @@ line_missing e xs j line at id none_is =
     let fails : same_end e (get_or xs j (blank e)).id ≡ false = fails_before_first (λ (l : EndView). same_end e l.id) xs j (blank e) (omega arith) in
     let there : get_or xs j (blank e) ≡ line = get_or_from_slice_get xs j line (blank e) at in
     true≢false (sym (ap (same_end e) (ap (λ (l : EndView). l.id) there ∙ id) ∙ eq-eqb e.0 e.0 refl) ∙ fails)
+
+-- a move that has an event moves an endpoint
+pub moves_one : (node : NodeId) (m : Move) (event : Event) → event_of node m ≡ Some event → end_moved event ≡ None → ⊥
+moves_one node (Moves.Unload e) event is none = let bad : ◌≡◌ {A = Option EndpointId} (Some e) None = ap end_moved (same_event (Events.Unload node e) event is) ∙ none in cc
+moves_one node (Moves.PageIn e) event is none = let bad : ◌≡◌ {A = Option EndpointId} (Some e) None = ap end_moved (same_event (Events.PageIn node e) event is) ∙ none in cc
+moves_one node (Moves.Load e frame) event is none = let bad : ◌≡◌ {A = Option EndpointId} (Some e) None = ap end_moved (same_event (Events.Load node e frame) event is) ∙ none in cc
+moves_one node (Moves.Drain e) event is none = let bad : ◌≡◌ {A = Option EndpointId} (Some e) None = ap end_moved (same_event (Events.Drain node e) event is) ∙ none in cc
+moves_one node (Moves.PageOut e) event is none = let bad : ◌≡◌ {A = Option EndpointId} (Some e) None = ap end_moved (same_event (Events.PageOut node e) event is) ∙ none in cc
+moves_one node Moves.Nothing event is none = cc
+
+-- and one that has none is none
+pub nothing_of : (node : NodeId) (m : Move) → event_of node m ≡ None → m ≡ Moves.Nothing
+nothing_of node (Moves.Unload e) none = absurd (cc)
+nothing_of node (Moves.PageIn e) none = absurd (cc)
+nothing_of node (Moves.Load e frame) none = absurd (cc)
+nothing_of node (Moves.Drain e) none = absurd (cc)
+nothing_of node (Moves.PageOut e) none = absurd (cc)
+nothing_of node Moves.Nothing none = refl
 
 suits_id : (view : ViewLists) (node : NodeId) (m : Move) (l : EndView) (event : Event) (d : EndpointId) → Suits view m l → event_of node m ≡ Some event → end_moved event ≡ Some d → l.id ≡ d
 suits_id view node (Moves.Unload e) l event d s is end = s.0 ∙ moved_id e (Events.Unload node e) event d is refl end

@@ -1,7 +1,8 @@
-use Rattle.std.proofs.Common.{◌≡◌, ◌∙◌, ◌<◌, Some, ap, arith, length, sym}
+use Rattle.std.proofs.Common.{◌≡◌, ◌∙◌, ◌<◌, Some, ap, arith, length, refl, sym}
+use Rattle.am_driver.specs.Moves.{next_move}
 use Rattle.am_driver.specs.Shown.{event_of}
 use Rattle.am_works.proofs.Drivers.{drivers_rest}
-use Rattle.am_driver_turn.proofs.Turning.{has_line, line_found, named_there, looks_can, looks_long, looks_same, looks_works, moved_can, moved_works, stopped_can, stopped_same, stopped_works, turned_same, turns_so}
+use Rattle.am_driver_turn.proofs.Turning.{has_line, line_found, looks_can, looks_long, looks_same, looks_works, moved_can, moved_works, moves_one, named_there, nothing_of, stopped_can, stopped_same, stopped_works, turned_same, turns_so}
 use Rattle.am_driver_turn.proofs.driver.driver_turn.Goals as goal
 
 pub returns-in-Err-clause-can : goal.returns-in-Err-clause-can
@@ -32,6 +33,14 @@ pub returns-in_default-event_of-clause-works : goal.returns-in_default-event_of-
 returns-in_default-event_of-clause-works c s ids n of h = let l = c.look_at_each.new in let a = c.args in
     drivers_rest s ids a.node n a.clock.now l.view a.swap.now l.seat.token.me.0
     (looks_works (length a.view.now.ends) s ids a.node n a.clock.now a.view.now l.view a.swap.now a.seat.now.token.me.0 l.seat.token.me.0 h c.in_default.ensures.looked)
+
+pub returns-in_default-event_of-clause-turn : goal.returns-in_default-event_of-clause-turn
+returns-in_default-event_of-clause-turn c = let l = c.look_at_each.new in
+    (c.in_default.ensures.looked, nothing_of c.args.node (next_move l.view) (ap (event_of c.args.node) (sym c.next_move-chosen.ensures.rules) ∙ sym c.event_of.ensures ∙ c.in_default-event_of.is), (refl, refl))
+
+pub unreachable-requires : goal.unreachable-requires
+unreachable-requires c = let l = c.look_at_each.new in
+    moves_one c.args.node (next_move l.view) c.in-Some.event (ap (event_of c.args.node) (sym c.next_move-chosen.ensures.rules) ∙ sym c.event_of.ensures ∙ c.in-Some.is) (sym c.end_moved.ensures ∙ c.in_default-end_moved.is)
 
 pub unreachable-requires-in_default-line_at : goal.unreachable-requires-in_default-line_at
 unreachable-requires-in_default-line_at c = let l = c.look_at_each.new in let a = c.args in
