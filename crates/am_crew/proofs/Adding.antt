@@ -1,13 +1,13 @@
 -- One node more whose phase is over.
 use Rattle.std.specs.Prelude.{slice_get}
 use Rattle.std.specs.Global.{Vec}
-use Rattle.std.proofs.Common.{◌≡◌, ◌⊎◌, ⊎_elim, ℕ, ◌+◌, List, [], ◌∷◌, ◌++◌, length, length-append, Some, sym, ap, ◌∙◌, subst, arith}
+use Rattle.std.proofs.Common.{◌≡◌, ◌⊎◌, ⊎_elim, ℕ, suc, ◌+◌, ◌≤◌, List, [], ◌∷◌, ◌++◌, length, length-append, Some, sym, ap, ◌∙◌, subst, arith}
 use Rattle.std.proofs.lemmas.Option.{slice_get_within}
 use Rattle.am_lemmas.proofs.Lists.{slice_get-push_cases}
 use Rattle.am_wire.specs.declared.receiving.LinkIn.{LinkIn}
 use Rattle.am_wire.specs.declared.sending.LinkOut.{LinkOut}
 use Rattle.am_crew_opening.specs.declared.crew.NodeCrew.{NodeCrew}
-use Rattle.am_crew.specs.Ending.{AreEnded, IsEndedOf, IsNodeEndedOf}
+use Rattle.am_crew.specs.Ending.{AreEnded, HasRoom, IsEndedOf, IsNodeEndedOf}
 use Rattle.am_crew.specs.declared.ended.AllEnded.{AllEnded}
 use Rattle.am_crew.specs.declared.ended.Ended.{Ended}
 use Rattle.am_crew.specs.declared.ended.NodeEnded.{NodeEnded}
@@ -41,6 +41,38 @@ ended_more cs all next c e h is nodes outs ins =
       outs = λ k a b at_a at_b. pairs_more (λ (u : NodeCrew) (v : Vec LinkOut). v.items ≡ u.interface.outs.items) cs all.outs.items c e.outs h.all_outs h.outs is.outs k a b at_a (subst (λ (xs : List (Vec LinkOut)). slice_get xs k ≡ Some b) outs at_b);
       ins = λ k a b at_a at_b. pairs_more (λ (u : NodeCrew) (v : Vec LinkIn). v.items ≡ u.interface.ins.items) cs all.ins.items c e.ins h.all_ins h.ins is.ins k a b at_a (subst (λ (xs : List (Vec LinkIn)). slice_get xs k ≡ Some b) ins at_b);
     }
+
+pub none_ended : (all : AllEnded) → all.nodes.items ≡ [] → all.outs.items ≡ [] → all.ins.items ≡ [] → AreEnded [] all
+none_ended all nodes outs ins =
+    record {
+      all_nodes = ap (λ (xs : List NodeEnded). length xs) nodes;
+      all_outs = ap (λ (xs : List (Vec LinkOut)). length xs) outs;
+      all_ins = ap (λ (xs : List (Vec LinkIn)). length xs) ins;
+      node = λ k c n at_c at_n. absurd (cc);
+      outs = λ k c os at_c at_os. absurd (cc);
+      ins = λ k c is at_c at_is. absurd (cc);
+    }
+
+-- ---- room
+
+pub one_left : {X : Type 0} (rest more : List X) (x : X) → rest ≡ x ∷ more → length rest ≡ length more + 1
+one_left {X} rest more x is = let all : length rest ≡ suc (length more) = ap (λ (xs : List X). length xs) is in omega (arith, all)
+
+pub room_less : (m n : ℕ) (all : AllEnded) → n ≤ m → HasRoom m all → HasRoom n all
+room_less m n all less h =
+    record {
+      nodes = (let room = h.nodes in omega (arith, less, room));
+      outs = (let room = h.outs in omega (arith, less, room));
+      ins = (let room = h.ins in omega (arith, less, room));
+    }
+
+pub room_made : {X : Type 0} (xs : List X) (n room : ℕ) → xs ≡ [] → n ≤ room → length xs + n ≤ room
+room_made {X} xs n room none few = let all : length xs ≡ 0 = ap (λ (zs : List X). length zs) none in omega (arith, all, few)
+
+pub room_filled : {X : Type 0} (xs ys : List X) (x : X) (n room room' : ℕ) → ys ≡ xs ++ x ∷ [] → length xs + (n + 1) ≤ room → room ≤ room' → length ys + n ≤ room'
+room_filled {X} xs ys x n room room' is few more =
+    let all : length ys ≡ length xs + 1 = ap (λ (zs : List X). length zs) is ∙ length-append xs (x ∷ []) in
+    omega (arith, all, few, more)
 
 pub moved_on : {X : Type 0} (ys : List X) (x : X) (more rest all : List X) → rest ≡ x ∷ more → ys ++ rest ≡ all → (ys ++ x ∷ []) ++ more ≡ all
 moved_on {X} [] x more rest all is h = sym is ∙ h

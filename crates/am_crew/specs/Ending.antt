@@ -1,5 +1,5 @@
 -- What is left of the nodes' crews when their phase is over.
-use Rattle.std.specs.Prelude.{◌≡◌, ℕ, Some, List, length, slice_get}
+use Rattle.std.specs.Prelude.{◌≡◌, ℕ, ◌+◌, ◌≤◌, Some, List, length, slice_get, vec_capacity}
 use Rattle.std.specs.Global.{Vec}
 use Rattle.am_books.specs.declared.EndBook.{EndBook}
 use Rattle.am_works.specs.Seats.{EndPass}
@@ -38,3 +38,9 @@ pub record AreEnded (crews : List NodeCrew) (all : AllEnded) : Type 0 where
   pub node : (k : ℕ) (c : NodeCrew) (n : NodeEnded) → slice_get crews k ≡ Some c → slice_get all.nodes.items k ≡ Some n → IsNodeEndedOf c n
   pub outs : (k : ℕ) (c : NodeCrew) (os : Vec LinkOut) → slice_get crews k ≡ Some c → slice_get all.outs.items k ≡ Some os → os.items ≡ c.interface.outs.items
   pub ins : (k : ℕ) (c : NodeCrew) (is : Vec LinkIn) → slice_get crews k ≡ Some c → slice_get all.ins.items k ≡ Some is → is.items ≡ c.interface.ins.items
+
+-- there is room for so many more
+pub record HasRoom (n : ℕ) (all : AllEnded) : Type 0 where
+  pub nodes : length all.nodes.items + n ≤ vec_capacity all.nodes
+  pub outs : length all.outs.items + n ≤ vec_capacity all.outs
+  pub ins : length all.ins.items + n ≤ vec_capacity all.ins

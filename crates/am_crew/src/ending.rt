@@ -1,6 +1,6 @@
 //! How a node's phase ends: its driver gathers the other seats, and takes the endpoints out.
 
-ghost use Rattle.am_crew.specs.Ending.{AreEnded, AreTakenOut, IsEndedOf};
+ghost use Rattle.am_crew.specs.Ending.{AreEnded, AreTakenOut, HasRoom, IsEndedOf};
 ghost use Rattle.am_crew_ends.specs.Ends.{gathered_all, pass_of};
 ghost use Rattle.am_crew_laws.specs.Ended.{ComesTo};
 ghost use Rattle.am_crew_opening.specs.Crews.{AreCrews, IsCrew};
@@ -10,7 +10,7 @@ ghost use Rattle.am_places.specs.declared.board.Tenure.{Tenure};
 ghost use Rattle.am_books.specs.Books.{stands_at};
 ghost use Rattle.am_workers.specs.declared.workers.ThreadWorker.{ThreadWorker};
 ghost use Rattle.am_works.specs.Seats.{IsIdle};
-ghost use Rattle.std.specs.Prelude.{◌≡◌, ◌<◌, ◌≤◌, List, [], ◌∷◌, false, IfOk, All, None, length, map, vec_capacity};
+ghost use Rattle.std.specs.Prelude.{◌≡◌, ◌+◌, ◌<◌, ◌≤◌, ℕ, List, [], ◌∷◌, ◌++◌, false, IfOk, All, None, length, map, vec_capacity};
 
 use crate::ended::{AllEnded, Ended, NodeEnded};
 use am_books::EndBook;
@@ -78,6 +78,7 @@ fn end_crew(alloc: Global, scenario: &Scenario, crew: NodeCrew) -> Result<Ended,
 {
     a_crew_is_gathered();
     let _scenario = scenario;
+    let books = Vec::with_capacity(alloc, crew.places.count)?;
     let NodeCrew {
         node,
         first: _,
@@ -86,7 +87,6 @@ fn end_crew(alloc: Global, scenario: &Scenario, crew: NodeCrew) -> Result<Ended,
         interface,
         driver,
     } = crew;
-    let books = Vec::with_capacity(alloc, places.count)?;
     let InterfaceWorker {
         seat,
         interface,
@@ -116,6 +116,32 @@ fn end_crew(alloc: Global, scenario: &Scenario, crew: NodeCrew) -> Result<Ended,
     })
 }
 
+/// Room for so many nodes whose phase is over.
+fn room_for(alloc: Global, count: usize) -> Result<AllEnded, NoMemory>
+    ensures none { IfOk result (λ all. (all.nodes.items ≡ []) × (all.outs.items ≡ []) × (all.ins.items ≡ [])) }
+    ensures room { IfOk result (HasRoom count) }
+{
+    Ok(AllEnded {
+        nodes: Vec::with_capacity(alloc, count)?,
+        outs: Vec::with_capacity(alloc, count)?,
+        ins: Vec::with_capacity(alloc, count)?,
+    })
+}
+
+/// Adds a node whose phase is over, for which there is room.
+fn add(all: &mut AllEnded, ended: Ended)
+    requires room { HasRoom 1 all.old }
+    ensures nodes { all.new.nodes.items ≡ all.old.nodes.items ++ ended.node ∷ [] }
+    ensures outs { all.new.outs.items ≡ all.old.outs.items ++ ended.outs ∷ [] }
+    ensures ins { all.new.ins.items ≡ all.old.ins.items ++ ended.ins ∷ [] }
+    ensures room { (n : ℕ) → HasRoom (n + 1) all.old → HasRoom n all.new }
+{
+    let Ended { node, outs, ins } = ended;
+    all.nodes.push(node).unwrap();
+    all.outs.push(outs).unwrap();
+    all.ins.push(ins).unwrap();
+}
+
 /// Ends the phase of each node, in order.
 pub(crate) fn end_crews(
     alloc: Global,
@@ -125,16 +151,10 @@ pub(crate) fn end_crews(
     requires crews { AreCrews scenario.now scenario.now.turns crews.items }
     ensures { IfOk result (AreEnded crews.items) }
 {
-    let mut all = AllEnded {
-        nodes: Vec::with_capacity(alloc, crews.len())?,
-        outs: Vec::with_capacity(alloc, crews.len())?,
-        ins: Vec::with_capacity(alloc, crews.len())?,
-    };
+    let mut all = room_for(alloc, crews.len())?;
     for crew in crews {
-        let Ended { node, outs, ins } = end_crew(alloc, scenario, crew)?;
-        all.nodes.push(node)?;
-        all.outs.push(outs)?;
-        all.ins.push(ins)?;
+        let ended = end_crew(alloc, scenario, crew)?;
+        add(&mut all, ended);
     }
     Ok(all)
 }

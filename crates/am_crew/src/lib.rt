@@ -28,7 +28,7 @@ pub use am_workers::{Gate, OpenGate};
 use std::alloc::Global;
 use std::thread::Threads;
 
-/// What the crews of all nodes made, put together to a cluster.
+/// What the crews of all nodes made, put together to a cluster, unless a worker found no memory.
 fn unite_crews(
     alloc: Global,
     scenario: &Scenario,
@@ -42,6 +42,9 @@ fn unite_crews(
     ensures good { IfOk result (λ cluster. IsGoodPhase scenario.now cluster.journal) }
     ensures none { IfOk result (λ cluster. scenario.now.turns ≡ 0 → cluster.journal ≡ []) }
 {
+    if found_no_memory(&crews) {
+        return Err(NoMemory);
+    }
     receipts_are_counted();
     crews_unite();
     let ended = end_crews(alloc, scenario, crews)?;
@@ -70,8 +73,5 @@ pub fn make_phase<R: Threads + Sync, G: Gate + Sync>(
 {
     let mut crews = open_crews(alloc, scenario)?;
     run_crews(rt, alloc, scenario, gate, &mut crews);
-    if found_no_memory(&crews) {
-        return Err(NoMemory);
-    }
     unite_crews(alloc, scenario, crews)
 }

@@ -5,9 +5,10 @@ ghost use Rattle.am_books.specs.Ends.{end_in};
 ghost use Rattle.am_crew.specs.Parting.{ArePartsOf, IsPartOf, emitted_in};
 ghost use Rattle.am_journal.specs.View as journals;
 ghost use Rattle.am_node.specs.Shells.{AreCounts};
+ghost use Rattle.am_node.specs.declared.NodePart.{NodePart as Part};
 ghost use Rattle.am_wire.specs.declared.closing.LinkRecord.{LinkRecord};
 ghost use Rattle.std.specs.Global.{Vec};
-ghost use Rattle.std.specs.Prelude.{◌≡◌, ◌<◌, ◌≤◌, IfOk, List, length, map};
+ghost use Rattle.std.specs.Prelude.{◌≡◌, ◌<◌, ◌≤◌, ◌∷◌, ◌++◌, [], IfOk, List, OnOk, length, map};
 
 use crate::closing::close_links;
 use crate::ended::{AllEnded, NodeEnded};
@@ -98,6 +99,8 @@ fn part_of(
 ) -> Result<NodePart, NoMemory>
     ensures { IfOk result (λ part. IsPartOf nodes ended records.items part) }
 {
+    let emitted = emitted_of(alloc, records)?;
+    let received = counts_of(alloc, &ended.interface, ended.node, nodes)?;
     let NodeEnded {
         node,
         books,
@@ -105,15 +108,30 @@ fn part_of(
         swap,
         hand: _,
     } = ended;
-    let received = counts_of(alloc, &interface, node, nodes)?;
+    let ends = ends_of(alloc, books)?;
     Ok(NodePart {
         node,
-        ends: ends_of(alloc, books)?,
+        ends,
         iface: interface,
         swap,
-        emitted: emitted_of(alloc, records)?,
+        emitted,
         received,
     })
+}
+
+/// Adds the part of a node, with what went over its links.
+fn add_part(
+    alloc: Global,
+    parts: &mut Vec<NodePart>,
+    ended: NodeEnded,
+    records: Vec<LinkRecord>,
+    nodes: u8,
+) -> Result<(), NoMemory>
+    ensures { OnOk result ((part : Part) × IsPartOf nodes ended records.items part × (parts.new.items ≡ parts.old.items ++ part ∷ [])) }
+{
+    let part = part_of(alloc, ended, records, nodes)?;
+    parts.push(part)?;
+    Ok(())
 }
 
 /// The parts of so many nodes, with what went over the links.
@@ -126,9 +144,9 @@ fn assemble(
     requires all { length records.items ≡ length nodes.items }
     ensures { IfOk result (λ parts. ArePartsOf count nodes.items records.items parts.items) }
 {
-    let mut parts = Vec::with_capacity(alloc, nodes.len())?;
+    let mut parts = Vec::new(alloc);
     for (ended, row) in nodes.into_iter().zip(records) {
-        parts.push(part_of(alloc, ended, row, count)?)?;
+        add_part(alloc, &mut parts, ended, row, count)?;
     }
     Ok(parts)
 }

@@ -1,15 +1,12 @@
 //! How the workers of all nodes make their turns at the same time.
 
-ghost use Rattle.am_crew.specs.Running.{HaveRun, SameCrew, SameDriver, SameInterface, SameThread, is_starved, is_want};
+ghost use Rattle.am_crew.specs.Running.{AreBothAt, ArePlacesFor, AreThreadsAt, HaveRun, IsDriverAt, IsInterfaceAt, IsThreadAt, SameBoth, SameCrew, SameDriver, SameInterface, SameThread, is_starved, is_want};
 ghost use Rattle.am_crew_opening.specs.Crews.{AreCrews, AreLinked, AreNumbered, IsCrew};
-ghost use Rattle.am_scripts.specs.Layout.{layout_of};
-ghost use Rattle.am_local.specs.Together.{ends_of};
 ghost use Rattle.am_scenario_types.specs.Lawful.{IsLawful};
 ghost use Rattle.am_scenario_types.specs.declared.parts.Network.TheVariants as Networks;
-ghost use Rattle.am_workers.specs.AtWork.{IsDriverAtWork, IsInterfaceAtWork, IsThreadAtWork};
 ghost use Rattle.am_workers.specs.declared.workers.ThreadWorker.{ThreadWorker};
 ghost use Rattle.am_crew_opening.specs.declared.crew.NodeCrew.{NodeCrew};
-ghost use Rattle.std.specs.Prelude.{◌≡◌, ◌+◌, ◌<◌, ◌≤◌, ℕ, Some, length, slice_get};
+ghost use Rattle.std.specs.Prelude.{◌≡◌, ◌<◌, ◌≤◌, length};
 ghost use Rattle.std.specs.List.{list_any};
 ghost use Rattle.std.specs.Thread.{IsSync};
 
@@ -38,8 +35,8 @@ fn run_threads<R: Threads + Sync, G: Gate + Sync>(
     requires lawful { IsLawful scenario.now }
     requires few { length threads.old ≤ 4 }
     requires first { first ≤ 4096 }
-    requires at_work { (k : ℕ) (w : ThreadWorker) → slice_get threads.old k ≡ Some w → IsThreadAtWork scenario.now places.now.board.shared.table_id places.now.ids.items 0 w }
-    ensures ran { HaveRun scenario.now places.now.board.shared.table_id places.now.ids.items threads.old threads.new }
+    requires at_work { AreThreadsAt scenario.now places.now 0 threads.old }
+    ensures ran { HaveRun scenario.now places.now threads.old threads.new }
 {
     let count = threads.len().max(1);
     thread::for_each_mut(
@@ -47,8 +44,8 @@ fn run_threads<R: Threads + Sync, G: Gate + Sync>(
         threads,
         count,
         &|k, worker|
-            requires { IsLawful scenario.now × (k < 4) × (first ≤ 4096) × IsThreadAtWork scenario.now places.now.board.shared.table_id places.now.ids.items 0 worker.now }
-            ensures { IsThreadAtWork scenario.entry.now places.entry.now.board.shared.table_id places.entry.now.ids.items scenario.entry.now.turns worker.exit.now × SameThread worker.entry.now worker.exit.now }
+            requires { IsLawful scenario.now × (k < 4) × (first ≤ 4096) × IsThreadAt scenario.now places.now 0 worker.now }
+            ensures { IsThreadAt scenario.entry.now places.entry.now scenario.entry.now.turns worker.exit.now × SameThread worker.entry.now worker.exit.now }
         { work_as_thread(worker, places, scenario, first + k as u32, gate) },
     );
 }
@@ -65,24 +62,26 @@ fn run_both<R: Threads + Sync, G: Gate + Sync>(
     interface: &mut InterfaceWorker,
     driver: &mut DriverWorker,
 )
-    requires lawful { IsLawful scenario.now }
-    requires packet { scenario.now.network ≡ Networks.Packet }
-    requires declared { node.0 < scenario.now.nodes }
+    requires places { ArePlacesFor scenario.now node places.now }
     requires first { first ≤ 8192 }
-    requires ends { places.now.ids.items ≡ ends_of (layout_of scenario.now) node }
-    requires frames { places.now.frames ≡ scenario.now.frames }
     requires of_node { driver.old.node ≡ node }
-    requires interface { IsInterfaceAtWork scenario.now places.now.board.shared.table_id places.now.ids.items node 0 interface.old }
-    requires driver { IsDriverAtWork scenario.now places.now.board.shared.table_id places.now.ids.items node 0 driver.old }
-    ensures interface { IsInterfaceAtWork scenario.now places.now.board.shared.table_id places.now.ids.items node scenario.now.turns interface.new }
-    ensures driver { IsDriverAtWork scenario.now places.now.board.shared.table_id places.now.ids.items node scenario.now.turns driver.new }
-    ensures same_interface { SameInterface interface.old interface.new }
-    ensures same_driver { SameDriver driver.old driver.new }
+    requires at_work { AreBothAt scenario.now node places.now 0 interface.old driver.old }
+    ensures at_work { AreBothAt scenario.now node places.now scenario.now.turns interface.new driver.new }
+    ensures same { SameBoth interface.old driver.old interface.new driver.new }
 {
     join_mut(
         rt,
-        &mut || work_as_interface(interface, places, scenario, node, first, gate),
-        &mut || work_as_driver(alloc, driver, places, scenario, first + 1, gate),
+        &mut ||
+            requires { ArePlacesFor scenario.now node places.now × IsInterfaceAt scenario.now node places.now 0 interface.now }
+            ensures { IsInterfaceAt scenario.exit.now node places.exit.now scenario.exit.now.turns interface.exit.now × SameInterface interface.entry.now interface.exit.now }
+        { work_as_interface(interface, places, scenario, node, first, gate) },
+        &mut ||
+            requires { ArePlacesFor scenario.now node places.now × (first ≤ 8192) × (driver.now.node ≡ node) × IsDriverAt scenario.now node places.now 0 driver.now }
+            ensures { IsDriverAt scenario.exit.now node places.exit.now scenario.exit.now.turns driver.exit.now × SameDriver driver.entry.now driver.exit.now }
+        {
+            let _node = node;
+            work_as_driver(alloc, driver, places, scenario, first + 1, gate)
+        },
     );
 }
 
@@ -99,33 +98,26 @@ fn run_workers<R: Threads + Sync, G: Gate + Sync>(
     interface: &mut InterfaceWorker,
     driver: &mut DriverWorker,
 )
-    requires lawful { IsLawful scenario.now }
-    requires packet { scenario.now.network ≡ Networks.Packet }
-    requires declared { node.0 < scenario.now.nodes }
+    requires places { ArePlacesFor scenario.now node places.now }
     requires few { length threads.old ≤ 4 }
     requires first { first ≤ 4096 }
-    requires ends { places.now.ids.items ≡ ends_of (layout_of scenario.now) node }
-    requires frames { places.now.frames ≡ scenario.now.frames }
     requires of_node { driver.old.node ≡ node }
-    requires threads { (k : ℕ) (w : ThreadWorker) → slice_get threads.old k ≡ Some w → IsThreadAtWork scenario.now places.now.board.shared.table_id places.now.ids.items 0 w }
-    requires interface { IsInterfaceAtWork scenario.now places.now.board.shared.table_id places.now.ids.items node 0 interface.old }
-    requires driver { IsDriverAtWork scenario.now places.now.board.shared.table_id places.now.ids.items node 0 driver.old }
-    ensures threads { HaveRun scenario.now places.now.board.shared.table_id places.now.ids.items threads.old threads.new }
-    ensures interface { IsInterfaceAtWork scenario.now places.now.board.shared.table_id places.now.ids.items node scenario.now.turns interface.new }
-    ensures driver { IsDriverAtWork scenario.now places.now.board.shared.table_id places.now.ids.items node scenario.now.turns driver.new }
-    ensures same_interface { SameInterface interface.old interface.new }
-    ensures same_driver { SameDriver driver.old driver.new }
+    requires threads { AreThreadsAt scenario.now places.now 0 threads.old }
+    requires at_work { AreBothAt scenario.now node places.now 0 interface.old driver.old }
+    ensures threads { HaveRun scenario.now places.now threads.old threads.new }
+    ensures at_work { AreBothAt scenario.now node places.now scenario.now.turns interface.new driver.new }
+    ensures same { SameBoth interface.old driver.old interface.new driver.new }
 {
     let next = first + threads.len() as u32;
     join_mut(
         rt,
         &mut ||
-            requires { IsSync R.row × IsSync G.row × IsLawful scenario.now × (length threads.now ≤ 4) × (first ≤ 4096) × ((k : ℕ) (w : ThreadWorker) → slice_get threads.now k ≡ Some w → IsThreadAtWork scenario.now places.now.board.shared.table_id places.now.ids.items 0 w) }
-            ensures { HaveRun scenario.exit.now places.exit.now.board.shared.table_id places.exit.now.ids.items threads.entry.now threads.exit.now }
+            requires { IsSync R.row × IsSync G.row × IsLawful scenario.now × (length threads.now ≤ 4) × (first ≤ 4096) × AreThreadsAt scenario.now places.now 0 threads.now }
+            ensures { HaveRun scenario.exit.now places.exit.now threads.entry.now threads.exit.now }
         { run_threads(rt, scenario, gate, places, first, threads) },
         &mut ||
-            requires { IsSync R.row × IsSync G.row × IsLawful scenario.now × (scenario.now.network ≡ Networks.Packet) × (node.0 < scenario.now.nodes) × (next ≤ 8192) × (places.now.ids.items ≡ ends_of (layout_of scenario.now) node) × (places.now.frames ≡ scenario.now.frames) × (driver.now.node ≡ node) × IsInterfaceAtWork scenario.now places.now.board.shared.table_id places.now.ids.items node 0 interface.now × IsDriverAtWork scenario.now places.now.board.shared.table_id places.now.ids.items node 0 driver.now }
-            ensures { IsInterfaceAtWork scenario.exit.now places.exit.now.board.shared.table_id places.exit.now.ids.items node scenario.exit.now.turns interface.exit.now × IsDriverAtWork scenario.exit.now places.exit.now.board.shared.table_id places.exit.now.ids.items node scenario.exit.now.turns driver.exit.now × SameInterface interface.entry.now interface.exit.now × SameDriver driver.entry.now driver.exit.now }
+            requires { IsSync R.row × IsSync G.row × ArePlacesFor scenario.now node places.now × (next ≤ 8192) × (driver.now.node ≡ node) × AreBothAt scenario.now node places.now 0 interface.now driver.now }
+            ensures { AreBothAt scenario.exit.now node places.exit.now scenario.exit.now.turns interface.exit.now driver.exit.now × SameBoth interface.entry.now driver.entry.now interface.exit.now driver.exit.now }
         {
             run_both(
                 rt, alloc, scenario, gate, places, node, next, interface, driver,

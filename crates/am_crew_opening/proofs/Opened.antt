@@ -10,7 +10,6 @@ use Rattle.am_office.specs.declared.Entry.{Entry}
 use Rattle.am_body.specs.declared.settings.EndSettings.{EndSettings}
 use Rattle.am_books.specs.declared.EndBook.{EndBook}
 use Rattle.am_model.specs.Layout.{node_at}
-use Rattle.am_places.specs.declared.places.Places.{Places}
 use Rattle.am_scenario_types.specs.declared.parts.ScriptCall.{ScriptCall}
 use Rattle.am_scenario_types.specs.Lawful as lawful
 use Rattle.am_scenario_types.specs.Lists.{ScenarioLists}
@@ -32,16 +31,13 @@ use Rattle.am_works.specs.Seats.{EndPass, Ids}
 use Rattle.am_workers.specs.AtWork.{IsDriverAtWork, IsInterfaceAtWork, IsThreadAtWork}
 use Rattle.am_workers.specs.Begins.{IsNewDisk, IsNewSeat, NewDriversAreAtWork, NewInterfacesAreAtWork, NewThreadsAreAtWork}
 use Rattle.am_workers.specs.declared.workers.ThreadWorker.{ThreadWorker}
-use Rattle.am_opening.specs.Openings.{EndSeat, IsFreshSeat, IsOpening, births_of, threads_of}
+use Rattle.am_opening.specs.Openings.{EndPlaces, EndSeat, IsFreshSeat, IsOpening, births_of, threads_of}
 use Rattle.am_opening.specs.declared.opening.Opening.{Opening}
 use Rattle.am_crew_opening.specs.Crews.{IsCrew, IsSeatOf, IsUnused}
 use Rattle.am_crew_opening.specs.Making.{AreNodeLinks, AreThreadsMade, IsThreadMade}
 use Rattle.am_crew_opening.specs.declared.crew.NodeCrew.{NodeCrew}
 use Rattle.am_crew_opening.proofs.Scripted.{is_declared, is_script, is_short}
 use Rattle.am_works.specs.Begins.{IsOpenIn}
-
-abbrev EndPlaces : Type 0
-EndPlaces = Places EndBook Entry EndSettings
 
 -- the crew has these
 pub record IsCrewMade (s : ScenarioLists) (o : Opening) (guests : List EndSeat) (inner last : EndSeat) (outs : List LinkOut) (ins : List LinkIn) (c : NodeCrew) : Type 0 where

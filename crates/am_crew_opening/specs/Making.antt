@@ -1,5 +1,5 @@
 -- Workers as they are made of their seats, and a node's ends of its links as they are made.
-use Rattle.std.specs.Prelude.{◌≡◌, ℕ, Some, List, [], length, slice_get}
+use Rattle.std.specs.Prelude.{◌≡◌, ℕ, Some, List, [], ◌∷◌, ◌++◌, length, slice_get}
 use Rattle.am_opening.specs.Openings.{EndSeat}
 use Rattle.am_names.specs.declared.NodeId.{NodeId}
 use Rattle.am_model.specs.Layout.{node_at}
@@ -10,6 +10,7 @@ use Rattle.am_wire.specs.Links.{received}
 use Rattle.am_wire.specs.declared.receiving.LinkIn.{LinkIn}
 use Rattle.am_wire.specs.declared.sending.LinkOut.{LinkOut}
 use Rattle.am_workers.specs.declared.workers.ThreadWorker.{ThreadWorker}
+use Rattle.am_crew_opening.specs.declared.making.Seated.{Seated}
 
 -- a thread at the seat, with its script, that made no call
 pub record IsThreadMade (s : ScenarioLists) (id : ℕ) (seat : EndSeat) (w : ThreadWorker) : Type 0 where
@@ -22,6 +23,12 @@ pub record IsThreadMade (s : ScenarioLists) (id : ℕ) (seat : EndSeat) (w : Thr
 pub record AreThreadsMade (s : ScenarioLists) (ids : List ℕ) (seats : List EndSeat) (count : ℕ) (ws : List ThreadWorker) : Type 0 where
   pub all : length ws ≡ count
   pub each : (k id : ℕ) (seat : EndSeat) (w : ThreadWorker) → slice_get ids k ≡ Some id → slice_get seats k ≡ Some seat → slice_get ws k ≡ Some w → IsThreadMade s id seat w
+
+-- the threads have the first seats, in order, the interface the next one, and the driver the last
+pub record AreSeated (s : ScenarioLists) (ids : List ℕ) (seats : List EndSeat) (w : Seated) : Type 0 where
+  pub guests : List EndSeat
+  pub seats' : seats ≡ (guests ++ w.interface ∷ []) ++ w.driver ∷ []
+  pub threads' : AreThreadsMade s ids guests (length ids) w.threads.items
 
 -- a node's ends of its links: nothing was sent, and nothing taken
 pub record AreNodeLinks (s : ScenarioLists) (node : NodeId) (outs : List LinkOut) (ins : List LinkIn) : Type 0 where

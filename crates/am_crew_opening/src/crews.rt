@@ -9,7 +9,7 @@ ghost use Rattle.am_scenario_types.specs.declared.parts.Network.TheVariants as N
 ghost use Rattle.std.specs.Prelude.{◌≡◌, ◌<◌, IfOk};
 
 use crate::crew::NodeCrew;
-use crate::making::open_threads;
+use crate::making::{Seated, seat_all};
 use am_links::Links;
 use am_names::NoMemory;
 use am_opening::Opening;
@@ -24,7 +24,7 @@ fn open_crew(
     alloc: Global,
     scenario: &Scenario,
     first: u32,
-    opening: Opening,
+    mut opening: Opening,
     outs: Vec<LinkOut>,
     ins: Vec<LinkIn>,
 ) -> Result<NodeCrew, NoMemory>
@@ -40,20 +40,22 @@ fn open_crew(
     ensures unused { IfOk result IsUnused }
 {
     new_workers_are_at_work();
+    let waits = Waits::new(alloc)?;
+    let seated = seat_all(alloc, scenario, &opening.threads, &mut opening.seats)?;
+    let Seated {
+        threads,
+        interface: interface_seat,
+        driver: driver_seat,
+    } = seated;
     let Opening {
         node,
         places,
-        mut seats,
-        threads,
         interface,
         set,
         swap,
         view,
+        ..
     } = opening;
-    let driver_seat = seats.pop().unwrap();
-    let interface_seat = seats.pop().unwrap();
-    let threads = open_threads(alloc, scenario, &threads, seats)?;
-    let waits = Waits::new(alloc)?;
     let interface = InterfaceWorker {
         seat: interface_seat,
         interface,

@@ -1,6 +1,6 @@
 // A worker is made of its seat and what it has beside.
-ghost use Rattle.am_crew_opening.specs.Making.{AreThreadsMade, IsThreadMade};
-ghost use Rattle.std.specs.Prelude.{◌≡◌, ◌<◌, IfOk, Some, length, slice_get};
+ghost use Rattle.am_crew_opening.specs.Making.{AreSeated, AreThreadsMade, IsThreadMade};
+ghost use Rattle.std.specs.Prelude.{◌≡◌, ◌+◌, ◌<◌, IfOk, Some, length, slice_get};
 
 use am_books::EndBook;
 use am_names::NoMemory;
@@ -39,14 +39,14 @@ fn id_at(ids: &[u8], at: usize) -> u8
 }
 
 /// The threads of these numbers, each with the seat of the same place.
-pub(crate) fn open_threads(
+fn open_threads(
     alloc: Global,
     scenario: &Scenario,
     ids: &[u8],
-    mut seats: Vec<Seat<EndBook>>,
+    seats: &mut Vec<Seat<EndBook>>,
 ) -> Result<Vec<ThreadWorker>, NoMemory>
-    requires { length seats.items ≡ length ids.now }
-    ensures { IfOk result (λ threads. AreThreadsMade scenario.now ids.now seats.items (length ids.now) threads.items) }
+    requires { length seats.old.items ≡ length ids.now }
+    ensures { IfOk result (λ threads. AreThreadsMade scenario.now ids.now seats.old.items (length ids.now) threads.items) }
 {
     let mut threads = Vec::new(alloc);
     seats.reverse();
@@ -56,4 +56,32 @@ pub(crate) fn open_threads(
         threads.push(thread)?;
     }
     Ok(threads)
+}
+
+/// What the workers of a node need beside what it was opened with: its threads, and the seats of its interface and its driver.
+#[derive(Drop)]
+pub(crate) struct Seated {
+    pub(crate) threads: Vec<ThreadWorker>,
+    pub(crate) interface: Seat<EndBook>,
+    pub(crate) driver: Seat<EndBook>,
+}
+
+/// The threads of these numbers at the first of the seats, then the interface's seat and the driver's.
+pub(crate) fn seat_all(
+    alloc: Global,
+    scenario: &Scenario,
+    ids: &[u8],
+    seats: &mut Vec<Seat<EndBook>>,
+) -> Result<Seated, NoMemory>
+    requires { length seats.old.items ≡ length ids.now + 2 }
+    ensures { IfOk result (AreSeated scenario.now ids.now seats.old.items) }
+{
+    let driver = seats.pop().unwrap();
+    let interface = seats.pop().unwrap();
+    let threads = open_threads(alloc, scenario, ids, seats)?;
+    Ok(Seated {
+        threads,
+        interface,
+        driver,
+    })
 }

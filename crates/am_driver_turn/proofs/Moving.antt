@@ -55,14 +55,14 @@ decided k clock event chosen view between view' swap swap' (Ok (Turns.Did x)) se
           ∙ (λ i. record view { ends = set-set view.ends k (line_by set log) (line_by set (log ++ x ∷ [])) i; last = last_after (next_move view) view.last });
     }
 decided k clock event chosen view between view' swap swap' (Ok (Turns.Spent e)) set log line shown still is made now follows =
-    record { here = made.0; why = (ap next_move follows ∙ still ∙ is, made.1); shown = follows ∙ shown; swapped = made.2 }
+    record { here = made.0; why = (ap next_move follows ∙ still ∙ is, made.1, made.2); shown = follows ∙ shown; swapped = made.3 }
 decided k clock event chosen view between view' swap swap' (Ok (Turns.Busy holder)) set log line shown still is made now follows = absurd made
 decided k clock event chosen view between view' swap swap' (Ok (Turns.Stale e)) set log line shown still is made now follows = absurd made
 decided k clock event chosen view between view' swap swap' (Ok Turns.Nothing) set log line shown still is made now follows = absurd made
 decided k clock event chosen view between view' swap swap' (Err (Faults.LogFull e)) set log line shown still is made now follows =
     record { here = made.0; why = (ap next_move follows ∙ still ∙ is, made.1); shown = follows ∙ shown; swapped = made.2 }
 decided k clock event chosen view between view' swap swap' (Err Faults.NoMemory) set log line shown still is made now follows =
-    record { here = refl; why = ap next_move follows ∙ still ∙ is; shown = follows ∙ shown; swapped = made }
+    record { here = refl; why = (ap next_move follows ∙ still ∙ is, made.0); shown = follows ∙ shown; swapped = made.1 }
 
 -- ---- what its rules give may be done
 

@@ -1,12 +1,14 @@
 -- What a driver's looks and its move come to.
 use Rattle.std.specs.Prelude.{position, slice_get}
 use Rattle.std.specs.List.{position_or_len}
-use Rattle.std.proofs.Common.{◌≡◌, ◌⊎◌, ⊎_elim, ℕ, zero, suc, ◌+◌, ◌<◌, ◌≤◌, false, true, List, [], ◌∷◌, length, Some, None, Ok, Err, get_or, refl, sym, ap, ◌∙◌, subst, arith, eq-eqb, true≢false}
+use Rattle.std.proofs.Common.{◌≡◌, ◌⊎◌, ⊎_elim, ℕ, zero, suc, ◌+◌, ◌<◌, ◌≤◌, false, true, List, [], ◌∷◌, length, Option, Some, None, Ok, Err, get_or, refl, sym, ap, ◌∙◌, subst, arith, eq-eqb, true≢false}
 use Rattle.std.proofs.lemmas.Grind.{common_steps}
 use Rattle.std.proofs.lemmas.List.Quantifiers.{position-Some}
 use Rattle.std.proofs.lemmas.Option.{get_or_from_slice_get, slice_get-get_or, slice_get_within}
 use Rattle.std.proofs.lemmas.List.Sums.{fails_before_first}
 use Rattle.std.proofs.lemmas.List.{length-set}
+use lib.ListN.{get_elem?}
+use mathlib.Core.Option.{some}
 use Rattle.am_names.specs.declared.EndpointId.{EndpointId}
 use Rattle.am_names.specs.declared.NodeId.{NodeId}
 use Rattle.am_names.specs.Names.{same_end}
@@ -34,9 +36,9 @@ use Rattle.am_works.specs.Drives.{CanDrive, LooksTo, frames_after, line_by, with
 use Rattle.am_works.specs.Seats.{EndPass, Ids, SameSeat}
 use Rattle.am_works.specs.Works.{DriverWorks}
 use Rattle.am_works.proofs.Drivers.{can_wait, drivers_go_on, drivers_look, drivers_rest, drivers_wait}
-use Rattle.am_works.proofs.Driving.{looks_keep, moved_id, moves_keep}
+use Rattle.am_works.proofs.Driving.{looks_keep, moved_id, moves_keep, same_event}
 use Rattle.am_works.proofs.Same.{busy_same, stays_same}
-use Rattle.am_driver_turn.specs.Turns.{Answer, IsFull, IsHeld, IsLate, IsSpent, IsStarved, MeetsSeat, MoveTurns}
+use Rattle.am_driver_turn.specs.Turns.{Answer, DriverTurns, IsAtMove, IsFull, IsHeld, IsLate, IsSpent, IsStarved, MeetsSeat, MoveTurns}
 use Rattle.am_driver_turn.specs.declared.turns.DriverFault.TheVariants as Faults
 use Rattle.am_driver_turn.specs.declared.turns.DriverTurn.TheVariants as Turns
 
@@ -104,6 +106,12 @@ line_found e xs k is =
     let t = position-Some (λ (l : EndView). same_end e l.id) xs k (blank e) is in
     record { low = t.0; line = get_or xs k (blank e); at = slice_get-get_or xs k (blank e) t.0; id = sym (same_end-is e (get_or xs k (blank e)).id t.1) }
 
+-- an event that moves the endpoint of a line names the endpoint that was born at its place
+pub named_there : (frames : ℕ) (node : NodeId) (view : ViewLists) (swap : Store) (v : EndPass) (event : Event) (e : EndpointId) (k : ℕ) → CanDrive frames node view swap v → end_moved event ≡ Some e → position (λ (l : EndView). same_end e l.id) view.ends ≡ Some k → (set : EndSettings) → get_elem? v.births k ≡ some set → end_moved event ≡ Some set.id
+named_there frames node view swap v event e k can moved is set born =
+    let found = line_found e view.ends k is in
+    moved ∙ ap (λ (d : EndpointId). Some d) (sym found.id ∙ ap (λ (l : EndView). l.id) (can.each k set found.line born found.at).shows)
+
 past_all : (e : EndpointId) (xs : List EndView) → position (λ (l : EndView). same_end e l.id) xs ≡ None → length xs ≤ position_or_len (λ (l : EndView). same_end e l.id) xs
 past_all e xs none_is = grind (arith, common_steps)
 
@@ -113,6 +121,24 @@ line_missing e xs j line at id none_is =
     let fails : same_end e (get_or xs j (blank e)).id ≡ false = fails_before_first (λ (l : EndView). same_end e l.id) xs j (blank e) (omega arith) in
     let there : get_or xs j (blank e) ≡ line = get_or_from_slice_get xs j line (blank e) at in
     true≢false (sym (ap (same_end e) (ap (λ (l : EndView). l.id) there ∙ id) ∙ eq-eqb e.0 e.0 refl) ∙ fails)
+
+-- a move that has an event moves an endpoint
+pub moves_one : (node : NodeId) (m : Move) (event : Event) → event_of node m ≡ Some event → end_moved event ≡ None → ⊥
+moves_one node (Moves.Unload e) event is none = let bad : ◌≡◌ {A = Option EndpointId} (Some e) None = ap end_moved (same_event (Events.Unload node e) event is) ∙ none in cc
+moves_one node (Moves.PageIn e) event is none = let bad : ◌≡◌ {A = Option EndpointId} (Some e) None = ap end_moved (same_event (Events.PageIn node e) event is) ∙ none in cc
+moves_one node (Moves.Load e frame) event is none = let bad : ◌≡◌ {A = Option EndpointId} (Some e) None = ap end_moved (same_event (Events.Load node e frame) event is) ∙ none in cc
+moves_one node (Moves.Drain e) event is none = let bad : ◌≡◌ {A = Option EndpointId} (Some e) None = ap end_moved (same_event (Events.Drain node e) event is) ∙ none in cc
+moves_one node (Moves.PageOut e) event is none = let bad : ◌≡◌ {A = Option EndpointId} (Some e) None = ap end_moved (same_event (Events.PageOut node e) event is) ∙ none in cc
+moves_one node Moves.Nothing event is none = cc
+
+-- and one that has none is none
+pub nothing_of : (node : NodeId) (m : Move) → event_of node m ≡ None → m ≡ Moves.Nothing
+nothing_of node (Moves.Unload e) none = absurd (cc)
+nothing_of node (Moves.PageIn e) none = absurd (cc)
+nothing_of node (Moves.Load e frame) none = absurd (cc)
+nothing_of node (Moves.Drain e) none = absurd (cc)
+nothing_of node (Moves.PageOut e) none = absurd (cc)
+nothing_of node Moves.Nothing none = refl
 
 suits_id : (view : ViewLists) (node : NodeId) (m : Move) (l : EndView) (event : Event) (d : EndpointId) → Suits view m l → event_of node m ≡ Some event → end_moved event ≡ Some d → l.id ≡ d
 suits_id view node (Moves.Unload e) l event d s is end = s.0 ∙ moved_id e (Events.Unload node e) event d is refl end
@@ -161,3 +187,22 @@ moved_same node k clock now shown view' swap swap' u w (Err Faults.NoMemory) m =
 -- the same seat after the looks and the move
 pub turned_same : (n : ℕ) (node : NodeId) (k clock now : ℕ) (view shown view' : ViewLists) (swap swap' : Store) (v u w : EndPass) (r : Answer) → LooksTo n view shown v u → MoveTurns node k clock now shown view' swap swap' u w r → SameSeat v w
 turned_same n node k clock now view shown view' swap swap' v u w r looks m = same_then v u w (looks_same n view shown v u looks) (moved_same node k clock now shown view' swap swap' u w r m)
+
+-- ---- the turn
+
+-- the looks and then the move are a turn
+pub turns_so : (n : ℕ) (node : NodeId) (k clock now : ℕ) (view shown view' : ViewLists) (swap swap' : Store) (v u w : EndPass) (event : Event) (r : Answer) → LooksTo n view shown v u → event_of node (next_move shown) ≡ Some event → ((set : EndSettings) → get_elem? u.births k ≡ some set → end_moved event ≡ Some set.id)
+    → MoveTurns node k clock now shown view' swap swap' u w r → DriverTurns n node clock now view view' swap swap' v w r
+turns_so n node k clock now view shown view' swap swap' v u w event r looks chosen end m = by_answer r m
+  where
+    at_move : (a : Answer) → MoveTurns node k clock now shown view' swap swap' u w a → IsAtMove n node clock now view view' swap swap' v w a
+    at_move a m = record { k = k; shown = shown; between = u; looks = looks; event = event; chosen = chosen; end = end; turn = m }
+
+    by_answer : (a : Answer) → MoveTurns node k clock now shown view' swap swap' u w a → DriverTurns n node clock now view view' swap swap' v w a
+    by_answer (Ok (Turns.Did x)) m = at_move (Ok (Turns.Did x)) m
+    by_answer (Ok (Turns.Busy holder)) m = (record { looked = n; k = k; between = u; looks = subst (λ (z : ViewLists). LooksTo n view z v u) (sym m.1) looks; busy = m.0 }, m.2)
+    by_answer (Ok (Turns.Stale e)) m = at_move (Ok (Turns.Stale e)) m
+    by_answer (Ok (Turns.Spent e)) m = at_move (Ok (Turns.Spent e)) m
+    by_answer (Ok Turns.Nothing) m = absurd m
+    by_answer (Err (Faults.LogFull e)) m = at_move (Err (Faults.LogFull e)) m
+    by_answer (Err Faults.NoMemory) m = at_move (Err Faults.NoMemory) m

@@ -1,5 +1,7 @@
 -- What a driver's turn answers, and what it leaves.
 use Rattle.std.specs.Prelude.{◌≡◌, ◌≢◌, ℕ, ◌+◌, ◌<◌, ◌≤◌, ◌^◌, max, Option, None, Some, Result, Ok, Err, List, [], ◌∷◌, ◌++◌, length, slice_index, slice_set}
+use mathlib.Core.Option.{some}
+use lib.ListN.{get_elem?}
 use Rattle.am_names.specs.declared.EndpointId.{EndpointId}
 use Rattle.am_names.specs.declared.NodeId.{NodeId}
 use Rattle.am_office.specs.declared.Event.{Event}
@@ -7,6 +9,7 @@ use Rattle.am_office.specs.declared.Event.TheVariants as Events
 use Rattle.am_office.specs.declared.Entry.{Entry}
 use Rattle.am_body.specs.declared.settings.EndSettings.{EndSettings}
 use Rattle.am_device.specs.Memory.{Store}
+use Rattle.am_local.specs.Driver.{end_moved}
 use Rattle.am_model.specs.Parts.{last_stamp}
 use Rattle.am_moves.specs.Moves.{outcome_with, swap_with}
 use Rattle.am_moves.specs.Pages.{IsBodyValid}
@@ -33,17 +36,17 @@ Answer = Result DriverTurn DriverFault
 abbrev pub IsLate : ViewLists → ViewLists → EndSettings → List Entry → Type 0
 IsLate now shown set log = next_move now ≢ next_move shown
 
--- they give the same one, and a stamp is the last that may be given
+-- they give the same one, the log isn't full, and a stamp is the last that may be given
 abbrev pub IsSpent : ℕ → ViewLists → ViewLists → EndSettings → List Entry → Type 0
-IsSpent clock now shown set log = (next_move now ≡ next_move shown) × (2 ^ 63 ≤ max clock (last_stamp log))
+IsSpent clock now shown set log = (next_move now ≡ next_move shown) × (length log ≢ set.log) × (2 ^ 63 ≤ max clock (last_stamp log))
 
 -- or the log has as many entries as it may
 abbrev pub IsFull : ViewLists → ViewLists → EndSettings → List Entry → Type 0
 IsFull now shown set log = (next_move now ≡ next_move shown) × (length log ≡ set.log)
 
--- or there is no memory for it
+-- or the log isn't full, and there is no memory for the move
 abbrev pub IsStarved : ViewLists → ViewLists → EndSettings → List Entry → Type 0
-IsStarved now shown set log = next_move now ≡ next_move shown
+IsStarved now shown set log = (next_move now ≡ next_move shown) × (length log ≢ set.log)
 
 -- ---- at the endpoint that is to be moved
 
@@ -65,10 +68,10 @@ pub record IsMade (clock : ℕ) (event : Event) (swap swap' : Store) (set : EndS
 
 abbrev pub MakeFound : ℕ → Event → Store → Store → Answer → EndSettings → List Entry → Type 0
 MakeFound clock event swap swap' (Ok (Turns.Did x)) set log = IsMade clock event swap swap' set log x
-MakeFound clock event swap swap' (Ok (Turns.Spent e)) set log = (e ≡ set.id) × (2 ^ 63 ≤ max clock (last_stamp log)) × (swap' ≡ swap)
+MakeFound clock event swap swap' (Ok (Turns.Spent e)) set log = (e ≡ set.id) × (length log ≢ set.log) × (2 ^ 63 ≤ max clock (last_stamp log)) × (swap' ≡ swap)
 MakeFound clock event swap swap' (Ok answer) set log = ⊥
 MakeFound clock event swap swap' (Err (Faults.LogFull e)) set log = (e ≡ set.id) × (length log ≡ set.log) × (swap' ≡ swap)
-MakeFound clock event swap swap' (Err Faults.NoMemory) set log = swap' ≡ swap
+MakeFound clock event swap swap' (Err Faults.NoMemory) set log = (length log ≢ set.log) × (swap' ≡ swap)
 
 -- the view after that
 abbrev pub Follows : ℕ → EndView → Move → ViewLists → ViewLists → Answer → Type 0
@@ -145,7 +148,8 @@ pub record MeetsSeat (holder : ℕ) (view view' : ViewLists) (v w : EndPass) : T
   pub looks : LooksTo looked view view' v between
   pub busy : IsBusy k holder between w
 
--- it looked at all endpoints, of which there are n, and then it was at the one that its rules were to move
+-- it looked at all endpoints, of which there are n, and then it was at the one that its rules were to move: the event of the move
+-- names the endpoint that was born at its place
 pub record IsAtMove (n : ℕ) (node : NodeId) (clock now : ℕ) (view view' : ViewLists) (swap swap' : Store) (v w : EndPass) (answer : Answer) : Type 0 where
   pub k : ℕ
   pub shown : ViewLists
@@ -153,6 +157,7 @@ pub record IsAtMove (n : ℕ) (node : NodeId) (clock now : ℕ) (view view' : Vi
   pub looks : LooksTo n view shown v between
   pub event : Event
   pub chosen : event_of node (next_move shown) ≡ Some event
+  pub end : (set : EndSettings) → get_elem? between.births k ≡ some set → end_moved event ≡ Some set.id
   pub turn : MoveTurns node k clock now shown view' swap swap' between w answer
 
 abbrev pub DriverTurns : ℕ → NodeId → ℕ → ℕ → ViewLists → ViewLists → Store → Store → EndPass → EndPass → Answer → Type 0

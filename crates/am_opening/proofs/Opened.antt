@@ -1,6 +1,7 @@
 -- What a node is opened to, by the cluster's part of the node.
-use Rattle.std.specs.Prelude.{slice_get}
-use Rattle.std.proofs.Common.{◌≡◌, ℕ, ◌+◌, ◌<◌, ◌^◌, false, None, Some, List, [], ◌∷◌, ◌++◌, length, map, reverse, refl, sym, ap, ◌∙◌, subst, arith}
+use Rattle.std.specs.Prelude.{IfOk, Result, Ok, Err, slice_get}
+use Rattle.std.specs.Global.{Vec}
+use Rattle.std.proofs.Common.{◌≡◌, ℕ, ◌+◌, ◌<◌, ◌≤◌, false, None, Some, List, [], ◌∷◌, ◌++◌, length, map, reverse, refl, sym, ap, ◌∙◌, subst, arith}
 use Rattle.std.proofs.lemmas.List.{length_push}
 use lib.ListN.{get_elem?}
 use mathlib.Core.Option.{some}
@@ -32,10 +33,11 @@ use Rattle.am_works.specs.Begins.{AreFresh, ids_of}
 use Rattle.am_works.specs.Seats.{IsBorn, setting_by}
 use Rattle.am_works.specs.Stands.{fresh_pass}
 use Rattle.am_crew_laws.proofs.Homes.{ends_apart}
-use Rattle.am_opening.specs.Openings.{AreDeclared, AreOpenings, EndSeat, IsFreshDisk, IsOpening, births_of, lines_of, thread_ids}
+use Rattle.am_opening.specs.Openings.{AreDeclared, AreOpenings, ArePlacesOf, EndPlaces, EndSeat, IsOpening, IsReadOf, births_of, lines_of}
+use Rattle.am_opening.specs.declared.nodes.Reading.{Reading}
 use Rattle.am_opening.specs.declared.opening.Opening.{Opening}
 use Rattle.am_opening.proofs.Fresh.{is_born, is_homely, no_log, part_at, part_books, part_disk, part_few, part_home, part_ids}
-use Rattle.am_opening.proofs.Lists.{AreTaking, all_got, each_more, elem_got, got_elem, got_map, length_map, map_all, taking_begins, taking_ends, taking_more, taking_next}
+use Rattle.am_opening.proofs.Lists.{AreTaking, all_got, each_more, elem_got, got_all, got_elem, got_map, length_map, map_all, taking_begins, taking_ends, taking_more, taking_next}
 use Rattle.am_books.specs.Ends.{end_in}
 
 -- what Places::new says of the seats
@@ -47,9 +49,6 @@ packet_layout : (s : ScenarioLists) → s.network ≡ Networks.Packet → (layou
 packet_layout s packet = ap is_direct packet
 
 module _ (s : ScenarioLists) (p : NodePart) (ok : lawful.IsLawful s) (packet : s.network ≡ Networks.Packet) (part : IsNodePart (layout_of s) [] p.node p) where
-  pub books_fine : AllAre IsBook p.ends.items
-  books_fine = part_books (layout_of s) p.node p (lawful_layout s ok) part
-
   module _ (books : List EndBook) (are : map end_in books ≡ p.ends.items) where
     books_ids : ids_of books ≡ map (λ (e : EndpointView). e.settings.id) p.ends.items
     books_ids = sym (map_twice end_in (λ (e : EndpointView). e.settings.id) books) ∙ ap (map (λ (e : EndpointView). e.settings.id)) are
@@ -85,44 +84,72 @@ module _ (s : ScenarioLists) (p : NodePart) (ok : lawful.IsLawful s) (packet : s
           each = map_all (λ (b : EndBook). b.end.value.settings) (IsBorn (layout_of s)) books books_born;
         }
 
-    pub books_homely : (k : ℕ) (b : EndBook) → get_elem? books k ≡ some b → stands_at b.end.value < 2
-    books_homely k b at = is_homely (layout_of s) (lawful_layout s ok) b.end.value (packet_layout s packet) (part_at (layout_of s) p.node p (lawful_layout s ok) part k b.end.value (end_at k b (elem_got books k b at)))
-
-    pub books_few : length books < 2 ^ 32
-    books_few =
-        let mapped = length_map end_in books in
-        let same : length (map end_in books) ≡ length p.ends.items = ap length are in
-        let few = part_few (layout_of s) p.node p (lawful_layout s ok) part in
-        omega (arith, mapped, same, few)
-
-    pub books_all : (ids : List EndpointId) → ids ≡ map (λ (e : EndpointView). e.settings.id) p.ends.items → length ids ≡ length books
-    books_all ids named = ap length (named ∙ sym books_ids) ∙ length_map (λ (b : EndBook). b.end.value.settings.id) books
-
     books_lines : lines_of p.ends.items ≡ map (λ (b : EndBook). line_of b.end.value.settings.id (state_after b.end.value)) books
     books_lines = ap lines_of (sym are) ∙ map_twice end_in (λ (e : EndpointView). line_of e.settings.id (state_after e)) books
 
-    pub opening_is : (o : Opening) (count : ℕ) → o.node ≡ p.node → o.places.ids.items ≡ map (λ (e : EndpointView). e.settings.id) p.ends.items → o.places.frames ≡ s.frames → o.threads.items ≡ thread_ids s.threads p.node → count ≡ length o.threads.items + 2
-        → AreSeats o.places.board.shared.table_id books o.places.ids.items count s.frames o.seats.items → o.interface ≡ p.iface → o.set ≡ p.iface.settings → AreLawful p.iface.settings → o.swap ≡ p.swap
-        → o.view ≡ record { ends = lines_of p.ends.items; frames = s.frames; keep = s.keep; last = None } → IsOpening s p.node o
-    opening_is o count node ids frames threads all seats interface set good swap view =
-        record {
-          is_node = node;
-          ids = ids ∙ part_ids (layout_of s) p.node p (lawful_layout s ok) part;
-          frames = frames;
-          books = books;
-          named = books_ids ∙ sym ids;
-          declared = books_declared;
-          homes = books_home;
-          fresh_books = books_fresh;
-          threads' = threads;
-          all = seats.0 ∙ all;
-          seats' = λ k seat at. (let told = seats.1 k seat (got_elem o.seats.items k seat at) in record { table_is = told.0; pass = told.2 ∙ ap (λ (n : ℕ). (fresh_pass books o.places.ids.items k n s.frames, [])) all });
-          interface' = subst (IsInterface (layout_of s) [] p.node) (sym interface) part.interface;
-          set' = set ∙ ap (λ (i : InterfaceView). i.settings) (sym interface);
-          lawful = subst AreLawful (sym set) good;
-          disk = subst (IsFreshDisk (layout_of s) p.node (births_of books)) (sym swap) (part_disk (layout_of s) p.node p (lawful_layout s ok) part books are);
-          view' = view ∙ ap (λ (ls : List EndView). record { ends = ls; frames = s.frames; keep = s.keep; last = None }) books_lines;
-        }
+  -- what is opened of these
+  abbrev pub opened_as : Reading → EndPlaces → Vec EndSeat → Opening
+  opened_as r places seats = record { node = p.node; places = places; seats = seats; threads = r.threads; interface = p.iface; set = r.set; swap = p.swap; view = r.view }
+
+  pub opening_is : (r : Reading) (places : EndPlaces) (seats : Vec EndSeat) → IsReadOf s p r → ArePlacesOf p.ends.items s.frames (length r.threads.items + 2) places seats.items → IsOpening s p.node (opened_as r places seats)
+  opening_is r places seats read q =
+      record {
+        is_node = refl;
+        ids = q.ids ∙ part_ids (layout_of s) p.node p (lawful_layout s ok) part;
+        frames = q.framed;
+        books = q.books;
+        named = books_ids q.books q.made ∙ sym q.ids;
+        declared = books_declared q.books q.made;
+        homes = books_home q.books q.made;
+        fresh_books = books_fresh q.books q.made;
+        threads' = read.threads';
+        all = q.all;
+        seats' = q.seats';
+        interface' = part.interface;
+        set' = read.set';
+        lawful = read.lawful;
+        disk = part_disk (layout_of s) p.node p (lawful_layout s ok) part q.books q.made;
+        view' = read.view' ∙ ap (λ (ls : List EndView). record { ends = ls; frames = s.frames; keep = s.keep; last = None }) (books_lines q.books q.made);
+      }
+
+  -- its endpoints may be given places
+  pub ends_books : AllAre IsBook p.ends.items
+  ends_books = part_books (layout_of s) p.node p (lawful_layout s ok) part
+
+  pub ends_homely : AllAre (λ (e : EndpointView). stands_at e < 2) p.ends.items
+  ends_homely = all_got (λ (e : EndpointView). stands_at e < 2) p.ends.items (λ k e at. is_homely (layout_of s) (lawful_layout s ok) e (packet_layout s packet) (part_at (layout_of s) p.node p (lawful_layout s ok) part k e at))
+
+  pub ends_few : length p.ends.items ≤ 64
+  ends_few = part_few (layout_of s) p.node p (lawful_layout s ok) part
+
+-- ---- places for the books of these endpoints
+
+module _ (ends : List EndpointView) (books : List EndBook) (are : map end_in books ≡ ends) where
+  pub as_many : length books ≡ length ends
+  as_many = sym (length_map end_in books) ∙ ap length are
+
+  pub named_all : (ids : List EndpointId) → ids ≡ map (λ (e : EndpointView). e.settings.id) ends → length ids ≡ length books
+  named_all ids named = ap length named ∙ length_map (λ (e : EndpointView). e.settings.id) ends ∙ sym as_many
+
+  pub homely_books : AllAre (λ (e : EndpointView). stands_at e < 2) ends → (k : ℕ) (b : EndBook) → get_elem? books k ≡ some b → stands_at b.end.value < 2
+  homely_books homely k b at =
+      got_all (λ (e : EndpointView). stands_at e < 2) ends k b.end.value homely (subst (λ (l : List EndpointView). slice_get l k ≡ Some b.end.value) are (got_map end_in books k b (elem_got books k b at)))
+
+  pub places_are : (ids : List EndpointId) (frames count : ℕ) (places : EndPlaces) (seats : List EndSeat) → ids ≡ map (λ (e : EndpointView). e.settings.id) ends → (places.ids.items ≡ ids) × (places.count ≡ length books) × (places.frames ≡ frames) → AreSeats places.board.shared.table_id books ids count frames seats → ArePlacesOf ends frames count places seats
+  places_are ids frames count places seats named told sat =
+      record {
+        ids = told.0 ∙ named;
+        framed = told.2;
+        books = books;
+        made = are;
+        all = sat.0;
+        seats' = λ k seat at. (let one = sat.1 k seat (got_elem seats k seat at) in record { table_is = one.0; pass = one.2 ∙ ap (λ (own : List EndpointId). (fresh_pass books own k count frames, [])) (sym told.0) });
+      }
+
+-- what holds of a value in two ways
+pub both_ok : {T E : Type 0} (r : Result T E) (P Q R : T → Type 0) → IfOk r P → IfOk r Q → ((x : T) → P x → Q x → R x) → IfOk r R
+both_ok (Ok x) P Q R p q f = f x p q
+both_ok (Err fault) P Q R p q f = tt
 
 -- ---- one node after the other
 

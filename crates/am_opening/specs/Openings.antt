@@ -1,11 +1,12 @@
 -- What the workers of a node begin with.
-use Rattle.std.specs.Prelude.{◌≡◌, ℕ, ◌+◌, None, Some, List, [], filter, length, map, slice_get}
+use Rattle.std.specs.Prelude.{◌≡◌, ℕ, ◌+◌, ◌≤◌, None, Some, List, [], filter, length, map, slice_get}
 use Rattle.atomic_table.specs.Seated.{TableId}
 use Rattle.am_names.specs.declared.EndpointId.{EndpointId}
 use Rattle.am_names.specs.declared.NodeId.{NodeId}
 use Rattle.am_names.specs.Names.{same_node}
 use Rattle.am_body.specs.declared.settings.EndSettings.{EndSettings}
 use Rattle.am_office.specs.declared.Entry.{Entry}
+use Rattle.am_books.specs.Ends.{end_in}
 use Rattle.am_books.specs.declared.EndBook.{EndBook}
 use Rattle.am_books.specs.contracts.EndBookBook.TheImpl.{ghosts}
 use Rattle.am_device.specs.Memory.{Store}
@@ -14,6 +15,8 @@ use Rattle.am_driver.specs.declared.EndView.{EndView}
 use Rattle.am_endpoint.specs.View.{EndpointView, state_after}
 use Rattle.am_model.specs.Layout.{AllAre, EndSetting, Layout, node_at}
 use Rattle.am_local.specs.Together.{ends_of, faults_of}
+use Rattle.am_node.specs.declared.NodePart.{NodePart}
+use Rattle.am_places.specs.declared.places.Places.{Places}
 use Rattle.am_places.specs.declared.places.Seat.{Seat}
 use Rattle.am_scenario_types.specs.declared.parts.ThreadLine.{ThreadLine}
 use Rattle.am_scenario_types.specs.Lists.{ScenarioLists}
@@ -23,6 +26,7 @@ use Rattle.am_machine.specs.Interfaces.{IsInterface}
 use Rattle.am_works.specs.Begins.{AreFresh, IsOpenIn}
 use Rattle.am_works.specs.Stands.{fresh_pass}
 use Rattle.am_works.specs.Seats.{IsBorn, setting_by}
+use Rattle.am_opening.specs.declared.nodes.Reading.{Reading}
 use Rattle.am_opening.specs.declared.opening.Opening.{Opening}
 
 -- ---- endpoints
@@ -58,6 +62,27 @@ EndSeat = Seat EndBook Entry EndSettings ghosts
 pub record IsFreshSeat (table : TableId) (books : List EndBook) (named : List EndpointId) (k seats frames : ℕ) (seat : EndSeat) : Type 0 where
   pub table_is : seat.token.table_id ≡ table
   pub pass : seat.token.me ≡ (fresh_pass books named k seats frames, [])
+
+-- the places for the books of these endpoints
+abbrev pub EndPlaces : Type 0
+EndPlaces = Places EndBook Entry EndSettings
+
+-- these are places for the books of these endpoints, and so many seats that were just made
+pub record ArePlacesOf (ends : List EndpointView) (frames count : ℕ) (places : EndPlaces) (seats : List EndSeat) : Type 0 where
+  pub ids : places.ids.items ≡ map (λ (e : EndpointView). e.settings.id) ends
+  pub framed : places.frames ≡ frames
+  pub books : List EndBook
+  pub made : map end_in books ≡ ends
+  pub all : length seats ≡ count
+  pub seats' : (k : ℕ) (seat : EndSeat) → slice_get seats k ≡ Some seat → IsFreshSeat places.board.shared.table_id books places.ids.items k count frames seat
+
+-- what is read of the part of a node, before the part is taken apart
+pub record IsReadOf (s : ScenarioLists) (p : NodePart) (r : Reading) : Type 0 where
+  pub threads' : r.threads.items ≡ threads_of s p.node
+  pub few : length r.threads.items ≤ 4
+  pub view' : r.view ≡ record { ends = lines_of p.ends.items; frames = s.frames; keep = s.keep; last = None }
+  pub set' : r.set ≡ p.iface.settings
+  pub lawful : AreLawful r.set
 
 -- the disk of a node before its first page call
 pub record IsFreshDisk (layout : Layout) (node : NodeId) (births : List EndSettings) (swap : Store) : Type 0 where

@@ -54,10 +54,10 @@ fn book_of(alloc: Global, end: Endpoint) -> Result<EndBook, NoMemory>
     Ok(EndBook { end })
 }
 
-/// The books of the endpoints, in their order.
-pub(crate) fn books_of(alloc: Global, mut ends: Vec<Endpoint>) -> Result<Vec<EndBook>, NoMemory>
-    requires { AllAre IsBook ends.items }
-    ensures { IfOk result (λ books. map (λ (b : Book). b.end.value) books.items ≡ ends.items) }
+/// The books of the endpoints, which are taken out of their list, in their order.
+pub(crate) fn books_of(alloc: Global, ends: &mut Vec<Endpoint>) -> Result<Vec<EndBook>, NoMemory>
+    requires { AllAre IsBook ends.old.items }
+    ensures { IfOk result (λ books. map (λ (b : Book). b.end.value) books.items ≡ ends.old.items) }
 {
     let mut books = Vec::new(alloc);
     ends.reverse();

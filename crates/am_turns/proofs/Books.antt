@@ -1,5 +1,5 @@
 -- A book that an entry was added to is a book again.
-use Rattle.std.proofs.Common.{◌≡◌, ◌↔◌, ℕ, true, false, ◌+◌, ◌<◌, max, [], ◌∷◌, ◌++◌, length, Option, Some, None, Result, Ok, Err, IfOk, OnErr, inl, refl, ap, arith}
+use Rattle.std.proofs.Common.{◌≡◌, ◌↔◌, ℕ, true, false, ◌+◌, ◌<◌, max, [], ◌∷◌, ◌++◌, length, Option, Some, None, Result, Ok, Err, IfOk, OnErr, inl, refl, sym, ap, ◌∙◌, arith}
 use Rattle.am_names.specs.declared.EndpointId.{EndpointId}
 use Rattle.am_office.specs.declared.Actor.{Actor}
 use Rattle.am_office.specs.declared.Event.{Event}
@@ -30,6 +30,10 @@ pub called_book : (e f : EndpointView) (r : Result Entry EndFault) (clock : ℕ)
 called_book e f (Ok x) clock b set log same full stamped keeps = grown_book e f x b set log (λ h. absurd (let bad : ◌≡◌ {A = Result Entry EndFault} (Ok x) (Err Faults.LogFull) = full.1 h in cc)) (let s : x.stamp ≡ 1 + max clock (last_stamp e.log) = stamped in omega arith) keeps
 called_book e f (Err fault) clock b set log same full stamped keeps = same_book e f b set same
 
+-- want of memory is told only where the log isn't full
+pub not_full : (r : Result Entry EndFault) (P : Type 0) → r ≡ Err Faults.NoMemory → ((r ≡ Err Faults.LogFull) ↔ P) → P → ⊥
+not_full r P is full h = let bad : ◌≡◌ {A = Result Entry EndFault} (Err Faults.NoMemory) (Err Faults.LogFull) = sym is ∙ full.1 h in cc
+
 pub call_keeps : (s : State) (r : Result Entry EndFault) → is_on_disk s.head.place ≡ false → IfOk r (λ (x : Entry). keeps_on_disk s x ≡ true)
 call_keeps s (Ok x) here = here_keeps s x here
 call_keeps s (Err fault) here = tt
@@ -50,6 +54,10 @@ TellsFull r failing Full = (p : Part) → (r ≡ Err (EntryFaults.LogFull p)) �
 pub enabled_done : (t : Turned) (failing : Option Condition) → TellsDisabled (Ok t) failing → failing ≡ None
 enabled_done t None disabled = refl
 enabled_done t (Some c) disabled = absurd (let bad : ◌≡◌ {A = Result Turned EntryFault} (Ok t) (Err (EntryFaults.NotEnabled c)) = (disabled c).1 refl in cc)
+
+pub enabled_starved : (failing : Option Condition) → TellsDisabled (Err EntryFaults.NoMemory) failing → failing ≡ None
+enabled_starved None disabled = refl
+enabled_starved (Some c) disabled = absurd (let bad : ◌≡◌ {A = Result Turned EntryFault} (Err EntryFaults.NoMemory) (Err (EntryFaults.NotEnabled c)) = (disabled c).1 refl in cc)
 
 full_none : (t : Turned) (failing : Option Condition) (Full : Part → Type 0) (p : Part) → TellsDisabled (Ok t) failing → TellsFull (Ok t) failing Full → Full p → ⊥
 full_none t failing Full p disabled full h = let bad : ◌≡◌ {A = Result Turned EntryFault} (Ok t) (Err (EntryFaults.LogFull p)) = (full p).1 (enabled_done t failing disabled, h) in cc

@@ -1,5 +1,5 @@
 -- What an interface's turn answers, by what it found.
-use Rattle.std.proofs.Common.{◌≡◌, ◌≢◌, inl, inr, ⊎_elim, ℕ, ◌+◌, ◌^◌, ◌<◌, ◌≤◌, max, false, List, [], ◌∷◌, ◌++◌, length, Option, Some, None, Ok, Err, refl, ap, ◌∙◌, arith}
+use Rattle.std.proofs.Common.{◌≡◌, ◌≢◌, inl, inr, ⊎_elim, ℕ, ◌+◌, ◌^◌, ◌<◌, ◌≤◌, max, false, List, [], ◌∷◌, ◌++◌, length, Option, Some, None, Result, Ok, Err, refl, ap, ◌∙◌, arith}
 use Rattle.am_office.specs.declared.Entry.{Entry}
 use Rattle.am_office.specs.declared.Part.{Part}
 use Rattle.am_office.specs.declared.Part.TheVariants as Parts
@@ -19,6 +19,7 @@ use Rattle.am_iface.specs.Turns.{IsFull, stamp_after, stamp_in}
 use Rattle.am_iface.specs.View.{InterfaceView, own}
 use Rattle.am_iface.specs.With.{IsFullOf}
 use Rattle.am_iface.specs.declared.Turned.{Turned}
+use Rattle.am_model.specs.declared.EntryFault.{EntryFault}
 use Rattle.am_model.specs.declared.EntryFault.TheVariants as EntryFaults
 use Rattle.am_places.specs.Rule.{joined}
 use Rattle.am_places.specs.declared.board.Tenure.{Tenure}
@@ -27,7 +28,7 @@ use Rattle.am_turns.specs.Turns.{Alone, AloneTurns, HasTries, InterfaceFound, In
 use Rattle.am_turns.specs.declared.turns.InterfaceTurn.{InterfaceTurn}
 use Rattle.am_turns.specs.declared.turns.InterfaceTurn.TheVariants as Worked
 use Rattle.am_turns.proofs.Answering.{why_stayed}
-use Rattle.am_turns.proofs.Books.{TellsDisabled, TellsFull, enabled_done}
+use Rattle.am_turns.proofs.Books.{TellsDisabled, TellsFull, enabled_done, enabled_starved}
 use Rattle.am_works.proofs.Staying.{AreStill}
 
 -- an interface's event moves no endpoint
@@ -80,8 +81,8 @@ worked_found e i j w t needed disabled event outcome stamped out logged bounces 
 )
 
 -- a log is full
-pub full_found : (e : EndpointView) (i j : InterfaceView) (p : Part) (failing : Option Condition) → TellsFull (Err (EntryFaults.LogFull p)) failing (IsFullOf i e) → j ≡ i → IsSomeFull i e.settings e.log × (j ≡ i)
-full_found e i j p failing full same = (⊎_elim at_end at_interface ((full p).0 refl).1, same)
+pub full_found : (e : EndpointView) (i j : InterfaceView) (p : Part) (failing : Option Condition) → TellsFull (Err (EntryFaults.LogFull p)) failing (IsFullOf i e) → j ≡ i → (failing ≡ None) × IsSomeFull i e.settings e.log × (j ≡ i)
+full_found e i j p failing full same = (((full p).0 refl).0, ⊎_elim at_end at_interface ((full p).0 refl).1, same)
   where
     at_end : (p ≡ Parts.Endpoint e.settings.id) × (length e.log ≡ e.settings.log) → IsSomeFull i e.settings e.log
     at_end h = inl h.1
@@ -89,14 +90,31 @@ full_found e i j p failing full same = (⊎_elim at_end at_interface ((full p).0
     at_interface : (length e.log ≢ e.settings.log) × IsFull i p → IsSomeFull i e.settings e.log
     at_interface h = inr h.1.1
 
+-- there is no memory for its entry, and no log is full
+pub starved_found : (e : EndpointView) (i j : InterfaceView) (failing : Option Condition) → TellsDisabled (Err EntryFaults.NoMemory) failing → TellsFull (Err EntryFaults.NoMemory) failing (IsFullOf i e) → j ≡ i
+    → (failing ≡ None) × (length e.log ≢ e.settings.log) × (length i.log ≢ i.settings.log) × (j ≡ i)
+starved_found e i j failing disabled full same = (enabled, end_has_room, interface_has_room, same)
+  where
+    enabled : failing ≡ None
+    enabled = enabled_starved failing disabled
+
+    not_starved : (p : Part) → ◌≡◌ {A = Result Turned EntryFault} (Err EntryFaults.NoMemory) (Err (EntryFaults.LogFull p)) → ⊥
+    not_starved p bad = cc
+
+    end_has_room : length e.log ≢ e.settings.log
+    end_has_room h = not_starved (Parts.Endpoint e.settings.id) ((full (Parts.Endpoint e.settings.id)).1 (enabled, inl (refl, h)))
+
+    interface_has_room : length i.log ≢ i.settings.log
+    interface_has_room h = not_starved (Parts.Interface i.settings.node) ((full (Parts.Interface i.settings.node)).1 (enabled, inr (end_has_room, (refl, h))))
+
 -- ---- a turn whatever its work touches
 
 pub with_done : (k : ℕ) (w : Work) (i j : InterfaceView) (turn : InterfaceTurn) (v u : EndPass) → InterfaceTurns k w i j v u turn → WorkTurns w i j v u turn
 with_done k w i j (Worked.Made t) v u h = (With k (record { set = h.set; place = h.place; log = h.log; stays = h.stays; why = h.why.0 }), h.why.1)
 with_done k w i j (Worked.Busy holder) v u h = (Shut k holder h.0, h.1)
 with_done k w i j Worked.NotYet v u h = (Still k h.set h.place h.log h.stays, h.why)
-with_done k w i j Worked.Full v u h = (Still k h.set h.place h.log h.stays, h.why.1)
-with_done k w i j Worked.NoMemory v u h = (Still k h.set h.place h.log h.stays, h.why)
+with_done k w i j Worked.Full v u h = (Still k h.set h.place h.log h.stays, h.why.2)
+with_done k w i j Worked.NoMemory v u h = (Still k h.set h.place h.log h.stays, h.why.3)
 
 pub alone_done : (w : Work) (i j : InterfaceView) (turn : InterfaceTurn) (v : EndPass) → AloneTurns w i j turn → WorkTurns w i j v v turn
 alone_done w i j (Worked.Made t) v h = (Alone refl h.0, h.1)

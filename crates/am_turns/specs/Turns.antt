@@ -1,5 +1,5 @@
 -- What the turns of the workers answer, and what they leave.
-use Rattle.std.specs.Prelude.{◌≡◌, ◌⊎◌, ℕ, ◌+◌, ◌<◌, ◌≤◌, ◌^◌, max, false, true, Some, None, List, [], ◌∷◌, ◌++◌, length}
+use Rattle.std.specs.Prelude.{◌≡◌, ◌≢◌, ◌⊎◌, ℕ, ◌+◌, ◌<◌, ◌≤◌, ◌^◌, max, false, true, Some, None, List, [], ◌∷◌, ◌++◌, length}
 use Rattle.am_names.specs.declared.Packet.TheVariants as Packets
 use Rattle.am_office.specs.declared.Actor.TheVariants.{Thread}
 use Rattle.am_office.specs.declared.Call.{Call}
@@ -45,15 +45,20 @@ pub record IsWant (thread clock : ℕ) (set : EndSettings) (log : List Entry) (x
   pub stamped : x.stamp ≡ 1 + max clock (last_stamp log)
   pub low : max clock (last_stamp log) < 2 ^ 63
 
--- what the thread found, for what it did
+-- a call is due: the endpoint is in memory, or is on disk and was not wanted; and a stamp may follow
+pub record IsDue (clock : ℕ) (set : EndSettings) (log : List Entry) : Type 0 where
+  pub unwanted : is_on_disk (state_by set log).head.place ≡ true → (state_by set log).head.wanted ≡ false
+  pub low : max clock (last_stamp log) < 2 ^ 63
+
+-- what the thread found, for what it did: a full log is told only where a call is due, and want of memory only where the log isn't full
 abbrev pub ThreadFound : ℕ → Call → ℕ → ThreadTurn → EndSettings → List Entry → Type 0
 ThreadFound thread call clock (Turns.Made x) set log = IsCall thread call clock set log x
 ThreadFound thread call clock (Turns.Wanted x) set log = IsWant thread clock set log x
 ThreadFound thread call clock (Turns.Busy holder) set log = ⊥
 ThreadFound thread call clock Turns.Waits set log = (is_on_disk (state_by set log).head.place ≡ true) × ((state_by set log).head.wanted ≡ true)
-ThreadFound thread call clock Turns.Full set log = length log ≡ set.log
+ThreadFound thread call clock Turns.Full set log = IsDue clock set log × (length log ≡ set.log)
 ThreadFound thread call clock Turns.Spent set log = 2 ^ 63 ≤ max clock (last_stamp log)
-ThreadFound thread call clock Turns.NoMemory set log = Unit {0}
+ThreadFound thread call clock Turns.NoMemory set log = IsDue clock set log × (length log ≢ set.log)
 
 -- what it added
 abbrev pub made_in : ThreadTurn → List Entry
@@ -101,13 +106,18 @@ pub record IsWork (work : Work) (i j : InterfaceView) (set : EndSettings) (log :
 abbrev pub IsSomeFull : InterfaceView → EndSettings → List Entry → Type 0
 IsSomeFull i set log = (length log ≡ set.log) ⊎ (length i.log ≡ i.settings.log)
 
--- what the interface found, for what it did, and what it is afterwards
+-- the work can be done
+abbrev pub IsEnabled : Work → InterfaceView → EndSettings → List Entry → Type 0
+IsEnabled work i set log = failing_at (own i) (state_by set log) work ≡ None
+
+-- what the interface found, for what it did, and what it is afterwards: a full log is told only where the work can be done, and want of
+-- memory only where neither log is full
 abbrev pub InterfaceFound : Work → InterfaceView → InterfaceView → InterfaceTurn → EndSettings → List Entry → Type 0
 InterfaceFound work i j (Worked.Made t) set log = IsWork work i j set log t.entry × (t.out ≡ emitted_of t.entry)
 InterfaceFound work i j (Worked.Busy holder) set log = ⊥
 InterfaceFound work i j Worked.NotYet set log = j ≡ i
-InterfaceFound work i j Worked.Full set log = IsSomeFull i set log × (j ≡ i)
-InterfaceFound work i j Worked.NoMemory set log = j ≡ i
+InterfaceFound work i j Worked.Full set log = IsEnabled work i set log × IsSomeFull i set log × (j ≡ i)
+InterfaceFound work i j Worked.NoMemory set log = IsEnabled work i set log × (length log ≢ set.log) × (length i.log ≢ i.settings.log) × (j ≡ i)
 
 -- what it added
 abbrev pub worked_in : InterfaceTurn → List Entry

@@ -22,7 +22,7 @@ use Rattle.am_works.specs.Seats.{EndPass, Ids, IsIdle}
 use Rattle.am_works.specs.Works.{Hand, InterfaceWorks, held_from}
 use Rattle.am_turns.specs.Servers.{sent_to}
 use Rattle.am_workers.specs.AtWork.{AreOuts, IsInterfaceAtWork, IsWay, SameOuts, sent_by, taken_by}
-use Rattle.am_workers.specs.Ways.{HaveRoomBut, Prepares, Serves}
+use Rattle.am_workers.specs.Ways.{CanServe, HaveRoom, HaveRoomBut, Prepares, Serves}
 use Rattle.am_workers.specs.declared.workers.InterfaceWorker.{InterfaceWorker}
 use Rattle.am_workers.specs.declared.workers.Stop.{Stop}
 use Rattle.am_workers.proofs.Linking.{as_there}
@@ -78,6 +78,11 @@ module _ (s : ScenarioLists) (table : TableId) (ids : Ids) (node : NodeId) where
             (subst (λ (i : InterfaceView). InterfaceWorks s ids node h.so_far i.log (sent_by u.outs.items) (taken_by u.ins.items) u.hand w.seat.token.me.0) (sym p.interface)
             (works_with s ids node h.so_far w.interface.log (sent_by w.outs.items) (sent_by u.outs.items) (taken_by w.ins.items) (taken_by u.ins.items) w.hand u.hand w.seat.token.me.0 h.works p.outs.sent (λ from. p.taken from (h.works.got from) (h.works.in_hand from))));
       }
+
+  -- it may do a work where there is room on its links
+  pub can_serve : (turns count : ℕ) (w : InterfaceWorker) → IsInterfaceAtWork s table ids node turns w → count ≡ length ids → HaveRoom w.outs.items → CanServe table count ids w
+  can_serve turns count w h counted room =
+      record { idle = h.idle; counted = counted; guest = h.works.guest; births = h.works.knows.births; lawful = h.lawful; settings = h.set; nodes = h.outs.all ∙ sym h.nodes; room = room }
 
   layout_stays : (i j : InterfaceView) → j.settings ≡ i.settings → IsSet (layout_of s) (own i) → IsSet (layout_of s) (own j)
   layout_stays i j same h =

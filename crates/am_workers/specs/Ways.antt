@@ -1,8 +1,12 @@
 -- What an interface's turn does with its links and with itself.
 use Rattle.std.specs.Prelude.{◌≡◌, ◌≢◌, ℕ, ◌+◌, ◌<◌, ◌≤◌, Some, List, ◌++◌, length, slice_get}
+use mathlib.Core.Option.{some}
+use lib.ListN.{get_elem?}
 use Rattle.atomic_table.specs.Seated.{TableId}
 use Rattle.am_names.specs.declared.NodeId.{NodeId}
 use Rattle.am_names.specs.declared.Packet.{Packet}
+use Rattle.am_body.specs.declared.settings.EndSettings.{EndSettings}
+use Rattle.am_iface.specs.Settings.{AreLawful}
 use Rattle.am_scenario_types.specs.Lists.{ScenarioLists}
 use Rattle.am_wire.specs.Links.{spare}
 use Rattle.am_wire.specs.declared.sending.LinkOut.{LinkOut}
@@ -36,6 +40,18 @@ pub record Prepares (w u : InterfaceWorker) : Type 0 where
   pub ins : SameIns w.ins.items u.ins.items
   pub within : w.from < length w.ins.items → u.from < length u.ins.items
   pub taken : (node : NodeId) (got : List Packet) → taken_by w.ins.items node ≡ got ++ held_from node w.hand → taken_by u.ins.items node ≡ got ++ held_from node u.hand
+
+-- the worker may do a work with an endpoint of these places: its seat is a guest's between two stays and was told the endpoints of these
+-- numbers, and on each of its links there is room for a packet more
+pub record CanServe (table : TableId) (count : ℕ) (ids : Ids) (w : InterfaceWorker) : Type 0 where
+  pub idle : IsIdle table w.seat.token
+  pub counted : count ≡ length ids
+  pub guest : w.seat.token.me.0.mark ≢ w.seat.token.me.0.seats
+  pub births : (k : ℕ) (set : EndSettings) → get_elem? w.seat.token.me.0.births k ≡ some set → slice_get ids k ≡ Some set.id
+  pub lawful : AreLawful w.set
+  pub settings : w.set ≡ w.interface.settings
+  pub nodes : length w.outs.items ≡ w.interface.settings.nodes
+  pub room : HaveRoom w.outs.items
 
 -- the worker made a turn without a look at its links: what its entry emits was emitted on a link
 pub record Serves (table : TableId) (ids : Ids) (w u : InterfaceWorker) : Type 0 where

@@ -1,17 +1,13 @@
 //! An interface between its links, from turn to turn.
-ghost use Rattle.am_body.specs.declared.settings.EndSettings.{EndSettings};
-ghost use Rattle.am_iface.specs.Settings.{AreLawful};
 ghost use Rattle.am_scenario_types.specs.Lawful.{IsLawful};
 ghost use Rattle.am_scenario_types.specs.declared.parts.Network.TheVariants.{Packet as IsPacket};
 ghost use Rattle.am_turns.specs.Servers.{HandHolds, out_of};
 ghost use Rattle.am_workers.specs.AtWork.{IsInterfaceAtWork, SameIns, SameOuts};
-ghost use Rattle.am_workers.specs.Ways.{HaveRoom, HaveRoomBut, Prepares, Serves};
+ghost use Rattle.am_workers.specs.Ways.{CanServe, HaveRoom, HaveRoomBut, Prepares, Serves};
 ghost use Rattle.am_workers.specs.Stops.{stop_after_work};
 ghost use Rattle.am_workers.specs.declared.workers.Stop.{Stop};
-ghost use Rattle.am_works.specs.Seats.{IsIdle, SameSeat};
-ghost use Rattle.std.specs.Prelude.{◌≡◌, ◌≢◌, ◌+◌, ◌<◌, ◌≤◌, ℕ, OnErr, OnOk, Some, length, slice_get};
-ghost use lib.ListN.{get_elem?};
-ghost use mathlib.Core.Option.{some};
+ghost use Rattle.am_works.specs.Seats.{SameSeat};
+ghost use Rattle.std.specs.Prelude.{◌≡◌, ◌+◌, ◌<◌, ◌≤◌, OnErr, OnOk, Some, length};
 
 use crate::gate::Gate;
 use crate::ways::{make_room, pump_all, send, take_in_hand};
@@ -77,14 +73,7 @@ fn next_place(at: usize, work: &Work, count: usize) -> usize {
 
 /// Does this work, and emits what its entry emits on the link to its receiver.
 fn do_work(worker: &mut InterfaceWorker, places: &Places<EndBook>, ids: &[EndpointId], work: &Work)
-    requires idle { IsIdle places.now.board.shared.table_id worker.old.seat.token }
-    requires count { places.now.count ≡ length ids.now }
-    requires guest { worker.old.seat.token.me.0.mark ≢ worker.old.seat.token.me.0.seats }
-    requires births { (k : ℕ) (set : EndSettings) → get_elem? worker.old.seat.token.me.0.births k ≡ some set → slice_get ids.now k ≡ Some set.id }
-    requires lawful { AreLawful worker.old.set }
-    requires set { worker.old.set ≡ worker.old.interface.settings }
-    requires nodes { length worker.old.outs.items ≡ worker.old.interface.settings.nodes }
-    requires room { HaveRoom worker.old.outs.items }
+    requires can { CanServe places.now.board.shared.table_id places.now.count ids.now worker.old }
     requires hand { HandHolds worker.old.hand work.now }
     ensures { Serves places.now.board.shared.table_id ids.now worker.old worker.new }
 {
@@ -106,14 +95,7 @@ fn do_work(worker: &mut InterfaceWorker, places: &Places<EndBook>, ids: &[Endpoi
 
 /// Chooses a work and does it, if there is one to do.
 fn find_work(worker: &mut InterfaceWorker, places: &Places<EndBook>, ids: &[EndpointId])
-    requires idle { IsIdle places.now.board.shared.table_id worker.old.seat.token }
-    requires count { places.now.count ≡ length ids.now }
-    requires guest { worker.old.seat.token.me.0.mark ≢ worker.old.seat.token.me.0.seats }
-    requires births { (k : ℕ) (set : EndSettings) → get_elem? worker.old.seat.token.me.0.births k ≡ some set → slice_get ids.now k ≡ Some set.id }
-    requires lawful { AreLawful worker.old.set }
-    requires set { worker.old.set ≡ worker.old.interface.settings }
-    requires nodes { length worker.old.outs.items ≡ worker.old.interface.settings.nodes }
-    requires room { HaveRoom worker.old.outs.items }
+    requires can { CanServe places.now.board.shared.table_id places.now.count ids.now worker.old }
     ensures { Serves places.now.board.shared.table_id ids.now worker.old worker.new }
 {
     worker.waits.begin_turn();

@@ -1,10 +1,8 @@
-use Rattle.std.proofs.Common.{◌≡◌, ◌∙◌, ◌<◌, Some, ap, arith, length, sym}
-use Rattle.am_driver.specs.declared.EndView.{EndView}
+use Rattle.std.proofs.Common.{◌≡◌, ◌∙◌, ◌<◌, Some, ap, arith, length, refl, sym}
+use Rattle.am_driver.specs.Moves.{next_move}
 use Rattle.am_driver.specs.Shown.{event_of}
-use Rattle.am_local.specs.Driver.{end_moved}
-use Rattle.am_names.specs.declared.EndpointId.{EndpointId}
 use Rattle.am_works.proofs.Drivers.{drivers_rest}
-use Rattle.am_driver_turn.proofs.Turning.{has_line, line_found, looks_can, looks_long, looks_same, looks_works, moved_can, moved_works, stopped_can, stopped_same, stopped_works, turned_same}
+use Rattle.am_driver_turn.proofs.Turning.{has_line, line_found, looks_can, looks_long, looks_same, looks_works, moved_can, moved_works, moves_one, named_there, nothing_of, stopped_can, stopped_same, stopped_works, turned_same, turns_so}
 use Rattle.am_driver_turn.proofs.driver.driver_turn.Goals as goal
 
 pub returns-in-Err-clause-can : goal.returns-in-Err-clause-can
@@ -36,6 +34,14 @@ returns-in_default-event_of-clause-works c s ids n of h = let l = c.look_at_each
     drivers_rest s ids a.node n a.clock.now l.view a.swap.now l.seat.token.me.0
     (looks_works (length a.view.now.ends) s ids a.node n a.clock.now a.view.now l.view a.swap.now a.seat.now.token.me.0 l.seat.token.me.0 h c.in_default.ensures.looked)
 
+pub returns-in_default-event_of-clause-turn : goal.returns-in_default-event_of-clause-turn
+returns-in_default-event_of-clause-turn c = let l = c.look_at_each.new in
+    (c.in_default.ensures.looked, nothing_of c.args.node (next_move l.view) (ap (event_of c.args.node) (sym c.next_move-chosen.ensures.rules) ∙ sym c.event_of.ensures ∙ c.in_default-event_of.is), (refl, refl))
+
+pub unreachable-requires : goal.unreachable-requires
+unreachable-requires c = let l = c.look_at_each.new in
+    moves_one c.args.node (next_move l.view) c.in-Some.event (ap (event_of c.args.node) (sym c.next_move-chosen.ensures.rules) ∙ sym c.event_of.ensures ∙ c.in-Some.is) (sym c.end_moved.ensures ∙ c.in_default-end_moved.is)
+
 pub unreachable-requires-in_default-line_at : goal.unreachable-requires-in_default-line_at
 unreachable-requires-in_default-line_at c = let l = c.look_at_each.new in let a = c.args in
     has_line l.view a.node c.in-Some.event c.in-Some-end_moved.end (ap (event_of a.node) (sym c.next_move-chosen.ensures.rules) ∙ sym c.event_of.ensures ∙ c.in-Some.is) (sym c.end_moved.ensures ∙ c.in-Some-end_moved.is) (sym c.line_at.ensures ∙ c.in_default-line_at.is)
@@ -56,11 +62,19 @@ move_turn-requires-clause-at c = let l = c.look_at_each.new in
     omega (arith, low, long)
 
 pub move_turn-requires-clause-end : goal.move_turn-requires-clause-end
-move_turn-requires-clause-end c set born = let l = c.look_at_each.new in let a = c.args in
-    let can = looks_can (length a.view.now.ends) a.places.now.frames a.node a.view.now l.view a.swap.now a.seat.now.token.me.0 l.seat.token.me.0 c.requires.can c.in_default.ensures.looked in
-    let found = line_found c.in-Some-end_moved.end l.view.ends c.in-Some-line_at.at (sym c.line_at.ensures ∙ c.in-Some-line_at.is) in
-    let knows = can.each c.in-Some-line_at.at set found.line born found.at in
-    sym c.end_moved.ensures ∙ c.in-Some-end_moved.is ∙ ap (λ (e : EndpointId). Some e) (sym found.id ∙ ap (λ (x : EndView). x.id) knows.shows)
+move_turn-requires-clause-end c = let l = c.look_at_each.new in let a = c.args in
+    named_there a.places.now.frames a.node l.view a.swap.now l.seat.token.me.0 c.in-Some.event c.in-Some-end_moved.end c.in-Some-line_at.at
+    (looks_can (length a.view.now.ends) a.places.now.frames a.node a.view.now l.view a.swap.now a.seat.now.token.me.0 l.seat.token.me.0 c.requires.can c.in_default.ensures.looked)
+    (sym c.end_moved.ensures ∙ c.in-Some-end_moved.is) (sym c.line_at.ensures ∙ c.in-Some-line_at.is)
+
+pub returns-clause-turn : goal.returns-clause-turn
+returns-clause-turn c = let l = c.look_at_each.new in let a = c.args in let m = c.move_turn.new in
+    turns_so (length a.view.now.ends) a.node c.in-Some-line_at.at a.clock.now m.clock a.view.now l.view m.view a.swap.now m.swap a.seat.now.token.me.0 l.seat.token.me.0 m.seat.token.me.0 c.in-Some.event c.move_turn.result
+    c.in_default.ensures.looked (ap (event_of a.node) (sym c.next_move-chosen.ensures.rules) ∙ sym c.event_of.ensures ∙ c.in-Some.is)
+    (named_there a.places.now.frames a.node l.view a.swap.now l.seat.token.me.0 c.in-Some.event c.in-Some-end_moved.end c.in-Some-line_at.at
+    (looks_can (length a.view.now.ends) a.places.now.frames a.node a.view.now l.view a.swap.now a.seat.now.token.me.0 l.seat.token.me.0 c.requires.can c.in_default.ensures.looked)
+    (sym c.end_moved.ensures ∙ c.in-Some-end_moved.is) (sym c.line_at.ensures ∙ c.in-Some-line_at.is))
+    c.move_turn.ensures.turn
 
 pub returns-clause-can : goal.returns-clause-can
 returns-clause-can c = let l = c.look_at_each.new in let a = c.args in let m = c.move_turn.new in

@@ -10,9 +10,9 @@ use Rattle.am_model.specs.Parts.{last_stamp}
 use Rattle.am_model.specs.Endpoint.{is_direct}
 use Rattle.am_turns.specs.Turns.{InterfaceFound, MayBounce, SettlesHere}
 use Rattle.am_turns.specs.declared.turns.InterfaceTurn.TheVariants as Worked
-use Rattle.am_turns.proofs.Books.{TellsFull, worked_book}
+use Rattle.am_turns.proofs.Books.{TellsDisabled, TellsFull, worked_book}
 use Rattle.am_turns.proofs.Resting.{turn_keeps}
-use Rattle.am_turns.proofs.Working.{full_found, worked_found}
+use Rattle.am_turns.proofs.Working.{full_found, starved_found, worked_found}
 use Rattle.am_turns.proofs.works.work_on.Goals as goal
 
 pub invariant_of-book : goal.invariant_of-book
@@ -37,3 +37,11 @@ returns-in-Err-LogFull-clause-found c =
     subst (λ (d : EndpointView). InterfaceFound w i c.turn_with.new.self Worked.Full d.settings d.log) c.deref_mut.ensures.value
     (full_found e i c.turn_with.new.self c.in-Err-LogFull.field-0-0 (failing_at (own i) (state_after e) w)
     (subst (λ (f : EntryFault). TellsFull (Err f) (failing_at (own i) (state_after e) w) (IsFullOf i e)) c.in-Err-LogFull.field-0-is c.in-Err-LogFull.ensures.full) c.in-Err-LogFull.ensures.err)
+
+pub returns-in-Err-NoMemory-clause-found : goal.returns-in-Err-NoMemory-clause-found
+returns-in-Err-NoMemory-clause-found c =
+    let e = c.deref_mut.result.now in let i = c.args.interface.now in let w = c.args.work.now in let f = c.in-Err-NoMemory in
+    subst (λ (d : EndpointView). InterfaceFound w i c.turn_with.new.self Worked.NoMemory d.settings d.log) c.deref_mut.ensures.value
+    (starved_found e i c.turn_with.new.self (failing_at (own i) (state_after e) w)
+    (subst (λ (x : EntryFault). TellsDisabled (Err x) (failing_at (own i) (state_after e) w)) f.field-0-is f.ensures.disabled)
+    (subst (λ (x : EntryFault). TellsFull (Err x) (failing_at (own i) (state_after e) w) (IsFullOf i e)) f.field-0-is f.ensures.full) f.ensures.err)
