@@ -2,7 +2,7 @@
 ghost use Rattle.std.specs.Prelude.{◌≡◌, ℕ, ◌+◌, ◌<◌, ◌≤◌, ◌∷◌, true, List, Contains, None, IfNone, IfOk, IfErr, IfSome, position, slice_get, length};
 ghost use Rattle.am_names.specs.Names.{same_end};
 ghost use Rattle.am_places.specs.Codes.{frame_at, holder_code, place_code};
-ghost use Rattle.am_places.specs.Rule.{Comes, HasGathered, Met, known_at, joined, holder_word, state_word, word_of, with_known, inside_with, read};
+ghost use Rattle.am_places.specs.Rule.{AllWithin, Comes, HasGathered, Met, known_at, joined, holder_word, state_word, word_of, with_known, inside_with, read};
 
 use crate::book::Book;
 use crate::places::{Busy, Entered, Places, Seat, Seen};
@@ -46,7 +46,7 @@ impl<B: Book + Send + Drop> Places<B> {
         ensures seat { (seat.new.token.table_id ≡ seat.old.token.table_id) × (seat.new.mark ≡ seat.old.mark) }
         ensures seen { (at : ℕ) × (slice_get self.now.ids.items at ≡ Some end)
             × (seat.new.token.me ≡ (read (state_word at) (word_of (place_code result.place) result.count) (read (holder_word at) (holder_code result.holder) seat.old.token.me.0), seat.old.token.me.1))
-            × (length (joined (known_at at seat.old.token.me.0).seen) ≤ result.count) }
+            × (length (joined (known_at at seat.old.token.me.0).seen) ≤ result.count) × AllWithin result.count (known_at at seat.old.token.me.0).others }
         ensures holder { holder_code result.holder ≤ seat.old.token.me.0.seats }
     {
         let at = self.position_of(end);

@@ -102,7 +102,7 @@ fn keep_later<T: Copy>(held: &mut Vec<Held<T>>, place: u64)
 }
 
 impl<T: Copy> Stage<T> {
-    ghost use Rattle.std.specs.Prelude.{◌≡◌, ◌+◌, ◌≤◌, ◌<◌, ◌^◌, ◌++◌, [], OnOk, length};
+    ghost use Rattle.std.specs.Prelude.{◌≡◌, ◌+◌, ◌≤◌, ◌<◌, ◌^◌, ◌++◌, [], OnErr, OnOk, length};
     ghost use Rattle.am_release.specs.Stages.{freed, held_then};
 
     /// A stage through which nothing went. It takes no memory.
@@ -116,11 +116,13 @@ impl<T: Copy> Stage<T> {
         }
     }
 
-    /// Makes room for one emission more. `NoMemory` comes where there is none for it; either way nothing else changes.
+    /// Makes room for one emission more. `NoMemory` comes where there is none for it; either way nothing else changes, and no
+    /// room is lost.
     pub fn room(&mut self) -> Result<(), NoMemory>
         ensures released { self.new.released ≡ self.old.released }
         ensures held { self.new.held ≡ self.old.held }
         ensures spare { OnOk result (1 ≤ self.new.spare) }
+        ensures err { OnErr result (self.new.spare ≡ self.old.spare) }
     {
         let more = self.held.len() + 2;
         if self.released.reserve(more).is_err() {
