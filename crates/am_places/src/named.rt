@@ -10,6 +10,10 @@ use am_names::EndpointId;
 
 impl<B: Book + Send + Drop> Places<B> {
     /// The position of an endpoint: the first where its number stands. None where it is none of these.
+    ///
+    /// ```
+    /// let at = places.position(EndpointId(7));
+    /// ```
     pub fn position(&self, end: EndpointId) -> Option<usize>
         ensures { result ≡ position (same_end end) self.now.ids.items }
     {
@@ -27,6 +31,12 @@ impl<B: Book + Send + Drop> Places<B> {
     }
 
     /// The book, where no seat is inside.
+    ///
+    /// ```
+    /// if let Ok(entered) = places.try_enter(&mut seat, EndpointId(7)) {
+    ///     places.leave(&mut seat, entered);
+    /// }
+    /// ```
     pub fn try_enter(&self, seat: &mut Seat<B>, end: EndpointId) -> Result<Entered<B>, Busy>
         requires seat { seat.old.token.table_id ≡ self.now.board.shared.table_id }
         requires known { Contains self.now.ids.items end }
@@ -40,6 +50,10 @@ impl<B: Book + Send + Drop> Places<B> {
     }
 
     /// What the two words of the endpoint say, the holder word read first.
+    ///
+    /// ```
+    /// let length = places.look(&mut seat, EndpointId(7)).count;
+    /// ```
     pub fn look(&self, seat: &mut Seat<B>, end: EndpointId) -> Seen
         requires seat { seat.old.token.table_id ≡ self.now.board.shared.table_id }
         requires known { Contains self.now.ids.items end }
@@ -54,6 +68,10 @@ impl<B: Book + Send + Drop> Places<B> {
     }
 
     /// The book, once, where every other seat is gathered. None where this seat took it out before.
+    ///
+    /// ```
+    /// let book = places.take_out(&mut keeper, EndpointId(7));
+    /// ```
     pub fn take_out(&self, seat: &mut Seat<B>, end: EndpointId) -> Option<B>
         requires seat { seat.old.token.table_id ≡ self.now.board.shared.table_id }
         requires known { Contains self.now.ids.items end }
