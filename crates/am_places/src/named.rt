@@ -2,7 +2,7 @@
 ghost use Rattle.std.specs.Prelude.{◌≡◌, ℕ, ◌+◌, ◌<◌, ◌≤◌, ◌∷◌, true, List, Contains, None, IfNone, IfOk, IfErr, IfSome, position, slice_get, length};
 ghost use Rattle.am_names.specs.Names.{same_end};
 ghost use Rattle.am_places.specs.Codes.{frame_at, holder_code, place_code};
-ghost use Rattle.am_places.specs.Rule.{Comes, HasGathered, Met, known_at, joined, holder_word, state_word, word_of, with_known, inside_with, read};
+ghost use Rattle.am_places.specs.Rule.{AllWithin, Comes, HasGathered, Met, known_at, joined, holder_word, state_word, word_of, with_known, inside_with, read};
 
 use crate::book::Book;
 use crate::places::{Busy, Entered, Places, Seat, Seen};
@@ -10,6 +10,10 @@ use am_names::EndpointId;
 
 impl<B: Book + Send + Drop> Places<B> {
     /// The position of an endpoint: the first where its number stands. None where it is none of these.
+    ///
+    /// ```
+    /// let at = places.position(EndpointId(7));
+    /// ```
     pub fn position(&self, end: EndpointId) -> Option<usize>
         ensures { result ≡ position (same_end end) self.now.ids.items }
     {
@@ -27,6 +31,12 @@ impl<B: Book + Send + Drop> Places<B> {
     }
 
     /// The book, where no seat is inside.
+    ///
+    /// ```
+    /// if let Ok(entered) = places.try_enter(&mut seat, EndpointId(7)) {
+    ///     places.leave(&mut seat, entered);
+    /// }
+    /// ```
     pub fn try_enter(&self, seat: &mut Seat<B>, end: EndpointId) -> Result<Entered<B>, Busy>
         requires seat { seat.old.token.table_id ≡ self.now.board.shared.table_id }
         requires known { Contains self.now.ids.items end }
@@ -40,13 +50,17 @@ impl<B: Book + Send + Drop> Places<B> {
     }
 
     /// What the two words of the endpoint say, the holder word read first.
+    ///
+    /// ```
+    /// let length = places.look(&mut seat, EndpointId(7)).count;
+    /// ```
     pub fn look(&self, seat: &mut Seat<B>, end: EndpointId) -> Seen
         requires seat { seat.old.token.table_id ≡ self.now.board.shared.table_id }
         requires known { Contains self.now.ids.items end }
         ensures seat { (seat.new.token.table_id ≡ seat.old.token.table_id) × (seat.new.mark ≡ seat.old.mark) }
         ensures seen { (at : ℕ) × (slice_get self.now.ids.items at ≡ Some end)
             × (seat.new.token.me ≡ (read (state_word at) (word_of (place_code result.place) result.count) (read (holder_word at) (holder_code result.holder) seat.old.token.me.0), seat.old.token.me.1))
-            × (length (joined (known_at at seat.old.token.me.0).seen) ≤ result.count) }
+            × (length (joined (known_at at seat.old.token.me.0).seen) ≤ result.count) × AllWithin result.count (known_at at seat.old.token.me.0).others }
         ensures holder { holder_code result.holder ≤ seat.old.token.me.0.seats }
     {
         let at = self.position_of(end);
@@ -54,6 +68,10 @@ impl<B: Book + Send + Drop> Places<B> {
     }
 
     /// The book, once, where every other seat is gathered. None where this seat took it out before.
+    ///
+    /// ```
+    /// let book = places.take_out(&mut keeper, EndpointId(7));
+    /// ```
     pub fn take_out(&self, seat: &mut Seat<B>, end: EndpointId) -> Option<B>
         requires seat { seat.old.token.table_id ≡ self.now.board.shared.table_id }
         requires known { Contains self.now.ids.items end }

@@ -50,6 +50,7 @@ module _ {B I T : Type 0} (items : B → List I) (birth : B → T) (stands : B �
           log = r.log;
           whole = free.3.0;
           seen = λ p v at. r.seen p (line k v) (at_map (line k) views p v at);
+          calm_log = λ p v live. subst (λ (d : ℕ). calm moves d r.log ≡ true) (sym (t.kept.told p v live.0 live.1).1) r.calm_log;
         },
       ))
       (λ held. absurd (let pos = held.5 in omega (arith, none, pos)))

@@ -5,7 +5,7 @@ use mathlib.Core.Option.{some}
 use lib.ListN.{get_elem?}
 use Rattle.atomic_table.specs.Table.{State}
 use Rattle.am_names.specs.declared.EndpointId.{EndpointId}
-use Rattle.am_places.specs.Rule.{Begins, Kept, frame_word, has, holder_word, joined, known_at, state_word, stirs, word_of}
+use Rattle.am_places.specs.Rule.{Begins, Kept, calm, frame_word, has, holder_word, joined, known_at, state_word, stirs, word_of}
 use Rattle.am_places.specs.declared.board.Pass.{Pass}
 use Rattle.am_places.specs.declared.board.Tenure.{Tenure}
 
@@ -59,8 +59,8 @@ module _ {B I T : Type 0} (items : B → List I) (birth : B → T) (stands : B �
 
     -- ---- where nobody is inside
 
-    -- this book lies at its endpoint: the birth is the one that the passes hold, the state word shows its length and its place, and its
-    -- list begins with what each seat has seen
+    -- this book lies at its endpoint: the birth is the one that the passes hold, the state word shows its length and its place, its
+    -- list begins with what each seat has seen, and no seat but the last, the driver's, added an item that moves to it
     pub record LiesThere (k : ℕ) (b : B) : Type 0 where
       pub home : get_elem? t.state.homes k ≡ some (some (Some b))
       pub born : (p : ℕ) (v : Pass I T) → IsLive p v → get_elem? v.births k ≡ some (birth b)
@@ -68,6 +68,7 @@ module _ {B I T : Type 0} (items : B → List I) (birth : B → T) (stands : B �
       pub log : List (Tenure I)
       pub whole : joined log ≡ items b
       pub seen : (p : ℕ) (v : Pass I T) → IsPass p v → Begins log (known_at k v).seen
+      pub calm_log : (p : ℕ) (v : Pass I T) → IsLive p v → calm moves v.seats log ≡ true
 
     abbrev pub FreeBooksLieThere : Type 0
     FreeBooksLieThere = (k : ℕ) → IsPlace k → holder k ≡ 0 → (b : B) × LiesThere k b

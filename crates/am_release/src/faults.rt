@@ -12,6 +12,11 @@ use std::marker::Model;
 
 /// What is said of the packets of one link. Contracts see the places of which something is
 /// said, from 1, each with what is said.
+///
+/// ```
+/// let mut faults = LinkFaults::new(alloc);
+/// faults.say(3, LinkFault::Lose)?;
+/// ```
 #[derive(Drop)]
 pub struct LinkFaults {
     places: BTreeMap<u64, LinkFault>,
@@ -28,6 +33,10 @@ impl Model for LinkFaults {
 
 impl LinkFaults {
     /// Nothing is said of any packet.
+    ///
+    /// ```
+    /// let faults = LinkFaults::new(alloc);
+    /// ```
     pub fn new(alloc: Global) -> LinkFaults
         ensures { (place : ℕ) → said result place ≡ None }
     {
@@ -38,6 +47,10 @@ impl LinkFaults {
 
     /// What the plan says of the link from a node to a node: the first of its lines, where several name one packet.
     /// `NoMemory` comes only for want of memory.
+    ///
+    /// ```
+    /// let faults = LinkFaults::of_link(alloc, &plan, NodeId(0), NodeId(1))?;
+    /// ```
     pub fn of_link(
         alloc: Global,
         plan: &[PlanLine],
@@ -65,6 +78,10 @@ impl LinkFaults {
     }
 
     /// Says something of the packet at a place, whatever was said of it before. `NoMemory` leaves all as it was.
+    ///
+    /// ```
+    /// faults.say(4, LinkFault::Late(2))?;
+    /// ```
     pub fn say(&mut self, place: u64, fault: LinkFault) -> Result<(), NoMemory>
         ensures ok { OnOk result ((other : ℕ) → said self.new other ≡ (if other == place then Some fault else said self.old other)) }
         ensures err { OnErr result ((other : ℕ) → said self.new other ≡ said self.old other) }
@@ -76,6 +93,10 @@ impl LinkFaults {
     }
 
     /// What is said of the packet at a place.
+    ///
+    /// ```
+    /// let is_lost = faults.fault(3) == Some(LinkFault::Lose);
+    /// ```
     pub fn fault(&self, place: u64) -> Option<LinkFault>
         ensures { result ≡ said self.now place }
     {

@@ -10,6 +10,10 @@ use std::alloc::Global;
 use std::marker::Model;
 
 /// An item that is released later.
+///
+/// ```
+/// let last = stage.held().iter().map(|held| held.due).max();
+/// ```
 #[derive(Clone, Copy)]
 pub struct Held<T> {
     /// The place of the emission that releases it.
@@ -20,6 +24,13 @@ pub struct Held<T> {
 
 /// What a link has released that was not taken from it, and what it holds back, each in order. Of lines that are late by
 /// at most 16 it holds back at most 16 items.
+///
+/// ```
+/// let mut stage = Stage::new(alloc);
+/// stage.room()?;
+/// stage.emit(1, Some(LinkFault::Repeat), item);
+/// let twice = stage.released();
+/// ```
 #[derive(Drop)]
 pub struct Stage<T: Copy> {
     released: Vec<T>,
@@ -102,10 +113,14 @@ fn keep_later<T: Copy>(held: &mut Vec<Held<T>>, place: u64)
 }
 
 impl<T: Copy> Stage<T> {
-    ghost use Rattle.std.specs.Prelude.{◌≡◌, ◌+◌, ◌≤◌, ◌<◌, ◌^◌, ◌++◌, [], OnOk, length};
+    ghost use Rattle.std.specs.Prelude.{◌≡◌, ◌+◌, ◌≤◌, ◌<◌, ◌^◌, ◌++◌, [], OnErr, OnOk, length};
     ghost use Rattle.am_release.specs.Stages.{freed, held_then};
 
     /// A stage through which nothing went. It takes no memory.
+    ///
+    /// ```
+    /// let mut stage = Stage::new(alloc);
+    /// ```
     pub fn new(alloc: Global) -> Stage<T>
         ensures released { result.released ≡ [] }
         ensures held { result.held ≡ [] }
@@ -116,11 +131,17 @@ impl<T: Copy> Stage<T> {
         }
     }
 
-    /// Makes room for one emission more. `NoMemory` comes where there is none for it; either way nothing else changes.
+    /// Makes room for one emission more. `NoMemory` comes where there is none for it; either way nothing else changes, and no
+    /// room is lost.
+    ///
+    /// ```
+    /// stage.room()?;
+    /// ```
     pub fn room(&mut self) -> Result<(), NoMemory>
         ensures released { self.new.released ≡ self.old.released }
         ensures held { self.new.held ≡ self.old.held }
         ensures spare { OnOk result (1 ≤ self.new.spare) }
+        ensures err { OnErr result (self.new.spare ≡ self.old.spare) }
     {
         let more = self.held.len() + 2;
         if self.released.reserve(more).is_err() {
@@ -134,6 +155,11 @@ impl<T: Copy> Stage<T> {
 
     /// One emission more: that of the item at this place, of which the plan says `fault`. It takes no memory: the store stays
     /// as large as it was.
+    ///
+    /// ```
+    /// stage.room()?;
+    /// stage.emit(place, faults.fault(place), item);
+    /// ```
     pub fn emit(&mut self, place: u64, fault: Option<LinkFault>, item: T)
         requires spare { 1 ≤ self.old.spare }
         requires place { place < 2 ^ 63 }
@@ -149,6 +175,12 @@ impl<T: Copy> Stage<T> {
     }
 
     /// What was released and not taken, in order.
+    ///
+    /// ```
+    /// for item in stage.released() {
+    ///     send(*item);
+    /// }
+    /// ```
     pub fn released(&self) -> &[T]
         ensures { result.now ≡ self.now.released }
     {
@@ -156,6 +188,10 @@ impl<T: Copy> Stage<T> {
     }
 
     /// What later emissions release.
+    ///
+    /// ```
+    /// let is_empty = stage.held().is_empty();
+    /// ```
     pub fn held(&self) -> &[Held<T>]
         ensures { result.now ≡ self.now.held }
     {
@@ -163,6 +199,10 @@ impl<T: Copy> Stage<T> {
     }
 
     /// Takes away what was released.
+    ///
+    /// ```
+    /// stage.take_released();
+    /// ```
     pub fn take_released(&mut self)
         ensures released { self.new.released ≡ [] }
         ensures held { self.new.held ≡ self.old.held }

@@ -1,10 +1,10 @@
 -- What contracts see of the two ends of a link.
-use Rattle.std.specs.Prelude.{◌≡◌, ℕ, ◌+◌, ◌-◌, min, List, length, drop, vec_len, vec_capacity}
+use Rattle.std.specs.Prelude.{◌≡◌, ℕ, List}
 use Rattle.am_names.specs.declared.NodeId.{NodeId}
 use Rattle.am_names.specs.declared.Packet.{Packet}
 use Rattle.am_plan.specs.declared.plan.PlanLine.{PlanLine}
 use Rattle.am_plan.specs.Shape.{shape}
-use Rattle.rtrb.specs.Ring as ring
+use Rattle.am_relay.specs.Relays as relay
 use Rattle.am_wire.specs.declared.sending.LinkOut.{LinkOut}
 use Rattle.am_wire.specs.declared.receiving.LinkIn.{LinkIn}
 
@@ -12,7 +12,7 @@ use Rattle.am_wire.specs.declared.receiving.LinkIn.{LinkIn}
 
 -- what was emitted, in order
 abbrev pub emitted : LinkOut → List Packet
-emitted o = o.emitted.items
+emitted o = relay.emitted o.relay
 
 -- what the emissions released: the shape of what was emitted
 abbrev pub released : LinkOut → List Packet
@@ -20,25 +20,23 @@ released o = shape o.plan.items o.from o.to (emitted o)
 
 -- what was put into the ring, in order
 abbrev pub pumped : LinkOut → List Packet
-pumped o = ring.sent o.producer
+pumped o = relay.pumped o.relay
 
 -- what was released and not put into the ring, in order
 abbrev pub waiting : LinkOut → List Packet
-waiting o = drop o.pumped o.released.items
+waiting o = relay.waiting o.relay
 
 -- how many places of the ring are known to be free
 abbrev pub free_places : LinkOut → ℕ
-free_places o = ring.known_free o.producer
+free_places o = relay.free_places o.relay
 
 -- how many packets the link has places for outside its ring, taken and free
 abbrev pub store : LinkOut → ℕ
-store o = vec_capacity o.emitted + vec_capacity o.released + o.stage.store
+store o = relay.store o.relay
 
 -- there is room for one more emission where this is at least 1
 abbrev pub spare : LinkOut → ℕ
-spare o =
-    min (vec_capacity o.emitted - vec_len o.emitted)
-    (min o.stage.spare (vec_capacity o.released - (vec_len o.released + 1 + length o.stage.held)))
+spare o = relay.spare o.relay
 
 -- a link of this plan from a node to a node
 pub record IsOf (plan : List PlanLine) (from to : NodeId) (o : LinkOut) : Type 0 where
@@ -51,21 +49,21 @@ pub record SameLink (o p : LinkOut) : Type 0 where
   pub plan : p.plan ≡ o.plan
   pub from : p.from ≡ o.from
   pub to : p.to ≡ o.to
-  pub ring : ring.SameProducer o.producer p.producer
+  pub ring : relay.IsOnRing o.relay p.relay
 
 -- ---- the end that receives
 
 -- what was received, in order
 abbrev pub received : LinkIn → List Packet
-received i = ring.received i.consumer
+received i = relay.received i.relay
 
 -- the packets of which this end knows that they were pumped, and that were not received: `next` gives the first of them
 abbrev pub known : LinkIn → List Packet
-known i = ring.known_items i.consumer
+known i = relay.known i.relay
 
 abbrev pub SameEnd : LinkIn → LinkIn → Type 0
-SameEnd i j = ring.SameConsumer i.consumer j.consumer
+SameEnd i j = relay.SameIn i.relay j.relay
 
 -- the two ends of one link
 abbrev pub IsLink : LinkOut → LinkIn → Type 0
-IsLink o i = ring.IsPair o.producer i.consumer
+IsLink o i = relay.AreEnds o.relay i.relay

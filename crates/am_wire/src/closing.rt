@@ -1,20 +1,21 @@
 //! How a link is made, and what went over it when it is closed.
 
 ghost use Rattle.std.specs.Prelude.{◌≡◌, [], ◌++◌, IfOk};
-ghost use Rattle.am_wire.specs.Links.{IsLink, IsOf, emitted, pumped, received, released};
+ghost use Rattle.am_wire.specs.Links.{IsLink, IsOf, emitted, free_places, pumped, received, released};
 
 use crate::receiving::LinkIn;
 use crate::sending::LinkOut;
 use am_names::{NoMemory, NodeId, Packet};
 use am_plan::PlanLine;
-use am_release::{LinkFaults, Stage};
-use rtrb::RingBuffer;
+use am_relay::{RelayRecord, close_relay, make_relay};
+use am_release::LinkFaults;
 use std::alloc::Global;
 
-/// How many packets fit into the ring of a link.
-const RING_PLACES: usize = 64;
-
 /// What went over a link.
+///
+/// ```
+/// let LinkRecord { emitted, received, left } = close(alloc, out, inn)?;
+/// ```
 #[derive(Drop)]
 pub struct LinkRecord {
     /// The packets that were emitted, in order.
@@ -27,6 +28,10 @@ pub struct LinkRecord {
 
 /// A link from a node to a node, on which nothing was emitted. Of the plan only the lines of this link count. `NoMemory`
 /// comes only for want of memory.
+///
+/// ```
+/// let (out, inn) = make_link(alloc, plan, NodeId(0), NodeId(1))?;
+/// ```
 pub fn make_link(
     alloc: Global,
     plan: Vec<PlanLine>,
@@ -38,23 +43,17 @@ pub fn make_link(
     ensures emitted { IfOk result (λ ends. emitted ends.0 ≡ []) }
     ensures pumped { IfOk result (λ ends. pumped ends.0 ≡ []) }
     ensures received { IfOk result (λ ends. received ends.1 ≡ []) }
+    ensures places { IfOk result (λ ends. free_places ends.0 ≡ 64) }
 {
-    let Ok((producer, consumer)) = RingBuffer::new(alloc, RING_PLACES) else {
-        return Err(NoMemory);
-    };
     let faults = LinkFaults::of_link(alloc, plan.as_slice(), from, to)?;
+    let (out, inn) = make_relay(alloc, faults)?;
     let out = LinkOut {
-        producer,
+        relay: out,
         plan,
         from,
         to,
-        faults,
-        emitted: Vec::new(alloc),
-        stage: Stage::new(alloc),
-        released: Vec::new(alloc),
-        pumped: 0,
     };
-    Ok((movable(out), movable(LinkIn { consumer })))
+    Ok((movable(out), movable(LinkIn { relay: inn })))
 }
 
 /// Each end can be moved to another thread.
@@ -66,28 +65,23 @@ fn movable<T: Send>(end: T) -> T
 
 /// What was emitted, what was received, and what is left: received and then left are the shape of what was emitted.
 /// `NoMemory` comes only for want of memory; the link is gone then.
+///
+/// ```
+/// let link = close(alloc, out, inn)?;
+/// let is_done = link.left.is_empty();
+/// ```
+#[tactic(auto, using(crate::proofs::Packets::same_shape))]
 pub fn close(alloc: Global, out: LinkOut, inn: LinkIn) -> Result<LinkRecord, NoMemory>
     requires { IsLink out inn }
     ensures emitted { IfOk result (λ link. link.emitted.items ≡ emitted out) }
     ensures received { IfOk result (λ link. link.received.items ≡ received inn) }
     ensures shape { IfOk result (λ link. link.received.items ++ link.left.items ≡ released out) }
 {
-    let LinkOut {
-        mut producer,
+    let RelayRecord {
         emitted,
-        released,
-        pumped,
-        ..
-    } = out;
-    let LinkIn { mut consumer } = inn;
-    let known = consumer.slots_beside(&mut producer);
-    let mut received = released;
-    let mut left = Vec::new(alloc);
-    let first_left = pumped - known;
-    if left.extend_from_slice(&received[first_left..]).is_err() {
-        return Err(NoMemory);
-    }
-    received.truncate(first_left);
+        received,
+        left,
+    } = close_relay(alloc, out.relay, inn.relay)?;
     Ok(LinkRecord {
         emitted,
         received,

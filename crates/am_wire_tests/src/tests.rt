@@ -162,6 +162,20 @@ fn a_full_ring_loses_nothing(rt: HostRuntime) -> Result<(), Fail> {
     Ok(())
 }
 
+// What is emitted behind 64 packets waits until there is a place.
+#[test]
+fn a_ring_has_64_places(rt: HostRuntime) -> Result<(), Fail> {
+    let (mut out, mut inn) = make_link(rt.alloc(), Vec::new(rt.alloc()), NodeId(0), NodeId(1))?;
+    assert!(rt; offer_all(&mut out, 65));
+    for place in 1..65u32 {
+        assert!(rt; inn.next() == Some(packet(place)));
+    }
+    assert!(rt; inn.next().is_none());
+    out.pump();
+    assert!(rt; inn.next() == Some(packet(65)));
+    Ok(())
+}
+
 #[test]
 fn a_closed_link_tells_what_is_left(rt: HostRuntime) -> Result<(), Fail> {
     let (mut out, mut inn) = make_link(rt.alloc(), plan(rt.alloc())?, NodeId(0), NodeId(1))?;

@@ -1,6 +1,6 @@
 use Rattle.std.proofs.Common.{arith, refl, sym, ap, ap₂, ◌∙◌, ◌≡◌, ℕ, ◌+◌, ◌*◌, ◌/◌, ◌%◌, ◌<◌, ◌≤◌, subst, length}
 use Rattle.am_places.specs.Codes.{place_code}
-use Rattle.am_places.specs.Rule.{word_of, read, known_at, joined, holder_word, state_word}
+use Rattle.am_places.specs.Rule.{AllWithin, word_of, read, known_at, joined, holder_word, state_word}
 use Rattle.am_places.proofs.Steps.{looks, counts}
 use Rattle.am_places.proofs.places.Places.look_at.Goals as goal
 
@@ -23,3 +23,8 @@ pub returns-clause-count : goal.returns-clause-count
 returns-clause-count g c = let h = c.load-holder.ensures.2.1 in let s = c.load-state.ensures.2 in let t = s.0 c.args.at refl in let y : ℕ = c.load-state.result in let p : ℕ = t.0 in let n : ℕ = t.1 in let is : y ≡ 256 * p + 65536 * n = t.2 in let small : p < 256 = t.3 in
     let n_is : y / 65536 ≡ n = omega arith in
     subst (λ (z : ℕ). length (joined (known_at c.args.at c.args.seat.now.token.me.0).seen) ≤ z) (sym n_is) (subst (λ z. length (joined (known_at c.args.at z.0).seen) ≤ n) h t.5)
+
+pub returns-clause-gathered : goal.returns-clause-gathered
+returns-clause-gathered g c = let h = c.load-holder.ensures.2.1 in let s = c.load-state.ensures.2 in let t = s.0 c.args.at refl in let y : ℕ = c.load-state.result in let p : ℕ = t.0 in let n : ℕ = t.1 in let is : y ≡ 256 * p + 65536 * n = t.2 in let small : p < 256 = t.3 in
+    let n_is : y / 65536 ≡ n = omega arith in
+    subst (λ (z : ℕ). AllWithin z (known_at c.args.at c.args.seat.now.token.me.0).others) (sym n_is) (subst (λ z. AllWithin n (known_at c.args.at z.0).others) h t.6)

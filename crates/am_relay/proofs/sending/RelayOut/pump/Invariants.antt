@@ -1,11 +1,11 @@
 use Rattle.std.proofs.Common.{◌≡◌, ◌-◌, length}
 use mathlib.Core.List.{IsPrefix}
-use Rattle.am_wire.specs.Links.{SameLink, emitted, pumped, spare, store}
-use Rattle.am_wire.proofs.sending.LinkOut.pump.Given as goal
+use Rattle.am_relay.specs.Relays.{SameOut, emitted, pumped, spare, store}
+use Rattle.am_relay.proofs.sending.RelayOut.pump.Given as goal
 
 abbrev pub invariant-loop-self : goal.invariant-loop-self
-invariant-loop-self l = record {
-  same : SameLink l.initial.self l.self;
+invariant-loop-self g l = record {
+  same : SameOut l.initial.self l.self;
   emitted_same : emitted l.self ≡ emitted l.initial.self;
   store_same : store l.self ≡ store l.initial.self;
   spare_same : spare l.self ≡ spare l.initial.self;
@@ -13,4 +13,4 @@ invariant-loop-self l = record {
 }
 
 abbrev pub decreases-loop-self : goal.decreases-loop-self
-decreases-loop-self l = length l.self.released.items - l.self.pumped
+decreases-loop-self g l = length l.self.released.items - l.self.pumped

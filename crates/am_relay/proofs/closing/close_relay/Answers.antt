@@ -1,10 +1,10 @@
 use Rattle.std.proofs.Common.{◌∙◌}
 use Rattle.rtrb.specs.Ring.{known_items, received as taken}
-use Rattle.am_wire.proofs.Parts.{first_part}
-use Rattle.am_wire.proofs.closing.close.Goals as goal
+use Rattle.am_relay.proofs.Parts.{first_part}
+use Rattle.am_relay.proofs.closing.close_relay.Goals as goal
 
 pub returns-clause-received : goal.returns-clause-received
-returns-clause-received c =
+returns-clause-received g c =
     let s = c.slots_beside-known in
     let o = c.args.out in
     c.truncate.ensures.items

@@ -1,0 +1,76 @@
+-- What is known of a seat between two stays, and within one.
+use Rattle.std.specs.Prelude.{◌≡◌, ◌≢◌, ◌⊎◌, ℕ, ◌+◌, ◌<◌, Bool, true, false, Option, None, List, [], ◌∷◌, drop, length}
+use mathlib.Core.Option.{some}
+use lib.ListN.{get_elem?}
+use Rattle.atomic_table.specs.declared.shared.Seat.{Seat}
+use Rattle.atomic_table.specs.Seated.{TableId}
+use Rattle.am_places.specs.Rule.{Begins, FrameFits, IsOutside, joined, known_at, stirs, tenure}
+use Rattle.am_places.specs.declared.board.Pass.{Pass}
+use Rattle.am_places.specs.declared.board.Tenure.{Tenure}
+
+-- each of these tenures is of this mark
+abbrev pub AllBy : {I : Type 0} → ℕ → List (Tenure I) → Type 0
+AllBy mark [] = Unit {0}
+AllBy mark (t ∷ ts) = (t.by ≡ mark) × AllBy mark ts
+
+module _ {I T : Type 0} where
+  -- the list of the book at the position k, as far as the seat has seen it
+  abbrev pub seen_at : ℕ → Pass I T → List I
+  seen_at k v = joined (known_at k v).seen
+
+  -- what the seat has added to it, stay by stay
+  abbrev pub added_at : ℕ → Pass I T → List I
+  added_at k v = joined (known_at k v).made
+
+  -- the seat has seen that it began with this list
+  abbrev pub BeganWith : ℕ → List I → Pass I T → Type 0
+  BeganWith k xs v = Begins (known_at k v).seen (tenure 0 xs ∷ [])
+
+  -- what no stay changes
+  abbrev pub SameSeat : Pass I T → Pass I T → Type 0
+  SameSeat v w = (w.mark ≡ v.mark) × (w.seats ≡ v.seats) × (w.frames ≡ v.frames)
+
+-- what a seat steps on the table with
+abbrev pub Token : Type 0 → Type 0 → Type 0 → Type 0
+Token B I T = Seat (Option B) (Pass I T)
+
+module _ {B I T : Type 0} where
+  -- the seat holds no book, and has gathered no other seat
+  pub record IsWaiting (id : TableId) (token : Token B I T) : Type 0 where
+    pub table : token.table_id ≡ id
+    pub hand : token.me.1 ≡ []
+    pub outside : IsOutside token.me.0
+    pub keeps : token.me.0.keeps ≡ token.me.0.mark ∷ []
+    pub own : (k : ℕ) → AllBy token.me.0.mark (known_at k token.me.0).made
+
+module _ {B I T : Type 0} (items : B → List I) where
+  -- the seat of the number k among so many, which was just made with places for these books and so many frames
+  pub record IsNew (id : TableId) (books : List B) (k seats frames : ℕ) (token : Token B I T) : Type 0 where
+    pub waiting : IsWaiting id token
+    pub mark : token.me.0.mark ≡ k + 1
+    pub all_seats : token.me.0.seats ≡ seats
+    pub all_frames : length token.me.0.frames ≡ frames
+    pub added : (j : ℕ) → added_at j token.me.0 ≡ []
+    pub began : (j : ℕ) (b : B) → get_elem? books j ≡ some b → BeganWith j (items b) token.me.0
+
+module _ {B I T : Type 0} (items : B → List I) (birth : B → T) (stands : B → ℕ) (moves : I → Bool) where
+  -- the seat is inside the endpoint at this position alone, with this book, which begins with all that it has seen there. Only the
+  -- last seat, the driver's, has moved the book or added an item that moves
+  pub record IsInside (id : TableId) (at : ℕ) (token : Token B I T) (book : B) : Type 0 where
+    pub table : token.table_id ≡ id
+    pub hand : token.me.1 ≡ (at, None) ∷ []
+    pub inside : (known_at at token.me.0).inside ≡ true
+    pub elsewhere : (k : ℕ) → k ≢ at → k < length token.me.0.known → (known_at k token.me.0).inside ≡ false
+    pub keeps : token.me.0.keeps ≡ token.me.0.mark ∷ []
+    pub own : (k : ℕ) → AllBy token.me.0.mark (known_at k token.me.0).made
+    pub born : get_elem? token.me.0.births at ≡ some (birth book)
+    pub grown : Begins (items book) (seen_at at token.me.0)
+    pub stays : token.me.0.mark ≢ token.me.0.seats → stands book ≡ (known_at at token.me.0).place
+    pub still : token.me.0.mark ≢ token.me.0.seats → stirs moves (drop (length (seen_at at token.me.0)) (items book)) ≡ false
+    pub small : stands book < 256
+    pub fits : token.me.0.mark ≡ token.me.0.seats → FrameFits token.me.0.frames at (stands book)
+
+-- the third list has the items of both others, each once and in order
+abbrev pub IsMerge : {X : Type 0} → List X → List X → List X → Type 0
+IsMerge xs ys [] = (xs ≡ []) × (ys ≡ [])
+IsMerge {X} xs ys (z ∷ zs) = ((rest : List X) × (xs ≡ z ∷ rest) × IsMerge rest ys zs) ⊎ ((rest : List X) × (ys ≡ z ∷ rest) × IsMerge xs rest zs)
