@@ -2,7 +2,42 @@
 use Rattle.std.proofs.Common.{◌≡◌, ℕ, subst, ◌+◌, ◌<◌, ◌≤◌, List, [], ◌++◌, length, take, drop, Option, Some, None, refl, sym, ap, ◌∙◌, append_assoc, length-drop, length-append, length-take, arith}
 use Rattle.std.specs.Io.KnownBytes.{Appends, Consumes, IsAtEnd, Keeps}
 use Rattle.std.proofs.lemmas.List.{append-nil, take-append-drop, drop-drop, drop_all, take_at}
-use Rattle.am_io.specs.Whole.{IsAll, IsLonger, TakesAtMost}
+use Rattle.std.specs.Prelude.{Result, Ok, Err}
+use Rattle.am_io.specs.Causes.{Rose, ShortageCause, Stands, Counter, WriteCause}
+use Rattle.am_io.specs.Whole.{IsAll, IsLonger, TakeCause, TakesAtMost}
+use Rattle.am_io.specs.declared.sink.SinkFault.{SinkFault}
+use Rattle.am_io.specs.declared.sink.SinkFault.TheVariants as sinks
+use Rattle.am_io.specs.declared.whole.TakeFault.{TakeFault}
+use Rattle.am_io.specs.declared.whole.TakeFault.TheVariants as takes
+
+-- ---- what was met
+
+pub stands_none : (a : Counter) → Stands a a
+stands_none a = record { told' = omega arith; met' = refl }
+
+pub stands_then : (a b c : Counter) → Stands a b → Stands b c → Stands a c
+stands_then a b c first next = record { told' = let f = first.told' in let n = next.told' in omega (arith, f, n); met' = next.met' ∙ first.met' }
+
+pub rose_then : (a b c : Counter) → Stands a b → Rose b c → Rose a c
+rose_then a b c first next = record { told' = let f = first.told' in let n = next.told' in omega (arith, f, n); met' = let f = first.met' in let n = next.met' in omega (arith, f, n) }
+
+pub take_then : {T : Type 0} (r : Result T TakeFault) (a b c : Counter) → Stands a b → TakeCause r b c → TakeCause r a c
+take_then (Ok x) a b c first next = stands_then a b c first next
+take_then (Err takes.Failed) a b c first next = rose_then a b c first next
+take_then (Err takes.TooLong) a b c first next = stands_then a b c first next
+take_then (Err takes.NoMemory) a b c first next = stands_then a b c first next
+
+pub write_then : {T : Type 0} (r : Result T SinkFault) (a b c : Counter) → Stands a b → WriteCause r b c → WriteCause r a c
+write_then (Ok x) a b c first next = stands_then a b c first next
+write_then (Err sinks.Failed) a b c first next = rose_then a b c first next
+write_then (Err sinks.NoMemory) a b c first next = stands_then a b c first next
+
+pub shortage_then : {T : Type 0} (r : Result T SinkFault) (a b c : Counter) → Stands a b → ShortageCause r b c → ShortageCause r a c
+shortage_then (Ok x) a b c first next = stands_then a b c first next
+shortage_then (Err sinks.Failed) a b c first next = stands_then a b c first next
+shortage_then (Err sinks.NoMemory) a b c first next = rose_then a b c first next
+
+-- ---- bytes
 
 pub front_read : (xs to : List ℕ) (at count : ℕ) → take count to ≡ take count (drop at xs) → drop at xs ≡ take count to ++ drop (at + count) xs
 front_read xs to at count e = sym (take-append-drop count (drop at xs)) ∙ rw (e, drop-drop count at xs) refl

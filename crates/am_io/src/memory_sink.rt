@@ -1,5 +1,5 @@
 ghost use Rattle.std.specs.Prelude.{◌≡◌, ◌<◌, [], Some, Ok, Err, min};
-ghost use Rattle.am_io.specs.Causes.{Writes, WriteCause, ShortageCause};
+ghost use Rattle.am_io.specs.Causes.{Writes, WriteCause, ShortageCause, exactly};
 ghost use Rattle.am_io.specs.Memory.{fails_after, WritesSo};
 
 use crate::memory_source::fails_after;
@@ -59,9 +59,9 @@ impl MemorySink {
 impl Sink for MemorySink {
     ghost held = { λ s. Some s.held };
 
-    ghost count = { λ s. s.faults };
+    ghost count = { λ s. exactly s.faults };
 
-    ghost shortages = { λ s. s.shortages };
+    ghost shortages = { λ s. exactly s.shortages };
 
     fn faults(&self) -> u64 {
         self.faults
@@ -69,8 +69,8 @@ impl Sink for MemorySink {
 
     fn write(&mut self, piece: &[u8]) -> Result<usize, SinkFault>
         ensures bytes { Writes result (Some self.old.held) (Some self.new.held) piece.now }
-        ensures cause { WriteCause result self.old.faults self.new.faults }
-        ensures shortage { ShortageCause result self.old.shortages self.new.shortages }
+        ensures cause { WriteCause result (exactly self.old.faults) (exactly self.new.faults) }
+        ensures shortage { ShortageCause result (exactly self.old.shortages) (exactly self.new.shortages) }
         ensures exact { WritesSo result self.old self.new piece.now }
     {
         if fails_after(&self.fails, self.calls) {

@@ -1,5 +1,5 @@
 ghost use Rattle.std.specs.Prelude.{◌≡◌, ◌+◌, ◌≤◌, ◌<◌, ◌++◌, Some, false, drop, length, take, nat_lt, min, ◌&&◌, ◌==◌};
-ghost use Rattle.am_io.specs.Causes.{Reads, ReadCause};
+ghost use Rattle.am_io.specs.Causes.{Reads, ReadCause, exactly};
 ghost use Rattle.am_io.specs.Memory.{after_read, fails_after, filled, read_answer};
 
 use crate::source::{Failed, Source};
@@ -75,7 +75,7 @@ impl Source for MemorySource {
 
     ghost has_ended = { λ s. s.ended };
 
-    ghost count = { λ s. s.faults };
+    ghost count = { λ s. exactly s.faults };
 
     fn faults(&self) -> u64 {
         self.faults
@@ -84,7 +84,7 @@ impl Source for MemorySource {
     fn read(&mut self, buf: &mut [u8]) -> Result<usize, Failed>
         requires { self.old.ended ≡ false }
         ensures bytes { Reads result (Some self.old.left) (Some self.new.left) self.old.ended self.new.ended buf.new }
-        ensures cause { ReadCause result self.old.faults self.new.faults }
+        ensures cause { ReadCause result (exactly self.old.faults) (exactly self.new.faults) }
         ensures answer { result ≡ read_answer self.old (length buf.old) }
         ensures after { self.new ≡ after_read self.old (length buf.old) }
         ensures given { buf.new ≡ filled self.old buf.old }

@@ -1,5 +1,5 @@
 ghost use Rattle.std.specs.Prelude.{◌≡◌, false};
-ghost use Rattle.am_io.specs.Causes.{ReadCause, Reads, ShortageCause, WriteCause, Writes};
+ghost use Rattle.am_io.specs.Causes.{ReadCause, Reads, ShortageCause, WriteCause, Writes, exactly};
 ghost use Rattle.am_io.specs.Standard.{faults_after};
 
 use crate::memory_source::is_end;
@@ -43,7 +43,7 @@ impl<R: Read> Source for StdSource<R> {
 
     ghost has_ended = { λ s. s.ended };
 
-    ghost count = { λ s. s.faults };
+    ghost count = { λ s. exactly s.faults };
 
     fn faults(&self) -> u64 {
         self.faults
@@ -52,7 +52,7 @@ impl<R: Read> Source for StdSource<R> {
     fn read(&mut self, buf: &mut [u8]) -> Result<usize, Failed>
         requires { self.old.ended ≡ false }
         ensures bytes { Reads result self.old.left self.new.left self.old.ended self.new.ended buf.new }
-        ensures cause { ReadCause result self.old.faults self.new.faults }
+        ensures cause { ReadCause result (exactly self.old.faults) (exactly self.new.faults) }
         ensures counted { self.new.faults ≡ faults_after result self.old.faults }
     {
         match self.inner.read(buf) {
@@ -97,9 +97,9 @@ impl<W: Write> StdSink<W> {
 impl<W: Write> Sink for StdSink<W> {
     ghost held = { λ s. s.held };
 
-    ghost count = { λ s. s.faults };
+    ghost count = { λ s. exactly s.faults };
 
-    ghost shortages = { λ s. 0 };
+    ghost shortages = { λ s. exactly 0 };
 
     fn faults(&self) -> u64 {
         self.faults
@@ -107,8 +107,8 @@ impl<W: Write> Sink for StdSink<W> {
 
     fn write(&mut self, piece: &[u8]) -> Result<usize, SinkFault>
         ensures bytes { Writes result self.old.held self.new.held piece.now }
-        ensures cause { WriteCause result self.old.faults self.new.faults }
-        ensures shortage { ShortageCause result 0 0 }
+        ensures cause { WriteCause result (exactly self.old.faults) (exactly self.new.faults) }
+        ensures shortage { ShortageCause result (exactly 0) (exactly 0) }
         ensures counted { self.new.faults ≡ faults_after result self.old.faults }
     {
         match self.inner.write(piece) {

@@ -1,12 +1,3 @@
-pub mod CheckAnswers
-pub mod Complete
-pub mod Made
-pub mod OneAnswer
-pub mod Refusals
-pub mod RunAnswers
-pub mod SessionAnswers
-pub mod RunMeaning
-pub mod SegmentAnswers
-pub mod SegmentMeaning
-pub mod CountAnswers
-pub mod Statuses
+mod Due
+mod Saying
+mod Statuses

@@ -81,9 +81,3 @@ NeedsText words = reads_text (command_of words) ≡ true
 
 abbrev pub NeedsNoText : List (List ℕ) → Type 0
 NeedsNoText words = reads_text (command_of words) ≡ false
-
--- the words ask for a count
-pub record AsksForCount (words : List (List ℕ)) : Type 0 where
-  pub nodes : ℕ
-  pub turns : ℕ
-  pub asks : Asks words (Commands.Count nodes turns)

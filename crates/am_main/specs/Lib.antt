@@ -1,10 +1,4 @@
-pub mod Answer
-pub mod Checks
+pub mod Answers
 pub mod Commands
-pub mod Meaning
-pub mod Offers
-pub mod Runs
-pub mod Sessions
-pub mod Words
-pub mod Segments
-pub mod Counts
+pub mod Laws
+pub mod Replies

@@ -1,7 +1,7 @@
 //! The forms of the words after the program's name.
 
-ghost use Rattle.std.specs.Prelude.{◌≡◌, IfSome, map, string_bytes};
-ghost use Rattle.am_main.specs.Commands.{IsInRange, command_of, count_of, exact_number, form_of, of_one_word, of_three_words, of_two_words};
+ghost use Rattle.std.specs.Prelude.{◌≡◌, IfSome, Some, map, string_bytes};
+ghost use Rattle.am_main.specs.Commands.{IsInRange, command_of, count_of, exact_number, form_of, of_one_word, of_three_words, of_two_words, reads_text};
 
 use am_lexer::parse_number;
 use am_scenario::Form;
@@ -31,6 +31,21 @@ pub enum Command {
     /// `check step`, `check run`: whether a text, which the source gives, is a scenario of this form and the report of a history that
     /// follows it.
     Check(Form),
+}
+
+/// Whether the command needs a text from the source.
+pub fn reads_text(command: Command) -> bool
+    ensures { result ≡ reads_text (Some command) }
+{
+    match command {
+        Command::Make(_) => false,
+        Command::Step
+        | Command::Run
+        | Command::Segments
+        | Command::Session
+        | Command::Count { .. }
+        | Command::Check(_) => true,
+    }
 }
 
 // The form that a word names.

@@ -57,3 +57,38 @@ pub fn answer_of<R: Threads + Sync>(
         write_faults: to.faults(),
     })
 }
+
+/// How a command ends: its status, what the sink holds, and how many reads and writes failed.
+#[derive(Clone, Copy)]
+pub struct Ending<'a> {
+    pub status: u8,
+    pub printed: &'a str,
+    pub read_faults: u64,
+    pub write_faults: u64,
+}
+
+/// That of a command which met no fault.
+pub fn sound(status: u8, printed: &str) -> Ending {
+    Ending {
+        status,
+        printed,
+        read_faults: 0,
+        write_faults: 0,
+    }
+}
+
+/// Whether a command ends so over this source and this sink.
+pub fn ends_so<R: Threads + Sync>(
+    rt: &R,
+    alloc: Global,
+    line: &str,
+    text: &[u8],
+    devices: (Device, Device),
+    wanted: Ending,
+) -> Result<bool, AllocError> {
+    let answer = answer_of(rt, alloc, line, text, devices.0, devices.1)?;
+    Ok(answer.status == wanted.status
+        && answer.printed.as_slice() == wanted.printed.as_bytes()
+        && answer.read_faults == wanted.read_faults
+        && answer.write_faults == wanted.write_faults)
+}

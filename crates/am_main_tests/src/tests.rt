@@ -1,4 +1,4 @@
-use crate::answers::{SOUND, answer_of, words_of};
+use crate::answers::{SOUND, answer_of, ends_so, sound, words_of};
 use crate::scripts;
 use crate::tables::{Device, PATH, PATH_REPORT};
 use crate::texts::{CHECKS, CONDITIONS, COUNTS, DIRECT, FAULTS, IDLE, NO_FORMS, PACKET, RUNS, Row};
@@ -11,6 +11,12 @@ use std::thread::Threads;
 /// Moves a few bytes in a call, and never fails.
 const SLOW: Device = Device { most: 7, fails: 0 };
 
+fn joined(alloc: Global, front: &str, rest: &str) -> Result<Vec<u8>, AllocError> {
+    let mut text = Vec::from_slice(alloc, front.as_bytes())?;
+    text.extend_from_slice(rest.as_bytes())?;
+    Ok(text)
+}
+
 /// The number of the first row that is answered otherwise, if there is one.
 fn first_other<R: Threads + Sync>(
     rt: &R,
@@ -19,9 +25,8 @@ fn first_other<R: Threads + Sync>(
     rows: &[Row],
 ) -> Result<Option<usize>, AllocError> {
     for (i, (scenario, rest, status, printed)) in rows.iter().enumerate() {
-        let text = format!(in alloc; "{scenario}{rest}")?;
-        let answer = answer_of(rt, alloc, line, text.as_bytes(), SLOW, SLOW)?;
-        if answer.status != *status || answer.printed.as_slice() != printed.as_bytes() {
+        let text = joined(alloc, scenario, rest)?;
+        if !ends_so(rt, alloc, line, &text, (SLOW, SLOW), sound(*status, printed))? {
             return Ok(Some(i));
         }
     }
@@ -88,9 +93,8 @@ fn long_texts_are_not_read_to_their_end(rt: HostRuntime) -> Result<(), Fail> {
         ("count 1 0", 1_048_577, 11, "text too long\n"),
     ] {
         let text = vec![in rt.alloc(); b' '; length]?;
-        let answer = answer_of(&rt, rt.alloc(), line, text.as_slice(), SOUND, SOUND)?;
-        assert!(rt; answer.status == status);
-        assert!(rt; answer.printed.as_slice() == printed.as_bytes());
+        let devices = (SOUND, SOUND);
+        assert!(rt; ends_so(&rt, rt.alloc(), line, &text, devices, sound(status, printed))?);
     }
     Ok(())
 }
@@ -181,11 +185,10 @@ fn makes_a_run_of_a_number(rt: HostRuntime) -> Result<(), Fail> {
 #[test]
 fn other_words_are_usage(rt: HostRuntime) -> Result<(), Fail> {
     let usage =
-        b"usage: am2 step | am2 run | am2 make N | am2 segments | am2 session | am2 count W U | am2 check step | am2 check run\n";
+        "usage: am2 step | am2 run | am2 make N | am2 segments | am2 session | am2 count W U | am2 check step | am2 check run\n";
     for line in NO_FORMS {
-        let answer = answer_of(&rt, rt.alloc(), line, b"", SLOW, SLOW)?;
-        assert!(rt; answer.status == 2, "{line}");
-        assert!(rt; answer.printed.as_slice() == usage.as_slice());
+        let devices = (SLOW, SLOW);
+        assert!(rt; ends_so(&rt, rt.alloc(), line, b"", devices, sound(2, usage))?);
     }
     Ok(())
 }

@@ -6,6 +6,8 @@ mod entries;
 #[cfg(test)]
 mod journals;
 #[cfg(test)]
+mod patient;
+#[cfg(test)]
 mod streams;
 #[cfg(test)]
 mod tests;

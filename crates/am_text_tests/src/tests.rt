@@ -54,7 +54,7 @@ fn calls_are_printed(rt: HostRuntime) -> Result<(), Fail> {
             },
             &mut line,
         )?;
-        assert!(rt; line.as_slice() == wanted.as_bytes(), "{wanted}");
+        assert!(rt; line.as_slice() == wanted.as_bytes());
     }
     Ok(())
 }
@@ -71,7 +71,7 @@ fn other_events_are_printed(rt: HostRuntime) -> Result<(), Fail> {
             },
             &mut line,
         )?;
-        assert!(rt; line.as_slice() == wanted.as_bytes(), "{wanted}");
+        assert!(rt; line.as_slice() == wanted.as_bytes());
     }
     Ok(())
 }

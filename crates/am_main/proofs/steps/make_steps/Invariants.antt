@@ -1,5 +1,0 @@
-use Rattle.am_main.proofs.Made.{Walks}
-use Rattle.am_main.proofs.steps.make_steps.Given as goal
-
-abbrev pub invariant-loop-step : goal.invariant-loop-step
-invariant-loop-step l = Walks l.fn.cluster.layout l.cluster.layout l.steps l.step-index l.cluster.journal

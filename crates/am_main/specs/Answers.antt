@@ -1,0 +1,138 @@
+-- What the program answers: to what was asked for, and to the bytes that were read for it.
+use Rattle.std.specs.Prelude.{◌≡◌, ◌≢◌, ◌⊎◌, ℕ, ◌≤◌, ◌<◌, List, [], ◌∷◌, codes, length, take, Option, Some, None}
+use Rattle.std.specs.Io.KnownBytes.{Appends}
+use Rattle.am_io.specs.Causes.{Rose, Stands, Counter}
+use Rattle.am_io.specs.Whole.{IsAll, IsLonger}
+use Rattle.am_main.specs.declared.commands.Command.{Command}
+use Rattle.am_main.specs.declared.commands.Command.TheVariants as Commands
+use Rattle.am_main_check.specs.Checks.{CheckAnswers}
+use Rattle.am_main_count.specs.Counts.{CountAnswers}
+use Rattle.am_main_lines.specs.Lines.{Answer}
+use Rattle.am_main_run.specs.Runs.{MakeAnswers, RunAnswers}
+use Rattle.am_main_segments.specs.Segments.{SegmentsAnswers}
+use Rattle.am_main_step.specs.Meaning.{StepAnswers}
+use Rattle.am_scenario.specs.Grammar.{grammar}
+use Rattle.am_scenario_types.specs.declared.parts.Form.TheVariants as Forms
+use Rattle.am_segment.specs.Spelling.{segment_grammar}
+use Rattle.am_session.specs.Answer.{session_answer}
+use Rattle.am_session.specs.Grammar as Sessions
+use Rattle.am_session.specs.Meaning.{SessionMeans}
+
+-- ---- what each command answers
+
+-- the answer of `session` to a text; there is one
+pub record SessionAnswers (bytes : List ℕ) (answer : Answer) : Type 0 where
+  pub only : answer ≡ session_answer bytes
+  pub means : SessionMeans (Sessions.grammar bytes) answer
+
+-- THE HEADLINE: a status and a text are an answer of the command to the bytes. `make` has no bytes to look at.
+abbrev pub AnswersTo : Command → List ℕ → Answer → Type 0
+AnswersTo Commands.Step bytes answer = StepAnswers (grammar Forms.Step bytes) answer
+AnswersTo Commands.Run bytes answer = RunAnswers (grammar Forms.Run bytes) answer
+AnswersTo (Commands.Make n) bytes answer = MakeAnswers n answer
+AnswersTo Commands.Segments bytes answer = SegmentsAnswers (segment_grammar bytes) answer
+AnswersTo Commands.Session bytes answer = SessionAnswers bytes answer
+AnswersTo (Commands.Count nodes turns) bytes answer = CountAnswers nodes turns bytes answer
+AnswersTo (Commands.Check form) bytes answer = CheckAnswers form bytes answer
+
+-- the statuses of these answers: 0 the report, the summary, the counts or a yes; 3 a text that spells no scenario, or a step that can't
+-- happen; 6 a full log; 10 a fault of a report; 11 a text that is too long to be counted
+abbrev pub own_statuses : Command → List ℕ
+own_statuses Commands.Step = 0 ∷ 3 ∷ 6 ∷ []
+own_statuses Commands.Run = 0 ∷ 3 ∷ 6 ∷ []
+own_statuses (Commands.Make n) = 0 ∷ 6 ∷ []
+own_statuses Commands.Segments = 0 ∷ 3 ∷ 6 ∷ []
+own_statuses Commands.Session = 0 ∷ 3 ∷ []
+own_statuses (Commands.Count nodes turns) = 0 ∷ 6 ∷ 11 ∷ []
+own_statuses (Commands.Check form) = 0 ∷ 3 ∷ 6 ∷ 10 ∷ []
+
+-- ---- the other answers, which don't look at the bytes
+
+abbrev pub usage : Answer
+usage = record { status = 2; text = codes "usage: am2 step | am2 run | am2 make N | am2 segments | am2 session | am2 count W U | am2 check step | am2 check run\n" }
+
+abbrev pub read_fault : Answer
+read_fault = record { status = 4; text = codes "read fault\n" }
+
+abbrev pub too_long : Answer
+too_long = record { status = 7; text = codes "input too long\n" }
+
+abbrev pub no_memory : Answer
+no_memory = record { status = 8; text = codes "no memory\n" }
+
+-- ---- which answer is due
+
+-- P holds of the bytes that a source had left, which are at most 16,777,216; what it doesn't tell may be any bytes
+pub record Finds (left : Option (List ℕ)) (P : List ℕ → Type 0) : Type 0 where
+  pub bytes : List ℕ
+  pub all : IsAll left bytes
+  pub few : length bytes ≤ 16_777_216
+  pub holds : P bytes
+
+-- To a command that reads a text: where a read failed, that is told, whatever was read. Else the bytes are too many, memory ran out, or
+-- the bytes are all that was left and the answer is one of the command to them.
+abbrev pub IsDueToText : Command → (left : Option (List ℕ)) (before now : Counter) → Answer → Type 0
+IsDueToText command left before now answer =
+    (Rose before now × (answer ≡ read_fault))
+    ⊎ (Stands before now × ((IsLonger left 16_777_216 × (answer ≡ too_long))
+    ⊎ ((answer ≡ no_memory)
+    ⊎ Finds left (λ bytes. AnswersTo command bytes answer))))
+
+-- To words of no form that is told, and to `make` and a number the summary of its run, or that memory ran out: neither reads.
+abbrev pub IsDue : Option Command → (left : Option (List ℕ)) (before now : Counter) → Answer → Type 0
+IsDue None left before now answer = answer ≡ usage
+IsDue (Some (Commands.Make n)) left before now answer = (answer ≡ no_memory) ⊎ MakeAnswers n answer
+IsDue (Some command) left before now answer = IsDueToText command left before now answer
+
+-- ---- what the sink takes of it
+
+-- the status and the whole text are those of the answer
+pub record IsWhole (answer : Answer) (status : ℕ) (old new : Option (List ℕ)) : Type 0 where
+  pub status' : status ≡ answer.status
+  pub given : Appends old new answer.text
+
+-- a front of the text was appended, and not all of it: the status is that of a fault of the sink or of want of memory
+pub record IsCutShort (text : List ℕ) (status : ℕ) (old new : Option (List ℕ)) : Type 0 where
+  pub status' : (status ≡ 5) ⊎ (status ≡ 8)
+  pub count : ℕ
+  pub shorter : count < length text
+  pub given : Appends old new (take count text)
+
+-- The answer was offered to the sink. It took the text whole, under the answer's status; or a shorter front of it, with
+-- status 5 where the sink failed, or with status 8 where the sink found no memory.
+abbrev pub IsOffered : Answer → ℕ → Option (List ℕ) → Option (List ℕ) → Type 0
+IsOffered answer status old new = IsWhole answer status old new ⊎ IsCutShort answer.text status old new
+
+-- THE PROGRAM: an answer that is due was offered
+pub record IsAnswered (asked : Option Command) (left : Option (List ℕ)) (before now : Counter) (status : ℕ) (old new : Option (List ℕ)) : Type 0 where
+  pub answer : Answer
+  pub due : IsDue asked left before now answer
+  pub offered : IsOffered answer status old new
+
+-- and the sink took it whole
+pub record IsTaken (asked : Option Command) (left : Option (List ℕ)) (before now : Counter) (status : ℕ) (old new : Option (List ℕ)) : Type 0 where
+  pub answer : Answer
+  pub due : IsDue asked left before now answer
+  pub whole : IsWhole answer status old new
+
+-- there was no memory: the line that says so was appended, or the sink met a shortage
+abbrev pub LacksMemory : Option (List ℕ) → Option (List ℕ) → Counter → Counter → Type 0
+LacksMemory old new before now = Appends old new (codes "no memory\n") ⊎ Rose before now
+
+-- ---- the statuses
+
+abbrev pub IsOneOf : List ℕ → ℕ → Type 0
+IsOneOf [] status = ⊥
+IsOneOf (one ∷ others) status = (status ≡ one) ⊎ IsOneOf others status
+
+-- With which statuses the program ends: 5 a write fault and 8 no memory, always; 2 words of no form; 4 a read fault and 7 too many bytes,
+-- where a text is read; and those of the answers of the command.
+abbrev pub statuses : Option Command → List ℕ
+statuses None = 5 ∷ 8 ∷ 2 ∷ []
+statuses (Some (Commands.Make n)) = 5 ∷ 8 ∷ own_statuses (Commands.Make n)
+statuses (Some command) = 5 ∷ 8 ∷ 4 ∷ 7 ∷ own_statuses command
+
+-- a status of an answer of some command: not that of wrong words, of a fault of the source or the sink, of too many bytes or of want of
+-- memory
+abbrev pub IsOfCommand : ℕ → Type 0
+IsOfCommand status = IsOneOf (0 ∷ 3 ∷ 6 ∷ 10 ∷ 11 ∷ []) status

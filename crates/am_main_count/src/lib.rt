@@ -1,0 +1,6 @@
+//! The command `count`: the words of a text, counted by messages over the cluster, and what is printed of them.
+#![tactic(auto)]
+
+mod counts;
+
+pub use crate::counts::count_output;

@@ -1,0 +1,10 @@
+//! The commands `run` and `make`: the run of a scenario, with its threads or without, and what is printed of it.
+#![tactic(auto)]
+
+mod laws;
+mod makes;
+mod runs;
+
+pub use crate::laws::have_one_answer;
+pub use crate::makes::make_output;
+pub use crate::runs::run_output;
