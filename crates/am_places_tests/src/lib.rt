@@ -1,14 +1,7 @@
-//! Places for a book of one's own: seats that enter it in turn, from several threads.
-//!
-//! `Notes` is the book, and `enter` and `leave` are how a seat uses it. What they say of a seat, between two stays and within
-//! one, is what a caller of am_places has to carry along.
+//! Tests of places and of stays: two threads at four books, and a frame that changes its owner.
 #![tactic(auto)]
 
+#[cfg(test)]
 mod notes;
-mod stays;
-
-pub use notes::Notes;
-pub use stays::{enter, leave, write};
-
 #[cfg(test)]
 mod tests;

@@ -1,9 +1,10 @@
 //! A small book: lines, in the order in which they were added, and a place.
 ghost use Rattle.am_places.specs.Codes.{place_code};
-ghost use Rattle.std.specs.Prelude.{◌≡◌, ◌<◌, ◌^◌, ◌++◌, [], ◌∷◌, false, length, if◌then◌else◌};
+ghost use Rattle.std.specs.Prelude.{◌≡◌, ◌<◌, ◌^◌, [], false, length};
 
 use am_office::Place;
 use am_places::Book;
+use am_stays::Grow;
 use std::alloc::Global;
 
 /// Lines, each a number, in the order in which they were added.
@@ -46,12 +47,10 @@ impl Notes {
             place: Place::Host,
         }
     }
+}
 
-    /// Adds a line, where there is room and memory for it.
-    pub fn add(&mut self, line: u32) -> bool
-        ensures place { self.new.place ≡ self.old.place }
-        ensures added { self.new.lines.items ≡ self.old.lines.items ++ (if result then line ∷ [] else []) }
-    {
+impl Grow for Notes {
+    fn add(&mut self, line: u32) -> bool {
         if self.lines.len() >= u32::MAX as usize {
             return false;
         }

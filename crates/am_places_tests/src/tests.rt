@@ -3,12 +3,14 @@ ghost use Rattle.std.specs.Prelude.{◌≡◌, ℕ, ◌+◌, ◌-◌, ◌<◌, �
 ghost use mathlib.Core.Option.{some};
 ghost use lib.ListN.{get_elem?};
 ghost use Rattle.am_places.specs.Rule.{HasGathered};
-ghost use Rattle.am_places_tests.specs.Stays.{IsInside, IsWaiting, nine};
+ghost use Rattle.am_places_tests.specs.Ids.{nine};
+ghost use Rattle.am_stays.specs.Stays.{IsInside, IsWaiting};
 
-use super::*;
+use crate::notes::Notes;
 use am_names::{EndpointId, NoMemory};
 use am_office::Place;
-use am_places::{Entered, Places, Seat, may_cross_threads};
+use am_places::{Book, Entered, Places, Seat, may_cross_threads};
+use am_stays::{enter, leave, open, write};
 use std::alloc::{AllocError, Global};
 use std::test::Fail;
 use std::thread::join;
@@ -37,7 +39,7 @@ fn four_books(
         EndpointId(9),
         EndpointId(250),
     ]?;
-    let (places, list) = Places::new(alloc, books, ids, frames, seats)?;
+    let (places, list) = open(alloc, books, ids, frames, seats)?;
     Ok((places, list))
 }
 
@@ -97,7 +99,6 @@ fn each_seat_finds_its_lines(rt: HostRuntime) -> Result<(), Fail> {
     let (places, mut seats) = four_books(rt.alloc(), 0, 2)?;
     let second = last_seat(&places, 2, &mut seats).ok_or("no second seat")?;
     let first = last_seat(&places, 2, &mut seats).ok_or("no first seat")?;
-    may_cross_threads(&places, &first);
     let alloc = rt.alloc();
     let ((mut keeper, ours), (other, theirs)) = join(
         &rt,
@@ -150,9 +151,9 @@ fn take_frame_1(
     requires at { entered.old.at < places.now.count }
     requires driver { driver.old.token.me.0.mark ≡ driver.old.token.me.0.seats }
     requires frames { (1 < places.now.frames) × (length driver.old.token.me.0.frames ≡ places.now.frames) }
-    requires inside { IsInside places.now.board.shared.table_id entered.old.at driver.old.token entered.old.book }
+    requires inside { IsInside ⟦<Notes as Book>⟧.items ⟦<Notes as Book>⟧.birth ⟦<Notes as Book>⟧.stands ⟦<Notes as Book>⟧.moves places.now.board.shared.table_id entered.old.at driver.old.token entered.old.book }
     ensures seat { (driver.new.token.me.0.mark ≡ driver.old.token.me.0.mark) × (driver.new.token.me.0.seats ≡ driver.old.token.me.0.seats) × (length driver.new.token.me.0.frames ≡ length driver.old.token.me.0.frames) }
-    ensures inside { (entered.new.at ≡ entered.old.at) × IsInside places.now.board.shared.table_id entered.old.at driver.new.token entered.new.book }
+    ensures inside { (entered.new.at ≡ entered.old.at) × IsInside ⟦<Notes as Book>⟧.items ⟦<Notes as Book>⟧.birth ⟦<Notes as Book>⟧.stands ⟦<Notes as Book>⟧.moves places.now.board.shared.table_id entered.old.at driver.new.token entered.new.book }
 {
     let Place::Host = entered.book.place else {
         return None;
@@ -174,9 +175,9 @@ fn give_frame_1_up(places: &Places<Notes>, driver: &mut Seat<Notes>, entered: &m
     requires at { entered.old.at < places.now.count }
     requires driver { driver.old.token.me.0.mark ≡ driver.old.token.me.0.seats }
     requires frames { (1 < places.now.frames) × (length driver.old.token.me.0.frames ≡ places.now.frames) }
-    requires inside { IsInside places.now.board.shared.table_id entered.old.at driver.old.token entered.old.book }
+    requires inside { IsInside ⟦<Notes as Book>⟧.items ⟦<Notes as Book>⟧.birth ⟦<Notes as Book>⟧.stands ⟦<Notes as Book>⟧.moves places.now.board.shared.table_id entered.old.at driver.old.token entered.old.book }
     ensures seat { (driver.new.token.me.0.mark ≡ driver.old.token.me.0.mark) × (driver.new.token.me.0.seats ≡ driver.old.token.me.0.seats) × (length driver.new.token.me.0.frames ≡ length driver.old.token.me.0.frames) }
-    ensures inside { (entered.new.at ≡ entered.old.at) × IsInside places.now.board.shared.table_id entered.old.at driver.new.token entered.new.book }
+    ensures inside { (entered.new.at ≡ entered.old.at) × IsInside ⟦<Notes as Book>⟧.items ⟦<Notes as Book>⟧.birth ⟦<Notes as Book>⟧.stands ⟦<Notes as Book>⟧.moves places.now.board.shared.table_id entered.old.at driver.new.token entered.new.book }
 {
     let (Place::Frame(1), Some(1)) = (entered.book.place, entered.frame) else {
         return;
@@ -265,6 +266,7 @@ fn a_frame_has_one_owner(rt: HostRuntime) -> Result<(), Fail> {
     let Ok(held) = enter(&places, &mut third, 2) else {
         return Err(Fail::from("endpoint 9 is held"));
     };
+    may_cross_threads(&places, &third, &held);
     // its place word is the sum of its holder word, 4, and its state word
     let seen = places.look(&mut second, EndpointId(9));
     assert!(rt; seen.holder == Some(3) && seen.place == Place::Frame(1) && seen.count == 5);

@@ -1,6 +1,6 @@
 use Rattle.std.proofs.Common.{ap, ◌∙◌, [], ◌∷◌, ℕ}
 use Rattle.am_places.specs.Rule.{gathered}
-use Rattle.am_places_tests.proofs.Staying.{all_gathered}
+use Rattle.am_places_tests.proofs.Gathering.{all_gathered}
 use Rattle.am_places_tests.proofs.tests.gather_four.Goals as goal
 
 pub returns-clause-gathered : goal.returns-clause-gathered

@@ -2,7 +2,7 @@ use Rattle.std.proofs.Common.{ap, ◌∙◌, sym, [], ◌∷◌, ◌++◌, lengt
 use Rattle.std.specs.Option.{option_to_list}
 use lib.ListN.{get_elem?}
 use Rattle.atomic_table.proofs.Lists.{at_longer}
-use Rattle.am_places_tests.proofs.Staying.{at_last}
+use Rattle.am_places_tests.proofs.Gathering.{at_last}
 use Rattle.am_places_tests.proofs.tests.last_seat.Goals as goal
 
 pub returns-clause-list : goal.returns-clause-list
