@@ -6,8 +6,6 @@ use Rattle.std.proofs.lemmas.List.{length_push}
 use Rattle.atomic_table.specs.Table.{Me}
 use Rattle.am_lemmas.proofs.Lists.{slice_get-append_left}
 use Rattle.am_names.specs.declared.NodeId.{NodeId}
-use Rattle.am_office.specs.declared.Entry.{Entry}
-use Rattle.am_body.specs.declared.settings.EndSettings.{EndSettings}
 use Rattle.am_books.specs.declared.EndBook.{EndBook}
 use Rattle.am_model.specs.Layout.{node_at}
 use Rattle.am_scenario_types.specs.declared.parts.ScriptCall.{ScriptCall}

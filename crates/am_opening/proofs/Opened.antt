@@ -1,7 +1,7 @@
 -- What a node is opened to, by the cluster's part of the node.
 use Rattle.std.specs.Prelude.{IfOk, Result, Ok, Err, slice_get}
 use Rattle.std.specs.Global.{Vec}
-use Rattle.std.proofs.Common.{◌≡◌, ℕ, ◌+◌, ◌<◌, ◌≤◌, false, None, Some, List, [], ◌∷◌, ◌++◌, length, map, reverse, refl, sym, ap, ◌∙◌, subst, arith}
+use Rattle.std.proofs.Common.{◌≡◌, ℕ, ◌+◌, ◌<◌, ◌≤◌, false, None, Some, List, [], ◌∷◌, ◌++◌, length, map, reverse, refl, sym, ap, ◌∙◌, subst}
 use Rattle.std.proofs.lemmas.List.{length_push}
 use lib.ListN.{get_elem?}
 use mathlib.Core.Option.{some}
@@ -17,11 +17,8 @@ use Rattle.am_driver.specs.declared.EndView.{EndView}
 use Rattle.am_endpoint.specs.View.{EndpointView, state_after}
 use Rattle.am_model.specs.Layout.{AllAre, AreApart, node_at}
 use Rattle.am_local.specs.Together.{ends_of}
-use Rattle.am_iface.specs.Settings.{AreLawful}
-use Rattle.am_iface.specs.View.{InterfaceView}
 use Rattle.am_moves.specs.Logs.{kept}
 use Rattle.am_machine.specs.Ends.{setting_in}
-use Rattle.am_machine.specs.Interfaces.{IsInterface}
 use Rattle.am_machine.specs.Parts.{AreNodeParts, IsNodePart}
 use Rattle.am_node.specs.declared.NodePart.{NodePart}
 use Rattle.am_scenario_types.specs.Lawful as lawful

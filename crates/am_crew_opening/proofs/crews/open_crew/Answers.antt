@@ -1,4 +1,4 @@
-use Rattle.std.proofs.Common.{ℕ, List, length, refl, subst}
+use Rattle.std.proofs.Common.{ℕ, List, refl, subst}
 use Rattle.am_crew_opening.specs.Making.{AreSeated}
 use Rattle.am_crew_opening.proofs.Opened.{crew_is, crew_unused, is_made, made_of}
 use Rattle.am_crew_opening.proofs.crews.open_crew.Goals as goal

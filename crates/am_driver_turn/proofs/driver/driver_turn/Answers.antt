@@ -1,4 +1,4 @@
-use Rattle.std.proofs.Common.{◌≡◌, ◌∙◌, ◌<◌, Some, ap, arith, length, refl, sym}
+use Rattle.std.proofs.Common.{◌≡◌, ◌∙◌, ◌<◌, ap, arith, length, refl, sym}
 use Rattle.am_driver.specs.Moves.{next_move}
 use Rattle.am_driver.specs.Shown.{event_of}
 use Rattle.am_works.proofs.Drivers.{drivers_rest}

@@ -1,4 +1,4 @@
-use Rattle.std.proofs.Common.{◌≡◌, ◌∙◌, List, map, ap, arith}
+use Rattle.std.proofs.Common.{◌≡◌, ◌∙◌, map, ap, arith}
 use Rattle.am_endpoint.specs.View.{EndpointView}
 use Rattle.am_opening.proofs.Opened.{as_many, both_ok, homely_books, named_all, places_are}
 use Rattle.am_opening.proofs.nodes.open_places.Goals as goal

@@ -1,4 +1,4 @@
-use Rattle.std.proofs.Common.{◌≡◌, ◌∙◌, List, length, None, refl, sym, subst, ap}
+use Rattle.std.proofs.Common.{◌∙◌, List, length, None, refl, sym, subst, ap}
 use Rattle.am_iface.specs.Settings.{AreLawful}
 use Rattle.am_scenario_types.specs.declared.parts.ThreadLine.{ThreadLine}
 use Rattle.am_scenario_types.specs.Lists.{ScenarioLists}
