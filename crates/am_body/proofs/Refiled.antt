@@ -1,13 +1,12 @@
 -- What a body is after a slot went with its message from list to list.
-use Rattle.std.proofs.Common.{◌≡◌, ℕ, ◌+◌, ◌<◌, ◌≤◌, Bool, true, false, cond, List, [], ◌∷◌, ◌++◌, length, drop, Option, Some, None, refl, sym, ap, ◌∙◌, subst, arith, if◌then◌else◌, true≢false}
-use Rattle.std.specs.Prelude.{IsSome, find, slice_get, slice_set}
+use Rattle.std.proofs.Common.{◌≡◌, ℕ, ◌+◌, ◌<◌, ◌≤◌, Bool, true, false, cond, List, [], ◌∷◌, ◌++◌, length, drop, Some, None, refl, sym, ap, ◌∙◌, subst, arith, if◌then◌else◌, true≢false}
+use Rattle.std.specs.Prelude.{IsSome, slice_get, slice_set}
 use Rattle.std.specs.Option.{option_map}
 use Rattle.std.proofs.lemmas.Option.{get_or_from_slice_get}
 use Rattle.am_names.specs.Names.{has_serial, is_answer, is_request}
 use Rattle.am_names.specs.declared.Serial.{Serial}
 use Rattle.am_names.specs.declared.Why.{Why}
 use Rattle.am_block.specs.Pools.{Pools, IsBlock, home, place, size, slots, times, without}
-use Rattle.am_block.specs.declared.Slot.{Slot}
 use Rattle.am_block.specs.declared.Descriptor.{Descriptor}
 use Rattle.am_block.specs.declared.List.{List as Which}
 use Rattle.am_block.specs.declared.List.TheVariants.{Notices, InFlight, Replies, Requests}
@@ -15,7 +14,6 @@ use Rattle.am_block.proofs.Callers.{home_is}
 use Rattle.am_block.proofs.Fresh.{front-below, one_if, times-cons}
 use Rattle.am_block.proofs.Moves.{home-there, times-without}
 use Rattle.am_model.specs.declared.Flying.{Flying}
-use Rattle.am_model.specs.declared.Queued.{Queued}
 use Rattle.am_model.specs.Changes.{appended, flight_appended, flying_of, notice_of, requeued_flight, requests_left, without_flight}
 use Rattle.am_model.specs.Endpoint.{front_of}
 use Rattle.am_body.specs.Flights.{aloft, flight_noticed, front_aloft, slot_of}
@@ -24,7 +22,6 @@ use Rattle.am_body.specs.Moves.{changed, first_slot, refiled}
 use Rattle.am_body.specs.Views.{View, descriptor_at, flying_in, message_in, notice_in, queued_in, seen}
 use Rattle.am_body.specs.Walks.{is_sought_at}
 use Rattle.am_body.specs.declared.Body.TheInside.{Inside}
-use Rattle.am_body.specs.declared.moves.Change.{Change}
 use Rattle.am_body.specs.declared.moves.Change.TheVariants as Becomes
 use Rattle.am_body.specs.declared.walks.Sought.TheVariants as Soughts
 use Rattle.am_body.proofs.Filed.{same_lists, slot-found, viewed_both}

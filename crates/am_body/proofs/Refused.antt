@@ -1,8 +1,7 @@
 -- A table's fault, and what the machine's rules refuse for it.
-use Rattle.std.proofs.Common.{◌≡◌, ℕ, ◌+◌, ◌<◌, Bool, true, false, cond, ◌&&◌, List, [], ◌∷◌, Option, Some, None, refl, sym, ap, ◌∙◌, length, ◌==◌}
+use Rattle.std.proofs.Common.{◌≡◌, ℕ, ◌+◌, Bool, true, false, cond, ◌&&◌, List, [], ◌∷◌, Option, Some, None, refl, sym, ap, ◌∙◌, length, ◌==◌}
 use Rattle.std.specs.Prelude.{nat_le, not, is_none, is_some}
 use Rattle.std.specs.Option.{option_map}
-use Rattle.std.proofs.lemmas.Bool.{leb-false}
 use Rattle.am_office.specs.declared.Refusal.{Refusal}
 use Rattle.am_office.specs.declared.Refusal.TheVariants as No
 use Rattle.am_model.specs.declared.Mapping.{Mapping}

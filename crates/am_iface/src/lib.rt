@@ -517,7 +517,8 @@ impl Interface {
     }
 
     /// Does a work that touches this endpoint, and logs its entry here and in the endpoint. Room is made in both logs first.
-    /// Where it answers no entry, neither log has changed, nor what the endpoint has in flight and for how much it has room.
+    /// Where it answers no entry, neither log has changed, nor what the endpoint has in flight, nor whether it is ready for
+    /// one more entry.
     pub fn turn_with(
         &mut self,
         floor: u64,
