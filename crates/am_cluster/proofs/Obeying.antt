@@ -1,11 +1,12 @@
 -- The journal of a run obeys the laws of runs, whether it came to its end or met a full log.
 use Rattle.std.specs.Prelude.{length}
-use Rattle.std.proofs.Common.{◌≡◌, ◌≤◌, ◌<◌, ◌^◌, List, [], arith, refl, sym, subst}
+use Rattle.std.proofs.Common.{◌≡◌, true, ◌≤◌, ◌<◌, ◌^◌, List, [], arith, refl, sym, subst}
 use Rattle.am_names.specs.declared.Cause.{Cause}
 use Rattle.am_names.specs.declared.Serial.{Serial}
 use Rattle.am_office.specs.declared.Entry.{Entry}
 use Rattle.am_office.specs.declared.Part.{Part}
 use Rattle.am_model.specs.Layout.{Layout}
+use Rattle.am_model.specs.Merge.{is_ordered}
 use Rattle.am_model.specs.PostOffice.{PostOffice}
 use Rattle.am_laws.proofs.OneFate.{one_fate}
 use Rattle.am_scenario_types.specs.declared.parts.Network.TheVariants.{Packet}
@@ -29,12 +30,13 @@ use Rattle.am_cluster.specs.Runs.{IsAloneCutOff, IsAloneStopped, IsPhaseOfRun, I
 use Rattle.am_cluster.specs.declared.RunFault.{RunFault}
 use Rattle.am_cluster.specs.declared.RunFault.TheVariants as Runs
 
-pub whole_obeys : (s : ScenarioLists) (journal : List Entry) → IsLawful s → s.network ≡ Packet → IsWholeRun s journal → PostOffice (layout_of s) journal → ObeysRunLaws s journal
-whole_obeys s journal lawful packet whole laws =
+pub whole_obeys : (s : ScenarioLists) (journal : List Entry) → IsLawful s → s.network ≡ Packet → IsWholeRun s journal → PostOffice (layout_of s) journal → is_ordered journal ≡ true → ObeysRunLaws s journal
+whole_obeys s journal lawful packet whole laws order =
     let run : IsOfRun s journal = record { lawful = lawful; packet = packet; history = whole.history } in
     let orderly : IsOrderly s journal = record { run = run; in_order = whole.follows.links.in_order; last_tries = whole.follows.last_tries } in
     record {
       history = whole.history;
+      order = order;
       laws = laws;
       fates = one_fate (layout_of s) journal whole.history;
       unknown = unknown_is_withheld s journal orderly;
@@ -54,8 +56,8 @@ record IsCutOffOf (s : ScenarioLists) (part : Part) (journal : List Entry) : Typ
   obeys : ObeysRunLaws s journal
   stopped : IsStoppedFor s part journal
 
-cut_off_obeys : (s : ScenarioLists) (phase : List Entry) (part : Part) (journal : List Entry) → IsLawful s → s.network ≡ Packet → IsGoodPhase s phase → HasShortLogs s phase → IsDrainCutOff s phase part journal → PostOffice (layout_of s) journal → IsCutOffOf s part journal
-cut_off_obeys s phase part journal lawful packet good logs c laws =
+cut_off_obeys : (s : ScenarioLists) (phase : List Entry) (part : Part) (journal : List Entry) → IsLawful s → s.network ≡ Packet → IsGoodPhase s phase → HasShortLogs s phase → IsDrainCutOff s phase part journal → PostOffice (layout_of s) journal → is_ordered journal ≡ true → IsCutOffOf s part journal
+cut_off_obeys s phase part journal lawful packet good logs c laws order =
     let short : IsShortHistory s journal = cut_offs_are_short s phase journal part (record { lawful = lawful; packet = packet; history = good.history }) logs c in
     let run : IsOfRun s journal = record { lawful = lawful; packet = packet; history = short.history } in
     let stopped : IsStoppedFor s part journal = cut_off_is_stopped s phase journal part good short.logs c in
@@ -66,6 +68,7 @@ cut_off_obeys s phase part journal lawful packet good logs c laws =
       obeys =
           record {
             history = short.history;
+            order = order;
             laws = laws;
             fates = one_fate (layout_of s) journal short.history;
             unknown = unknown_is_withheld s journal orderly;
@@ -74,14 +77,14 @@ cut_off_obeys s phase part journal lawful packet good logs c laws =
           };
     }
 
-pub alone_is_cut_off : (s : ScenarioLists) (part : Part) (journal : List Entry) → IsLawful s → s.network ≡ Packet → IsDrainCutOff s [] part journal → PostOffice (layout_of s) journal → IsAloneCutOff s part journal
-alone_is_cut_off s part journal lawful packet c laws =
-    let k : IsCutOffOf s part journal = cut_off_obeys s [] part journal lawful packet (empty_is_good_phase s) (no_logs s) c laws in
+pub alone_is_cut_off : (s : ScenarioLists) (part : Part) (journal : List Entry) → IsLawful s → s.network ≡ Packet → IsDrainCutOff s [] part journal → PostOffice (layout_of s) journal → is_ordered journal ≡ true → IsAloneCutOff s part journal
+alone_is_cut_off s part journal lawful packet c laws order =
+    let k : IsCutOffOf s part journal = cut_off_obeys s [] part journal lawful packet (empty_is_good_phase s) (no_logs s) c laws order in
     record { cut = c; obeys = k.obeys; stopped = k.stopped }
 
-run_is_cut_off : (s : ScenarioLists) (phase : List Entry) (part : Part) (journal : List Entry) → IsLawful s → s.network ≡ Packet → IsPhaseOfRun s phase → IsDrainCutOff s phase part journal → PostOffice (layout_of s) journal → IsRunCutOff s part journal
-run_is_cut_off s phase part journal lawful packet made c laws =
-    let k : IsCutOffOf s part journal = cut_off_obeys s phase part journal lawful packet made.good made.logs c laws in
+run_is_cut_off : (s : ScenarioLists) (phase : List Entry) (part : Part) (journal : List Entry) → IsLawful s → s.network ≡ Packet → IsPhaseOfRun s phase → IsDrainCutOff s phase part journal → PostOffice (layout_of s) journal → is_ordered journal ≡ true → IsRunCutOff s part journal
+run_is_cut_off s phase part journal lawful packet made c laws order =
+    let k : IsCutOffOf s part journal = cut_off_obeys s phase part journal lawful packet made.good made.logs c laws order in
     record { phase = phase; made = made; cut = c; obeys = k.obeys; stopped = k.stopped }
 
 -- the phase of a run without turns is empty
@@ -101,12 +104,12 @@ pub copied_whole : (s : ScenarioLists) (phase end journal : List Entry) → IsLa
 copied_whole s phase end journal lawful packet good logs d is =
     subst (λ (j : List Entry). IsWholeRun s j) (sym is) (phase_is_whole s phase end lawful packet good logs d)
 
-pub copied_obeys : (s : ScenarioLists) (phase end journal : List Entry) (layout : Layout) → IsLawful s → s.network ≡ Packet → IsGoodPhase s phase → HasShortLogs s phase → IsDrainedWithRoom s phase end → journal ≡ end → layout ≡ layout_of s → PostOffice layout journal → ObeysRunLaws s journal
-copied_obeys s phase end journal layout lawful packet good logs d is same laws =
-    whole_obeys s journal lawful packet (copied_whole s phase end journal lawful packet good logs d is) (subst (λ (l : Layout). PostOffice l journal) same laws)
+pub copied_obeys : (s : ScenarioLists) (phase end journal : List Entry) (layout : Layout) → IsLawful s → s.network ≡ Packet → IsGoodPhase s phase → HasShortLogs s phase → IsDrainedWithRoom s phase end → journal ≡ end → layout ≡ layout_of s → PostOffice layout journal → is_ordered journal ≡ true → ObeysRunLaws s journal
+copied_obeys s phase end journal layout lawful packet good logs d is same laws order =
+    whole_obeys s journal lawful packet (copied_whole s phase end journal lawful packet good logs d is) (subst (λ (l : Layout). PostOffice l journal) same laws) order
 
-pub copied_cut_off : (s : ScenarioLists) (phase : List Entry) (part : Part) (end journal : List Entry) (layout : Layout) → IsLawful s → s.network ≡ Packet → IsPhaseOfRun s phase → IsDrainCutOff s phase part end → journal ≡ end → layout ≡ layout_of s → PostOffice layout journal → IsRunCutOff s part journal
-copied_cut_off s phase part end journal layout lawful packet made c is same laws =
+pub copied_cut_off : (s : ScenarioLists) (phase : List Entry) (part : Part) (end journal : List Entry) (layout : Layout) → IsLawful s → s.network ≡ Packet → IsPhaseOfRun s phase → IsDrainCutOff s phase part end → journal ≡ end → layout ≡ layout_of s → PostOffice layout journal → is_ordered journal ≡ true → IsRunCutOff s part journal
+copied_cut_off s phase part end journal layout lawful packet made c is same laws order =
     run_is_cut_off s phase part journal lawful packet made
     (subst (λ (j : List Entry). IsDrainCutOff s phase part j) (sym is) c)
-    (subst (λ (l : Layout). PostOffice l journal) same laws)
+    (subst (λ (l : Layout). PostOffice l journal) same laws) order

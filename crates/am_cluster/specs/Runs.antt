@@ -1,5 +1,5 @@
 -- What a run of a scenario answers, with threads and without, and what a drain of a cluster leaves.
-use Rattle.std.specs.Prelude.{◌≡◌, ◌≢◌, Some, false, List, []}
+use Rattle.std.specs.Prelude.{◌≡◌, ◌≢◌, Some, false, true, List, []}
 use Rattle.am_names.specs.Rules.{is_transient}
 use Rattle.am_names.specs.declared.Cause.{Cause}
 use Rattle.am_names.specs.declared.Serial.{Serial}
@@ -9,6 +9,7 @@ use Rattle.am_office.specs.declared.endings.Fate.TheVariants as Fates
 use Rattle.am_office.specs.Fates.{fate}
 use Rattle.am_laws.specs.Fates.{HasOneFate}
 use Rattle.am_model.specs.History.{IsHistory}
+use Rattle.am_model.specs.Merge.{is_ordered}
 use Rattle.am_model.specs.PostOffice.{PostOffice}
 use Rattle.am_scenario_types.specs.Lists.{ScenarioLists}
 use Rattle.am_scripts.specs.Layout.{layout_of}
@@ -31,10 +32,11 @@ abbrev pub IsReturnedForGood : List Entry → Type 0
 IsReturnedForGood journal = (serial : Serial) (cause : Cause) → fate journal serial ≡ Some (Fates.Returned cause) → is_transient cause ≡ false
 
 -- What is so of the journal of each run, whether it came to its end or met a full log. It is a history of the machine that the scenario
--- describes, and obeys all the laws of the post office. Each message has its one fate, and one is unknown only where the plan withheld
+-- describes, in the order of stamp and then part, and obeys all the laws of the post office. Each message has its one fate, and one is unknown only where the plan withheld
 -- packets of its last try. Where the plan withholds none, no message is unknown, and what is returned is returned for good.
 pub record ObeysRunLaws (s : ScenarioLists) (journal : List Entry) : Type 0 where
   pub history : IsHistory (layout_of s) journal
+  pub order : is_ordered journal ≡ true
   pub laws : PostOffice (layout_of s) journal
   pub fates : (serial : Serial) → HasOneFate journal serial
   pub unknown : UnknownIsPlanned s journal

@@ -8,6 +8,7 @@ ghost use Rattle.am_drainer.specs.Stops.{IsDrainStopped};
 ghost use Rattle.am_drain_steps.specs.Runs.{IsWholeRun};
 ghost use Rattle.am_scripts.specs.Layout.{layout_of};
 ghost use Rattle.am_model.specs.History.{IsHistory};
+ghost use Rattle.am_model.specs.Merge.{is_ordered};
 ghost use Rattle.am_model.specs.PostOffice.{PostOffice};
 ghost use Rattle.am_run_laws.specs.Left.{LeavesNothing};
 ghost use Rattle.am_scenario_types.specs.Lawful.{IsLawful};
@@ -15,7 +16,7 @@ ghost use Rattle.am_scenario_types.specs.declared.parts.Network.TheVariants.{Pac
 ghost use Rattle.am_scenario_types.specs.declared.parts.ThreadLine.{ThreadLine};
 ghost use Rattle.am_scripts.specs.Links.{KeepsLinks, ReceivesInOrder};
 ghost use Rattle.am_scripts.specs.Scripts.{BeginsScripts, calls_of};
-ghost use Rattle.std.specs.Prelude.{◌≡◌, [], IfErr, IfOk, OnOk, length, map};
+ghost use Rattle.std.specs.Prelude.{◌≡◌, [], true, IfErr, IfOk, OnOk, length, map};
 
 use am_crew::make_phase;
 pub use am_crew::{Gate, OpenGate};
@@ -105,6 +106,7 @@ fn run_of(
     requires lawful { IsLawful scenario.now }
     requires packet { scenario.now.network ≡ Packet }
     requires laws { PostOffice (layout_of scenario.now) journal }
+    requires order { is_ordered journal ≡ true }
     requires drained { OnOk drained (IsDrainedWithRoom scenario.now [] journal) }
     requires stopped { IfErr drained (λ fault. IsDrainStopped scenario.now [] fault journal) }
     ensures drained { IfOk result (λ finished. IsDrainedWithRoom scenario.now [] finished.journal) }

@@ -4,10 +4,14 @@ use am_job::{ask_script, counts, rounds};
 use am_names::{EndpointId, Message, MsgKind, Serial, Tag, Words};
 use am_office::{Actor, Call, Entry, Event, Journal, Outcome};
 use am_scenario_types::ScriptCall;
-use am_words::{Tally, split};
+use am_words::{CodedWord, Tally, WordCount, split};
 use std::alloc::Global;
 use std::fmt::Write;
 use std::test::Fail;
+
+fn no_memory() -> Fail {
+    Fail::from("no memory")
+}
 
 // Texts, with how many of their words are sent, and how many are long.
 const TEXTS: [(&[u8], usize, u64); 8] = [
@@ -28,7 +32,9 @@ const TEXTS: [(&[u8], usize, u64); 8] = [
 #[test]
 fn words_are_found(rt: HostRuntime) -> Result<(), Fail> {
     for (text, sent, long) in TEXTS.iter() {
-        let found = split(rt.alloc(), text).map_err(|_| "no memory")?;
+        let Ok(found) = split(rt.alloc(), text) else {
+            return Err(no_memory());
+        };
         assert!(rt; found.sent.len() == *sent);
         assert!(rt; found.long == *long);
     }
@@ -42,7 +48,9 @@ fn every_byte_is_read(rt: HostRuntime) -> Result<(), Fail> {
     for byte in 0..=255u8 {
         text.push(byte)?;
     }
-    let found = split(rt.alloc(), &text).map_err(|_| "no memory")?;
+    let Ok(found) = split(rt.alloc(), &text) else {
+        return Err(no_memory());
+    };
     assert!(rt; found.sent.len() == 3);
     assert!(rt; found.long == 1);
     Ok(())
@@ -54,7 +62,9 @@ fn first_round(alloc: Global, text: &[u8], w: u8) -> Result<(Vec<ScriptCall>, us
     requires nodes { w ≤ 8 }
     requires size { length text.now ≤ 1048576 }
 {
-    let job = rounds(alloc, text, w, 0).map_err(|_| "no memory")?;
+    let Ok(job) = rounds(alloc, text, w, 0) else {
+        return Err(no_memory());
+    };
     match job.rounds.first() {
         Some(round) => Ok((Vec::from_slice(alloc, &round.script)?, job.rounds.len())),
         None => Ok((Vec::new(alloc), 0)),
@@ -116,35 +126,64 @@ fn ran(words: Words) -> Entry {
     }
 }
 
-#[test]
-fn words_are_counted(rt: HostRuntime) -> Result<(), Fail> {
-    let found = split(rt.alloc(), b"b a b").map_err(|_| "no memory")?;
-    let mut tally = Tally::new(rt.alloc());
-    let mut journal = Journal {
-        entries: Vec::new(rt.alloc()),
-    };
-    for word in &found.sent {
+// Counts each of these words as sent.
+fn ask_all(alloc: Global, tally: &mut Tally, words: &[CodedWord]) -> Result<(), Fail> {
+    for word in words {
         let call = Call::Request {
             index: 0,
             handler: 1,
             words: word.words,
         };
-        tally.ask(rt.alloc(), &call).map_err(|_| "no memory")?;
+        let Ok(()) = tally.ask(alloc, &call) else {
+            return Err(no_memory());
+        };
     }
-    for word in found.sent.iter().take(2) {
-        journal.entries.push(ran(word.words))?;
+    Ok(())
+}
+
+// A journal in which these words run.
+fn journal_of(alloc: Global, words: &[CodedWord]) -> Result<Journal, Fail> {
+    let mut entries = Vec::new(alloc);
+    for word in words {
+        entries.push(ran(word.words))?;
     }
-    tally
-        .see_journal(rt.alloc(), &journal)
-        .map_err(|_| "no memory")?;
-    let rows = tally.rows(rt.alloc()).map_err(|_| "no memory")?;
-    assert!(rt; rows.len() == 2);
-    assert!(rt; rows[0].word.as_slice() == b"a".as_slice());
-    assert!(rt; rows[0].ran == 1);
-    assert!(rt; rows[0].left == 0);
-    assert!(rt; rows[1].word.as_slice() == b"b".as_slice());
-    assert!(rt; rows[1].ran == 1);
-    assert!(rt; rows[1].left == 1);
+    Ok(Journal { entries })
+}
+
+// The counts of words that are sent, of which some run.
+fn counted(alloc: Global, sent: &[CodedWord], ran: &[CodedWord]) -> Result<Vec<WordCount>, Fail> {
+    let journal = journal_of(alloc, ran)?;
+    let mut tally = Tally::new(alloc);
+    ask_all(alloc, &mut tally, sent)?;
+    let Ok(()) = tally.see_journal(alloc, &journal) else {
+        return Err(no_memory());
+    };
+    match tally.rows(alloc) {
+        Ok(rows) => Ok(rows),
+        Err(_) => Err(no_memory()),
+    }
+}
+
+fn is_row(row: &WordCount, word: &[u8], ran: u64, left: u64) -> bool {
+    row.word.as_slice() == word && row.ran == ran && row.left == left
+}
+
+// Whether `a` is told first and then `b`, with these counts of runs and with these of what is left.
+fn are_a_and_b(rows: &[WordCount], ran: (u64, u64), left: (u64, u64)) -> bool {
+    match rows {
+        [a, b] => is_row(a, b"a", ran.0, left.0) && is_row(b, b"b", ran.1, left.1),
+        _ => false,
+    }
+}
+
+#[test]
+fn words_are_counted(rt: HostRuntime) -> Result<(), Fail> {
+    let Ok(found) = split(rt.alloc(), b"b a b") else {
+        return Err(no_memory());
+    };
+    assert!(rt; found.sent.len() == 3);
+    let rows = counted(rt.alloc(), &found.sent, &found.sent[..2])?;
+    assert!(rt; are_a_and_b(&rows, (1, 1), (0, 1)));
     Ok(())
 }
 
@@ -161,30 +200,36 @@ fn many_words(alloc: Global) -> Result<String, Fail> {
 fn many_words_are_sent(rt: HostRuntime) -> Result<(), Fail> {
     let text = many_words(rt.alloc())?;
     assert!(rt; text.len() <= 1_048_576);
-    let job = rounds(rt.alloc(), text.as_bytes(), 8, 0).map_err(|_| "no memory")?;
+    let Ok(job) = rounds(rt.alloc(), text.as_bytes(), 8, 0) else {
+        return Err(no_memory());
+    };
     assert!(rt; job.rounds.len() == 13);
     let mut tally = Tally::new(rt.alloc());
     for round in &job.rounds {
-        ask_script(rt.alloc(), &mut tally, &round.script).map_err(|_| "no memory")?;
+        let Ok(()) = ask_script(rt.alloc(), &mut tally, &round.script) else {
+            return Err(no_memory());
+        };
     }
-    let rows = tally.rows(rt.alloc()).map_err(|_| "no memory")?;
+    let Ok(rows) = tally.rows(rt.alloc()) else {
+        return Err(no_memory());
+    };
     assert!(rt; rows.len() == 500);
-    for row in &rows {
-        assert!(rt; row.left == 40);
-    }
+    assert!(rt; rows.iter().all(|row| row.left == 40));
     Ok(())
 }
 
 #[test]
 fn words_that_did_not_run_are_left(rt: HostRuntime) -> Result<(), Fail> {
-    let job = rounds(rt.alloc(), b"b a b\n", 2, 0).map_err(|_| "no memory")?;
+    let Ok(job) = rounds(rt.alloc(), b"b a b\n", 2, 0) else {
+        return Err(no_memory());
+    };
     assert!(rt; job.rounds.len() == 1);
     let journal = Journal {
         entries: Vec::new(rt.alloc()),
     };
-    let rows = counts(rt.alloc(), &job, &[journal]).map_err(|_| "no memory")?;
-    assert!(rt; rows.len() == 2);
-    assert!(rt; rows[0].left == 1);
-    assert!(rt; rows[1].left == 2);
+    let Ok(rows) = counts(rt.alloc(), &job, &[journal]) else {
+        return Err(no_memory());
+    };
+    assert!(rt; are_a_and_b(&rows, (0, 0), (1, 2)));
     Ok(())
 }

@@ -6,7 +6,7 @@ ghost use Rattle.std.specs.Prelude.{◌≡◌};
 use am_channel::{RecvEnd, SendEnd};
 
 /// What the sender knows.
-#[derive(Clone, Copy, PartialEq, Eq, Debug)]
+#[derive(Clone, Copy)]
 pub struct Sender {
     /// How often it has started, from 1.
     pub incarnation: u32,
@@ -16,7 +16,7 @@ pub struct Sender {
 }
 
 /// What the receiver knows.
-#[derive(Clone, Copy, PartialEq, Eq, Debug)]
+#[derive(Clone, Copy)]
 pub struct Receiver {
     /// How often it has started, from 1.
     pub incarnation: u32,

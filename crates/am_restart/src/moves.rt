@@ -5,7 +5,7 @@ use crate::events::SessionOutcome;
 use crate::packets::{ReceiverPacket, SenderPacket};
 
 /// What becomes of the queue and of what was emitted.
-#[derive(Clone, Copy, PartialEq, Eq, Debug)]
+#[derive(Clone, Copy)]
 pub enum Change {
     Nothing,
     /// The next message goes to the queue's tail.
@@ -21,7 +21,7 @@ pub enum Change {
 }
 
 /// What an event does: its outcome, what both interfaces know after it, and what it changes beside them.
-#[derive(Clone, Copy, PartialEq, Eq, Debug)]
+#[derive(Clone, Copy)]
 pub struct Move {
     pub outcome: SessionOutcome,
     pub sender: Sender,

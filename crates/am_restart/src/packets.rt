@@ -8,7 +8,7 @@ use am_names::{
 };
 
 /// A message on its way to the receiver.
-#[derive(Clone, Copy, PartialEq, Eq, Debug)]
+#[derive(Clone, Copy)]
 pub struct SessionParcel {
     /// The sender's incarnation when it was emitted.
     pub sender: u32,
@@ -21,7 +21,7 @@ pub struct SessionParcel {
 }
 
 /// What was decided on a parcel, on its way back.
-#[derive(Clone, Copy, PartialEq, Eq, Debug)]
+#[derive(Clone, Copy)]
 pub struct SessionAnswer {
     /// The sender's incarnation that the parcel names.
     pub sender: u32,
@@ -33,7 +33,7 @@ pub struct SessionAnswer {
 }
 
 /// What the sender emits.
-#[derive(Clone, Copy, PartialEq, Eq, Debug)]
+#[derive(Clone, Copy)]
 pub enum SenderPacket {
     /// The sender of this incarnation asks for the receiver's.
     Hello { sender: u32 },
@@ -41,7 +41,7 @@ pub enum SenderPacket {
 }
 
 /// What the receiver emits.
-#[derive(Clone, Copy, PartialEq, Eq, Debug)]
+#[derive(Clone, Copy)]
 pub enum ReceiverPacket {
     /// The receiver of this incarnation answers a sender of that one.
     Welcome { sender: u32, receiver: u32 },

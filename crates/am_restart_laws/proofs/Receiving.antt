@@ -14,7 +14,7 @@ use Rattle.am_restart.specs.declared.packets.SenderPacket.{SenderPacket}
 use Rattle.am_restart.specs.declared.packets.ReceiverPacket.{ReceiverPacket}
 use Rattle.am_restart.specs.declared.packets.ReceiverPacket.TheVariants as FromReceiver
 use Rattle.am_restart.specs.Ends as Ends
-use Rattle.am_restart_laws.proofs.Keys.{Point, Numbers, IsClosed, IsSettled, IsFresh, IsSame, not_fresh, settled_closed, earlier_closed}
+use Rattle.am_restart_laws.proofs.Keys.{Point, IsClosed, IsSettled, IsSame, settled_closed, earlier_closed}
 use Rattle.am_restart_laws.proofs.Lists.{Among, among_cases, none_pass}
 use Rattle.am_restart_laws.proofs.Orders.{UpTo, Before, turned, place, ordered}
 use Rattle.am_restart_laws.proofs.Parts.{Emitted, SenderPart, Dead, DeadPart, ReceiverPart, Refuses, answer_numbers, is_taken}
@@ -61,10 +61,6 @@ receiver_emits out back o taken packet h is =
 pub receiver_more : (out more : List SenderPacket) (back : List ReceiverPacket) (o : Point) (taken : List SessionParcel) → ReceiverPart out back o taken → ((d : SessionParcel) → Emitted out d → Emitted more d) → ReceiverPart more back o taken
 receiver_more out more back o taken h up =
     record { emitted = λ d there. up d (h.emitted d there); settled = h.settled; answers = h.answers; welcomes = h.welcomes }
-
--- a parcel of a binding that was taken isn't fresh
-not_taken_before : (o : Point) (d f : Numbers) → IsSettled o d → IsSame d f → IsFresh o f → ⊥
-not_taken_before o d f settled same fresh = not_fresh o f (settled_closed o d f settled same) fresh
 
 -- the receiver takes a fresh parcel
 pub receiver_takes : (out : List SenderPacket) (back : List ReceiverPacket) (o later : Point) (taken : List SessionParcel) (f : SessionParcel) → ReceiverPart out back o taken → Emitted out f → Stays o later → (IsClosed o (numbers f) → ⊥) → IsSettled later (numbers f) → ReceiverPart out back later (f ∷ taken)

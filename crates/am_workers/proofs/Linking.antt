@@ -1,6 +1,6 @@
 -- The links of a node, when one of them changed.
 use Rattle.std.specs.Prelude.{is_some, slice_get, slice_index_or, slice_set}
-use Rattle.std.proofs.Common.{◌≡◌, ◌≢◌, ◌⊎◌, inl, inr, ⊎_elim, ℕ, zero, suc, ◌<◌, ◌≤◌, ◌==◌, Bool, true, false, cond, List, [], ◌∷◌, ◌++◌, length, get_or, Option, Some, None, refl, sym, ap, ◌∙◌, subst, arith, append-nil, eqb-true, eq-eqb, true≢false}
+use Rattle.std.proofs.Common.{◌≡◌, ◌≢◌, ◌⊎◌, inl, inr, ⊎_elim, ℕ, zero, suc, ◌<◌, ◌≤◌, ◌==◌, Bool, true, false, cond, List, [], ◌∷◌, ◌++◌, length, get_or, Option, Some, None, OnOk, Result, Ok, Err, refl, sym, ap, ◌∙◌, subst, arith, append-nil, eqb-true, eq-eqb, true≢false}
 use Rattle.std.proofs.lemmas.Option.{slice_get-get_or, slice_get_within}
 use Rattle.std.proofs.lemmas.List.{length-set}
 use Rattle.am_lemmas.proofs.Lists.{slice_get-set_elsewhere}
@@ -206,6 +206,11 @@ room_made a k p room one j x at = ⊎_elim written elsewhere (got_set a k j p x 
 
     elsewhere : (j ≢ k) × (slice_get a j ≡ Some x) → 1 ≤ spare x
     elsewhere e = room j x e.1 e.0
+
+-- and where it got some if a call went well, each has if it did
+pub room_if : {T E : Type 0} (r : Result T E) (a : List LinkOut) (k : ℕ) (p : LinkOut) → HaveRoomBut k a → OnOk r (1 ≤ spare p) → OnOk r (HaveRoom (slice_set a k p))
+room_if (Ok x) a k p room one = room_made a k p room one
+room_if (Err e) a k p room one = one
 
 -- where the one without is none of them, each has
 pub room_past : (a : List LinkOut) (k : ℕ) → length a ≤ k → HaveRoomBut k a → HaveRoom a

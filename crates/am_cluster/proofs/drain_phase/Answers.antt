@@ -13,7 +13,7 @@ returns-in-Ok-drained-clause-obeys c =
     c.in-Ok-drained.ensures.drained
     c.in-Ok.ensures.journal
     (c.drain_cluster-drained.ensures.layout ∙ c.requires.layout)
-    c.in-Ok.ensures.laws
+    c.in-Ok.ensures.laws c.in-Ok.ensures.order
 
 pub returns-in-Err-LogFull-clause-stopped : goal.returns-in-Err-LogFull-clause-stopped
 returns-in-Err-LogFull-clause-stopped c =
@@ -25,4 +25,4 @@ returns-in-Err-LogFull-clause-stopped c =
     cut
     c.in-Ok.ensures.journal
     (c.drain_cluster-drained.ensures.layout ∙ c.requires.layout)
-    c.in-Ok.ensures.laws
+    c.in-Ok.ensures.laws c.in-Ok.ensures.order

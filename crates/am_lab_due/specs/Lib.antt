@@ -1,0 +1,4 @@
+pub mod Texts
+pub mod Found
+pub mod Choices
+pub mod Due

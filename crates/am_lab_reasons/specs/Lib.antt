@@ -1,0 +1,4 @@
+pub mod Numbered
+pub mod Touches
+pub mod Packets
+pub mod Reasons

@@ -1,0 +1,75 @@
+-- What became of a message, and why.
+use Rattle.std.specs.Prelude.{◌≡◌, ℕ, Option, Some, None, List, [], ◌++◌, codes, take, drop, if◌then◌else◌}
+use Rattle.std.specs.Fmt.{decimal}
+use Rattle.am_check.specs.Cut.{place_of}
+use Rattle.am_check.specs.Follows.{IsBegun, IsEnded, ids_of}
+use Rattle.am_entry_lines.specs.Lines.{line_of}
+use Rattle.am_names.specs.declared.Cause.{Cause}
+use Rattle.am_names.specs.declared.Cause.TheVariants as Causes
+use Rattle.am_names.specs.declared.Serial.{Serial}
+use Rattle.am_office.specs.declared.Entry.{Entry}
+use Rattle.am_office.specs.declared.endings.Fate.{Fate}
+use Rattle.am_office.specs.declared.endings.Fate.TheVariants as Fates
+use Rattle.am_office.specs.Entries.{emitted_of}
+use Rattle.am_office.specs.Fates.{fate}
+use Rattle.am_plan.specs.declared.plan.PlanLine.{PlanLine}
+use Rattle.am_report.specs.Report.{report}
+use Rattle.am_scenario.specs.Laws.{Spells}
+use Rattle.am_scenario_types.specs.declared.parts.Form.{Form}
+use Rattle.am_scenario_types.specs.Lists.{ScenarioLists}
+use Rattle.am_text.specs.Words.{line, serial}
+use Rattle.am_lab_reasons.specs.Numbered.{numbered}
+use Rattle.am_lab_reasons.specs.Packets.{packet_line}
+use Rattle.am_lab_reasons.specs.Touches.{touches}
+
+-- an entry with the number of its line, and what became of the packet that it emits
+abbrev pub entry_lines : List PlanLine → List Entry → ℕ → Entry → List ℕ
+entry_lines plan journal number x = codes "line " ++ decimal number ++ codes " " ++ line_of x ++ packet_line plan journal (emitted_of x)
+
+-- an entry, if it touches a message
+abbrev pub touching_lines : List PlanLine → List Entry → Serial → ℕ → Entry → List ℕ
+touching_lines plan journal s number x = if touches s x then entry_lines plan journal number x else []
+
+-- why a message was returned
+unfoldable pub cause_text : Cause → List ℕ
+cause_text Causes.NoEndpoint = codes "returned: its destination was closed\n"
+cause_text Causes.NotResident = codes "returned: its destination was in no frame, as often as it may bounce\n"
+cause_text Causes.BadTag = codes "returned: its tag did not match that of its destination\n"
+cause_text Causes.BadHandler = codes "returned: its destination has no such handler\n"
+cause_text Causes.QueueFull = codes "returned: its destination had no room, as often as it may bounce\n"
+cause_text Causes.NoRequest = codes "returned: its destination awaits no reply to such a request\n"
+
+unfoldable pub fate_text : Fate → List ℕ
+fate_text Fates.Ran = codes "ran: a poll at its destination ran it\n"
+fate_text (Fates.Returned cause) = cause_text cause
+fate_text Fates.Unknown = codes "unknown: its last try timed out with no answer, and no poll ran it\n"
+fate_text Fates.UnknownButRan = codes "unknown-but-ran: its last try timed out with no answer, and a poll ran it\n"
+fate_text Fates.Pending = codes "pending: nothing came of it before the end of the journal\n"
+
+-- what became of a message at the end, if an entry accepts it
+abbrev pub end_text : Option Fate → List ℕ
+end_text None = codes "was never accepted\n"
+end_text (Some fate) = fate_text fate
+
+abbrev pub ending : Serial → Option Fate → List ℕ
+ending s fate = codes "message " ++ serial s ++ codes " " ++ end_text fate
+
+-- the lines of the report that touch a message, of which the journal's first is the third, and its fate
+abbrev pub reasons : List PlanLine → List Entry → Serial → List ℕ
+reasons plan journal s = numbered (touching_lines plan journal s) 3 journal ++ ending s (fate journal s)
+
+-- What is told of a message of the report of a scenario.
+pub record TellsOf (form : Form) (scenario : ScenarioLists) (bytes : List ℕ) (s : Serial) (out : List ℕ) : Type 0 where
+  pub journal : List Entry
+  pub begun : IsBegun form scenario journal
+  pub ended : IsEnded form scenario journal
+  pub report' : bytes ≡ report (ids_of scenario) journal
+  pub text : out ≡ reasons scenario.plan journal s
+
+-- What is told of a message of the report in a text: the report is that of a journal that follows the scenario in front of it.
+pub record Tells (form : Form) (text : List ℕ) (s : Serial) (out : List ℕ) : Type 0 where
+  pub place : ℕ
+  pub place' : place_of text ≡ Some place
+  pub scenario : ScenarioLists
+  pub spelled : Spells form (take place text) scenario
+  pub told : TellsOf form scenario (drop place text) s out

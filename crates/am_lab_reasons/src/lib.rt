@@ -1,0 +1,73 @@
+//! What became of a message of a report: each line that touches it, the packets that carried it and its answers, and its fate with
+//! its cause.
+#![tactic(auto)]
+
+ghost use Rattle.am_check.specs.Exact.{IsChecked};
+ghost use Rattle.am_check.specs.Verdict.{IsReportOf};
+ghost use Rattle.am_lab_reasons.specs.Reasons.{Tells, TellsOf, reasons};
+ghost use Rattle.am_scenario_types.specs.Lawful.{IsLawful};
+ghost use Rattle.am_scenario_types.specs.declared.parts.Form.{Form as Kind};
+ghost use Rattle.std.specs.Prelude.{◌≡◌, ◌<◌, ◌^◌, IfOk, length};
+
+mod packets;
+mod told;
+mod touches;
+
+use crate::told::put_reasons;
+use am_lab_journal::{place_of, reach_end};
+use am_machine::Cluster;
+use am_names::{NoMemory, Serial};
+use am_office::Journal;
+use am_scenario::{Form, PlanLine, Scenario, read};
+use std::alloc::Global;
+
+fn text_of(
+    alloc: Global,
+    plan: &[PlanLine],
+    journal: &Journal,
+    serial: Serial,
+) -> Result<Vec<u8>, NoMemory>
+    requires { length journal.now < 2 ^ 31 }
+    ensures { IfOk result (λ out. out.items ≡ reasons plan.now journal.now serial) }
+{
+    let mut out = Vec::new(alloc);
+    put_reasons(&mut out, plan, journal, serial)?;
+    Ok(out)
+}
+
+// What became of a message of the report of a scenario.
+fn reasons_of(
+    alloc: Global,
+    scenario: &Scenario,
+    bytes: &[u8],
+    serial: Serial,
+) -> Result<Vec<u8>, NoMemory>
+    requires few { length bytes.now < 2 ^ 31 }
+    requires lawful { IsLawful scenario.now }
+    requires report { (form : Kind) × IsReportOf form scenario.now bytes.now }
+    ensures { (form : Kind) → IsReportOf form scenario.now bytes.now → IfOk result (λ out. TellsOf form scenario.now bytes.now serial out.items) }
+{
+    let mut cluster = Cluster::new(alloc, scenario)?;
+    reach_end(&mut cluster, bytes)?;
+    let journal = cluster.journal(alloc)?;
+    text_of(alloc, &scenario.plan, &journal, serial)
+}
+
+/// What became of a message of the report in a text which is that of a journal that follows the scenario in front of it. Each entry
+/// that touches the message stands in a line `line N` and what the report prints, in order; behind one that emits a packet stands where
+/// that was received, or why it never was; and the last line tells the message's fate. A message that no entry accepts is told to be none.
+///
+/// `NoMemory` comes where there is none for the journal that is made again, or for the text.
+pub fn why(alloc: Global, form: Form, text: &[u8], serial: Serial) -> Result<Vec<u8>, NoMemory>
+    requires few { length text.now < 2 ^ 31 }
+    requires checked { IsChecked form text.now }
+    ensures { IfOk result (λ out. Tells form text.now serial out.items) }
+{
+    let Some(place) = place_of(text) else {
+        return Err(NoMemory);
+    };
+    match read(alloc, form, &text[..place]) {
+        Ok(scenario) => reasons_of(alloc, &scenario, &text[place..], serial),
+        Err(_) => Err(NoMemory),
+    }
+}

@@ -1,0 +1,140 @@
+//! What became of a message, and why.
+
+ghost use Rattle.am_lab_reasons.specs.Reasons.{cause_text, end_text, ending, entry_lines, fate_text, reasons, touching_lines};
+ghost use Rattle.am_lab_reasons.specs.Numbered.{numbered};
+ghost use Rattle.std.specs.Prelude.{◌≡◌, ◌<◌, ◌^◌, ◌++◌, OnOk, length};
+
+use crate::packets::put_packet;
+use crate::touches::touches;
+use am_entry_lines::entry_line;
+use am_iface::emitted_of;
+use am_names::{Cause, NoMemory, Serial};
+use am_office::{Entry, Fate, Journal, fate};
+use am_plan::PlanLine;
+use am_text::Piece::{Number, Text};
+use am_text::{Piece, put_word};
+use std::alloc::AllocError;
+
+// Appends an entry with the number of its line, and what became of the packet that it emits.
+#[tactic(auto, using(std::proofs::Common::append_assoc))]
+fn put_entry(
+    out: &mut Vec<u8>,
+    plan: &[PlanLine],
+    entries: &[Entry],
+    line: u64,
+    entry: &Entry,
+) -> Result<(), NoMemory>
+    requires { length entries.now < 2 ^ 31 }
+    ensures { OnOk result (out.new.items ≡ out.old.items ++ entry_lines plan.now entries.now line entry.now) }
+{
+    put_word(out, Text("line "))?;
+    put_word(out, Number(line))?;
+    put_word(out, Text(" "))?;
+    entry_line(entry, out)?;
+    put_packet(out, plan, entries, emitted_of(entry))?;
+    Ok(())
+}
+
+// Appends an entry, if it touches the message.
+fn put_touching(
+    out: &mut Vec<u8>,
+    plan: &[PlanLine],
+    entries: &[Entry],
+    serial: Serial,
+    line: u64,
+    entry: &Entry,
+) -> Result<(), NoMemory>
+    requires { length entries.now < 2 ^ 31 }
+    ensures { OnOk result (out.new.items ≡ out.old.items ++ touching_lines plan.now entries.now serial line entry.now) }
+{
+    if touches(serial, entry) {
+        put_entry(out, plan, entries, line, entry)
+    } else {
+        Ok(())
+    }
+}
+
+// Appends the entries that touch the message.
+fn put_touched(
+    out: &mut Vec<u8>,
+    plan: &[PlanLine],
+    entries: &[Entry],
+    serial: Serial,
+) -> Result<(), NoMemory>
+    requires { length entries.now < 2 ^ 31 }
+    ensures { OnOk result (out.new.items ≡ out.old.items ++ numbered (touching_lines plan.now entries.now serial) 3 entries.now) }
+{
+    let mut line: u64 = 3;
+    for entry in entries {
+        put_touching(out, plan, entries, serial, line, entry)?;
+        line += 1;
+    }
+    Ok(())
+}
+
+#[tactic(auto, unfolding(crate::specs::Reasons::cause_text))]
+fn cause_text(cause: Cause) -> &'static str
+    ensures { result.now ≡ cause_text cause }
+{
+    match cause {
+        Cause::NoEndpoint => "returned: its destination was closed\n",
+        Cause::NotResident => {
+            "returned: its destination was in no frame, as often as it may bounce\n"
+        }
+        Cause::BadTag => "returned: its tag did not match that of its destination\n",
+        Cause::BadHandler => "returned: its destination has no such handler\n",
+        Cause::QueueFull => "returned: its destination had no room, as often as it may bounce\n",
+        Cause::NoRequest => "returned: its destination awaits no reply to such a request\n",
+    }
+}
+
+#[tactic(auto, unfolding(crate::specs::Reasons::fate_text))]
+fn fate_text(fate: Fate) -> &'static str
+    ensures { result.now ≡ fate_text fate }
+{
+    match fate {
+        Fate::Ran => "ran: a poll at its destination ran it\n",
+        Fate::Returned(cause) => cause_text(cause),
+        Fate::Unknown => "unknown: its last try timed out with no answer, and no poll ran it\n",
+        Fate::UnknownButRan => {
+            "unknown-but-ran: its last try timed out with no answer, and a poll ran it\n"
+        }
+        Fate::Pending => "pending: nothing came of it before the end of the journal\n",
+    }
+}
+
+fn end_text(fate: Option<Fate>) -> &'static str
+    ensures { result.now ≡ end_text fate }
+{
+    match fate {
+        Some(fate) => fate_text(fate),
+        None => "was never accepted\n",
+    }
+}
+
+// Appends what became of the message at the end.
+#[tactic(auto, using(std::proofs::Common::append_assoc))]
+fn put_ending(out: &mut Vec<u8>, serial: Serial, fate: Option<Fate>) -> Result<(), AllocError>
+    ensures { OnOk result (out.new.items ≡ out.old.items ++ ending serial fate) }
+{
+    put_word(out, Text("message "))?;
+    put_word(out, Piece::Serial(serial))?;
+    put_word(out, Text(" "))?;
+    put_word(out, Text(end_text(fate)))
+}
+
+/// Appends the lines of a journal that touch a message, and its fate.
+#[tactic(auto, using(std::proofs::Common::append_assoc))]
+pub(crate) fn put_reasons(
+    out: &mut Vec<u8>,
+    plan: &[PlanLine],
+    journal: &Journal,
+    serial: Serial,
+) -> Result<(), NoMemory>
+    requires { length journal.now < 2 ^ 31 }
+    ensures { OnOk result (out.new.items ≡ out.old.items ++ reasons plan.now journal.now serial) }
+{
+    put_touched(out, plan, &journal.entries, serial)?;
+    put_ending(out, serial, fate(journal, serial))?;
+    Ok(())
+}
