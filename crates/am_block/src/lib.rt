@@ -20,6 +20,10 @@ use std::alloc::{AllocError, Global};
 use std::marker::Model;
 
 /// What is kept of a message.
+///
+/// ```
+/// block.get_mut(slot).used += 1;
+/// ```
 #[derive(Clone, Copy)]
 pub struct Descriptor {
     pub message: Message,
@@ -32,6 +36,10 @@ pub struct Descriptor {
 }
 
 /// The six lists of a block.
+///
+/// ```
+/// let is_full = block.len(List::Free) == 0;
+/// ```
 #[derive(Clone, Copy, PartialEq, Eq)]
 pub enum List {
     /// The slots that hold no message.
@@ -49,11 +57,22 @@ pub enum List {
 }
 
 /// The number of a descriptor in its block, from 0, below the block's size.
+///
+/// ```
+/// let message = block.get(Slot(3)).message;
+/// ```
 #[derive(Clone, Copy, PartialEq, Eq, Debug)]
 pub struct Slot(pub u8);
 
 /// Six lists in which each slot below the size stands once (`IsBlock` of `specs/Pools.antt`), and a descriptor for
 /// each slot. Each list is a ring of nodes through a head of its own, in one piece of memory.
+///
+/// ```
+/// let mut block = Block::new(alloc, 24)?;
+/// if let Some(slot) = block.move_front(List::Free, List::Requests) {
+///     block.get_mut(slot).message = message;
+/// }
+/// ```
 #[derive(Drop)]
 pub struct Block {
     nodes: Nodes,
@@ -164,6 +183,10 @@ impl Block {
     }
 
     /// A block of `size` descriptors, 1 to 128, all of them free. What a free descriptor holds is not said.
+    ///
+    /// ```
+    /// let mut block = Block::new(alloc, 24)?;
+    /// ```
     pub fn new(alloc: Global, size: u8) -> Result<Block, NoMemory>
         requires { (1 ≤ size) × (size ≤ 128) }
         ensures fresh { IfOk result (λ b. IsFresh b size) }
@@ -176,6 +199,10 @@ impl Block {
     }
 
     /// The number of slots in a list.
+    ///
+    /// ```
+    /// let waiting = block.len(List::Requests);
+    /// ```
     pub fn len(&self, list: List) -> u8
         ensures value { result ≡ length (slots self.now list) }
         ensures block { IsBlock self.now }
@@ -184,6 +211,12 @@ impl Block {
     }
 
     /// The first slot of a list.
+    ///
+    /// ```
+    /// if let Some(slot) = block.front(List::Requests) {
+    ///     send(block.get(slot).message);
+    /// }
+    /// ```
     pub fn front(&self, list: List) -> Option<Slot>
         ensures none { (result ≡ None) ↔ (slots self.now list ≡ []) }
         ensures slot { MatchOption result (slots self.now list ≡ []) (λ s. slots self.now list ≡ s.0 ∷ drop 1 (slots self.now list)) }
@@ -197,6 +230,10 @@ impl Block {
     }
 
     /// The slot right behind this one, in its list.
+    ///
+    /// ```
+    /// let second = block.front(List::Requests).and_then(|slot| block.after(slot));
+    /// ```
     pub fn after(&self, slot: Slot) -> Option<Slot>
         requires { slot.0 < size self.now }
         ensures none { (result ≡ None) ↔ IsLast slot.0 (slots self.now (home self.now slot.0)) }
@@ -212,6 +249,10 @@ impl Block {
     }
 
     /// Moves the first slot of one list to the tail of another, or of the same.
+    ///
+    /// ```
+    /// let taken = block.move_front(List::Free, List::Received);
+    /// ```
     pub fn move_front(&mut self, from: List, to: List) -> Option<Slot>
         ensures none { (result ≡ None) ↔ (slots self.old from ≡ []) }
         ensures slot { MatchOption result (slots self.old from ≡ []) (λ s. slots self.old from ≡ s.0 ∷ drop 1 (slots self.old from)) }
@@ -232,6 +273,10 @@ impl Block {
     }
 
     /// Takes a slot out of its list and appends it to another, or to the same.
+    ///
+    /// ```
+    /// block.move_slot(slot, List::Free);
+    /// ```
     pub fn move_slot(&mut self, slot: Slot, to: List)
         requires { slot.0 < size self.old }
         ensures moved { self.new ≡ moved self.old (home self.old slot.0) slot.0 to }
@@ -249,6 +294,10 @@ impl Block {
     }
 
     /// The descriptor of a slot.
+    ///
+    /// ```
+    /// let message = block.get(slot).message;
+    /// ```
     pub fn get(&self, slot: Slot) -> &Descriptor
         requires { slot.0 < size self.now }
         ensures { slice_get self.now.descriptors slot.0 ≡ Some result.now }
@@ -257,6 +306,10 @@ impl Block {
     }
 
     /// The descriptor of a slot, to be written to. The lists and the other descriptors stay as they are.
+    ///
+    /// ```
+    /// block.get_mut(slot).answered = true;
+    /// ```
     pub fn get_mut(&mut self, slot: Slot) -> &mut Descriptor
         requires { slot.0 < size self.old }
         ensures* writes_back { sem 𝓛 (LendsDescriptor self.entry slot.0 result) }

@@ -6,6 +6,11 @@ use crate::receiving::RecvEnd;
 use crate::sending::SendEnd;
 
 /// The ends that a node keeps of a channel: the sending end to the peer, and the receiving end from it.
+///
+/// ```
+/// let mut ends = Ends::new();
+/// let sent = ends.sending.bind(message, slot);
+/// ```
 #[derive(Clone, Copy, PartialEq, Eq, Debug)]
 pub struct Ends {
     pub sending: SendEnd,
@@ -14,6 +19,10 @@ pub struct Ends {
 
 impl Ends {
     /// Ends on which nothing was bound and nothing decided.
+    ///
+    /// ```
+    /// let ends = Ends::new();
+    /// ```
     pub fn new() -> Ends
         ensures { result ≡ new_ends }
     {

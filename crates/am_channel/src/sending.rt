@@ -7,6 +7,10 @@ use am_names::{AnswerPacket, Message, Verdict};
 use std::marker::Model;
 
 /// A message that is bound to a channel.
+///
+/// ```
+/// let tries = end.busy().map(|bound| bound.attempt);
+/// ```
 #[derive(Clone, Copy, PartialEq, Eq, Debug)]
 pub struct Bound {
     pub message: Message,
@@ -17,6 +21,11 @@ pub struct Bound {
 }
 
 /// The numbers of a packet that a sending end emits.
+///
+/// ```
+/// let sent = end.bind(message, slot);
+/// emit(sent);
+/// ```
 #[derive(Clone, Copy, PartialEq, Eq, Debug)]
 pub struct Sent {
     /// The number of the binding, from 1.
@@ -26,6 +35,13 @@ pub struct Sent {
 }
 
 /// What comes of a time-out.
+///
+/// ```
+/// match end.time_out(16) {
+///     TimedOut::Resend(sent) => emit(sent),
+///     TimedOut::GaveUp(bound) => give_up(bound),
+/// }
+/// ```
 #[derive(Clone, Copy, PartialEq, Eq, Debug)]
 pub enum TimedOut {
     /// The bound message is sent again, by these numbers.
@@ -35,6 +51,12 @@ pub enum TimedOut {
 }
 
 /// What comes of an answer.
+///
+/// ```
+/// if let Settled::Done(bound, verdict) = end.answer(&packet) {
+///     settle(bound.slot, verdict);
+/// }
+/// ```
 #[derive(Clone, Copy, PartialEq, Eq, Debug)]
 pub enum Settled {
     /// This message got this verdict, and is bound no more.
@@ -45,6 +67,11 @@ pub enum Settled {
 
 /// The sending end of a channel. Contracts see it as a `SendView`: its sequence, which is how often it was bound, and
 /// the message that is bound, if one is.
+///
+/// ```
+/// let mut end = SendEnd::new();
+/// let sent = end.bind(message, slot);
+/// ```
 #[derive(Clone, Copy, PartialEq, Eq, Debug)]
 pub struct SendEnd {
     seq: u32,
@@ -63,6 +90,10 @@ impl Model for SendEnd {
 
 impl SendEnd {
     /// An end that was never bound.
+    ///
+    /// ```
+    /// let mut end = SendEnd::new();
+    /// ```
     pub fn new() -> SendEnd
         ensures { result ≡ record { seq = 0; bound = None } }
     {
@@ -73,6 +104,10 @@ impl SendEnd {
     }
 
     /// The message that is bound. None exactly where the end is idle.
+    ///
+    /// ```
+    /// let is_free = end.busy().is_none();
+    /// ```
     pub fn busy(&self) -> Option<Bound>
         ensures bound { result ≡ self.now.bound }
         ensures idle { (result ≡ None) ↔ IsNone self.now.bound }
@@ -81,6 +116,10 @@ impl SendEnd {
     }
 
     /// The sequence: how often it was bound.
+    ///
+    /// ```
+    /// let sequence = end.seq();
+    /// ```
     pub fn seq(&self) -> u32
         ensures { result ≡ self.now.seq }
     {
@@ -88,6 +127,12 @@ impl SendEnd {
     }
 
     /// Binds a message under the next sequence, for its first try.
+    ///
+    /// ```
+    /// if end.busy().is_none() {
+    ///     emit(end.bind(message, slot));
+    /// }
+    /// ```
     pub fn bind(&mut self, message: Message, slot: Slot) -> Sent
         requires idle { IsNone self.old.bound }
         requires room { self.old.seq < 2 ^ 32 - 1 }
@@ -108,6 +153,12 @@ impl SendEnd {
 
     /// Takes notice that no answer came in time. The next try goes out where fewer than `tries` are used, and else the
     /// message is given up and the end is idle.
+    ///
+    /// ```
+    /// if end.busy().is_some() {
+    ///     let timed_out = end.time_out(16);
+    /// }
+    /// ```
     pub fn time_out(&mut self, tries: u8) -> TimedOut
         requires busy { IsSome self.old.bound }
         ensures timed_out { IfSome self.old.bound (λ b. result ≡ timed_out tries self.old.seq b) }
@@ -133,6 +184,10 @@ impl SendEnd {
     /// Takes an answer. One that accepts counts where it is to the current sequence of a bound message, on whatever
     /// attempt; one that refuses counts where its attempt is the current one too. Where it counts the end is idle after
     /// it, and else as it was.
+    ///
+    /// ```
+    /// let settled = end.answer(&packet);
+    /// ```
     pub fn answer(&mut self, packet: &AnswerPacket) -> Settled
         ensures settled { result ≡ settled self.old packet.now }
         ensures nothing { (result ≡ Settled.Nothing) ↔ CountsForNothing self.old packet.now }

@@ -31,6 +31,7 @@ pub struct HoldingGate<'a> {
 }
 
 impl<'a> HoldingGate<'a> {
+    /// A gate with these holds, to which no worker has come.
     pub fn new(holds: &'a [Hold]) -> HoldingGate<'a> {
         HoldingGate {
             holds,
@@ -101,6 +102,7 @@ pub struct StepGate<'a, C: Clock> {
 }
 
 impl<'a, C: Clock> StepGate<'a, C> {
+    /// A gate for so many workers, which none has passed.
     pub fn new(clock: &'a C, workers: u64) -> StepGate<'a, C> {
         StepGate {
             clock,

@@ -33,6 +33,7 @@ const FIRST_FIVE: &str =
     "t0 handler 1 1 note -> ok\nt0 map 0 0 1 7 1 -> ok\nt0 request 0 0 1 9 0 0 0 -> ok 0.1\n\
     d0 load 0 0\ni0 bind 0 -> sent 0.1 0 0 1 0 1\n";
 
+/// A worker is held in its turn until another has come to one of its own.
 pub const fn hold(worker: u32, turn: u32, other: u32, its_turn: u32) -> Hold {
     Hold {
         held: Moment { worker, turn },

@@ -36,6 +36,7 @@ impl Held {
         }
     }
 
+    /// What stays in memory of the endpoint, wherever it is.
     pub fn head(&self) -> Head
         ensures { result ≡ head_of self.now }
     {

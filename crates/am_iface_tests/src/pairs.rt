@@ -55,6 +55,7 @@ fn number_of(packet: &Packet) -> u32 {
     }
 }
 
+/// The node of a side.
 pub fn node_of(side: Side) -> NodeId {
     match side {
         Side::Near => NodeId(0),
@@ -62,10 +63,12 @@ pub fn node_of(side: Side) -> NodeId {
     }
 }
 
+/// The endpoint of a side.
 pub fn end_of(side: Side) -> EndpointId {
     EndpointId(node_of(side).0)
 }
 
+/// The other side.
 pub fn other(side: Side) -> Side {
     match side {
         Side::Near => Side::Far,

@@ -26,6 +26,7 @@ pub fn printed_number(word: &[u8]) -> Option<u64>
     }
 }
 
+/// The number that a word prints, where it is at most 255.
 #[tactic(auto, unfolding(crate::specs::Reading::number_up_to))]
 pub fn byte_of(word: &[u8]) -> Option<u8>
     ensures { result ≡ number_up_to 255 word.now }
@@ -57,6 +58,7 @@ fn long_of(word: &[u8]) -> Option<u64>
     printed_number(word)
 }
 
+/// A number up to 255, and what comes behind it. `None` where no such word comes next.
 #[tactic(auto, unfolding(crate::specs::Reading::byte_at, crate::specs::Reading::number_at, crate::specs::Reading::word_at))]
 pub fn take_byte(rest: &[u8]) -> Option<(u8, &[u8])>
     ensures { Gives (λ found. (found.0, words_behind found.1.now)) result (byte_at (words_behind rest.now)) }
@@ -65,6 +67,7 @@ pub fn take_byte(rest: &[u8]) -> Option<(u8, &[u8])>
     Some((byte_of(word)?, rest))
 }
 
+/// A number of 32 bits, and what comes behind it. `None` where no such word comes next.
 #[tactic(auto, unfolding(crate::specs::Reading::count_at, crate::specs::Reading::number_at, crate::specs::Reading::word_at))]
 pub fn take_count(rest: &[u8]) -> Option<(u32, &[u8])>
     ensures { Gives (λ found. (found.0, words_behind found.1.now)) result (count_at (words_behind rest.now)) }
@@ -73,6 +76,7 @@ pub fn take_count(rest: &[u8]) -> Option<(u32, &[u8])>
     Some((count_of(word)?, rest))
 }
 
+/// A number of 64 bits, and what comes behind it. `None` where no such word comes next.
 #[tactic(auto, unfolding(crate::specs::Reading::long_at, crate::specs::Reading::number_at, crate::specs::Reading::word_at))]
 pub fn take_long(rest: &[u8]) -> Option<(u64, &[u8])>
     ensures { Gives (λ found. (found.0, words_behind found.1.now)) result (long_at (words_behind rest.now)) }
@@ -81,6 +85,7 @@ pub fn take_long(rest: &[u8]) -> Option<(u64, &[u8])>
     Some((long_of(word)?, rest))
 }
 
+/// An endpoint by its number, and what comes behind it. `None` where no such word comes next.
 #[tactic(auto, unfolding(crate::specs::Reading::end_at))]
 pub fn take_end(rest: &[u8]) -> Option<(EndpointId, &[u8])>
     ensures { Gives (λ found. (found.0, words_behind found.1.now)) result (end_at (words_behind rest.now)) }
@@ -89,6 +94,7 @@ pub fn take_end(rest: &[u8]) -> Option<(EndpointId, &[u8])>
     Some((EndpointId(number), rest))
 }
 
+/// A node by its number, and what comes behind it. `None` where no such word comes next.
 #[tactic(auto, unfolding(crate::specs::Reading::node_at))]
 pub fn take_node(rest: &[u8]) -> Option<(NodeId, &[u8])>
     ensures { Gives (λ found. (found.0, words_behind found.1.now)) result (node_at (words_behind rest.now)) }
@@ -115,6 +121,7 @@ fn tag_of(word: &[u8]) -> Option<Tag>
     }
 }
 
+/// A tag, and what comes behind it. `None` where no such word comes next.
 #[tactic(auto, unfolding(crate::specs::Reading::tag_at, crate::specs::Reading::word_at))]
 pub fn take_tag(rest: &[u8]) -> Option<(Tag, &[u8])>
     ensures { Gives (λ found. (found.0, words_behind found.1.now)) result (tag_at (words_behind rest.now)) }
@@ -142,6 +149,7 @@ fn serial_of(word: &[u8]) -> Option<Serial>
     })
 }
 
+/// A serial, and what comes behind it. `None` where no such word comes next.
 #[tactic(auto, unfolding(crate::specs::Reading::serial_at, crate::specs::Reading::word_at))]
 pub fn take_serial(rest: &[u8]) -> Option<(Serial, &[u8])>
     ensures { Gives (λ found. (found.0, words_behind found.1.now)) result (serial_at (words_behind rest.now)) }

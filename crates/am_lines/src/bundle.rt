@@ -18,6 +18,7 @@ use am_office::Mask;
 use am_scenario_types::Bundle;
 use std::alloc::Global;
 
+/// An event mask, and what comes behind it.
 #[tactic(auto, unfolding(crate::specs::Declarations::mask_at))]
 pub fn take_mask(rest: &[u8]) -> Result<(Mask, &[u8]), What>
     ensures { Gives (λ found. (found.0, words_of found.1.now)) result (mask_at (words_of rest.now)) }
@@ -81,6 +82,7 @@ fn has_bundle(draft: &Draft, id: u8) -> bool
     draft.bundle_of(u64::from(id)).is_some()
 }
 
+/// The line of a bundle, behind its first word, or its first fault. `NoMemory` comes only for want of memory.
 #[tactic(auto, unfolding(crate::specs::Declarations::bundle_line))]
 pub fn bundle_line(alloc: Global, draft: &Draft, rest: &[u8]) -> Result<Line, LineFault>
     ensures { Yields (λ line. line) result (bundle_line (said draft.now) (words_of rest.now)) }

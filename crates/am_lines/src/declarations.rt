@@ -30,6 +30,7 @@ fn take_disk<'a>(draft: &Draft, rest: &'a [u8]) -> Result<(bool, &'a [u8]), What
     }
 }
 
+/// The line that declares an endpoint, behind its first word, or its first fault.
 #[tactic(auto, unfolding(crate::specs::Declarations::endpoint_line))]
 pub fn endpoint_line(draft: &Draft, rest: &[u8]) -> Result<Line, What>
     ensures { Gives (λ line. line) result (endpoint_line (said draft.now) (words_of rest.now)) }
@@ -53,6 +54,7 @@ pub fn endpoint_line(draft: &Draft, rest: &[u8]) -> Result<Line, What>
     }))
 }
 
+/// The line that declares a thread, behind its first word, or its first fault.
 #[tactic(auto, unfolding(crate::specs::Declarations::thread_line))]
 pub fn thread_line(draft: &Draft, rest: &[u8]) -> Result<Line, What>
     ensures { Gives (λ line. line) result (thread_line (said draft.now) (words_of rest.now)) }
@@ -86,6 +88,7 @@ fn take_link_fault(rest: &[u8]) -> Result<(LinkFault, &[u8]), What>
     }
 }
 
+/// A line of the plan, behind its first word, or its first fault.
 #[tactic(auto, unfolding(crate::specs::Declarations::plan_line))]
 pub fn plan_line(draft: &Draft, rest: &[u8]) -> Result<Line, What>
     ensures { Gives (λ line. line) result (plan_line (said draft.now) (words_of rest.now)) }
@@ -109,6 +112,7 @@ pub fn plan_line(draft: &Draft, rest: &[u8]) -> Result<Line, What>
     }))
 }
 
+/// The line of a fault of a swap device, behind its first word, or its first fault.
 #[tactic(auto, unfolding(crate::specs::Declarations::swap_fault_line))]
 pub fn swap_fault_line(draft: &Draft, rest: &[u8]) -> Result<Line, What>
     ensures { Gives (λ line. line) result (swap_fault_line (said draft.now) (words_of rest.now)) }

@@ -12,6 +12,7 @@ use am_lexer::{What, parse_number, take_number, take_word};
 use am_names::{EndpointId, NodeId, Serial, Tag};
 use am_scenario_types::{Bundle, EndLine};
 
+/// A number below a limit, and what comes behind it.
 #[inline(always)]
 #[tactic(auto, unfolding(crate::specs::Places::below))]
 pub fn take_below(limit: u8, rest: &[u8]) -> Result<(u8, &[u8]), What>
@@ -25,6 +26,7 @@ pub fn take_below(limit: u8, rest: &[u8]) -> Result<(u8, &[u8]), What>
     }
 }
 
+/// A node of the cluster, and what comes behind it.
 #[tactic(auto, unfolding(crate::specs::Places::node_at))]
 pub fn take_node<'a>(settings: &Settings, rest: &'a [u8]) -> Result<(NodeId, &'a [u8]), What>
     ensures { Gives (λ found. (found.0, words_of found.1.now)) result (node_at settings.now (words_of rest.now)) }
@@ -59,6 +61,7 @@ pub fn end_word(draft: &Draft, wanted: Option<NodeId>, word: &[u8]) -> Result<En
     declared_end(draft, wanted, id)
 }
 
+/// A declared endpoint, at the node that is wanted if one is, and what comes behind it.
 #[inline(always)]
 #[tactic(auto, using(crate::proofs::Ends::by_number))]
 pub fn take_end_of<'a>(
@@ -108,6 +111,7 @@ pub fn take_bundle<'a, 'b>(
     }
 }
 
+/// A tag, and what comes behind it.
 #[tactic(auto, unfolding(crate::specs::Places::tag_at))]
 pub fn take_tag(rest: &[u8]) -> Result<(Tag, &[u8]), What>
     ensures { Gives (λ found. (found.0, words_of found.1.now)) result (tag_at (words_of rest.now)) }
@@ -148,6 +152,7 @@ fn serial_of(word: &[u8]) -> Option<Serial>
     }
 }
 
+/// A serial, and what comes behind it.
 #[tactic(auto, unfolding(crate::specs::Places::serial_at))]
 pub fn take_serial(rest: &[u8]) -> Result<(Serial, &[u8]), What>
     ensures { Gives (λ found. (found.0, words_of found.1.now)) result (serial_at (words_of rest.now)) }

@@ -83,6 +83,7 @@ fn thread_call_line(
     }
 }
 
+/// A line of a thread's script, behind its first word, or its first fault. `NoMemory` comes only for want of memory.
 #[tactic(auto, unfolding(crate::specs::Script::script_line))]
 pub fn script_line(
     alloc: Global,

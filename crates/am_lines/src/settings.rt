@@ -21,6 +21,7 @@ fn version_of(number: u8) -> Version
     }
 }
 
+/// The line of the version, behind its first word, or its first fault.
 #[tactic(auto, unfolding(crate::specs::Settings::version_line))]
 pub fn version_line(draft: &Draft, rest: &[u8]) -> Result<Line, What>
     ensures { Gives (λ line. line) result (version_line (said draft.now) (words_of rest.now)) }

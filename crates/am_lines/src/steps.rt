@@ -27,6 +27,7 @@ fn step(draft: &Draft, event: Event, rest: &[u8]) -> Result<Line, What>
     }
 }
 
+/// A step that no node makes, behind its first word, or its first fault.
 #[tactic(auto, unfolding(crate::specs::Steps::outside_line))]
 pub fn outside_line(draft: &Draft, rest: &[u8]) -> Result<Line, What>
     ensures { Gives (λ line. line) result (outside_line (said draft.now) (words_of rest.now)) }
@@ -89,6 +90,7 @@ fn head_node(draft: &Draft, number: u64) -> Result<NodeId, What>
     }
 }
 
+/// A step of an interface, behind its first word, or its first fault.
 #[tactic(auto, unfolding(crate::specs::Steps::interface_line))]
 pub fn interface_line(draft: &Draft, number: u64, rest: &[u8]) -> Result<Line, What>
     ensures { Gives (λ line. line) result (interface_line (said draft.now) number (words_of rest.now)) }
@@ -138,6 +140,7 @@ fn drive_line(draft: &Draft, node: NodeId, verb: &[u8], rest: &[u8]) -> Result<L
     }
 }
 
+/// A step of a driver, behind its first word, or its first fault.
 #[tactic(auto, unfolding(crate::specs::Steps::driver_line))]
 pub fn driver_line(draft: &Draft, number: u64, rest: &[u8]) -> Result<Line, What>
     ensures { Gives (λ line. line) result (driver_line (said draft.now) number (words_of rest.now)) }

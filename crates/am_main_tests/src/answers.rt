@@ -19,6 +19,7 @@ pub struct Answer {
     pub write_faults: u64,
 }
 
+/// The words of a line, by its spaces.
 pub fn words_of(alloc: Global, line: &str) -> Result<Vec<String>, AllocError> {
     let mut words = Vec::new(alloc);
     for word in line.split(' ') {
@@ -37,6 +38,7 @@ fn fails_of(alloc: Global, device: Device) -> Result<Vec<u32>, AllocError> {
     Ok(fails)
 }
 
+/// What the program answers to these words and this text, over a source and a sink that may fail.
 pub fn answer_of<R: Threads + Sync>(
     rt: &R,
     alloc: Global,
@@ -87,8 +89,10 @@ pub fn ends_so<R: Threads + Sync>(
     wanted: Ending,
 ) -> Result<bool, AllocError> {
     let answer = answer_of(rt, alloc, line, text, devices.0, devices.1)?;
-    Ok(answer.status == wanted.status
-        && answer.printed.as_slice() == wanted.printed.as_bytes()
-        && answer.read_faults == wanted.read_faults
-        && answer.write_faults == wanted.write_faults)
+    Ok(
+        answer.status == wanted.status
+            && answer.printed.as_slice() == wanted.printed.as_bytes()
+            && answer.read_faults == wanted.read_faults
+            && answer.write_faults == wanted.write_faults,
+    )
 }

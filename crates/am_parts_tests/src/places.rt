@@ -21,6 +21,7 @@ pub fn entry_of(event: Event, outcome: Outcome) -> Entry
     }
 }
 
+/// Puts an endpoint that lies on the host into a frame: whether it did.
 pub fn load(end: &mut Endpoint) -> bool
     ensures { end.new.settings ≡ end.old.settings }
 {

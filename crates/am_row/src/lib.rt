@@ -15,6 +15,10 @@ use std::marker::{Model, PhantomData, Send, Sync};
 use std::mem::{align_of, size_of};
 
 /// Where a row begins. It owns nothing.
+///
+/// ```
+/// let spot = row.pointer(base, 0);
+/// ```
 pub struct Base<T> {
     pub ptr: *mut T,
 }
@@ -36,6 +40,11 @@ unsafe impl<T> Send for Base<T> {}
 unsafe impl<T> Sync for Base<T> {}
 
 /// Where a place lies. It owns nothing, and names no type, so that an item may hold the spots of others.
+///
+/// ```
+/// let spot = row.pointer(base, 2);
+/// row.fill(spot, 2, item);
+/// ```
 #[derive(Clone, Copy)]
 pub struct Spot {
     pub ptr: *mut u8,
@@ -46,6 +55,11 @@ unsafe impl Send for Spot {}
 unsafe impl Sync for Spot {}
 
 /// The owner of the places and of the items in them. It takes no space: who holds it keeps the base and the length.
+///
+/// ```
+/// row.write(base, 0, item);
+/// let found = row.get(base, 0);
+/// ```
 pub struct Row<T> {
     mark: PhantomData<*const T>,
     pub ghost at: { Ptr },
@@ -63,6 +77,10 @@ unsafe impl<T: Send> Send for Row<T> {}
 unsafe impl<T: Sync> Sync for Row<T> {}
 
 /// The right to give the memory of `len` places at `at` back to `alloc`, once. It takes no space.
+///
+/// ```
+/// deallocate(&alloc, base, 8, row, deed);
+/// ```
 pub struct Deed<T, A: Allocator> {
     mark: PhantomData<*const (T, A)>,
     pub ghost at: { Ptr },
@@ -82,6 +100,10 @@ unsafe impl<T, A: Allocator + Send> Send for Deed<T, A> {}
 unsafe impl<T, A: Allocator> Sync for Deed<T, A> {}
 
 /// Takes memory for `len` places, all empty. `Err` says that there was none.
+///
+/// ```
+/// let (base, mut row, deed) = allocate::<u32, Global>(&alloc, 8)?;
+/// ```
 pub fn allocate<T, A: Allocator>(
     alloc: &A,
     len: usize,
@@ -102,6 +124,10 @@ pub fn allocate<T, A: Allocator>(
 }
 
 /// Gives the memory of a row back, whose places are all empty.
+///
+/// ```
+/// deallocate(&alloc, base, 8, row, deed);
+/// ```
 pub fn deallocate<T, A: Allocator>(
     alloc: &A,
     base: Base<T>,
@@ -122,6 +148,10 @@ impl<T> Row<T> {
     ghost use Rattle.am_row.specs.Lends.{LendsItem};
 
     /// Where place `index` lies.
+    ///
+    /// ```
+    /// let spot = row.pointer(base, 2);
+    /// ```
     pub fn pointer(&self, base: Base<T>, index: usize) -> Spot
         requires { (base.ptr ≡ self.now.at) × (index < length self.now.places) }
         ensures { result.ptr ≡ place_at T.row self.now.at index }
@@ -132,6 +162,10 @@ impl<T> Row<T> {
     }
 
     /// Moves an item into place `index`, which lies at the spot and is empty.
+    ///
+    /// ```
+    /// row.fill(spot, 2, item);
+    /// ```
     pub fn fill(&mut self, spot: Spot, index: usize, item: T)
         requires { (spot.ptr ≡ place_at T.row self.old.at index) × (index < length self.old.places) × (get_or self.old.places index None ≡ None) }
         ensures { (self.new.at ≡ self.old.at) × (self.new.places ≡ slice_set self.old.places index (Some item)) }
@@ -141,6 +175,10 @@ impl<T> Row<T> {
     }
 
     /// Moves the item out of place `index`, which lies at the spot.
+    ///
+    /// ```
+    /// let item = row.take(spot, 2);
+    /// ```
     pub fn take(&mut self, spot: Spot, index: usize) -> T
         requires { (spot.ptr ≡ place_at T.row self.old.at index) × IsFilled self.old.places index }
         ensures item { get_or self.old.places index None ≡ Some result }
@@ -151,6 +189,10 @@ impl<T> Row<T> {
     }
 
     /// The item of place `index`, which lies at the spot.
+    ///
+    /// ```
+    /// let item = row.follow(spot, 2);
+    /// ```
     pub fn follow(&self, spot: Spot, index: usize) -> &T
         requires { (spot.ptr ≡ place_at T.row self.now.at index) × IsFilled self.now.places index }
         ensures { get_or self.now.places index None ≡ Some result.now }
@@ -160,6 +202,10 @@ impl<T> Row<T> {
     }
 
     /// The item of place `index`, which lies at the spot, to be written to.
+    ///
+    /// ```
+    /// *row.follow_mut(spot, 2) = item;
+    /// ```
     pub fn follow_mut(&mut self, spot: Spot, index: usize) -> &mut T
         requires { (spot.ptr ≡ place_at T.row self.old.at index) × IsFilled self.old.places index }
         ensures* writes_back { sem 𝓛 (LendsItem T.row self.entry index result) }
@@ -170,6 +216,10 @@ impl<T> Row<T> {
     }
 
     /// The item of place `index`.
+    ///
+    /// ```
+    /// let item = row.get(base, 2);
+    /// ```
     pub fn get(&self, base: Base<T>, index: usize) -> &T
         requires { (base.ptr ≡ self.now.at) × IsFilled self.now.places index }
         ensures { get_or self.now.places index None ≡ Some result.now }
@@ -178,6 +228,10 @@ impl<T> Row<T> {
     }
 
     /// The item of place `index`, to be written to.
+    ///
+    /// ```
+    /// *row.get_mut(base, 2) = item;
+    /// ```
     pub fn get_mut(&mut self, base: Base<T>, index: usize) -> &mut T
         requires { (base.ptr ≡ self.old.at) × IsFilled self.old.places index }
         ensures* writes_back { sem 𝓛 (LendsItem T.row self.entry index result) }
@@ -188,6 +242,10 @@ impl<T> Row<T> {
     }
 
     /// Moves an item into place `index`, which is empty.
+    ///
+    /// ```
+    /// row.write(base, 2, item);
+    /// ```
     pub fn write(&mut self, base: Base<T>, index: usize, item: T)
         requires { (base.ptr ≡ self.old.at) × (index < length self.old.places) × (get_or self.old.places index None ≡ None) }
         ensures { (self.new.at ≡ self.old.at) × (self.new.places ≡ slice_set self.old.places index (Some item)) }
@@ -197,6 +255,10 @@ impl<T> Row<T> {
     }
 
     /// Moves the item out of place `index`.
+    ///
+    /// ```
+    /// let item = row.read(base, 2);
+    /// ```
     pub fn read(&mut self, base: Base<T>, index: usize) -> T
         requires { (base.ptr ≡ self.old.at) × IsFilled self.old.places index }
         ensures item { get_or self.old.places index None ≡ Some result }

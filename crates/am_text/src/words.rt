@@ -5,6 +5,7 @@ ghost use Rattle.am_text.specs.Words as text;
 
 use am_names::{Cause, MsgKind, Verdict, Why};
 
+/// The word of a cause.
 #[tactic(auto, unfolding(crate::specs::Words::cause))]
 pub fn cause_word(cause: Cause) -> &'static str
     ensures { result.now ≡ text.cause cause }
@@ -19,6 +20,7 @@ pub fn cause_word(cause: Cause) -> &'static str
     }
 }
 
+/// The word of a verdict, or of its cause.
 #[tactic(auto, unfolding(crate::specs::Words::verdict))]
 pub fn verdict_word(verdict: Verdict) -> &'static str
     ensures { result.now ≡ text.verdict verdict }
@@ -29,6 +31,7 @@ pub fn verdict_word(verdict: Verdict) -> &'static str
     }
 }
 
+/// The word of a reason for which a message came back.
 #[tactic(auto, unfolding(crate::specs::Words::why))]
 pub fn why_word(why: Why) -> &'static str
     ensures { result.now ≡ text.why why }
@@ -39,6 +42,7 @@ pub fn why_word(why: Why) -> &'static str
     }
 }
 
+/// The word of a message's kind.
 #[tactic(auto, unfolding(crate::specs::Words::kind))]
 pub fn kind_word(kind: MsgKind) -> &'static str
     ensures { result.now ≡ text.kind kind }
