@@ -6,7 +6,8 @@ use am_lexer::What;
 use am_names::{AnswerPacket, EndpointId, NodeId, Packet, Tag, Verdict};
 use am_office::{Call, Mask};
 use am_scenario::{
-    Form, LinkFault, Network, PlanLine, ReadFault, Readiness, Scenario, generate, read, shape,
+    Bundle, EndLine, FaultLine, Form, LinkFault, Network, PlanLine, ReadFault, Readiness, Scenario,
+    ScriptCall, ThreadLine, generate, read, shape,
 };
 use std::alloc::Global;
 use std::fmt::Write;
@@ -139,69 +140,124 @@ fn one_line_too_many(rt: HostRuntime) -> Result<(), Fail> {
 const VERSION_2: &str =
     "am2 2\nnetwork packet\nnodes 2\ntries 5\npool 3\nendpoint 7 1 all disk\nendpoint 2 0 none\nbundle 1 notempty 2\nthread 9 1\nthread 3 0\nplan 0 1 4 late 2\nswapfault 1 6\nt3 pollb 1\nt3 eventb 1\nt9 map 7 0 2 5 0\n";
 
+// Whether the settings are those of `VERSION_2`.
+fn has_settings(run: &Scenario) -> bool {
+    run.network == Network::Packet
+        && (run.nodes, run.frames, run.channels, run.tries) == (2, 16, 1, 5)
+        && (run.bounces, run.pool, run.keep) == (4, Some(3), 64)
+        && (run.log, run.turns) == (65_536, 0)
+}
+
 #[test]
-fn a_run_of_version_2(rt: HostRuntime) {
+fn settings_of_version_2(rt: HostRuntime) {
     let Some(run) = spelled(rt.alloc(), Form::Run, VERSION_2) else {
         assert!(rt; false, "refused");
         return;
     };
-    assert!(rt; run.network == Network::Packet);
-    assert!(rt; (run.nodes, run.frames, run.channels, run.tries) == (2, 16, 1, 5));
-    assert!(rt; (run.bounces, run.pool, run.keep) == (4, Some(3), 64));
-    assert!(rt; (run.log, run.turns) == (65_536, 0));
-    let mut ends = run
-        .ends
-        .iter()
-        .map(|end| (end.id.0, end.node.0, end.tag.0, end.disk));
-    assert!(rt; ends.next() == Some((2, 0, 0, false)));
-    assert!(rt; ends.next() == Some((7, 1, u64::MAX, true)));
-    let mut threads = run.threads.iter().map(|thread| (thread.id, thread.node.0));
-    assert!(rt; threads.next() == Some((3, 0)));
-    assert!(rt; threads.next() == Some((9, 1)));
-    assert!(rt; (run.plan.len(), run.faults.len(), run.steps.len()) == (1, 1, 0));
-    let mut plan = run
-        .plan
-        .iter()
-        .map(|line| (line.from.0, line.to.0, line.number));
-    assert!(rt; plan.next() == Some((0, 1, 4)));
-    let mut faults = run.faults.iter().map(|line| (line.node.0, line.number));
-    assert!(rt; faults.next() == Some((1, 6)));
-    let mut script = run
-        .script
-        .iter()
-        .map(|made| (made.thread, made.endpoint.0, made.call));
-    assert!(rt; script.next() == Some((3, 2, Call::Poll)));
-    assert!(rt; script.next() == Some((3, 2, Call::Test(Mask::NotEmpty))));
+    assert!(rt; has_settings(&run));
+}
+
+fn end_line(id: u8, node: u8, tag: u64, disk: bool) -> EndLine {
+    EndLine {
+        id: EndpointId(id),
+        node: NodeId(node),
+        tag: Tag(tag),
+        disk,
+    }
+}
+
+fn thread_line(id: u8, node: u8) -> ThreadLine {
+    let node = NodeId(node);
+    ThreadLine { id, node }
+}
+
+// Whether what is declared is what `VERSION_2` declares, in ascending order.
+fn has_declarations(run: &Scenario) -> bool {
+    let ends = [end_line(2, 0, 0, false), end_line(7, 1, u64::MAX, true)];
+    let threads = [thread_line(3, 0), thread_line(9, 1)];
+    run.ends.as_slice() == ends.as_slice() && run.threads.as_slice() == threads.as_slice()
+}
+
+// Whether the plan and the failing page call are those of `VERSION_2`.
+fn has_plans(run: &Scenario) -> bool {
+    let plan = [plan_line(4, LinkFault::Late(2))];
+    let (node, number) = (NodeId(1), 6);
+    let faults = [FaultLine { node, number }];
+    run.plan.as_slice() == plan.as_slice() && run.faults.as_slice() == faults.as_slice()
+}
+
+#[test]
+fn declarations_of_version_2(rt: HostRuntime) {
+    let Some(run) = spelled(rt.alloc(), Form::Run, VERSION_2) else {
+        assert!(rt; false, "refused");
+        return;
+    };
+    assert!(rt; has_declarations(&run));
+    assert!(rt; has_plans(&run));
+}
+
+fn made(thread: u8, endpoint: u8, call: Call) -> ScriptCall {
+    ScriptCall {
+        thread,
+        endpoint: EndpointId(endpoint),
+        call,
+    }
+}
+
+// Whether the calls are those of `VERSION_2`, a bundle's lines among them, and no steps.
+fn has_calls(run: &Scenario) -> bool {
     let map = Call::Map {
         index: 0,
         name: EndpointId(2),
         tag: Tag(5),
         credits: 0,
     };
-    assert!(rt; script.next() == Some((9, 7, map)));
-    assert!(rt; script.next() == None);
+    let script = [
+        made(3, 2, Call::Poll),
+        made(3, 2, Call::Test(Mask::NotEmpty)),
+        made(9, 7, map),
+    ];
+    run.script.as_slice() == script.as_slice() && run.steps.is_empty()
+}
+
+#[test]
+fn calls_of_version_2(rt: HostRuntime) {
+    let Some(run) = spelled(rt.alloc(), Form::Run, VERSION_2) else {
+        assert!(rt; false, "refused");
+        return;
+    };
+    assert!(rt; has_calls(&run));
+}
+
+// Whether one call is made, on endpoint 2.
+fn is_alone(calls: &[(EndpointId, Call)], call: Call) -> bool {
+    match calls {
+        [made] => made.0.0 == 2 && made.1 == call,
+        _ => false,
+    }
+}
+
+// Whether the bundle's endpoint is polled, tested and found ready.
+fn is_ready(alloc: Global, bundle: &Bundle) -> Result<bool, Fail> {
+    let polls = bundle.poll_calls(alloc)?;
+    let tests = bundle.test_calls(alloc)?;
+    Ok(
+        is_alone(&polls, Call::Poll)
+            && is_alone(&tests, Call::Test(Mask::NotEmpty))
+            && bundle.ready(&[EndpointId(7), EndpointId(2)]) == Readiness::Ready(EndpointId(2))
+            && bundle.ready(&[EndpointId(7)]) == Readiness::NotYet,
+    )
 }
 
 #[test]
 fn a_ready_bundle(rt: HostRuntime) -> Result<(), Fail> {
-    let alloc = rt.alloc();
-    let Some(run) = spelled(alloc, Form::Run, VERSION_2) else {
+    let Some(run) = spelled(rt.alloc(), Form::Run, VERSION_2) else {
         assert!(rt; false, "refused");
         return Ok(());
     };
+    assert!(rt; run.bundles.len() == 1);
     for bundle in run.bundles.iter() {
-        let polls = bundle.poll_calls(alloc)?;
-        let mut polls = polls.iter().map(|made| (made.0.0, made.1));
-        assert!(rt; polls.next() == Some((2, Call::Poll)));
-        assert!(rt; polls.next() == None);
-        let tests = bundle.test_calls(alloc)?;
-        let mut tests = tests.iter().map(|made| (made.0.0, made.1));
-        assert!(rt; tests.next() == Some((2, Call::Test(Mask::NotEmpty))));
-        assert!(rt; tests.next() == None);
-        assert!(rt;
-            bundle.ready(&[EndpointId(7), EndpointId(2)]) == Readiness::Ready(EndpointId(2))
-        );
-        assert!(rt; bundle.ready(&[EndpointId(7)]) == Readiness::NotYet);
+        assert!(rt; is_ready(rt.alloc(), bundle)?);
     }
     Ok(())
 }
@@ -244,6 +300,18 @@ fn number_of(packet: &Packet) -> u32 {
     }
 }
 
+// Whether packets have these numbers, in order.
+fn are_numbered(packets: &[Packet], numbers: &[u32]) -> bool {
+    let mut rest = numbers;
+    for packet in packets {
+        match rest {
+            [number, more @ ..] if number_of(packet) == *number => rest = more,
+            _ => return false,
+        }
+    }
+    rest.is_empty()
+}
+
 #[test]
 fn five_packets(rt: HostRuntime) -> Result<(), Fail> {
     let plan = [
@@ -253,16 +321,8 @@ fn five_packets(rt: HostRuntime) -> Result<(), Fail> {
     ];
     let emitted = [answer(1), answer(2), answer(3), answer(4), answer(5)];
     let released = shape(rt.alloc(), &plan, NodeId(0), NodeId(1), &emitted)?;
-    let mut numbers = released.iter().map(number_of);
-    for number in [1, 4, 4, 5, 3] {
-        assert!(rt; numbers.next() == Some(number));
-    }
-    assert!(rt; numbers.next() == None);
+    assert!(rt; are_numbered(&released, &[1, 4, 4, 5, 3]));
     let four = shape(rt.alloc(), &plan, NodeId(0), NodeId(1), &emitted[..4])?;
-    let mut numbers = four.iter().map(number_of);
-    for number in [1, 4, 4] {
-        assert!(rt; numbers.next() == Some(number));
-    }
-    assert!(rt; numbers.next() == None);
+    assert!(rt; are_numbered(&four, &[1, 4, 4]));
     Ok(())
 }
