@@ -14,7 +14,7 @@ use Rattle.am_restart.specs.declared.packets.SenderPacket.{SenderPacket}
 use Rattle.am_restart.specs.declared.packets.ReceiverPacket.{ReceiverPacket}
 use Rattle.am_restart.specs.declared.packets.ReceiverPacket.TheVariants as FromReceiver
 use Rattle.am_restart.specs.Ends as Ends
-use Rattle.am_restart_laws.proofs.Keys.{Point, IsClosed, IsSettled, IsSame, settled_closed, earlier_closed}
+use Rattle.am_restart_laws.proofs.Keys.{Point, Numbers, IsClosed, IsSettled, IsFresh, IsSame, not_fresh, settled_closed, earlier_closed}
 use Rattle.am_restart_laws.proofs.Lists.{Among, among_cases, none_pass}
 use Rattle.am_restart_laws.proofs.Orders.{UpTo, Before, turned, place, ordered}
 use Rattle.am_restart_laws.proofs.Parts.{Emitted, SenderPart, Dead, DeadPart, ReceiverPart, Refuses, answer_numbers, is_taken}

@@ -4,7 +4,7 @@ ghost use Rattle.am_session.specs.Grammar.{head_of, section_of};
 ghost use Rattle.std.specs.Prelude.{◌≡◌};
 
 /// What a line is about.
-#[derive(Clone, Copy, PartialEq, Eq, Debug)]
+#[derive(Clone, Copy)]
 pub(crate) enum Head {
     /// `am2session`, the text's first line.
     Session,

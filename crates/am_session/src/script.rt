@@ -52,7 +52,7 @@ pub enum ReadFault {
 }
 
 /// Why a line was not taken.
-#[derive(Clone, Copy, PartialEq, Eq, Debug)]
+#[derive(Clone, Copy)]
 pub(crate) enum LineFault {
     What(What),
     NoMemory,
