@@ -9,7 +9,6 @@ pub mod Steps
 pub mod Stopping
 pub mod RunEnds
 pub mod Scripts
-pub mod Stopped
 pub mod Declared
 pub mod Early
 pub mod Walks

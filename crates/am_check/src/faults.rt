@@ -32,7 +32,7 @@ pub enum CheckStop {
 }
 
 /// Why a line of the journal does not pass.
-#[derive(Clone, Copy, PartialEq, Eq, Debug)]
+#[derive(Clone, Copy)]
 pub(crate) enum LineStop {
     What(CheckWhat),
     LogFull(Part),

@@ -31,6 +31,8 @@ use crate::head::split_head;
 use crate::lines::{check_lines, line_number};
 use crate::step_cluster::StepCluster;
 use crate::tail::{difference, number_of};
+// A line of a printed journal, read back as the event that it tells.
+pub use am_journal_lines::{PrintedEntry, parse_line};
 use am_names::{EndpointId, NoMemory};
 use am_report::report;
 use am_scenario::{Form, ReadFault, Scenario, read};

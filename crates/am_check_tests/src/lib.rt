@@ -9,3 +9,5 @@ mod runs;
 mod tables;
 #[cfg(test)]
 mod tests;
+#[cfg(test)]
+mod texts;

@@ -2,6 +2,7 @@ use crate::run_tables::{
     CALLS, CLIENTS, ENDS, FIRST, FRAMES, FULL, HEAD, LAST, LOSSES, LOST, REPORTS, REST, TAIL,
     TRIED, TRIES,
 };
+use crate::texts::joined;
 use am_check::{CheckStop, CheckWhat, check_runs};
 use std::alloc::Global;
 use std::test::Fail;
@@ -14,40 +15,47 @@ fn stop(alloc: Global, text: &str) -> Option<CheckStop> {
     }
 }
 
+// What the check of these parts, one behind another, is stopped for.
+fn stop_of(alloc: Global, parts: &[&str]) -> Result<Option<CheckStop>, Fail> {
+    let text = joined(alloc, parts)?;
+    Ok(stop(alloc, text.as_str()))
+}
+
 #[test]
 fn reports(rt: HostRuntime) -> Result<(), Fail> {
-    for (calls, first, last, answer) in REPORTS.iter() {
-        let text = format!(in rt.alloc(); "{CLIENTS}{HEAD}{calls}{first}{REST}{last}{TAIL}")?;
-        assert!(rt;
-            stop(rt.alloc(), text.as_str()) == *answer,
-            "{calls}{first}{last}"
-        );
+    for (row, (calls, first, last, answer)) in REPORTS.iter().enumerate() {
+        let parts = [CLIENTS, HEAD, *calls, *first, REST, *last, TAIL];
+        assert!(rt; stop_of(rt.alloc(), parts.as_slice())? == *answer, "{row}");
     }
     Ok(())
 }
 
 #[test]
 fn runs(rt: HostRuntime) -> Result<(), Fail> {
-    assert!(rt; stop(rt.alloc(), FRAMES) == None);
-    let whole = format!(in rt.alloc(); "{TRIES}{ENDS}{LOSSES}{TRIED}{LOST}")?;
-    assert!(rt; stop(rt.alloc(), whole.as_str()) == None);
+    let alloc = rt.alloc();
+    assert!(rt; stop(alloc, FRAMES) == None);
+    let whole = [TRIES, ENDS, LOSSES, TRIED, LOST];
+    assert!(rt; stop_of(alloc, whole.as_slice())? == None);
     let what = CheckWhat::Follows;
     // a released packet waits, and the last try goes out
-    let early = format!(in rt.alloc(); "{TRIES}{ENDS}{TRIED}{LOST}")?;
-    assert!(rt; stop(rt.alloc(), early.as_str()) == Some(CheckStop::Fault { line: 9, what }));
+    let early = [TRIES, ENDS, TRIED, LOST];
+    let at_9 = Some(CheckStop::Fault { line: 9, what });
+    assert!(rt; stop_of(alloc, early.as_slice())? == at_9);
     // a call is left
-    let left = format!(in rt.alloc();
-        "{CLIENTS}t0 poll 0\n{HEAD}{CALLS}{FIRST}{REST}{LAST}{TAIL}"
-    )?;
-    assert!(rt; stop(rt.alloc(), left.as_str()) == Some(CheckStop::Fault { line: 32, what }));
+    let left = [CLIENTS, "t0 poll 0\n", HEAD, CALLS, FIRST, REST, LAST, TAIL];
+    let at_32 = Some(CheckStop::Fault { line: 32, what });
+    assert!(rt; stop_of(alloc, left.as_slice())? == at_32);
     Ok(())
 }
 
 #[test]
 fn full_logs(rt: HostRuntime) -> Result<(), Fail> {
     for (log, plan, rest, answer) in FULL.iter() {
-        let text = format!(in rt.alloc(); "{TRIES}{log}{ENDS}{plan}{TRIED}{rest}")?;
-        assert!(rt; stop(rt.alloc(), text.as_str()) == Some(*answer), "{log}");
+        let parts = [TRIES, *log, ENDS, *plan, TRIED, *rest];
+        assert!(rt;
+            stop_of(rt.alloc(), parts.as_slice())? == Some(*answer),
+            "{log}"
+        );
     }
     Ok(())
 }

@@ -1,4 +1,5 @@
 use crate::tables::{CALLS, HEAD, IDLE, REPORTS, RUNS, SCENARIO, TAIL};
+use crate::texts::joined;
 use am_check::{CheckStop, CheckWhat, check_steps};
 use am_office::Condition;
 use am_scenario::{ScenarioFault, What};
@@ -13,14 +14,17 @@ fn stop(alloc: Global, text: &str) -> Option<CheckStop> {
     }
 }
 
+// What the check of these parts, one behind another, is stopped for.
+fn stop_of(alloc: Global, parts: &[&str]) -> Result<Option<CheckStop>, Fail> {
+    let text = joined(alloc, parts)?;
+    Ok(stop(alloc, text.as_str()))
+}
+
 #[test]
 fn reports(rt: HostRuntime) -> Result<(), Fail> {
-    for (head, calls, runs, tail, answer) in REPORTS.iter() {
-        let text = format!(in rt.alloc(); "{SCENARIO}{head}{calls}{runs}{tail}")?;
-        assert!(rt;
-            stop(rt.alloc(), text.as_str()) == *answer,
-            "{head}{calls}{runs}{tail}"
-        );
+    for (row, (head, calls, runs, tail, answer)) in REPORTS.iter().enumerate() {
+        let parts = [SCENARIO, *head, *calls, *runs, *tail];
+        assert!(rt; stop_of(rt.alloc(), parts.as_slice())? == *answer, "{row}");
     }
     Ok(())
 }

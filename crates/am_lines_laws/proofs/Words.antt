@@ -101,10 +101,6 @@ a_serial words =
 
 -- ---- endpoints and bundles
 
-find_passes_at : {A : Type 0} (p : A → Bool) (y x : A) (b : Bool) (rest : Option A) → p y ≡ b → (rest ≡ Some x → p x ≡ true) → (if b then Some y else rest) ≡ Some x → p x ≡ true
-find_passes_at p y x true rest is others e = let same : y ≡ x = cc in subst (λ z. p z ≡ true) same is
-find_passes_at p y x false rest is others e = others e
-
 -- the endpoint that was found is declared under its own number, on its node
 pub found_is_on : (said : Said) (id : ℕ) (end : EndLine) → end_of said id ≡ Some end → IsOn said.ends end.node end.id
 found_is_on said id end e =

@@ -8,7 +8,7 @@ use am_lexer::{next_word, parse_number};
 use am_lines::{Head, head_of};
 
 /// The kinds of lines that a text with segments has beyond those of a scenario.
-#[derive(Clone, Copy, PartialEq, Eq, Debug)]
+#[derive(Clone, Copy)]
 pub(crate) enum Own {
     /// `segment`: an endpoint has a segment.
     Segment,

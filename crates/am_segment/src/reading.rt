@@ -180,7 +180,7 @@ fn expanded(said: Expansion) -> Expanded
 }
 
 /// The text of a scenario in the form Run that the bytes stand for, with its segments and transfers; or the first own line that has
-/// a fault, and the fault. The rules are in docs/SCENARIO.md, 'Segments'. Ordinary lines stay, whatever they say: `am_scenario::read`
+/// a fault, and the fault. The rules are in docs/MANUAL.md, 'Segments'. Ordinary lines stay, whatever they say: `am_scenario::read`
 /// refuses them. A line's number stands still at 2^32-1. Without memory the answer is `NoMemory`, and nothing is left of the text.
 pub fn expand(alloc: Global, bytes: &[u8]) -> Result<Expanded, ReadFault>
     ensures exact { Answers result (expansion bytes.now) }
