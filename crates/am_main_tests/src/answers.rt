@@ -87,8 +87,10 @@ pub fn ends_so<R: Threads + Sync>(
     wanted: Ending,
 ) -> Result<bool, AllocError> {
     let answer = answer_of(rt, alloc, line, text, devices.0, devices.1)?;
-    Ok(answer.status == wanted.status
-        && answer.printed.as_slice() == wanted.printed.as_bytes()
-        && answer.read_faults == wanted.read_faults
-        && answer.write_faults == wanted.write_faults)
+    Ok(
+        answer.status == wanted.status
+            && answer.printed.as_slice() == wanted.printed.as_bytes()
+            && answer.read_faults == wanted.read_faults
+            && answer.write_faults == wanted.write_faults,
+    )
 }

@@ -26,7 +26,14 @@ fn first_other<R: Threads + Sync>(
 ) -> Result<Option<usize>, AllocError> {
     for (i, (scenario, rest, status, printed)) in rows.iter().enumerate() {
         let text = joined(alloc, scenario, rest)?;
-        if !ends_so(rt, alloc, line, &text, (SLOW, SLOW), sound(*status, printed))? {
+        if !ends_so(
+            rt,
+            alloc,
+            line,
+            &text,
+            (SLOW, SLOW),
+            sound(*status, printed),
+        )? {
             return Ok(Some(i));
         }
     }
@@ -94,7 +101,16 @@ fn long_texts_are_not_read_to_their_end(rt: HostRuntime) -> Result<(), Fail> {
     ] {
         let text = vec![in rt.alloc(); b' '; length]?;
         let devices = (SOUND, SOUND);
-        assert!(rt; ends_so(&rt, rt.alloc(), line, &text, devices, sound(status, printed))?);
+        assert!(rt;
+            ends_so(
+                &rt,
+                rt.alloc(),
+                line,
+                &text,
+                devices,
+                sound(status, printed)
+            )?
+        );
     }
     Ok(())
 }
