@@ -11,3 +11,4 @@ pub mod Declaring
 pub mod Acting
 pub mod Setting
 pub mod Spelled
+pub mod Replayed

@@ -2,6 +2,8 @@
 #![tactic(auto)]
 
 mod lines;
+mod replay;
 mod texts;
 
+pub use replay::{replay_text, replays_are_read};
 pub use texts::{printed_scenarios_are_read, scenario_text};

@@ -105,7 +105,7 @@ pub fn put_swap_fault_line(out: &mut Vec<u8>, fault: &FaultLine) -> Result<(), A
 
 // The line of an event: that of an entry that has no outcome.
 #[tactic(auto, unfolding(crate::specs::Texts::event_line))]
-fn put_event_line(out: &mut Vec<u8>, event: Event) -> Result<(), NoMemory>
+pub fn put_event_line(out: &mut Vec<u8>, event: Event) -> Result<(), NoMemory>
     ensures { OnOk result (out.new.items ≡ out.old.items ++ text.event_line event) }
 {
     let entry = Entry {

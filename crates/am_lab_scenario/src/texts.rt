@@ -55,7 +55,7 @@ fn put_numbers(out: &mut Vec<u8>, scenario: &Scenario) -> Result<(), AllocError>
 }
 
 #[tactic(auto, using(std::proofs::Common::append_assoc), unfolding(crate::specs::Texts::setting_lines))]
-fn put_settings(out: &mut Vec<u8>, scenario: &Scenario) -> Result<(), AllocError>
+pub fn put_settings(out: &mut Vec<u8>, scenario: &Scenario) -> Result<(), AllocError>
     ensures { OnOk result (out.new.items ≡ out.old.items ++ text.setting_lines scenario.now) }
 {
     put_setting(out, "am2", version_number(scenario.pool))?;
@@ -64,7 +64,7 @@ fn put_settings(out: &mut Vec<u8>, scenario: &Scenario) -> Result<(), AllocError
     put_pool(out, scenario.pool)
 }
 
-fn put_ends(out: &mut Vec<u8>, ends: &[EndLine]) -> Result<(), AllocError>
+pub fn put_ends(out: &mut Vec<u8>, ends: &[EndLine]) -> Result<(), AllocError>
     ensures { OnOk result (out.new.items ≡ out.old.items ++ flat_map text.end_line ends.now) }
 {
     for end in ends {
@@ -73,7 +73,7 @@ fn put_ends(out: &mut Vec<u8>, ends: &[EndLine]) -> Result<(), AllocError>
     Ok(())
 }
 
-fn put_bundles(out: &mut Vec<u8>, bundles: &[Bundle]) -> Result<(), AllocError>
+pub fn put_bundles(out: &mut Vec<u8>, bundles: &[Bundle]) -> Result<(), AllocError>
     ensures { OnOk result (out.new.items ≡ out.old.items ++ flat_map text.bundle_line bundles.now) }
 {
     for bundle in bundles {
@@ -82,7 +82,7 @@ fn put_bundles(out: &mut Vec<u8>, bundles: &[Bundle]) -> Result<(), AllocError>
     Ok(())
 }
 
-fn put_threads(out: &mut Vec<u8>, threads: &[ThreadLine]) -> Result<(), AllocError>
+pub fn put_threads(out: &mut Vec<u8>, threads: &[ThreadLine]) -> Result<(), AllocError>
     ensures { OnOk result (out.new.items ≡ out.old.items ++ flat_map text.thread_line threads.now) }
 {
     for thread in threads {
@@ -100,7 +100,7 @@ fn put_plan(out: &mut Vec<u8>, plan: &[PlanLine]) -> Result<(), AllocError>
     Ok(())
 }
 
-fn put_faults(out: &mut Vec<u8>, faults: &[FaultLine]) -> Result<(), AllocError>
+pub fn put_faults(out: &mut Vec<u8>, faults: &[FaultLine]) -> Result<(), AllocError>
     ensures { OnOk result (out.new.items ≡ out.old.items ++ flat_map text.swap_fault_line faults.now) }
 {
     for fault in faults {
