@@ -12,3 +12,4 @@ pub mod Acting
 pub mod Setting
 pub mod Spelled
 pub mod Replayed
+pub mod Ranges

@@ -9,6 +9,8 @@ use Rattle.am_scenario_types.specs.declared.parts.Form.TheVariants.{Step}
 use Rattle.am_scenario_types.specs.declared.parts.StepLine.{StepLine}
 use Rattle.am_scenario_types.specs.Lists.{ScenarioLists}
 use Rattle.am_scenario_types.specs.Lawful.{IsLawful, IsLawfulEvent, least_credits}
+use Rattle.am_model.specs.History.{IsHistory}
+use Rattle.am_scripts.specs.Layout.{layout_of}
 use Rattle.am_scenario.specs.Laws.{Spells}
 use Rattle.am_lab_scenario.specs.Texts.{event_line, scenario_text, as_printed}
 
@@ -46,6 +48,10 @@ replayed s journal = as_printed (step_script s journal)
 pub record IsReplayable (s : ScenarioLists) (journal : List Entry) : Type 0 where
   pub events : All (λ (x : Entry). IsLawfulEvent s.ends s.nodes s.frames s.channels (least_credits s.pool) (by_anyone x.event)) journal
   pub count : length journal ≤ 65_536
+
+-- each history of the scenario's cluster that isn't too long is such a journal
+abbrev pub HistoriesAreReplayable : Type 0
+HistoriesAreReplayable = (scenario : ScenarioLists) (journal : List Entry) → IsHistory (layout_of scenario) journal → length journal ≤ 65_536 → IsReplayable scenario journal
 
 -- the text of such a step script spells it
 abbrev pub ReplaysAreRead : Type 0

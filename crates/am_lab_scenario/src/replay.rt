@@ -7,7 +7,7 @@ ghost use Rattle.am_scenario_types.specs.Lawful.{IsLawful};
 ghost use Rattle.am_scenario.specs.Laws.{Spells};
 ghost use Rattle.am_lab_scenario.specs.Texts as text;
 ghost use Rattle.am_lab_scenario.specs.Replays as replay;
-ghost use Rattle.am_lab_scenario.specs.Replays.{IsReplayable, ReplaysAreRead, StepsAreEvents, replayed, step_script};
+ghost use Rattle.am_lab_scenario.specs.Replays.{HistoriesAreReplayable, IsReplayable, ReplaysAreRead, StepsAreEvents, replayed, step_script};
 
 use crate::lines::put_event_line;
 use crate::texts::{put_bundles, put_ends, put_faults, put_settings, put_threads};
@@ -86,7 +86,9 @@ pub fn replay_text(
 }
 
 /// The text of a replayed journal spells its step script, and the steps of that are the journal's events, callers aside.
+/// Each event of a history of the scenario's cluster may stand there, so a history of at most 65,536 entries is replayable.
 pub fn replays_are_read()
     ensures read { ReplaysAreRead }
     ensures steps { StepsAreEvents }
+    ensures histories { HistoriesAreReplayable }
 {}
