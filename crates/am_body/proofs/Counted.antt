@@ -2,7 +2,7 @@
 use Rattle.std.proofs.Common.{◌≡◌, ℕ, ◌+◌, ◌≤◌, List, length, ap, ◌∙◌, arith}
 use Rattle.std.specs.List.{count_by}
 use Rattle.std.proofs.lemmas.List.{length-map}
-use Rattle.am_names.specs.Names.{is_answer, is_request}
+use Rattle.am_names.specs.Names.{is_reply, is_request}
 use Rattle.am_block.specs.declared.Descriptor.{Descriptor}
 use Rattle.am_model.specs.Calls.{messages_held}
 use Rattle.am_model.specs.Endpoint.{replies_held, requests_held}
@@ -27,8 +27,8 @@ requests_counted i v a b c e queued flying back =
 
 pub replies_counted : (i : Inside) (v : View) (a b c : ℕ) → view_of i ≡ v → a ≡ length i.block.replies → b ≡ count_by (λ s. is_sought_at Soughts.Reply i.block s) i.block.in_flight → c ≡ count_by (λ s. is_sought_at Soughts.Reply i.block s) i.block.notices → a + b + c ≡ replies_held v.body
 replies_counted i v a b c e queued flying back =
-    let fs = count-seen flying_in (λ (f : Flying). is_answer f.message) i.block.descriptors i.block.in_flight in
-    let ns = count-seen notice_in (λ (n : Notice). is_answer n.message) i.block.descriptors i.block.notices in
+    let fs = count-seen flying_in (λ (f : Flying). is_reply f.message) i.block.descriptors i.block.in_flight in
+    let ns = count-seen notice_in (λ (n : Notice). is_reply n.message) i.block.descriptors i.block.notices in
     let here : a + b + c ≡ replies_held (view_of i).body = omega (arith, queued, flying, back, fs, ns, length-seen queued_in i.block.descriptors i.block.replies) in
     here ∙ ap (λ (w : View). replies_held w.body) e
 

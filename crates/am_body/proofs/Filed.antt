@@ -1,7 +1,7 @@
 -- What a body is after a free slot took a message.
 use Rattle.std.proofs.Common.{◌≡◌, ℕ, ◌<◌, Bool, true, false, List, [], ◌∷◌, ◌++◌, length, drop, refl, sym, ap, ◌∙◌, subst, arith}
 use Rattle.std.proofs.lemmas.List.{length-map}
-use Rattle.am_names.specs.Names.{has_serial, is_answer, is_request}
+use Rattle.am_names.specs.Names.{has_serial, is_reply, is_request}
 use Rattle.am_names.specs.declared.Serial.{Serial}
 use Rattle.am_names.specs.declared.Message.{Message}
 use Rattle.am_names.specs.declared.Tag.{Tag}
@@ -210,14 +210,14 @@ received_gone i v q e is = viewed i v q (freed i.block i.block.received Received
 
 -- a body whose list loses what was found
 
-reply_out : (i : Inside) (s : ℕ) → find (λ s. is_sought_at Soughts.Reply i.block s) i.block.received ≡ Some s → (view_of (record i { block = moved i.block Received s Free })).body ≡ record (view_of i).body { received = without_first is_answer (view_of i).body.received }
-reply_out i s found = ap (λ (ms : List Message). record (view_of i).body { received = ms }) (without-seen message_in is_answer i.block.descriptors i.block.received s found)
+reply_out : (i : Inside) (s : ℕ) → find (λ s. is_sought_at Soughts.Reply i.block s) i.block.received ≡ Some s → (view_of (record i { block = moved i.block Received s Free })).body ≡ record (view_of i).body { received = without_first is_reply (view_of i).body.received }
+reply_out i s found = ap (λ (ms : List Message). record (view_of i).body { received = ms }) (without-seen message_in is_reply i.block.descriptors i.block.received s found)
 
-pub reply_gone : (i : Inside) (v : View) (q : Pools) (s : ℕ) → view_of i ≡ v → IsSound i → q ≡ moved i.block (home i.block s) s Free → find (λ s. is_sought_at Soughts.Reply i.block s) i.block.received ≡ Some s → view_of (record i { block = q }) ≡ record v { body = record v.body { received = without_first is_answer v.body.received } }
+pub reply_gone : (i : Inside) (v : View) (q : Pools) (s : ℕ) → view_of i ≡ v → IsSound i → q ≡ moved i.block (home i.block s) s Free → find (λ s. is_sought_at Soughts.Reply i.block s) i.block.received ≡ Some s → view_of (record i { block = q }) ≡ record v { body = record v.body { received = without_first is_reply v.body.received } }
 reply_gone i v q s e ok is found =
     let some = found-times (λ s. is_sought_at Soughts.Reply i.block s) i.block.received s found in
     let at : home i.block s ≡ Received = home_is i.block Received s ok.block (stands-below i.block Received s ok.block some) some in
-    viewed i v q (moved i.block Received s Free) (λ b. record b { received = without_first is_answer b.received }) e (is ∙ ap (λ h. moved i.block h s Free) at) (reply_out i s found) refl
+    viewed i v q (moved i.block Received s Free) (λ b. record b { received = without_first is_reply b.received }) e (is ∙ ap (λ h. moved i.block h s Free) at) (reply_out i s found) refl
 
 flight_out : (serial : Serial) (i : Inside) (r : Option ℕ) → find (λ s. is_sought_at (Soughts.Of serial) i.block s) i.block.in_flight ≡ r → (view_of (record i { block = taken_out i.block InFlight r })).body ≡ without_flight serial (view_of i).body
 flight_out serial i None found = ap (λ (fs : List Flying). record (view_of i).body { in_flight = fs }) (sym (none-seen flying_in (λ (f : Flying). has_serial serial f.message) i.block.descriptors i.block.in_flight found))

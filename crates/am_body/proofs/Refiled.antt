@@ -3,7 +3,7 @@ use Rattle.std.proofs.Common.{◌≡◌, ℕ, ◌+◌, ◌<◌, ◌≤◌, Bool,
 use Rattle.std.specs.Prelude.{IsSome, slice_get, slice_set}
 use Rattle.std.specs.Option.{option_map}
 use Rattle.std.proofs.lemmas.Option.{get_or_from_slice_get}
-use Rattle.am_names.specs.Names.{has_serial, is_answer, is_request}
+use Rattle.am_names.specs.Names.{has_serial, is_reply, is_request}
 use Rattle.am_names.specs.declared.Serial.{Serial}
 use Rattle.am_names.specs.declared.Why.{Why}
 use Rattle.am_block.specs.Pools.{Pools, IsBlock, home, place, size, slots, times, without}
@@ -114,7 +114,7 @@ module _ (serial : Serial) (i : Inside) (v : View) (s : ℕ) (e : view_of i ≡ 
       ∙ ap (λ f. flight_appended is_request f bounces (seen queued_in ds i.block.requests)) (sym told))
       (kept queued_in ds s (changed (Becomes.Bounced bounces) d) i.block.replies here.replies
       ∙ ap (λ b. appended (if b then false else true) d.message bounces (seen queued_in ds i.block.replies)) (sym kind)
-      ∙ ap (λ f. flight_appended is_answer f bounces (seen queued_in ds i.block.replies)) (sym told))
+      ∙ ap (λ f. flight_appended is_reply f bounces (seen queued_in ds i.block.replies)) (sym told))
       (left_seen (changed (Becomes.Bounced bounces) d))
       (kept notice_in ds s (changed (Becomes.Bounced bounces) d) i.block.notices here.notices)
       (kept message_in ds s (changed (Becomes.Bounced bounces) d) i.block.received here.received)
@@ -125,7 +125,7 @@ module _ (serial : Serial) (i : Inside) (v : View) (s : ℕ) (e : view_of i ≡ 
       ∙ ap (λ f. flight_appended is_request f bounces (seen queued_in ds i.block.requests)) (sym told))
       (grown queued_in ds s (changed (Becomes.Bounced bounces) d) i.block.replies here.replies here.within
       ∙ ap (λ b. appended (if b then false else true) d.message bounces (seen queued_in ds i.block.replies)) (sym kind)
-      ∙ ap (λ f. flight_appended is_answer f bounces (seen queued_in ds i.block.replies)) (sym told))
+      ∙ ap (λ f. flight_appended is_reply f bounces (seen queued_in ds i.block.replies)) (sym told))
       (left_seen (changed (Becomes.Bounced bounces) d))
       (kept notice_in ds s (changed (Becomes.Bounced bounces) d) i.block.notices here.notices)
       (kept message_in ds s (changed (Becomes.Bounced bounces) d) i.block.received here.received)

@@ -3,7 +3,7 @@ use Rattle.std.proofs.Common.{◌≡◌, ℕ, ◌+◌, ◌<◌, Bool, true, fals
 use Rattle.std.specs.List.{count_by}
 use Rattle.std.proofs.lemmas.List.{length-map, length_push}
 use Rattle.std.proofs.lemmas.List.Sums.{count_by-le-length}
-use Rattle.am_names.specs.Names.{is_answer, is_request}
+use Rattle.am_names.specs.Names.{is_reply, is_request}
 use Rattle.am_names.specs.declared.Message.{Message}
 use Rattle.am_names.specs.declared.Serial.{Serial}
 use Rattle.am_names.specs.declared.Why.{Why}
@@ -15,7 +15,7 @@ use Rattle.am_model.proofs.Sizes.{length_appended}
 use Rattle.am_model.proofs.Sizes.{requests_and_answers}
 use Rattle.am_body.specs.Views.{Fits, slots_held}
 
-pub held_by_kind : (b : Body) → slots_held b ≡ requests_held b + replies_held b + (count_by is_request b.received + count_by is_answer b.received)
+pub held_by_kind : (b : Body) → slots_held b ≡ requests_held b + replies_held b + (count_by is_request b.received + count_by is_reply b.received)
 held_by_kind b =
     omega (arith, requests_and_answers (λ (f : Flying). f.message) b.in_flight, requests_and_answers (λ (n : Notice). n.message) b.notices, requests_and_answers (λ (m : Message). m) b.received)
 
@@ -41,7 +41,7 @@ slots_put m s = omega (arith, length_push s.body.received m, length_marked m.abo
 
 pub slots_queued : (m : Message) (n : ℕ) (b : Body) → slots_held (queued m n b) ≡ slots_held b + 1
 slots_queued m n b =
-    omega (arith, length_appended (is_request m) m n b.requests, length_appended (is_answer m) m n b.replies, one (is_request m))
+    omega (arith, length_appended (is_request m) m n b.requests, length_appended (is_reply m) m n b.replies, one (is_request m))
   where
     one : (c : Bool) → cond c 1 0 + cond (if c then false else true) 1 0 ≡ 1
     one true = refl

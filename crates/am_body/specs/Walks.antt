@@ -1,7 +1,7 @@
 -- What is looked for in a list of a block.
 use Rattle.std.specs.Prelude.{ℕ, Bool, ◌||◌, List, [], ◌∷◌, slice_set}
 use Rattle.am_names.specs.declared.Serial.{Serial}
-use Rattle.am_names.specs.Names.{has_serial, is_answer, is_request}
+use Rattle.am_names.specs.Names.{has_serial, is_reply, is_request}
 use Rattle.am_block.specs.Pools.{Pools}
 use Rattle.am_block.specs.declared.Descriptor.{Descriptor}
 use Rattle.am_body.specs.declared.walks.Sought.{Sought}
@@ -10,7 +10,7 @@ use Rattle.am_body.specs.Views.{descriptor_at}
 
 abbrev pub is_sought : Sought → Descriptor → Bool
 is_sought Soughts.Request d = is_request d.message
-is_sought Soughts.Reply d = is_answer d.message
+is_sought Soughts.Reply d = is_reply d.message
 is_sought (Soughts.Of serial) d = has_serial serial d.message
 
 abbrev pub is_sought_at : Sought → Pools → ℕ → Bool

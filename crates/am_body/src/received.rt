@@ -1,7 +1,7 @@
 // Messages that an endpoint received.
 ghost use Rattle.am_body.specs.Views.{slots_held};
 ghost use Rattle.am_model.specs.Choice.{without_first};
-ghost use Rattle.am_names.specs.Names.{is_answer, is_request};
+ghost use Rattle.am_names.specs.Names.{is_reply, is_request};
 ghost use Rattle.std.specs.Prelude.{◌≡◌, ◌<◌, [], ◌∷◌, ◌++◌, MatchOption, count_by, drop, find, length, slice_get};
 
 use crate::Body;
@@ -44,8 +44,8 @@ impl Body {
 
     /// The first reply or empty reply that was received, if there is one, goes. Tells the message.
     pub fn take_reply(&mut self) -> Option<Message>
-        ensures reply { result ≡ find is_answer self.old.body.received }
-        ensures taken { MatchOption result (self.new ≡ self.old) (λ m. self.new ≡ record self.old { body = record self.old.body { received = without_first is_answer self.old.body.received } }) }
+        ensures reply { result ≡ find is_reply self.old.body.received }
+        ensures taken { MatchOption result (self.new ≡ self.old) (λ m. self.new ≡ record self.old { body = record self.old.body { received = without_first is_reply self.old.body.received } }) }
     {
         match find(&self.block, List::Received, Sought::Reply) {
             Some(slot) => {

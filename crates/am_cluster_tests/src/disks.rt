@@ -41,7 +41,7 @@ fn first_lines(alloc: Global, entries: &[Entry], count: usize) -> Result<Vec<u8>
 }
 
 /// Whether a run whose workers are held so begins with these lines.
-fn begins<R: Threads + Sync>(
+pub fn begins<R: Threads + Sync>(
     rt: &R,
     alloc: Global,
     text: &str,

@@ -13,10 +13,7 @@ fn a_run_goes_on_after_it_was_taken_apart(rt: HostRuntime) -> Result<(), Fail> {
         let cluster = make_phase(&rt, rt.alloc(), &scenario, &OpenGate)?;
         let phase = cluster.journal(rt.alloc())?.entries;
         let journal = drained_in_parts(rt.alloc(), &scenario, cluster);
-        assert!(rt;
-            journal.is_some_and(|one| one.entries.len() > phase.len()),
-            "{turns} turns"
-        );
+        assert!(rt; journal.is_some_and(|one| one.entries.len() > phase.len()));
     }
     Ok(())
 }

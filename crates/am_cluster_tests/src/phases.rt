@@ -1,10 +1,10 @@
 // Runs whose threads, interfaces and drivers work at the same time. That two of them do, and that they make entries at all,
 // no clause says.
+use crate::disks::begins;
 use crate::gates::{Hold, HoldingGate, Moment, StepGate};
 use crate::workloads::workload;
 use am_cluster::{OpenGate, run};
 use am_crew::make_phase;
-use am_entry_lines::entry_line;
 use am_office::{Entry, Journal, accepted_of};
 use am_report::report;
 use am_scenario::{Form, read};
@@ -16,7 +16,7 @@ const CLIENTS: &str = "am2 1\nnetwork packet\nnodes 2\nframes 2\nchannels 2\ntur
     endpoint 0 0 11\nendpoint 1 0 12\nendpoint 2 1 20\nthread 0 0\nthread 1 0\nthread 2 1\nplan 0 1 2 lose\n\
     t0 handler 0 4 note\nt0 map 0 0 2 20 2\nt0 request 0 0 3 100 0 0 0\nt0 poll 0\n\
     t1 handler 1 4 note\nt1 map 1 0 2 20 2\nt1 request 1 0 3 23 0 0 0\nt1 poll 1\n\
-    t2 handler 2 3 add 4\nt2 poll 2\nt2 poll 2\n";
+    t2 handler 2 3 add 4\nt2 poll 2\nt2 poll 2\nt2 poll 2\n";
 
 /// An interface and a driver on each node, with one turn.
 const ONE_NODE: &str = "am2 1\nnetwork packet\nnodes 1\nturns 1\nendpoint 0 0 5\n";
@@ -91,7 +91,7 @@ fn two_workers_hold_each_other(rt: HostRuntime) -> Result<(), Fail> {
         let gate = HoldingGate::new(&holds);
         let scenario = read(rt.alloc(), Form::Run, text.as_bytes())?;
         assert!(rt; run(&rt, rt.alloc(), &scenario, &gate).is_ok());
-        assert!(rt; gate.held_in_vain() == 0, "worker {other}");
+        assert!(rt; gate.held_in_vain() == 0);
     }
     Ok(())
 }
@@ -99,15 +99,7 @@ fn two_workers_hold_each_other(rt: HostRuntime) -> Result<(), Fail> {
 #[test]
 fn thread_driver_and_interface_make_the_first_entries(rt: HostRuntime) -> Result<(), Fail> {
     let holds = [hold(2, 0, 0, 3), hold(1, 0, 2, 3), hold(2, 3, 1, 3)];
-    let gate = HoldingGate::new(&holds);
-    let scenario = read(rt.alloc(), Form::Run, ONE_THREAD.as_bytes())?;
-    let finished = run(&rt, rt.alloc(), &scenario, &gate)?;
-    assert!(rt; gate.held_in_vain() == 0);
-    let mut lines = Vec::new(rt.alloc());
-    for entry in finished.journal.entries.iter().take(5) {
-        entry_line(entry, &mut lines)?;
-    }
-    assert!(rt; lines.as_slice() == FIRST_FIVE.as_bytes());
+    assert!(rt; begins(&rt, rt.alloc(), ONE_THREAD, &holds, FIRST_FIVE)?);
     Ok(())
 }
 
@@ -122,7 +114,7 @@ fn most_entries_are_made_in_the_phase(rt: HostRuntime) -> Result<(), Fail> {
     let gate = StepGate::new(&rt, 16);
     let finished = run(&rt, rt.alloc(), &scenario, &gate)?;
     let all = finished.journal.entries.len();
-    assert!(rt; by_workers > all / 2, "{by_workers} of {all}");
+    assert!(rt; by_workers > all / 2);
     assert!(rt; tells_each_fate(rt.alloc(), &finished.journal)?);
     Ok(())
 }

@@ -16,7 +16,7 @@ fn a_fresh_cluster_is_drained_as_a_run_is_made(rt: HostRuntime) -> Result<(), Fa
     let mut cluster = Cluster::new(rt.alloc(), &scenario)?;
     let mut made = no_calls(rt.alloc(), &scenario)?;
     assert!(rt; drain(&mut cluster, &scenario, &mut made).is_ok());
-    assert_eq!(rt; made.as_slice(), [218; 8].as_slice());
+    assert!(rt; made.as_slice() == [218; 8].as_slice());
     let drained = cluster.journal(rt.alloc())?;
     let finished = alone(rt.alloc(), &scenario);
     assert!(rt;

@@ -11,7 +11,7 @@ use Rattle.am_names.specs.declared.Serial.{Serial}
 use Rattle.am_names.specs.declared.MsgKind.{MsgKind}
 use Rattle.am_names.specs.declared.MsgKind.TheVariants as Kind
 use Rattle.am_names.specs.declared.Message.{Message}
-use Rattle.am_names.specs.Names.{is_request, is_request_kind, is_answer, same_end, same_serial}
+use Rattle.am_names.specs.Names.{is_request, is_request_kind, is_reply, same_end, same_serial}
 use Rattle.am_model.specs.declared.Awaited.{Awaited}
 use Rattle.am_model.specs.Allowed.{is_formed_as, is_well_formed}
 use Rattle.am_model.specs.Calls.{excess, shares}
@@ -91,8 +91,8 @@ each_matches last received awaited rises expected once r = by_test (list_any (ha
     unasked : list_any (has_arrived r) awaited ≡ false → Passes (answers r) received → true ≡ false
     unasked none found =
         let m : Message = found.value in
-        let parts = and_parts (is_answer m) (is_serial r m.about) found.holds in
-        let known : is_expected awaited m.about ≡ true = implied (is_answer m) (is_expected awaited m.about) parts.0 (found.each (answers_expected awaited) expected) in
+        let parts = and_parts (is_reply m) (is_serial r m.about) found.holds in
+        let known : is_expected awaited m.about ≡ true = implied (is_reply m) (is_expected awaited m.about) parts.0 (found.each (answers_expected awaited) expected) in
         sym (expected_is r awaited m.about parts.1 known) ∙ none
 
     unanswered : list_any (has_arrived r) awaited ≡ false → (b : Bool) → list_any (answers r) received ≡ b → count_by (answers r) received ≡ 0
@@ -104,7 +104,7 @@ each_matches last received awaited rises expected once r = by_test (list_any (ha
     by_test false is = omega (arith, unanswered is (list_any (answers r) received) refl, count_by-none (has_arrived r) awaited is)
 
 -- a well-formed answer names its request
-names_request : (m : Message) → is_well_formed m ≡ true → is_answer m ≡ true → is_some m.about ≡ true
+names_request : (m : Message) → is_well_formed m ≡ true → is_reply m ≡ true → is_some m.about ≡ true
 names_request m formed answer = by_kind m.kind formed answer
   where
     by_kind : (kind : MsgKind) → is_formed_as kind m ≡ true → cond (is_request_kind kind) false true ≡ true → is_some m.about ≡ true
@@ -122,22 +122,22 @@ Matches received awaited = (r : Serial) → count_by (answers r) received ≡ co
 all_expected : (e : EndpointId) (received : List Message) (awaited : List Awaited) → list_all (is_received_here e) received ≡ true → ((r : Serial) → count_by (answers r) received ≡ count_by (has_arrived r) awaited) → list_all (answers_expected awaited) received ≡ true
 all_expected e received awaited here matches =
     all_pass (is_received_here e) (answers_expected awaited) received here
-    (λ m is among. by_answer m (and_parts (same_end e m.dest) (is_well_formed m) is).1 among (is_answer m) refl)
+    (λ m is among. by_answer m (and_parts (same_end e m.dest) (is_well_formed m) is).1 among (is_reply m) refl)
   where
-    of_request : (m : Message) → ((t : Message → Bool) → t m ≡ true → list_any t received ≡ true) → is_answer m ≡ true → (o : Option Serial) → m.about ≡ o → is_some o ≡ true → is_expected awaited m.about ≡ true
+    of_request : (m : Message) → ((t : Message → Bool) → t m ≡ true → list_any t received ≡ true) → is_reply m ≡ true → (o : Option Serial) → m.about ≡ o → is_some o ≡ true → is_expected awaited m.about ≡ true
     of_request m among is None at h = absurd (no_way h)
       where
         no_way : false ≡ true → ⊥
         no_way e = cc
     of_request m among is (Some r) at h =
         let about : is_serial r m.about ≡ true = ap (is_serial r) at ∙ same_serial-refl r in
-        let counted : 1 ≤ count_by (answers r) received = list_any-counts (answers r) received (among (answers r) (and_from (is_answer m) (is_serial r m.about) is about)) in
+        let counted : 1 ≤ count_by (answers r) received = list_any-counts (answers r) received (among (answers r) (and_from (is_reply m) (is_serial r m.about) is about)) in
         let some : list_any (has_arrived r) awaited ≡ true = counts_any (has_arrived r) awaited (omega (arith, counted, matches r)) in
         ap (is_expected awaited) at ∙ some
 
-    by_answer : (m : Message) → is_well_formed m ≡ true → ((t : Message → Bool) → t m ≡ true → list_any t received ≡ true) → (b : Bool) → is_answer m ≡ b → answers_expected awaited m ≡ true
-    by_answer m formed among true is = or_right (not (is_answer m)) (is_expected awaited m.about) (of_request m among is m.about refl (names_request m formed is))
-    by_answer m formed among false is = or_left (not (is_answer m)) (is_expected awaited m.about) (ap not is)
+    by_answer : (m : Message) → is_well_formed m ≡ true → ((t : Message → Bool) → t m ≡ true → list_any t received ≡ true) → (b : Bool) → is_reply m ≡ b → answers_expected awaited m ≡ true
+    by_answer m formed among true is = or_right (not (is_reply m)) (is_expected awaited m.about) (of_request m among is m.about refl (names_request m formed is))
+    by_answer m formed among false is = or_left (not (is_reply m)) (is_expected awaited m.about) (ap not is)
 
 all_once : (last : ℕ) (received : List Message) (awaited : List Awaited) → rise 0 last awaited ≡ true → ((r : Serial) → count_by (answers r) received ≡ count_by (has_arrived r) awaited) → list_all (is_answered_once received) awaited ≡ true
 all_once last received awaited rises matches =
@@ -193,8 +193,8 @@ passes_valid e pool b written h =
     let a1 = and_parts (list_all (is_received_here e) b.received) _ r.1 in
     let a2 = and_parts (nat_le (count_by is_request b.received) 16) _ a1.1 in
     let a3 = and_parts (list_all (answers_expected b.awaited) b.received) _ a2.1 in
-    let a4 = and_parts (list_all (is_answered_once b.received) b.awaited) (count_by is_answer b.received == count_by is_arrived b.awaited) a3.1 in
-    let equal : count_by is_answer b.received ≡ count_by is_arrived b.awaited = eqb-true _ _ a4.1 in
+    let a4 = and_parts (list_all (is_answered_once b.received) b.awaited) (count_by is_reply b.received == count_by is_arrived b.awaited) a3.1 in
+    let equal : count_by is_reply b.received ≡ count_by is_arrived b.awaited = eqb-true _ _ a4.1 in
     record {
       valid =
           record {
@@ -259,4 +259,4 @@ valid_passes e pool b is =
     (and_from (list_all (is_received_here e) b.received) _ v.received
     (and_from (nat_le (count_by is_request b.received) 16) _ (le-leb _ _ w.received)
     (and_from (list_all (answers_expected b.awaited) b.received) _ (all_expected e b.received b.awaited v.received v.each_answer)
-    (and_from (list_all (is_answered_once b.received) b.awaited) (count_by is_answer b.received == count_by is_arrived b.awaited) (all_once b.accepted b.received b.awaited v.counts v.each_answer) (eq-eqb _ _ v.all_answers)))))))
+    (and_from (list_all (is_answered_once b.received) b.awaited) (count_by is_reply b.received == count_by is_arrived b.awaited) (all_once b.accepted b.received b.awaited v.counts v.each_answer) (eq-eqb _ _ v.all_answers)))))))

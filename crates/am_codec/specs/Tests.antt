@@ -4,7 +4,7 @@ use Rattle.std.specs.List.{list_all, list_any}
 use Rattle.am_names.specs.declared.EndpointId.{EndpointId}
 use Rattle.am_names.specs.declared.Serial.{Serial}
 use Rattle.am_names.specs.declared.Message.{Message}
-use Rattle.am_names.specs.Names.{is_request, is_answer}
+use Rattle.am_names.specs.Names.{is_request, is_reply}
 use Rattle.am_model.specs.declared.Awaited.{Awaited}
 use Rattle.am_model.specs.Endpoint.{Body, entry_at, is_arrived, requests_held, replies_held}
 use Rattle.am_model.specs.Calls.{excess, shares}
@@ -37,7 +37,7 @@ is_expected awaited (Some request) = list_any (has_arrived request) awaited
 
 -- a received answer is expected
 abbrev pub answers_expected : List Awaited → Message → Bool
-answers_expected awaited m = not (is_answer m) || is_expected awaited m.about
+answers_expected awaited m = not (is_reply m) || is_expected awaited m.about
 
 -- a record that has arrived has one answer
 abbrev pub is_answered_once : List Message → Awaited → Bool
@@ -46,7 +46,7 @@ is_answered_once received a = not a.arrived || (count_by (answers a.serial) rece
 -- the received messages: at most 16 requests, and just the answers that the records say
 abbrev pub arrivals_pass : EndpointId → Body → Bool
 arrivals_pass e b =
-    list_all (is_received_here e) b.received && (nat_le (count_by is_request b.received) 16 && (list_all (answers_expected b.awaited) b.received && (list_all (is_answered_once b.received) b.awaited && (count_by is_answer b.received == count_by is_arrived b.awaited))))
+    list_all (is_received_here e) b.received && (nat_le (count_by is_request b.received) 16 && (list_all (answers_expected b.awaited) b.received && (list_all (is_answered_once b.received) b.awaited && (count_by is_reply b.received == count_by is_arrived b.awaited))))
 
 -- the body is valid for the endpoint e with this pool or none
 abbrev pub passes : EndpointId → Option ℕ → Body → Bool

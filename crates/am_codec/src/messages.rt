@@ -3,7 +3,7 @@ ghost use Rattle.am_codec.specs.Tests.{answers_expected, is_answered_once, is_ex
 ghost use Rattle.am_model.specs.Allowed.{are_zero, is_formed_as, is_well_formed};
 ghost use Rattle.am_office.specs.Entries.{is_serial};
 ghost use Rattle.am_model.specs.Valid.{answers, has_arrived, is_own, is_own_answer, is_own_notice, is_own_request, is_received_here};
-ghost use Rattle.am_names.specs.Names.{is_answer, is_request, is_request_kind, same_end, same_serial};
+ghost use Rattle.am_names.specs.Names.{is_reply, is_request, is_request_kind, same_end, same_serial};
 ghost use Rattle.std.specs.List.{list_any};
 ghost use Rattle.std.specs.Prelude.{◌≡◌, count_by};
 
@@ -32,8 +32,8 @@ pub(crate) fn is_request(message: &Message) -> bool
     is_request_kind(message.kind)
 }
 
-pub(crate) fn is_answer(message: &Message) -> bool
-    ensures { result ≡ is_answer message.now }
+pub(crate) fn is_reply(message: &Message) -> bool
+    ensures { result ≡ is_reply message.now }
 {
     !is_request(message)
 }
@@ -86,7 +86,7 @@ pub(crate) fn is_own_request(id: EndpointId, accepted: u32, queued: &Queued) -> 
 pub(crate) fn is_own_answer(id: EndpointId, accepted: u32, queued: &Queued) -> bool
     ensures { result ≡ is_own_answer id accepted queued.now }
 {
-    is_answer(&queued.message) && is_own(id, accepted, &queued.message, queued.bounces)
+    is_reply(&queued.message) && is_own(id, accepted, &queued.message, queued.bounces)
 }
 
 /// Whether it is of a message that the endpoint accepted.
@@ -134,7 +134,7 @@ fn is_expected(awaited: &[Awaited], about: Option<Serial>) -> bool
 pub(crate) fn answers_expected(awaited: &[Awaited], message: &Message) -> bool
     ensures { result ≡ answers_expected awaited.now message.now }
 {
-    !is_answer(message) || is_expected(awaited, message.about)
+    !is_reply(message) || is_expected(awaited, message.about)
 }
 
 fn is_serial(request: Serial, about: Option<Serial>) -> bool
@@ -149,7 +149,7 @@ fn is_serial(request: Serial, about: Option<Serial>) -> bool
 fn answers(request: Serial, message: &Message) -> bool
     ensures { result ≡ answers request message.now }
 {
-    is_answer(message) && is_serial(request, message.about)
+    is_reply(message) && is_serial(request, message.about)
 }
 
 fn answers_to(received: &[Message], request: Serial) -> usize

@@ -5,14 +5,14 @@ ghost use Rattle.am_model.specs.Endpoint.{entry_at, is_arrived};
 ghost use Rattle.am_model.specs.History.{are_credits_in_range, is_kind_in_range};
 ghost use Rattle.am_model.specs.Valid.{is_handler_in_range, is_mapping_in_range, is_own_answer, is_own_notice, is_own_request, is_received_here, is_record, rise};
 ghost use Rattle.am_model.specs.declared.Notice.{Notice as Noticed};
-ghost use Rattle.am_names.specs.Names.{is_answer, is_request};
+ghost use Rattle.am_names.specs.Names.{is_reply, is_request};
 ghost use Rattle.std.specs.List.{list_all};
 ghost use Rattle.std.specs.Prelude.{◌≡◌, ◌+◌, ◌*◌, ◌≤◌, count_by, is_none, is_some, length, nat_le, sum_by};
 
 use crate::lists::BodyLists;
 use crate::messages::{
-    answers_expected, is_answer, is_answered_once, is_own_answer, is_own_notice, is_own_request,
-    is_received_here, is_request,
+    answers_expected, is_answered_once, is_own_answer, is_own_notice, is_own_request,
+    is_received_here, is_reply, is_request,
 };
 use am_model::{Awaited, Mapping, Notice, Queued};
 use am_names::{EndpointId, Message};
@@ -180,11 +180,11 @@ fn requests_among(notices: &[Notice]) -> usize
 }
 
 fn answers_among(notices: &[Notice]) -> usize
-    ensures { result ≡ count_by (λ (n : Noticed). is_answer n.message) notices.now }
+    ensures { result ≡ count_by (λ (n : Noticed). is_reply n.message) notices.now }
 {
     notices
         .iter()
-        .filter(|notice| is_answer(&notice.message))
+        .filter(|notice| is_reply(&notice.message))
         .count()
 }
 
@@ -204,9 +204,9 @@ fn received_requests(received: &[Message]) -> usize
 }
 
 fn received_answers(received: &[Message]) -> usize
-    ensures { result ≡ count_by is_answer received.now }
+    ensures { result ≡ count_by is_reply received.now }
 {
-    received.iter().filter(|message| is_answer(message)).count()
+    received.iter().filter(|message| is_reply(message)).count()
 }
 
 fn arrived_records(awaited: &[Awaited]) -> usize

@@ -15,7 +15,7 @@ use Rattle.am_office.specs.declared.Event.TheVariants as Events
 use Rattle.am_office.specs.declared.Outcome.{Outcome}
 use Rattle.am_office.specs.declared.Outcome.TheVariants as Out
 use Rattle.am_office.specs.declared.Entry.{Entry}
-use Rattle.am_names.specs.Names.{is_answer}
+use Rattle.am_names.specs.Names.{is_reply}
 use Rattle.am_model.specs.declared.Notice.{Notice}
 use Rattle.am_model.specs.Endpoint.{State, entry_at}
 use Rattle.am_model.specs.Calls.{answer, no_words, outcome_of_call, poll, poll_received, poll_requests}
@@ -128,7 +128,7 @@ received_none e s None notes = requests_none e s s.body.received notes
 
 poll_none : (e : EndpointId) (s : State) (notices : List Notice) → Notes s.body.handlers → SendsNoWords (poll e s notices)
 poll_none e s (notice ∷ notices) notes = tt
-poll_none e s [] notes = received_none e s (find is_answer s.body.received) notes
+poll_none e s [] notes = received_none e s (find is_reply s.body.received) notes
 
 -- a poll that may follow sends back no words
 pub poll_sends_none : (layout : Layout) (past : List Entry) (end : EndpointId) → IsNoted layout past → (o : Outcome) → o ≡ outcome_of_call layout.pool end (state_of layout past end) Calls.Poll → SendsNoWords o

@@ -7,7 +7,7 @@ use Rattle.am_drain.specs.declared.Turn.{Turn}
 use Rattle.am_drain.specs.Rules.{next_turn}
 use Rattle.am_drain.specs.Drain.{after_turn, after_next_turn, after_turns, DrainIsDetermined}
 
--- where no rule applies there is no further after_next_turn
+-- where no rule applies there is no further turn
 pub no_more : (more : ℕ) (scenario : ScenarioLists) (past : List Entry) → next_turn scenario past ≡ None → after_turns (suc more) scenario past ≡ None
 no_more more scenario past e =
     ap (λ (t : Option Turn). option_and_then (after_turns more scenario) (option_map (after_turn scenario past) t)) e
@@ -32,7 +32,7 @@ pub drain_is_determined : DrainIsDetermined
 drain_is_determined scenario past one other (n, d) (m, d') =
     determined n m scenario past one other d.made d.ended d'.made d'.ended
 
--- a after_next_turn more, after so many
+-- a turn more, after so many
 pub one_turn_more : (n : ℕ) (scenario : ScenarioLists) (past now next : List Entry) → after_turns n scenario past ≡ Some now → after_next_turn scenario now ≡ Some next → after_turns (suc n) scenario past ≡ Some next
 one_turn_more zero scenario past now next e f =
     let same : past ≡ now = cc in

@@ -1,4 +1,4 @@
--- The drain: what is done when no thread runs any more, after_next_turn by after_next_turn until no rule applies.
+-- The drain: what is done when no thread runs any more, turn by turn until no rule applies.
 use Rattle.std.specs.Prelude.{◌≡◌, ℕ, zero, suc, Option, Some, None, List, ◌∷◌, ◌++◌, option_map, option_and_then}
 use Rattle.am_office.specs.declared.Actor.TheVariants.{Thread}
 use Rattle.am_office.specs.declared.Event.TheVariants as Events
@@ -12,7 +12,7 @@ use Rattle.am_drain.specs.Made.{after_event}
 use Rattle.am_drain.specs.Rules.{next_turn}
 use Rattle.am_drain.specs.Ready.{ready, ready_dest, off_disk_at}
 
--- the journal after a after_next_turn
+-- the journal after a turn
 abbrev pub after_turn : ScenarioLists → List Entry → Turn → List Entry
 after_turn scenario past (Once event) = after_event (layout_of scenario) event past
 after_turn scenario past (Send node e m) =
@@ -22,7 +22,7 @@ after_turn scenario past (Make c) =
     let layout = layout_of scenario in
     after_event layout (Events.Call (Thread c.thread) c.endpoint c.call) (off_disk_at (home layout c.endpoint) layout c.endpoint past)
 
--- the journal after the next after_next_turn, if there is one
+-- the journal after the next turn, if there is one
 abbrev pub after_next_turn : ScenarioLists → List Entry → Option (List Entry)
 after_next_turn scenario past = option_map (after_turn scenario past) (next_turn scenario past)
 

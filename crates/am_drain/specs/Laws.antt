@@ -17,7 +17,7 @@ use Rattle.am_drain.specs.Drain.{after_next_turn, IsDrained}
 use Rattle.am_drain.specs.Follows.{IsGoodPhase, FollowsScripts, IsStoppedFor}
 use Rattle.am_drain.specs.Cut.{IsDrainedWithRoom, IsDrainCutOff}
 
--- each after_next_turn makes an entry
+-- each turn makes an entry
 abbrev pub TurnsMakeEntries : Type 0
 TurnsMakeEntries = (scenario : ScenarioLists) (past next : List Entry) → after_next_turn scenario past ≡ Some next → length past < length next
 

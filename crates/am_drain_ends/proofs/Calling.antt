@@ -7,7 +7,7 @@ use Rattle.std.proofs.lemmas.List.Elements.{filter-append, filter_map-append}
 use Rattle.std.proofs.lemmas.Option.{slice_get_within}
 use Rattle.am_lemmas.proofs.Lists.{count_by-empty, find_passes}
 use Rattle.am_names.specs.declared.EndpointId.{EndpointId}
-use Rattle.am_names.specs.Names.{is_answer}
+use Rattle.am_names.specs.Names.{is_reply}
 use Rattle.am_office.specs.declared.Actor.TheVariants.{Outside, Thread}
 use Rattle.am_office.specs.declared.Call.TheVariants as Calls
 use Rattle.am_office.specs.declared.Event.{Event}
@@ -140,7 +140,7 @@ calls_fall s past c run thread left =
 -- an endpoint with nothing to send, nothing in flight and no notice has room for a reply
 has_slots : (b : Body) → length b.replies ≡ 0 → length b.in_flight ≡ 0 → length b.notices ≡ 0 → nat_le 16 (replies_held b) ≡ false
 has_slots b r f n =
-    let held : replies_held b ≡ 0 = omega (arith, r, count_by-empty (λ (g : Flying). is_answer g.message) b.in_flight f, count_by-empty (λ (w : Notice). is_answer w.message) b.notices n) in
+    let held : replies_held b ≡ 0 = omega (arith, r, count_by-empty (λ (g : Flying). is_reply g.message) b.in_flight f, count_by-empty (λ (w : Notice). is_reply w.message) b.notices n) in
     ap (nat_le 16) held
 
 nothing_arrived : (b : Body) → length b.notices ≡ 0 → length b.received ≡ 0 → has_arrivals b ≡ false

@@ -6,7 +6,7 @@ use Rattle.am_model.proofs.Sizes.{answer_kind}
 use Rattle.am_names.specs.declared.EndpointId.{EndpointId}
 use Rattle.am_names.specs.declared.Message.{Message}
 use Rattle.am_names.specs.declared.Words.{Words}
-use Rattle.am_names.specs.Names.{is_request, is_answer}
+use Rattle.am_names.specs.Names.{is_request, is_reply}
 use Rattle.am_office.specs.declared.HandlerKind.{HandlerKind}
 use Rattle.am_office.specs.declared.Refusal.{Refusal}
 use Rattle.am_office.specs.declared.Call.{Call}
@@ -100,7 +100,7 @@ no_answer false h = absurd (true≢false h)
 pub poll_work : (s : ScenarioLists) (e : EndpointId) (st : State) → Polled s st.body (called st Calls.Poll (poll e st st.body.notices)).body
 poll_work s e st = by_notices st.body.notices refl
   where
-    ran : (m : Message) (ms : List Message) → st.body.received ≡ m ∷ ms → is_answer m ≡ false → body_work s (called st Calls.Poll (Out.Ran m (Some m.handler) (Some (answer e st m (entry_at st.body.handlers m.handler))))).body + 1 ≤ body_work s st.body
+    ran : (m : Message) (ms : List Message) → st.body.received ≡ m ∷ ms → is_reply m ≡ false → body_work s (called st Calls.Poll (Out.Ran m (Some m.handler) (Some (answer e st m (entry_at st.body.handlers m.handler))))).body + 1 ≤ body_work s st.body
     ran m ms is none =
         let reply : Message = answer e st m (entry_at st.body.handlers m.handler) in
         let request : is_request m ≡ true = no_answer (is_request m) none in
@@ -109,16 +109,16 @@ poll_work s e st = by_notices st.body.notices refl
         let now : sum_by (received_work s) (drop 1 st.body.received) ≡ sum_by (received_work s) ms = ap (λ (xs : List Message). sum_by (received_work s) (drop 1 xs)) is in
         omega (arith, runs, before, now, sum_by-cons (received_work s) m ms, fresh_reply s reply (answer_kind e st m (entry_at st.body.handlers m.handler)), appended_work s reply 0 st.body.requests st.body.replies (is_request reply))
 
-    by_room : (m : Message) (ms : List Message) (b : Bool) → st.body.notices ≡ [] → st.body.received ≡ m ∷ ms → is_answer m ≡ false → nat_le 16 (replies_held st.body) ≡ b → Polled s st.body (called st Calls.Poll (if b then Out.Blocked else Out.Ran m (Some m.handler) (Some (answer e st m (entry_at st.body.handlers m.handler))))).body
+    by_room : (m : Message) (ms : List Message) (b : Bool) → st.body.notices ≡ [] → st.body.received ≡ m ∷ ms → is_reply m ≡ false → nat_le 16 (replies_held st.body) ≡ b → Polled s st.body (called st Calls.Poll (if b then Out.Blocked else Out.Ran m (Some m.handler) (Some (answer e st m (entry_at st.body.handlers m.handler))))).body
     by_room m ms true quiet is none full = Full (omega arith) (ap length quiet) full
     by_room m ms false quiet is none full = Less (ran m ms is none)
 
-    by_received : (ms : List Message) → st.body.notices ≡ [] → st.body.received ≡ ms → find is_answer ms ≡ None → Polled s st.body (called st Calls.Poll (poll_requests e st ms)).body
+    by_received : (ms : List Message) → st.body.notices ≡ [] → st.body.received ≡ ms → find is_reply ms ≡ None → Polled s st.body (called st Calls.Poll (poll_requests e st ms)).body
     by_received [] quiet is none = Empty (omega arith) (ap length quiet) (ap length is)
-    by_received (m ∷ ms) quiet is none = by_room m ms (nat_le 16 (replies_held st.body)) quiet is (first_not is_answer m ms none) refl
+    by_received (m ∷ ms) quiet is none = by_room m ms (nat_le 16 (replies_held st.body)) quiet is (first_not is_reply m ms none) refl
 
-    by_answer : (o : Option Message) → st.body.notices ≡ [] → find is_answer st.body.received ≡ o → Polled s st.body (called st Calls.Poll (poll_received e st o)).body
-    by_answer (Some m) quiet is = Less (omega (arith, first_less (received_work s) is_answer st.body.received m is, received_least s m))
+    by_answer : (o : Option Message) → st.body.notices ≡ [] → find is_reply st.body.received ≡ o → Polled s st.body (called st Calls.Poll (poll_received e st o)).body
+    by_answer (Some m) quiet is = Less (omega (arith, first_less (received_work s) is_reply st.body.received m is, received_least s m))
     by_answer None quiet is = by_received st.body.received quiet refl is
 
     by_notices : (ns : List Notice) → st.body.notices ≡ ns → Polled s st.body (called st Calls.Poll (poll e st ns)).body
@@ -126,7 +126,7 @@ poll_work s e st = by_notices st.body.notices refl
         let before : length st.body.notices ≡ length (n ∷ ns) = ap length is in
         let now : length (drop 1 st.body.notices) ≡ length ns = ap (λ (xs : List Notice). length (drop 1 xs)) is in
         Less (omega (arith, before, now))
-    by_notices [] is = by_answer (find is_answer st.body.received) is refl
+    by_notices [] is = by_answer (find is_reply st.body.received) is refl
 
 -- ---- any call
 

@@ -36,7 +36,7 @@ use Rattle.am_drain.specs.Follows.{FollowsScripts}
 use Rattle.am_drain_steps.specs.Enabled.{IsOfRun}
 use Rattle.am_drain_steps.specs.Work.{work}
 
--- the work that is left falls with each after_next_turn
+-- the work that is left falls with each turn
 abbrev pub EachTurnFalls : Type 0
 EachTurnFalls =
     (s : ScenarioLists) (past next : List Entry) → IsOfRun s past → ReceivesInOrder s past → length past < 2 ^ 32 → after_next_turn s past ≡ Some next → work s next < work s past
@@ -97,7 +97,7 @@ abbrev pub UnknownIsPlanned : ScenarioLists → List Entry → Type 0
 UnknownIsPlanned s journal =
     (past later : List Entry) (x : Entry) (node peer : NodeId) (channel : ℕ) (serial : Serial) → journal ≡ past ++ x ∷ later → x.event ≡ Events.Expire node peer channel → x.outcome ≡ Out.Unknown serial → IsWithheld s past node peer channel serial
 
--- a history of the scenario in which each packet is received in its after_next_turn and the last tries come last, as in each that follows the
+-- a history of the scenario in which each packet is received in its turn and the last tries come last, as in each that follows the
 -- scripts
 pub record IsOrderly (s : ScenarioLists) (journal : List Entry) : Type 0 where
   pub run : IsOfRun s journal

@@ -1,6 +1,6 @@
--- How much work is left to a drain: a number that falls with each after_next_turn. A message has its bounces, a binding its tries, a request
+-- How much work is left to a drain: a number that falls with each turn. A message has its bounces, a binding its tries, a request
 -- makes one reply, a packet goes out twice at most, and so many page calls fail.
-use Rattle.std.specs.Prelude.{ℕ, zero, suc, ◌+◌, ◌-◌, ◌*◌, Bool, true, false, ◌&&◌, nat_lt, Option, Some, None, List, [], ◌∷◌, length, drop, count_by, sum_by, if◌then◌else◌}
+use Rattle.std.specs.Prelude.{ℕ, zero, suc, ◌+◌, ◌-◌, ◌*◌, Bool, false, nat_lt, Option, Some, None, List, [], ◌∷◌, length, drop, count_by, sum_by, if◌then◌else◌}
 use Rattle.std.specs.List.{range_with_len}
 use Rattle.am_names.specs.declared.NodeId.{NodeId}
 use Rattle.am_names.specs.declared.Message.{Message}
@@ -23,13 +23,12 @@ use Rattle.am_scripts.specs.Layout.{layout_of}
 use Rattle.am_scripts.specs.Links.{nodes_of, received, released}
 use Rattle.am_scripts.specs.Scripts.{calls_of, script_of}
 use Rattle.am_scripts.specs.Standings.{Standing, standings}
-use Rattle.am_drain.specs.Drain.{after_next_turn}
 
--- one sending of a message, by a binding: its after_next_turn with two page-outs, and two copies of its packet
+-- one sending of a message, by a binding: its turn with two page-outs, and two copies of its packet
 abbrev pub sending : ℕ → ℕ
 sending copy = 3 + 2 * copy
 
--- the time-outs after a packet was sent, where so many tries are left: each a after_next_turn and two copies
+-- the time-outs after a packet was sent, where so many tries are left: each a turn and two copies
 abbrev pub time_outs : ℕ → ℕ → ℕ
 time_outs copy left = left * (1 + 2 * copy)
 
@@ -133,21 +132,3 @@ work s past =
     let layout = layout_of s in
     let ends = standings layout past in
     sum_by (thread_work s past) s.threads + sum_by (end_work s) ends + sum_by (node_work s past) (nodes_of s) + count_by is_standing_on_disk ends + count_by (is_fault_left past) layout.faults
-
--- the work at the beginning of so many turns
-abbrev pub works_by : (List Entry → List ℕ) → Option (List Entry) → List ℕ
-works_by later None = []
-works_by later (Some next) = later next
-
-abbrev pub works : ℕ → ScenarioLists → List Entry → List ℕ
-works zero s past = work s past ∷ []
-works (suc more) s past = work s past ∷ works_by (works more s) (after_next_turn s past)
-
-abbrev pub is_below : ℕ → List ℕ → Bool
-is_below most [] = true
-is_below most (n ∷ ns) = nat_lt n most && is_below n ns
-
--- whether each number is below the one before
-abbrev pub is_falling : List ℕ → Bool
-is_falling [] = true
-is_falling (n ∷ ns) = is_below n ns

@@ -89,7 +89,7 @@ acts_then s s0 done r plan past planned mid made same one next =
 abbrev pub Made : ScenarioLists → List Entry → List Entry → Type 0
 Made s past now = (n : ℕ) × (after_turns n s past ≡ Some now)
 
--- the after_next_turn that a rule gives
+-- the turn that a rule gives
 turn_of : (s : ScenarioLists) (now : List Entry) (t : Turn) → next_turn s now ≡ Some t → after_next_turn s now ≡ Some (after_turn s now t)
 turn_of s now t e = ap (option_map (after_turn s now)) e
 

@@ -3,7 +3,7 @@ use Rattle.std.proofs.Common.{◌≡◌, ℕ, ◌<◌, Bool, true, false, cond, 
 use Rattle.std.specs.Prelude.{nat_le, nat_lt, find}
 use Rattle.std.specs.List.{list_any}
 use Rattle.std.proofs.lemmas.Bool.{and_parts, leb-true}
-use Rattle.am_names.specs.Names.{is_answer, same_serial}
+use Rattle.am_names.specs.Names.{is_reply, same_serial}
 use Rattle.am_names.specs.declared.EndpointId.{EndpointId}
 use Rattle.am_names.specs.declared.Message.{Message}
 use Rattle.am_names.specs.declared.Serial.{Serial}
@@ -101,7 +101,7 @@ received_same e s None = requests_same e s s.body.received
 
 pub poll_same : (e : EndpointId) (s : State) (ns : List Notice) → poll e (on_host s.body) ns ≡ poll e s ns
 poll_same e s (n ∷ ns) = refl
-poll_same e s [] = received_same e s (find is_answer s.body.received)
+poll_same e s [] = received_same e s (find is_reply s.body.received)
 
 pub polled : (h : Head) (b c : Body) (o : Outcome) → record { head = (called (record { head = h; body = c }) Calls.Poll o).head; body = (called (on_host b) Calls.Poll o).body } ≡ called (record { head = h; body = b }) Calls.Poll o
 polled h b c (Out.Zero serial why) = refl

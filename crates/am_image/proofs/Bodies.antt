@@ -13,7 +13,7 @@ use Rattle.am_lemmas.proofs.Bytes.{bytes-drop}
 use Rattle.am_lemmas.proofs.Bools.{and_first, and_second}
 use Rattle.am_names.specs.declared.EndpointId.{EndpointId}
 use Rattle.am_names.specs.declared.Message.{Message}
-use Rattle.am_names.specs.Names.{same_end, is_request, is_answer}
+use Rattle.am_names.specs.Names.{same_end, is_request, is_reply}
 use Rattle.am_office.specs.declared.HandlerKind.{HandlerKind}
 use Rattle.am_model.specs.declared.Mapping.{Mapping}
 use Rattle.am_model.specs.declared.Awaited.{Awaited}
@@ -108,8 +108,8 @@ pub is_written : (e : EndpointId) (pool : Option ℕ) (b : Body) → IsValid e p
 is_written e pool b is =
     let held : requests_held b ≤ 16 = is.within.requests in
     let held_replies : replies_held b ≤ 16 = is.within.replies in
-    let noticed : length b.notices ≡ count_by (λ (n : Notice). is_request n.message) b.notices + count_by (λ (n : Notice). is_answer n.message) b.notices = split (λ (n : Notice). n.message) b.notices in
-    let arrived : length b.received ≡ count_by is_request b.received + count_by is_answer b.received = split (λ (m : Message). m) b.received in
+    let noticed : length b.notices ≡ count_by (λ (n : Notice). is_request n.message) b.notices + count_by (λ (n : Notice). is_reply n.message) b.notices = split (λ (n : Notice). n.message) b.notices in
+    let arrived : length b.received ≡ count_by is_request b.received + count_by is_reply b.received = split (λ (m : Message). m) b.received in
     let requests : length b.requests < 256 = omega (arith, held) in
     let replies : length b.replies < 256 = omega (arith, held_replies) in
     let notices : length b.notices < 256 = omega (arith, held, held_replies, noticed) in

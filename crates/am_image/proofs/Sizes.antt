@@ -4,7 +4,7 @@ use Rattle.std.specs.Prelude.{flat_map, sum_by, count_by}
 use Rattle.std.proofs.lemmas.List.Sums.{sum_by-cons, count_by-le-length}
 use Rattle.am_names.specs.declared.Serial.{Serial}
 use Rattle.am_names.specs.declared.Message.{Message}
-use Rattle.am_names.specs.Names.{is_request, is_answer}
+use Rattle.am_names.specs.Names.{is_request, is_reply}
 use Rattle.am_office.specs.declared.HandlerKind.{HandlerKind}
 use Rattle.am_office.specs.declared.HandlerKind.TheVariants.{Note, Echo, Add}
 use Rattle.am_model.specs.declared.Mapping.{Mapping}
@@ -99,11 +99,11 @@ at_most size most each (x ∷ xs) =
     grind (arith, both)
 
 -- messages are requests or answers
-pub split : {X : Type 0} (message : X → Message) (xs : List X) → length xs ≡ count_by (λ (x : X). is_request (message x)) xs + count_by (λ (x : X). is_answer (message x)) xs
+pub split : {X : Type 0} (message : X → Message) (xs : List X) → length xs ≡ count_by (λ (x : X). is_request (message x)) xs + count_by (λ (x : X). is_reply (message x)) xs
 split message [] = refl
 split {X} message (x ∷ xs) =
-    let rest : length xs ≡ count_by (λ (y : X). is_request (message y)) xs + count_by (λ (y : X). is_answer (message y)) xs = split message xs in
-    omega (arith, rest, sum_by-cons (λ (y : X). cond (is_request (message y)) 1 0) x xs, sum_by-cons (λ (y : X). cond (is_answer (message y)) 1 0) x xs, one (is_request (message x)))
+    let rest : length xs ≡ count_by (λ (y : X). is_request (message y)) xs + count_by (λ (y : X). is_reply (message y)) xs = split message xs in
+    omega (arith, rest, sum_by-cons (λ (y : X). cond (is_request (message y)) 1 0) x xs, sum_by-cons (λ (y : X). cond (is_reply (message y)) 1 0) x xs, one (is_request (message x)))
   where
     one : (b : Bool) → cond b 1 0 + cond (cond b false true) 1 0 ≡ 1
     one true = refl
@@ -134,8 +134,8 @@ images_are_short e pool b valid =
     let replies : sum_by queued_size b.replies ≤ 63 * length b.replies = at_most queued_size 63 (λ q. message_most q.message) b.replies in
     let notices : sum_by notice_size b.notices ≤ 64 * length b.notices = at_most notice_size 64 (λ n. omega (arith, message_most n.message)) b.notices in
     let received : sum_by message_size b.received ≤ 63 * length b.received = at_most message_size 63 message_most b.received in
-    let noticed : length b.notices ≡ count_by (λ (n : Notice). is_request n.message) b.notices + count_by (λ (n : Notice). is_answer n.message) b.notices = split (λ (n : Notice). n.message) b.notices in
-    let arrived : length b.received ≡ count_by is_request b.received + count_by is_answer b.received = split (λ (m : Message). m) b.received in
+    let noticed : length b.notices ≡ count_by (λ (n : Notice). is_request n.message) b.notices + count_by (λ (n : Notice). is_reply n.message) b.notices = split (λ (n : Notice). n.message) b.notices in
+    let arrived : length b.received ≡ count_by is_request b.received + count_by is_reply b.received = split (λ (m : Message). m) b.received in
     let held : requests_held b ≤ 16 = valid.within.requests in
     let held_replies : replies_held b ≤ 16 = valid.within.replies in
     let few : count_by is_arrived b.awaited ≤ length b.awaited = count_by-le-length is_arrived b.awaited in

@@ -23,7 +23,7 @@ use Rattle.am_office.specs.declared.Received.TheVariants as Got
 use Rattle.am_office.specs.declared.Outcome.{Outcome}
 use Rattle.am_office.specs.declared.Outcome.TheVariants as Out
 use Rattle.am_office.specs.declared.Entry.{Entry}
-use Rattle.am_names.specs.Names.{same_end, same_serial, is_request, is_answer}
+use Rattle.am_names.specs.Names.{same_end, same_serial, is_request, is_reply}
 use Rattle.am_model.specs.declared.Awaited.{Awaited}
 use Rattle.am_model.specs.declared.Queued.{Queued}
 use Rattle.am_model.specs.declared.Flying.{Flying}
@@ -75,7 +75,7 @@ appended_requests m bounces queue h = by_test (is_request m) refl
     by_test true is = all_push (λ (q : Queued). is_request q.message ≡ true) queue (record { message = m; bounces = bounces }) h is
     by_test false is = h
 
-appended_replies : (m : Message) (bounces : ℕ) (queue : List Queued) → AllAre (λ (q : Queued). is_request q.message ≡ false) queue → AllAre (λ (q : Queued). is_request q.message ≡ false) (appended (is_answer m) m bounces queue)
+appended_replies : (m : Message) (bounces : ℕ) (queue : List Queued) → AllAre (λ (q : Queued). is_request q.message ≡ false) queue → AllAre (λ (q : Queued). is_request q.message ≡ false) (appended (is_reply m) m bounces queue)
 appended_replies m bounces queue h = by_test (is_request m) refl
   where
     by_test : (b : Bool) → is_request m ≡ b → AllAre (λ (q : Queued). is_request q.message ≡ false) (appended (if b then false else true) m bounces queue)
@@ -164,24 +164,24 @@ changed_sorted e s (Events.PageOut node end) o k = out_sorted s o k
 changed_sorted e s (Events.PageIn node end) o k = in_sorted s o k
 
 -- the slots that are held, by their kinds
-requests_weigh : (xs : List Queued) → AllAre (λ (q : Queued). is_request q.message ≡ true) xs → (queue_weight (passing is_request) xs ≡ length xs) × (queue_weight (passing is_answer) xs ≡ 0)
+requests_weigh : (xs : List Queued) → AllAre (λ (q : Queued). is_request q.message ≡ true) xs → (queue_weight (passing is_request) xs ≡ length xs) × (queue_weight (passing is_reply) xs ≡ 0)
 requests_weigh [] h = (refl, refl)
 requests_weigh (q ∷ xs) h =
     let more = requests_weigh xs h.1 in
-    let none : bit (is_answer q.message) ≡ 0 = ap (λ (b : Bool). bit (if b then false else true)) h.0 in
-    (omega (arith, more.0, sum_by-cons (λ (y : Queued). bit (is_request y.message)) q xs, ap bit h.0), omega (arith, more.1, sum_by-cons (λ (y : Queued). bit (is_answer y.message)) q xs, none))
+    let none : bit (is_reply q.message) ≡ 0 = ap (λ (b : Bool). bit (if b then false else true)) h.0 in
+    (omega (arith, more.0, sum_by-cons (λ (y : Queued). bit (is_request y.message)) q xs, ap bit h.0), omega (arith, more.1, sum_by-cons (λ (y : Queued). bit (is_reply y.message)) q xs, none))
 
-replies_weigh : (xs : List Queued) → AllAre (λ (q : Queued). is_request q.message ≡ false) xs → (queue_weight (passing is_answer) xs ≡ length xs) × (queue_weight (passing is_request) xs ≡ 0)
+replies_weigh : (xs : List Queued) → AllAre (λ (q : Queued). is_request q.message ≡ false) xs → (queue_weight (passing is_reply) xs ≡ length xs) × (queue_weight (passing is_request) xs ≡ 0)
 replies_weigh [] h = (refl, refl)
 replies_weigh (q ∷ xs) h =
     let more = replies_weigh xs h.1 in
-    let one' : bit (is_answer q.message) ≡ 1 = ap (λ (b : Bool). bit (if b then false else true)) h.0 in
-    (omega (arith, more.0, sum_by-cons (λ (y : Queued). bit (is_answer y.message)) q xs, one'), omega (arith, more.1, sum_by-cons (λ (y : Queued). bit (is_request y.message)) q xs, ap bit h.0))
+    let one' : bit (is_reply q.message) ≡ 1 = ap (λ (b : Bool). bit (if b then false else true)) h.0 in
+    (omega (arith, more.0, sum_by-cons (λ (y : Queued). bit (is_reply y.message)) q xs, one'), omega (arith, more.1, sum_by-cons (λ (y : Queued). bit (is_request y.message)) q xs, ap bit h.0))
 
 requests_are : (b : Body) → AreSorted b → requests_held b ≡ all_of is_request b
 requests_are b k = omega (arith, (requests_weigh b.requests k.requests).0, (replies_weigh b.replies k.replies).1)
 
-replies_are : (b : Body) → AreSorted b → replies_held b ≡ all_of is_answer b
+replies_are : (b : Body) → AreSorted b → replies_held b ≡ all_of is_reply b
 replies_are b k = omega (arith, (requests_weigh b.requests k.requests).1, (replies_weigh b.replies k.replies).0)
 
 -- what leaves makes room for what comes and what comes back
@@ -283,8 +283,8 @@ about_arrives : (about : Option Serial) (xs : List Awaited) → count_by is_arri
 about_arrives None xs = omega arith
 about_arrives (Some t) xs = more_arrive t xs
 
-put_arrives : (m : Message) (xs : List Awaited) → (is_answer m && not (is_waited_for xs m.about)) ≡ false → count_by is_arrived xs + bit (is_answer m) ≤ count_by is_arrived (with_arrived m.about xs)
-put_arrives m xs h = omega (arith, about_arrives m.about xs, by_tests (is_answer m) (is_waited_for xs m.about) h)
+put_arrives : (m : Message) (xs : List Awaited) → (is_reply m && not (is_waited_for xs m.about)) ≡ false → count_by is_arrived xs + bit (is_reply m) ≤ count_by is_arrived (with_arrived m.about xs)
+put_arrives m xs h = omega (arith, about_arrives m.about xs, by_tests (is_reply m) (is_waited_for xs m.about) h)
   where
     by_tests : (a b : Bool) → (a && not b) ≡ false → bit a ≤ bit b
     by_tests true true e = omega arith
@@ -292,7 +292,7 @@ put_arrives m xs h = omega (arith, about_arrives m.about xs, by_tests (is_answer
     by_tests false b e = omega arith
 
 abbrev Welcomes : EndpointId → State → Event → Outcome → Type 0
-Welcomes e s event o = (m : Message) → put_at e event o ≡ Some m → (is_answer m && not (is_waited_for s.body.awaited m.about)) ≡ false
+Welcomes e s event o = (m : Message) → put_at e event o ≡ Some m → (is_reply m && not (is_waited_for s.body.awaited m.about)) ≡ false
 
 left_arrives : (s : State) (o : Outcome) (t : Bool) → count_by is_arrived (if t then left s o else s).body.awaited ≡ count_by is_arrived s.body.awaited
 left_arrives s (Out.Accepted m) true = refl
@@ -301,24 +301,24 @@ left_arrives s (Out.Returned m cause) true = waiting_kept m.serial s.body.awaite
 left_arrives s o true = refl
 left_arrives s o false = refl
 
-carried_arrives : (e end : EndpointId) (s : State) (o : Outcome) → Welcomes e s (Events.Carry end) o → count_by is_arrived s.body.awaited + weight is_answer (put_at e (Events.Carry end) o) ≤ count_by is_arrived (reached e (if same_end e end then left s o else s) o).body.awaited
+carried_arrives : (e end : EndpointId) (s : State) (o : Outcome) → Welcomes e s (Events.Carry end) o → count_by is_arrived s.body.awaited + weight is_reply (put_at e (Events.Carry end) o) ≤ count_by is_arrived (reached e (if same_end e end then left s o else s) o).body.awaited
 carried_arrives e end s (Out.Accepted m) w = by_test (same_end e m.dest) refl (same_end e end)
   where
     same : (b : Bool) → (if b then left s (Out.Accepted m) else s).body.awaited ≡ s.body.awaited
     same true = refl
     same false = refl
 
-    by_test : (t : Bool) → same_end e m.dest ≡ t → (b : Bool) → count_by is_arrived s.body.awaited + weight is_answer (if t then Some m else None) ≤ count_by is_arrived (if t then put m (if b then left s (Out.Accepted m) else s) else (if b then left s (Out.Accepted m) else s)).body.awaited
+    by_test : (t : Bool) → same_end e m.dest ≡ t → (b : Bool) → count_by is_arrived s.body.awaited + weight is_reply (if t then Some m else None) ≤ count_by is_arrived (if t then put m (if b then left s (Out.Accepted m) else s) else (if b then left s (Out.Accepted m) else s)).body.awaited
     by_test true at b =
         let put' = put_arrives m s.body.awaited (w m (ap (λ (t : Bool). if t then Some m else None) at)) in
         omega (arith, put', ap (λ (xs : List Awaited). count_by is_arrived (with_arrived m.about xs)) (same b))
     by_test false at b = omega (arith, ap (count_by is_arrived) (same b))
 carried_arrives e end s o w = omega (arith, left_arrives s o (same_end e end))
 
-result_arrives : (e : EndpointId) (s : State) (node peer : NodeId) (number channel seq attempt : ℕ) (r : Received) → list_any (same_end e) (touched_by_result r) ≡ true → Welcomes e s (Events.Receive node peer number) (Out.Received channel seq attempt r) → count_by is_arrived s.body.awaited + weight is_answer (put_at e (Events.Receive node peer number) (Out.Received channel seq attempt r)) ≤ count_by is_arrived (received e s r).body.awaited
+result_arrives : (e : EndpointId) (s : State) (node peer : NodeId) (number channel seq attempt : ℕ) (r : Received) → list_any (same_end e) (touched_by_result r) ≡ true → Welcomes e s (Events.Receive node peer number) (Out.Received channel seq attempt r) → count_by is_arrived s.body.awaited + weight is_reply (put_at e (Events.Receive node peer number) (Out.Received channel seq attempt r)) ≤ count_by is_arrived (received e s r).body.awaited
 result_arrives e s node peer number channel seq attempt (Got.Accepted m answer) t w = by_test (same_end e m.dest) refl (one_touched (same_end e m.dest) t)
   where
-    by_test : (b : Bool) → same_end e m.dest ≡ b → b ≡ true → count_by is_arrived s.body.awaited + weight is_answer (if b then Some m else None) ≤ count_by is_arrived (with_arrived m.about s.body.awaited)
+    by_test : (b : Bool) → same_end e m.dest ≡ b → b ≡ true → count_by is_arrived s.body.awaited + weight is_reply (if b then Some m else None) ≤ count_by is_arrived (with_arrived m.about s.body.awaited)
     by_test true at h = put_arrives m s.body.awaited (w m (ap (λ (b : Bool). if b then Some m else None) at))
     by_test false at h = absurd (true≢false (sym h))
 result_arrives e s node peer number channel seq attempt (Got.Refused m NotResident answer) t w = omega arith
@@ -344,7 +344,7 @@ in_arrives : (s : State) (o : Outcome) → count_by is_arrived (paged_in s o).bo
 in_arrives s Out.Done = refl
 in_arrives s o = refl
 
-entry_arrives : (e : EndpointId) (s : State) (event : Event) (o : Outcome) → list_any (same_end e) (ends_touched event o) ≡ true → is_call event ≡ false → Welcomes e s event o → count_by is_arrived s.body.awaited + weight is_answer (put_at e event o) ≤ count_by is_arrived (changed e s event o).body.awaited
+entry_arrives : (e : EndpointId) (s : State) (event : Event) (o : Outcome) → list_any (same_end e) (ends_touched event o) ≡ true → is_call event ≡ false → Welcomes e s event o → count_by is_arrived s.body.awaited + weight is_reply (put_at e event o) ≤ count_by is_arrived (changed e s event o).body.awaited
 entry_arrives e s (Events.Call actor end call) o t h w = absurd (true≢false h)
 entry_arrives e s (Events.Want actor end) o t h w = omega arith
 entry_arrives e s (Events.Carry end) o t h w = carried_arrives e end s o w
@@ -373,10 +373,10 @@ other_within : (layout : Layout) (past : List Entry) (x : Entry) → Bounded lay
 other_within layout past x k may e at h =
     record {
       requests = omega (arith, requests_are (state_of layout past e).body (k.sorted e), requests_are (changed e (state_of layout past e) x.event x.outcome).body new, no_more is_request e (state_of layout past e) x.event x.outcome fits h, (k.within e).requests);
-      replies = omega (arith, replies_are (state_of layout past e).body (k.sorted e), replies_are (changed e (state_of layout past e) x.event x.outcome).body new, no_more is_answer e (state_of layout past e) x.event x.outcome fits h, (k.within e).replies);
+      replies = omega (arith, replies_are (state_of layout past e).body (k.sorted e), replies_are (changed e (state_of layout past e) x.event x.outcome).body new, no_more is_reply e (state_of layout past e) x.event x.outcome fits h, (k.within e).replies);
       awaited = subst (λ (s : State). length s.body.awaited ≤ 32) (state_of_push layout past x e true at) (table_holds layout (past ++ x ∷ []) (each_push (MayFollow layout) [] past x k.history may) e);
       received = omega (arith, received is_request, room (put_at e x.event x.outcome) refl);
-      answers = omega (arith, received is_answer, (k.within e).answers, entry_arrives e (state_of layout past e) x.event x.outcome at h (λ m is. (welcome' m is).awaited));
+      answers = omega (arith, received is_reply, (k.within e).answers, entry_arrives e (state_of layout past e) x.event x.outcome at h (λ m is. (welcome' m is).awaited));
     }
   where
     fits : FitsSend e (state_of layout past e) x.event x.outcome

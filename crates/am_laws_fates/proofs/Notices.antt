@@ -22,7 +22,7 @@ use Rattle.am_office.specs.declared.Received.TheVariants as Got
 use Rattle.am_office.specs.declared.Outcome.{Outcome}
 use Rattle.am_office.specs.declared.Outcome.TheVariants as Out
 use Rattle.am_office.specs.declared.Entry.{Entry}
-use Rattle.am_names.specs.Names.{same_end, same_serial, has_serial, is_answer}
+use Rattle.am_names.specs.Names.{same_end, same_serial, has_serial, is_reply}
 use Rattle.am_model.specs.declared.Flying.{Flying}
 use Rattle.am_model.specs.declared.Notice.{Notice}
 use Rattle.am_model.specs.Endpoint.{State, replies_held, entry_at}
@@ -61,7 +61,7 @@ polled_zero e st serial why (n ∷ rest) at is =
     let one' : n.message.serial ≡ serial = cc in
     let two : n.why ≡ why = cc in
     record { notice = n; rest = rest; at = at; serial' = one'; why' = two }
-polled_zero e st serial why [] at is = absurd (by_found (find is_answer st.body.received) is)
+polled_zero e st serial why [] at is = absurd (by_found (find is_reply st.body.received) is)
   where
     by_full : (m : Message) (full : Bool) → (if full then Out.Blocked else Out.Ran m (Some m.handler) (Some (answer e st m (entry_at st.body.handlers m.handler)))) ≡ Out.Zero serial why → ⊥
     by_full m true h = cc

@@ -17,7 +17,7 @@ use Rattle.am_office.specs.declared.Outcome.{Outcome}
 use Rattle.am_office.specs.declared.Outcome.TheVariants as Out
 use Rattle.am_office.specs.declared.Refusal.{Refusal}
 use Rattle.am_office.specs.declared.Entry.{Entry}
-use Rattle.am_names.specs.Names.{is_answer}
+use Rattle.am_names.specs.Names.{is_reply}
 use Rattle.am_model.specs.declared.Mapping.{Mapping}
 use Rattle.am_model.specs.declared.Notice.{Notice}
 use Rattle.am_model.specs.Endpoint.{entry_at, replies_held}
@@ -71,7 +71,7 @@ reply_asked layout past k e m None = record { serial = next_is layout past k e; 
 
 poll_asked : (layout : Layout) (past : List Entry) → KnowsCalls layout past → (e : EndpointId) (notices : List Notice) → IsAcceptedSo layout past e Calls.Poll (poll e (state_of layout past e) notices)
 poll_asked layout past k e (notice ∷ notices) = tt
-poll_asked layout past k e [] = by_found (find is_answer (state_of layout past e).body.received)
+poll_asked layout past k e [] = by_found (find is_reply (state_of layout past e).body.received)
   where
     by_full : (m : Message) (full : Bool) → IsAcceptedSo layout past e Calls.Poll (if full then Out.Blocked else Out.Ran m (Some m.handler) (Some (answer e (state_of layout past e) m (entry_at (state_of layout past e).body.handlers m.handler))))
     by_full m true = tt

@@ -18,7 +18,7 @@ use Rattle.am_office.specs.declared.Received.{Received}
 use Rattle.am_office.specs.declared.Received.TheVariants as Got
 use Rattle.am_office.specs.declared.Outcome.{Outcome}
 use Rattle.am_office.specs.declared.Outcome.TheVariants as Out
-use Rattle.am_names.specs.Names.{same_end, is_request, is_answer}
+use Rattle.am_names.specs.Names.{same_end, is_request, is_reply}
 use Rattle.am_model.specs.Choice.{first_holding}
 use Rattle.am_model.specs.declared.Notice.{Notice}
 use Rattle.am_model.specs.Endpoint.{State, verdict, verdict_of, is_resident, entry_at, is_waited_for, replies_held}
@@ -39,12 +39,12 @@ pub record IsWelcome (s : State) (m : Message) : Type 0 where
   pub tag : matches s.body.tag m.tag ≡ true
   pub handler : (is_request m && is_none (entry_at s.body.handlers m.handler)) ≡ false
   pub room : (is_request m && nat_le 16 (count_by is_request s.body.received)) ≡ false
-  pub awaited : (is_answer m && not (is_waited_for s.body.awaited m.about)) ≡ false
+  pub awaited : (is_reply m && not (is_waited_for s.body.awaited m.about)) ≡ false
 
 pub welcome : (s : State) (m : Message) → verdict s m ≡ Verdicts.Accepted → IsWelcome s m
-welcome s m h = by_tests s.head.closed (is_resident s.head.place) (matches s.body.tag m.tag) (is_request m && is_none (entry_at s.body.handlers m.handler)) (is_request m && nat_le 16 (count_by is_request s.body.received)) (is_answer m && not (is_waited_for s.body.awaited m.about)) refl refl refl refl refl refl h
+welcome s m h = by_tests s.head.closed (is_resident s.head.place) (matches s.body.tag m.tag) (is_request m && is_none (entry_at s.body.handlers m.handler)) (is_request m && nat_le 16 (count_by is_request s.body.received)) (is_reply m && not (is_waited_for s.body.awaited m.about)) refl refl refl refl refl refl h
   where
-    by_tests : (a b c d e f : Bool) → s.head.closed ≡ a → is_resident s.head.place ≡ b → matches s.body.tag m.tag ≡ c → (is_request m && is_none (entry_at s.body.handlers m.handler)) ≡ d → (is_request m && nat_le 16 (count_by is_request s.body.received)) ≡ e → (is_answer m && not (is_waited_for s.body.awaited m.about)) ≡ f → verdict_of (first_holding ((a, NoEndpoint) ∷ (not b, NotResident) ∷ (not c, BadTag) ∷ (d, BadHandler) ∷ (e, QueueFull) ∷ (f, NoRequest) ∷ [])) ≡ Verdicts.Accepted → IsWelcome s m
+    by_tests : (a b c d e f : Bool) → s.head.closed ≡ a → is_resident s.head.place ≡ b → matches s.body.tag m.tag ≡ c → (is_request m && is_none (entry_at s.body.handlers m.handler)) ≡ d → (is_request m && nat_le 16 (count_by is_request s.body.received)) ≡ e → (is_reply m && not (is_waited_for s.body.awaited m.about)) ≡ f → verdict_of (first_holding ((a, NoEndpoint) ∷ (not b, NotResident) ∷ (not c, BadTag) ∷ (d, BadHandler) ∷ (e, QueueFull) ∷ (f, NoRequest) ∷ [])) ≡ Verdicts.Accepted → IsWelcome s m
     by_tests true b c d e f h1 h2 h3 h4 h5 h6 h = absurd (cc)
     by_tests false false c d e f h1 h2 h3 h4 h5 h6 h = absurd (cc)
     by_tests false true false d e f h1 h2 h3 h4 h5 h6 h = absurd (cc)
@@ -92,7 +92,7 @@ ReceivedAre R s = AllAre R s.body.received
 called_held : (R : Message → Type 0) (s : State) (c : Call) (o : Outcome) → ReceivedAre R s → ReceivedAre R (called s c o)
 called_held R s (Calls.Request at handler words) (Out.Requested m) h = h
 called_held R s Calls.Poll (Out.Zero serial why) h = h
-called_held R s Calls.Poll (Out.Ran m handler None) h = all_without R is_answer s.body.received h
+called_held R s Calls.Poll (Out.Ran m handler None) h = all_without R is_reply s.body.received h
 called_held R s Calls.Poll (Out.Ran m handler (Some reply)) h = all_tail R s.body.received h
 called_held R s (Calls.SetTag tag) Out.Done h = h
 called_held R s (Calls.Map at name tag credits) Out.Done h = h
@@ -167,21 +167,21 @@ pub record IsRunOf (R : Message → Type 0) (m : Message) (o : Outcome) : Type 0
   pub held : R m
   pub handler : RunsOwnHandler o
 
-pub answers_is : (xs : List Message) (m : Message) → find is_answer xs ≡ Some m → is_answer m ≡ true
+pub answers_is : (xs : List Message) (m : Message) → find is_reply xs ≡ Some m → is_reply m ≡ true
 answers_is [] m e = absurd (cc)
-answers_is (x ∷ xs) m e = by_test (is_answer x) refl e (answers_is xs m)
+answers_is (x ∷ xs) m e = by_test (is_reply x) refl e (answers_is xs m)
   where
-    by_test : (b : Bool) → is_answer x ≡ b → cond b (Some x) (find is_answer xs) ≡ Some m → (find is_answer xs ≡ Some m → is_answer m ≡ true) → is_answer m ≡ true
-    by_test true is h more = let same : x ≡ m = cc in subst (λ (w : Message). is_answer w ≡ true) same is
+    by_test : (b : Bool) → is_reply x ≡ b → cond b (Some x) (find is_reply xs) ≡ Some m → (find is_reply xs ≡ Some m → is_reply m ≡ true) → is_reply m ≡ true
+    by_test true is h more = let same : x ≡ m = cc in subst (λ (w : Message). is_reply w ≡ true) same is
     by_test false is h more = more h
 
-own_handler : (s : State) (m : Message) (b : Bool) → is_answer m ≡ true → RunsOwnHandler (Out.Ran m (if b then Some m.handler else None) None)
+own_handler : (s : State) (m : Message) (b : Bool) → is_reply m ≡ true → RunsOwnHandler (Out.Ran m (if b then Some m.handler else None) None)
 own_handler s m true is = refl
 own_handler s m false is = is
 
 pub polled_run : (R : Message → Type 0) (e : EndpointId) (s : State) (m : Message) → ReceivedAre R s → (notices : List Notice) → run_by Calls.Poll (poll e s notices) ≡ Some m → IsRunOf R m (poll e s notices)
 polled_run R e s m h (notice ∷ notices) is = absurd (cc)
-polled_run R e s m h [] is = by_found (find is_answer s.body.received) refl is
+polled_run R e s m h [] is = by_found (find is_reply s.body.received) refl is
   where
     by_full : (n : Message) (full : Bool) → R n → let o = if full then Out.Blocked else Out.Ran n (Some n.handler) (Some (answer e s n (entry_at s.body.handlers n.handler))) in run_by Calls.Poll o ≡ Some m → IsRunOf R m o
     by_full n true r e = absurd (cc)
@@ -191,11 +191,11 @@ polled_run R e s m h [] is = by_found (find is_answer s.body.received) refl is
     by_list [] all e = absurd (cc)
     by_list (n ∷ ns) all e = by_full n (nat_le 16 (replies_held s.body)) all.0 e
 
-    by_found : (f : Option Message) → find is_answer s.body.received ≡ f → run_by Calls.Poll (poll_received e s f) ≡ Some m → IsRunOf R m (poll_received e s f)
+    by_found : (f : Option Message) → find is_reply s.body.received ≡ f → run_by Calls.Poll (poll_received e s f) ≡ Some m → IsRunOf R m (poll_received e s f)
     by_found (Some n) at e =
         let same : n ≡ m = cc in
         record {
-          held = all_found R is_answer s.body.received m (at ∙ ap (λ (w : Message). Some w) same) h;
+          held = all_found R is_reply s.body.received m (at ∙ ap (λ (w : Message). Some w) same) h;
           handler = own_handler s n (is_reply_kind n.kind && is_some (entry_at s.body.handlers n.handler)) (answers_is s.body.received n at);
         }
     by_found None at e = by_list s.body.received h e

@@ -15,7 +15,7 @@ use Rattle.am_office.specs.declared.Event.TheVariants as Events
 use Rattle.am_office.specs.declared.Outcome.{Outcome}
 use Rattle.am_office.specs.declared.Outcome.TheVariants as Out
 use Rattle.am_office.specs.declared.Entry.{Entry}
-use Rattle.am_names.specs.Names.{is_request, is_answer}
+use Rattle.am_names.specs.Names.{is_request, is_reply}
 use Rattle.am_model.specs.declared.Mapping.{Mapping}
 use Rattle.am_model.specs.declared.Notice.{Notice}
 use Rattle.am_model.specs.Endpoint.{State, entry_at, replies_held}
@@ -31,32 +31,32 @@ request_one e st index handler words (Some r) mapping = tt
 request_one e st index handler words None None = tt
 request_one e st index handler words None (Some mapping) = refl
 
-answer_one : (e : EndpointId) (st : State) (m : Message) (kind : Option HandlerKind) → (is_answer (answer e st m kind) ≡ true) × ((answer e st m kind).about ≡ Some m.serial)
+answer_one : (e : EndpointId) (st : State) (m : Message) (kind : Option HandlerKind) → (is_reply (answer e st m kind) ≡ true) × ((answer e st m kind).about ≡ Some m.serial)
 answer_one e st m (Some (Echo to)) = (refl, refl)
 answer_one e st m (Some (Add to)) = (refl, refl)
 answer_one e st m (Some Note) = (refl, refl)
 answer_one e st m None = (refl, refl)
 
-first_request : (m : Message) (ms : List Message) → find is_answer (m ∷ ms) ≡ None → is_request m ≡ true
+first_request : (m : Message) (ms : List Message) → find is_reply (m ∷ ms) ≡ None → is_request m ≡ true
 first_request m ms h = by_test (is_request m) refl h
   where
-    by_test : (b : Bool) → is_request m ≡ b → cond (if b then false else true) (Some m) (find is_answer ms) ≡ None → b ≡ true
+    by_test : (b : Bool) → is_request m ≡ b → cond (if b then false else true) (Some m) (find is_reply ms) ≡ None → b ≡ true
     by_test true is e = refl
     by_test false is e = absurd (cc)
 
 poll_one : (e : EndpointId) (st : State) (notices : List Notice) → SendsOneReply Calls.Poll (poll e st notices)
 poll_one e st (notice ∷ notices) = tt
-poll_one e st [] = by_found (find is_answer st.body.received) refl
+poll_one e st [] = by_found (find is_reply st.body.received) refl
   where
     by_full : (m : Message) (full : Bool) → is_request m ≡ true → SendsOneReply Calls.Poll (if full then Out.Blocked else Out.Ran m (Some m.handler) (Some (answer e st m (entry_at st.body.handlers m.handler))))
     by_full m true is = tt
     by_full m false is = let a = answer_one e st m (entry_at st.body.handlers m.handler) in (is, a.0, a.1)
 
-    by_list : (xs : List Message) → find is_answer xs ≡ None → SendsOneReply Calls.Poll (poll_requests e st xs)
+    by_list : (xs : List Message) → find is_reply xs ≡ None → SendsOneReply Calls.Poll (poll_requests e st xs)
     by_list [] none = tt
     by_list (m ∷ ms) none = by_full m (nat_le 16 (replies_held st.body)) (first_request m ms none)
 
-    by_found : (f : Option Message) → find is_answer st.body.received ≡ f → SendsOneReply Calls.Poll (poll_received e st f)
+    by_found : (f : Option Message) → find is_reply st.body.received ≡ f → SendsOneReply Calls.Poll (poll_received e st f)
     by_found (Some m) is = answers_is st.body.received m is
     by_found None is = by_list st.body.received is
 

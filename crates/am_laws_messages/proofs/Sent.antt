@@ -19,7 +19,7 @@ use Rattle.am_office.specs.declared.Received.TheVariants as Got
 use Rattle.am_office.specs.declared.Outcome.{Outcome}
 use Rattle.am_office.specs.declared.Outcome.TheVariants as Out
 use Rattle.am_office.specs.declared.Entry.{Entry}
-use Rattle.am_names.specs.Names.{same_end, has_serial, is_request, is_answer}
+use Rattle.am_names.specs.Names.{same_end, has_serial, is_request, is_reply}
 use Rattle.am_model.specs.declared.Queued.{Queued}
 use Rattle.am_model.specs.declared.Flying.{Flying}
 use Rattle.am_model.specs.Endpoint.{State, Body, front, front_of, is_resident}
@@ -85,7 +85,7 @@ queued_are : (P : Message → Type 0) (m : Message) (bounces : ℕ) (b : Body) �
 queued_are P m bounces b h p =
     record {
       requests = appended_are P (is_request m) m bounces b.requests h.requests p;
-      replies = appended_are P (is_answer m) m bounces b.replies h.replies p;
+      replies = appended_are P (is_reply m) m bounces b.replies h.replies p;
       flights = h.flights;
     }
 
@@ -106,11 +106,11 @@ front_are P s q e h = front_is P s.body.replies s.body.requests q e h.replies h.
 
 called_are : (P : Message → Type 0) (s : State) (c : Call) (o : Outcome) → SentAre P s.body → ((m : Message) → accepted_by c o ≡ Some m → P m) → SentAre P (called s c o).body
 called_are P s (Calls.Request index handler words) (Out.Requested m) h p =
-    record { requests = appended_are P (is_request m) m 0 s.body.requests h.requests (p m refl); replies = appended_are P (is_answer m) m 0 s.body.replies h.replies (p m refl); flights = h.flights }
+    record { requests = appended_are P (is_request m) m 0 s.body.requests h.requests (p m refl); replies = appended_are P (is_reply m) m 0 s.body.replies h.replies (p m refl); flights = h.flights }
 called_are P s Calls.Poll (Out.Zero serial why) h p = record { requests = h.requests; replies = h.replies; flights = h.flights }
 called_are P s Calls.Poll (Out.Ran m handler None) h p = record { requests = h.requests; replies = h.replies; flights = h.flights }
 called_are P s Calls.Poll (Out.Ran m handler (Some reply)) h p =
-    record { requests = appended_are P (is_request reply) reply 0 s.body.requests h.requests (p reply refl); replies = appended_are P (is_answer reply) reply 0 s.body.replies h.replies (p reply refl); flights = h.flights }
+    record { requests = appended_are P (is_request reply) reply 0 s.body.requests h.requests (p reply refl); replies = appended_are P (is_reply reply) reply 0 s.body.replies h.replies (p reply refl); flights = h.flights }
 called_are P s (Calls.SetTag tag) Out.Done h p = record { requests = h.requests; replies = h.replies; flights = h.flights }
 called_are P s (Calls.Map index name tag credits) Out.Done h p = record { requests = h.requests; replies = h.replies; flights = h.flights }
 called_are P s (Calls.Unmap index) Out.Done h p = record { requests = h.requests; replies = h.replies; flights = h.flights }
@@ -158,7 +158,7 @@ landed_are P serial b h = record { requests = h.requests; replies = h.replies; f
 requeued_are : (P : Message → Type 0) (flight : Option Flying) (bounces : ℕ) (b : Body) → ((f : Flying) → flight ≡ Some f → P f.message) → SentAre P b → SentAre P (requeued_flight flight bounces b)
 requeued_are P None bounces b is h = record { requests = h.requests; replies = h.replies; flights = h.flights }
 requeued_are P (Some f) bounces b is h =
-    record { requests = appended_are P (is_request f.message) f.message bounces b.requests h.requests (is f refl); replies = appended_are P (is_answer f.message) f.message bounces b.replies h.replies (is f refl); flights = h.flights }
+    record { requests = appended_are P (is_request f.message) f.message bounces b.requests h.requests (is f refl); replies = appended_are P (is_reply f.message) f.message bounces b.replies h.replies (is f refl); flights = h.flights }
 
 received_are : (P : Message → Type 0) (e : EndpointId) (s : State) (r : Received) → SentAre P s.body → SentAre P (received e s r).body
 received_are P e s (Got.Accepted m answer) h = put_are P m s h

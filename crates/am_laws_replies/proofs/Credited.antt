@@ -30,7 +30,7 @@ use Rattle.am_office.specs.declared.Received.TheVariants as Got
 use Rattle.am_office.specs.declared.Outcome.{Outcome}
 use Rattle.am_office.specs.declared.Outcome.TheVariants as Out
 use Rattle.am_office.specs.declared.Entry.{Entry}
-use Rattle.am_names.specs.Names.{same_end, same_serial, is_request, is_answer}
+use Rattle.am_names.specs.Names.{same_end, same_serial, is_request, is_reply}
 use Rattle.am_model.specs.Choice.{first_holding}
 use Rattle.am_model.specs.declared.Awaited.{Awaited}
 use Rattle.am_model.specs.declared.Mapping.{Mapping}
@@ -133,7 +133,7 @@ pub record IsReplyOf (past : List Entry) (m : Message) (s : Serial) : Type 0 whe
 abbrev pub KnowsReplies : List Entry → Type 0
 KnowsReplies past = (m : Message) → WasAccepted past m → (s : Serial) → m.about ≡ Some s → IsReplyOf past m s
 
-answers_no_request : (m : Message) → is_answer m ≡ true → is_request m ≡ false
+answers_no_request : (m : Message) → is_reply m ≡ true → is_request m ≡ false
 answers_no_request m h = by_test (is_request m) h
   where
     by_test : (b : Bool) → (if b then false else true) ≡ true → b ≡ false

@@ -20,7 +20,7 @@ use Rattle.am_office.specs.declared.Received.TheVariants as Got
 use Rattle.am_office.specs.declared.Outcome.{Outcome}
 use Rattle.am_office.specs.declared.Outcome.TheVariants as Out
 use Rattle.am_office.specs.declared.Entry.{Entry}
-use Rattle.am_names.specs.Names.{same_end, same_serial, has_serial, is_request, is_answer}
+use Rattle.am_names.specs.Names.{same_end, same_serial, has_serial, is_request, is_reply}
 use Rattle.am_model.specs.Choice.{without_first}
 use Rattle.am_model.specs.declared.Awaited.{Awaited}
 use Rattle.am_model.specs.Endpoint.{State, waits_for}
@@ -206,7 +206,7 @@ called_new s st (Calls.Request index handler words) (Out.Requested m) one h =
     list_any-append (waits_for s) st.body.awaited (record { index = index; serial = m.serial; arrived = false } ∷ []) ∙ or_right (waits s st.body.awaited) ((same_serial s m.serial && true) || false) (rw mine refl)
 called_new s st Calls.Poll (Out.Ran m handler (Some reply)) one h =
     let kind : is_request reply ≡ true = (and_parts (has_serial s reply) (is_request reply) h).1 in
-    let answer : is_answer reply ≡ true = one.1 in
+    let answer : is_reply reply ≡ true = one.1 in
     absurd (true≢false (sym answer ∙ rw kind refl))
 called_new s st c o one h = absurd (cc)
 

@@ -1,6 +1,6 @@
 -- The bounds of an endpoint's lists, as numbers.
 use Rattle.std.specs.Prelude.{◌≤◌, length, count_by}
-use Rattle.am_names.specs.Names.{is_request, is_answer}
+use Rattle.am_names.specs.Names.{is_request, is_reply}
 use Rattle.am_model.specs.Endpoint.{Body, requests_held, replies_held}
 use Rattle.am_model.specs.Calls.{messages_held}
 
@@ -12,5 +12,5 @@ pub record IsBounded (b : Body) : Type 0 where
   pub messages : messages_held b ≤ 32
   pub records : length b.awaited ≤ 32
   pub received_requests : count_by is_request b.received ≤ 16
-  pub received_replies : count_by is_answer b.received ≤ 32
+  pub received_replies : count_by is_reply b.received ≤ 32
   pub received : length b.received ≤ 48

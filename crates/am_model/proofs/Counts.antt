@@ -19,7 +19,7 @@ use Rattle.am_office.specs.declared.Received.TheVariants as Got
 use Rattle.am_office.specs.declared.Outcome.{Outcome}
 use Rattle.am_office.specs.declared.Outcome.TheVariants as Out
 use Rattle.am_office.specs.declared.Entry.{Entry}
-use Rattle.am_names.specs.Names.{same_end, is_answer}
+use Rattle.am_names.specs.Names.{same_end, is_reply}
 use Rattle.am_model.specs.declared.Mapping.{Mapping}
 use Rattle.am_model.specs.declared.Notice.{Notice}
 use Rattle.am_model.specs.Endpoint.{State, replies_held, entry_at}
@@ -53,7 +53,7 @@ front_serial : (e : EndpointId) (s : State) (m : Message) (full : Bool) → HasS
 front_serial e s m true = tt
 front_serial e s m false = answer_serial e s m (entry_at s.body.handlers m.handler)
 
-poll_serial : (e : EndpointId) (s : State) (notices : List Notice) (found : Option Message) (ms : List Message) → found ≡ find is_answer s.body.received → ms ≡ s.body.received → HasSerial (new_serial e s) (accepted_by Calls.Poll (poll e s notices))
+poll_serial : (e : EndpointId) (s : State) (notices : List Notice) (found : Option Message) (ms : List Message) → found ≡ find is_reply s.body.received → ms ≡ s.body.received → HasSerial (new_serial e s) (accepted_by Calls.Poll (poll e s notices))
 poll_serial e s (notice ∷ notices) found ms is at = tt
 poll_serial e s [] found ms is at = rw (← is) (by_found found)
   where
@@ -68,7 +68,7 @@ poll_serial e s [] found ms is at = rw (← is) (by_found found)
 -- what a call accepts has the next serial
 pub call_serial : (pool : Option ℕ) (e : EndpointId) (s : State) (c : Call) → HasSerial (new_serial e s) (accepted_by c (outcome_of_call pool e s c))
 call_serial pool e s (Calls.Request index handler words) = request_serial e s index handler words (request_refusal pool s index) (entry_at s.body.mapped index)
-call_serial pool e s Calls.Poll = poll_serial e s s.body.notices (find is_answer s.body.received) s.body.received refl refl
+call_serial pool e s Calls.Poll = poll_serial e s s.body.notices (find is_reply s.body.received) s.body.received refl refl
 call_serial pool e s (Calls.SetTag tag) = tt
 call_serial pool e s (Calls.Map index name tag credits) = tt
 call_serial pool e s (Calls.Unmap index) = tt

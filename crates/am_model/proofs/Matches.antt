@@ -5,7 +5,7 @@ use Rattle.std.specs.List.{count_by, find, list_any}
 use Rattle.std.proofs.lemmas.Bool.{and_parts, and_from}
 use Rattle.std.proofs.lemmas.List.Sums.{sum_by_push, sum_by-cons}
 use Rattle.am_lemmas.proofs.Lists.{find_passes, list_any-counts}
-use Rattle.am_names.specs.Names.{same_serial, is_answer, is_request, is_request_kind}
+use Rattle.am_names.specs.Names.{same_serial, is_reply, is_request, is_request_kind}
 use Rattle.am_names.specs.declared.Message.{Message}
 use Rattle.am_names.specs.declared.MsgKind.{MsgKind}
 use Rattle.am_names.specs.declared.MsgKind.TheVariants as Kind
@@ -24,7 +24,7 @@ use Rattle.am_model.proofs.Sizes.{waiting_kept}
 
 pub record AreMatched (received : List Message) (awaited : List Awaited) : Type 0 where
   pub each : (request : Serial) → count_by (answers request) received ≡ count_by (has_arrived request) awaited
-  pub all : count_by is_answer received ≡ count_by is_arrived awaited
+  pub all : count_by is_reply received ≡ count_by is_arrived awaited
 
 -- what a message of its form names
 
@@ -79,7 +79,7 @@ matched_request m received xs kind about matched =
     subst (λ (w : Option Serial). AreMatched (received ++ m ∷ []) (with_arrived w xs)) (sym about)
     (record {
       each = λ r. omega (arith, matched.each r, sum_by_push (λ (n : Message). cond (answers r n) 1 0) received m, ap (λ b. bit ((if b then false else true) && is_serial r m.about)) kind);
-      all = omega (arith, matched.all, sum_by_push (λ (n : Message). cond (is_answer n) 1 0) received m, ap (λ b. bit (if b then false else true)) kind);
+      all = omega (arith, matched.all, sum_by_push (λ (n : Message). cond (is_reply n) 1 0) received m, ap (λ b. bit (if b then false else true)) kind);
     })
 
 -- the reply to a request of which a record waits arrives
@@ -88,7 +88,7 @@ matched_answer last q m received xs kind about rising waits matched =
     subst (λ (w : Option Serial). AreMatched (received ++ m ∷ []) (with_arrived w xs)) (sym about)
     (record {
       each = λ r. by_request r (same_serial r q) refl;
-      all = omega (arith, matched.all, sum_by_push (λ (n : Message). cond (is_answer n) 1 0) received m, ap (λ b. bit (if b then false else true)) kind, arrived_counts q xs, one_waits);
+      all = omega (arith, matched.all, sum_by_push (λ (n : Message). cond (is_reply n) 1 0) received m, ap (λ b. bit (if b then false else true)) kind, arrived_counts q xs, one_waits);
     })
   where
     one_waits : count_by (waits_for q) xs ≡ 1
@@ -107,7 +107,7 @@ matched_answer last q m received xs kind about rising waits matched =
         omega (arith, matched.each r, sum_by_push (λ (n : Message). cond (answers r n) 1 0) received m, said r, ap bit is, arrives_only q r xs is)
 
 -- a message that is accepted arrives
-pub matched_put : (last : ℕ) (m : Message) (received : List Message) (xs : List Awaited) → is_well_formed m ≡ true → (is_answer m && not (is_waited_for xs m.about)) ≡ false → rise 0 last xs ≡ true → AreMatched received xs → AreMatched (received ++ m ∷ []) (with_arrived m.about xs)
+pub matched_put : (last : ℕ) (m : Message) (received : List Message) (xs : List Awaited) → is_well_formed m ≡ true → (is_reply m && not (is_waited_for xs m.about)) ≡ false → rise 0 last xs ≡ true → AreMatched received xs → AreMatched (received ++ m ∷ []) (with_arrived m.about xs)
 matched_put last m received xs formed accepts rising matched = by_kind (is_request m) refl m.about refl
   where
     awaited_is : (b t : Bool) → is_request m ≡ b → b ≡ false → is_waited_for xs m.about ≡ t → t ≡ true
@@ -122,14 +122,14 @@ matched_put last m received xs formed accepts rising matched = by_kind (is_reque
         matched_answer last q m received xs is about rising (sym (ap (is_waited_for xs) about) ∙ awaited_is (is_request m) (is_waited_for xs m.about) refl is refl) matched
 
 -- the reply to a request runs
-matched_settled : (last : ℕ) (q : Serial) (m : Message) (received : List Message) (xs : List Awaited) → find is_answer received ≡ Some m → is_answer m ≡ true → m.about ≡ Some q → rise 0 last xs ≡ true → AreMatched received xs → AreMatched (without_first is_answer received) (without_first (is_of q) xs)
+matched_settled : (last : ℕ) (q : Serial) (m : Message) (received : List Message) (xs : List Awaited) → find is_reply received ≡ Some m → is_reply m ≡ true → m.about ≡ Some q → rise 0 last xs ≡ true → AreMatched received xs → AreMatched (without_first is_reply received) (without_first (is_of q) xs)
 matched_settled last q m received xs found kind about rising matched = by_record (find (is_of q) xs) refl
   where
     said : (r : Serial) → bit (answers r m) ≡ bit (same_serial r q)
     said r = ap (λ b. bit (b && is_serial r m.about)) kind ∙ ap (λ w. bit (is_serial r w)) about
 
     one_arrived : 1 ≤ count_by (has_arrived q) xs
-    one_arrived = omega (arith, matched.each q, find_counts (answers q) is_answer received m found, said q, ap bit (same_serial-refl q))
+    one_arrived = omega (arith, matched.each q, find_counts (answers q) is_reply received m found, said q, ap bit (same_serial-refl q))
 
     has_come : (a : Awaited) → find (is_of q) xs ≡ Some a → (b : Bool) → a.arrived ≡ b → b ≡ true
     has_come a is true come = refl
@@ -139,7 +139,7 @@ matched_settled last q m received xs found kind about rising matched = by_record
         never : 1 ≤ 0 → ⊥
         never h = omega (arith, h)
 
-    by_record : (f : Option Awaited) → find (is_of q) xs ≡ f → AreMatched (without_first is_answer received) (without_first (is_of q) xs)
+    by_record : (f : Option Awaited) → find (is_of q) xs ≡ f → AreMatched (without_first is_reply received) (without_first (is_of q) xs)
     by_record None is = absurd (never (omega (arith, none_found (is_of q) xs is, one_arrived, arrives_or_waits q xs)))
       where
         never : 1 ≤ 0 → ⊥
@@ -149,36 +149,36 @@ matched_settled last q m received xs found kind about rising matched = by_record
         let its : q ≡ a.serial = same_serial-is q a.serial (find_passes (is_of q) xs a is) in
         record {
           each = λ r.
-              omega (arith, matched.each r, find_counts (answers r) is_answer received m found, said r, without_counts (has_arrived r) (is_of q) xs, ap (passing (has_arrived r)) is, ap (λ b. bit (same_serial r a.serial && b)) come, and_true (same_serial r a.serial), ap (λ (w : Serial). bit (same_serial r w)) its);
-          all = omega (arith, matched.all, find_counts is_answer is_answer received m found, ap bit kind, without_counts is_arrived (is_of q) xs, ap (passing is_arrived) is, ap bit come);
+              omega (arith, matched.each r, find_counts (answers r) is_reply received m found, said r, without_counts (has_arrived r) (is_of q) xs, ap (passing (has_arrived r)) is, ap (λ b. bit (same_serial r a.serial && b)) come, and_true (same_serial r a.serial), ap (λ (w : Serial). bit (same_serial r w)) its);
+          all = omega (arith, matched.all, find_counts is_reply is_reply received m found, ap bit kind, without_counts is_arrived (is_of q) xs, ap (passing is_arrived) is, ap bit come);
         }
       where
         and_true : (b : Bool) → bit (b && true) ≡ bit b
         and_true true = refl
         and_true false = refl
 
-pub matched_ran : (last : ℕ) (m : Message) (received : List Message) (xs : List Awaited) → find is_answer received ≡ Some m → is_well_formed m ≡ true → rise 0 last xs ≡ true → AreMatched received xs → AreMatched (without_first is_answer received) (without_record m.about xs)
+pub matched_ran : (last : ℕ) (m : Message) (received : List Message) (xs : List Awaited) → find is_reply received ≡ Some m → is_well_formed m ≡ true → rise 0 last xs ≡ true → AreMatched received xs → AreMatched (without_first is_reply received) (without_record m.about xs)
 matched_ran last m received xs found formed rising matched = by_about m.about refl
   where
-    kind : is_answer m ≡ true
-    kind = find_passes is_answer received m found
+    kind : is_reply m ≡ true
+    kind = find_passes is_reply received m found
 
     request_is : (b : Bool) → is_request m ≡ b → (if b then false else true) ≡ true → is_request m ≡ false
     request_is true is h = absurd (true≢false (sym h))
     request_is false is h = is
 
-    by_about : (about : Option Serial) → m.about ≡ about → AreMatched (without_first is_answer received) (without_record m.about xs)
+    by_about : (about : Option Serial) → m.about ≡ about → AreMatched (without_first is_reply received) (without_record m.about xs)
     by_about None about = absurd (true≢false (sym (formed_answer m.kind m (request_is (is_request m) refl kind) formed) ∙ ap is_some about))
     by_about (Some q) about = rw about (matched_settled last q m received xs found kind about rising matched)
 
 -- a request at the front runs
-pub matched_front : (m : Message) (ms received : List Message) (xs : List Awaited) → received ≡ m ∷ ms → find is_answer received ≡ None → AreMatched received xs → AreMatched (drop 1 received) xs
+pub matched_front : (m : Message) (ms received : List Message) (xs : List Awaited) → received ≡ m ∷ ms → find is_reply received ≡ None → AreMatched received xs → AreMatched (drop 1 received) xs
 matched_front m ms received xs at none matched =
     rw at
     (record {
       each = λ r.
-          omega (arith, matched.each r, ap (count_by (answers r)) at, sum_by-cons (λ (n : Message). cond (answers r n) 1 0) m ms, no_answer r (is_answer m) refl (ap bit kind));
-      all = omega (arith, matched.all, ap (count_by is_answer) at, sum_by-cons (λ (n : Message). cond (is_answer n) 1 0) m ms, ap bit kind);
+          omega (arith, matched.each r, ap (count_by (answers r)) at, sum_by-cons (λ (n : Message). cond (answers r n) 1 0) m ms, no_answer r (is_reply m) refl (ap bit kind));
+      all = omega (arith, matched.all, ap (count_by is_reply) at, sum_by-cons (λ (n : Message). cond (is_reply n) 1 0) m ms, ap bit kind);
     })
   where
     by_bit : (b : Bool) → bit b ≤ 0 → b ≡ false
@@ -188,9 +188,9 @@ matched_front m ms received xs at none matched =
         never e = omega (arith, e)
     by_bit false h = refl
 
-    kind : is_answer m ≡ false
-    kind = by_bit (is_answer m) (omega (arith, none_found is_answer received none, ap (count_by is_answer) at, sum_by-cons (λ (n : Message). cond (is_answer n) 1 0) m ms))
+    kind : is_reply m ≡ false
+    kind = by_bit (is_reply m) (omega (arith, none_found is_reply received none, ap (count_by is_reply) at, sum_by-cons (λ (n : Message). cond (is_reply n) 1 0) m ms))
 
-    no_answer : (r : Serial) (b : Bool) → is_answer m ≡ b → bit b ≡ 0 → bit (answers r m) ≡ 0
+    no_answer : (r : Serial) (b : Bool) → is_reply m ≡ b → bit b ≡ 0 → bit (answers r m) ≡ 0
     no_answer r true is h = absurd (cc)
     no_answer r false is h = ap (λ b. bit (b && is_serial r m.about)) is

@@ -2,7 +2,7 @@
 use Rattle.std.proofs.lemmas.Bool.{and_parts, and_from}
 use Rattle.std.proofs.Common.{◌≡◌, ℕ, Bool, true, false, List, [], Option, Some, None, ◌⊎◌, refl, sym, ap, ◌∙◌, subst, true≢false, if◌then◌else◌}
 use Rattle.std.proofs.lemmas.List.{nil_from_length}
-use Rattle.am_names.specs.Names.{is_answer, is_request, same_end}
+use Rattle.am_names.specs.Names.{is_reply, is_request, same_end}
 use Rattle.am_names.specs.declared.Cause.TheVariants as Causes
 use Rattle.am_names.specs.declared.EndpointId.{EndpointId}
 use Rattle.am_names.specs.declared.Message.{Message}
@@ -56,8 +56,8 @@ sound_of pool e s order =
       replies =
           all_weaker (is_own_answer e b.accepted) is_queued_answer b.replies
           (λ (q : Queued) h.
-          let parts = and_parts (is_answer q.message) (is_own e b.accepted q.message q.bounces) h in
-          and_from (is_answer q.message) (is_well_formed q.message) parts.0 (own_formed e b.accepted q.message q.bounces parts.1))
+          let parts = and_parts (is_reply q.message) (is_own e b.accepted q.message q.bounces) h in
+          and_from (is_reply q.message) (is_well_formed q.message) parts.0 (own_formed e b.accepted q.message q.bounces parts.1))
           v.replies;
       in_flight = all_weaker (is_own_flight e b.accepted) is_flight_formed b.in_flight (λ (f : Flying) h. own_formed e b.accepted f.message f.bounces h) v.in_flight;
     }

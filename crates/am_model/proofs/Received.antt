@@ -15,7 +15,7 @@ use Rattle.am_office.specs.declared.Received.{Received}
 use Rattle.am_office.specs.declared.Received.TheVariants as Got
 use Rattle.am_office.specs.declared.Outcome.{Outcome}
 use Rattle.am_office.specs.declared.Outcome.TheVariants as Out
-use Rattle.am_names.specs.Names.{same_end, is_answer}
+use Rattle.am_names.specs.Names.{same_end, is_reply}
 use Rattle.am_model.specs.Choice.{without_first}
 use Rattle.am_model.specs.declared.Notice.{Notice}
 use Rattle.am_model.specs.Endpoint.{State, replies_held}
@@ -73,13 +73,13 @@ polled_request : (p : Message → Bool) (e : EndpointId) (s : State) (ms : List 
 polled_request p e s [] is = omega arith
 polled_request p e s (m ∷ ms) is = polled_front p s m ms (Some m.handler) _ (nat_le 16 (replies_held s.body)) is
 
-polled_received : (p : Message → Bool) (e : EndpointId) (s : State) (found : Option Message) → find is_answer s.body.received ≡ found → held p (called s Calls.Poll (poll_received e s found)) + weight p (run_by Calls.Poll (poll_received e s found)) ≡ held p s
-polled_received p e s (Some m) is = find_counts p is_answer s.body.received m is
+polled_received : (p : Message → Bool) (e : EndpointId) (s : State) (found : Option Message) → find is_reply s.body.received ≡ found → held p (called s Calls.Poll (poll_received e s found)) + weight p (run_by Calls.Poll (poll_received e s found)) ≡ held p s
+polled_received p e s (Some m) is = find_counts p is_reply s.body.received m is
 polled_received p e s None is = polled_request p e s s.body.received refl
 
 polled : (p : Message → Bool) (e : EndpointId) (s : State) (notices : List Notice) → held p (called s Calls.Poll (poll e s notices)) + weight p (run_by Calls.Poll (poll e s notices)) ≡ held p s
 polled p e s (notice ∷ notices) = omega arith
-polled p e s [] = polled_received p e s (find is_answer s.body.received) refl
+polled p e s [] = polled_received p e s (find is_reply s.body.received) refl
 
 -- what comes of a call that is made at the endpoint
 pub called_received : (pool : Option ℕ) (p : Message → Bool) (e : EndpointId) (s : State) (c : Call) → held p (called s c (outcome_of_call pool e s c)) + weight p (run_by c (outcome_of_call pool e s c)) ≡ held p s

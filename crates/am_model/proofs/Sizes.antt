@@ -14,7 +14,7 @@ use Rattle.am_names.specs.declared.Words.{Words}
 use Rattle.am_office.specs.declared.Refusal.{Refusal}
 use Rattle.am_office.specs.declared.HandlerKind.{HandlerKind}
 use Rattle.am_office.specs.declared.HandlerKind.TheVariants.{Note, Echo, Add}
-use Rattle.am_names.specs.Names.{same_serial, is_answer, is_request}
+use Rattle.am_names.specs.Names.{same_serial, is_reply, is_request}
 use Rattle.am_model.specs.Choice.{without_first, first_holding}
 use Rattle.am_model.specs.declared.Notice.{Notice}
 use Rattle.am_model.specs.Endpoint.{State, replies_held, Body, IsWithinBounds, is_arrived, requests_held, waits_for, entry_at}
@@ -89,7 +89,7 @@ request_room pool s index h =
 within_accepted : (index : ℕ) (m : Message) (s : State) → is_request m ≡ true → length s.body.awaited < 32 → requests_held s.body < 16 → IsWithinBounds s.body → IsWithinBounds (request_accepted index m s).body
 within_accepted index m s is table send w =
     let q : length (appended (is_request m) m 0 s.body.requests) ≡ length s.body.requests + 1 = length_appended (is_request m) m 0 s.body.requests ∙ ap (λ (b : Bool). length s.body.requests + bit b) is in
-    let r : length (appended (is_answer m) m 0 s.body.replies) ≡ length s.body.replies = length_appended (is_answer m) m 0 s.body.replies ∙ ap (λ (b : Bool). length s.body.replies + bit (if b then false else true)) is ∙ omega arith in
+    let r : length (appended (is_reply m) m 0 s.body.replies) ≡ length s.body.replies = length_appended (is_reply m) m 0 s.body.replies ∙ ap (λ (b : Bool). length s.body.replies + bit (if b then false else true)) is ∙ omega arith in
     let a : count_by is_arrived (s.body.awaited ++ record { index = index; serial = m.serial; arrived = false } ∷ []) ≡ count_by is_arrived s.body.awaited + 0 = sum_by_push (λ (y : Awaited). cond y.arrived 1 0) s.body.awaited (record { index = index; serial = m.serial; arrived = false }) in
     record {
       requests = omega (arith, send, q);
@@ -100,31 +100,31 @@ within_accepted index m s is table send w =
     }
 
 -- a reply or an empty reply that runs
-within_answer : (m : Message) (handler : Option ℕ) (b : Body) → find is_answer b.received ≡ Some m → IsWithinBounds b → IsWithinBounds (answer_ran m handler b)
+within_answer : (m : Message) (handler : Option ℕ) (b : Body) → find is_reply b.received ≡ Some m → IsWithinBounds b → IsWithinBounds (answer_ran m handler b)
 within_answer m handler b found w =
-    let passes' : is_answer m ≡ true = found_passes is_answer b.received m found in
-    let fewer = find_counts is_answer is_answer b.received m found in
-    let one : bit (is_answer m) ≡ 1 = ap bit passes' in
+    let passes' : is_reply m ≡ true = found_passes is_reply b.received m found in
+    let fewer = find_counts is_reply is_reply b.received m found in
+    let one : bit (is_reply m) ≡ 1 = ap bit passes' in
     let record_left = settled_le m.about b.awaited in
     record {
       requests = w.requests;
       replies = w.replies;
       awaited = omega (arith, w.awaited, record_left.1);
-      received = omega (arith, w.received, (count_le is_request is_answer b.received).0);
+      received = omega (arith, w.received, (count_le is_request is_reply b.received).0);
       answers = omega (arith, w.answers, fewer, one, record_left.0);
     }
 
 -- a request that runs, whose answer is queued
-within_request : (m : Message) (ms : List Message) (handler : Option ℕ) (reply : Message) (b : Body) → b.received ≡ m ∷ ms → find is_answer b.received ≡ None → is_request reply ≡ false → replies_held b < 16 → IsWithinBounds b → IsWithinBounds (request_ran m handler reply b)
+within_request : (m : Message) (ms : List Message) (handler : Option ℕ) (reply : Message) (b : Body) → b.received ≡ m ∷ ms → find is_reply b.received ≡ None → is_request reply ≡ false → replies_held b < 16 → IsWithinBounds b → IsWithinBounds (request_ran m handler reply b)
 within_request m ms handler reply b at none kind room w =
     let q : length (appended (is_request reply) reply 0 b.requests) ≡ length b.requests = length_appended (is_request reply) reply 0 b.requests ∙ ap (λ (t : Bool). length b.requests + bit t) kind ∙ omega arith in
-    let r : length (appended (is_answer reply) reply 0 b.replies) ≡ length b.replies + 1 = length_appended (is_answer reply) reply 0 b.replies ∙ ap (λ (t : Bool). length b.replies + bit (if t then false else true)) kind in
+    let r : length (appended (is_reply reply) reply 0 b.replies) ≡ length b.replies + 1 = length_appended (is_reply reply) reply 0 b.replies ∙ ap (λ (t : Bool). length b.replies + bit (if t then false else true)) kind in
     record {
       requests = omega (arith, w.requests, q);
       replies = omega (arith, room, r);
       awaited = w.awaited;
       received = omega (arith, w.received, drop_le is_request b.received);
-      answers = omega (arith, w.answers, drop_le is_answer b.received);
+      answers = omega (arith, w.answers, drop_le is_reply b.received);
     }
 
 -- the front of the notices goes
@@ -132,7 +132,7 @@ within_notice : (b : Body) → IsWithinBounds b → IsWithinBounds (record b { n
 within_notice b w =
     record {
       requests = omega (arith, w.requests, drop_le (λ (n : Notice). is_request n.message) b.notices);
-      replies = omega (arith, w.replies, drop_le (λ (n : Notice). is_answer n.message) b.notices);
+      replies = omega (arith, w.replies, drop_le (λ (n : Notice). is_reply n.message) b.notices);
       awaited = w.awaited;
       received = w.received;
       answers = w.answers;
@@ -172,17 +172,17 @@ answer_kind e s m None = refl
 
 within_polled : (e : EndpointId) (s : State) → IsWithinBounds s.body → (notices : List Notice) → IsWithinBounds (called s Calls.Poll (poll e s notices)).body
 within_polled e s w (notice ∷ notices) = within_notice s.body w
-within_polled e s w [] = by_found (find is_answer s.body.received) refl
+within_polled e s w [] = by_found (find is_reply s.body.received) refl
   where
-    by_full : (m : Message) (ms : List Message) (full : Bool) → nat_le 16 (replies_held s.body) ≡ full → s.body.received ≡ m ∷ ms → find is_answer s.body.received ≡ None → IsWithinBounds (called s Calls.Poll (if full then Out.Blocked else Out.Ran m (Some m.handler) (Some (answer e s m (entry_at s.body.handlers m.handler))))).body
+    by_full : (m : Message) (ms : List Message) (full : Bool) → nat_le 16 (replies_held s.body) ≡ full → s.body.received ≡ m ∷ ms → find is_reply s.body.received ≡ None → IsWithinBounds (called s Calls.Poll (if full then Out.Blocked else Out.Ran m (Some m.handler) (Some (answer e s m (entry_at s.body.handlers m.handler))))).body
     by_full m ms true is at none = w
     by_full m ms false is at none = within_request m ms (Some m.handler) (answer e s m (entry_at s.body.handlers m.handler)) s.body at none (answer_kind e s m (entry_at s.body.handlers m.handler)) (leb-false 16 (replies_held s.body) is) w
 
-    by_list : (xs : List Message) → s.body.received ≡ xs → find is_answer s.body.received ≡ None → IsWithinBounds (called s Calls.Poll (poll_requests e s xs)).body
+    by_list : (xs : List Message) → s.body.received ≡ xs → find is_reply s.body.received ≡ None → IsWithinBounds (called s Calls.Poll (poll_requests e s xs)).body
     by_list [] at none = w
     by_list (m ∷ ms) at none = by_full m ms (nat_le 16 (replies_held s.body)) refl at none
 
-    by_found : (f : Option Message) → find is_answer s.body.received ≡ f → IsWithinBounds (called s Calls.Poll (poll_received e s f)).body
+    by_found : (f : Option Message) → find is_reply s.body.received ≡ f → IsWithinBounds (called s Calls.Poll (poll_received e s f)).body
     by_found (Some m) is = within_answer m (handler_run s m) s.body is w
     by_found None is = by_list s.body.received refl is
 
@@ -193,9 +193,9 @@ within_called pool e s Calls.Poll w = within_polled e s w s.body.notices
 within_called pool e s c w = within_other s c (outcome_of_call pool e s c) refl refl w
 
 -- requests and answers are all there is
-pub requests_and_answers : {X : Type 0} (m : X → Message) (xs : List X) → count_by (λ x. is_request (m x)) xs + count_by (λ x. is_answer (m x)) xs ≡ length xs
+pub requests_and_answers : {X : Type 0} (m : X → Message) (xs : List X) → count_by (λ x. is_request (m x)) xs + count_by (λ x. is_reply (m x)) xs ≡ length xs
 requests_and_answers m [] = refl
-requests_and_answers m (x ∷ xs) = omega (arith, requests_and_answers m xs, sum_by-cons (λ y. cond (is_request (m y)) 1 0) x xs, sum_by-cons (λ y. cond (is_answer (m y)) 1 0) x xs, one (is_request (m x)))
+requests_and_answers m (x ∷ xs) = omega (arith, requests_and_answers m xs, sum_by-cons (λ y. cond (is_request (m y)) 1 0) x xs, sum_by-cons (λ y. cond (is_reply (m y)) 1 0) x xs, one (is_request (m x)))
   where
     one : (b : Bool) → cond b 1 0 + cond (if b then false else true) 1 0 ≡ 1
     one true = refl

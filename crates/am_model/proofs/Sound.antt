@@ -7,7 +7,7 @@ use Rattle.std.proofs.lemmas.Bool.{and_parts, and_from}
 use Rattle.std.proofs.lemmas.List.{append-nil, length-set}
 use Rattle.std.proofs.lemmas.List.Folds.{list_all-append, list_all-map}
 use Rattle.std.proofs.lemmas.List.Sums.{sum_by_push, sum_by-cons}
-use Rattle.am_names.specs.Names.{has_serial, same_serial, same_end, is_answer, is_request}
+use Rattle.am_names.specs.Names.{has_serial, same_serial, same_end, is_reply, is_request}
 use Rattle.am_names.specs.Rules.{matches, is_transient}
 use Rattle.am_names.specs.declared.EndpointId.{EndpointId}
 use Rattle.am_names.specs.declared.Cause.TheVariants as Causes
@@ -55,7 +55,7 @@ abbrev pub is_queued_request : Queued → Bool
 is_queued_request q = is_request q.message && is_well_formed q.message
 
 abbrev pub is_queued_answer : Queued → Bool
-is_queued_answer q = is_answer q.message && is_well_formed q.message
+is_queued_answer q = is_reply q.message && is_well_formed q.message
 
 abbrev pub is_flight_formed : Flying → Bool
 is_flight_formed f = is_well_formed f.message
@@ -121,7 +121,7 @@ queues_queued : (m : Message) (n : ℕ) (b : Body) → is_well_formed m ≡ true
 queues_queued m n b formed kept =
     record {
       requests = all_appended is_queued_request (is_request m) m n b.requests (λ is. and_from (is_request m) (is_well_formed m) is formed) kept.requests;
-      replies = all_appended is_queued_answer (is_answer m) m n b.replies (λ is. and_from (is_answer m) (is_well_formed m) is formed) kept.replies;
+      replies = all_appended is_queued_answer (is_reply m) m n b.replies (λ is. and_from (is_reply m) (is_well_formed m) is formed) kept.replies;
     }
 
 queues_of : (pool : Option ℕ) (b : Body) → IsSound pool b → QueuesKept b
@@ -136,7 +136,7 @@ queues_requested pool e s index handler words None (Some mapping) kept =
 
 queues_polled : (e : EndpointId) (s : State) → QueuesKept s.body → (notices : List Notice) → QueuesKept (called s Calls.Poll (poll e s notices)).body
 queues_polled e s kept (notice ∷ notices) = record { requests = kept.requests; replies = kept.replies }
-queues_polled e s kept [] = by_found (find is_answer s.body.received)
+queues_polled e s kept [] = by_found (find is_reply s.body.received)
   where
     by_full : (m : Message) (full : Bool) → QueuesKept (called s Calls.Poll (if full then Out.Blocked else Out.Ran m (Some m.handler) (Some (answer e s m (entry_at s.body.handlers m.handler))))).body
     by_full m true = kept
@@ -235,9 +235,9 @@ sound_fresh pool tag place =
 
 -- arrivals
 
-pub verdict_accepts : (s : State) (m : Message) → verdict s m ≡ Verdicts.Accepted → ((is_request m && nat_le 16 (count_by is_request s.body.received)) ≡ false) × ((is_answer m && not (is_waited_for s.body.awaited m.about)) ≡ false)
+pub verdict_accepts : (s : State) (m : Message) → verdict s m ≡ Verdicts.Accepted → ((is_request m && nat_le 16 (count_by is_request s.body.received)) ≡ false) × ((is_reply m && not (is_waited_for s.body.awaited m.about)) ≡ false)
 verdict_accepts s m h =
-    by_tests s.head.closed (not (is_resident s.head.place)) (not (matches s.body.tag m.tag)) (is_request m && is_none (entry_at s.body.handlers m.handler)) (is_request m && nat_le 16 (count_by is_request s.body.received)) (is_answer m && not (is_waited_for s.body.awaited m.about)) h
+    by_tests s.head.closed (not (is_resident s.head.place)) (not (matches s.body.tag m.tag)) (is_request m && is_none (entry_at s.body.handlers m.handler)) (is_request m && nat_le 16 (count_by is_request s.body.received)) (is_reply m && not (is_waited_for s.body.awaited m.about)) h
   where
     by_tests : (a b c d f g : Bool) → verdict_of (first_holding ((a, Causes.NoEndpoint) ∷ (b, Causes.NotResident) ∷ (c, Causes.BadTag) ∷ (d, Causes.BadHandler) ∷ (f, Causes.QueueFull) ∷ (g, Causes.NoRequest) ∷ [])) ≡ Verdicts.Accepted → (f ≡ false) × (g ≡ false)
     by_tests true b c d f g h = absurd (cc)
@@ -305,22 +305,22 @@ arrived_length (Some r) (a ∷ xs) = ap suc (arrived_length (Some r) xs)
 within_put : (m : Message) (s : State) → verdict s m ≡ Verdicts.Accepted → IsWithinBounds s.body → IsWithinBounds (put m s).body
 within_put m s accepts w = by_kind (is_request m) (is_waited_for s.body.awaited m.about) refl refl (verdict_accepts s m accepts)
   where
-    by_kind : (request awaited : Bool) → is_request m ≡ request → is_waited_for s.body.awaited m.about ≡ awaited → ((is_request m && nat_le 16 (count_by is_request s.body.received)) ≡ false) × ((is_answer m && not (is_waited_for s.body.awaited m.about)) ≡ false) → IsWithinBounds (put m s).body
+    by_kind : (request awaited : Bool) → is_request m ≡ request → is_waited_for s.body.awaited m.about ≡ awaited → ((is_request m && nat_le 16 (count_by is_request s.body.received)) ≡ false) × ((is_reply m && not (is_waited_for s.body.awaited m.about)) ≡ false) → IsWithinBounds (put m s).body
     by_kind true awaited is about h =
         record {
           requests = omega (arith, w.requests, marked_counts is_request m.about s.body.in_flight);
-          replies = omega (arith, w.replies, marked_counts is_answer m.about s.body.in_flight);
+          replies = omega (arith, w.replies, marked_counts is_reply m.about s.body.in_flight);
           awaited = omega (arith, w.awaited, arrived_length m.about s.body.awaited);
           received = omega (arith, sum_by_push (λ (n : Message). cond (is_request n) 1 0) s.body.received m, ap bit is, leb-false 16 (count_by is_request s.body.received) (sym (ap (λ b. b && nat_le 16 (count_by is_request s.body.received)) is) ∙ h.0));
-          answers = omega (arith, w.answers, sum_by_push (λ (n : Message). cond (is_answer n) 1 0) s.body.received m, ap (λ b. bit (if b then false else true)) is, arrived_about m.about s.body.awaited awaited about);
+          answers = omega (arith, w.answers, sum_by_push (λ (n : Message). cond (is_reply n) 1 0) s.body.received m, ap (λ b. bit (if b then false else true)) is, arrived_about m.about s.body.awaited awaited about);
         }
     by_kind false true is about h =
         record {
           requests = omega (arith, w.requests, marked_counts is_request m.about s.body.in_flight);
-          replies = omega (arith, w.replies, marked_counts is_answer m.about s.body.in_flight);
+          replies = omega (arith, w.replies, marked_counts is_reply m.about s.body.in_flight);
           awaited = omega (arith, w.awaited, arrived_length m.about s.body.awaited);
           received = omega (arith, w.received, sum_by_push (λ (n : Message). cond (is_request n) 1 0) s.body.received m, ap bit is);
-          answers = omega (arith, w.answers, sum_by_push (λ (n : Message). cond (is_answer n) 1 0) s.body.received m, ap (λ b. bit (if b then false else true)) is, arrived_about m.about s.body.awaited true about);
+          answers = omega (arith, w.answers, sum_by_push (λ (n : Message). cond (is_reply n) 1 0) s.body.received m, ap (λ b. bit (if b then false else true)) is, arrived_about m.about s.body.awaited true about);
         }
     by_kind false false is about h = absurd (true_not (sym (ap (λ b. (if b then false else true) && not (is_waited_for s.body.awaited m.about)) is ∙ ap not about) ∙ h.1))
       where
@@ -338,7 +338,7 @@ pub record FrontLeaves (b : Body) (q : Queued) : Type 0 where
   pub queues : QueuesKept (without_front b)
   pub formed : is_well_formed q.message ≡ true
   pub requests : length (without_front b).requests + bit (is_request q.message) ≡ length b.requests
-  pub replies : length (without_front b).replies + bit (is_answer q.message) ≡ length b.replies
+  pub replies : length (without_front b).replies + bit (is_reply q.message) ≡ length b.replies
 
 front_leaves : (b : Body) (q : Queued) → front_of b.replies b.requests ≡ Some q → QueuesKept b → FrontLeaves b q
 front_leaves b q is kept = by_lists b.replies b.requests is kept.replies kept.requests
@@ -351,7 +351,7 @@ front_leaves b q is kept = by_lists b.replies b.requests is kept.replies kept.re
     by_lists (r ∷ replies) requests e answers asked =
         let same : r ≡ q = cc in
         let parts = and_parts (is_queued_answer r) (list_all is_queued_answer replies) answers in
-        let kind = and_parts (is_answer r.message) (is_well_formed r.message) parts.0 in
+        let kind = and_parts (is_reply r.message) (is_well_formed r.message) parts.0 in
         subst (FrontLeaves (record b { replies = r ∷ replies; requests = requests })) same
         (record {
           queues = record { requests = asked; replies = parts.1 };
@@ -399,7 +399,7 @@ sound_requeued pool b q n is sound =
     sound_by pool (queued q.message n (without_front b))
     (record {
       requests = omega (arith, w.requests, leaves.requests, length_appended (is_request q.message) q.message n (without_front b).requests);
-      replies = omega (arith, w.replies, leaves.replies, length_appended (is_answer q.message) q.message n (without_front b).replies);
+      replies = omega (arith, w.replies, leaves.replies, length_appended (is_reply q.message) q.message n (without_front b).replies);
       awaited = w.awaited;
       received = w.received;
       answers = w.answers;
@@ -416,7 +416,7 @@ sound_returned pool b q n why is sound =
     sound_by pool (noticed q.message n why (without_front b))
     (record {
       requests = omega (arith, w.requests, leaves.requests, sum_by_push (λ (x : Notice). cond (is_request x.message) 1 0) b.notices back);
-      replies = omega (arith, w.replies, leaves.replies, sum_by_push (λ (x : Notice). cond (is_answer x.message) 1 0) b.notices back);
+      replies = omega (arith, w.replies, leaves.replies, sum_by_push (λ (x : Notice). cond (is_reply x.message) 1 0) b.notices back);
       awaited = omega (arith, w.awaited, (count_le is_arrived (waits_for q.message.serial) b.awaited).2);
       received = w.received;
       answers = omega (arith, w.answers, waiting_kept q.message.serial b.awaited);
@@ -471,7 +471,7 @@ sound_landed pool serial b sound =
     sound_by pool (without_flight serial b)
     (record {
       requests = omega (arith, w.requests, (count_le (λ (f : Flying). is_request f.message) (λ (f : Flying). has_serial serial f.message) b.in_flight).0);
-      replies = omega (arith, w.replies, (count_le (λ (f : Flying). is_answer f.message) (λ (f : Flying). has_serial serial f.message) b.in_flight).0);
+      replies = omega (arith, w.replies, (count_le (λ (f : Flying). is_reply f.message) (λ (f : Flying). has_serial serial f.message) b.in_flight).0);
       awaited = w.awaited;
       received = w.received;
       answers = w.answers;
@@ -502,7 +502,7 @@ sound_flight_requeued pool serial n b (Some f) is sound =
     sound_by pool (requeued_flight (Some f) n (without_flight serial b))
     (record {
       requests = omega (arith, w.requests, landed_counts is_request serial b.in_flight f is, length_appended (is_request f.message) f.message n b.requests);
-      replies = omega (arith, w.replies, landed_counts is_answer serial b.in_flight f is, length_appended (is_answer f.message) f.message n b.replies);
+      replies = omega (arith, w.replies, landed_counts is_reply serial b.in_flight f is, length_appended (is_reply f.message) f.message n b.replies);
       awaited = w.awaited;
       received = w.received;
       answers = w.answers;
@@ -533,7 +533,7 @@ sound_flight_returned pool serial why b (Some f) is sound =
     sound_by pool (returned_flight serial (Some f) why (without_flight serial b))
     (record {
       requests = omega (arith, w.requests, landed_counts is_request serial b.in_flight f is, sum_by_push (λ (x : Notice). cond (is_request x.message) 1 0) b.notices back);
-      replies = omega (arith, w.replies, landed_counts is_answer serial b.in_flight f is, sum_by_push (λ (x : Notice). cond (is_answer x.message) 1 0) b.notices back);
+      replies = omega (arith, w.replies, landed_counts is_reply serial b.in_flight f is, sum_by_push (λ (x : Notice). cond (is_reply x.message) 1 0) b.notices back);
       awaited = omega (arith, w.awaited, (count_le is_arrived (waits_for serial) b.awaited).2);
       received = w.received;
       answers = omega (arith, w.answers, waiting_kept serial b.awaited);
@@ -574,7 +574,7 @@ sound_bound pool s q peer channel seq attempt number is sound =
     sound_by pool (bound s (Out.Sent q.message peer channel seq attempt number)).body
     (record {
       requests = omega (arith, w.requests, leaves.requests, sum_by_push (λ (x : Flying). cond (is_request x.message) 1 0) b.in_flight flight);
-      replies = omega (arith, w.replies, leaves.replies, sum_by_push (λ (x : Flying). cond (is_answer x.message) 1 0) b.in_flight flight);
+      replies = omega (arith, w.replies, leaves.replies, sum_by_push (λ (x : Flying). cond (is_reply x.message) 1 0) b.in_flight flight);
       awaited = w.awaited;
       received = w.received;
       answers = w.answers;

@@ -7,7 +7,7 @@ use Rattle.std.proofs.lemmas.Bool.{and_parts, and_from, ltb-true, eqb-true, eqb-
 use Rattle.std.proofs.lemmas.List.{append-nil, get_or-set_other, length-set}
 use Rattle.std.proofs.lemmas.List.Folds.{list_all-map}
 use Rattle.am_lemmas.proofs.Options.{not_some-None}
-use Rattle.am_names.specs.Names.{has_serial, same_end, is_answer}
+use Rattle.am_names.specs.Names.{has_serial, same_end, is_reply}
 use Rattle.am_names.specs.Rules.{is_transient}
 use Rattle.am_names.specs.declared.Cause.{Cause}
 use Rattle.am_names.specs.declared.Cause.TheVariants as Causes
@@ -149,17 +149,17 @@ settled_records pool e (Some r) b own = records_without e pool (is_of r) b own
 received_formed : (e : EndpointId) (m : Message) → is_received_here e m ≡ true → is_well_formed m ≡ true
 received_formed e m h = (and_parts (same_end e m.dest) (is_well_formed m) h).1
 
-answer_parts : (pool : Option ℕ) (e : EndpointId) (m : Message) (handler : Option ℕ) (b : Body) → find is_answer b.received ≡ Some m → Parts e pool b → Parts e pool (answer_ran m handler b)
+answer_parts : (pool : Option ℕ) (e : EndpointId) (m : Message) (handler : Option ℕ) (b : Body) → find is_reply b.received ≡ Some m → Parts e pool b → Parts e pool (answer_ran m handler b)
 answer_parts pool e m handler b found p =
     record {
       handlers = p.handlers;
       records = records_same e pool (answer_ran m handler b) (record b { awaited = without_record m.about b.awaited }) refl refl refl (settled_records pool e m.about b p.records);
       messages = record { requests = p.messages.requests; replies = p.messages.replies; in_flight = p.messages.in_flight; notices = p.messages.notices };
-      received = all_without (is_received_here e) is_answer b.received p.received;
-      matched = matched_ran b.accepted m b.received b.awaited found (received_formed e m (all_found (is_received_here e) is_answer b.received m p.received found)) p.records.counts p.matched;
+      received = all_without (is_received_here e) is_reply b.received p.received;
+      matched = matched_ran b.accepted m b.received b.awaited found (received_formed e m (all_found (is_received_here e) is_reply b.received m p.received found)) p.records.counts p.matched;
     }
 
-request_ran_parts : (pool : Option ℕ) (e : EndpointId) (s : State) (m : Message) (ms : List Message) (handler : Option ℕ) (kind : Option HandlerKind) → s.body.received ≡ m ∷ ms → find is_answer s.body.received ≡ None → Parts e pool s.body → Parts e pool (request_ran m handler (answer e s m kind) s.body)
+request_ran_parts : (pool : Option ℕ) (e : EndpointId) (s : State) (m : Message) (ms : List Message) (handler : Option ℕ) (kind : Option HandlerKind) → s.body.received ≡ m ∷ ms → find is_reply s.body.received ≡ None → Parts e pool s.body → Parts e pool (request_ran m handler (answer e s m kind) s.body)
 request_ran_parts pool e s m ms handler kind at none p =
     let b = s.body in
     let made = record b { accepted = b.accepted + 1; received = drop 1 b.received; sum = sum_after (kind_run b.handlers handler) m.words b.sum } in
@@ -174,17 +174,17 @@ request_ran_parts pool e s m ms handler kind at none p =
 
 poll_parts : (pool : Option ℕ) (e : EndpointId) (s : State) → Parts e pool s.body → (notices : List Notice) → Parts e pool (called s Calls.Poll (poll e s notices)).body
 poll_parts pool e s p (notice ∷ notices) = notice_parts pool e s.body p
-poll_parts pool e s p [] = by_found (find is_answer s.body.received) refl
+poll_parts pool e s p [] = by_found (find is_reply s.body.received) refl
   where
-    by_full : (m : Message) (ms : List Message) (full : Bool) → s.body.received ≡ m ∷ ms → find is_answer s.body.received ≡ None → Parts e pool (called s Calls.Poll (if full then Out.Blocked else Out.Ran m (Some m.handler) (Some (answer e s m (entry_at s.body.handlers m.handler))))).body
+    by_full : (m : Message) (ms : List Message) (full : Bool) → s.body.received ≡ m ∷ ms → find is_reply s.body.received ≡ None → Parts e pool (called s Calls.Poll (if full then Out.Blocked else Out.Ran m (Some m.handler) (Some (answer e s m (entry_at s.body.handlers m.handler))))).body
     by_full m ms true at none = p
     by_full m ms false at none = request_ran_parts pool e s m ms (Some m.handler) (entry_at s.body.handlers m.handler) at none p
 
-    by_list : (xs : List Message) → s.body.received ≡ xs → find is_answer s.body.received ≡ None → Parts e pool (called s Calls.Poll (poll_requests e s xs)).body
+    by_list : (xs : List Message) → s.body.received ≡ xs → find is_reply s.body.received ≡ None → Parts e pool (called s Calls.Poll (poll_requests e s xs)).body
     by_list [] at none = p
     by_list (m ∷ ms) at none = by_full m ms (nat_le 16 (replies_held s.body)) at none
 
-    by_found : (f : Option Message) → find is_answer s.body.received ≡ f → Parts e pool (called s Calls.Poll (poll_received e s f)).body
+    by_found : (f : Option Message) → find is_reply s.body.received ≡ f → Parts e pool (called s Calls.Poll (poll_received e s f)).body
     by_found (Some m) is = answer_parts pool e m (handler_run s m) s.body is p
     by_found None is = by_list s.body.received refl is
 

@@ -7,7 +7,7 @@ use Rattle.std.proofs.lemmas.Bool.{and_parts, and_from, le-leb, leb-true, lt-ltb
 use Rattle.std.proofs.lemmas.List.{get_or-set_other, get_or-set_same}
 use Rattle.std.proofs.lemmas.List.Folds.{list_all-map}
 use Rattle.std.proofs.lemmas.List.Sums.{sum_by_push, sum_by-cons, sum_by-set}
-use Rattle.am_names.specs.Names.{same_end, is_answer, is_request}
+use Rattle.am_names.specs.Names.{same_end, is_reply, is_request}
 use Rattle.am_names.specs.declared.EndpointId.{EndpointId}
 use Rattle.am_names.specs.declared.Message.{Message}
 use Rattle.am_names.specs.declared.Serial.{Serial}
@@ -88,8 +88,8 @@ own_accepted e b own =
       replies =
           all_weaker (is_own_answer e b.accepted) (is_own_answer e (b.accepted + 1)) b.replies
           (λ (q : Queued) h.
-          let parts = and_parts (is_answer q.message) (is_own e b.accepted q.message q.bounces) h in
-          and_from (is_answer q.message) (is_own e (b.accepted + 1) q.message q.bounces) parts.0 (own_more e b.accepted q.message q.bounces parts.1))
+          let parts = and_parts (is_reply q.message) (is_own e b.accepted q.message q.bounces) h in
+          and_from (is_reply q.message) (is_own e (b.accepted + 1) q.message q.bounces) parts.0 (own_more e b.accepted q.message q.bounces parts.1))
           own.replies;
       in_flight =
           all_weaker (is_own_flight e b.accepted) (is_own_flight e (b.accepted + 1)) b.in_flight
@@ -106,7 +106,7 @@ pub own_queued : (e : EndpointId) (m : Message) (n : ℕ) (b : Body) → is_own 
 own_queued e m n b mine own =
     record {
       requests = all_appended (is_own_request e b.accepted) (is_request m) m n b.requests (λ is. and_from (is_request m) (is_own e b.accepted m n) is mine) own.requests;
-      replies = all_appended (is_own_answer e b.accepted) (is_answer m) m n b.replies (λ is. and_from (is_answer m) (is_own e b.accepted m n) is mine) own.replies;
+      replies = all_appended (is_own_answer e b.accepted) (is_reply m) m n b.replies (λ is. and_from (is_reply m) (is_own e b.accepted m n) is mine) own.replies;
       in_flight = own.in_flight;
       notices = own.notices;
     }
@@ -125,7 +125,7 @@ own_front e b q is own = by_lists b.replies b.requests is own.replies own.reques
         let parts = and_parts (is_own_answer e b.accepted r) (list_all (is_own_answer e b.accepted) replies) answered in
         record {
           rest = record { requests = asked; replies = parts.1; in_flight = own.in_flight; notices = own.notices };
-          front = subst (λ (w : Queued). is_own e b.accepted w.message w.bounces ≡ true) same (and_parts (is_answer r.message) (is_own e b.accepted r.message r.bounces) parts.0).1;
+          front = subst (λ (w : Queued). is_own e b.accepted w.message w.bounces ≡ true) same (and_parts (is_reply r.message) (is_own e b.accepted r.message r.bounces) parts.0).1;
         }
     by_lists [] (r ∷ requests) at answered asked =
         let same : r ≡ q = cc in

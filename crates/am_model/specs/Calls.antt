@@ -17,7 +17,7 @@ use Rattle.am_office.specs.declared.Refusal.{Refusal}
 use Rattle.am_office.specs.declared.Refusal.TheVariants as No
 use Rattle.am_office.specs.declared.Outcome.{Outcome}
 use Rattle.am_office.specs.declared.Outcome.TheVariants as Out
-use Rattle.am_names.specs.Names.{is_answer}
+use Rattle.am_names.specs.Names.{is_reply}
 use Rattle.am_model.specs.Choice.{first_holding}
 use Rattle.am_model.specs.declared.Mapping.{Mapping}
 use Rattle.am_model.specs.declared.Awaited.{Awaited}
@@ -158,7 +158,7 @@ poll_received e s None = poll_requests e s s.body.received
 
 abbrev pub poll : EndpointId → State → List Notice → Outcome
 poll e s (notice ∷ notices) = Out.Zero notice.message.serial notice.why
-poll e s [] = poll_received e s (find is_answer s.body.received)
+poll e s [] = poll_received e s (find is_reply s.body.received)
 
 -- the own messages that an endpoint holds
 abbrev pub messages_held : Body → ℕ

@@ -18,7 +18,7 @@ use Rattle.am_office.specs.declared.Received.TheVariants as Got
 use Rattle.am_office.specs.declared.Outcome.{Outcome}
 use Rattle.am_office.specs.declared.Outcome.TheVariants as Out
 use Rattle.am_office.specs.declared.Entry.{Entry}
-use Rattle.am_names.specs.Names.{same_end, same_serial, has_serial, is_request, is_answer}
+use Rattle.am_names.specs.Names.{same_end, same_serial, has_serial, is_request, is_reply}
 use Rattle.am_model.specs.Choice.{without_first}
 use Rattle.am_model.specs.declared.Mapping.{Mapping}
 use Rattle.am_model.specs.declared.Awaited.{Awaited}
@@ -76,7 +76,7 @@ appended false m bounces queue = queue
 -- a message goes to its queue, having bounced so often
 abbrev pub queued : Message → ℕ → Body → Body
 queued m bounces b =
-    record b { requests = appended (is_request m) m bounces b.requests; replies = appended (is_answer m) m bounces b.replies }
+    record b { requests = appended (is_request m) m bounces b.requests; replies = appended (is_reply m) m bounces b.replies }
 
 -- a message arrives and is accepted
 abbrev pub put : Message → State → State
@@ -118,7 +118,7 @@ kind_run handlers (Some handler) = entry_at handlers handler
 abbrev pub answer_ran : Message → Option ℕ → Body → Body
 answer_ran m handler b =
     record b {
-      received = without_first is_answer b.received;
+      received = without_first is_reply b.received;
       awaited = without_record m.about b.awaited;
       sum = sum_after (kind_run b.handlers handler) m.words b.sum;
     }
@@ -183,7 +183,7 @@ flight_appended p (Some f) bounces queue = appended (p f.message) f.message boun
 -- a flight goes back to its queue
 abbrev pub requeued_flight : Option Flying → ℕ → Body → Body
 requeued_flight flight bounces b =
-    record b { requests = flight_appended is_request flight bounces b.requests; replies = flight_appended is_answer flight bounces b.replies }
+    record b { requests = flight_appended is_request flight bounces b.requests; replies = flight_appended is_reply flight bounces b.replies }
 
 abbrev pub notice_of : Why → Option Flying → List Notice
 notice_of why None = []

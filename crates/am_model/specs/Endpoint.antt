@@ -18,7 +18,7 @@ use Rattle.am_model.specs.declared.Head.{Head}
 use Rattle.am_model.specs.declared.Mapping.{Mapping}
 use Rattle.am_model.specs.declared.Notice.{Notice}
 use Rattle.am_model.specs.declared.Queued.{Queued}
-use Rattle.am_names.specs.Names.{same_serial, is_request, is_answer}
+use Rattle.am_names.specs.Names.{same_serial, is_request, is_reply}
 use Rattle.am_model.specs.Choice.{first_holding}
 
 pub record Body : Type 0 where
@@ -112,7 +112,7 @@ requests_held b =
 -- how many reply slots are held
 abbrev pub replies_held : Body → ℕ
 replies_held b =
-    length b.replies + count_by (λ (f : Flying). is_answer f.message) b.in_flight + count_by (λ (n : Notice). is_answer n.message) b.notices
+    length b.replies + count_by (λ (f : Flying). is_reply f.message) b.in_flight + count_by (λ (n : Notice). is_reply n.message) b.notices
 
 -- whether the record is of this request, and its reply has not come
 abbrev pub waits_for : Serial → Awaited → Bool
@@ -136,7 +136,7 @@ verdict s m =
     ∷ (not (matches s.body.tag m.tag), BadTag)
     ∷ (is_request m && is_none (entry_at s.body.handlers m.handler), BadHandler)
     ∷ (is_request m && nat_le 16 (count_by is_request s.body.received), QueueFull)
-    ∷ (is_answer m && not (is_waited_for s.body.awaited m.about), NoRequest)
+    ∷ (is_reply m && not (is_waited_for s.body.awaited m.about), NoRequest)
     ∷ []))
 
 abbrev pub is_arrived : Awaited → Bool
@@ -148,4 +148,4 @@ pub record IsWithinBounds (b : Body) : Type 0 where
   pub replies : replies_held b ≤ 16
   pub awaited : length b.awaited ≤ 32
   pub received : count_by is_request b.received ≤ 16
-  pub answers : count_by is_answer b.received ≤ count_by is_arrived b.awaited
+  pub answers : count_by is_reply b.received ≤ count_by is_arrived b.awaited

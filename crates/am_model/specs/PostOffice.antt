@@ -24,7 +24,7 @@ use Rattle.am_model.specs.declared.Mapping.{Mapping}
 use Rattle.am_model.specs.Layout.{Layout, home, opening}
 use Rattle.am_model.specs.Calls.{share_of}
 use Rattle.am_model.specs.History.{EachAfter}
-use Rattle.am_names.specs.Names.{same_end, has_serial, is_request, is_answer}
+use Rattle.am_names.specs.Names.{same_end, has_serial, is_request, is_reply}
 use Rattle.am_office.specs.Entries.{passes, is_serial, touches, accepted_of, put_of, run_of, returned_of, unknown_of, return_of, requeue_of, refusal_of, zero_of, given_up_of}
 
 -- how many entries have, in this role, a message that passes
@@ -92,7 +92,7 @@ IsRequestOf layout past e index handler words m =
 -- a reply goes to the source of its request, under its reply tag
 pub record IsReplyTo (e : EndpointId) (past : List Entry) (request reply : Message) : Type 0 where
   pub serial : reply.serial ≡ record { source = e; count = times accepted_of (is_from e) past + 1 }
-  pub kind : is_answer reply ≡ true
+  pub kind : is_reply reply ≡ true
   pub dest : reply.dest ≡ request.serial.source
   pub tag : reply.tag ≡ request.reply_tag
   pub reply_tag : reply.reply_tag ≡ record { 0 = 0 }
@@ -133,7 +133,7 @@ IsAt layout e event = ⊥
 -- the handler that runs is the message's own, and only a reply may run none
 abbrev pub RunsOwnHandler : Outcome → Type 0
 RunsOwnHandler (Out.Ran m (Some handler) sends) = handler ≡ m.handler
-RunsOwnHandler (Out.Ran m None sends) = is_answer m ≡ true
+RunsOwnHandler (Out.Ran m None sends) = is_reply m ≡ true
 RunsOwnHandler outcome = Unit {0}
 
 pub record IsFirstPut (layout : Layout) (past : List Entry) (x : Entry) (m : Message) : Type 0 where
@@ -194,8 +194,8 @@ UnknownOnce journal = (s : Serial) → times_serial unknown_of s journal ≤ 1
 -- one reply for the run of a request, and none without
 abbrev pub SendsOneReply : Call → Outcome → Type 0
 SendsOneReply (Calls.Request index handler words) (Out.Requested m) = is_request m ≡ true
-SendsOneReply Calls.Poll (Out.Ran m handler (Some reply)) = (is_request m ≡ true) × (is_answer reply ≡ true) × (reply.about ≡ Some m.serial)
-SendsOneReply Calls.Poll (Out.Ran m handler None) = is_answer m ≡ true
+SendsOneReply Calls.Poll (Out.Ran m handler (Some reply)) = (is_request m ≡ true) × (is_reply reply ≡ true) × (reply.about ≡ Some m.serial)
+SendsOneReply Calls.Poll (Out.Ran m handler None) = is_reply m ≡ true
 SendsOneReply call outcome = Unit {0}
 
 abbrev pub SendsOne : Event → Outcome → Type 0

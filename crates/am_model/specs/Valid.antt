@@ -4,7 +4,7 @@ use Rattle.std.specs.List.{list_all}
 use Rattle.am_names.specs.declared.EndpointId.{EndpointId}
 use Rattle.am_names.specs.declared.Serial.{Serial}
 use Rattle.am_names.specs.declared.Message.{Message}
-use Rattle.am_names.specs.Names.{same_end, same_serial, is_request, is_answer}
+use Rattle.am_names.specs.Names.{same_end, same_serial, is_request, is_reply}
 use Rattle.am_office.specs.declared.HandlerKind.{HandlerKind}
 use Rattle.am_office.specs.Entries.{is_serial}
 use Rattle.am_model.specs.declared.Awaited.{Awaited}
@@ -50,7 +50,7 @@ abbrev pub is_own_request : EndpointId → ℕ → Queued → Bool
 is_own_request e accepted q = is_request q.message && is_own e accepted q.message q.bounces
 
 abbrev pub is_own_answer : EndpointId → ℕ → Queued → Bool
-is_own_answer e accepted q = is_answer q.message && is_own e accepted q.message q.bounces
+is_own_answer e accepted q = is_reply q.message && is_own e accepted q.message q.bounces
 
 abbrev pub is_own_flight : EndpointId → ℕ → Flying → Bool
 is_own_flight e accepted f = is_own e accepted f.message f.bounces
@@ -63,7 +63,7 @@ is_received_here e m = same_end e m.dest && is_well_formed m
 
 -- whether the message answers the request
 abbrev pub answers : Serial → Message → Bool
-answers request m = is_answer m && is_serial request m.about
+answers request m = is_reply m && is_serial request m.about
 
 -- whether the record is of the request, and its reply has arrived
 abbrev pub has_arrived : Serial → Awaited → Bool
@@ -85,4 +85,4 @@ pub record IsValid (e : EndpointId) (pool : Option ℕ) (b : Body) : Type 0 wher
   pub notices : list_all (is_own_notice e b.accepted) b.notices ≡ true
   pub received : list_all (is_received_here e) b.received ≡ true
   pub each_answer : (request : Serial) → count_by (answers request) b.received ≡ count_by (has_arrived request) b.awaited
-  pub all_answers : count_by is_answer b.received ≡ count_by is_arrived b.awaited
+  pub all_answers : count_by is_reply b.received ≡ count_by is_arrived b.awaited

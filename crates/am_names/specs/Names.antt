@@ -35,5 +35,5 @@ abbrev pub is_request : Message → Bool
 is_request m = is_request_kind m.kind
 
 -- whether the message is a reply or an empty reply
-abbrev pub is_answer : Message → Bool
-is_answer m = if is_request m then false else true
+abbrev pub is_reply : Message → Bool
+is_reply m = if is_request m then false else true

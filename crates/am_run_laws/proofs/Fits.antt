@@ -7,7 +7,7 @@ use Rattle.am_names.specs.declared.Cause.TheVariants.{NoEndpoint, NotResident, B
 use Rattle.am_names.specs.declared.Message.{Message}
 use Rattle.am_names.specs.declared.Verdict.{Verdict}
 use Rattle.am_names.specs.declared.Verdict.TheVariants as Verdicts
-use Rattle.am_names.specs.Names.{is_request, is_answer}
+use Rattle.am_names.specs.Names.{is_request, is_reply}
 use Rattle.am_office.specs.declared.Outcome.{Outcome}
 use Rattle.am_office.specs.declared.Outcome.TheVariants as Out
 use Rattle.am_office.specs.declared.Received.{Received}
@@ -38,7 +38,7 @@ by_tests false true false false false false h = tt
 pub fits_for_good : (s : State) (m : Message) → fits s m ≡ true → IsForGood (verdict s m)
 fits_for_good s m h =
     by_tests s.head.closed (is_resident s.head.place) (not (matches s.body.tag m.tag)) (is_request m && is_none (entry_at s.body.handlers m.handler))
-    (is_request m && nat_le 16 (count_by is_request s.body.received)) (is_answer m && not (is_waited_for s.body.awaited m.about)) h
+    (is_request m && nat_le 16 (count_by is_request s.body.received)) (is_reply m && not (is_waited_for s.body.awaited m.about)) h
 
 -- the binding of a front message leaves the room as it was
 pub bound_fits : (s : State) (o : Outcome) (m : Message) → fits (bound s o) m ≡ fits s m

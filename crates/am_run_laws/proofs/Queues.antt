@@ -1,7 +1,7 @@
 -- The replies of an endpoint are answers, and what is in flight is as low in bounces as what is bound.
 use Rattle.std.proofs.Common.{◌≡◌, ◌≢◌, ℕ, Bool, true, false, List, [], ◌∷◌, ◌++◌, map, Option, Some, None, refl, sym, subst}
 use Rattle.std.specs.List.{find}
-use Rattle.am_names.specs.Names.{has_serial, is_answer}
+use Rattle.am_names.specs.Names.{has_serial, is_reply}
 use Rattle.am_names.specs.declared.Cause.TheVariants.{NotResident}
 use Rattle.am_names.specs.declared.EndpointId.{EndpointId}
 use Rattle.am_names.specs.declared.Message.{Message}
@@ -30,7 +30,7 @@ use Rattle.am_laws_messages.proofs.Alls.{all_tail, all_without}
 use Rattle.am_laws_order.proofs.Packets.{not_carry}
 
 abbrev pub Answers : Queued → Type 0
-Answers q = is_answer q.message ≡ true
+Answers q = is_reply q.message ≡ true
 
 abbrev pub IsLow : (ℕ → Type 0) → Flying → Type 0
 IsLow Low f = Low f.bounces
@@ -42,13 +42,13 @@ pub record Fine (Low : ℕ → Type 0) (b : Body) : Type 0 where
 
 -- ---- lists
 
-appended_answers : (b : Bool) (m : Message) (bounces : ℕ) (queue : List Queued) → is_answer m ≡ b → AllAre Answers queue → AllAre Answers (appended b m bounces queue)
+appended_answers : (b : Bool) (m : Message) (bounces : ℕ) (queue : List Queued) → is_reply m ≡ b → AllAre Answers queue → AllAre Answers (appended b m bounces queue)
 appended_answers true m bounces queue is all = all_push Answers queue (record { message = m; bounces = bounces }) all is
 appended_answers false m bounces queue is all = all
 
-flight_answers : (f : Option Flying) (bounces : ℕ) (queue : List Queued) → AllAre Answers queue → AllAre Answers (flight_appended is_answer f bounces queue)
+flight_answers : (f : Option Flying) (bounces : ℕ) (queue : List Queued) → AllAre Answers queue → AllAre Answers (flight_appended is_reply f bounces queue)
 flight_answers None bounces queue all = all
-flight_answers (Some f) bounces queue all = appended_answers (is_answer f.message) f.message bounces queue refl all
+flight_answers (Some f) bounces queue all = appended_answers (is_reply f.message) f.message bounces queue refl all
 
 marked_low : (Low : ℕ → Type 0) (request : Serial) (fs : List Flying) → AllAre (IsLow Low) fs → AllAre (IsLow Low) (map (marked request) fs)
 marked_low Low request [] all = tt
@@ -64,10 +64,10 @@ without_low Low serial fs all = all_without (IsLow Low) (λ (f : Flying). has_se
 -- ---- events
 
 called_fine : (Low : ℕ → Type 0) (s : State) (call : Call) (o : Outcome) → Fine Low s.body → Fine Low (called s call o).body
-called_fine Low s (Calls.Request index handler words) (Out.Requested m) f = record { replies' = appended_answers (is_answer m) m 0 s.body.replies refl f.replies'; flights = f.flights }
+called_fine Low s (Calls.Request index handler words) (Out.Requested m) f = record { replies' = appended_answers (is_reply m) m 0 s.body.replies refl f.replies'; flights = f.flights }
 called_fine Low s Calls.Poll (Out.Zero serial why) f = record { replies' = f.replies'; flights = f.flights }
 called_fine Low s Calls.Poll (Out.Ran m handler None) f = record { replies' = f.replies'; flights = f.flights }
-called_fine Low s Calls.Poll (Out.Ran m handler (Some reply)) f = record { replies' = appended_answers (is_answer reply) reply 0 s.body.replies refl f.replies'; flights = f.flights }
+called_fine Low s Calls.Poll (Out.Ran m handler (Some reply)) f = record { replies' = appended_answers (is_reply reply) reply 0 s.body.replies refl f.replies'; flights = f.flights }
 called_fine Low s (Calls.SetTag tag) Out.Done f = record { replies' = f.replies'; flights = f.flights }
 called_fine Low s (Calls.Map index name tag credits) Out.Done f = record { replies' = f.replies'; flights = f.flights }
 called_fine Low s (Calls.Unmap index) Out.Done f = record { replies' = f.replies'; flights = f.flights }

@@ -5,7 +5,7 @@ use Rattle.std.proofs.Common.{◌≡◌, ⊎_elim, ℕ, Bool, true, false, cond,
 use Rattle.std.proofs.lemmas.Bool.{and_parts, and_from, and_right, or_cases, lt-leb, not-true}
 use Rattle.am_lemmas.proofs.Lists.{find_passes}
 use Rattle.am_model.proofs.PlaceKinds.{framed_is_resident}
-use Rattle.am_names.specs.Names.{same_end, is_request, is_answer}
+use Rattle.am_names.specs.Names.{same_end, is_request, is_reply}
 use Rattle.am_names.specs.declared.EndpointId.{EndpointId}
 use Rattle.am_names.specs.declared.Message.{Message}
 use Rattle.am_names.specs.declared.NodeId.{NodeId}
@@ -54,7 +54,7 @@ is_full_for s m = is_request m && nat_le 16 (count_by is_request s.body.received
 abbrev pub HasRoomFor : State → Message → Type 0
 HasRoomFor s m = s.head.closed ≡ false → is_full_for s m ≡ false
 
-no_request : (m : Message) (b : Bool) → is_request m ≡ b → is_answer m ≡ true → b ≡ false
+no_request : (m : Message) (b : Bool) → is_request m ≡ b → is_reply m ≡ true → b ≡ false
 no_request m false is answer = refl
 no_request m true is answer = absurd (true≢false (sym answer ∙ ap (λ (b : Bool). cond b false true) is))
 

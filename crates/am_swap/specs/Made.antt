@@ -1,7 +1,7 @@
 -- Of which lists a body can be made.
 use Rattle.std.specs.Prelude.{◌≡◌, ℕ, ◌≤◌, Bool, true, Option, []}
 use Rattle.std.specs.List.{list_all}
-use Rattle.am_names.specs.Names.{is_answer, is_request}
+use Rattle.am_names.specs.Names.{is_reply, is_request}
 use Rattle.am_body.specs.Views.{slots_held}
 use Rattle.am_handlers.specs.Handlers.{IsTable as IsHandlers}
 use Rattle.am_model.specs.Endpoint.{Body}
@@ -12,7 +12,7 @@ abbrev pub is_queued_request : Queued → Bool
 is_queued_request q = is_request q.message
 
 abbrev pub is_queued_answer : Queued → Bool
-is_queued_answer q = is_answer q.message
+is_queued_answer q = is_reply q.message
 
 -- there are slots for all messages, each queue has its own kind, nothing is in flight, and the tables are sound
 pub record CanBeMade (pool : Option ℕ) (b : Body) : Type 0 where

@@ -9,7 +9,7 @@ use Rattle.am_names.specs.declared.NodeId.{NodeId}
 use Rattle.am_names.specs.declared.Packet.TheVariants as Packets
 use Rattle.am_names.specs.declared.Verdict.{Verdict}
 use Rattle.am_names.specs.declared.Verdict.TheVariants as Verdicts
-use Rattle.am_names.specs.Names.{is_answer, is_request}
+use Rattle.am_names.specs.Names.{is_reply, is_request}
 use Rattle.am_names.specs.Rules.{matches}
 use Rattle.am_office.specs.declared.Event.{Event}
 use Rattle.am_office.specs.declared.Event.TheVariants as Events
@@ -59,7 +59,7 @@ away_refuses s m on =
     ((not (matches s.body.tag m.tag), BadTag)
     ∷ (is_request m && is_none (entry_at s.body.handlers m.handler), BadHandler)
     ∷ (is_request m && nat_le 16 (count_by is_request s.body.received), QueueFull)
-    ∷ (is_answer m && not (is_waited_for s.body.awaited m.about), NoRequest)
+    ∷ (is_reply m && not (is_waited_for s.body.awaited m.about), NoRequest)
     ∷ [])
     (disk_away s.head.place on)
 

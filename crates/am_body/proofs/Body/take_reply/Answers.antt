@@ -1,5 +1,5 @@
 use Rattle.std.proofs.Common.{sym, ap, ◌∙◌, find}
-use Rattle.am_names.specs.Names.{is_answer}
+use Rattle.am_names.specs.Names.{is_reply}
 use Rattle.am_block.specs.declared.List.TheVariants.{Received}
 use Rattle.am_body.specs.Views.{message_in}
 use Rattle.am_body.specs.Walks.{is_sought_at}
@@ -21,8 +21,8 @@ move_slot-requires c =
 pub returns-in-Some-clause-reply : goal.returns-in-Some-clause-reply
 returns-in-Some-clause-reply c =
     let p = c.self.inside.block in
-    seen-found message_in is_answer p.descriptors p.received c.in-Some.slot.0 c.get.result.now c.in-Some.ensures.found c.get.ensures
-    ∙ ap (λ v. find is_answer v.body.received) c.self.view_is
+    seen-found message_in is_reply p.descriptors p.received c.in-Some.slot.0 c.get.result.now c.in-Some.ensures.found c.get.ensures
+    ∙ ap (λ v. find is_reply v.body.received) c.self.view_is
 
 pub returns-in-Some-clause-taken : goal.returns-in-Some-clause-taken
 returns-in-Some-clause-taken c =
@@ -31,4 +31,4 @@ returns-in-Some-clause-taken c =
 pub returns-in-None-clause-reply : goal.returns-in-None-clause-reply
 returns-in-None-clause-reply c =
     let p = c.self.inside.block in
-    seen-missed message_in is_answer p.descriptors p.received c.in-None.ensures.found ∙ ap (λ v. find is_answer v.body.received) c.self.view_is
+    seen-missed message_in is_reply p.descriptors p.received c.in-None.ensures.found ∙ ap (λ v. find is_reply v.body.received) c.self.view_is

@@ -1,0 +1,14 @@
+pub mod Words
+pub mod Cut
+pub mod Places
+pub mod Printed
+pub mod Lists
+pub mod Calls
+pub mod Heads
+pub mod Leading
+pub mod Standing
+pub mod Declaring
+pub mod Acting
+pub mod Setting
+pub mod Spelled
+pub mod Replayed
