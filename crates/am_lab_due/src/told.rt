@@ -26,9 +26,9 @@ use am_journal_lines::parse_line;
 use am_lab_journal::{reach, reach_end};
 use am_lexer::next_line;
 use am_machine::Cluster;
-use am_names::{EndpointId, NoMemory};
+use am_main_lines::report_of;
+use am_names::NoMemory;
 use am_office::{Condition, Entry, Event};
-use am_report::report;
 use am_scenario::{Scenario, StepLine};
 use am_scripted::ScriptedCluster;
 use std::alloc::{AllocError, Global};
@@ -111,17 +111,6 @@ pub(crate) fn found_state(
     found_text(alloc, &cluster, scenario, event, condition)
 }
 
-// The endpoints of a scenario, in their order.
-fn ids_of(alloc: Global, scenario: &Scenario) -> Result<Vec<EndpointId>, AllocError>
-    ensures { IfOk result (λ ids. ids.items ≡ ids_of scenario.now) }
-{
-    let mut ids = Vec::new(alloc);
-    for end in &scenario.ends {
-        ids.push(end.id)?;
-    }
-    Ok(ids)
-}
-
 // The line at a place of a text, the first at 0, if it has so many.
 fn line_at(text: &[u8], place: u32) -> Option<&[u8]>
     ensures { option_map (λ line. line.now) result ≡ slice_get (lines_of text.now) place }
@@ -148,12 +137,18 @@ fn line_text(alloc: Global, text: &[u8], line: u32) -> Result<Vec<u8>, AllocErro
 }
 
 // The report of the journal of a cluster.
-fn report_of(alloc: Global, scenario: &Scenario, cluster: &Cluster) -> Result<Vec<u8>, NoMemory>
+fn cluster_report(
+    alloc: Global,
+    scenario: &Scenario,
+    cluster: &Cluster,
+) -> Result<Vec<u8>, NoMemory>
     ensures { IfOk result (λ text. text.items ≡ texts.report (ids_of scenario.now) cluster.now.journal) }
 {
-    let ids = ids_of(alloc, scenario)?;
     let journal = cluster.journal(alloc)?;
-    report(alloc, &ids, &journal)
+    match report_of(alloc, scenario, &journal) {
+        Ok(text) => Ok(text),
+        Err(_) => Err(NoMemory),
+    }
 }
 
 /// The line that should stand with this number in the report of the journal that its lines tell.
@@ -169,7 +164,7 @@ pub(crate) fn due_line(
 {
     let mut cluster = Cluster::new(alloc, scenario)?;
     reach_end(&mut cluster, bytes)?;
-    let text = report_of(alloc, scenario, &cluster)?;
+    let text = cluster_report(alloc, scenario, &cluster)?;
     match line_text(alloc, &text, line) {
         Ok(out) => Ok(out),
         Err(_) => Err(NoMemory),

@@ -1,0 +1,147 @@
+#!/usr/bin/env python3
+"""What `am2_lab` tells, against a second reading of the report's text: lab.py PROGRAM [SCENARIO REPORT]..
+
+For each pair of files, or for each of examples/ without any: `why` of each message of the report and of one that it lacks; and `explain` of the
+right report, of the report with each of its lines changed in turn, and of the report cut off behind each line. The scenario tells its form.
+"""
+import pathlib
+import subprocess
+import sys
+
+CAUSES = {
+    "no-endpoint": "its destination was closed",
+    "not-resident": "its destination was in no frame, as often as it may bounce",
+    "bad-tag": "its tag did not match that of its destination",
+    "bad-handler": "its destination has no such handler",
+    "queue-full": "its destination had no room, as often as it may bounce",
+    "no-request": "its destination awaits no reply to such a request",
+}
+FATES = {
+    "ran": "a poll at its destination ran it",
+    "unknown": "its last try timed out with no answer, and no poll ran it",
+    "unknown-but-ran": "its last try timed out with no answer, and a poll ran it",
+    "pending": "nothing came of it before the end of the journal",
+}
+
+
+def told(program, command, form, text, *more):
+    """The status and the output of the program."""
+    done = subprocess.run([program, command, form, *more], input=text, capture_output=True, text=True, check=False)
+    return done.returncode, done.stdout
+
+
+def form_of(scenario):
+    """The form of a scenario: a run has threads or says how many turns they make."""
+    words = [line.split() for line in scenario.splitlines() if line.strip()]
+    return "run" if any(it[0] in ("thread", "turns", "make") for it in words) else "step"
+
+
+def parts(line):
+    """The words of an entry's event, and those of its outcome."""
+    event, _, outcome = line.partition(" -> ")
+    return event.split(), outcome.split()
+
+
+def emitted(line):
+    """The link and the number of the packet that an entry emits."""
+    event, outcome = parts(line)
+    if outcome[:1] == ["sent"]:
+        return int(event[0][1:]), int(outcome[2]), int(outcome[6])
+    if event[1] == "receive" and "answer" in outcome:
+        return int(event[0][1:]), int(event[2]), int(outcome[-1])
+    return None
+
+
+def received(line):
+    """The link and the number of the packet that an entry receives."""
+    event, _ = parts(line)
+    return (int(event[2]), int(event[0][1:]), int(event[3])) if event[1] == "receive" else None
+
+
+def reasons(plan, journal, fates, serial):
+    """What `why` should tell of a message."""
+    out = []
+    for number, line in enumerate(journal, 3):
+        event, outcome = parts(line)
+        if serial not in outcome and not (event[1] == "giveup" and event[3] == serial and outcome == ["ok"]):
+            continue
+        out.append(f"line {number} {line}")
+        packet = emitted(line)
+        if packet:
+            lines = [str(at) for at, other in enumerate(journal, 3) if received(other) == packet]
+            fault = plan.get(packet, ["none"])
+            end = ("received line " + " ".join(lines) if lines else "lost by the plan" if fault[0] == "lose"
+                   else f"held back by the plan for {fault[1]}" if fault[0] == "late" else "not received")
+            out.append(f"packet {packet[2]} from {packet[0]} to {packet[1]} {end}")
+    fate = fates.get(serial)
+    if not fate:
+        out.append(f"message {serial} was never accepted")
+    elif fate[0] == "returned":
+        out.append(f"message {serial} returned: {CAUSES[fate[1]]}")
+    else:
+        out.append(f"message {serial} {fate[0]}: {FATES[fate[0]]}")
+    return "\n".join(out) + "\n"
+
+
+def judge(program, scenario, report):
+    """The faults that are found in what is told of a report, and how much was asked."""
+    form, lines, faults, asked = form_of(scenario), report.splitlines(), [], 0
+    count = int(lines[1].split()[1])
+    journal = lines[2:2 + count]
+    plan = {(int(it[1]), int(it[2]), int(it[3])): it[4:] for it in map(str.split, scenario.splitlines()) if it[:1] == ["plan"]}
+    fates = {it[1]: it[3:] for it in map(str.split, lines[2 + count:]) if it[:1] == ["fate"]}
+    for serial in [*fates, "255.9"]:
+        asked += 1
+        if told(program, "why", form, scenario + report, serial) != (0, reasons(plan, journal, fates, serial)):
+            faults.append(f"why {form} {serial}")
+    asked += 1
+    if told(program, "explain", form, scenario + report) != (0, "check ok\n"):
+        faults.append(f"explain {form}")
+    for at, line in enumerate(lines):
+        changed = lines[:at] + [line + ("0" if at < 2 or not line[-1:].isdigit() else " 0")] + lines[at + 1:]
+        status, text = told(program, "explain", form, scenario + "\n".join(changed) + "\n")
+        asked += 1
+        if at >= 2 + count:
+            right = status == 10 and text == f"check line {at + 1} tail\ndue {line}\n"
+        elif at == 0:
+            right = status == 3 and text.startswith("refused line ")
+        elif at == 1:
+            right = status == 10 and text.startswith("check line ")
+        else:
+            # (a line without an outcome reads as none, or as another event)
+            first = text.splitlines()[0] if text else ""
+            right = status == 10 and first.startswith(f"check line {at + 1} ") and (not first.endswith("outcome") or text == f"{first}\ndue {line}\n")
+        if not right:
+            faults.append(f"explain {form} with line {at + 1} changed: {status} {text!r}")
+        if at == len(lines) - 1:
+            continue
+        status, text = told(program, "explain", form, scenario + "\n".join(lines[:at + 1]) + "\n")
+        asked += 1
+        due = f"check line {at + 2} tail\ndue {lines[at + 1]}\n" if at + 1 >= 2 + count else f"check line {at + 2} form\n"
+        if (status, text) != (10, due):
+            faults.append(f"explain {form} cut off behind line {at + 1}: {status} {text!r}")
+    return faults, asked
+
+
+def main(program, *files):
+    """Tells what was found, and ends with 1 where something is wrong."""
+    top = pathlib.Path(__file__).resolve().parent.parent / "examples"
+    pairs = list(zip(files[::2], files[1::2])) or [(it, it.with_suffix(".out")) for it in sorted(top.glob("*.am2"))]
+    bad = total = 0
+    for scenario, report in pairs:
+        scenario, report = pathlib.Path(scenario), pathlib.Path(report).read_text()
+        if not report.startswith("am2 report 1\n") or "segment" in scenario.read_text():
+            continue
+        faults, asked = judge(program, scenario.read_text(), report)
+        total += asked
+        for fault in faults:
+            print(f"{scenario.name}: {fault}")
+        bad += len(faults)
+    print(f"lab: {total} answers, {bad} wrong")
+    return 1 if bad else 0
+
+
+if __name__ == "__main__":
+    if len(sys.argv) < 2:
+        sys.exit(__doc__)
+    sys.exit(main(*sys.argv[1:]))

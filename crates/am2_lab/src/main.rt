@@ -1,0 +1,56 @@
+//! The program: the words after its name, standard input to standard output, and the status.
+#![tactic(auto)]
+
+use am_io::{StdSink, StdSource};
+use am_lab::{answer, answer_no_memory};
+use am_lab_words::read_words;
+use clap::Error;
+use clap::error::ErrorKind;
+use std::alloc::{AllocError, Global};
+use std::env::Args;
+use std::io::ErrorKind as IoKind;
+use std::process::ExitCode;
+use std::{env, io};
+
+// The words of the command line, with the program's name. There is just the name where some argument is no text, and it fails where
+// there was no memory to read them.
+fn words_of(alloc: Global, read: io::Result<Args>) -> Result<Vec<String>, AllocError> {
+    let mut words = Vec::new(alloc);
+    match read {
+        Ok(args) => {
+            for word in args {
+                words.push(word)?;
+            }
+        }
+        Err(error) if error.kind() == IoKind::OutOfMemory => return Err(AllocError),
+        Err(_) => words.push(String::from_str(alloc, "am2_lab")?)?,
+    }
+    Ok(words)
+}
+
+// Prints what clap says of the words: help and the version to standard output, and what is wrong with them to standard error.
+fn tell<R: Print + Eprint>(rt: &R, told: &Error) -> u8 {
+    match told.print(rt) {
+        Ok(()) if told.use_stderr() => 2,
+        Ok(()) => 0,
+        Err(_) => 5,
+    }
+}
+
+fn main(rt: HostRuntime) -> ExitCode {
+    let alloc = rt.alloc();
+    let mut sink = StdSink::new(rt.stdout());
+    let Ok(words) = words_of(alloc, env::args(&rt)) else {
+        return ExitCode::from(answer_no_memory(&mut sink));
+    };
+    match read_words(alloc, &words) {
+        Ok(asked) => {
+            let mut source = StdSource::new(rt.stdin());
+            ExitCode::from(answer(alloc, asked, &mut source, &mut sink))
+        }
+        Err(told) if told.kind() == ErrorKind::OutOfMemory => {
+            ExitCode::from(answer_no_memory(&mut sink))
+        }
+        Err(told) => ExitCode::from(tell(&rt, &told)),
+    }
+}

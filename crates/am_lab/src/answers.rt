@@ -1,0 +1,106 @@
+//! The answers to a text that was read.
+
+ghost use Rattle.am_check.specs.Verdict.{Checks};
+ghost use Rattle.am_check.specs.declared.faults.CheckStop.TheVariants as Stops;
+ghost use Rattle.am_lab.specs.Answers.{AnswersTo, Explains, TellsWhy};
+ghost use Rattle.am_main_check.specs.Checks.{CheckAnswers};
+ghost use Rattle.am_main_lines.specs.Lines.{answer_in};
+ghost use Rattle.std.specs.Prelude.{◌≡◌, ◌<◌, ◌^◌, ◌++◌, Err, IfOk, length};
+
+use am_check::{CheckStop, CheckWhat, check};
+use am_check_laws::yes_is_true;
+use am_lab_due::due;
+use am_lab_reasons::why;
+use am_lab_words::Asked;
+use am_main_check::check_output;
+use am_main_lines::Output;
+use am_names::{NoMemory, Serial};
+use am_scenario::Form;
+use std::alloc::{AllocError, Global};
+
+// An answer with more text behind it.
+fn followed(mut output: Output, more: &[u8]) -> Result<Output, AllocError>
+    ensures { IfOk result (λ o. answer_in o ≡ record { status = output.status; text = output.text.items ++ more.now }) }
+{
+    output.text.extend_from_slice(more)?;
+    Ok(output)
+}
+
+// What `check` answers to a report that has a fault, and behind it what was due there.
+fn with_due(
+    alloc: Global,
+    form: Form,
+    bytes: &[u8],
+    line: u32,
+    what: CheckWhat,
+    output: Output,
+) -> Result<Output, NoMemory>
+    requires few { length bytes.now < 2 ^ 31 }
+    requires stopped { Checks form bytes.now (Err (Stops.Fault line what)) }
+    requires checks { CheckAnswers form bytes.now (answer_in output) }
+    ensures { IfOk result (λ o. Explains form bytes.now (answer_in o)) }
+{
+    let more = due(alloc, form, bytes, line, what)?;
+    match followed(output, &more) {
+        Ok(told) => Ok(told),
+        Err(_) => Err(NoMemory),
+    }
+}
+
+// What `check` answers, and behind a fault of the report what was due there.
+#[tactic(auto, using(crate::proofs::Saying::explains_other))]
+fn explained(alloc: Global, form: Form, bytes: &[u8]) -> Result<Output, NoMemory>
+    requires { length bytes.now < 2 ^ 31 }
+    ensures { IfOk result (λ o. Explains form bytes.now (answer_in o)) }
+{
+    let output = check_output(alloc, form, bytes)?;
+    if output.status != 10 {
+        return Ok(output);
+    }
+    match check(alloc, form, bytes) {
+        Err(CheckStop::Fault { line, what }) => with_due(alloc, form, bytes, line, what, output),
+        _ => Err(NoMemory),
+    }
+}
+
+// What became of a message of a report to which `check` says yes.
+fn message_output(
+    alloc: Global,
+    form: Form,
+    bytes: &[u8],
+    serial: Serial,
+    checked: &Output,
+) -> Result<Output, NoMemory>
+    requires few { length bytes.now < 2 ^ 31 }
+    requires checks { CheckAnswers form bytes.now (answer_in checked.now) }
+    requires right { checked.now.status ≡ 0 }
+    ensures { IfOk result (λ o. TellsWhy form bytes.now serial (answer_in o)) }
+{
+    yes_is_true();
+    let text = why(alloc, form, bytes, serial)?;
+    Ok(Output { status: 0, text })
+}
+
+// What `check` answers, but of a right report what became of a message.
+#[tactic(auto, using(crate::proofs::Saying::tells_other))]
+fn told_why(alloc: Global, form: Form, bytes: &[u8], serial: Serial) -> Result<Output, NoMemory>
+    requires { length bytes.now < 2 ^ 31 }
+    ensures { IfOk result (λ o. TellsWhy form bytes.now serial (answer_in o)) }
+{
+    let output = check_output(alloc, form, bytes)?;
+    if output.status != 0 {
+        return Ok(output);
+    }
+    message_output(alloc, form, bytes, serial, &output)
+}
+
+/// The answer of a command to a text.
+pub(crate) fn answered(alloc: Global, asked: Asked, bytes: &[u8]) -> Result<Output, NoMemory>
+    requires { length bytes.now < 2 ^ 31 }
+    ensures { IfOk result (λ o. AnswersTo asked bytes.now (answer_in o)) }
+{
+    match asked {
+        Asked::Explain(form) => explained(alloc, form, bytes),
+        Asked::Why { form, serial } => told_why(alloc, form, bytes, serial),
+    }
+}

@@ -1,0 +1,8 @@
+//! The program `am2_lab` behind its words: what is told of a scenario and its report.
+#![tactic(auto)]
+
+mod answers;
+mod replies;
+mod top;
+
+pub use crate::top::{answer, answer_no_memory};

@@ -1,0 +1,73 @@
+//! What is answered: the source is read here.
+
+ghost use Rattle.am_io.specs.Whole.{TakesAtMost};
+ghost use Rattle.am_lab.specs.Answers.{AnswersTo, IsDue, no_memory};
+ghost use Rattle.am_lab.specs.Replies.{answer_of};
+ghost use Rattle.std.specs.Prelude.{◌≡◌, ◌⊎◌, ◌<◌, ◌^◌, false, length};
+
+use crate::answers::answered;
+use am_io::{Source, TakeFault, take_all};
+use am_lab_words::Asked;
+use am_main_lines::Output;
+use std::alloc::Global;
+
+/// What is answered: what a command gives to print, or a line that takes no memory.
+#[derive(Drop)]
+pub(crate) enum Reply {
+    Output(Output),
+    ReadFault,
+    TooLong,
+    NoMemory,
+}
+
+impl Reply {
+    /// The number that the process ends with, if the text is taken whole.
+    pub(crate) fn status(&self) -> u8
+        ensures { result ≡ (answer_of self.now).status }
+    {
+        match self {
+            Reply::Output(output) => output.status,
+            Reply::ReadFault => 4,
+            Reply::TooLong => 7,
+            Reply::NoMemory => 8,
+        }
+    }
+
+    /// What is printed.
+    pub(crate) fn text(&self) -> &[u8]
+        ensures { result.now ≡ (answer_of self.now).text }
+    {
+        match self {
+            Reply::Output(output) => &output.text,
+            Reply::ReadFault => b"read fault\n",
+            Reply::TooLong => b"input too long\n",
+            Reply::NoMemory => b"no memory\n",
+        }
+    }
+}
+
+// The answer to the bytes, if there is memory for it.
+fn answer_or_none(alloc: Global, asked: Asked, bytes: &[u8]) -> Reply
+    requires { length bytes.now < 2 ^ 31 }
+    ensures { (answer_of result ≡ no_memory) ⊎ AnswersTo asked bytes.now (answer_of result) }
+{
+    match answered(alloc, asked, bytes) {
+        Ok(output) => Reply::Output(output),
+        Err(_) => Reply::NoMemory,
+    }
+}
+
+/// What is answered to what was asked for, and to all that the source has left.
+#[tactic(auto, using(crate::proofs::Due::due_found, crate::proofs::Due::due_read_fault, crate::proofs::Due::due_too_long, crate::proofs::Due::due_no_memory))]
+pub(crate) fn reply_to<S: Source>(alloc: Global, asked: Asked, source: &mut S) -> Reply
+    requires { S.has_ended source.old ≡ false }
+    ensures due { IsDue asked (S.left source.old) (S.count source.old) (S.count source.new) (answer_of result) }
+    ensures took { TakesAtMost 16777217 (S.left source.old) (S.left source.new) }
+{
+    match take_all(alloc, source) {
+        Ok(bytes) => answer_or_none(alloc, asked, &bytes),
+        Err(TakeFault::Failed) => Reply::ReadFault,
+        Err(TakeFault::TooLong) => Reply::TooLong,
+        Err(TakeFault::NoMemory) => Reply::NoMemory,
+    }
+}

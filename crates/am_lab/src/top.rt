@@ -1,0 +1,60 @@
+//! The top call.
+
+ghost use Rattle.am_io.specs.Causes.{Rose, Stands};
+ghost use Rattle.am_io.specs.Whole.{TakesAtMost};
+ghost use Rattle.am_lab.specs.Answers.{IsAnswered, IsOffered, no_memory};
+ghost use Rattle.am_lab.specs.Replies.{answer_of};
+ghost use Rattle.std.specs.Prelude.{◌≡◌, ◌≢◌, false};
+
+use crate::replies::{Reply, reply_to};
+use am_io::{Sink, SinkFault, Source, give_all};
+use am_lab_words::Asked;
+use std::alloc::Global;
+
+// Offers a reply. The status is its own, or that of a fault of the sink.
+fn offer<K: Sink>(sink: &mut K, reply: &Reply) -> u8
+    ensures offered { IsOffered (answer_of reply.now) result (K.held sink.old) (K.held sink.new) }
+    ensures write_fault { (answer_of reply.now).status ≢ 5 → result ≡ 5 → Rose (K.count sink.old) (K.count sink.new) }
+    ensures no_write_fault { result ≢ 5 → Stands (K.count sink.old) (K.count sink.new) }
+    ensures no_shortage { result ≢ 8 → Stands (K.shortages sink.old) (K.shortages sink.new) }
+{
+    match give_all(sink, reply.text()) {
+        Ok(()) => reply.status(),
+        Err(SinkFault::Failed) => 5,
+        Err(SinkFault::NoMemory) => 8,
+    }
+}
+
+/// The program behind its words, over any source that hasn't ended and any sink: it reads a scenario and behind it its report to
+/// the end of the source, and answers what is asked for. It gives the status that the process ends with.
+///
+/// `explain` answers as `am2 check` does, and behind the line that tells a fault of the report what was due there. `why` answers a
+/// right report with what became of a message, and any other text as `am2 check` does.
+///
+/// | Status | The text | When |
+/// |---|---|---|
+/// | 0 | `check ok`, or what became of the message | the report is right |
+/// | 3, 6, 10 | as `am2 check` has it, and for `explain` what was due | the scenario or the report has a fault, or meets a full log |
+/// | 4 | `read fault` | a read failed |
+/// | 5 | a front of the text | a write failed |
+/// | 7 | `input too long` | the source had more than 16,777,216 bytes left |
+/// | 8 | `no memory`, or a front of the text | there was no memory: for the answer, which may be at any time, or for the sink |
+pub fn answer<S: Source, K: Sink>(alloc: Global, asked: Asked, source: &mut S, sink: &mut K) -> u8
+    requires { S.has_ended source.old ≡ false }
+    // An answer that is due to what is asked for, and to what the source had left, was offered to the sink.
+    ensures answered { IsAnswered asked (S.left source.old) (S.count source.old) (S.count source.new) result (K.held sink.old) (K.held sink.new) }
+    // No write that failed, or that found no memory, is passed over.
+    ensures no_write_fault { result ≢ 5 → Stands (K.count sink.old) (K.count sink.new) }
+    ensures no_shortage { result ≢ 8 → Stands (K.shortages sink.old) (K.shortages sink.new) }
+    ensures took { TakesAtMost 16777217 (S.left source.old) (S.left source.new) }
+{
+    let reply = reply_to(alloc, asked, source);
+    offer(sink, &reply)
+}
+
+/// What the program answers where there is no memory for the words after its name: it offers the line that says so.
+pub fn answer_no_memory<K: Sink>(sink: &mut K) -> u8
+    ensures { IsOffered no_memory result (K.held sink.old) (K.held sink.new) }
+{
+    offer(sink, &Reply::NoMemory)
+}
