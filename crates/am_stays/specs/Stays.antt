@@ -26,6 +26,10 @@ module _ {I T : Type 0} where
   abbrev pub BeganWith : ℕ → List I → Pass I T → Type 0
   BeganWith k xs v = Begins (known_at k v).seen (tenure 0 xs ∷ [])
 
+  -- each list with which a book began, as far as the seat knows, is known still
+  pub record KeepsBeginnings (v w : Pass I T) : Type 0 where
+    pub began : (k : ℕ) (xs : List I) → BeganWith k xs v → BeganWith k xs w
+
   -- what no stay changes
   abbrev pub SameSeat : Pass I T → Pass I T → Type 0
   SameSeat v w = (w.mark ≡ v.mark) × (w.seats ≡ v.seats) × (w.frames ≡ v.frames)

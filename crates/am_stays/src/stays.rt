@@ -1,6 +1,6 @@
 //! A stay of a seat at a book: it enters, changes the book, and leaves.
 ghost use Rattle.std.specs.Prelude.{◌≡◌, ◌≢◌, ℕ, ◌<◌, ◌++◌, List, IfOk, MatchResult, drop, length};
-ghost use Rattle.am_stays.specs.Stays.{BeganWith, IsInside, IsWaiting, SameSeat, added_at, seen_at};
+ghost use Rattle.am_stays.specs.Stays.{IsInside, IsWaiting, KeepsBeginnings, SameSeat, added_at, seen_at};
 
 use am_places::{Book, Busy, Entered, Places, Seat};
 
@@ -26,7 +26,7 @@ pub fn enter<B: Book + Send + Drop>(
         (λ _. IsWaiting places.now.board.shared.table_id seat.new.token) }
     ensures seen { IfOk result (λ e. seen_at at seat.new.token.me.0 ≡ B.items e.book) }
     ensures added { (k : ℕ) → added_at k seat.new.token.me.0 ≡ added_at k seat.old.token.me.0 }
-    ensures began { (k : ℕ) (xs : List B.Item) → BeganWith k xs seat.old.token.me.0 → BeganWith k xs seat.new.token.me.0 }
+    ensures began { KeepsBeginnings seat.old.token.me.0 seat.new.token.me.0 }
 {
     places.try_enter_at(seat, at)
 }
@@ -43,7 +43,7 @@ pub fn leave<B: Book + Send + Drop>(places: &Places<B>, seat: &mut Seat<B>, ente
     ensures waiting { IsWaiting places.now.board.shared.table_id seat.new.token }
     ensures added { added_at entered.at seat.new.token.me.0 ≡ added_at entered.at seat.old.token.me.0 ++ drop (length (seen_at entered.at seat.old.token.me.0)) (B.items entered.book) }
     ensures elsewhere { (k : ℕ) → k ≢ entered.at → added_at k seat.new.token.me.0 ≡ added_at k seat.old.token.me.0 }
-    ensures began { (k : ℕ) (xs : List B.Item) → BeganWith k xs seat.old.token.me.0 → BeganWith k xs seat.new.token.me.0 }
+    ensures began { KeepsBeginnings seat.old.token.me.0 seat.new.token.me.0 }
 {
     places.leave(seat, entered);
 }

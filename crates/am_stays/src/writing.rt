@@ -1,6 +1,6 @@
 //! A stay that adds one item.
 ghost use Rattle.std.specs.Prelude.{◌≡◌, ◌≢◌, ℕ, ◌<◌, ◌≤◌, ◌++◌, [], ◌∷◌, All, List, false, if◌then◌else◌, length, take};
-ghost use Rattle.am_stays.specs.Stays.{BeganWith, IsWaiting, SameSeat, added_at};
+ghost use Rattle.am_stays.specs.Stays.{IsWaiting, KeepsBeginnings, SameSeat, added_at};
 
 use crate::stays::{enter, leave};
 use am_places::{Book, Places, Seat};
@@ -46,7 +46,7 @@ where
     ensures waiting { IsWaiting places.now.board.shared.table_id seat.new.token }
     ensures added { added_at at seat.new.token.me.0 ≡ added_at at seat.old.token.me.0 ++ (if result then item ∷ [] else []) }
     ensures elsewhere { (k : ℕ) → k ≢ at → added_at k seat.new.token.me.0 ≡ added_at k seat.old.token.me.0 }
-    ensures began { (k : ℕ) (xs : List B.Item) → BeganWith k xs seat.old.token.me.0 → BeganWith k xs seat.new.token.me.0 }
+    ensures began { KeepsBeginnings seat.old.token.me.0 seat.new.token.me.0 }
 {
     let Ok(mut entered) = enter(places, seat, at) else {
         return false;
@@ -75,7 +75,7 @@ where
     ensures most { result ≤ length items.now }
     ensures added { (xs : List B.Item) → added_at at seat.old.token.me.0 ≡ xs ++ take done items.now → added_at at seat.new.token.me.0 ≡ xs ++ take result items.now }
     ensures elsewhere { (k : ℕ) → k ≢ at → added_at k seat.new.token.me.0 ≡ added_at k seat.old.token.me.0 }
-    ensures began { (k : ℕ) (xs : List B.Item) → BeganWith k xs seat.old.token.me.0 → BeganWith k xs seat.new.token.me.0 }
+    ensures began { KeepsBeginnings seat.old.token.me.0 seat.new.token.me.0 }
 {
     if done == items.len() {
         return done;
@@ -110,7 +110,7 @@ where
     ensures most { result.1 ≤ length items.now }
     ensures added { added_at at result.0.token.me.0 ≡ added_at at seat.token.me.0 ++ take result.1 items.now }
     ensures elsewhere { (k : ℕ) → k ≢ at → added_at k result.0.token.me.0 ≡ added_at k seat.token.me.0 }
-    ensures began { (k : ℕ) (xs : List B.Item) → BeganWith k xs seat.token.me.0 → BeganWith k xs result.0.token.me.0 }
+    ensures began { KeepsBeginnings seat.token.me.0 result.0.token.me.0 }
 {
     let mut seat = seat;
     let mut done = 0;

@@ -10,7 +10,7 @@ ghost use Rattle.am_sums.specs.Numbers.{arrived, fault_of, numbers_to, restamped
 
 mod number;
 
-use crate::number::{Number, NumberStamps};
+use crate::number::Number;
 use am_names::NoMemory;
 use am_plan::LinkFault;
 use am_relay::{RelayIn, RelayOut, RelayRecord, close_relay, make_relay};
@@ -20,7 +20,7 @@ use std::process::ExitCode;
 use std::thread::{Threads, join};
 
 /// The end of the relay that one thread has.
-type Out = RelayOut<Number, NumberStamps>;
+type Out = RelayOut<Number, Number>;
 
 /// Sends the numbers 1 to 10. `NoMemory` comes only for want of memory.
 fn send(out: Out) -> (Out, Result<(), NoMemory>)
@@ -30,7 +30,9 @@ fn send(out: Out) -> (Out, Result<(), NoMemory>)
 {
     let mut out = out;
     for number in 0..10u32 {
-        if out.offer(Number::new(number + 1)).is_err() {
+        let value = number + 1;
+        let stamp = u64::from(value);
+        if out.offer(Number { value, stamp }).is_err() {
             return (out, Err(NoMemory));
         }
         out.pump();
@@ -59,33 +61,18 @@ fn faults(alloc: Global) -> Result<LinkFaults, NoMemory>
     Ok(faults)
 }
 
-/// Both ends at work, each in a thread of its own.
-fn carry<R: Threads + Sync>(
-    rt: &R,
-    out: Out,
-    inn: RelayIn<Number>,
-) -> (Out, Result<(), NoMemory>, RelayIn<Number>)
-    requires { emitted out ≡ [] }
-    ensures out { SameOut out result.0 }
-    ensures sent { OnOk result.1 (emitted result.0 ≡ numbers_to 10) }
-    ensures inn { SameIn inn result.2 }
-{
-    let ((out, sent), inn) = join(rt, move || send(out), move || receive(inn));
-    (out, sent, inn)
-}
-
 /// What comes of the numbers 1 to 10: the shape of what was sent.
 fn relay<R: Threads + Sync>(rt: &R, alloc: Global) -> Result<Vec<Number>, NoMemory>
     ensures shape { IfOk result (λ numbers. numbers.items ≡ shape stamp_of restamped fault_of (numbers_to 10)) }
     ensures values { IfOk result (λ numbers. map value_of numbers.items ≡ arrived) }
 {
-    let (out, inn) = make_relay::<Number, NumberStamps>(alloc, faults(alloc)?)?;
-    let (out, sent, inn) = carry(rt, out, inn);
+    let (out, inn) = make_relay::<Number, Number>(alloc, faults(alloc)?)?;
+    let ((out, sent), inn) = join(rt, move || send(out), move || receive(inn));
     sent?;
     let RelayRecord {
-        emitted: _,
         mut received,
         left,
+        ..
     } = close_relay(alloc, out, inn)?;
     received.extend_from_slice(left.as_slice())?;
     Ok(received)

@@ -1,5 +1,5 @@
--- What is known of a thread's seat at the start, and when the thread is done.
-use Rattle.std.specs.Prelude.{◌≡◌, ℕ, ◌≤◌, List, [], length, take}
+-- What is known of a thread's seat at the start.
+use Rattle.std.specs.Prelude.{◌≡◌, ℕ, []}
 use Rattle.atomic_table.specs.Seated.{TableId}
 use Rattle.am_stays.specs.Stays.{BeganWith, IsWaiting, Token, added_at}
 use Rattle.am_tally.specs.declared.book.Tally.{Tally}
@@ -9,10 +9,3 @@ pub record IsFresh (id : TableId) (token : Token Tally ℕ (Unit {0})) : Type 0 
   pub waiting : IsWaiting id token
   pub began : BeganWith 0 [] token.me.0
   pub added : added_at 0 token.me.0 ≡ []
-
--- it waits, and has added the first so many of these lines
-pub record IsDone (id : TableId) (lines : List ℕ) (count : ℕ) (token : Token Tally ℕ (Unit {0})) : Type 0 where
-  pub waiting : IsWaiting id token
-  pub began : BeganWith 0 [] token.me.0
-  pub most : count ≤ length lines
-  pub added : added_at 0 token.me.0 ≡ take count lines

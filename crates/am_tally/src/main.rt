@@ -4,7 +4,7 @@
 
 ghost use Rattle.std.specs.Prelude.{◌≡◌, IfOk};
 ghost use Rattle.am_stays.specs.Stays.{IsMerge};
-ghost use Rattle.am_tally.specs.Lines.{IsDone, IsFresh};
+ghost use Rattle.am_tally.specs.Lines.{IsFresh};
 
 mod book;
 
@@ -29,43 +29,7 @@ fn begin(alloc: Global) -> Result<(Places<Tally>, Seat<Tally>, Seat<Tally>), NoM
     Ok((places, first, second))
 }
 
-/// Adds lines one after the other, as far as it comes in 200 tries. The seat, and how many it added.
-fn work(places: &Places<Tally>, seat: Seat<Tally>, lines: &[u32]) -> (Seat<Tally>, usize)
-    requires one { places.now.count ≡ 1 }
-    requires fresh { IsFresh places.now.board.shared.table_id seat.token }
-    ensures done { IsDone places.now.board.shared.table_id lines.now result.1 result.0.token }
-    ensures same { (result.0.token.me.0.mark ≡ seat.token.me.0.mark) × (result.0.token.me.0.seats ≡ seat.token.me.0.seats) }
-{
-    write_all(places, seat, 0, lines, 200)
-}
-
-/// Both seats at work, each in a thread of its own, and how many lines each added.
-fn write_both<R: Threads + Sync>(
-    rt: &R,
-    places: &Places<Tally>,
-    first: Seat<Tally>,
-    second: Seat<Tally>,
-    ours: &[u32],
-    theirs: &[u32],
-) -> (Seat<Tally>, usize, Seat<Tally>, usize)
-    requires one { places.now.count ≡ 1 }
-    requires first { IsFresh places.now.board.shared.table_id first.token }
-    requires second { IsFresh places.now.board.shared.table_id second.token }
-    requires marks { (first.token.me.0.mark ≡ 1) × (second.token.me.0.mark ≡ 2) × (second.token.me.0.seats ≡ 2) }
-    ensures first { IsDone places.now.board.shared.table_id ours.now result.1 result.0.token }
-    ensures second { IsDone places.now.board.shared.table_id theirs.now result.3 result.2.token }
-    ensures marks { (result.0.token.me.0.mark ≡ 1) × (result.2.token.me.0.mark ≡ 2) × (result.2.token.me.0.seats ≡ 2) }
-{
-    let ((first, our_count), (second, their_count)) = join(
-        rt,
-        || work(places, first, ours),
-        || work(places, second, theirs),
-    );
-    (first, our_count, second, their_count)
-}
-
-/// The list that two threads wrote together: it has the lines of both, each once and in order. `NoMemory` comes only for want of
-/// memory.
+/// The list that two threads wrote together: it has the lines of both, each once and in order; or there is no memory.
 fn tally<R: Threads + Sync>(
     rt: &R,
     alloc: Global,
@@ -75,8 +39,10 @@ fn tally<R: Threads + Sync>(
     ensures { IfOk result (λ lines. IsMerge ours.now theirs.now lines.items) }
 {
     let (places, first, second) = begin(alloc)?;
-    let (first, our_count, second, their_count) = write_both(
-        rt, &places, first, second, ours, theirs,
+    let ((first, our_count), (second, their_count)) = join(
+        rt,
+        || write_all(&places, first, 0, ours, 200),
+        || write_all(&places, second, 0, theirs, 200),
     );
     let Tally { mut lines } = end_two(&places, second, first, 0);
     lines.extend_from_slice(&ours[our_count..])?;

@@ -16,4 +16,4 @@ returns-clause-added g c =
 pub returns-clause-began : goal.returns-clause-began
 returns-clause-began g c =
     let near : c.args.entered.at < length c.args.seat.now.token.me.0.known = let a = c.requires.at in let s = c.args.places.now.sized.1 in let k = c.args.seat.now.sized in omega (arith, a, s, k, ap (λ (i : TableId). i.slots) c.requires.inside.table) in
-    left_began g.B.Book.items g.B.Book.birth g.B.Book.stands g.B.Book.moves c.args.entered.at c.args.seat.now.mark c.args.seat.now.token c.leave.new.seat.token c.args.entered.book near c.leave.ensures.tenure
+    record { began = left_began g.B.Book.items g.B.Book.birth g.B.Book.stands g.B.Book.moves c.args.entered.at c.args.seat.now.mark c.args.seat.now.token c.leave.new.seat.token c.args.entered.book near c.leave.ensures.tenure }

@@ -1,5 +1,5 @@
-use Rattle.std.proofs.Common.{◌≡◌, ◌≢◌, ℕ, ◌≤◌, ◌++◌, List, length, take}
-use Rattle.am_stays.specs.Stays.{BeganWith, IsWaiting, SameSeat, added_at}
+use Rattle.std.proofs.Common.{◌≡◌, ◌≢◌, ℕ, ◌≤◌, ◌++◌, length, take}
+use Rattle.am_stays.specs.Stays.{IsWaiting, KeepsBeginnings, SameSeat, added_at}
 use Rattle.am_stays.proofs.writing.write_all.Given as goal
 
 abbrev pub invariant-loop-try : goal.invariant-loop-try
@@ -9,5 +9,5 @@ invariant-loop-try g l = record {
   most : l.done ≤ length l.items;
   added : added_at l.at l.seat.token.me.0 ≡ added_at l.at l.initial.seat.token.me.0 ++ take l.done l.items;
   elsewhere : (k : ℕ) → k ≢ l.at → added_at k l.seat.token.me.0 ≡ added_at k l.initial.seat.token.me.0;
-  began : (k : ℕ) (xs : List g.row.B-Item.Denot) → BeganWith k xs l.initial.seat.token.me.0 → BeganWith k xs l.seat.token.me.0;
+  began : KeepsBeginnings l.initial.seat.token.me.0 l.seat.token.me.0;
 }
