@@ -7,6 +7,7 @@ calls CALLS PLAN   scripts of two clients on node 0 and a server on node 1, with
 crowd NODES TURNS ENDS CALLS   four threads of so many calls (256) on each node, which share its ENDS endpoints (4, 8, 12 or 16), all with room in frames, and send in the node and to the next one
 comments BYTES     so many bytes of comments of 59 bytes each in front of a scenario
 poll               one poll of one endpoint
+words BYTES        a text of so many bytes, the same line of ten words again and again
 """
 import sys
 
@@ -65,7 +66,13 @@ def poll():
     yield from ("am2 1", "network direct", "nodes 1", "endpoint 0 0 5", "x poll 0")
 
 
-KINDS = {"direct": direct, "packet": packet, "calls": calls, "crowd": crowd, "comments": comments, "poll": poll}
+def words(count):
+    """A text of so many bytes."""
+    line = "to be or not to be that is the question"
+    return [line] * (count // (len(line) + 1))
+
+
+KINDS = {"direct": direct, "packet": packet, "calls": calls, "crowd": crowd, "comments": comments, "poll": poll, "words": words}
 
 if __name__ == "__main__":
     print("\n".join(KINDS[sys.argv[1]](*(int(it) for it in sys.argv[2:]))))

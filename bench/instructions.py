@@ -21,6 +21,7 @@ ROWS = (
     ("the same with 4,096 packets that come twice", "run", "calls 16384 4096", 117, 9),
     ("`run`, 256 endpoints on 16 nodes, 47,552 entries", "run", "crowd 16 0 16 176", 112, 9),
     ("`make 1`", "make 1", "", 13, 3),
+    ("`count 8 0`, a text of 40,000 bytes", "count 8 0", "words 40000", 215, 7.5),
     ("16 MB of comments", "step", "comments 16777000", 230, 18),
     ("one poll", "step", "poll", 0.5, 2.4),
 )
