@@ -1,7 +1,7 @@
 -- What a command tells of its run is what `am2 run` tells of the text of its scenario.
 use Rattle.std.specs.Prelude.{slice_get}
 use Rattle.std.specs.List.{AllZip}
-use Rattle.std.proofs.Common.{◌≡◌, ◌⊎◌, inl, inr, ℕ, zero, suc, ◌+◌, ◌<◌, List, [], ◌∷◌, ◌++◌, length, Some, Result, Ok, refl, sym, subst, append-nil, ◌∙◌, arith}
+use Rattle.std.proofs.Common.{◌≡◌, inl, inr, ℕ, zero, suc, List, [], ◌∷◌, Some, Result, Ok, refl, sym, subst, append-nil}
 use Rattle.am_cluster.proofs.Obeying.{alone_is_stopped}
 use Rattle.am_cluster.specs.declared.RunFault.TheVariants as Runs
 use Rattle.am_count.specs.Counting.{IsRound, PrintsCount}
@@ -14,8 +14,8 @@ use Rattle.am_main_count.specs.Counts.{CutsCount}
 use Rattle.am_main_lines.specs.Lines.{Answer, full_line, ids_of}
 use Rattle.am_main_run.proofs.OneAnswer.{have_one_answer}
 use Rattle.am_main_run.proofs.RunMeaning.{is_run_of}
-use Rattle.am_main_run.specs.Runs.{IsRunAnswer, IsRunOf, MakeAnswers, PrintsCutRun, RunAnswers, Summarizes, TellsCutRun, make_text, scenario_of}
-use Rattle.am_main_segments.specs.Segments.{IsSegmentsAnswer, PrintsSegments}
+use Rattle.am_main_run.specs.Runs.{IsRunAnswer, IsRunOf, MakeAnswers, PrintsCutRun, RunAnswers, TellsCutRun, make_text, scenario_of}
+use Rattle.am_main_segments.specs.Segments.{IsSegmentsAnswer}
 use Rattle.am_office.specs.declared.Entry.{Entry}
 use Rattle.am_office.specs.declared.Part.{Part}
 use Rattle.am_report.specs.Report.{report}
@@ -23,7 +23,6 @@ use Rattle.am_scenario_types.specs.declared.faults.ScenarioFault.{ScenarioFault}
 use Rattle.am_scenario_types.specs.Lists.{ScenarioLists}
 use Rattle.am_segment.specs.declared.scenario.SegmentScenario.{SegmentScenario}
 use Rattle.am_segment.specs.Printed.{segments_text}
-use Rattle.am_words.specs.declared.codes.CodedWord.{CodedWord}
 use Rattle.am_words.specs.Codes.{sent_words}
 
 -- ---- what a printed scenario's text is answered
