@@ -12,6 +12,8 @@ use Rattle.am_names.specs.declared.Serial.{Serial}
 use Rattle.am_scenario_types.specs.declared.parts.Form.{Form}
 use Rattle.am_lab_due.specs.Due.{IsDue as WasDue}
 use Rattle.am_lab_reasons.specs.Reasons.{Tells}
+use Rattle.am_lab_texts.specs.Replays.{ReplayAnswers}
+use Rattle.am_lab_texts.specs.Scenarios.{ScenarioAnswers}
 use Rattle.am_lab_words.specs.declared.Asked.{Asked}
 use Rattle.am_lab_words.specs.declared.Asked.TheVariants as Commands
 
@@ -48,6 +50,8 @@ pub record TellsWhy (form : Form) (bytes : List ℕ) (serial : Serial) (answer :
 abbrev pub AnswersTo : Asked → List ℕ → Answer → Type 0
 AnswersTo (Commands.Explain form) bytes answer = Explains form bytes answer
 AnswersTo (Commands.Why form serial) bytes answer = TellsWhy form bytes serial answer
+AnswersTo (Commands.Scenario form) bytes answer = ScenarioAnswers form bytes answer
+AnswersTo Commands.Replay bytes answer = ReplayAnswers bytes answer
 
 -- ---- the other answers, which don't look at the bytes
 

@@ -11,6 +11,7 @@ use am_check::{CheckStop, CheckWhat, check};
 use am_check_laws::yes_is_true;
 use am_lab_due::due;
 use am_lab_reasons::why;
+use am_lab_texts::{replay_output, scenario_output};
 use am_lab_words::Asked;
 use am_main_check::check_output;
 use am_main_lines::Output;
@@ -102,5 +103,7 @@ pub(crate) fn answered(alloc: Global, asked: Asked, bytes: &[u8]) -> Result<Outp
     match asked {
         Asked::Explain(form) => explained(alloc, form, bytes),
         Asked::Why { form, serial } => told_why(alloc, form, bytes, serial),
+        Asked::Scenario(form) => scenario_output(alloc, form, bytes),
+        Asked::Replay => replay_output(alloc, bytes),
     }
 }
