@@ -1,5 +1,8 @@
 //! The words of `explain`.
 
+ghost use Rattle.am_lab_words.specs.Ranges.{IsInRange};
+ghost use Rattle.std.specs.Prelude.{IfOk};
+
 use crate::Asked;
 use crate::forms::{form_in, form_word};
 use clap::{ArgMatches, Command};
@@ -12,7 +15,9 @@ pub(crate) fn explain_words<'a>(alloc: Global) -> Result<Command<'a>, AllocError
     command.arg(form_word(alloc))
 }
 
-pub(crate) fn asked_to_explain(matches: &ArgMatches) -> Result<Asked, &'static str> {
+pub(crate) fn asked_to_explain(matches: &ArgMatches) -> Result<Asked, &'static str>
+    ensures { IfOk result IsInRange }
+{
     match form_in(matches) {
         Some(form) => Ok(Asked::Explain(form)),
         None => Err("a form is step or run"),

@@ -1,6 +1,10 @@
 //! The words of the program `am2_lab`, read by clap. Each command has a file of its own: the words that it takes, and what they ask for.
 #![tactic(auto)]
 
+ghost use Rattle.am_lab_words.specs.Ranges.{IsInRange};
+ghost use Rattle.std.specs.Prelude.{IfOk};
+
+mod derived;
 mod explain;
 mod forms;
 mod replay;
@@ -23,9 +27,25 @@ pub enum Asked {
     /// `explain step`, `explain run`: what is wrong with a report of a scenario of this form, and what was due there.
     Explain(Form),
     /// `why step E.K`, `why run E.K`: what became of the K-th message of endpoint E in a report of a scenario of this form.
-    Why { form: Form, serial: Serial },
+    Why {
+        form: Form,
+        serial: Serial,
+    },
     /// `scenario step`, `scenario run`: a scenario of this form, printed in one form.
     Scenario(Form),
+    /// `scenario make N`: the scenario that is made of a number, as `am2 make` runs it. Nothing is read.
+    Made(u64),
+    /// `scenario segments`: the scenario that a text with segments stands for, as `am2 segments` runs it.
+    Expanded,
+    /// `scenario count W U ROUND`: the scenario of a round of a text's words, as `am2 count W U` runs it.
+    Round {
+        /// 1 to 8.
+        nodes: u8,
+        /// 0 to 10,000.
+        turns: u32,
+        /// From 1.
+        number: u64,
+    },
     /// `replay run`: the journal of a run's report as a step script.
     Replay,
 }
@@ -43,7 +63,9 @@ fn all_words<'a>(alloc: Global) -> Result<Command<'a>, AllocError> {
 }
 
 // What the command with this name and these words asks for; else what is wrong with the words.
-fn asked_by(name: &str, matches: &ArgMatches) -> Result<Asked, &'static str> {
+fn asked_by(name: &str, matches: &ArgMatches) -> Result<Asked, &'static str>
+    ensures { IfOk result IsInRange }
+{
     match name {
         "explain" => asked_to_explain(matches),
         "why" => asked_why(matches),
@@ -53,7 +75,9 @@ fn asked_by(name: &str, matches: &ArgMatches) -> Result<Asked, &'static str> {
     }
 }
 
-fn asked_in(matches: &ArgMatches) -> Result<Asked, &'static str> {
+fn asked_in(matches: &ArgMatches) -> Result<Asked, &'static str>
+    ensures { IfOk result IsInRange }
+{
     match matches.subcommand() {
         Some((name, found)) => asked_by(name, found),
         None => Err("a command is wanted"),
@@ -61,14 +85,18 @@ fn asked_in(matches: &ArgMatches) -> Result<Asked, &'static str> {
 }
 
 // The words, which clap lets pass and the program doesn't take, with what is wrong with them.
-fn refused(alloc: Global, wrong: &'static str) -> Result<Asked, Error> {
+fn refused(alloc: Global, wrong: &'static str) -> Result<Asked, Error>
+    ensures { IfOk result IsInRange }
+{
     let mut command = all_words(alloc)?;
     Err(command.error(ErrorKind::ValueValidation, wrong)?)
 }
 
 /// What the words ask for, of which the first is the program's name; else clap's text about them, which may be the help
-/// or the version that they ask for.
-pub fn read_words(alloc: Global, words: &[String]) -> Result<Asked, Error> {
+/// or the version that they ask for. The numbers of a command are ones that it takes.
+pub fn read_words(alloc: Global, words: &[String]) -> Result<Asked, Error>
+    ensures { IfOk result IsInRange }
+{
     let command = all_words(alloc)?;
     let matches = command.try_get_matches_from(words)?;
     match asked_in(&matches) {

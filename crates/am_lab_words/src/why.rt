@@ -1,5 +1,8 @@
 //! The words of `why`.
 
+ghost use Rattle.am_lab_words.specs.Ranges.{IsInRange};
+ghost use Rattle.std.specs.Prelude.{IfOk, IfSome};
+
 use crate::Asked;
 use crate::forms::{form_in, form_word};
 use am_lexer::parse_number;
@@ -32,13 +35,17 @@ fn serial_in(word: &[u8]) -> Option<Serial> {
 }
 
 // The form and the serial, if both are there.
-fn why_in(matches: &ArgMatches) -> Option<Asked> {
+fn why_in(matches: &ArgMatches) -> Option<Asked>
+    ensures { IfSome result IsInRange }
+{
     let form = form_in(matches)?;
     let serial = serial_in(matches.get_str("serial")?.as_bytes())?;
     Some(Asked::Why { form, serial })
 }
 
-pub(crate) fn asked_why(matches: &ArgMatches) -> Result<Asked, &'static str> {
+pub(crate) fn asked_why(matches: &ArgMatches) -> Result<Asked, &'static str>
+    ensures { IfOk result IsInRange }
+{
     match why_in(matches) {
         Some(asked) => Ok(asked),
         None => Err("a message is E.K, as 0.1"),
