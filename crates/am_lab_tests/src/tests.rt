@@ -1,5 +1,5 @@
 use crate::answers::{answer_to, asks, joined};
-use crate::tables::{NO_WORDS, PATH, REPORT, TOLD};
+use crate::tables::{MADE, NO_WORDS, PATH, REPORT, TOLD};
 use std::alloc::{AllocError, Global};
 use std::test::Fail;
 
@@ -19,6 +19,18 @@ fn other_words_ask_for_nothing(rt: HostRuntime) -> Result<(), Fail> {
     for line in NO_WORDS {
         assert!(rt; !asks(rt.alloc(), line)?, "{line}");
     }
+    Ok(())
+}
+
+/// A made scenario is printed with nothing to read: its version and its settings as docs/MANUAL.md has them, and a line
+/// for each of its 12 endpoints, 8 threads and 1,744 calls, and for each packet of its plan, at most 32.
+#[test]
+fn a_made_scenario_is_printed(rt: HostRuntime) -> Result<(), Fail> {
+    let answer = answer_to(rt.alloc(), "am2_lab scenario make 1", Vec::new(rt.alloc()))?;
+    assert!(rt; answer.status == 0);
+    assert!(rt; answer.printed.starts_with(MADE.as_bytes()));
+    let lines = answer.printed.iter().filter(|byte| **byte == b'\n').count();
+    assert!(rt; (1774..=1806).contains(&lines));
     Ok(())
 }
 
