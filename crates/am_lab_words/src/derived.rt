@@ -30,7 +30,7 @@ pub(crate) fn make_words<'a>(alloc: Global) -> Result<Command<'a>, AllocError> {
         "N",
         0,
         u64::MAX,
-        "the number that the scenario is made of",
+        "the number that the scenario is made of: 0 to 18446744073709551615",
     ))
 }
 
@@ -44,9 +44,15 @@ pub(crate) fn count_words<'a>(alloc: Global) -> Result<Command<'a>, AllocError> 
     let command = Command::new(alloc, "count").about(
         "Reads a text, and prints the scenario of a round of am2 count W U",
     );
-    let nodes = number_word(alloc, "W", 1, 8, "how many nodes count the words");
+    let nodes = number_word(alloc, "W", 1, 8, "how many nodes count the words: 1 to 8");
     let command = command.arg(nodes)?;
-    let turns = number_word(alloc, "U", 0, 10_000, "how many turns each round has");
+    let turns = number_word(
+        alloc,
+        "U",
+        0,
+        10_000,
+        "how many turns each round has: 0 to 10000",
+    );
     let command = command.arg(turns)?;
     let round = number_word(
         alloc,
