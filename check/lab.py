@@ -1,10 +1,11 @@
 #!/usr/bin/env python3
 """What `am2_lab` tells, against a second reading of the report's text: lab.py PROGRAM AM2 [SCENARIO REPORT]..
 
-For each pair of files, or for each of examples/ without any: `why` of each message of the report and of one that it lacks; and `explain` of the
-right report, of the report with each of its lines changed in turn, and of the report cut off behind each line. The scenario tells its form.
-`scenario` prints it without a comment and printed again as it is, and AM2, the program am2, judges and makes the same report of it. Of a run `replay`
-prints what AM2 makes the same report of, callers aside.
+For each pair of files, or for each of examples/ without any: `why` of each message of the report and of one that it
+lacks; and `explain` of the right report, of the report with each of its lines changed in turn, and of the report cut
+off behind each line. The scenario tells its form. `scenario` prints it without a comment and printed again as it is,
+and AM2, the program am2, judges and makes the same report of it. Of a run `replay` prints what AM2 makes the same
+report of, callers aside.
 """
 import pathlib
 import re
@@ -168,8 +169,8 @@ def main(program, am2, *files):
         if not report.startswith("am2 report 1\n") or "segment" in scenario.read_text():
             continue
         text = scenario.read_text()
-        found = [judge(program, text, report), printed_wrongly(program, am2, text, report), replayed_wrongly(program, am2, text, report)]
-        for faults, asked in found:
+        both = [judged(program, am2, text, report) for judged in (printed_wrongly, replayed_wrongly)]
+        for faults, asked in [judge(program, text, report), *both]:
             total += asked
             bad += len(faults)
             for fault in faults:

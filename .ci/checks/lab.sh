@@ -1,6 +1,7 @@
 #!/usr/bin/env bash
-# What am2_lab tells of the messages and the faults of the examples' reports, against a second reading of their texts; that am2 makes the same reports of the
-# scenarios and replays that it prints; and the scenarios behind made runs, segments and counts.
+# What am2_lab tells of the messages and the faults of the examples' reports, against a second reading of their texts;
+# that am2 makes the same reports of the scenarios and replays that it prints; and the scenarios behind made runs,
+# segments and counts.
 set -u
 . .ci/program.sh
 lab=crates/am2_lab/out/am2_lab

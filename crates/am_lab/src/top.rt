@@ -26,13 +26,14 @@ fn offer<K: Sink>(sink: &mut K, reply: &Reply) -> u8
     }
 }
 
-/// The program behind its words, over any source that hasn't ended and any sink: it reads a scenario, and but for `scenario` behind it
-/// its report, to the end of the source, and answers what is asked for. It gives the status that the process ends with.
+/// The program behind its words, over any source that hasn't ended and any sink: it reads a scenario, and but for
+/// `scenario` behind it its report, to the end of the source, and answers what is asked for. It gives the status that the
+/// process ends with.
 ///
-/// `explain` answers as `am2 check` does, and behind the line that tells a fault of the report what was due there. `why` answers a
-/// right report with what became of a message, `replay` with the run's journal as a step script, and each any other text as
-/// `am2 check` does. `scenario` prints the scenario that it reads; or the one behind a run, of a number, for which nothing is read, of a
-/// text with segments, or of a round of a text's words.
+/// `explain` answers as `am2 check` does, and behind the line that tells a fault of the report what was due there. `why`
+/// answers a right report with what became of a message, `replay` with the run's journal as a step script, and each any
+/// other text as `am2 check` does. `scenario` prints the scenario that it reads; or the one behind a run, of a number, for
+/// which nothing is read, of a text with segments, or of a round of a text's words.
 ///
 /// | Status | The text | When |
 /// |---|---|---|

@@ -1,4 +1,5 @@
--- What is answered where the scenario is asked for that stands behind a run: of a number, of a text with segments, or of a round of words.
+-- What is answered where the scenario is asked for that stands behind a run: of a number, of a text with segments, or
+-- of a round of words.
 use Rattle.std.specs.Prelude.{◌≡◌, ◌⊎◌, ℕ, zero, suc, ◌<◌, ◌≤◌, List, [], ◌∷◌, codes, length, slice_get, Option, Some, None, Result, Ok, Err}
 use Rattle.std.specs.Fmt.{decimal}
 use Rattle.am_generator.specs.Scenarios.{generated}
@@ -49,8 +50,8 @@ PrintsRound number rounds answer = RoundOrNone number (length rounds) (numbered 
 abbrev pub text_too_long : Answer
 text_too_long = record { status = 11; text = codes "text too long\n" }
 
--- the answer to a text and a number: the rounds are those in which `am2 count` sends the text's words, and a text of more than
--- 1,048,576 bytes is not counted
+-- the answer to a text and a number: the rounds are those in which `am2 count` sends the text's words, and a text of
+-- more than 1,048,576 bytes is not counted
 abbrev pub RoundAnswers : (nodes turns number : ℕ) → List ℕ → Answer → Type 0
 RoundAnswers nodes turns number bytes answer =
     ((1_048_576 < length bytes) × (answer ≡ text_too_long))

@@ -12,9 +12,10 @@ use am_scenario_types::ReadFault;
 use am_segment::read_segments;
 use std::alloc::Global;
 
-/// The scenario that `am2 segments` runs for a text, in which requests and polls stand for the lines of transfers and serves, as a
-/// text that spells it for `am2 run`; the status is 0. A text that spells no scenario with segments is answered as `am2 segments`
-/// does: its first fault, with status 3. `NoMemory` comes only for want of memory, and leaves nothing of the text.
+/// The scenario that `am2 segments` runs for a text, in which requests and polls stand for the lines of transfers and
+/// serves, as a text that spells it for `am2 run`; the status is 0. A text that spells no scenario with segments is
+/// answered as `am2 segments` does: its first fault, with status 3. `NoMemory` comes only for want of memory, and
+/// leaves nothing of the text.
 pub fn expanded_scenario(alloc: Global, bytes: &[u8]) -> Result<Output, NoMemory>
     ensures { IfOk result (λ output. ExpandedAnswers (segment_grammar bytes.now) (answer_in output)) }
 {

@@ -1,4 +1,5 @@
-//! The scenarios that stand behind the runs of `am2 make`, `am2 segments` and `am2 count`, as texts that `am2 run` reads.
+//! The scenarios that stand behind the runs of `am2 make`, `am2 segments` and `am2 count`, as texts that `am2 run`
+//! reads.
 #![tactic(auto)]
 
 mod expansions;

@@ -23,8 +23,8 @@ fn made_from(alloc: Global, n: u64) -> Result<Scenario, NoMemory>
     generate(alloc, n)
 }
 
-/// The scenario that `am2 make` runs for a number, 0 to 2^64-1, as a text that spells it for `am2 run`; the status is 0.
-/// `NoMemory` comes only for want of memory, and leaves nothing of the text.
+/// The scenario that `am2 make` runs for a number, 0 to 2^64-1, as a text that spells it for `am2 run`; the status is
+/// 0. `NoMemory` comes only for want of memory, and leaves nothing of the text.
 #[tactic(auto, using(crate::proofs::Printing::made_is_printed))]
 pub fn made_scenario(alloc: Global, n: u64) -> Result<Output, NoMemory>
     ensures { IfOk result (λ output. PrintsScenario (made_from n) (answer_in output)) }

@@ -72,10 +72,10 @@ fn sent_round(
     printed(alloc, &scenario)
 }
 
-/// The scenario that `am2 count` runs in a round of a text's words, which 1 to 8 nodes count in rounds of 0 to 10,000 turns, as a
-/// text that spells it for `am2 run`; the status is 0. Rounds are numbered from 1. Where the text has no round with this number that
-/// is told, with status 12; where it has more than 1,048,576 bytes, it isn't counted, with status 11.
-/// `NoMemory` comes only for want of memory, and leaves nothing of the text.
+/// The scenario that `am2 count` runs in a round of a text's words, which 1 to 8 nodes count in rounds of 0 to 10,000
+/// turns, as a text that spells it for `am2 run`; the status is 0. Rounds are numbered from 1. Where the text has no
+/// round with this number that is told, with status 12; where it has more than 1,048,576 bytes, it isn't counted, with
+/// status 11. `NoMemory` comes only for want of memory, and leaves nothing of the text.
 #[tactic(auto, using(crate::proofs::Rounds::long_is_told, crate::proofs::Rounds::round_answers))]
 pub fn round_scenario(
     alloc: Global,

@@ -64,25 +64,31 @@ cut_of_number n part text c =
 
 made_is_run : (n : ℕ) (printed made ran : Answer) → PrintsScenario (made_from n) printed → MakeAnswers n made → RunMayTell printed.text ran → TellOneRun n made ran
 made_is_run n printed made ran prints (inl (done, sums)) tells =
+    let s = made_from n in
+    let is = run_reported s sums.journal (run_of_number n sums.journal sums.run) in
     record {
       journal = sums.journal;
-      alike = inl (answer_is made 0 (make_text n 1744 sums.journal) done sums.text', one_of n printed ran (reported (made_from n) sums.journal) prints tells (run_reported (made_from n) sums.journal (run_of_number n sums.journal sums.run)));
+      alike = inl (answer_is made 0 (make_text n 1744 sums.journal) done sums.text', one_of n printed ran (reported s sums.journal) prints tells is);
     }
 made_is_run n printed made ran prints (inr (done, (part, c))) tells =
+    let is = cut_of_number n part made.text c in
     record {
       journal = c.journal;
-      alike = inr (part, answer_is made 6 (full_line part) done c.text', one_of n printed ran (cut_off (made_from n) part c.journal) prints tells (cut_of_number n part made.text c));
+      alike = inr (part, answer_is made 6 (full_line part) done c.text', one_of n printed ran (cut_off (made_from n) part c.journal) prints tells is);
     }
 
 -- ---- segments
 
 segments_are_run : (s : SegmentScenario) (printed told : Answer) → PrintsScenario s.scenario printed → IsSegmentsAnswer s told → BeginsWithRun printed told
 segments_are_run s printed told prints (inl (done, is)) =
+    let front = report (ids_of s.scenario.ends) is.journal in
+    let answer : Answer = record { status = told.status; text = front } in
+    let runs : IsRunAnswer s.scenario answer = inl (done, record { journal = is.journal; run = is.run; text' = refl }) in
     record {
-      front = report (ids_of s.scenario.ends) is.journal;
+      front = front;
       more = segments_text s.expanded is.journal;
       text' = is.text';
-      runs = may_tell s.scenario printed (record { status = told.status; text = report (ids_of s.scenario.ends) is.journal }) prints (inl (done, record { journal = is.journal; run = is.run; text' = refl }));
+      runs = may_tell s.scenario printed answer prints runs;
     }
 segments_are_run s printed told prints (inr (done, cut)) =
     record {
@@ -121,11 +127,15 @@ counts_are_run nodes turns number bytes text counts round printed is prints =
 cut_counts_are_run : (nodes turns : ℕ) (bytes text : List ℕ) → CutsCount nodes turns bytes text → IsCutRun nodes turns bytes text
 cut_counts_are_run nodes turns bytes text cut =
     let k = cut.round.0 in
+    let round = round_at nodes turns (sent_words bytes) k in
+    let same : PrintsCutRun round cut.part text = subst (λ (s : ScenarioLists). PrintsCutRun s cut.part text) cut.round.2 cut.prints in
+    let answer : Answer = record { status = 6; text = text } in
+    let told : IsRunAnswer round answer = inr (refl, (cut.part, same)) in
     record {
       number = suc k;
-      round = round_at nodes turns (sent_words bytes) k;
+      round = round;
       is = round_is nodes turns (sent_words bytes) k cut.round.1;
-      runs = λ (printed : Answer) (prints : PrintsScenario (round_at nodes turns (sent_words bytes) k) printed). may_tell _ printed (record { status = 6; text = text }) prints (inr (refl, (cut.part, subst (λ (s : ScenarioLists). PrintsCutRun s cut.part text) cut.round.2 cut.prints)));
+      runs = λ (printed : Answer) (prints : PrintsScenario round printed). may_tell round printed answer prints told;
     }
 
 pub makes : MakesAreRun

@@ -1,5 +1,5 @@
 -- What may happen is the same, whoever made the calls so far and makes this one.
-use Rattle.std.proofs.Common.{◌≡◌, ℕ, ◌-◌, true, ◌||◌, List, [], ◌∷◌, length, refl, ap, ◌∙◌}
+use Rattle.std.proofs.Common.{◌≡◌, ℕ, ◌-◌, Bool, true, ◌||◌, Option, List, [], ◌∷◌, length, refl, ap, ◌∙◌}
 use Rattle.std.specs.Prelude.{is_some, not, nat_lt, slice_get, ◌&&◌}
 use Rattle.std.specs.List.{list_all}
 use Rattle.std.proofs.lemmas.Bool.{and_parts}
@@ -7,6 +7,7 @@ use Rattle.std.proofs.lemmas.List.Folds.{list_all-map}
 use Rattle.am_names.specs.declared.EndpointId.{EndpointId}
 use Rattle.am_names.specs.declared.NodeId.{NodeId}
 use Rattle.am_names.specs.declared.Packet.{Packet}
+use Rattle.am_office.specs.declared.Condition.{Condition}
 use Rattle.am_office.specs.declared.Condition.TheVariants as Needs
 use Rattle.am_office.specs.declared.Entry.{Entry}
 use Rattle.am_office.specs.declared.Event.{Event}
@@ -26,24 +27,27 @@ use Rattle.am_lab_replays.proofs.Roles.{share_stays, whoever}
 
 front_channel_stays : (layout : Layout) (node : NodeId) (past : List Entry) (end : EndpointId) → channel_for layout node (callers_aside past) (front (state_of layout (callers_aside past) end)) ≡ channel_for layout node past (front (state_of layout past end))
 front_channel_stays layout node past end =
-    ap (λ (s : State). channel_for layout node (callers_aside past) (front s)) (state_stays layout past end) ∙ channel_stays layout node past (front (state_of layout past end))
+    ap (λ (s : State). channel_for layout node (callers_aside past) (front s)) (state_stays layout past end)
+    ∙ channel_stays layout node past (front (state_of layout past end))
+
+-- the conditions of what stands for the packet network alone
+abbrev on_packets : Layout → List (Bool × Condition) → Option Condition
+on_packets layout table = first_holding ((layout.direct, Needs.NotPacket) ∷ table)
 
 condition_stays : (layout : Layout) (past : List Entry) (event : Event) → failing layout (callers_aside past) event ≡ failing layout past event
 condition_stays layout past (Events.Call actor end call) = λ i. first_holding (call_table (state_stays layout past end i))
 condition_stays layout past (Events.Want actor end) = λ i. first_holding (want_table (state_stays layout past end i))
 condition_stays layout past (Events.Carry end) = λ i. first_holding ((not layout.direct, Needs.NotDirect) ∷ carry_table (state_stays layout past end i))
 condition_stays layout past (Events.Bind node end) =
-    λ i. first_holding ((layout.direct, Needs.NotPacket) ∷ bind_table (is_home layout end node) (state_stays layout past end i) (front_channel_stays layout node past end i))
-condition_stays layout past (Events.Expire node peer channel) =
-    λ i. first_holding ((layout.direct, Needs.NotPacket) ∷ expire_table (is_some (bound_stays (channel_to node peer channel) past i)))
-condition_stays layout past (Events.Receive node peer number) =
-    λ i. first_holding ((layout.direct, Needs.NotPacket) ∷ (nat_lt (length (link_stays peer node past i)) number, Needs.NoPacket) ∷ [])
-condition_stays layout past (Events.Drain node end) = λ i. first_holding ((layout.direct, Needs.NotPacket) ∷ drain_table (is_home layout end node) (state_stays layout past end i))
-condition_stays layout past (Events.Unload node end) = λ i. first_holding ((layout.direct, Needs.NotPacket) ∷ unload_table (is_home layout end node) (state_stays layout past end i))
+    λ i. on_packets layout (bind_table (is_home layout end node) (state_stays layout past end i) (front_channel_stays layout node past end i))
+condition_stays layout past (Events.Expire node peer channel) = λ i. on_packets layout (expire_table (is_some (bound_stays (channel_to node peer channel) past i)))
+condition_stays layout past (Events.Receive node peer number) = λ i. on_packets layout ((nat_lt (length (link_stays peer node past i)) number, Needs.NoPacket) ∷ [])
+condition_stays layout past (Events.Drain node end) = λ i. on_packets layout (drain_table (is_home layout end node) (state_stays layout past end i))
+condition_stays layout past (Events.Unload node end) = λ i. on_packets layout (unload_table (is_home layout end node) (state_stays layout past end i))
 condition_stays layout past (Events.Load node end frame) =
-    λ i. first_holding ((layout.direct, Needs.NotPacket) ∷ load_table (is_home layout end node) (state_stays layout past end i) (frame_stays layout past node frame i))
-condition_stays layout past (Events.PageOut node end) = λ i. first_holding ((layout.direct, Needs.NotPacket) ∷ page_out_table (is_home layout end node) (state_stays layout past end i))
-condition_stays layout past (Events.PageIn node end) = λ i. first_holding ((layout.direct, Needs.NotPacket) ∷ page_in_table (is_home layout end node) (state_stays layout past end i))
+    λ i. on_packets layout (load_table (is_home layout end node) (state_stays layout past end i) (frame_stays layout past node frame i))
+condition_stays layout past (Events.PageOut node end) = λ i. on_packets layout (page_out_table (is_home layout end node) (state_stays layout past end i))
+condition_stays layout past (Events.PageIn node end) = λ i. on_packets layout (page_in_table (is_home layout end node) (state_stays layout past end i))
 
 pub failing_stays : (layout : Layout) (past : List Entry) (event : Event) → failing layout (callers_aside past) (by_anyone event) ≡ failing layout past event
 failing_stays layout past event =
@@ -71,7 +75,8 @@ range_stays layout (Events.PageIn node end) h = h
 -- ---- stamps
 
 taken_after : (stamp : ℕ) (past : List Entry) (event : Event) → is_taken_before stamp (callers_aside past) event ≡ is_taken_before stamp past event
-taken_after stamp past (Events.Receive node peer number) = ap (λ (l : List Packet). is_packet_before stamp (slice_get l (number - 1))) (link_stays peer node past)
+taken_after stamp past (Events.Receive node peer number) =
+    ap (λ (l : List Packet). is_packet_before stamp (slice_get l (number - 1))) (link_stays peer node past)
 taken_after stamp past event = refl
 
 taken_stays : (stamp : ℕ) (past : List Entry) (event : Event) → is_taken_before stamp (callers_aside past) (by_anyone event) ≡ is_taken_before stamp past event

@@ -13,7 +13,8 @@ use Rattle.am_lab_replays.proofs.Outcomes.{outcome_stays, stop_stays}
 each_aside : (May : List Entry → Entry → Type 0) → ((past : List Entry) (x : Entry) → May past x → May (callers_aside past) (made_by_anyone x)) → (past xs : List Entry) → EachAfter May past xs → EachAfter May (callers_aside past) (callers_aside xs)
 each_aside May step past [] h = tt
 each_aside May step past (x ∷ xs) h =
-    (step past x h.0, subst (λ (l : List Entry). EachAfter May l (callers_aside xs)) (map_push made_by_anyone past x) (each_aside May step (past ++ x ∷ []) xs h.1))
+    let rest = each_aside May step (past ++ x ∷ []) xs h.1 in
+    (step past x h.0, subst (λ (l : List Entry). EachAfter May l (callers_aside xs)) (map_push made_by_anyone past x) rest)
 
 may_follow : (layout : Layout) (past : List Entry) (x : Entry) → MayFollow layout past x → MayFollow layout (callers_aside past) (made_by_anyone x)
 may_follow layout past x h =

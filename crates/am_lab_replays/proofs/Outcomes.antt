@@ -38,7 +38,8 @@ carry_stays layout past None = refl
 carry_stays layout past (Some q) = λ i. judged layout.bounces q.message q.bounces (verdict (state_stays layout past q.message.dest i) q.message)
 
 bind_to_stays : (node : NodeId) (past : List Entry) (q : Queued) (peer : Option NodeId) (channel : Option ℕ) → bind_to node (callers_aside past) q peer channel ≡ bind_to node past q peer channel
-bind_to_stays node past q (Some peer) (Some channel) = λ i. Out.Sent q.message peer channel (sequence_stays (channel_to node peer channel) past i + 1) 0 (next_stays node peer past i)
+bind_to_stays node past q (Some peer) (Some channel) =
+    λ i. Out.Sent q.message peer channel (sequence_stays (channel_to node peer channel) past i + 1) 0 (next_stays node peer past i)
 bind_to_stays node past q (Some peer) None = refl
 bind_to_stays node past q None channel = refl
 
@@ -75,11 +76,13 @@ receive_stays layout node peer past None = refl
 receive_stays layout node peer past (Some (Packets.Parcel p)) =
     let c = channel_to node peer p.channel in
     ap (Out.Received p.channel p.seq p.attempt)
-    (ap (λ (k : Mark). arrive layout (callers_aside past) p.message (next_number node peer (callers_aside past)) (arrival k p.seq p.attempt)) (mark_stays c past)
+    (ap (λ (k : Mark). arrive layout (callers_aside past) p.message (next_number node peer (callers_aside past)) (arrival k p.seq p.attempt))
+    (mark_stays c past)
     ∙ arrive_stays layout past p.message node peer (arrival (mark c past) p.seq p.attempt))
 receive_stays layout node peer past (Some (Packets.Answer p)) =
     let c = channel_to node peer p.channel in
-    ap (Out.Received p.channel p.seq p.attempt) (ap (settle layout c (callers_aside past) p) (bound_stays c past) ∙ settle_stays layout c past p (bound_message c past))
+    ap (Out.Received p.channel p.seq p.attempt)
+    (ap (settle layout c (callers_aside past) p) (bound_stays c past) ∙ settle_stays layout c past p (bound_message c past))
 
 -- ---- all events
 
@@ -92,7 +95,8 @@ made_stays layout past (Events.Want actor end) = refl
 made_stays layout past (Events.Carry end) =
     ap (λ (s : State). carry layout (callers_aside past) (front s)) (state_stays layout past end) ∙ carry_stays layout past (front (state_of layout past end))
 made_stays layout past (Events.Bind node end) =
-    ap (λ (s : State). bind layout node (callers_aside past) (front s)) (state_stays layout past end) ∙ bind_stays layout node past (front (state_of layout past end))
+    ap (λ (s : State). bind layout node (callers_aside past) (front s)) (state_stays layout past end)
+    ∙ bind_stays layout node past (front (state_of layout past end))
 made_stays layout past (Events.Expire node peer channel) =
     let c = channel_to node peer channel in
     ap (expire layout node peer channel (callers_aside past)) (bound_stays c past) ∙ expire_stays layout node peer channel past (bound_message c past)

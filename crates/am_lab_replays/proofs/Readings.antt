@@ -28,10 +28,12 @@ replay_stays e s (x ∷ xs) = ap (λ (t : State). replay e t (callers_aside xs))
 
 pub state_stays : (layout : Layout) (past : List Entry) (e : EndpointId) → state_of layout (callers_aside past) e ≡ state_of layout past e
 state_stays layout past e =
-    ap (replay e (opening layout e)) (filter_stays made_by_anyone (touches e) (touches_stays e) past) ∙ replay_stays e (opening layout e) (filter (touches e) past)
+    ap (replay e (opening layout e)) (filter_stays made_by_anyone (touches e) (touches_stays e) past)
+    ∙ replay_stays e (opening layout e) (filter (touches e) past)
 
 pub frame_stays : (layout : Layout) (past : List Entry) (node : NodeId) (frame : ℕ) → is_frame_held layout (callers_aside past) node frame ≡ is_frame_held layout past node frame
-frame_stays layout past node frame = λ i. list_any (λ (s : EndSetting). same_node node s.node && is_in_frame frame (state_stays layout past s.id i).head.place) layout.ends
+frame_stays layout past node frame =
+    λ i. list_any (λ (s : EndSetting). same_node node s.node && is_in_frame frame (state_stays layout past s.id i).head.place) layout.ends
 
 -- ---- logs
 
@@ -39,7 +41,8 @@ pub end_log_stays : (past : List Entry) (e : EndpointId) → length (filter (tou
 end_log_stays past e = ap length (filter_stays made_by_anyone (touches e) (touches_stays e) past) ∙ length-map (filter (touches e) past) made_by_anyone
 
 pub node_log_stays : (past : List Entry) (node : NodeId) → length (filter (touches_node node) (callers_aside past)) ≡ length (filter (touches_node node) past)
-node_log_stays past node = ap length (filter_stays made_by_anyone (touches_node node) (touches_node_stays node) past) ∙ length-map (filter (touches_node node) past) made_by_anyone
+node_log_stays past node =
+    ap length (filter_stays made_by_anyone (touches_node node) (touches_node_stays node) past) ∙ length-map (filter (touches_node node) past) made_by_anyone
 
 -- ---- channels
 

@@ -69,7 +69,8 @@ makes_it_again s journal lawful run few =
     record {
       spelled = spelled;
       history = history;
-      only = λ other h f. histories_agree (layout_of s) (events_of (replayed s journal).steps) other (callers_aside journal) h f history.history history.follows;
+      only = λ other h f.
+          histories_agree (layout_of s) (events_of (replayed s journal).steps) other (callers_aside journal) h f history.history history.follows;
       reported = ap answer_of spelled ∙ answer_is (replayed s journal) (callers_aside journal) history;
       same = tells_the_same journal;
     }

@@ -33,7 +33,8 @@ ran_stays : (journal : List Entry) (s : Serial) → is_run (callers_aside journa
 ran_stays journal s = any_stays made_by_anyone (λ (x : Entry). passes (has_serial s) (run_of x)) (λ x. ap (passes (has_serial s)) (run_stays x)) journal
 
 was_accepted_stays : (journal : List Entry) (s : Serial) → is_accepted (callers_aside journal) s ≡ is_accepted journal s
-was_accepted_stays journal s = any_stays made_by_anyone (λ (x : Entry). passes (has_serial s) (accepted_of x)) (λ x. ap (passes (has_serial s)) (accepted_stays x)) journal
+was_accepted_stays journal s =
+    any_stays made_by_anyone (λ (x : Entry). passes (has_serial s) (accepted_of x)) (λ x. ap (passes (has_serial s)) (accepted_stays x)) journal
 
 end_stays : (journal : List Entry) (s : Serial) → fate_of_accepted (callers_aside journal) s ≡ fate_of_accepted journal s
 end_stays journal s = λ i. fate_by (causes_stay journal s i) (left_unknown_stays journal s i) (ran_stays journal s i)
@@ -44,7 +45,9 @@ fate_stays journal s = λ i. if was_accepted_stays journal s i then Some (end_st
 -- ---- what the report tells
 
 listed_stays : (journal : List Entry) → listed (callers_aside journal) ≡ listed journal
-listed_stays journal = fold_stays made_by_anyone (λ (messages : List (Serial × MsgKind)) (x : Entry). listed_with messages (accepted_of x)) (λ messages x. ap (listed_with messages) (accepted_stays x)) [] journal
+listed_stays journal =
+    fold_stays made_by_anyone (λ (messages : List (Serial × MsgKind)) (x : Entry). listed_with messages (accepted_of x))
+    (λ messages x. ap (listed_with messages) (accepted_stays x)) [] journal
 
 told_stays : (journal : List Entry) → told (callers_aside journal) ≡ told journal
 told_stays journal = λ i. map (λ (m : Serial × MsgKind). record { serial = m.0; kind = m.1; fate = end_stays journal m.0 i }) (listed_stays journal i)

@@ -34,7 +34,9 @@ tells_too_long s journal answer many is = inr (many, is)
 
 -- the report of a run's journal is one to which the checker says yes
 abbrev pub checked_report : (s : ScenarioLists) (bytes : List ℕ) (journal : List Entry) → IsReportOfRun s bytes journal → IsReportOf Run s bytes
-checked_report s bytes journal r = record { journal = journal; begun = (begun_by Run s journal r.history).0; ended = (begun_by Run s journal r.history).1; text = r.report' }
+checked_report s bytes journal r =
+    let passes = begun_by Run s journal r.history in
+    record { journal = journal; begun = passes.0; ended = passes.1; text = r.report' }
 
 one_place : (a b : ℕ) (o : Option ℕ) → o ≡ Some a → o ≡ Some b → a ≡ b
 one_place a b o e f = cc

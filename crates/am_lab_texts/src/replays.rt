@@ -91,10 +91,11 @@ fn told_right(alloc: Global, bytes: &[u8], checked: &Output) -> Result<Output, N
     told_text(alloc, bytes)
 }
 
-/// What `replay` prints of a scenario of a run and its report: the scenario as a step script, whose steps are the events of the
-/// report's journal, each call and each want by anyone outside. The one history that follows it is that journal, callers aside, so
-/// `am2 step` prints of it the same runs, fates and totals. A journal of more than 65,536 entries, which is more steps than a script may
-/// have, is told with status 11; and of a text to which `check` doesn't say yes stands what `check` says.
+/// What `replay` prints of a scenario of a run and its report: the scenario as a step script, whose steps are the events
+/// of the report's journal, each call and each want by anyone outside. The one history that follows it is that journal,
+/// callers aside, so `am2 step` prints of it the same runs, fates and totals. A journal of more than 65,536 entries, which
+/// is more steps than a script may have, is told with status 11 (`journal too long`). Of a text to which `check` doesn't
+/// say yes it prints what `check` does.
 ///
 /// `NoMemory` comes where there is none for the journal that is made again, or for the text.
 #[tactic(auto, using(crate::proofs::Replaying::replays_other))]

@@ -27,9 +27,9 @@ fn refused(alloc: Global, fault: ScenarioFault) -> Result<Output, NoMemory>
     Ok(output)
 }
 
-/// What `scenario` prints of a text: the scenario of this form that it spells, every setting with its number and without comments, or
-/// with status 3 its first fault. What is printed spells the scenario again, its steps with the lines that they have there, and
-/// printed again it is the same.
+/// What `scenario` prints of a text: the scenario of this form that it spells, every setting with its number and without
+/// comments, or with status 3 its first fault. What is printed spells the scenario again, its steps with the lines that
+/// they have there, and printed again it is the same.
 ///
 /// `NoMemory` comes where there is none for the scenario or for the text.
 #[tactic(auto, using(crate::proofs::Printing::says_printed, crate::proofs::Printing::says_refused))]

@@ -1,4 +1,5 @@
-//! The words of the program `am2_lab`, read by clap. Each command has a file of its own: the words that it takes, and what they ask for.
+//! The words of the program `am2_lab`, read by clap. Each command has a file of its own: the words that it takes, and
+//! what they ask for.
 #![tactic(auto)]
 
 ghost use Rattle.am_lab_words.specs.Ranges.{IsInRange};
@@ -26,7 +27,8 @@ use std::alloc::{AllocError, Global};
 pub enum Asked {
     /// `explain step`, `explain run`: what is wrong with a report of a scenario of this form, and what was due there.
     Explain(Form),
-    /// `why step E.K`, `why run E.K`: what became of the K-th message of endpoint E in a report of a scenario of this form.
+    /// `why step E.K`, `why run E.K`: what became of the K-th message of endpoint E in a report of a scenario of this
+    /// form.
     Why {
         form: Form,
         serial: Serial,
