@@ -1,5 +1,5 @@
 -- What the program answers to what was asked for, and to the bytes that were read for it.
-use Rattle.std.specs.Prelude.{◌≡◌, ◌≢◌, ◌⊎◌, ℕ, ◌≤◌, ◌<◌, List, ◌++◌, codes, length, take, Option, Err}
+use Rattle.std.specs.Prelude.{◌≡◌, ◌≢◌, ◌⊎◌, ℕ, ◌≤◌, ◌<◌, Bool, true, false, List, ◌++◌, codes, length, take, Option, Err}
 use Rattle.std.specs.Io.KnownBytes.{Appends}
 use Rattle.am_check.specs.Verdict.{Checks}
 use Rattle.am_check.specs.declared.faults.CheckStop.TheVariants as Stops
@@ -10,8 +10,12 @@ use Rattle.am_main_check.specs.Checks.{CheckAnswers}
 use Rattle.am_main_lines.specs.Lines.{Answer}
 use Rattle.am_names.specs.declared.Serial.{Serial}
 use Rattle.am_scenario_types.specs.declared.parts.Form.{Form}
+use Rattle.am_segment.specs.Spelling.{segment_grammar}
+use Rattle.am_lab_derived.specs.Answers.{ExpandedAnswers, PrintsScenario, RoundAnswers, made_from}
 use Rattle.am_lab_due.specs.Due.{IsDue as WasDue}
 use Rattle.am_lab_reasons.specs.Reasons.{Tells}
+use Rattle.am_lab_texts.specs.Replays.{ReplayAnswers}
+use Rattle.am_lab_texts.specs.Scenarios.{ScenarioAnswers}
 use Rattle.am_lab_words.specs.declared.Asked.{Asked}
 use Rattle.am_lab_words.specs.declared.Asked.TheVariants as Commands
 
@@ -45,9 +49,15 @@ pub record TellsWhy (form : Form) (bytes : List ℕ) (serial : Serial) (answer :
   pub checks : CheckAnswers form bytes checked
   pub more : ((checked.status ≢ 0) × (answer ≡ checked)) ⊎ TellsMessage form bytes serial checked answer
 
+-- the answer of a command to the bytes; `scenario make` has none to look at
 abbrev pub AnswersTo : Asked → List ℕ → Answer → Type 0
 AnswersTo (Commands.Explain form) bytes answer = Explains form bytes answer
 AnswersTo (Commands.Why form serial) bytes answer = TellsWhy form bytes serial answer
+AnswersTo (Commands.Scenario form) bytes answer = ScenarioAnswers form bytes answer
+AnswersTo (Commands.Made n) bytes answer = PrintsScenario (made_from n) answer
+AnswersTo Commands.Expanded bytes answer = ExpandedAnswers (segment_grammar bytes) answer
+AnswersTo (Commands.Round nodes turns number) bytes answer = RoundAnswers nodes turns number bytes answer
+AnswersTo Commands.Replay bytes answer = ReplayAnswers bytes answer
 
 -- ---- the other answers, which don't look at the bytes
 
@@ -69,11 +79,21 @@ pub record Finds (asked : Asked) (left : Option (List ℕ)) (answer : Answer) : 
   pub few : length bytes ≤ 16_777_216
   pub answers : AnswersTo asked bytes answer
 
+-- whether a command needs a text from the source
+abbrev pub reads_text : Asked → Bool
+reads_text (Commands.Made n) = false
+reads_text asked = true
+
 -- Where a read failed, that is told, whatever was read. Else the bytes are too many, memory ran out, or they are answered.
-abbrev pub IsDue : Asked → (left : Option (List ℕ)) (before now : Counter) → Answer → Type 0
-IsDue asked left before now answer =
+abbrev pub IsDueToText : Asked → (left : Option (List ℕ)) (before now : Counter) → Answer → Type 0
+IsDueToText asked left before now answer =
     (Rose before now × (answer ≡ read_fault))
     ⊎ (Stands before now × ((IsLonger left 16_777_216 × (answer ≡ too_long)) ⊎ ((answer ≡ no_memory) ⊎ Finds asked left answer)))
+
+-- To `scenario make` the scenario, or that memory ran out: it reads nothing.
+abbrev pub IsDue : Asked → (left : Option (List ℕ)) (before now : Counter) → Answer → Type 0
+IsDue (Commands.Made n) left before now answer = (answer ≡ no_memory) ⊎ PrintsScenario (made_from n) answer
+IsDue asked left before now answer = IsDueToText asked left before now answer
 
 -- ---- what the sink takes of it
 

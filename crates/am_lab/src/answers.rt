@@ -3,14 +3,17 @@
 ghost use Rattle.am_check.specs.Verdict.{Checks};
 ghost use Rattle.am_check.specs.declared.faults.CheckStop.TheVariants as Stops;
 ghost use Rattle.am_lab.specs.Answers.{AnswersTo, Explains, TellsWhy};
+ghost use Rattle.am_lab_words.specs.Ranges.{IsInRange};
 ghost use Rattle.am_main_check.specs.Checks.{CheckAnswers};
 ghost use Rattle.am_main_lines.specs.Lines.{answer_in};
 ghost use Rattle.std.specs.Prelude.{◌≡◌, ◌<◌, ◌^◌, ◌++◌, Err, IfOk, length};
 
 use am_check::{CheckStop, CheckWhat, check};
 use am_check_laws::yes_is_true;
+use am_lab_derived::{expanded_scenario, made_scenario, round_scenario};
 use am_lab_due::due;
 use am_lab_reasons::why;
+use am_lab_texts::{replay_output, scenario_output};
 use am_lab_words::Asked;
 use am_main_check::check_output;
 use am_main_lines::Output;
@@ -96,11 +99,21 @@ fn told_why(alloc: Global, form: Form, bytes: &[u8], serial: Serial) -> Result<O
 
 /// The answer of a command to a text.
 pub(crate) fn answered(alloc: Global, asked: Asked, bytes: &[u8]) -> Result<Output, NoMemory>
-    requires { length bytes.now < 2 ^ 31 }
+    requires few { length bytes.now < 2 ^ 31 }
+    requires in_range { IsInRange asked }
     ensures { IfOk result (λ o. AnswersTo asked bytes.now (answer_in o)) }
 {
     match asked {
         Asked::Explain(form) => explained(alloc, form, bytes),
         Asked::Why { form, serial } => told_why(alloc, form, bytes, serial),
+        Asked::Scenario(form) => scenario_output(alloc, form, bytes),
+        Asked::Made(n) => made_scenario(alloc, n),
+        Asked::Expanded => expanded_scenario(alloc, bytes),
+        Asked::Round {
+            nodes,
+            turns,
+            number,
+        } => round_scenario(alloc, nodes, turns, number, bytes),
+        Asked::Replay => replay_output(alloc, bytes),
     }
 }

@@ -1,9 +1,10 @@
 //! What is answered: the source is read here.
 
 ghost use Rattle.am_io.specs.Whole.{TakesAtMost};
-ghost use Rattle.am_lab.specs.Answers.{AnswersTo, IsDue, no_memory};
+ghost use Rattle.am_lab.specs.Answers.{AnswersTo, IsDue, IsDueToText, no_memory, reads_text};
 ghost use Rattle.am_lab.specs.Replies.{answer_of};
-ghost use Rattle.std.specs.Prelude.{◌≡◌, ◌⊎◌, ◌<◌, ◌^◌, false, length};
+ghost use Rattle.am_lab_words.specs.Ranges.{IsInRange};
+ghost use Rattle.std.specs.Prelude.{◌≡◌, ◌⊎◌, ◌<◌, ◌^◌, true, false, length};
 
 use crate::answers::answered;
 use am_io::{Source, TakeFault, take_all};
@@ -48,7 +49,8 @@ impl Reply {
 
 // The answer to the bytes, if there is memory for it.
 fn answer_or_none(alloc: Global, asked: Asked, bytes: &[u8]) -> Reply
-    requires { length bytes.now < 2 ^ 31 }
+    requires few { length bytes.now < 2 ^ 31 }
+    requires in_range { IsInRange asked }
     ensures { (answer_of result ≡ no_memory) ⊎ AnswersTo asked bytes.now (answer_of result) }
 {
     match answered(alloc, asked, bytes) {
@@ -57,11 +59,12 @@ fn answer_or_none(alloc: Global, asked: Asked, bytes: &[u8]) -> Reply
     }
 }
 
-/// What is answered to what was asked for, and to all that the source has left.
+// Reads the source to its end.
 #[tactic(auto, using(crate::proofs::Due::due_found, crate::proofs::Due::due_read_fault, crate::proofs::Due::due_too_long, crate::proofs::Due::due_no_memory))]
-pub(crate) fn reply_to<S: Source>(alloc: Global, asked: Asked, source: &mut S) -> Reply
-    requires { S.has_ended source.old ≡ false }
-    ensures due { IsDue asked (S.left source.old) (S.count source.old) (S.count source.new) (answer_of result) }
+fn reply_to_text<S: Source>(alloc: Global, asked: Asked, source: &mut S) -> Reply
+    requires fresh { S.has_ended source.old ≡ false }
+    requires in_range { IsInRange asked }
+    ensures due { IsDueToText asked (S.left source.old) (S.count source.old) (S.count source.new) (answer_of result) }
     ensures took { TakesAtMost 16777217 (S.left source.old) (S.left source.new) }
 {
     match take_all(alloc, source) {
@@ -69,5 +72,31 @@ pub(crate) fn reply_to<S: Source>(alloc: Global, asked: Asked, source: &mut S) -
         Err(TakeFault::Failed) => Reply::ReadFault,
         Err(TakeFault::TooLong) => Reply::TooLong,
         Err(TakeFault::NoMemory) => Reply::NoMemory,
+    }
+}
+
+// Whether a command needs a text from the source.
+fn reads_text(asked: Asked) -> bool
+    ensures { result ≡ reads_text asked }
+{
+    match asked {
+        Asked::Made(_) => false,
+        _ => true,
+    }
+}
+
+/// What is answered to what was asked for, and to all that the source has left, if that is read.
+#[tactic(auto, using(am_io::proofs::Parts::took_none, crate::proofs::Due::due_to_text, crate::proofs::Due::due_to_number))]
+pub(crate) fn reply_to<S: Source>(alloc: Global, asked: Asked, source: &mut S) -> Reply
+    requires fresh { S.has_ended source.old ≡ false }
+    requires in_range { IsInRange asked }
+    ensures due { IsDue asked (S.left source.old) (S.count source.old) (S.count source.new) (answer_of result) }
+    ensures unread { reads_text asked ≡ false → source.new ≡ source.old }
+    ensures took { TakesAtMost 16777217 (S.left source.old) (S.left source.new) }
+{
+    if reads_text(asked) {
+        reply_to_text(alloc, asked, source)
+    } else {
+        answer_or_none(alloc, asked, &[])
     }
 }

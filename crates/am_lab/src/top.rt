@@ -2,8 +2,9 @@
 
 ghost use Rattle.am_io.specs.Causes.{Rose, Stands};
 ghost use Rattle.am_io.specs.Whole.{TakesAtMost};
-ghost use Rattle.am_lab.specs.Answers.{IsAnswered, IsOffered, no_memory};
+ghost use Rattle.am_lab.specs.Answers.{IsAnswered, IsOffered, no_memory, reads_text};
 ghost use Rattle.am_lab.specs.Replies.{answer_of};
+ghost use Rattle.am_lab_words.specs.Ranges.{IsInRange};
 ghost use Rattle.std.specs.Prelude.{◌≡◌, ◌≢◌, false};
 
 use crate::replies::{Reply, reply_to};
@@ -25,27 +26,36 @@ fn offer<K: Sink>(sink: &mut K, reply: &Reply) -> u8
     }
 }
 
-/// The program behind its words, over any source that hasn't ended and any sink: it reads a scenario and behind it its report to
-/// the end of the source, and answers what is asked for. It gives the status that the process ends with.
+/// The program behind its words, over any source that hasn't ended and any sink: it reads a scenario, and but for
+/// `scenario` behind it its report, to the end of the source, and answers what is asked for. It gives the status that the
+/// process ends with.
 ///
-/// `explain` answers as `am2 check` does, and behind the line that tells a fault of the report what was due there. `why` answers a
-/// right report with what became of a message, and any other text as `am2 check` does.
+/// `explain` answers as `am2 check` does, and behind the line that tells a fault of the report what was due there. `why`
+/// answers a right report with what became of a message, `replay` with the run's journal as a step script, and each any
+/// other text as `am2 check` does. `scenario` prints the scenario that it reads; or the one behind a run, of a number, for
+/// which nothing is read, of a text with segments, or of a round of a text's words.
 ///
 /// | Status | The text | When |
 /// |---|---|---|
-/// | 0 | `check ok`, or what became of the message | the report is right |
+/// | 0 | `check ok`, what became of the message, the step script, or the scenario | the report is right; for `scenario` the text spells one, or there is one behind the run |
 /// | 3, 6, 10 | as `am2 check` has it, and for `explain` what was due | the scenario or the report has a fault, or meets a full log |
 /// | 4 | `read fault` | a read failed |
 /// | 5 | a front of the text | a write failed |
 /// | 7 | `input too long` | the source had more than 16,777,216 bytes left |
 /// | 8 | `no memory`, or a front of the text | there was no memory: for the answer, which may be at any time, or for the sink |
+/// | 11 | `journal too long` | `replay` of a right report with more than 65,536 entries, the most steps that a step script has |
+/// | 11 | `text too long` | `scenario count` of more than 1,048,576 bytes |
+/// | 12 | `no round` and how many there are | `scenario count` of a text that has no round with this number |
 pub fn answer<S: Source, K: Sink>(alloc: Global, asked: Asked, source: &mut S, sink: &mut K) -> u8
-    requires { S.has_ended source.old ≡ false }
+    requires fresh { S.has_ended source.old ≡ false }
+    requires in_range { IsInRange asked }
     // An answer that is due to what is asked for, and to what the source had left, was offered to the sink.
     ensures answered { IsAnswered asked (S.left source.old) (S.count source.old) (S.count source.new) result (K.held sink.old) (K.held sink.new) }
     // No write that failed, or that found no memory, is passed over.
     ensures no_write_fault { result ≢ 5 → Stands (K.count sink.old) (K.count sink.new) }
     ensures no_shortage { result ≢ 8 → Stands (K.shortages sink.old) (K.shortages sink.new) }
+    // Where no text is needed nothing is read.
+    ensures unread { reads_text asked ≡ false → source.new ≡ source.old }
     ensures took { TakesAtMost 16777217 (S.left source.old) (S.left source.new) }
 {
     let reply = reply_to(alloc, asked, source);

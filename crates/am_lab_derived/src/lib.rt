@@ -1,0 +1,12 @@
+//! The scenarios that stand behind the runs of `am2 make`, `am2 segments` and `am2 count`, as texts that `am2 run`
+//! reads.
+#![tactic(auto)]
+
+mod expansions;
+mod numbers;
+mod outputs;
+mod sendings;
+
+pub use crate::expansions::expanded_scenario;
+pub use crate::numbers::made_scenario;
+pub use crate::sendings::round_scenario;

@@ -1,0 +1,48 @@
+use am_io::{MemorySink, MemorySource};
+use am_lab::answer;
+use am_lab_words::read_words;
+use std::alloc::{AllocError, Global};
+
+/// What the program answered: its status, and what the sink holds.
+#[derive(Drop)]
+pub struct Answer {
+    pub status: u8,
+    pub printed: Vec<u8>,
+}
+
+/// The words of a line, by its spaces.
+fn words_of(alloc: Global, line: &str) -> Result<Vec<String>, AllocError> {
+    let mut words = Vec::new(alloc);
+    for word in line.split(' ') {
+        words.push(String::from_str(alloc, word)?)?;
+    }
+    Ok(words)
+}
+
+/// A text with another one behind it.
+pub fn joined(alloc: Global, front: &str, rest: &str) -> Result<Vec<u8>, AllocError> {
+    let mut text = Vec::from_slice(alloc, front.as_bytes())?;
+    text.extend_from_slice(rest.as_bytes())?;
+    Ok(text)
+}
+
+/// Whether the words of a line, of which the first is the program's name, ask for something.
+pub fn asks(alloc: Global, line: &str) -> Result<bool, AllocError> {
+    let words = words_of(alloc, line)?;
+    Ok(read_words(alloc, &words).is_ok())
+}
+
+/// What the program answers to the words of a line and to a text; status 2 where the words ask for nothing.
+pub fn answer_to(alloc: Global, line: &str, text: Vec<u8>) -> Result<Answer, AllocError> {
+    let words = words_of(alloc, line)?;
+    let mut from = MemorySource::new(text, 4096, Vec::new(alloc));
+    let mut to = MemorySink::new(alloc, 4096, Vec::new(alloc));
+    let status = match read_words(alloc, &words) {
+        Ok(asked) => answer(alloc, asked, &mut from, &mut to),
+        Err(_) => 2,
+    };
+    Ok(Answer {
+        status,
+        printed: Vec::from_slice(alloc, to.bytes())?,
+    })
+}
