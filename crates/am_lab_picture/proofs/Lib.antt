@@ -3,3 +3,4 @@ pub mod Finding
 pub mod Numbering
 pub mod Spread
 pub mod Laning
+pub mod Shown

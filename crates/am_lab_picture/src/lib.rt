@@ -9,6 +9,7 @@ mod entries;
 mod fates;
 mod journals;
 mod lanes;
+mod laws;
 mod packets;
 mod residencies;
 mod spans;
@@ -18,6 +19,10 @@ pub use data::{Arrow, Cross, Lane, Lines, Named, Picture, Residency, Row, Span, 
 pub use entries::rows;
 pub use journals::IndexedJournal;
 pub use lanes::LaneTrack;
+pub use laws::{
+    arrows_join_emissions_to_receipts, crosses_are_of_the_unreceived, rows_are_entries,
+    spans_are_values,
+};
 pub use packets::{arrows, crosses};
 pub use residencies::residency_of;
 pub use spans::Track;
