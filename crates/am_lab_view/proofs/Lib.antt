@@ -1,0 +1,4 @@
+pub mod Keeping
+pub mod Following
+pub mod Passing
+pub mod Showing
