@@ -11,7 +11,7 @@ use Rattle.am_lab_picture.specs.declared.data.Standing.{Standing}
 use Rattle.am_lab_picture.specs.Data.{LaneLists}
 use Rattle.am_lab_picture.specs.Lanes.{LaneTracked, lane_begun, lane_ended, lane_followed, lane_followed_by, lane_of}
 use Rattle.am_lab_picture.specs.Residencies.{same_residency}
-use Rattle.am_lab_picture.specs.Spans.{Tracked, begun, ended_at, followed}
+use Rattle.am_lab_picture.specs.Spans.{Tracked, ended_at, followed}
 
 -- each value is followed by itself
 record IsEach (t : LaneTracked) (line : ℕ) (ss : List Standing) : Type 0 where

@@ -1,5 +1,5 @@
 -- Rows, arrows and crosses are what the journal says.
-use Rattle.std.proofs.Common.{◌≡◌, ℕ, zero, suc, ◌+◌, ◌-◌, ◌<◌, ◌≤◌, Bool, true, false, not, ◌==◌, ◌&&◌, ◌||◌, cond, List, [], ◌∷◌, ◌++◌, Option, Some, None, IfSome, length, map, take, drop, refl, sym, ap, ◌∙◌, subst, true≢false, arith, slice_get, filter_map, if◌then◌else◌}
+use Rattle.std.proofs.Common.{◌≡◌, ℕ, zero, suc, ◌+◌, ◌-◌, ◌≤◌, Bool, true, false, not, ◌==◌, ◌&&◌, cond, List, [], ◌∷◌, ◌++◌, Option, Some, None, IfSome, map, take, drop, refl, sym, ap, ◌∙◌, subst, true≢false, arith, slice_get, filter_map, if◌then◌else◌}
 use Rattle.std.specs.List.{AllByRecursion, filter, position_from, cons_option}
 use Rattle.std.specs.Option.{option_map}
 use Rattle.std.proofs.lemmas.Bool.{eqb-true}
@@ -9,11 +9,11 @@ use Rattle.am_names.specs.declared.Serial.{Serial}
 use Rattle.am_office.specs.Entries.{emitted_of}
 use Rattle.am_office.specs.declared.Entry.{Entry}
 use Rattle.am_lab_picture.specs.Abouts.{about_of, reply_of}
-use Rattle.am_lab_picture.specs.Arrows.{arrow, arrow_at, arrow_by, arrow_from, arrow_of, arrow_shown, arrows, counts, cross, cross_by, crosses, if_shown, is_shown}
+use Rattle.am_lab_picture.specs.Arrows.{arrow, arrow_at, arrow_by, arrow_from, arrow_of, arrow_shown, cross, cross_by, if_shown, is_shown}
 use Rattle.am_lab_picture.specs.Laws.{ArrowsJoinEmissionsToReceipts, CrossesAreOfTheUnreceived, CrossesStandAtEmissions, HasItsFate, IsArrow, IsCross, IsInLine, IsRow, RowsAreEntries, RowsTellFates}
 use Rattle.am_lab_picture.specs.Numbered.{numbered}
-use Rattle.am_lab_picture.specs.Rows.{entries_in, named_by, row, rows}
-use Rattle.am_lab_picture.specs.Ways.{emits, emitted_way, emitter, is_received, is_way, received_way, receives, same_way, way_of}
+use Rattle.am_lab_picture.specs.Rows.{entries_in, named_by, row}
+use Rattle.am_lab_picture.specs.Ways.{emits, emitter, is_received, is_way, received_way, same_way, way_of}
 use Rattle.am_lab_picture.specs.declared.data.Arrow.{Arrow}
 use Rattle.am_lab_picture.specs.declared.data.Cross.{Cross}
 use Rattle.am_lab_picture.specs.declared.data.Lines.{Lines}

@@ -1,5 +1,5 @@
 -- The arrows and the crosses of a picture.
-use Rattle.std.specs.Prelude.{ℕ, ◌+◌, Bool, true, false, ◌&&◌, ◌||◌, nat_le, nat_lt, Option, Some, None, List, [], ◌∷◌, slice_get, option_to_list, if◌then◌else◌}
+use Rattle.std.specs.Prelude.{ℕ, ◌+◌, Bool, true, false, ◌&&◌, ◌||◌, nat_le, nat_lt, Option, Some, None, List, [], ◌∷◌, slice_get, if◌then◌else◌}
 use Rattle.am_names.specs.declared.Packet.{Packet}
 use Rattle.am_office.specs.Entries.{emitted_of}
 use Rattle.am_office.specs.declared.Entry.{Entry}

@@ -1,5 +1,5 @@
 -- The lanes of a picture.
-use Rattle.std.specs.Prelude.{ℕ, ◌+◌, nat_eq, List, [], ◌∷◌, map, length}
+use Rattle.std.specs.Prelude.{ℕ, ◌+◌, nat_eq, List, [], ◌∷◌, map}
 use Rattle.am_scenario_types.specs.declared.parts.EndLine.{EndLine}
 use Rattle.am_lab_picture.specs.declared.data.Residency.{Residency}
 use Rattle.am_lab_picture.specs.declared.data.Standing.{Standing}

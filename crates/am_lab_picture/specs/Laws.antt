@@ -1,5 +1,5 @@
 -- What a picture shows, in other words.
-use Rattle.std.specs.Prelude.{◌≡◌, ℕ, ◌+◌, ◌-◌, ◌≤◌, true, false, not, List, Some, IfSome, filter, filter_map, map, slice_get}
+use Rattle.std.specs.Prelude.{◌≡◌, ℕ, ◌-◌, ◌≤◌, true, not, List, Some, IfSome, filter, filter_map, map, slice_get}
 use Rattle.std.specs.List.{AllByRecursion}
 use Rattle.am_names.specs.declared.Packet.{Packet}
 use Rattle.am_office.specs.Entries.{emitted_of}
@@ -8,7 +8,7 @@ use Rattle.am_office.specs.declared.Entry.{Entry}
 use Rattle.am_lab_picture.specs.Abouts.{about_of, reply_of}
 use Rattle.am_lab_picture.specs.Arrows.{arrows, counts, crosses}
 use Rattle.am_lab_picture.specs.Rows.{entries_in, named_by, rows}
-use Rattle.am_lab_picture.specs.Ways.{emits, is_received, receives, way_of}
+use Rattle.am_lab_picture.specs.Ways.{is_received, receives, way_of}
 use Rattle.am_lab_picture.specs.declared.data.Arrow.{Arrow}
 use Rattle.am_lab_picture.specs.declared.data.Cross.{Cross}
 use Rattle.am_lab_picture.specs.declared.data.Lines.{Lines}

@@ -1,5 +1,5 @@
 -- The rows of a picture.
-use Rattle.std.specs.Prelude.{◌≡◌, ℕ, ◌-◌, Option, List, take, drop, map}
+use Rattle.std.specs.Prelude.{◌-◌, Option, List, take, drop, map}
 use Rattle.std.specs.Option.{option_map}
 use Rattle.am_names.specs.declared.Serial.{Serial}
 use Rattle.am_office.specs.declared.Entry.{Entry}
