@@ -1,5 +1,5 @@
 -- An endpoint on disk holds what it held before.
-use Rattle.std.proofs.Common.{◌≡◌, ℕ, Bool, true, false, List, [], ◌∷◌, ◌++◌, Option, Some, None, refl, sym, ap, ◌∙◌, subst, true≢false, length, if◌then◌else◌}
+use Rattle.std.proofs.Common.{◌≡◌, Bool, true, false, List, [], ◌∷◌, ◌++◌, Option, Some, None, refl, sym, ap, ◌∙◌, subst, true≢false, length, if◌then◌else◌}
 use Rattle.std.specs.List.{find}
 use Rattle.am_names.specs.declared.EndpointId.{EndpointId}
 use Rattle.am_office.specs.declared.Entry.{Entry}
@@ -9,9 +9,9 @@ use Rattle.am_office.specs.declared.Outcome.{Outcome}
 use Rattle.am_office.specs.Entries.{touches}
 use Rattle.am_model.specs.Changes.{after, changed}
 use Rattle.am_model.specs.Endpoint.{Body, State, is_on_disk}
-use Rattle.am_model.specs.History.{EachAfter, IsHistory, MayFollow, state_of}
+use Rattle.am_model.specs.History.{IsHistory, MayFollow, state_of}
 use Rattle.am_model.specs.Layout.{EndSetting, IsLawful, Layout, has_id, opening_by}
-use Rattle.am_model.proofs.Each.{each_imply, each_push, state_of_push}
+use Rattle.am_model.proofs.Each.{each_push, state_of_push}
 use Rattle.am_model.proofs.Unchanged.{paged_out_body}
 use Rattle.am_drain.proofs.Entries.{entry_may_follow}
 use Rattle.am_laws_disk.specs.Disk.{pages_out}

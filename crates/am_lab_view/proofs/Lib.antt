@@ -2,3 +2,4 @@ pub mod Keeping
 pub mod Following
 pub mod Passing
 pub mod Showing
+pub mod Told

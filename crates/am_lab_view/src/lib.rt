@@ -11,6 +11,7 @@ ghost use Rattle.am_scenario_types.specs.declared.parts.Form.{Form as Kind};
 ghost use Rattle.std.specs.Prelude.{◌≡◌, ◌⊎◌, ◌<◌, ◌^◌, Err, length};
 
 mod lanes;
+mod laws;
 mod parts;
 mod pictures;
 mod steps;
@@ -20,6 +21,7 @@ use crate::pictures::picture_in;
 use am_lab_journal::place_of;
 pub use am_lab_picture::Picture;
 use am_scenario::{Form, read};
+pub use laws::{lanes_are_the_states, receipts_are_those_of_reasons};
 pub use parts::{Part, PictureFault};
 use std::alloc::Global;
 

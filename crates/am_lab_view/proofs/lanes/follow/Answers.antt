@@ -1,4 +1,4 @@
-use Rattle.std.proofs.Common.{◌≡◌, ◌+◌, List, length, map, take, sym, ap, ◌∙◌, arith}
+use Rattle.std.proofs.Common.{List, length, take, sym, ap, ◌∙◌, arith}
 use Rattle.std.proofs.lemmas.List.{length-map}
 use Rattle.am_model.specs.Layout.{Layout}
 use Rattle.am_lab_picture.specs.Lanes.{LaneTracked}

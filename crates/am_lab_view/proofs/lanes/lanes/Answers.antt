@@ -1,4 +1,4 @@
-use Rattle.std.proofs.Common.{ℕ, ◌+◌, ◌-◌, List, [], length, take, drop, refl, sym, ap, ◌∙◌, subst, arith}
+use Rattle.std.proofs.Common.{◌+◌, ◌-◌, List, [], length, take, drop, refl, sym, ap, ◌∙◌, subst, arith}
 use Rattle.am_model.specs.History.{EachAfter}
 use Rattle.am_model.specs.Layout.{Layout}
 use Rattle.am_office.specs.declared.Entry.{Entry}

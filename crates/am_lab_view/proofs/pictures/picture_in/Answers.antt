@@ -1,4 +1,4 @@
-use Rattle.std.proofs.Common.{◌≡◌, ℕ, List, [], Result, Err, length, inl, inr, ⊎_elim, sym, ap, ◌∙◌, subst, arith}
+use Rattle.std.proofs.Common.{◌≡◌, List, [], Err, length, inl, inr, ⊎_elim, sym, ap, ◌∙◌, subst, arith}
 use Rattle.am_model.specs.History.{EachAfter}
 use Rattle.am_office.specs.declared.Entry.{Entry}
 use Rattle.am_scripts.specs.Layout.{layout_of}

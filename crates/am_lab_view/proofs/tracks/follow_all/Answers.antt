@@ -1,4 +1,4 @@
-use Rattle.std.proofs.Common.{◌+◌, refl, arith}
+use Rattle.std.proofs.Common.{◌+◌, refl}
 use Rattle.am_lab_view.proofs.Passing.{all_passed, followed_here, keep_here}
 use Rattle.am_lab_view.proofs.tracks.follow_all.Goals as goal
 
