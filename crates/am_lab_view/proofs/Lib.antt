@@ -1,0 +1,5 @@
+pub mod Keeping
+pub mod Following
+pub mod Passing
+pub mod Showing
+pub mod Told

@@ -1,0 +1,4 @@
+pub mod Parts
+pub mod Standings
+pub mod Pictures
+pub mod Laws
