@@ -147,8 +147,9 @@ pub fn alone(alloc: Global, scenario: &Scenario) -> Result<Finished, RunFault>
     }
 }
 
-/// The drain of what the threads of a run made.
-fn drain_phase(
+/// The drain of what the threads of a run made: the cluster is that of the scenario, and its journal is a good phase, which is empty
+/// where there are no turns. It answers as `run` does of that phase.
+pub fn drain_phase(
     alloc: Global,
     scenario: &Scenario,
     mut cluster: Cluster,

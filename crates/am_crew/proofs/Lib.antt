@@ -3,6 +3,6 @@ mod Gathered
 mod Left
 mod Links
 mod Parts
-mod Ran
+pub mod Ran
 mod Rows
 mod Taking

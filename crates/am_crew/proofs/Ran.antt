@@ -40,8 +40,8 @@ same_seat births seats seats' mark v w same e h = record { is_mark = same.mark �
 abbrev pub with_workers : NodeCrew → Vec ThreadWorker → InterfaceWorker → DriverWorker → NodeCrew
 with_workers c ts i w = record c { threads = ts; interface = i; driver = w }
 
-pub crew_ran : (s : ScenarioLists) (c : NodeCrew) (ts : Vec ThreadWorker) (i : InterfaceWorker) (w : DriverWorker) → IsCrew s c.node 0 c → length ts.items ≡ length c.threads.items → ((k : ℕ) (t : ThreadWorker) → slice_get ts.items k ≡ Some t → IsThreadAtWork s (table_of c) (ids_of c) s.turns t) → ((k : ℕ) (v t : ThreadWorker) → slice_get c.threads.items k ≡ Some v → slice_get ts.items k ≡ Some t → SameThread v t) → IsInterfaceAtWork s (table_of c) (ids_of c) c.node s.turns i → SameInterface c.interface i → IsDriverAtWork s (table_of c) (ids_of c) c.node s.turns w → SameDriver c.driver w → IsCrew s c.node s.turns (with_workers c ts i w)
-crew_ran s c ts i w h long threads same interface same_i driver same_d =
+pub crew_ran : (s : ScenarioLists) (before : ℕ) (c : NodeCrew) (ts : Vec ThreadWorker) (i : InterfaceWorker) (w : DriverWorker) → IsCrew s c.node before c → length ts.items ≡ length c.threads.items → ((k : ℕ) (t : ThreadWorker) → slice_get ts.items k ≡ Some t → IsThreadAtWork s (table_of c) (ids_of c) s.turns t) → ((k : ℕ) (v t : ThreadWorker) → slice_get c.threads.items k ≡ Some v → slice_get ts.items k ≡ Some t → SameThread v t) → IsInterfaceAtWork s (table_of c) (ids_of c) c.node s.turns i → SameInterface c.interface i → IsDriverAtWork s (table_of c) (ids_of c) c.node s.turns w → SameDriver c.driver w → IsCrew s c.node s.turns (with_workers c ts i w)
+crew_ran s before c ts i w h long threads same interface same_i driver same_d =
     let seats : length ts.items + 2 ≡ length c.threads.items + 2 = ap (λ (n : ℕ). n + 2) long in
     record {
       is_node = h.is_node;

@@ -28,8 +28,10 @@ pub use am_workers::{Gate, OpenGate};
 use std::alloc::Global;
 use std::thread::Threads;
 
-/// What the crews of all nodes made, put together to a cluster, unless a worker found no memory.
-fn unite_crews(
+/// What the crews of all nodes made, put together to a cluster, wherever their workers stopped: its journal is a good phase of the
+/// scenario, and the empty one where there are no turns. `NoMemory` comes where a worker found none, or there is none for the cluster:
+/// what the crews made is dropped then.
+pub fn unite_crews(
     alloc: Global,
     scenario: &Scenario,
     crews: Vec<NodeCrew>,

@@ -6,6 +6,9 @@ ghost use Rattle.am_lab.specs.Answers.{AnswersTo, Explains, TellsWhy};
 ghost use Rattle.am_lab_words.specs.Ranges.{IsInRange};
 ghost use Rattle.am_main_check.specs.Checks.{CheckAnswers};
 ghost use Rattle.am_main_lines.specs.Lines.{answer_in};
+ghost use Rattle.am_main_run.specs.Runs.{RunAnswers};
+ghost use Rattle.am_scenario.specs.Grammar.{grammar};
+ghost use Rattle.am_scenario_types.specs.declared.parts.Form.TheVariants as Forms;
 ghost use Rattle.std.specs.Prelude.{◌≡◌, ◌<◌, ◌^◌, ◌++◌, Err, IfOk, length};
 
 use am_check::{CheckStop, CheckWhat, check};
@@ -13,6 +16,7 @@ use am_check_laws::yes_is_true;
 use am_lab_derived::{expanded_scenario, made_scenario, round_scenario};
 use am_lab_due::due;
 use am_lab_reasons::why;
+use am_lab_schedule::schedule_output;
 use am_lab_texts::{replay_output, scenario_output};
 use am_lab_words::Asked;
 use am_main_check::check_output;
@@ -97,6 +101,16 @@ fn told_why(alloc: Global, form: Form, bytes: &[u8], serial: Serial) -> Result<O
     message_output(alloc, form, bytes, serial, &output)
 }
 
+// The report of a run by a seed.
+fn scheduled(alloc: Global, bytes: &[u8], seed: u64) -> Result<Output, NoMemory>
+    ensures { IfOk result (λ o. RunAnswers (grammar Forms.Run bytes.now) (answer_in o)) }
+{
+    match schedule_output(alloc, bytes, seed) {
+        Ok(output) => Ok(output),
+        Err(_) => Err(NoMemory),
+    }
+}
+
 /// The answer of a command to a text.
 pub(crate) fn answered(alloc: Global, asked: Asked, bytes: &[u8]) -> Result<Output, NoMemory>
     requires few { length bytes.now < 2 ^ 31 }
@@ -115,5 +129,6 @@ pub(crate) fn answered(alloc: Global, asked: Asked, bytes: &[u8]) -> Result<Outp
             number,
         } => round_scenario(alloc, nodes, turns, number, bytes),
         Asked::Replay => replay_output(alloc, bytes),
+        Asked::Schedule(seed) => scheduled(alloc, bytes, seed),
     }
 }

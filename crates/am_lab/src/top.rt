@@ -27,18 +27,19 @@ fn offer<K: Sink>(sink: &mut K, reply: &Reply) -> u8
 }
 
 /// The program behind its words, over any source that hasn't ended and any sink: it reads a scenario, and but for
-/// `scenario` behind it its report, to the end of the source, and answers what is asked for. It gives the status that the
-/// process ends with.
+/// `scenario` and `schedule` behind it its report, to the end of the source, and answers what is asked for. It gives the
+/// status that the process ends with.
 ///
 /// `explain` answers as `am2 check` does, and behind the line that tells a fault of the report what was due there. `why`
 /// answers a right report with what became of a message, `replay` with the run's journal as a step script, and each any
 /// other text as `am2 check` does. `scenario` prints the scenario that it reads; or the one behind a run, of a number, for
-/// which nothing is read, of a text with segments, or of a round of a text's words.
+/// which nothing is read, of a text with segments, or of a round of a text's words. `schedule` prints the report of a run
+/// of the scenario, as `am2 run` may.
 ///
 /// | Status | The text | When |
 /// |---|---|---|
-/// | 0 | `check ok`, what became of the message, the step script, or the scenario | the report is right; for `scenario` the text spells one, or there is one behind the run |
-/// | 3, 6, 10 | as `am2 check` has it, and for `explain` what was due | the scenario or the report has a fault, or meets a full log |
+/// | 0 | `check ok`, what became of the message, the step script, the scenario, or the run's report | the report is right; for `scenario` and `schedule` the text spells a scenario, or there is one behind the run |
+/// | 3, 6, 10 | as `am2 check` has it, and for `explain` what was due; 3 and 6 for `schedule` as `am2 run` has it | the scenario or the report has a fault, or meets a full log |
 /// | 4 | `read fault` | a read failed |
 /// | 5 | a front of the text | a write failed |
 /// | 7 | `input too long` | the source had more than 16,777,216 bytes left |

@@ -10,11 +10,13 @@ mod explain;
 mod forms;
 mod replay;
 mod scenario;
+mod schedule;
 mod why;
 
 use crate::explain::{asked_to_explain, explain_words};
 use crate::replay::{asked_to_replay, replay_words};
 use crate::scenario::{asked_for_scenario, scenario_words};
+use crate::schedule::{asked_to_schedule, schedule_words};
 use crate::why::{asked_why, why_words};
 use am_names::Serial;
 use am_scenario_types::Form;
@@ -50,6 +52,8 @@ pub enum Asked {
     },
     /// `replay run`: the journal of a run's report as a step script.
     Replay,
+    /// `schedule SEED`: the report of a run of the scenario, in which this seed draws whose turn is next.
+    Schedule(u64),
 }
 
 /// The words that the program takes.
@@ -61,7 +65,8 @@ fn all_words<'a>(alloc: Global) -> Result<Command<'a>, AllocError> {
     let command = command.subcommand(explain_words(alloc)?)?;
     let command = command.subcommand(why_words(alloc)?)?;
     let command = command.subcommand(scenario_words(alloc)?)?;
-    command.subcommand(replay_words(alloc)?)
+    let command = command.subcommand(replay_words(alloc)?)?;
+    command.subcommand(schedule_words(alloc)?)
 }
 
 // What the command with this name and these words asks for; else what is wrong with the words.
@@ -73,6 +78,7 @@ fn asked_by(name: &str, matches: &ArgMatches) -> Result<Asked, &'static str>
         "why" => asked_why(matches),
         "scenario" => asked_for_scenario(matches),
         "replay" => asked_to_replay(matches),
+        "schedule" => asked_to_schedule(matches),
         _ => Err("there is no such command"),
     }
 }

@@ -39,4 +39,4 @@ returns-clause-crew g c =
     let all = ran.all in
     let same : (with_items crew.threads new.threads).items ≡ new.threads = with_items_is crew.threads new.threads (omega (arith, all, ok)) in
     let there = subst (λ (ts : List ThreadWorker). HaveRun s crew.places crew.threads.items ts) (sym same) ran in
-    crew_ran s crew (with_items crew.threads new.threads) new.interface new.driver c.requires.crew there.all there.at_work there.same told.at_work.interface told.same.interface told.at_work.driver told.same.driver
+    crew_ran s 0 crew (with_items crew.threads new.threads) new.interface new.driver c.requires.crew there.all there.at_work there.same told.at_work.interface told.same.interface told.at_work.driver told.same.driver

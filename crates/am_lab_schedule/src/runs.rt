@@ -1,0 +1,38 @@
+//! The run of a scenario by a seed.
+
+ghost use Rattle.am_main_lines.specs.Lines.{answer_in};
+ghost use Rattle.am_main_run.specs.Runs.{IsRunAnswer, RunAnswers};
+ghost use Rattle.am_scenario.specs.Grammar.{grammar};
+ghost use Rattle.am_scenario_types.specs.Lawful.{IsLawful};
+ghost use Rattle.am_scenario_types.specs.declared.parts.Form.TheVariants as Forms;
+ghost use Rattle.am_scenario_types.specs.declared.parts.Network.TheVariants as Networks;
+ghost use Rattle.std.specs.Prelude.{◌≡◌, IfOk};
+
+use am_main_lines::{Output, fault_output};
+use am_main_run::ended_output;
+use am_scenario::{Form, ReadFault, Scenario, read};
+use am_schedule::run_scheduled;
+use std::alloc::{AllocError, Global};
+
+/// What is printed of a scenario's run by this seed.
+fn scenario_output(alloc: Global, scenario: &Scenario, seed: u64) -> Result<Output, AllocError>
+    requires lawful { IsLawful scenario.now }
+    requires packet { scenario.now.network ≡ Networks.Packet }
+    ensures { IfOk result (λ output. IsRunAnswer scenario.now (answer_in output)) }
+{
+    let ended = run_scheduled(alloc, scenario, seed);
+    ended_output(alloc, scenario, ended)
+}
+
+/// What `schedule` prints of a text and a seed: an answer that `run` may give to that text. It is the report of a run of the scenario
+/// that the text spells, in the order of the seed; the full log that the run met, and the report of what was made before; or the first
+/// fault of the text. `AllocError` comes only for want of memory.
+pub fn schedule_output(alloc: Global, bytes: &[u8], seed: u64) -> Result<Output, AllocError>
+    ensures { IfOk result (λ output. RunAnswers (grammar Forms.Run bytes.now) (answer_in output)) }
+{
+    match read(alloc, Form::Run, bytes) {
+        Ok(scenario) => scenario_output(alloc, &scenario, seed),
+        Err(ReadFault::Refused(fault)) => fault_output(alloc, fault),
+        Err(ReadFault::NoMemory) => Err(AllocError),
+    }
+}

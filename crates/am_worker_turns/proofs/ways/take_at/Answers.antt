@@ -1,0 +1,18 @@
+use Rattle.std.proofs.Common.{refl}
+use Rattle.am_worker_turns.proofs.Linking.{at_index, ins_set, taken_none, taken_one}
+use Rattle.am_worker_turns.proofs.ways.take_at.Goals as goal
+
+pub returns-in-None-clause-taken : goal.returns-in-None-clause-taken
+returns-in-None-clause-taken c =
+    let ins = c.args.ins.now.items in let was = c.index_mut-link.result.now in
+    taken_none ins c.args.at was c.next.new.self (at_index ins c.args.at was c.requires.at c.index_mut-link.ensures.value) c.in-None.ensures.received
+
+pub returns-in-Some-clause-same : goal.returns-in-Some-clause-same
+returns-in-Some-clause-same c =
+    let ins = c.args.ins.now.items in let was = c.index_mut-link.result.now in
+    ins_set ins c.args.at was c.next.new.self (at_index ins c.args.at was c.requires.at c.index_mut-link.ensures.value) c.in-Some.ensures.same
+
+pub returns-in-Some-clause-taken : goal.returns-in-Some-clause-taken
+returns-in-Some-clause-taken c =
+    let ins = c.args.ins.now.items in let was = c.index_mut-link.result.now in
+    taken_one ins c.args.at was c.next.new.self (record { 0 = c.args.at }) c.in-Some.packet refl (at_index ins c.args.at was c.requires.at c.index_mut-link.ensures.value) c.in-Some.ensures.received

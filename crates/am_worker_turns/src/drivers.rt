@@ -1,0 +1,63 @@
+//! A turn of a node's driver.
+ghost use Rattle.am_scripts.specs.Layout.{layout_of};
+ghost use Rattle.am_local.specs.Together.{ends_of};
+ghost use Rattle.am_scenario_types.specs.Lawful.{IsLawful};
+ghost use Rattle.am_scenario_types.specs.declared.parts.Network.TheVariants.{Packet};
+ghost use Rattle.am_workers.specs.AtWork.{IsDriverAtWork};
+ghost use Rattle.am_workers.specs.Stops.{stop_after_move};
+ghost use Rattle.am_workers.specs.declared.workers.Stop.{Stop};
+ghost use Rattle.am_works.specs.Seats.{SameSeat};
+ghost use Rattle.std.specs.Prelude.{Some, ◌≡◌, ◌+◌, ◌<◌};
+
+use am_books::EndBook;
+use am_driver_turn::{DriverFault, DriverTurn, driver_turn};
+use am_places::Places;
+use am_scenario_types::Scenario;
+use am_workers::{DriverWorker, Stop};
+use std::alloc::Global;
+
+/// Why a driver makes no further turn after this one, if it makes none.
+fn stop_after_move(turn: Result<DriverTurn, DriverFault>) -> Option<Stop>
+    ensures { result ≡ stop_after_move turn }
+{
+    match turn {
+        Ok(_) => None,
+        Err(DriverFault::LogFull(_)) => Some(Stop::LogFull),
+        Err(DriverFault::NoMemory) => Some(Stop::NoMemory),
+    }
+}
+
+/// The turn of a node's driver with this number, from 0: it looks at the endpoints of its node, and makes at most one move. A full
+/// log stops it, and want of memory does; one that stopped makes no move.
+pub fn turn_as_driver(
+    alloc: Global,
+    worker: &mut DriverWorker,
+    places: &Places<EndBook>,
+    scenario: &Scenario,
+    turn: u32,
+)
+    requires lawful { IsLawful scenario.now }
+    requires packet { scenario.now.network ≡ Packet }
+    requires ends { places.now.ids.items ≡ ends_of (layout_of scenario.now) worker.old.node }
+    requires declared { worker.old.node.0 < scenario.now.nodes }
+    requires frames { places.now.frames ≡ scenario.now.frames }
+    requires at_work { IsDriverAtWork scenario.now places.now.board.shared.table_id places.now.ids.items worker.old.node turn worker.old }
+    ensures at_work { IsDriverAtWork scenario.now places.now.board.shared.table_id places.now.ids.items worker.old.node (turn + 1) worker.new }
+    ensures seat { SameSeat worker.old.seat.token.me.0 worker.new.seat.token.me.0 }
+    ensures node { worker.new.node ≡ worker.old.node }
+    ensures stopped { (why : Stop) → worker.old.stop ≡ Some why → worker.new ≡ worker.old }
+{
+    if worker.stop.is_some() {
+        return;
+    }
+    let moved = driver_turn(
+        alloc,
+        worker.node,
+        places,
+        &mut worker.seat,
+        &mut worker.swap,
+        &mut worker.view,
+        &mut worker.clock,
+    );
+    worker.stop = stop_after_move(moved);
+}

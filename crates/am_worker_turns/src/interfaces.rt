@@ -1,0 +1,138 @@
+//! A turn of an interface between its links.
+ghost use Rattle.am_scenario_types.specs.Lawful.{IsLawful};
+ghost use Rattle.am_turns.specs.Servers.{HandHolds, out_of};
+ghost use Rattle.am_workers.specs.AtWork.{IsInterfaceAtWork, SameIns, SameOuts};
+ghost use Rattle.am_workers.specs.Ways.{CanServe, HaveRoom, HaveRoomBut, Prepares, Serves};
+ghost use Rattle.am_workers.specs.Stops.{stop_after_work};
+ghost use Rattle.am_workers.specs.declared.workers.Stop.{Stop};
+ghost use Rattle.am_works.specs.Seats.{SameSeat};
+ghost use Rattle.std.specs.Prelude.{◌≡◌, ◌+◌, ◌<◌, ◌≤◌, OnErr, OnOk, Some, length};
+
+use crate::ways::{make_room, pump_all, send, take_in_hand};
+use am_books::EndBook;
+use am_iface::Work;
+use am_names::{EndpointId, NoMemory, NodeId, Packet};
+use am_places::Places;
+use am_scenario_types::Scenario;
+use am_turns::{InterfaceTurn, next_work, serve};
+use am_workers::{InterfaceWorker, Stop};
+
+/// Makes room on each link for a packet more, pumps the links, and takes the first packet that they have, if none is in hand.
+/// `NoMemory` comes only where there is no room: no packet is taken then, and the hand and the ends that receive stay as they were.
+fn prepare(worker: &mut InterfaceWorker) -> Result<(), NoMemory>
+    requires from { worker.old.from < length worker.old.ins.items }
+    requires few { length worker.old.ins.items ≤ 16 }
+    ensures prepared { Prepares worker.old worker.new }
+    ensures room { HaveRoomBut worker.old.last worker.old.outs.items → OnOk result (HaveRoom worker.new.outs.items) }
+    ensures hand { OnErr result (worker.new.hand ≡ worker.old.hand) }
+    ensures ins { OnErr result (worker.new.ins ≡ worker.old.ins) }
+    ensures from { OnErr result (worker.new.from ≡ worker.old.from) }
+{
+    make_room(&mut worker.outs, worker.last)?;
+    pump_all(&mut worker.outs);
+    take_in_hand(&mut worker.hand, &mut worker.ins, &mut worker.from);
+    Ok(())
+}
+
+/// The packet that the turn's entry emits, if any.
+fn out_of(turn: &InterfaceTurn) -> Option<Packet>
+    ensures { result ≡ out_of turn.now }
+{
+    match turn {
+        InterfaceTurn::Made(turned) => turned.out,
+        InterfaceTurn::Busy { .. }
+        | InterfaceTurn::NotYet
+        | InterfaceTurn::Full
+        | InterfaceTurn::NoMemory => None,
+    }
+}
+
+/// Why a worker makes no further turn after this one.
+fn stop_after_work(turn: &InterfaceTurn) -> Option<Stop>
+    ensures { result ≡ stop_after_work turn.now }
+{
+    match turn {
+        InterfaceTurn::Full => Some(Stop::LogFull),
+        InterfaceTurn::NoMemory => Some(Stop::NoMemory),
+        InterfaceTurn::Made(_) | InterfaceTurn::Busy { .. } | InterfaceTurn::NotYet => None,
+    }
+}
+
+/// The place of the endpoint that is next, of so many, counted round: after a bind it is the one after this.
+fn next_place(at: usize, work: &Work, count: usize) -> usize {
+    match work {
+        Work::Bind(_) => {
+            let next = at.wrapping_add(1);
+            if next < count { next } else { 0 }
+        }
+        Work::Receive(_) | Work::Expire { .. } => at,
+    }
+}
+
+/// Does this work, and emits what its entry emits on the link to its receiver.
+fn do_work(worker: &mut InterfaceWorker, places: &Places<EndBook>, ids: &[EndpointId], work: &Work)
+    requires can { CanServe places.now.board.shared.table_id places.now.count ids.now worker.old }
+    requires hand { HandHolds worker.old.hand work.now }
+    ensures { Serves places.now.board.shared.table_id ids.now worker.old worker.new }
+{
+    let turn = serve(
+        places,
+        &mut worker.seat,
+        ids,
+        &mut worker.interface,
+        &worker.set,
+        work,
+        &mut worker.hand,
+    );
+    let out = out_of(&turn);
+    worker.last = send(&mut worker.outs, worker.last, out);
+    worker.waits.emitted(out);
+    worker.end = next_place(worker.end, work, ids.len());
+    worker.stop = stop_after_work(&turn);
+}
+
+/// Chooses a work and does it, if there is one to do.
+fn find_work(worker: &mut InterfaceWorker, places: &Places<EndBook>, ids: &[EndpointId])
+    requires can { CanServe places.now.board.shared.table_id places.now.count ids.now worker.old }
+    ensures { Serves places.now.board.shared.table_id ids.now worker.old worker.new }
+{
+    worker.waits.begin_turn();
+    let chosen = next_work(
+        &worker.interface,
+        &worker.set,
+        &mut worker.waits,
+        worker.hand,
+        ids,
+        worker.end,
+    );
+    if let Some(work) = chosen {
+        do_work(worker, places, ids, &work);
+    }
+}
+
+/// The turn of the interface of a node with this number, from 0: it looks at its links, and then does one work. A full log stops it,
+/// and want of memory does; one that stopped does nothing.
+pub fn turn_as_interface(
+    worker: &mut InterfaceWorker,
+    places: &Places<EndBook>,
+    scenario: &Scenario,
+    node: NodeId,
+    turn: u32,
+)
+    requires lawful { IsLawful scenario.now }
+    requires at_work { IsInterfaceAtWork scenario.now places.now.board.shared.table_id places.now.ids.items node turn worker.old }
+    ensures at_work { IsInterfaceAtWork scenario.now places.now.board.shared.table_id places.now.ids.items node (turn + 1) worker.new }
+    ensures seat { SameSeat worker.old.seat.token.me.0 worker.new.seat.token.me.0 }
+    ensures outs { SameOuts worker.old.outs.items worker.new.outs.items }
+    ensures ins { SameIns worker.old.ins.items worker.new.ins.items }
+    ensures stopped { (why : Stop) → worker.old.stop ≡ Some why → worker.new ≡ worker.old }
+{
+    if worker.stop.is_some() {
+        return;
+    }
+    if prepare(worker).is_err() {
+        worker.stop = Some(Stop::NoMemory);
+        return;
+    }
+    find_work(worker, places, places.ids.as_slice());
+}
