@@ -1,5 +1,5 @@
 -- What the program answers to what was asked for, and to the bytes that were read for it.
-use Rattle.std.specs.Prelude.{◌≡◌, ◌≢◌, ◌⊎◌, ℕ, ◌≤◌, ◌<◌, Bool, true, false, List, ◌++◌, codes, length, take, Option, Err}
+use Rattle.std.specs.Prelude.{◌≡◌, ◌≢◌, ◌⊎◌, ℕ, ◌≤◌, ◌<◌, Bool, true, false, List, ◌++◌, codes, length, take, Option, Some, None, Err}
 use Rattle.std.specs.Io.KnownBytes.{Appends}
 use Rattle.am_check.specs.Verdict.{Checks}
 use Rattle.am_check.specs.declared.faults.CheckStop.TheVariants as Stops
@@ -14,6 +14,9 @@ use Rattle.am_scenario.specs.Grammar.{grammar}
 use Rattle.am_scenario_types.specs.declared.parts.Form.{Form}
 use Rattle.am_scenario_types.specs.declared.parts.Form.TheVariants as Forms
 use Rattle.am_segment.specs.Spelling.{segment_grammar}
+use Rattle.am_lab_drawings.specs.Charts.{ChartAnswers}
+use Rattle.am_lab_view.specs.declared.parts.Part.{Part}
+use Rattle.am_lab_words.specs.declared.Lines.{Lines}
 use Rattle.am_lab_derived.specs.Answers.{ExpandedAnswers, PrintsScenario, RoundAnswers, made_from}
 use Rattle.am_lab_due.specs.Due.{IsDue as WasDue}
 use Rattle.am_lab_reasons.specs.Reasons.{Tells}
@@ -52,11 +55,17 @@ pub record TellsWhy (form : Form) (bytes : List ℕ) (serial : Serial) (answer :
   pub checks : CheckAnswers form bytes checked
   pub more : ((checked.status ≢ 0) × (answer ≡ checked)) ⊎ TellsMessage form bytes serial checked answer
 
+-- the part of a report that the words name
+abbrev pub part_of : Option Lines → Option Part
+part_of None = None
+part_of (Some lines) = Some (record { from = lines.from; to = lines.to })
+
 -- The answer of a command to the bytes; `scenario make` has none to look at. The answer to `schedule` is one that `run` may give to
 -- the text, whatever the seed.
 abbrev pub AnswersTo : Asked → List ℕ → Answer → Type 0
 AnswersTo (Commands.Explain form) bytes answer = Explains form bytes answer
 AnswersTo (Commands.Why form serial) bytes answer = TellsWhy form bytes serial answer
+AnswersTo (Commands.Chart form lines) bytes answer = ChartAnswers form bytes (part_of lines) answer
 AnswersTo (Commands.Scenario form) bytes answer = ScenarioAnswers form bytes answer
 AnswersTo (Commands.Made n) bytes answer = PrintsScenario (made_from n) answer
 AnswersTo Commands.Expanded bytes answer = ExpandedAnswers (segment_grammar bytes) answer

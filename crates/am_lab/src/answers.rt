@@ -2,6 +2,7 @@
 
 ghost use Rattle.am_check.specs.Verdict.{Checks};
 ghost use Rattle.am_check.specs.declared.faults.CheckStop.TheVariants as Stops;
+ghost use Rattle.am_lab.specs.Answers as answers;
 ghost use Rattle.am_lab.specs.Answers.{AnswersTo, Explains, TellsWhy};
 ghost use Rattle.am_lab_words.specs.Ranges.{IsInRange};
 ghost use Rattle.am_main_check.specs.Checks.{CheckAnswers};
@@ -14,11 +15,13 @@ ghost use Rattle.std.specs.Prelude.{◌≡◌, ◌<◌, ◌^◌, ◌++◌, Err, 
 use am_check::{CheckStop, CheckWhat, check};
 use am_check_laws::yes_is_true;
 use am_lab_derived::{expanded_scenario, made_scenario, round_scenario};
+use am_lab_drawings::chart_output;
 use am_lab_due::due;
 use am_lab_reasons::why;
 use am_lab_schedule::schedule_output;
 use am_lab_texts::{replay_output, scenario_output};
-use am_lab_words::Asked;
+use am_lab_view::Part;
+use am_lab_words::{Asked, Lines};
 use am_main_check::check_output;
 use am_main_lines::Output;
 use am_names::{NoMemory, Serial};
@@ -111,6 +114,19 @@ fn scheduled(alloc: Global, bytes: &[u8], seed: u64) -> Result<Output, NoMemory>
     }
 }
 
+// The part of a report that the words name.
+fn part_of(lines: Option<Lines>) -> Option<Part>
+    ensures { result ≡ answers.part_of lines }
+{
+    match lines {
+        Some(lines) => Some(Part {
+            from: lines.from,
+            to: lines.to,
+        }),
+        None => None,
+    }
+}
+
 /// The answer of a command to a text.
 pub(crate) fn answered(alloc: Global, asked: Asked, bytes: &[u8]) -> Result<Output, NoMemory>
     requires few { length bytes.now < 2 ^ 31 }
@@ -120,6 +136,7 @@ pub(crate) fn answered(alloc: Global, asked: Asked, bytes: &[u8]) -> Result<Outp
     match asked {
         Asked::Explain(form) => explained(alloc, form, bytes),
         Asked::Why { form, serial } => told_why(alloc, form, bytes, serial),
+        Asked::Chart { form, part } => chart_output(alloc, form, bytes, part_of(part)),
         Asked::Scenario(form) => scenario_output(alloc, form, bytes),
         Asked::Made(n) => made_scenario(alloc, n),
         Asked::Expanded => expanded_scenario(alloc, bytes),

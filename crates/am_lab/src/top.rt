@@ -31,21 +31,23 @@ fn offer<K: Sink>(sink: &mut K, reply: &Reply) -> u8
 /// status that the process ends with.
 ///
 /// `explain` answers as `am2 check` does, and behind the line that tells a fault of the report what was due there. `why`
-/// answers a right report with what became of a message, `replay` with the run's journal as a step script, and each any
-/// other text as `am2 check` does. `scenario` prints the scenario that it reads; or the one behind a run, of a number, for
-/// which nothing is read, of a text with segments, or of a round of a text's words. `schedule` prints the report of a run
-/// of the scenario, as `am2 run` may.
+/// answers a right report with what became of a message, `chart` with a picture of its lines, `replay` with the run's
+/// journal as a step script, and each any other text as `am2 check` does. `scenario` prints the scenario that it reads; or
+/// the one behind a run, of a number, for which nothing is read, of a text with segments, or of a round of a text's words.
+/// `schedule` prints the report of a run of the scenario, as `am2 run` may.
 ///
 /// | Status | The text | When |
 /// |---|---|---|
-/// | 0 | `check ok`, what became of the message, the step script, the scenario, or the run's report | the report is right; for `scenario` and `schedule` the text spells a scenario, or there is one behind the run |
+/// | 0 | `check ok`, what became of the message, the picture, the step script, the scenario, or the run's report | the report is right; for `scenario` and `schedule` the text spells a scenario, or there is one behind the run |
 /// | 3, 6, 10 | as `am2 check` has it, and for `explain` what was due; 3 and 6 for `schedule` as `am2 run` has it | the scenario or the report has a fault, or meets a full log |
 /// | 4 | `read fault` | a read failed |
 /// | 5 | a front of the text | a write failed |
 /// | 7 | `input too long` | the source had more than 16,777,216 bytes left |
 /// | 8 | `no memory`, or a front of the text | there was no memory: for the answer, which may be at any time, or for the sink |
 /// | 11 | `journal too long` | `replay` of a right report with more than 65,536 entries, the most steps that a step script has |
+/// | 11 | `more than 20000 lines` | `chart` of more lines of a right report than it draws |
 /// | 11 | `text too long` | `scenario count` of more than 1,048,576 bytes |
+/// | 12 | `no such lines` | `chart` of lines that a right report's journal doesn't have, or of none |
 /// | 12 | `no round` and how many there are | `scenario count` of a text that has no round with this number |
 pub fn answer<S: Source, K: Sink>(alloc: Global, asked: Asked, source: &mut S, sink: &mut K) -> u8
     requires fresh { S.has_ended source.old ≡ false }

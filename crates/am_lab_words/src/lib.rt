@@ -5,6 +5,7 @@
 ghost use Rattle.am_lab_words.specs.Ranges.{IsInRange};
 ghost use Rattle.std.specs.Prelude.{IfOk};
 
+mod chart;
 mod derived;
 mod explain;
 mod forms;
@@ -13,6 +14,7 @@ mod scenario;
 mod schedule;
 mod why;
 
+use crate::chart::{asked_to_chart, chart_words};
 use crate::explain::{asked_to_explain, explain_words};
 use crate::replay::{asked_to_replay, replay_words};
 use crate::scenario::{asked_for_scenario, scenario_words};
@@ -24,6 +26,13 @@ use clap::error::ErrorKind;
 use clap::{ArgMatches, Command, Error};
 use std::alloc::{AllocError, Global};
 
+/// Lines of a report from one to another, both among them, as the words have them.
+#[derive(Clone, Copy, PartialEq, Eq, Debug)]
+pub struct Lines {
+    pub from: u32,
+    pub to: u32,
+}
+
 /// What the words ask for.
 #[derive(Clone, Copy, PartialEq, Eq, Debug)]
 pub enum Asked {
@@ -34,6 +43,12 @@ pub enum Asked {
     Why {
         form: Form,
         serial: Serial,
+    },
+    /// `chart step`, `chart run`, each with `FROM TO` or without: a picture of these lines of a report of a scenario of this
+    /// form, or of all lines of its journal.
+    Chart {
+        form: Form,
+        part: Option<Lines>,
     },
     /// `scenario step`, `scenario run`: a scenario of this form, printed in one form.
     Scenario(Form),
@@ -64,6 +79,7 @@ fn all_words<'a>(alloc: Global) -> Result<Command<'a>, AllocError> {
         .subcommand_required(true);
     let command = command.subcommand(explain_words(alloc)?)?;
     let command = command.subcommand(why_words(alloc)?)?;
+    let command = command.subcommand(chart_words(alloc)?)?;
     let command = command.subcommand(scenario_words(alloc)?)?;
     let command = command.subcommand(replay_words(alloc)?)?;
     command.subcommand(schedule_words(alloc)?)
@@ -76,6 +92,7 @@ fn asked_by(name: &str, matches: &ArgMatches) -> Result<Asked, &'static str>
     match name {
         "explain" => asked_to_explain(matches),
         "why" => asked_why(matches),
+        "chart" => asked_to_chart(matches),
         "scenario" => asked_for_scenario(matches),
         "replay" => asked_to_replay(matches),
         "schedule" => asked_to_schedule(matches),

@@ -1,0 +1,102 @@
+-- The picture of a report can be drawn.
+use Rattle.std.proofs.Common.{◌≡◌, ℕ, zero, suc, ◌+◌, ◌-◌, ◌*◌, ◌^◌, ◌<◌, ◌≤◌, Bool, true, false, ◌&&◌, List, [], ◌∷◌, length, map, take, drop, Option, Some, None, Result, Ok, Err, refl, sym, ap, ◌∙◌, subst, arith, slice_index_or}
+use Rattle.std.specs.Prelude.{All, AllPairs, nat_le, nat_lt, if◌then◌else◌}
+use Rattle.std.proofs.lemmas.Bool.{and_parts, leb-true, ltb-true}
+use Rattle.std.proofs.lemmas.List.{length-drop, length-map, length-take}
+use Rattle.am_office.specs.declared.Entry.{Entry}
+use Rattle.am_scenario.specs.Laws.{SpellsLawful}
+use Rattle.am_scenario_types.specs.Lawful.{IsLawful, IsLawfulEnd}
+use Rattle.am_scenario_types.specs.Lists.{ScenarioLists}
+use Rattle.am_scenario_types.specs.declared.parts.EndLine.{EndLine}
+use Rattle.am_scenario_types.specs.declared.parts.Form.{Form}
+use Rattle.am_scenario_types.specs.declared.parts.Network.{Network}
+use Rattle.am_lab_layout.specs.Layout.{IsDrawable}
+use Rattle.am_lab_picture.specs.Data.{PictureLists}
+use Rattle.am_lab_picture.specs.declared.data.Lines.{Lines}
+use Rattle.am_lab_reasons.proofs.Reported.{reported}
+use Rattle.am_lab_view.specs.Parts.{few, is_within, lines_of, part_lines}
+use Rattle.am_lab_view.specs.Pictures.{Shows, picture_by, picture_of}
+use Rattle.am_lab_view.specs.declared.parts.Part.{Part}
+use Rattle.am_lab_view.specs.declared.parts.PictureFault.{PictureFault}
+use Rattle.am_lab_view.specs.declared.parts.PictureFault.TheVariants as Faults
+use Rattle.am_lab_view.specs.Standings.{lane}
+use Rattle.am_lab_picture.specs.Rows.{entries_in, row}
+use Rattle.am_scripts.specs.Layout.{layout_of}
+
+-- ---- at most 256 endpoints
+
+-- endpoints rise, so the one at a place has a number that isn't less
+at_least : (xs : List EndLine) → AllPairs (λ a b. a.id.0 < b.id.0) xs → (d : EndLine) (k : ℕ) → k < length xs → k ≤ (slice_index_or xs k d).id.0
+at_least xs rise d zero low = omega arith
+at_least xs rise d (suc k) low =
+    let before : k ≤ (slice_index_or xs k d).id.0 = at_least xs rise d k (omega (arith, low)) in
+    let step : (slice_index_or xs k d).id.0 < (slice_index_or xs (suc k) d).id.0 = rise k (suc k) d (omega arith) low in
+    omega (arith, before, step)
+
+few_ends : (network : Network) (nodes : ℕ) (xs : List EndLine) → AllPairs (λ a b. a.id.0 < b.id.0) xs → All (IsLawfulEnd network nodes) xs → length xs ≤ 256
+few_ends network nodes [] rise ends = omega arith
+few_ends network nodes (e ∷ es) rise ends =
+    let last : length es ≤ (slice_index_or (e ∷ es) (length es) e).id.0 = at_least (e ∷ es) rise e (length es) (omega arith) in
+    let small : (slice_index_or (e ∷ es) (length es) e).id.0 ≤ 255 = (ends (length es) e (omega arith)).id in
+    omega (arith, last, small)
+
+-- ---- which lines are drawn
+
+few_by : (b : Bool) (lines l : Lines) → (if b then Ok lines else Err Faults.TooManyRows) ≡ Ok l → (b ≡ true) × (lines ≡ l)
+few_by true lines l e = (refl, cc)
+few_by false lines l e = absurd (cc)
+
+within_by : (b : Bool) (found : Result Lines PictureFault) (l : Lines) → (if b then found else Err Faults.NoSuchLines) ≡ Ok l → (b ≡ true) × (found ≡ Ok l)
+within_by true found l e = (refl, e)
+within_by false found l e = absurd (cc)
+
+-- they are few, and lines of the journal
+pub record AreGood (count : ℕ) (lines : Lines) : Type 0 where
+  pub few : lines.count ≤ 20_000
+  pub within : lines.first + lines.count ≤ count + 3
+
+good_lines : (count : ℕ) (part : Option Part) (l : Lines) → lines_of count part ≡ Ok l → AreGood count l
+good_lines count None l e =
+    let f = few_by (nat_le count 20_000) (record { first = 3; count = count }) l e in
+    subst (AreGood count) f.1 (record { few = leb-true count 20_000 f.0; within = omega arith })
+good_lines count (Some part) l e =
+    let w = within_by (is_within count part) (few (part_lines part)) l e in
+    let f = few_by (nat_le (part.to + 1 - part.from) 20_000) (part_lines part) l w.1 in
+    let p = and_parts (nat_le 3 part.from) (nat_le part.from part.to && nat_lt part.to (count + 3)) w.0 in
+    let q = and_parts (nat_le part.from part.to) (nat_lt part.to (count + 3)) p.1 in
+    let rise : part.from ≤ part.to = leb-true part.from part.to q.0 in
+    let last : part.to < count + 3 = ltb-true part.to (count + 3) q.1 in
+    subst (AreGood count) f.1 (record { few = leb-true (part.to + 1 - part.from) 20_000 f.0; within = omega (arith, rise, last) })
+
+-- what is shown is the picture of lines
+shown_of : (s : ScenarioLists) (journal : List Entry) (r : Result Lines PictureFault) (p : PictureLists) → Ok p ≡ picture_by s journal r → (lines : Lines) × (r ≡ Ok lines) × (p ≡ picture_of s journal lines)
+shown_of s journal (Ok lines) p e = (lines, refl, cc)
+shown_of s journal (Err fault) p e = absurd (cc)
+
+-- ---- the picture
+
+drawable_of : (s : ScenarioLists) (journal : List Entry) (lines : Lines) → IsLawful s → length journal < 2 ^ 31 → AreGood (length journal) lines → IsDrawable (picture_of s journal lines)
+drawable_of s journal lines lawful short good =
+    let all = length-map (entries_in lines journal) (row journal) in
+    let taken : length (entries_in lines journal) ≤ lines.count = omega (arith, length-take lines.count (drop (lines.first - 3) journal)) in
+    let lanes : length (map (lane (layout_of s) journal lines) s.ends) ≡ length s.ends = length-map s.ends (lane (layout_of s) journal lines) in
+    let ends = few_ends s.network s.nodes s.ends lawful.ends_rise lawful.ends in
+    let few = good.few in
+    let within = good.within in
+    record {
+      rows = omega (arith, all, taken, few);
+      lines = omega (arith, all, taken, within, short);
+      lanes = omega (arith, lanes, ends);
+    }
+
+pub drawable : SpellsLawful → (form : Form) (text : List ℕ) (part : Option Part) (p : PictureLists) → length text < 2 ^ 31 → Shows form text part (Ok p) → IsDrawable p
+drawable law form text part p few shows =
+    let s = shows.scenario in
+    let shown = shows.shown in
+    let lawful : IsLawful s = (law form (take shows.place text) s shows.spelled).0 in
+    let found = shown_of s shown.journal (lines_of (length shown.journal) part) p shown.answer' in
+    let bytes = drop shows.place text in
+    let left = length-drop shows.place text in
+    let low = (reported form s lawful bytes (omega (arith, few, left)) (record { journal = shown.journal; begun = shown.begun; ended = shown.ended; text = shown.report' })).low in
+    let short : length shown.journal < 2 ^ 31 = omega (arith, low, left, few) in
+    subst IsDrawable (sym found.2) (drawable_of s shown.journal found.0 lawful short (good_lines (length shown.journal) part found.0 found.1))

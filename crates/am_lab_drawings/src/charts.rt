@@ -1,0 +1,99 @@
+//! The picture of a right report, drawn; of any other text what `check` says.
+
+ghost use Rattle.am_check.specs.Exact.{IsChecked};
+ghost use Rattle.am_lab_drawings.specs.Charts.{ChartAnswers, drawing_of, no_such_lines, too_many_rows};
+ghost use Rattle.am_lab_view.specs.Pictures.{Shows};
+ghost use Rattle.am_main_check.specs.Checks.{CheckAnswers};
+ghost use Rattle.am_main_lines.specs.Lines.{answer_in};
+ghost use Rattle.std.specs.Prelude.{◌≡◌, ◌<◌, ◌^◌, Err, IfOk, Result as Either, length};
+ghost use Rattle.am_lab_picture.specs.Data.{PictureLists};
+ghost use Rattle.am_lab_view.specs.declared.parts.PictureFault.{PictureFault as Fault};
+
+use am_check_laws::yes_is_true;
+use am_lab_chart::chart;
+use am_lab_view::{Part, PictureFault, picture};
+use am_main_check::check_output;
+use am_main_lines::Output;
+use am_names::NoMemory;
+use am_scenario::{Form, one_scenario_or_fault};
+use std::alloc::Global;
+
+fn too_many_rows(alloc: Global) -> Result<Output, NoMemory>
+    ensures { IfOk result (λ o. answer_in o ≡ too_many_rows) }
+{
+    let text = Vec::from_slice(alloc, b"more than 20000 lines\n")?;
+    Ok(Output { status: 11, text })
+}
+
+fn no_such_lines(alloc: Global) -> Result<Output, NoMemory>
+    ensures { IfOk result (λ o. answer_in o ≡ no_such_lines) }
+{
+    let text = Vec::from_slice(alloc, b"no such lines\n")?;
+    Ok(Output { status: 12, text })
+}
+
+// Why there is no picture.
+fn refused(alloc: Global, fault: PictureFault) -> Result<Output, NoMemory>
+    ensures { IfOk result (λ o. answer_in o ≡ drawing_of (Err fault)) }
+{
+    match fault {
+        PictureFault::NoSuchLines => no_such_lines(alloc),
+        PictureFault::TooManyRows => too_many_rows(alloc),
+        PictureFault::NoMemory => Err(NoMemory),
+    }
+}
+
+// The drawing of what is shown of a text to which `check` says yes.
+fn drawn(alloc: Global, form: Form, bytes: &[u8], part: Option<Part>) -> Result<Output, NoMemory>
+    requires few { length bytes.now < 2 ^ 31 }
+    requires checked { IsChecked form bytes.now }
+    ensures { IfOk result (λ o. (shown : Either PictureLists Fault) × Shows form bytes.now part shown × (answer_in o ≡ drawing_of shown)) }
+{
+    one_scenario_or_fault();
+    match picture(alloc, form, bytes, part) {
+        Ok(picture) => {
+            let text = chart(alloc, &picture)?;
+            Ok(Output { status: 0, text })
+        }
+        Err(fault) => refused(alloc, fault),
+    }
+}
+
+// What is told of a text to which `check` says yes.
+fn told_right(
+    alloc: Global,
+    form: Form,
+    bytes: &[u8],
+    part: Option<Part>,
+    checked: &Output,
+) -> Result<Output, NoMemory>
+    requires few { length bytes.now < 2 ^ 31 }
+    requires checks { CheckAnswers form bytes.now (answer_in checked.now) }
+    requires right { checked.now.status ≡ 0 }
+    ensures { IfOk result (λ o. ChartAnswers form bytes.now part (answer_in o)) }
+{
+    yes_is_true();
+    drawn(alloc, form, bytes, part)
+}
+
+/// What `chart` prints of a scenario and its report: the picture of the report's lines from one to another, or of all lines of
+/// its journal, as SVG. Lines that aren't all of the journal, or none, are told with status 12 (`no such lines`), and
+/// more than 20,000 with status 11 (`more than 20000 lines`). Of a text to which `check` doesn't say yes it prints what `check` does.
+///
+/// `NoMemory` comes where there is none for the journal that is made again, for the picture, or for the text.
+#[tactic(auto, using(crate::proofs::Answering::charts_other))]
+pub fn chart_output(
+    alloc: Global,
+    form: Form,
+    bytes: &[u8],
+    part: Option<Part>,
+) -> Result<Output, NoMemory>
+    requires { length bytes.now < 2 ^ 31 }
+    ensures { IfOk result (λ o. ChartAnswers form bytes.now part (answer_in o)) }
+{
+    let output = check_output(alloc, form, bytes)?;
+    if output.status != 0 {
+        return Ok(output);
+    }
+    told_right(alloc, form, bytes, part, &output)
+}

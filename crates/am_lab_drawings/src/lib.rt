@@ -1,0 +1,6 @@
+//! The command `chart`: the picture of a report, drawn.
+#![tactic(auto)]
+
+mod charts;
+
+pub use crate::charts::chart_output;
