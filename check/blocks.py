@@ -12,7 +12,7 @@ import subprocess
 import sys
 
 READING = "python3 -B check/reading.py"
-UNKNOWN = re.compile(r"bin/am2 count")
+UNKNOWN = re.compile(r"bin/am2 count|bin/am2_lab")
 SCRIPT = re.compile(r"examples/\S+\.sh")
 BLOCK = re.compile(r"^```([^\n]*)\n(.*?)^```$", re.M | re.S)
 

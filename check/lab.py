@@ -1,10 +1,13 @@
 #!/usr/bin/env python3
-"""What `am2_lab` tells, against a second reading of the report's text: lab.py PROGRAM [SCENARIO REPORT]..
+"""What `am2_lab` tells, against a second reading of the report's text: lab.py PROGRAM AM2 [SCENARIO REPORT]..
 
 For each pair of files, or for each of examples/ without any: `why` of each message of the report and of one that it lacks; and `explain` of the
 right report, of the report with each of its lines changed in turn, and of the report cut off behind each line. The scenario tells its form.
+`scenario` prints it without a comment and printed again as it is, and AM2, the program am2, judges and makes the same report of it. Of a run `replay`
+prints what AM2 makes the same report of, callers aside.
 """
 import pathlib
+import re
 import subprocess
 import sys
 
@@ -26,7 +29,8 @@ FATES = {
 
 def told(program, command, form, text, *more):
     """The status and the output of the program."""
-    done = subprocess.run([program, command, form, *more], input=text, capture_output=True, text=True, check=False)
+    words = [it for it in (program, command, form, *more) if it]
+    done = subprocess.run(words, input=text, capture_output=True, text=True, check=False)
     return done.returncode, done.stdout
 
 
@@ -123,7 +127,38 @@ def judge(program, scenario, report):
     return faults, asked
 
 
-def main(program, *files):
+def printed_wrongly(program, am2, scenario, report):
+    """What is wrong with the scenario as it is printed, and how much was asked."""
+    form, faults = form_of(scenario), []
+    status, text = told(program, "scenario", form, scenario)
+    if status or re.search(r"^ |#|  | $|^$| 0[0-9]", text.removesuffix("\n"), re.M):
+        faults.append(f"scenario {form}: {status} {text!r}")
+    if told(program, "scenario", form, text) != (0, text):
+        faults.append(f"scenario {form} prints its own text otherwise")
+    if told(am2, "check", form, text + report) != (0, "check ok\n"):
+        faults.append(f"the report isn't that of what scenario {form} prints")
+    if "turns 0\n" in text and told(am2, form, None, text) != (0, report):
+        faults.append(f"am2 {form} prints another report of what scenario {form} prints")
+    if told(program, "scenario", form, text + "surely not\n")[0] != 3:
+        faults.append(f"scenario {form} takes a line that is none")
+    return faults, 5
+
+
+def replayed_wrongly(program, am2, scenario, report):
+    """What is wrong with the replay of a report, and how much was asked."""
+    form, faults = form_of(scenario), []
+    status, text = told(program, "replay", form, scenario + report)
+    if form == "step":
+        return ([] if status == 2 else [f"replay step: {status} {text!r}"]), 1
+    again = re.sub(r"^t\d+ ", "x ", report, flags=re.M)
+    if status or told(am2, "step", None, text) != (0, again):
+        faults.append(f"replay {form} makes another report")
+    if told(program, "replay", form, scenario + report + "0\n")[0] != 10:
+        faults.append(f"replay {form} takes a wrong report")
+    return faults, 2
+
+
+def main(program, am2, *files):
     """Tells what was found, and ends with 1 where something is wrong."""
     top = pathlib.Path(__file__).resolve().parent.parent / "examples"
     pairs = list(zip(files[::2], files[1::2])) or [(it, it.with_suffix(".out")) for it in sorted(top.glob("*.am2"))]
@@ -132,16 +167,18 @@ def main(program, *files):
         scenario, report = pathlib.Path(scenario), pathlib.Path(report).read_text()
         if not report.startswith("am2 report 1\n") or "segment" in scenario.read_text():
             continue
-        faults, asked = judge(program, scenario.read_text(), report)
-        total += asked
-        for fault in faults:
-            print(f"{scenario.name}: {fault}")
-        bad += len(faults)
+        text = scenario.read_text()
+        found = [judge(program, text, report), printed_wrongly(program, am2, text, report), replayed_wrongly(program, am2, text, report)]
+        for faults, asked in found:
+            total += asked
+            bad += len(faults)
+            for fault in faults:
+                print(f"{scenario.name}: {fault}")
     print(f"lab: {total} answers, {bad} wrong")
     return 1 if bad else 0
 
 
 if __name__ == "__main__":
-    if len(sys.argv) < 2:
+    if len(sys.argv) < 3:
         sys.exit(__doc__)
     sys.exit(main(*sys.argv[1:]))

@@ -8,7 +8,7 @@ import re, sys
 from pathlib import Path
 
 # Each name that may stand unused, with the reason.
-ALLOWED = {"replay_text": "a library's call: its command of am2_lab isn't there yet"}
+ALLOWED = {}
 
 ITEM = re.compile(r"^([ \t]*)pub (?:unsafe )?(fn|struct|enum|trait|type|const|static) (\w+)", re.M)
 TYPES = {"struct", "enum", "trait", "type"}

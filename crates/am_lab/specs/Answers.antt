@@ -8,10 +8,15 @@ use Rattle.am_io.specs.Causes.{Rose, Stands, Counter}
 use Rattle.am_io.specs.Whole.{IsAll, IsLonger}
 use Rattle.am_main_check.specs.Checks.{CheckAnswers}
 use Rattle.am_main_lines.specs.Lines.{Answer}
+use Rattle.am_main_run.specs.Runs.{RunAnswers}
 use Rattle.am_names.specs.declared.Serial.{Serial}
+use Rattle.am_scenario.specs.Grammar.{grammar}
 use Rattle.am_scenario_types.specs.declared.parts.Form.{Form}
+use Rattle.am_scenario_types.specs.declared.parts.Form.TheVariants as Forms
 use Rattle.am_lab_due.specs.Due.{IsDue as WasDue}
 use Rattle.am_lab_reasons.specs.Reasons.{Tells}
+use Rattle.am_lab_texts.specs.Replays.{ReplayAnswers}
+use Rattle.am_lab_texts.specs.Scenarios.{ScenarioAnswers}
 use Rattle.am_lab_words.specs.declared.Asked.{Asked}
 use Rattle.am_lab_words.specs.declared.Asked.TheVariants as Commands
 
@@ -45,9 +50,13 @@ pub record TellsWhy (form : Form) (bytes : List ℕ) (serial : Serial) (answer :
   pub checks : CheckAnswers form bytes checked
   pub more : ((checked.status ≢ 0) × (answer ≡ checked)) ⊎ TellsMessage form bytes serial checked answer
 
+-- the answer to `schedule` is one that `run` may give to the text, whatever the seed
 abbrev pub AnswersTo : Asked → List ℕ → Answer → Type 0
 AnswersTo (Commands.Explain form) bytes answer = Explains form bytes answer
 AnswersTo (Commands.Why form serial) bytes answer = TellsWhy form bytes serial answer
+AnswersTo (Commands.Scenario form) bytes answer = ScenarioAnswers form bytes answer
+AnswersTo Commands.Replay bytes answer = ReplayAnswers bytes answer
+AnswersTo (Commands.Schedule seed) bytes answer = RunAnswers (grammar Forms.Run bytes) answer
 
 -- ---- the other answers, which don't look at the bytes
 

@@ -5,12 +5,17 @@ ghost use Rattle.am_check.specs.declared.faults.CheckStop.TheVariants as Stops;
 ghost use Rattle.am_lab.specs.Answers.{AnswersTo, Explains, TellsWhy};
 ghost use Rattle.am_main_check.specs.Checks.{CheckAnswers};
 ghost use Rattle.am_main_lines.specs.Lines.{answer_in};
+ghost use Rattle.am_main_run.specs.Runs.{RunAnswers};
+ghost use Rattle.am_scenario.specs.Grammar.{grammar};
+ghost use Rattle.am_scenario_types.specs.declared.parts.Form.TheVariants as Forms;
 ghost use Rattle.std.specs.Prelude.{◌≡◌, ◌<◌, ◌^◌, ◌++◌, Err, IfOk, length};
 
 use am_check::{CheckStop, CheckWhat, check};
 use am_check_laws::yes_is_true;
 use am_lab_due::due;
 use am_lab_reasons::why;
+use am_lab_schedule::schedule_output;
+use am_lab_texts::{replay_output, scenario_output};
 use am_lab_words::Asked;
 use am_main_check::check_output;
 use am_main_lines::Output;
@@ -94,6 +99,16 @@ fn told_why(alloc: Global, form: Form, bytes: &[u8], serial: Serial) -> Result<O
     message_output(alloc, form, bytes, serial, &output)
 }
 
+// The report of a run by a seed.
+fn scheduled(alloc: Global, bytes: &[u8], seed: u64) -> Result<Output, NoMemory>
+    ensures { IfOk result (λ o. RunAnswers (grammar Forms.Run bytes.now) (answer_in o)) }
+{
+    match schedule_output(alloc, bytes, seed) {
+        Ok(output) => Ok(output),
+        Err(_) => Err(NoMemory),
+    }
+}
+
 /// The answer of a command to a text.
 pub(crate) fn answered(alloc: Global, asked: Asked, bytes: &[u8]) -> Result<Output, NoMemory>
     requires { length bytes.now < 2 ^ 31 }
@@ -102,5 +117,8 @@ pub(crate) fn answered(alloc: Global, asked: Asked, bytes: &[u8]) -> Result<Outp
     match asked {
         Asked::Explain(form) => explained(alloc, form, bytes),
         Asked::Why { form, serial } => told_why(alloc, form, bytes, serial),
+        Asked::Scenario(form) => scenario_output(alloc, form, bytes),
+        Asked::Replay => replay_output(alloc, bytes),
+        Asked::Schedule(seed) => scheduled(alloc, bytes, seed),
     }
 }

@@ -25,20 +25,22 @@ fn offer<K: Sink>(sink: &mut K, reply: &Reply) -> u8
     }
 }
 
-/// The program behind its words, over any source that hasn't ended and any sink: it reads a scenario and behind it its report to
-/// the end of the source, and answers what is asked for. It gives the status that the process ends with.
+/// The program behind its words, over any source that hasn't ended and any sink: it reads a scenario, and but for `scenario` and `schedule`
+/// behind it its report, to the end of the source, and answers what is asked for. It gives the status that the process ends with.
 ///
 /// `explain` answers as `am2 check` does, and behind the line that tells a fault of the report what was due there. `why` answers a
-/// right report with what became of a message, and any other text as `am2 check` does.
+/// right report with what became of a message, `replay` with the run's journal as a step script, and each any other text as
+/// `am2 check` does. `scenario` prints the scenario that it reads, and `schedule` the report of a run of it, as `am2 run` may.
 ///
 /// | Status | The text | When |
 /// |---|---|---|
-/// | 0 | `check ok`, or what became of the message | the report is right |
-/// | 3, 6, 10 | as `am2 check` has it, and for `explain` what was due | the scenario or the report has a fault, or meets a full log |
+/// | 0 | `check ok`, what became of the message, the step script, the scenario, or the run's report | the report is right; for `scenario` and `schedule` the text spells a scenario |
+/// | 3, 6, 10 | as `am2 check` has it, and for `explain` what was due; 3 and 6 for `schedule` as `am2 run` has it | the scenario or the report has a fault, or meets a full log |
 /// | 4 | `read fault` | a read failed |
 /// | 5 | a front of the text | a write failed |
 /// | 7 | `input too long` | the source had more than 16,777,216 bytes left |
 /// | 8 | `no memory`, or a front of the text | there was no memory: for the answer, which may be at any time, or for the sink |
+/// | 11 | `journal too long` | `replay` of a right report with more than 65,536 entries, the most steps that a step script has |
 pub fn answer<S: Source, K: Sink>(alloc: Global, asked: Asked, source: &mut S, sink: &mut K) -> u8
     requires { S.has_ended source.old ≡ false }
     // An answer that is due to what is asked for, and to what the source had left, was offered to the sink.

@@ -1,12 +1,22 @@
-//! The words of the program `am2_lab`, read by clap.
+//! The words of the program `am2_lab`, read by clap. Each command has a file of its own: the words that it takes, and what they ask for.
 #![tactic(auto)]
 
-use am_lexer::parse_number;
-use am_names::{EndpointId, Serial};
+mod explain;
+mod forms;
+mod replay;
+mod scenario;
+mod schedule;
+mod why;
+
+use crate::explain::{asked_to_explain, explain_words};
+use crate::replay::{asked_to_replay, replay_words};
+use crate::scenario::{asked_for_scenario, scenario_words};
+use crate::schedule::{asked_to_schedule, schedule_words};
+use crate::why::{asked_why, why_words};
+use am_names::Serial;
 use am_scenario_types::Form;
-use clap::builder::ValueParser;
 use clap::error::ErrorKind;
-use clap::{Arg, ArgMatches, Command, Error};
+use clap::{ArgMatches, Command, Error};
 use std::alloc::{AllocError, Global};
 
 /// What the words ask for.
@@ -16,80 +26,50 @@ pub enum Asked {
     Explain(Form),
     /// `why step E.K`, `why run E.K`: what became of the K-th message of endpoint E in a report of a scenario of this form.
     Why { form: Form, serial: Serial },
-}
-
-const FORMS: &[&str] = &["step", "run"];
-
-// The word that names the form of a scenario.
-fn form_word<'a>(alloc: Global) -> Arg<'a> {
-    Arg::new(alloc, "form")
-        .required(true)
-        .value_parser(ValueParser::Names(FORMS))
-        .help("step: a list of steps; run: the scripts of threads")
-}
-
-fn explain_words<'a>(alloc: Global) -> Result<Command<'a>, AllocError> {
-    let command = Command::new(alloc, "explain").about(
-        "Tells the first line of a report that has a fault, and what was due there",
-    );
-    let command = command.arg(form_word(alloc))?;
-    Ok(command)
-}
-
-fn why_words<'a>(alloc: Global) -> Result<Command<'a>, AllocError> {
-    let command = Command::new(alloc, "why").about("Tells what became of a message, and why");
-    let command = command.arg(form_word(alloc))?;
-    let serial = Arg::new(alloc, "serial").required(true).help(
-        "E.K: the K-th message that endpoint E sent, as the report prints it",
-    );
-    command.arg(serial)
+    /// `scenario step`, `scenario run`: a scenario of this form, printed in one form.
+    Scenario(Form),
+    /// `replay run`: the journal of a run's report as a step script.
+    Replay,
+    /// `schedule SEED`: the report of a run of the scenario, in which this seed draws whose turn is next.
+    Schedule(u64),
 }
 
 /// The words that the program takes.
 fn all_words<'a>(alloc: Global) -> Result<Command<'a>, AllocError> {
     let command = Command::new(alloc, "am2_lab")
-        .about("Reads a scenario and behind it its report, and shows what happened")
+        .about("Reads a scenario, alone or with its report behind it, and shows what is in it")
         .version("1")
         .subcommand_required(true);
     let command = command.subcommand(explain_words(alloc)?)?;
-    command.subcommand(why_words(alloc)?)
+    let command = command.subcommand(why_words(alloc)?)?;
+    let command = command.subcommand(scenario_words(alloc)?)?;
+    let command = command.subcommand(replay_words(alloc)?)?;
+    command.subcommand(schedule_words(alloc)?)
 }
 
-// The form that the words of a command name.
-fn form_in(matches: &ArgMatches) -> Option<Form> {
-    match matches.get_str("form") {
-        Some("step") => Some(Form::Step),
-        Some("run") => Some(Form::Run),
-        _ => None,
-    }
-}
-
-// The serial that a word spells: a source from 0 to 255, a point, and a count from 1 to 2^32-1.
-fn serial_in(word: &[u8]) -> Option<Serial> {
-    let at = word.iter().position(|byte| *byte == b'.')?;
-    let source = parse_number(&word[..at])?;
-    let count = parse_number(&word[at + 1..])?;
-    if source < 256 && 1 <= count && count < 1 << 32 {
-        Some(Serial {
-            source: EndpointId(source as u8),
-            count: count as u32,
-        })
-    } else {
-        None
-    }
-}
-
-// What the command with this name and these words asks for.
-fn asked_by(name: &str, matches: &ArgMatches) -> Option<Asked> {
-    let form = form_in(matches)?;
+// What the command with this name and these words asks for; else what is wrong with the words.
+fn asked_by(name: &str, matches: &ArgMatches) -> Result<Asked, &'static str> {
     match name {
-        "explain" => Some(Asked::Explain(form)),
-        "why" => Some(Asked::Why {
-            form,
-            serial: serial_in(matches.get_str("serial")?.as_bytes())?,
-        }),
-        _ => None,
+        "explain" => asked_to_explain(matches),
+        "why" => asked_why(matches),
+        "scenario" => asked_for_scenario(matches),
+        "replay" => asked_to_replay(matches),
+        "schedule" => asked_to_schedule(matches),
+        _ => Err("there is no such command"),
     }
+}
+
+fn asked_in(matches: &ArgMatches) -> Result<Asked, &'static str> {
+    match matches.subcommand() {
+        Some((name, found)) => asked_by(name, found),
+        None => Err("a command is wanted"),
+    }
+}
+
+// The words, which clap lets pass and the program doesn't take, with what is wrong with them.
+fn refused(alloc: Global, wrong: &'static str) -> Result<Asked, Error> {
+    let mut command = all_words(alloc)?;
+    Err(command.error(ErrorKind::ValueValidation, wrong)?)
 }
 
 /// What the words ask for, of which the first is the program's name; else clap's text about them, which may be the help
@@ -97,17 +77,8 @@ fn asked_by(name: &str, matches: &ArgMatches) -> Option<Asked> {
 pub fn read_words(alloc: Global, words: &[String]) -> Result<Asked, Error> {
     let command = all_words(alloc)?;
     let matches = command.try_get_matches_from(words)?;
-    match matches.subcommand() {
-        Some((name, found)) => match asked_by(name, found) {
-            Some(asked) => Ok(asked),
-            None => no_serial(alloc),
-        },
-        None => no_serial(alloc),
+    match asked_in(&matches) {
+        Ok(asked) => Ok(asked),
+        Err(wrong) => refused(alloc, wrong),
     }
-}
-
-// The one thing that clap lets pass and the program doesn't take.
-fn no_serial(alloc: Global) -> Result<Asked, Error> {
-    let mut command = all_words(alloc)?;
-    Err(command.error(ErrorKind::ValueValidation, "a message is E.K, as 0.1")?)
 }
