@@ -71,7 +71,8 @@ impl LaneTrack {
             .follow(now.received == standing.received, standing.received, line)
     }
 
-    /// The lane of an endpoint, where what stands now ends at a line. `AllocError` comes where there is no memory for its spans.
+    /// The lane of an endpoint, where what stands now ends at a line. `AllocError` comes where there is no memory for
+    /// its spans.
     pub fn lane(&self, alloc: Global, end: &EndLine, line: u32) -> Result<Lane, AllocError>
         ensures { IfOk result (λ lane. lane ≡ lane_ended end.now self.now line) }
     {
