@@ -49,15 +49,6 @@ impl LaneTrack {
         }
     }
 
-    /// It stands so from a line on, with nothing before.
-    pub fn restart(&mut self, standing: Standing, line: u32)
-        ensures { self.new ≡ lane_begun standing line }
-    {
-        self.residency.restart(standing.residency, line);
-        self.records.restart(standing.records, line);
-        self.received.restart(standing.received, line);
-    }
-
     /// It stands so behind the next line. `AllocError` comes where there is no memory for a span.
     pub fn follow(&mut self, standing: Standing, line: u32) -> Result<(), AllocError>
         ensures { OnOk result (self.new ≡ lane_followed_by self.old standing line) }

@@ -43,15 +43,6 @@ impl<T: Copy> Track<T> {
         self.value
     }
 
-    /// Another value, that stands from a line on, with no spans before it.
-    pub fn restart(&mut self, value: T, line: u32)
-        ensures { self.new ≡ begun value line }
-    {
-        self.ended.clear();
-        self.value = value;
-        self.from = line;
-    }
-
     /// The value behind the next line, which is the same as before or not. `AllocError` comes where there is no memory
     /// for a span.
     pub fn follow(&mut self, is_same: bool, value: T, line: u32) -> Result<(), AllocError>
