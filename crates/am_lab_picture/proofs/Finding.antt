@@ -16,7 +16,7 @@ test_push true c i n more rest e = refl
 test_push false c i n more rest e = e
 
 -- the first place in a list with one more element
-position_push : {X : Type 0} (p : X → Bool) (i n : ℕ) (xs : List X) (x : X) → n ≡ i + length xs → position_from p i (xs ++ x ∷ []) ≡ option_or (position_from p i xs) (cond (p x) (Some n) None)
+pub position_push : {X : Type 0} (p : X → Bool) (i n : ℕ) (xs : List X) (x : X) → n ≡ i + length xs → position_from p i (xs ++ x ∷ []) ≡ option_or (position_from p i xs) (cond (p x) (Some n) None)
 position_push p i n [] x e = let here : n ≡ i = omega (arith, e) in rw here refl
 position_push p i n (y ∷ xs) x e =
     test_push (p y) (p x) i n (position_from p (i + 1) (xs ++ x ∷ [])) (position_from p (i + 1) xs) (position_push p (i + 1) n xs x (omega (arith, e)))

@@ -76,15 +76,15 @@ numbered_all P journal give each line place (x ∷ xs) is from =
 
 -- ---- arrows
 
-and_left : (a b : Bool) → (a && b) ≡ true → a ≡ true
+pub and_left : (a b : Bool) → (a && b) ≡ true → a ≡ true
 and_left true b e = refl
 and_left false b e = absurd (true≢false (sym e))
 
-and_right : (a b : Bool) → (a && b) ≡ true → b ≡ true
+pub and_right : (a b : Bool) → (a && b) ≡ true → b ≡ true
 and_right true b e = e
 and_right false b e = absurd (true≢false (sym e))
 
-node_is : (a b : NodeId) → a.0 ≡ b.0 → a ≡ b
+pub node_is : (a b : NodeId) → a.0 ≡ b.0 → a ≡ b
 node_is a b e = ap (λ (n : ℕ). record { 0 = n }) e
 
 way_parts : (a b : Way) → a.from ≡ b.from → a.to ≡ b.to → a.number ≡ b.number → a ≡ b
@@ -116,7 +116,7 @@ found_by p false i n zero y x xs rest is found at here later more = let above = 
 found_by p false i n (suc k) y x xs rest is found at here later more = more k found (omega (arith, at)) here
 
 -- the place that is found has an element that passes
-found_at : {X : Type 0} (p : X → Bool) (i n k : ℕ) (xs : List X) (x : X) → position_from p i xs ≡ Some n → n ≡ i + k → slice_get xs k ≡ Some x → p x ≡ true
+pub found_at : {X : Type 0} (p : X → Bool) (i n k : ℕ) (xs : List X) (x : X) → position_from p i xs ≡ Some n → n ≡ i + k → slice_get xs k ≡ Some x → p x ≡ true
 found_at p i n k [] x found is at = absurd (cc)
 found_at p i n k (y ∷ xs) x found is at =
     found_by p (p y) i n k y x xs (position_from p (i + 1) xs) refl found is at (λ f. low p (i + 1) xs n f) (λ j f e h. found_at p (i + 1) n j xs x f e h)

@@ -26,8 +26,8 @@ pub struct Named {
 #[derive(Clone, Copy)]
 pub struct Row {
     pub entry: Entry,
-    /// The message that the entry is about, if it names one: accepted, sent, put, refused, judged again, settled, returned, run, told in a
-    /// notice, or given up.
+    /// The message that the entry is about, if it names one: accepted, sent, put, refused, judged again, settled,
+    /// returned, run, told in a notice, or given up.
     pub about: Option<Named>,
     /// The reply that a run makes, if it makes one.
     pub reply: Option<Named>,
@@ -43,8 +43,8 @@ pub struct Arrow {
     pub packet: Packet,
     /// The message that it carries, or whose verdict it tells.
     pub about: Option<Named>,
-    /// Whether the receipt judges a message or settles one. It does not where the message was judged before or is of the past, or where the
-    /// answer counts for nothing.
+    /// Whether the receipt judges a message or settles one. It does not where the message was judged before or is of
+    /// the past, or where the answer counts for nothing.
     pub counts: bool,
 }
 
@@ -81,9 +81,9 @@ pub struct Standing {
     pub received: u8,
 }
 
-/// A value that stands from one line to another: behind the entry of line `from` and each later one, and no longer behind that of
-/// line `until`. What stands before the first line that is shown begins at the line before it, and what stands at the end ends at
-/// the line behind the last. The spans of a list join on, and neighbours differ.
+/// A value that stands from one line to another: behind the entry of line `from` and each later one, and no longer
+/// behind that of line `until`. What stands before the first line that is shown begins at the line before it, and what
+/// stands at the end ends at the line behind the last. The spans of a list join on, and neighbours differ.
 #[derive(Clone, Copy)]
 pub struct Span<T> {
     pub value: T,
@@ -131,7 +131,8 @@ pub struct Picture {
     pub first: u32,
     /// A row for each entry, in order.
     pub rows: Vec<Row>,
-    /// An arrow for each receipt of a packet whose line, or that of the packet's emission, is shown; in the order of the receipts.
+    /// An arrow for each receipt of a packet whose line, or that of the packet's emission, is shown; in the order of
+    /// the receipts.
     pub arrows: Vec<Arrow>,
     /// A cross for each packet that is emitted in these lines and that no entry of the journal receives, in order.
     pub crosses: Vec<Cross>,

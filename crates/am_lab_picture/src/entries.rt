@@ -44,7 +44,8 @@ pub(crate) fn entries_in(journal: &IndexedJournal, lines: Lines) -> &[Entry]
     &journal.entries()[start..start + lines.count as usize]
 }
 
-/// A row for each entry of some lines of the journal, in order (`rows` of specs/Rows). `AllocError` comes where there is no memory for them.
+/// A row for each entry of some lines of the journal, in order (`rows` of specs/Rows). `AllocError` comes where there
+/// is no memory for them.
 pub fn rows(alloc: Global, journal: &IndexedJournal, lines: Lines) -> Result<Vec<Row>, AllocError>
     requires first { 3 ≤ lines.first }
     requires within { lines.first + lines.count ≤ length journal.now + 3 }

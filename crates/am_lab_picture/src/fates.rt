@@ -13,8 +13,8 @@ use am_office::{Entry, Fate, accepted_of, return_of, run_of, unknown_of};
 use std::alloc::{AllocError, Global};
 use std::collections::{BTreeMap, BTreeSet};
 
-/// What a journal says of its messages' fates: the serials that it accepts, returns with the cause of the first return, leaves unknown,
-/// and runs.
+/// What a journal says of its messages' fates: the serials that it accepts, returns with the cause of the first return,
+/// leaves unknown, and runs.
 #[derive(Drop)]
 pub(crate) struct FateTable {
     pub(crate) accepted: BTreeSet<Serial>,

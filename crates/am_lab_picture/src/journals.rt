@@ -8,7 +8,8 @@ use std::alloc::Global;
 use std::collections::{BTreeMap, BTreeSet};
 use std::marker::Model;
 
-/// A journal whose messages' fates and whose packets' entries are found without a look at all its entries. Contracts see the entries.
+/// A journal whose messages' fates and whose packets' entries are found without a look at all its entries. Contracts
+/// see the entries.
 #[derive(Drop)]
 pub struct IndexedJournal {
     journal: Journal,
@@ -35,8 +36,8 @@ impl IndexedJournal {
     ghost use Rattle.am_lab_picture.specs.Ways.{emitter, is_received};
     ghost use Rattle.am_office.specs.Fates.{fate};
 
-    /// The journal with its tables, for which it goes over the entries three times. `NoMemory` comes where there is none for them, and
-    /// nothing is left of the journal.
+    /// The journal with its tables, for which it goes over the entries three times. `NoMemory` comes where there is
+    /// none for them, and nothing is left of the journal.
     pub fn new(alloc: Global, journal: Journal) -> Result<IndexedJournal, NoMemory>
         ensures { IfOk result (λ indexed. indexed ≡ journal) }
     {
@@ -65,7 +66,8 @@ impl IndexedJournal {
         self.fates.fate(serial)
     }
 
-    /// The place of the entry that emits a packet, the first where there are several (`emitter` of specs/Ways). None where no entry does.
+    /// The place of the entry that emits a packet, the first where there are several (`emitter` of specs/Ways). None
+    /// where no entry does.
     pub fn emitter(&self, way: Way) -> Option<usize>
         ensures { result ≡ emitter self.now way }
     {

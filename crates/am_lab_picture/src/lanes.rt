@@ -49,15 +49,6 @@ impl LaneTrack {
         }
     }
 
-    /// It stands so from a line on, with nothing before.
-    pub fn restart(&mut self, standing: Standing, line: u32)
-        ensures { self.new ≡ lane_begun standing line }
-    {
-        self.residency.restart(standing.residency, line);
-        self.records.restart(standing.records, line);
-        self.received.restart(standing.received, line);
-    }
-
     /// It stands so behind the next line. `AllocError` comes where there is no memory for a span.
     pub fn follow(&mut self, standing: Standing, line: u32) -> Result<(), AllocError>
         ensures { OnOk result (self.new ≡ lane_followed_by self.old standing line) }
@@ -71,7 +62,8 @@ impl LaneTrack {
             .follow(now.received == standing.received, standing.received, line)
     }
 
-    /// The lane of an endpoint, where what stands now ends at a line. `AllocError` comes where there is no memory for its spans.
+    /// The lane of an endpoint, where what stands now ends at a line. `AllocError` comes where there is no memory for
+    /// its spans.
     pub fn lane(&self, alloc: Global, end: &EndLine, line: u32) -> Result<Lane, AllocError>
         ensures { IfOk result (λ lane. lane ≡ lane_ended end.now self.now line) }
     {

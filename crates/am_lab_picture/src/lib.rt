@@ -1,6 +1,6 @@
-//! What a space-time picture of a journal shows, as plain data: a row for each entry, an arrow for each receipt of a packet, a cross
-//! for each packet that none receives, and for each endpoint where it lies and how much it holds, from line to line. The unit is
-//! the line of the report, of which the journal's first is the third.
+//! What a space-time picture of a journal shows, as plain data: a row for each entry, an arrow for each receipt of a
+//! packet, a cross for each packet that none receives, and for each endpoint where it lies and how much it holds, from
+//! line to line. The unit is the line of the report, of which the journal's first is the third.
 #![tactic(auto)]
 
 mod abouts;

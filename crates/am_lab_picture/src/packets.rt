@@ -120,8 +120,8 @@ fn put_if_shown(
     }
 }
 
-/// The arrows of the journal that begin or end in some of its lines, in the order of their ends (`arrows` of specs/Arrows).
-/// `AllocError` comes where there is no memory for them.
+/// The arrows of the journal that begin or end in some of its lines, in the order of their ends (`arrows` of
+/// specs/Arrows). `AllocError` comes where there is no memory for them.
 pub fn arrows(
     alloc: Global,
     journal: &IndexedJournal,
@@ -175,8 +175,8 @@ fn put_cross(
     }
 }
 
-/// The packets that are emitted in some lines and that no entry of the journal receives, in order (`crosses` of specs/Arrows).
-/// `AllocError` comes where there is no memory for them.
+/// The packets that are emitted in some lines and that no entry of the journal receives, in order (`crosses` of
+/// specs/Arrows). `AllocError` comes where there is no memory for them.
 pub fn crosses(
     alloc: Global,
     journal: &IndexedJournal,

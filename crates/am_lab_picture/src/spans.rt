@@ -4,7 +4,8 @@ use crate::data::Span;
 use std::alloc::{AllocError, Global};
 use std::marker::Model;
 
-/// A value as far as it was followed: the spans that have ended, what stands now, and since which line. Contracts see these.
+/// A value as far as it was followed: the spans that have ended, what stands now, and since which line. Contracts see
+/// these.
 #[derive(Drop)]
 pub struct Track<T: Copy> {
     ended: Vec<Span<T>>,
@@ -42,16 +43,8 @@ impl<T: Copy> Track<T> {
         self.value
     }
 
-    /// Another value, that stands from a line on, with no spans before it.
-    pub fn restart(&mut self, value: T, line: u32)
-        ensures { self.new ≡ begun value line }
-    {
-        self.ended.clear();
-        self.value = value;
-        self.from = line;
-    }
-
-    /// The value behind the next line, which is the same as before or not. `AllocError` comes where there is no memory for a span.
+    /// The value behind the next line, which is the same as before or not. `AllocError` comes where there is no memory
+    /// for a span.
     pub fn follow(&mut self, is_same: bool, value: T, line: u32) -> Result<(), AllocError>
         ensures { OnOk result (self.new ≡ followed_by is_same self.old value line) }
     {

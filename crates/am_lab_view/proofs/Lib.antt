@@ -3,3 +3,4 @@ pub mod Following
 pub mod Passing
 pub mod Showing
 pub mod Told
+pub mod Receipts

@@ -1,7 +1,7 @@
 -- What is shown, in other words.
-use Rattle.std.proofs.Common.{◌≡◌, ℕ, zero, suc, ◌+◌, ◌-◌, ◌<◌, ◌≤◌, Bool, true, ◌||◌, List, [], ◌∷◌, ◌++◌, Some, length, map, take, drop, refl, sym, ap, ◌∙◌, subst, arith, slice_get, length-drop}
+use Rattle.std.proofs.Common.{◌≡◌, ℕ, zero, suc, ◌+◌, ◌-◌, ◌≤◌, Bool, true, ◌||◌, List, [], ◌∷◌, ◌++◌, Some, length, map, take, drop, refl, sym, ap, ◌∙◌, subst, arith, slice_get, length-drop}
 use Rattle.std.specs.Prelude.{nat_eq}
-use Rattle.std.specs.List.{AllByRecursion, list_any, range_with_len}
+use Rattle.std.specs.List.{AllByRecursion, range_with_len}
 use Rattle.std.proofs.lemmas.Bool.{eqb-true}
 use Rattle.std.proofs.lemmas.List.{length-map, length-take-le}
 use Rattle.am_lemmas.proofs.Lists.{slice_get-Some, take-slice_get}
@@ -12,23 +12,20 @@ use Rattle.am_model.specs.Layout.{Layout}
 use Rattle.am_names.specs.Packets.{from_of, number_of, receiver_of}
 use Rattle.am_names.specs.declared.EndpointId.{EndpointId}
 use Rattle.am_names.specs.declared.NodeId.{NodeId}
-use Rattle.am_names.specs.declared.Packet.{Packet}
 use Rattle.am_office.specs.declared.Entry.{Entry}
 use Rattle.am_office.specs.declared.Event.{Event}
 use Rattle.am_office.specs.declared.Event.TheVariants as Events
-use Rattle.am_scenario_types.specs.Lists.{ScenarioLists}
 use Rattle.am_scenario_types.specs.declared.parts.EndLine.{EndLine}
 use Rattle.am_scripts.specs.Layout.{layout_of}
-use Rattle.am_lab_picture.specs.Residencies.{residency_of, same_residency}
+use Rattle.am_lab_picture.specs.Residencies.{same_residency}
 use Rattle.am_lab_picture.specs.Spans.{AreJoined, spans, spread}
-use Rattle.am_lab_picture.specs.Ways.{is_received, is_way, received_way, receives, way_of}
+use Rattle.am_lab_picture.specs.Ways.{is_received, is_way, received_way, way_of}
 use Rattle.am_lab_picture.specs.declared.data.Lines.{Lines}
-use Rattle.am_lab_picture.specs.declared.data.Residency.{Residency}
 use Rattle.am_lab_picture.specs.declared.data.Standing.{Standing}
 use Rattle.am_lab_picture.proofs.Laning.{residency_is}
 use Rattle.am_lab_picture.proofs.Spread.{spans_are_values}
 use Rattle.am_lab_view.specs.Laws.{IsLane, LanesAreTheStates, ReceiptsAreThoseOfReasons, states}
-use Rattle.am_lab_view.specs.Standings.{lane, lanes, standing, standing_in, standings, standings_behind}
+use Rattle.am_lab_view.specs.Standings.{lane, standing, standing_in, standings, standings_behind}
 use Rattle.am_lab_view.proofs.Following.{length_behind}
 
 -- ---- how an endpoint stands, by how many entries were made

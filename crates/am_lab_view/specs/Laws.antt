@@ -3,7 +3,7 @@ use Rattle.std.specs.Prelude.{◌≡◌, ℕ, ◌+◌, ◌-◌, ◌≤◌, is_so
 use Rattle.std.specs.List.{AllByRecursion, range_with_len}
 use Rattle.am_lab_reasons.specs.Packets as reasons
 use Rattle.am_model.specs.Endpoint.{State}
-use Rattle.am_model.specs.History.{state_of}
+use Rattle.am_model.specs.History.{IsHistory, state_of}
 use Rattle.am_model.specs.Layout.{Layout}
 use Rattle.am_names.specs.Packets.{from_of, number_of, receiver_of}
 use Rattle.am_names.specs.declared.EndpointId.{EndpointId}
@@ -11,10 +11,13 @@ use Rattle.am_names.specs.declared.Packet.{Packet}
 use Rattle.am_office.specs.declared.Entry.{Entry}
 use Rattle.am_scenario_types.specs.Lists.{ScenarioLists}
 use Rattle.am_scripts.specs.Layout.{layout_of}
+use Rattle.am_lab_picture.specs.Arrows.{arrows}
 use Rattle.am_lab_picture.specs.Data.{LaneLists}
+use Rattle.am_lab_picture.specs.Numbered.{numbered}
 use Rattle.am_lab_picture.specs.Residencies.{residency_of}
 use Rattle.am_lab_picture.specs.Spans.{AreJoined, spread}
-use Rattle.am_lab_picture.specs.Ways.{is_received, way_of}
+use Rattle.am_lab_picture.specs.Ways.{is_received, received_way, way_of}
+use Rattle.am_lab_picture.specs.declared.data.Arrow.{Arrow}
 use Rattle.am_lab_picture.specs.declared.data.Lines.{Lines}
 use Rattle.am_lab_view.specs.Standings.{lanes}
 
@@ -44,3 +47,17 @@ LanesAreTheStates =
 -- That a packet is received means the same as where it is told what became of a message.
 abbrev pub ReceiptsAreThoseOfReasons : Type 0
 ReceiptsAreThoseOfReasons = (journal : List Entry) (p : Packet) → is_received journal (way_of p) ≡ reasons.is_received (from_of p) (receiver_of p) (number_of p) journal
+
+-- all lines of a journal
+abbrev pub all_lines : List Entry → Lines
+all_lines journal = record { first = 3; count = length journal }
+
+-- the line of an entry, if the entry receives a packet
+abbrev pub receipt_line : ℕ → Entry → List ℕ
+receipt_line line x = if is_some (received_way x.event) then line ∷ [] else []
+
+-- In a history there is just one arrow for each entry that receives a packet, in their order.
+abbrev pub EachReceiptHasItsArrow : Type 0
+EachReceiptHasItsArrow =
+    (layout : Layout) (journal : List Entry) → IsHistory layout journal
+    → map (λ (a : Arrow). a.to) (arrows (all_lines journal) journal) ≡ numbered receipt_line 3 journal

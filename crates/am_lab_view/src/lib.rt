@@ -1,5 +1,5 @@
-//! The picture of a report: its rows, the ways of its packets, and the lanes of its endpoints, for which a cluster makes the journal's
-//! entries again and is asked after each.
+//! The picture of a report: its rows, the ways of its packets, and the lanes of its endpoints, for which a cluster
+//! makes the journal's entries again and is asked after each.
 #![tactic(auto)]
 
 ghost use Rattle.am_check.specs.Exact.{IsChecked};
@@ -21,13 +21,13 @@ use crate::pictures::picture_in;
 use am_lab_journal::place_of;
 pub use am_lab_picture::Picture;
 use am_scenario::{Form, read};
-pub use laws::{lanes_are_the_states, receipts_are_those_of_reasons};
+pub use laws::{each_receipt_has_its_arrow, lanes_are_the_states, receipts_are_those_of_reasons};
 pub use parts::{Part, PictureFault};
 use std::alloc::Global;
 
-/// The picture of some lines of the report in a text which is that of a journal that follows the scenario in front of it: of those that the
-/// part names, or of all the journal's. A part that has no line, or a line that is none of the journal's, is refused with
-/// `NoSuchLines`, and more than 20,000 lines with `TooManyRows`.
+/// The picture of some lines of the report in a text which is that of a journal that follows the scenario in front of
+/// it: of those that the part names, or of all the journal's. A part that has no line, or a line that is none of the
+/// journal's, is refused with `NoSuchLines`, and more than 20,000 lines with `TooManyRows`.
 ///
 /// `NoMemory` comes where there is none for the journal that is made again, or for the picture.
 pub fn picture(
