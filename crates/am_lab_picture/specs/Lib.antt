@@ -1,0 +1,11 @@
+pub mod Data
+pub mod Abouts
+pub mod Ways
+pub mod Fates
+pub mod Rows
+pub mod Numbered
+pub mod Arrows
+pub mod Residencies
+pub mod Spans
+pub mod Lanes
+pub mod Laws

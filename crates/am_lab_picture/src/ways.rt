@@ -1,0 +1,115 @@
+//! Packets by their links and their numbers there.
+
+ghost use Rattle.std.specs.Prelude.{◌≡◌, ◌||◌, IfOk, OnOk};
+ghost use Rattle.std.specs.Option.{option_or};
+ghost use Rattle.am_lab_picture.specs.Ways as ways;
+ghost use Rattle.am_lab_picture.specs.Ways.{AreEmitters, AreReceived, has_way, place_for, place_in, receives};
+ghost use Rattle.am_lab_picture.specs.declared.ways.Way.{Way};
+
+use am_iface::emitted_of;
+use am_names::{NodeId, Packet};
+use am_office::{Entry, Event};
+use std::alloc::{AllocError, Global};
+use std::collections::{BTreeMap, BTreeSet};
+
+/// A packet, by its link and its number there.
+#[derive(Clone, Copy, PartialEq, Eq, PartialOrd, Ord, Debug)]
+pub struct Way {
+    pub from: NodeId,
+    pub to: NodeId,
+    /// Its place among the packets emitted from `from` to `to`, from 1.
+    pub number: u32,
+}
+
+/// The link and the number of a packet.
+pub(crate) fn way_of(packet: Packet) -> Way
+    ensures { result ≡ ways.way_of packet }
+{
+    match packet {
+        Packet::Parcel(parcel) => Way {
+            from: parcel.from,
+            to: parcel.to,
+            number: parcel.number,
+        },
+        Packet::Answer(answer) => Way {
+            from: answer.from,
+            to: answer.to,
+            number: answer.number,
+        },
+    }
+}
+
+fn emitted_way(entry: &Entry) -> Option<Way>
+    ensures { result ≡ ways.emitted_way entry.now }
+{
+    match emitted_of(entry) {
+        Some(packet) => Some(way_of(packet)),
+        None => None,
+    }
+}
+
+/// The packet that an event receives, if it receives one.
+pub(crate) fn received_way(event: Event) -> Option<Way>
+    ensures { result ≡ ways.received_way event }
+{
+    match event {
+        Event::Receive { node, peer, number } => Some(Way {
+            from: peer,
+            to: node,
+            number,
+        }),
+        _ => None,
+    }
+}
+
+// The place of an entry, if it emits a packet and is the first for this packet.
+fn note_emitter(
+    places: &mut BTreeMap<Way, usize>,
+    entry: &Entry,
+    place: usize,
+) -> Result<(), AllocError>
+    ensures { OnOk result ((w : Way) → place_in places.new w ≡ option_or (place_in places.old w) (place_for w (ways.emitted_way entry.now) place)) }
+{
+    let Some(way) = emitted_way(entry) else {
+        return Ok(());
+    };
+    if !places.contains_key(&way) {
+        places.insert(way, place)?;
+    }
+    Ok(())
+}
+
+/// The places of the entries that emit, by the packets.
+pub(crate) fn emitters_of(
+    alloc: Global,
+    entries: &[Entry],
+) -> Result<BTreeMap<Way, usize>, AllocError>
+    ensures { IfOk result (λ places. AreEmitters places entries.now) }
+{
+    let mut places = BTreeMap::new(alloc);
+    for (place, entry) in entries.iter().enumerate() {
+        note_emitter(&mut places, entry, place)?;
+    }
+    Ok(places)
+}
+
+// The packet that an entry receives, if it receives one.
+fn note_received(set: &mut BTreeSet<Way>, entry: &Entry) -> Result<(), AllocError>
+    ensures { OnOk result ((w : Way) → has_way set.new w ≡ (has_way set.old w || receives w entry.now)) }
+{
+    if let Some(way) = received_way(entry.event) {
+        set.insert(way)?;
+    }
+    Ok(())
+}
+
+/// The packets that the entries receive.
+pub(crate) fn received_in(alloc: Global, entries: &[Entry]) -> Result<BTreeSet<Way>, AllocError>
+    ensures { IfOk result (λ set. AreReceived set entries.now) }
+{
+    let mut set = BTreeSet::new(alloc);
+    for entry in entries {
+        note_received(&mut set, entry)?;
+    }
+    Ok(set)
+}
