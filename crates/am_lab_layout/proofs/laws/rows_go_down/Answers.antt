@@ -1,0 +1,8 @@
+use Rattle.am_lab_layout.proofs.Downwards.{below, inside}
+use Rattle.am_lab_layout.proofs.laws.rows_go_down.Goals as goal
+
+pub returns-clause-below : goal.returns-clause-below
+returns-clause-below c = below
+
+pub returns-clause-inside : goal.returns-clause-inside
+returns-clause-inside c = inside

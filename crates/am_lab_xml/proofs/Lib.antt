@@ -1,0 +1,5 @@
+pub mod Bools
+pub mod Bytes
+pub mod Texts
+pub mod Formed
+pub mod Found

@@ -1,0 +1,5 @@
+pub mod Escaped
+pub mod Trees
+pub mod Attributes
+pub mod Grammar
+pub mod Reading
