@@ -9,5 +9,7 @@ lab=crates/am2_lab/out/am2_lab
 failed=0
 python3 -B check/lab.py "$lab" crates/am2/out/am2 || failed=1
 python3 -B check/derived.py "$lab" crates/am2/out/am2 || failed=1
+python3 -B check/pictures.py "$lab" || failed=1
+python3 -B check/chart.py "$lab" || failed=1
 python3 -B check/lab_randoms.py "$lab" 1 120 || failed=1
 exit "$failed"
