@@ -1,0 +1,5 @@
+pub mod Endings
+pub mod Lines
+pub mod Titled
+pub mod Quiet
+pub mod Read

@@ -1,0 +1,15 @@
+//! A space-time picture of a journal, drawn as SVG.
+#![tactic(auto)]
+
+mod bars;
+mod captions;
+mod drawing;
+mod lanes;
+mod legends;
+mod rows;
+mod tables;
+mod ways;
+
+pub use drawing::chart;
+pub use legends::{Head, Meaning, Shape};
+pub use tables::STYLE;
