@@ -29,6 +29,8 @@ due_to_text (Commands.Made n) left before now answer reads due = absurd (cc)
 due_to_text Commands.Expanded left before now answer reads due = due
 due_to_text (Commands.Round nodes turns number) left before now answer reads due = due
 due_to_text Commands.Replay left before now answer reads due = due
+due_to_text (Commands.Schedule seed) left before now answer reads due = due
+due_to_text (Commands.Chart form lines) left before now answer reads due = due
 
 pub due_to_number : (asked : Asked) (bytes : List ℕ) (left : Option (List ℕ)) (before now : Counter) (answer : Answer) → reads_text asked ≡ false → (answer ≡ no_memory) ⊎ AnswersTo asked bytes answer → IsDue asked left before now answer
 due_to_number (Commands.Explain form) bytes left before now answer reads answers = absurd (cc)
@@ -38,3 +40,5 @@ due_to_number (Commands.Made n) bytes left before now answer reads answers = ans
 due_to_number Commands.Expanded bytes left before now answer reads answers = absurd (cc)
 due_to_number (Commands.Round nodes turns number) bytes left before now answer reads answers = absurd (cc)
 due_to_number Commands.Replay bytes left before now answer reads answers = absurd (cc)
+due_to_number (Commands.Schedule seed) bytes left before now answer reads answers = absurd (cc)
+due_to_number (Commands.Chart form lines) bytes left before now answer reads answers = absurd (cc)

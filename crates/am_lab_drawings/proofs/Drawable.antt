@@ -1,6 +1,6 @@
 -- The picture of a report can be drawn.
-use Rattle.std.proofs.Common.{◌≡◌, ℕ, zero, suc, ◌+◌, ◌-◌, ◌*◌, ◌^◌, ◌<◌, ◌≤◌, Bool, true, false, ◌&&◌, List, [], ◌∷◌, length, map, take, drop, Option, Some, None, Result, Ok, Err, refl, sym, ap, ◌∙◌, subst, arith, slice_index_or}
-use Rattle.std.specs.Prelude.{All, AllPairs, nat_le, nat_lt, if◌then◌else◌}
+use Rattle.std.proofs.Common.{◌≡◌, ◌≢◌, ℕ, zero, suc, ◌+◌, ◌-◌, ◌*◌, ◌^◌, ◌<◌, ◌≤◌, ◌⊎◌, inl, inr, Bool, true, false, ◌&&◌, List, [], ◌∷◌, length, map, take, drop, Option, Some, None, Result, Ok, Err, refl, sym, ap, ◌∙◌, subst, arith, slice_index_or}
+use Rattle.std.specs.Prelude.{IfOk, All, AllPairs, nat_le, nat_lt, if◌then◌else◌}
 use Rattle.std.proofs.lemmas.Bool.{and_parts, leb-true, ltb-true}
 use Rattle.std.proofs.lemmas.List.{length-drop, length-map, length-take}
 use Rattle.am_office.specs.declared.Entry.{Entry}
@@ -100,3 +100,13 @@ drawable law form text part p few shows =
     let low = (reported form s lawful bytes (omega (arith, few, left)) (record { journal = shown.journal; begun = shown.begun; ended = shown.ended; text = shown.report' })).low in
     let short : length shown.journal < 2 ^ 31 = omega (arith, low, left, few) in
     subst IsDrawable (sym found.2) (drawable_of s shown.journal found.0 lawful short (good_lines (length shown.journal) part found.0 found.1))
+
+-- what is shown is shown, or there was no memory
+pub shown_only : {P : Type 0} (result : Result P PictureFault) (shows : Result P PictureFault → Type 0) → (result ≡ Err Faults.NoMemory) ⊎ shows result → (p : P) → result ≡ Ok p → shows (Ok p)
+shown_only result shows (inl none) p is = absurd (cc)
+shown_only result shows (inr shown) p is = subst shows is shown
+
+pub refusal_shown : {P O E : Type 0} (fault : PictureFault) (told : Result O E) (shows : Result P PictureFault → Type 0) (holds : O → Result P PictureFault → Type 0) → (◌≡◌ {A = Result P PictureFault} (Err fault) (Err Faults.NoMemory)) ⊎ shows (Err fault) → IfOk told (λ o. holds o (Err fault)) → IfOk told (λ o. fault ≢ Faults.NoMemory) → IfOk told (λ o. (shown : Result P PictureFault) × shows shown × holds o shown)
+refusal_shown fault (Ok o) shows holds (inl none) is some = absurd (some (cc))
+refusal_shown fault (Ok o) shows holds (inr shown) is some = (Err fault, shown, is)
+refusal_shown fault (Err e) shows holds found is some = tt

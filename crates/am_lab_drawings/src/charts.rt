@@ -5,9 +5,10 @@ ghost use Rattle.am_lab_drawings.specs.Charts.{ChartAnswers, drawing_of, no_such
 ghost use Rattle.am_lab_view.specs.Pictures.{Shows};
 ghost use Rattle.am_main_check.specs.Checks.{CheckAnswers};
 ghost use Rattle.am_main_lines.specs.Lines.{answer_in};
-ghost use Rattle.std.specs.Prelude.{◌≡◌, ◌<◌, ◌^◌, Err, IfOk, Result as Either, length};
+ghost use Rattle.std.specs.Prelude.{◌≡◌, ◌≢◌, ◌<◌, ◌^◌, Err, IfOk, Result as Either, length};
 ghost use Rattle.am_lab_picture.specs.Data.{PictureLists};
 ghost use Rattle.am_lab_view.specs.declared.parts.PictureFault.{PictureFault as Fault};
+ghost use Rattle.am_lab_view.specs.declared.parts.PictureFault.TheVariants.{NoMemory as Starved};
 
 use am_check_laws::yes_is_true;
 use am_lab_chart::chart;
@@ -34,7 +35,8 @@ fn no_such_lines(alloc: Global) -> Result<Output, NoMemory>
 
 // Why there is no picture.
 fn refused(alloc: Global, fault: PictureFault) -> Result<Output, NoMemory>
-    ensures { IfOk result (λ o. answer_in o ≡ drawing_of (Err fault)) }
+    ensures told { IfOk result (λ o. answer_in o ≡ drawing_of (Err fault)) }
+    ensures starved { IfOk result (λ _. fault ≢ Starved) }
 {
     match fault {
         PictureFault::NoSuchLines => no_such_lines(alloc),
