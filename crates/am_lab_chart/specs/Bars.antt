@@ -1,5 +1,5 @@
 -- The bars of an endpoint's lane: where it lies, and beside it how much it holds.
-use Rattle.std.specs.Prelude.{ℕ, Bool, true, false, ◌+◌, ◌-◌, ◌/◌, ◌==◌, ◌&&◌, nat_le, min, List, [], ◌∷◌, codes, Option, Some, None, if◌then◌else◌}
+use Rattle.std.specs.Prelude.{ℕ, Bool, ◌+◌, ◌-◌, ◌/◌, ◌==◌, ◌&&◌, nat_le, min, List, [], ◌∷◌, codes, Option, Some, None, if◌then◌else◌}
 use Rattle.std.specs.Fmt.{decimal}
 use Rattle.am_lab_picture.specs.Data.{LaneLists, PictureLists}
 use Rattle.am_lab_picture.specs.declared.data.Residency.{Residency}

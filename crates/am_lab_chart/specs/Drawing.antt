@@ -1,5 +1,5 @@
 -- The whole picture as a tree, and as a text.
-use Rattle.std.specs.Prelude.{ℕ, ◌+◌, ◌<◌, List, [], ◌∷◌, codes, if◌then◌else◌}
+use Rattle.std.specs.Prelude.{ℕ, List, [], ◌∷◌, codes, if◌then◌else◌}
 use Rattle.am_lab_picture.specs.Data.{PictureLists}
 use Rattle.am_lab_xml.specs.Attributes.{place}
 use Rattle.am_lab_xml.specs.Trees.{Content, Named, each, numbered, printed}

@@ -1,5 +1,5 @@
 -- The row of an entry: its line as the title and as text, the fate of what it is about, its sign, and the line that leads from there.
-use Rattle.std.specs.Prelude.{ℕ, Bool, true, false, ◌+◌, ◌/◌, List, [], ◌∷◌, codes, Option, Some, None, if◌then◌else◌}
+use Rattle.std.specs.Prelude.{ℕ, ◌+◌, ◌/◌, List, [], ◌∷◌, codes, Option, Some, None, if◌then◌else◌}
 use Rattle.std.specs.Fmt.{decimal}
 use Rattle.am_journal_lines.specs.Grammar.{printed}
 use Rattle.am_office.specs.declared.Outcome.{Outcome}
