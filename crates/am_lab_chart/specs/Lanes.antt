@@ -34,7 +34,8 @@ unfoldable pub band : PictureLists → ℕ → ℕ → Content
 band p left node =
     Contents.Both
     (Contents.Empty (codes "rect")
-    (word (codes "class") (codes "band") ∷ number (codes "x") (band_left p left node) ∷ number (codes "y") (top - 36) ∷ number (codes "width") (band_width p node) ∷ number (codes "height") (bottom p - top + 44) ∷ []))
+    (word (codes "class") (codes "band") ∷ number (codes "x") (band_left p left node) ∷ number (codes "y") (top - 36) ∷
+    number (codes "width") (band_width p node) ∷ number (codes "height") (bottom p - top + 44) ∷ []))
     (head (band_left p left node + band_width p node / 2) (top - 42) (codes "12") (codes "node ") (decimal node))
 
 -- the interface's number, and its dotted lane
