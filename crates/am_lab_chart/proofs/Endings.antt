@@ -1,5 +1,5 @@
 -- Lists without their last elements.
-use Rattle.std.proofs.Common.{◌≡◌, ℕ, List, [], ◌∷◌, ◌++◌, refl, ap}
+use Rattle.std.proofs.Common.{◌≡◌, ℕ, List, [], ◌∷◌, ◌++◌, refl}
 
 none_is_longer : (a : List ℕ) (x : ℕ) → (a ++ x ∷ [] ≡ []) → ⊥
 none_is_longer [] x h = cc

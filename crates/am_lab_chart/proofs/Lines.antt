@@ -1,5 +1,5 @@
 -- The line of an entry is a text of printable ASCII.
-use Rattle.std.proofs.Common.{◌≡◌, ℕ, zero, suc, ◌<◌, ◌%◌, ◌/◌, Bool, true, false, ◌&&◌, ◌==◌, List, [], ◌∷◌, ◌++◌, codes, Option, Some, None, refl, arith, if◌then◌else◌}
+use Rattle.std.proofs.Common.{◌≡◌, ℕ, zero, suc, ◌<◌, ◌%◌, ◌/◌, Bool, true, false, ◌==◌, List, [], ◌∷◌, ◌++◌, codes, Option, Some, None, refl, arith, if◌then◌else◌}
 use Rattle.std.proofs.lemmas.Bool.Decides.{nat_tests}
 use Rattle.std.specs.Fmt.{decimal, digits, digits_onto, digit_glyph}
 use Rattle.std.specs.List.{list_all}
@@ -36,7 +36,6 @@ use Rattle.am_entry_lines.specs.Lines.{actor, interface, driver, who, handler_ki
 use Rattle.am_journal_lines.specs.Grammar.{printed}
 use Rattle.am_lab_xml.specs.Escaped.{is_allowed, is_text}
 use Rattle.am_lab_xml.proofs.Bools.{all_of_both, first, second, joined}
-use native.Mathlib.Nat.{mod-lt}
 
 -- ---- numbers
 

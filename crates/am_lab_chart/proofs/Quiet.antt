@@ -1,6 +1,5 @@
 -- What is drawn is sound, and its titles are the lines of its rows.
-use Rattle.std.proofs.Common.{◌≡◌, ℕ, zero, suc, ◌+◌, Bool, true, false, List, [], ◌∷◌, codes, map, Option, Some, None, refl}
-use Rattle.am_office.specs.declared.Entry.{Entry}
+use Rattle.std.proofs.Common.{ℕ, zero, suc, ◌+◌, List, [], ◌∷◌, codes, map, Option, Some, None, refl}
 use Rattle.am_journal_lines.specs.Grammar.{printed}
 use Rattle.am_lab_picture.specs.Data.{LaneLists, PictureLists}
 use Rattle.am_lab_picture.specs.declared.data.Arrow.{Arrow}
@@ -9,19 +8,18 @@ use Rattle.am_lab_picture.specs.declared.data.Named.{Named as Message}
 use Rattle.am_lab_picture.specs.declared.data.Residency.{Residency}
 use Rattle.am_lab_picture.specs.declared.data.Row.{Row}
 use Rattle.am_lab_picture.specs.declared.data.Span.{Span}
-use Rattle.am_lab_xml.specs.Escaped.{is_text}
-use Rattle.am_lab_xml.specs.Trees.{Content, each, numbered}
+use Rattle.am_lab_xml.specs.Trees.{each}
 use Rattle.am_lab_xml.specs.Trees.{Content as Contents}
 use Rattle.am_lab_layout.specs.declared.signs.Link.{Link}
 use Rattle.am_lab_chart.specs.declared.tables.TheConstants.{STYLE}
 use Rattle.am_lab_layout.specs.Layout.{has_interfaces, has_text, height, left_of, width, x_of_interface, y_of}
 use Rattle.am_lab_layout.specs.Words.{class_of, fate_class, fate_sign, frame_of, place_class}
 use Rattle.am_lab_chart.specs.Captions.{sign_at}
-use Rattle.am_lab_layout.specs.Signs.{ending_sign, inner_of, label_of, link_of, sign_of, spot_of}
-use Rattle.am_lab_chart.specs.Bars.{bar, bars_at, frame_caption, frame_part, has_room, lane_bars, level_width, received, records, stretch}
+use Rattle.am_lab_layout.specs.Signs.{ending_sign, inner_of, label_of, sign_of, spot_of}
+use Rattle.am_lab_chart.specs.Bars.{bar, frame_caption, frame_part, has_room, lane_bars, level_width, received, records, stretch}
 use Rattle.am_lab_chart.specs.Ways.{arc, arrow, cross, is_own, straight}
 use Rattle.am_lab_chart.specs.Rows.{fate_of, fate_x, inner, inner_text, label, label_at, label_text, labelled, line_number, line_text, link, link_line, mark, row_at, row_head, row_of, texts_of, title, x_of}
-use Rattle.am_lab_chart.specs.Lanes.{band, end_head, interface, interface_lane, node_lane, nodes}
+use Rattle.am_lab_chart.specs.Lanes.{band, end_head, interface, interface_lane, nodes}
 use Rattle.am_lab_chart.specs.Legends.{Drawn, Explained, Headed, arrow_head, head_attributes, meaning, shape, style}
 use Rattle.am_lab_chart.specs.Tables.{heads}
 use Rattle.am_lab_chart.specs.Drawing.{shapes, definitions, description, drawing, entries_of, front, inside, lanes_of, legend, page, scale, size_class, svg_attributes}

@@ -5,8 +5,8 @@ use Rattle.am_journal_lines.specs.Grammar.{printed as line_of}
 use Rattle.am_lab_picture.specs.Data.{PictureLists}
 use Rattle.am_lab_picture.specs.declared.data.Row.{Row}
 use Rattle.am_lab_xml.specs.Grammar.{IsDocument}
-use Rattle.am_lab_xml.specs.Reading.{texts, texts_in}
-use Rattle.am_lab_xml.specs.Trees.{Content, printed}
+use Rattle.am_lab_xml.specs.Reading.{texts_in}
+use Rattle.am_lab_xml.specs.Trees.{Content}
 use Rattle.am_lab_xml.specs.Trees.{Content as Contents}
 use Rattle.am_lab_xml.proofs.Formed.{document}
 use Rattle.am_lab_xml.proofs.Found.{texts_are_found}

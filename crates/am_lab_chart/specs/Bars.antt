@@ -1,5 +1,5 @@
 -- The bars of an endpoint's lane: where it lies, and beside it how much it holds.
-use Rattle.std.specs.Prelude.{ℕ, Bool, true, false, ◌+◌, ◌-◌, ◌/◌, ◌==◌, ◌&&◌, nat_le, min, List, [], ◌∷◌, codes, Option, Some, None, if◌then◌else◌}
+use Rattle.std.specs.Prelude.{ℕ, Bool, ◌+◌, ◌-◌, ◌/◌, ◌==◌, ◌&&◌, nat_le, min, List, [], ◌∷◌, codes, Option, Some, None, if◌then◌else◌}
 use Rattle.std.specs.Fmt.{decimal}
 use Rattle.am_lab_picture.specs.Data.{LaneLists, PictureLists}
 use Rattle.am_lab_picture.specs.declared.data.Residency.{Residency}
@@ -14,7 +14,8 @@ use Rattle.am_lab_chart.specs.Captions.{caption, number, word}
 unfoldable pub stretch : PictureLists → List ℕ → ℕ → ℕ → ℕ → ℕ → Content
 stretch p class x wide from until =
     Contents.Empty (codes "rect")
-    (word (codes "class") class ∷ number (codes "x") x ∷ number (codes "y") (y_of p from) ∷ number (codes "width") wide ∷ number (codes "height") (y_of p until - y_of p from) ∷ [])
+    (word (codes "class") class ∷ number (codes "x") x ∷ number (codes "y") (y_of p from) ∷
+    number (codes "width") wide ∷ number (codes "height") (y_of p until - y_of p from) ∷ [])
 
 -- the number of a frame at the bar's upper end, where there is room for it
 abbrev pub has_room : PictureLists → ℕ → ℕ → Bool

@@ -1,5 +1,5 @@
 -- The whole picture as a tree, and as a text.
-use Rattle.std.specs.Prelude.{ℕ, ◌+◌, ◌<◌, List, [], ◌∷◌, codes, if◌then◌else◌}
+use Rattle.std.specs.Prelude.{ℕ, List, [], ◌∷◌, codes, if◌then◌else◌}
 use Rattle.am_lab_picture.specs.Data.{PictureLists}
 use Rattle.am_lab_xml.specs.Attributes.{place}
 use Rattle.am_lab_xml.specs.Trees.{Content, Named, each, numbered, printed}
@@ -65,7 +65,10 @@ inside p left =
 
 abbrev pub svg_attributes : List ℕ → ℕ → ℕ → List Named
 svg_attributes class wide high =
-    word (codes "xmlns") (codes "http://www.w3.org/2000/svg") ∷ word (codes "class") class ∷ number (codes "width") wide ∷ number (codes "height") high ∷ word (codes "viewBox") (path (place [] 0 0 ∷ place (codes " ") wide high ∷ [])) ∷ word (codes "font-family") (codes "sans-serif") ∷ word (codes "font-size") (codes "9") ∷ []
+    word (codes "xmlns") (codes "http://www.w3.org/2000/svg") ∷ word (codes "class") class ∷
+    number (codes "width") wide ∷ number (codes "height") high ∷ word (codes "viewBox") (path (place [] 0 0 ∷
+    place (codes " ") wide high ∷ [])) ∷ word (codes "font-family") (codes "sans-serif") ∷
+    word (codes "font-size") (codes "9") ∷ []
 
 -- a picture whose first band begins at `left`
 unfoldable pub drawing : PictureLists → ℕ → Content

@@ -1,7 +1,6 @@
 -- The bands of the nodes, and the heads of their lanes.
-use Rattle.std.specs.Prelude.{ℕ, zero, suc, Bool, true, false, ◌+◌, ◌-◌, ◌/◌, ◌&&◌, ◌^◌, nat_lt, nat_le, List, [], ◌∷◌, codes, if◌then◌else◌}
+use Rattle.std.specs.Prelude.{ℕ, zero, suc, ◌+◌, ◌-◌, ◌/◌, ◌&&◌, ◌^◌, nat_lt, nat_le, List, [], ◌∷◌, codes, if◌then◌else◌}
 use Rattle.std.specs.Fmt.{decimal}
-use Rattle.am_names.specs.declared.NodeId.{NodeId}
 use Rattle.am_names.specs.declared.Tag.{Tag}
 use Rattle.am_text.specs.Words.{tag}
 use Rattle.am_lab_picture.specs.Data.{LaneLists, PictureLists}
@@ -35,7 +34,8 @@ unfoldable pub band : PictureLists → ℕ → ℕ → Content
 band p left node =
     Contents.Both
     (Contents.Empty (codes "rect")
-    (word (codes "class") (codes "band") ∷ number (codes "x") (band_left p left node) ∷ number (codes "y") (top - 36) ∷ number (codes "width") (band_width p node) ∷ number (codes "height") (bottom p - top + 44) ∷ []))
+    (word (codes "class") (codes "band") ∷ number (codes "x") (band_left p left node) ∷ number (codes "y") (top - 36) ∷
+    number (codes "width") (band_width p node) ∷ number (codes "height") (bottom p - top + 44) ∷ []))
     (head (band_left p left node + band_width p node / 2) (top - 42) (codes "12") (codes "node ") (decimal node))
 
 -- the interface's number, and its dotted lane

@@ -47,7 +47,9 @@ shape scale s =
 
 unfoldable pub head_attributes : Headed → List Named
 head_attributes h =
-    word (codes "id") h.id ∷ word (codes "class") h.class ∷ word (codes "viewBox") (codes "0 0 8 8") ∷ word (codes "refX") (codes "7") ∷ word (codes "refY") (codes "4") ∷ word (codes "markerWidth") (codes "5") ∷ word (codes "markerHeight") (codes "5") ∷ word (codes "orient") (codes "auto") ∷ []
+    word (codes "id") h.id ∷ word (codes "class") h.class ∷ word (codes "viewBox") (codes "0 0 8 8") ∷
+    word (codes "refX") (codes "7") ∷ word (codes "refY") (codes "4") ∷ word (codes "markerWidth") (codes "5") ∷
+    word (codes "markerHeight") (codes "5") ∷ word (codes "orient") (codes "auto") ∷ []
 
 unfoldable pub arrow_head : Headed → Content
 arrow_head h = Contents.Element (codes "marker") (head_attributes h) (path (codes "area") (codes "M0 0L8 4L0 8z"))
@@ -57,5 +59,6 @@ unfoldable pub meaning : Explained → Content
 meaning m =
     Contents.Both
     (Contents.Empty (codes "use")
-    (word (codes "href") m.sign ∷ number (codes "x") m.x ∷ number (codes "y") m.y ∷ word (codes "class") m.class ∷ word (codes "stroke-dasharray") m.dashes ∷ []))
+    (word (codes "href") m.sign ∷ number (codes "x") m.x ∷ number (codes "y") m.y ∷ word (codes "class") m.class ∷
+    word (codes "stroke-dasharray") m.dashes ∷ []))
     (caption (number (codes "x") (m.x + 16) ∷ number (codes "y") (m.y + 3) ∷ word (codes "class") (codes "plain") ∷ []) [] m.text)

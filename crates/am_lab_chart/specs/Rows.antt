@@ -1,5 +1,5 @@
 -- The row of an entry: its line as the title and as text, the fate of what it is about, its sign, and the line that leads from there.
-use Rattle.std.specs.Prelude.{ℕ, Bool, true, false, ◌+◌, ◌/◌, List, [], ◌∷◌, codes, Option, Some, None, if◌then◌else◌}
+use Rattle.std.specs.Prelude.{ℕ, ◌+◌, ◌/◌, List, [], ◌∷◌, codes, Option, Some, None, if◌then◌else◌}
 use Rattle.std.specs.Fmt.{decimal}
 use Rattle.am_journal_lines.specs.Grammar.{printed}
 use Rattle.am_office.specs.declared.Outcome.{Outcome}
@@ -32,7 +32,8 @@ line_number y line =
 unfoldable pub line_text : ℕ → Row → Content
 line_text y row =
     Contents.Element (codes "text")
-    (number (codes "x") 62 ∷ number (codes "y") (y + 4) ∷ word (codes "class") (class_of row.about) ∷ word (codes "font-family") (codes "monospace") ∷ word (codes "font-size") (codes "11") ∷ [])
+    (number (codes "x") 62 ∷ number (codes "y") (y + 4) ∷ word (codes "class") (class_of row.about) ∷
+    word (codes "font-family") (codes "monospace") ∷ word (codes "font-size") (codes "11") ∷ [])
     (Contents.Text (printed row.entry))
 
 abbrev pub texts_of : PictureLists → ℕ → ℕ → Row → Content
@@ -60,7 +61,9 @@ link_head about ending = codes "none"
 unfoldable pub link_line : ℕ → ℕ → ℕ → Option Named → Ending → Content
 link_line x far y about ending =
     Contents.Empty (codes "line")
-    (word (codes "class") (class_of about) ∷ number (codes "x1") x ∷ number (codes "y1") y ∷ number (codes "x2") far ∷ number (codes "y2") y ∷ word (codes "stroke-dasharray") (ending_dashes ending) ∷ word (codes "marker-end") (link_head about ending) ∷ [])
+    (word (codes "class") (class_of about) ∷ number (codes "x1") x ∷ number (codes "y1") y ∷ number (codes "x2") far ∷
+    number (codes "y2") y ∷ word (codes "stroke-dasharray") (ending_dashes ending) ∷
+    word (codes "marker-end") (link_head about ending) ∷ [])
 
 -- the line from the sign to an endpoint, with a sign at its end
 abbrev pub link : PictureLists → ℕ → ℕ → ℕ → Option Named → Option Link → Content
@@ -87,7 +90,8 @@ label_anchor (Some to) = codes "middle"
 
 unfoldable pub label_at : ℕ → ℕ → List ℕ → List ℕ → List ℕ → Content
 label_at x y class anchor text =
-    caption (number (codes "x") x ∷ number (codes "y") y ∷ word (codes "dy") (codes "-2") ∷ word (codes "class") class ∷ word (codes "text-anchor") anchor ∷ []) [] text
+    caption (number (codes "x") x ∷ number (codes "y") y ∷ word (codes "dy") (codes "-2") ∷
+    word (codes "class") class ∷ word (codes "text-anchor") anchor ∷ []) [] text
 
 abbrev pub label_text : PictureLists → ℕ → ℕ → ℕ → Option Named → Option Link → List ℕ → Content
 label_text p left x y about to text = label_at (label_x p left x to) y (class_of about) (label_anchor to) text

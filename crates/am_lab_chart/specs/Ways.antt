@@ -23,7 +23,10 @@ end_x p left packet = x_of_interface p left (receiver_of packet)
 unfoldable pub straight : PictureLists → ℕ → Arrow → Content
 straight p left a =
     Contents.Empty (codes "line")
-    (word (codes "class") (class_of a.about) ∷ number (codes "x1") (begin_x p left a.packet) ∷ number (codes "y1") (y_of p a.from) ∷ number (codes "x2") (end_x p left a.packet) ∷ number (codes "y2") (y_of p a.to) ∷ word (codes "stroke-dasharray") (packet_dashes a.packet) ∷ word (codes "marker-end") (head_of a.about) ∷ word (codes "opacity") (opacity a.counts) ∷ [])
+    (word (codes "class") (class_of a.about) ∷ number (codes "x1") (begin_x p left a.packet) ∷
+    number (codes "y1") (y_of p a.from) ∷ number (codes "x2") (end_x p left a.packet) ∷
+    number (codes "y2") (y_of p a.to) ∷ word (codes "stroke-dasharray") (packet_dashes a.packet) ∷
+    word (codes "marker-end") (head_of a.about) ∷ word (codes "opacity") (opacity a.counts) ∷ [])
 
 -- a path through places
 abbrev pub path : List (List ℕ) → List ℕ
@@ -33,7 +36,10 @@ path places = flat_map (λ (step : List ℕ). step) places
 unfoldable pub arc : PictureLists → ℕ → Arrow → Content
 arc p left a =
     Contents.Empty (codes "path")
-    (word (codes "class") (class_of a.about) ∷ word (codes "d") (path (place (codes "M") x y ∷ place (codes "C") (x + 26) y ∷ place (codes " ") (x + 26) end ∷ place (codes " ") (x + 3) end ∷ [])) ∷ word (codes "stroke-dasharray") (packet_dashes a.packet) ∷ word (codes "marker-end") (head_of a.about) ∷ word (codes "opacity") (opacity a.counts) ∷ [])
+    (word (codes "class") (class_of a.about) ∷ word (codes "d") (path (place (codes "M") x y ∷
+    place (codes "C") (x + 26) y ∷ place (codes " ") (x + 26) end ∷ place (codes " ") (x + 3) end ∷ [])) ∷
+    word (codes "stroke-dasharray") (packet_dashes a.packet) ∷ word (codes "marker-end") (head_of a.about) ∷
+    word (codes "opacity") (opacity a.counts) ∷ [])
   where
     x : ℕ
     x = begin_x p left a.packet
@@ -59,4 +65,6 @@ lost_sign false = codes "#lost-right"
 unfoldable pub cross : PictureLists → ℕ → Cross → Content
 cross p left c =
     Contents.Empty (codes "use")
-    (word (codes "href") (lost_sign (nat_lt (end_x p left c.packet) (begin_x p left c.packet))) ∷ number (codes "x") (begin_x p left c.packet) ∷ number (codes "y") (y_of p c.line) ∷ word (codes "class") (class_of c.about) ∷ word (codes "stroke-dasharray") (packet_dashes c.packet) ∷ [])
+    (word (codes "href") (lost_sign (nat_lt (end_x p left c.packet) (begin_x p left c.packet))) ∷
+    number (codes "x") (begin_x p left c.packet) ∷ number (codes "y") (y_of p c.line) ∷
+    word (codes "class") (class_of c.about) ∷ word (codes "stroke-dasharray") (packet_dashes c.packet) ∷ [])

@@ -1,5 +1,5 @@
-//! How a picture is laid out, before any of it is drawn: where its rows and lanes lie, and what sign, colour and text an entry, a
-//! packet and a place have there.
+//! How a picture is laid out, before any of it is drawn: where its rows and lanes lie, and what sign, colour and text
+//! an entry, a packet and a place have there.
 #![tactic(auto)]
 
 mod laws;

@@ -21,8 +21,8 @@ fn put_byte(out: &mut Vec<u8>, byte: u8) -> Result<(), AllocError>
     }
 }
 
-/// Appends a text, in which `&`, `<`, `>`, quotes and line feeds are written as references. A byte that is neither printable ASCII
-/// nor a line feed is written as a question mark.
+/// Appends a text, in which `&`, `<`, `>`, quotes and line feeds are written as references. A byte that is neither
+/// printable ASCII nor a line feed is written as a question mark.
 pub fn put_text(out: &mut Vec<u8>, text: &[u8]) -> Result<(), AllocError>
     ensures { OnOk result (out.new.items ≡ out.old.items ++ escaped text.now) }
 {

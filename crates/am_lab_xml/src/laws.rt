@@ -7,8 +7,8 @@ ghost use Rattle.am_lab_xml.specs.Reading.{are_texts, texts, texts_in};
 ghost use Rattle.am_lab_xml.specs.Trees.{Content, Named, is_name, is_sound, printed};
 ghost use Rattle.am_lab_xml.specs.Trees.{Content as Contents};
 
-/// An element and a line break are printed as a well-formed document, if elements and attributes have names and no element has two
-/// attributes of one name.
+/// An element and a line break are printed as a well-formed document, if elements and attributes have names and no
+/// element has two attributes of one name.
 pub fn documents_are_well_formed()
     ensures { (name : List ℕ) (given : List Named) (inside : Content) → is_sound (Contents.Element name given inside) ≡ true → IsDocument (printed (Contents.Both (Contents.Element name given inside) Contents.Break)) }
 {}
@@ -18,8 +18,8 @@ pub fn escapes_are_read()
     ensures { (text : List ℕ) → is_text text ≡ true → unescaped (escaped text) ≡ text }
 {}
 
-/// The texts of the elements of a name are found in order in what is printed, by their tags alone, if these elements hold a text of
-/// printable ASCII and line feeds and nothing else.
+/// The texts of the elements of a name are found in order in what is printed, by their tags alone, if these elements
+/// hold a text of printable ASCII and line feeds and nothing else.
 pub fn texts_are_read()
     ensures { (name : List ℕ) (content : Content) → is_name name ≡ true → is_sound content ≡ true → are_texts name content ≡ true → texts_in name (printed content) ≡ texts name content }
 {}

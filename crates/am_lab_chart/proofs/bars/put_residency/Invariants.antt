@@ -1,4 +1,4 @@
-use Rattle.std.proofs.Common.{◌≡◌, ◌++◌, ◌+◌, drop}
+use Rattle.std.proofs.Common.{◌≡◌, ◌++◌, drop}
 use Rattle.am_lab_xml.specs.Trees.{each, printed}
 use Rattle.am_lab_chart.specs.Bars.{bar}
 use Rattle.am_lab_chart.proofs.bars.put_residency.Given as goal

@@ -1,4 +1,4 @@
-use Rattle.std.proofs.Common.{◌≡◌, ◌++◌, ◌+◌, drop}
+use Rattle.std.proofs.Common.{◌≡◌, ◌++◌, drop}
 use Rattle.am_lab_xml.specs.Trees.{each, printed}
 use Rattle.am_lab_chart.specs.Lanes.{end_head}
 use Rattle.am_lab_chart.proofs.lanes.put_end_heads.Given as goal

@@ -1,4 +1,4 @@
-use Rattle.std.proofs.Common.{◌≡◌, ◌++◌, ◌+◌, drop, map}
+use Rattle.std.proofs.Common.{◌≡◌, ◌++◌, drop, map}
 use Rattle.am_lab_xml.specs.Trees.{each, printed}
 use Rattle.am_lab_chart.specs.Legends.{arrow_head, headed_as}
 use Rattle.am_lab_chart.proofs.legends.put_arrow_heads.Given as goal

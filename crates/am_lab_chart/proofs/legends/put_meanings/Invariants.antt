@@ -1,4 +1,4 @@
-use Rattle.std.proofs.Common.{◌≡◌, ◌++◌, ◌+◌, drop, map}
+use Rattle.std.proofs.Common.{◌≡◌, ◌++◌, drop, map}
 use Rattle.am_lab_xml.specs.Trees.{each, printed}
 use Rattle.am_lab_chart.specs.Legends.{explained_as, meaning}
 use Rattle.am_lab_chart.proofs.legends.put_meanings.Given as goal

@@ -1,4 +1,4 @@
-use Rattle.std.proofs.Common.{◌≡◌, ◌++◌, ◌+◌, drop}
+use Rattle.std.proofs.Common.{◌≡◌, ◌++◌, drop}
 use Rattle.am_lab_xml.specs.Trees.{each, printed}
 use Rattle.am_lab_chart.specs.Ways.{cross}
 use Rattle.am_lab_chart.proofs.ways.put_crosses.Given as goal
