@@ -59,7 +59,7 @@ build_if_due() {
     # (a second call waits for the first one's build, and then finds it done)
     exec 9>"$top/crates/$name/out/build.lock" && flock 9
     if is_stale "$crates"; then
-        echo "building $name: every crate below it is proved first, unless that was done on this machine before; from nothing am2 took 33 minutes on four processors, beside other work" >&2
+        echo "building $name: every crate below it is proved first, unless that was done on this machine before; from nothing am2 took 23 minutes on four processors" >&2
         room=$(mktemp -d) || exit 1
         # (the room is known to the trap by its value)
         trap "rm -rf '$room'" EXIT

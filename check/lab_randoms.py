@@ -1,11 +1,12 @@
 #!/usr/bin/env python3
 """lab_randoms.py PROGRAM FIRST COUNT: what `am2_lab` tells of random reports. The second reading makes the report of the random step script and of the random run of each
-seed FIRST, FIRST + 1 .. Of each that came to its end the program must tell `why` of every message as check/lab.py has it, and `explain` must say that it is right. Of the
-same report with a line or two spoiled, `explain` must begin with the second reading's answer of `check`, under the same status, and `why` must answer just that.
+seed FIRST, FIRST + 1 .. Of each that came to its end the program must tell `why` of every message as check/lab.py has it, `explain` must say that it is right, and its picture
+must be as check/chart.py reads it. Of the same report with a line or two spoiled, `explain` must begin with the second reading's answer of `check`, under the same status, and `why` must answer just that.
 """
 import random
 import sys
 
+from chart import drawn, faults_in, lines_of
 from lab import reasons, told
 from randoms import run_script, spoiled, step_script
 from reading import answer
@@ -29,7 +30,15 @@ def right_report(program, form, text, report):
               if told(program, "why", form, text + report, serial) != (0, reasons(plan, journal, fates, serial))]
     if told(program, "explain", form, text + report) != (0, "check ok\n"):
         faults.append(f"explain {form}")
-    return faults, len(fates) + 2
+    faults += chart_faults(program, form, text, report)
+    return faults, len(fates) + 3
+
+
+def chart_faults(program, form, text, report):
+    """What is wrong in the picture of a right report, whose rows are read where they are high."""
+    lines, fates = lines_of(report)
+    picture = drawn(program, form, text + report)
+    return [f"chart {form}: {fault}" for fault in faults_in(picture, lines, fates)] if len(lines) <= 400 else []
 
 
 def spoiled_report(program, form, text, report):
