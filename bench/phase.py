@@ -38,7 +38,7 @@ def set_probes(program):
         subprocess.run(["mount", "-t", "tracefs", "nodev", TRACING], check=True)
     listed = subprocess.run(["nm", "-C", program], capture_output=True, text=True, check=True).stdout
     probes = ""
-    for kind, name, function in (("r", "begun", "am_crew_opening::open_crews"), ("p", "ended", "am_crew::unite_crews")):
+    for kind, name, function in (("r", "begun", "am_cluster_opening::open_crews"), ("p", "ended", "am_cluster_crew::unite_crews")):
         address = int(re.search(rf"^([0-9a-f]+) \w {re.escape(function)}$", listed, re.M)[1], 16)
         probes += f"{kind}:am2/{name} {program}:{place_in(program, address):#x}\n"
     write("uprobe_events", probes)

@@ -12,6 +12,9 @@ PAGE, TOP = Path("docs/BELIEVED.md"), ("am_main", "am2")
 HEAD = re.compile(r"^(?P<indent> *)(?:(?:pub|abbrev|unfoldable|opaque|record|data|native) )+(?P<name>[^\s:(){}]+)")
 IMPORT = re.compile(r"^\s*(?:ghost |pub )*use ([\w.']+?)(?:\.\{([^}]*)\}| as (\w+))?;?\s*$", re.M)
 WORD = re.compile(r"[^\s(){}\[\],;.:λ]+")
+# What a do-block names without saying so, and a name of a module that was brought in under an alias.
+BIND = "◌>>=◌"
+MEMBER = re.compile(r"(?<![\w.])(\w+)\.([^\s(){}\[\],;.:λ]+)")
 
 
 def plain(text):
@@ -97,6 +100,12 @@ def closure():
                         types.add(place[1:])
                     elif place and name:
                         todo.append((place[1], name))
+        if " ← " in text and BIND in names:
+            todo.append((place_of(names[BIND][0])[1], BIND))
+        for alias, name in MEMBER.findall(text):
+            place = place_of(names[alias][0]) if alias in names and not names[alias][1] else None
+            if place and place[0] == "file":
+                todo.append((place[1], name))
 
     follow(*contract_of(*TOP))
     while todo:

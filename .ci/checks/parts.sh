@@ -6,12 +6,12 @@ folder=$(mktemp -d)
 trap 'rm -rf "$folder"' EXIT
 failed=0
 cp HANDLES "$folder"
-for program in am_tally am_sums; do
+for program in am_example_tally am_example_sums; do
     bin/part "$program" "$folder" >> "$folder/crates.txt" || failed=1
 done
-for program in am_tally am_sums; do
+for program in am_example_tally am_example_sums; do
     text=$(cd "$folder/crates/$program" && rt try 2>"$folder/errors")
     [ "$text" = "$(cat "crates/$program/stdout")" ] || { echo "$program, alone in a repository, prints '$text'"; cat "$folder/errors"; failed=1; }
 done
-echo "parts: am_tally and am_sums, alone in a repository"
+echo "parts: am_example_tally and am_example_sums, alone in a repository"
 exit "$failed"

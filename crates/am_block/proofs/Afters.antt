@@ -1,5 +1,6 @@
 -- What the calls of a block read from its links.
-use Rattle.std.proofs.Common.{◌≡◌, ℕ, zero, suc, ◌+◌, ◌<◌, ◌≤◌, List, [], ◌∷◌, ◌++◌, length, get_or, slice_get, Some, None, refl, sym, ap, ◌∙◌, subst, inl, inr, arith, drop, take, append_assoc}
+use Rattle.std.proofs.Common.{◌≡◌, ℕ, zero, suc, ◌+◌, ◌<◌, ◌≤◌, List, [], ◌∷◌, ◌++◌, length, get_or, slice_get, Some, None, refl, sym, ap, ◌∙◌, subst, inl, inr}
+use Rattle.std.proofs.Common.{arith, drop, take, append_assoc}
 use Rattle.std.proofs.lemmas.Option.{same_Some}
 use Rattle.am_block.specs.Ring.{Ring, Path}
 use Rattle.am_block.specs.Links.{Links}
@@ -53,8 +54,10 @@ module _ (k : Links) (n : ℕ) (l : Lengths) (i : IsSound k n l) where
     next-is : get_or k.next s 0 ≡ first_of vs (head n w)
     next-is =
         let us = take (place s (slots p w)) (slots p w) in
-        let r : Ring k.next k.prev (head n w) (us ++ s ∷ vs) = subst (λ (zs : List ℕ). Ring k.next k.prev (head n w) zs) (cut s (slots p w) stands_at_home) (i.rings w) in
-        path-next k.next k.prev (head n w) s (head n w) us vs (subst (λ (zs : List ℕ). Path k.next k.prev (head n w) zs) (append_assoc us (s ∷ vs) (head n w ∷ [])) r)
+        let r : Ring k.next k.prev (head n w) (us ++ s ∷ vs) =
+        subst (λ (zs : List ℕ). Ring k.next k.prev (head n w) zs) (cut s (slots p w) stands_at_home) (i.rings w) in
+        path-next k.next k.prev (head n w) s (head n w) us vs (subst (λ (zs : List ℕ). Path k.next k.prev (head n w) zs)
+        (append_assoc us (s ∷ vs) (head n w ∷ [])) r)
 
     behind-is : behind s (slots p w) ≡ slice_get vs 0
     behind-is = slice_get-drop (place s (slots p w) + 1) (slots p w)
@@ -73,4 +76,5 @@ module _ (k : Links) (n : ℕ) (l : Lengths) (i : IsSound k n l) where
     pub after_none : n ≤ get_or k.next s 0 → None ≡ behind s (slots p w)
     after_none h =
         let e = next-is in
-        sym (behind-is ∙ first-none vs (λ z g. let b = below-get p w (place s (slots p w) + 1) z i.block (behind-is ∙ g) in let sz = size-pools k n l i in omega arith) (omega arith))
+        sym (behind-is ∙ first-none vs (λ z g. let b = below-get p w (place s (slots p w) + 1) z i.block (behind-is ∙ g) in let sz = size-pools k n l i in
+        omega arith) (omega arith))

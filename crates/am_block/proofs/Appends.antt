@@ -7,10 +7,13 @@ use Rattle.am_block.specs.Links.{Links, inserted}
 use Rattle.am_block.specs.Nodes.{IsLink, Good, links_of}
 use Rattle.am_block.specs.declared.nodes.Node.{Node}
 use Rattle.am_block.specs.declared.List.{List as Which}
-use Rattle.am_row.specs.declared.Spot.{Spot}
+use Rattle.am_block_row.specs.declared.Spot.{Spot}
 use Rattle.am_block.proofs.GoodNodes.{prev_read, prev_linked, next_good, prev_good, good_set, next_written, prev_written, all_written}
 
-module _ (at : Ptr) (n : ℕ) (cs : List (Option Node)) (g : Good at n cs) (s h : ℕ) (l : Which) (sp hp : Spot) (ks : IsLink at n (record { node = sp; slot = s })) (kh : IsLink at n (record { node = hp; slot = h })) (x : Node) (e : get_or cs h None ≡ Some x) where
+module _ (at : Ptr) (n : ℕ) (cs : List (Option Node)) (g : Good at n cs) (s h : ℕ) (l : Which) (sp hp : Spot) (ks : IsLink at n (record {
+  node = sp;
+  slot = s;
+})) (kh : IsLink at n (record { node = hp; slot = h })) (x : Node) (e : get_or cs h None ≡ Some x) where
   abbrev pub t : ℕ
   t = x.prev.slot
 
@@ -44,5 +47,9 @@ module _ (at : Ptr) (n : ℕ) (cs : List (Option Node)) (g : Good at n cs) (s h 
             let p = prev_read at n cs g h x e in
             prev_written at n cs2 good2 h y3 e3 (record { node = sp; slot = s })
             ∙ ap {A = Links} (λ v. record v { prev = set v.prev h s }) (all_written at n cs1 good1 s y2 e2 x.prev (record { node = hp; slot = h }) l)
-            ∙ ap {A = Links} (λ v. record v { next = set v.next s h; prev = set (set v.prev s t) h s; lists = set v.lists s l }) (next_written at n cs g t y1 e1 (record { node = sp; slot = s }))
+            ∙ ap {A = Links} (λ v. record v {
+              next = set v.next s h;
+              prev = set (set v.prev s t) h s;
+              lists = set v.lists s l;
+            }) (next_written at n cs g t y1 e1 (record { node = sp; slot = s }))
             ∙ sym (λ j. record k { next = set (set k.next (p j) s) s h; prev = set (set k.prev s (p j)) h s; lists = set k.lists s l })

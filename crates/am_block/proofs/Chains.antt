@@ -30,7 +30,8 @@ chain-front : (nx : List ℕ) (i n : ℕ) → 0 < n → chain nx i n ≡ i ∷ d
 chain-front nx i zero h = absurd (omega arith)
 chain-front nx i (suc n) h = refl
 
-pub front_slot : (k : Links) (n : ℕ) (l : Lengths) (which : Which) (s : ℕ) → 0 < length_of l which → s ≡ get_or k.next (head n which) 0 → slots (pools k n l) which ≡ s ∷ drop 1 (slots (pools k n l) which)
+pub front_slot : (k : Links) (n : ℕ) (l : Lengths) (which : Which) (s : ℕ) → 0 < length_of l which → s ≡ get_or k.next (head n which) 0 →
+    slots (pools k n l) which ≡ s ∷ drop 1 (slots (pools k n l) which)
 front_slot k n l which s h e =
     let xs = along k n l which in
     let a = slots-along k n l which in

@@ -1,8 +1,9 @@
 -- Rows of places that all have an item, and rows that are being emptied.
-use Rattle.std.proofs.Common.{◌≡◌, ◌≢◌, ℕ, zero, suc, ◌+◌, ◌<◌, ◌≤◌, List, [], ◌∷◌, length, map, replicate, Option, Some, None, get_or, slice_get, refl, sym, ap, ◌∙◌, subst, arith, inl, inr, get_or-set_other, get_or-set_same}
+use Rattle.std.proofs.Common.{◌≡◌, ◌≢◌, ℕ, zero, suc, ◌+◌, ◌<◌, ◌≤◌, List, [], ◌∷◌, length, map, replicate, Option, Some, None, get_or, slice_get, refl, sym}
+use Rattle.std.proofs.Common.{ap, ◌∙◌, subst, arith, inl, inr, get_or-set_other, get_or-set_same}
 use Rattle.std.proofs.Math.ListN.{set}
 use Rattle.std.proofs.lemmas.Bool.{cases_order}
-use Rattle.am_row.specs.Places.{IsFilled}
+use Rattle.am_block_row.specs.Places.{IsFilled}
 use Rattle.am_block.specs.Places.{somes}
 
 module _ {X : Type 0} where
@@ -74,7 +75,8 @@ module _ {X : Type 0} where
       ap (λ b. b ∷ ds) (h 0 (omega arith)) ∙ ap (λ bs. c ∷ bs) (all_same n ds c (omega arith) (λ k lt. h (suc k) (omega arith)))
 
   -- once place i is empty too, the first i + 1 are
-  pub emptied-done : (cs ds : List (Option X)) (i : ℕ) → ds ≡ set cs i None → i < length cs → ((k : ℕ) → k < i → get_or cs k None ≡ None) → (k : ℕ) → k < i + 1 → get_or ds k None ≡ None
+  pub emptied-done : (cs ds : List (Option X)) (i : ℕ) → ds ≡ set cs i None → i < length cs → ((k : ℕ) → k < i → get_or cs k None ≡ None) → (k : ℕ) →
+      k < i + 1 → get_or ds k None ≡ None
   emptied-done cs ds i e lt h k b =
       let P : List (Option X) → Type 0 = λ bs. get_or bs k None ≡ None in
       subst P (sym e) (elim (cases_order k i) as (λ _. P (set cs i None)) [
@@ -83,7 +85,8 @@ module _ {X : Type 0} where
       ])
 
   -- and those behind keep their items
-  pub emptied-rest : (cs ds : List (Option X)) (i n : ℕ) → ds ≡ set cs i None → ((k : ℕ) → i ≤ k → k < n → IsFilled cs k) → (k : ℕ) → i + 1 ≤ k → k < n → IsFilled ds k
+  pub emptied-rest : (cs ds : List (Option X)) (i n : ℕ) → ds ≡ set cs i None → ((k : ℕ) → i ≤ k → k < n → IsFilled cs k) → (k : ℕ) → i + 1 ≤ k → k < n →
+      IsFilled ds k
   emptied-rest cs ds i n e h k ge lt =
       let it = h k (omega arith) lt in
       let ne : k ≢ i = omega arith in

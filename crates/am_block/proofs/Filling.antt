@@ -37,7 +37,8 @@ partly-fine n i le = record {
 pub partly-absent : (i : ℕ) → standings (partly i) i ≡ 0
 partly-absent i = let e = times-past i 0 i (omega arith) in omega arith
 
-fits : (n : ℕ) (l : Lengths) → length_of l Free ≡ n → length_of l Requests ≡ 0 → length_of l Replies ≡ 0 → length_of l InFlight ≡ 0 → length_of l Notices ≡ 0 → length_of l Received ≡ 0
+fits : (n : ℕ) (l : Lengths) → length_of l Free ≡ n → length_of l Requests ≡ 0 → length_of l Replies ≡ 0 → length_of l InFlight ≡ 0 → length_of l Notices ≡ 0 →
+    length_of l Received ≡ 0
     → (w : Which) → length_of l w ≡ length (slots (partly n) w)
 fits n l l0 l1 l2 l3 l4 l5 Free = l0 ∙ sym (length-range_with_len 0 n)
 fits n l l0 l1 l2 l3 l4 l5 Requests = l1
@@ -47,12 +48,14 @@ fits n l l0 l1 l2 l3 l4 l5 Notices = l4
 fits n l l0 l1 l2 l3 l4 l5 Received = l5
 
 -- the lengths of a block with all slots in the first list
-pub filled-sound : (k : Links) (n : ℕ) (l : Lengths) → n ≤ 128 → length_of l Free ≡ n → length_of l Requests ≡ 0 → length_of l Replies ≡ 0 → length_of l InFlight ≡ 0 → length_of l Notices ≡ 0 → length_of l Received ≡ 0
+pub filled-sound : (k : Links) (n : ℕ) (l : Lengths) → n ≤ 128 → length_of l Free ≡ n → length_of l Requests ≡ 0 → length_of l Replies ≡ 0 →
+    length_of l InFlight ≡ 0 → length_of l Notices ≡ 0 → length_of l Received ≡ 0
     → length k.next ≡ n + 6 → length k.prev ≡ n + 6 → length k.lists ≡ n + 6 → length k.descriptors ≡ n + 6
     → ((w : Which) → Ring k.next k.prev (head n w) (slots (partly n) w)) → Tagged k.lists (partly n) → IsFresh (pools k n l) n × IsSound k n l
 filled-sound k n l small l0 l1 l2 l3 l4 l5 ln lp ll ld rings tags =
     let same : (w : Which) → slots (pools k n l) w ≡ slots (partly n) w = λ w.
-    slots-along k n l w ∙ ap (λ m. chain k.next (get_or k.next (head n w) 0) m) (fits n l l0 l1 l2 l3 l4 l5 w) ∙ ring-chain k.next k.prev (head n w) (head n w) (slots (partly n) w) (rings w) in
+    slots-along k n l w ∙ ap (λ m. chain k.next (get_or k.next (head n w) 0) m) (fits n l l0 l1 l2 l3 l4 l5 w)
+    ∙ ring-chain k.next k.prev (head n w) (head n w) (slots (partly n) w) (rings w) in
     let fresh : IsFresh (pools k n l) n = record {
       free = same Free;
       requests = same Requests;
@@ -75,7 +78,8 @@ filled-sound k n l small l0 l1 l2 l3 l4 l5 ln lp ll ld rings tags =
     )
 
 -- one slot more
-pub fill-rings : (k m : Links) (n i : ℕ) → m ≡ inserted k i n Free → i < n → length k.next ≡ n + 6 → length k.prev ≡ n + 6 → ((w : Which) → Ring k.next k.prev (head n w) (slots (partly i) w))
+pub fill-rings : (k m : Links) (n i : ℕ) → m ≡ inserted k i n Free → i < n → length k.next ≡ n + 6 → length k.prev ≡ n + 6 →
+    ((w : Which) → Ring k.next k.prev (head n w) (slots (partly i) w))
     → (w : Which) → Ring m.next m.prev (head n w) (slots (partly (i + 1)) w)
 fill-rings k m n i e lt ln lp rings w =
     let r = put-rings k.next k.prev n (partly i) (partly-fine n i (omega arith)) rings ln lp i (partly-absent i) lt Free w in
@@ -87,7 +91,8 @@ fill-tags k m n i e lt ll tags =
     subst (λ (q : Links). Tagged q.lists (partly (i + 1))) (sym e) (λ w x le.
     tagged-more k.lists (partly i) i Free tags (partly-absent i) (omega arith) w x (subst (λ (zs : List ℕ). 1 ≤ times x zs) (sym (partly-more i w)) le))
 
-pub fill-lengths : (k m : Links) (n i : ℕ) → m ≡ inserted k i n Free → (length m.next ≡ length k.next) × (length m.prev ≡ length k.prev) × (length m.lists ≡ length k.lists) × (length m.descriptors ≡ length k.descriptors)
+pub fill-lengths : (k m : Links) (n i : ℕ) → m ≡ inserted k i n Free →
+    (length m.next ≡ length k.next) × (length m.prev ≡ length k.prev) × (length m.lists ≡ length k.lists) × (length m.descriptors ≡ length k.descriptors)
 fill-lengths k m n i e =
     let t = get_or k.prev n 0 in (
       ap (λ q. length q.next) e ∙ length-set (set k.next t i) i n ∙ length-set k.next t i,

@@ -1,5 +1,6 @@
 -- Nodes whose links point to nodes.
-use Rattle.std.proofs.Common.{zero, suc, ◌∷◌, replicate, ◌≡◌, ◌≢◌, ℕ, ◌<◌, List, length, map, Option, Some, None, get_or, slice_get, refl, sym, ap, ◌∙◌, subst, arith, inl, inr, get_or-set_other, get_or-set_same}
+use Rattle.std.proofs.Common.{zero, suc, ◌∷◌, replicate, ◌≡◌, ◌≢◌, ℕ, ◌<◌, List, length, map, Option, Some, None, get_or, slice_get, refl, sym, ap, ◌∙◌, subst}
+use Rattle.std.proofs.Common.{arith, inl, inr, get_or-set_other, get_or-set_same}
 use Rattle.std.proofs.Math.ListN.{set, length-set}
 use Rattle.std.proofs.Math.Seq.{map-set_same}
 use Rattle.std.proofs.lemmas.List.{map-set, get_or-map, length-map, length-replicate, get_or-replicate}
@@ -7,7 +8,7 @@ use Rattle.std.proofs.lemmas.Bool.{cases_order}
 use Rattle.std.proofs.lemmas.Option.{slice_get_within, slice_get-get_or, get_or_from_slice_get, slice_get-map}
 use Rattle.std.specs.Option.{option_map}
 use denote.RawPtr.{Ptr}
-use Rattle.am_row.specs.Places.{IsFilled}
+use Rattle.am_block_row.specs.Places.{IsFilled}
 use Rattle.am_block.specs.Places.{somes}
 use Rattle.am_block.specs.Nodes.{IsLink, AreLinked, Good, links_of}
 use Rattle.am_block.specs.declared.nodes.Node.{Node}
@@ -17,7 +18,8 @@ use Rattle.am_block.specs.declared.Descriptor.{Descriptor}
 use Rattle.am_block.proofs.Filled.{held, filled, full-set, somes-set, length-somes, somes-map, full-copies}
 
 -- another node with links that point to nodes
-pub linked-set : (at : Ptr) (n : ℕ) (ns : List Node) (i : ℕ) (x : Node) → AreLinked at n ns → IsLink at n x.prev → IsLink at n x.next → AreLinked at n (set ns i x)
+pub linked-set : (at : Ptr) (n : ℕ) (ns : List Node) (i : ℕ) (x : Node) → AreLinked at n ns → IsLink at n x.prev → IsLink at n x.next →
+    AreLinked at n (set ns i x)
 linked-set at n ns i x g kp kn k y e =
     let lt : k < length ns = (let w = slice_get_within (set ns i x) k y e in omega (arith, length-set ns i x)) in
     let here : get_or (set ns i x) k y ≡ y = get_or_from_slice_get (set ns i x) k y y e in
@@ -75,7 +77,10 @@ module _ (ns : List Node) (i : ℕ) (x : Node) (e : slice_get ns i ≡ Some x) w
       let e4 = kept (λ z. z.descriptor) y refl in
       λ j. record { next = e1 j; prev = e2 j; lists = e3 j; descriptors = e4 j }
 
-  pub links-descriptor : (d : Descriptor) → links_of (set ns i (record x { descriptor = d })) ≡ record (links_of ns) { descriptors = set (links_of ns).descriptors i d }
+  pub links-descriptor : (d : Descriptor) → links_of (set ns i (record x { descriptor = d })) ≡ record (links_of ns) {
+    descriptors =
+        set (links_of ns).descriptors i d;
+  }
   links-descriptor d =
       let y = record x { descriptor = d } in
       let e1 = kept (λ z. z.next.slot) y refl in
@@ -107,17 +112,31 @@ module _ (at : Ptr) (n : ℕ) (cs : List (Option Node)) (g : Good at n cs) (s : 
   pub list_read : slice_get (links_of (somes cs)).lists s ≡ Some x.list
   list_read = slice_get-map (λ z. z.list) (somes cs) s ∙ ap (option_map (λ z. z.list)) (node_here at n cs g s x e)
 
-  pub next_written : (k : Link) → links_of (somes (set cs s (Some (record x { next = k })))) ≡ record (links_of (somes cs)) { next = set (links_of (somes cs)).next s k.slot }
+  pub next_written : (k : Link) → links_of (somes (set cs s (Some (record x { next = k })))) ≡ record (links_of (somes cs)) {
+    next =
+        set (links_of (somes cs)).next s k.slot;
+  }
   next_written k = ap links_of (somes-set cs s (record x { next = k }) g.full) ∙ links-next (somes cs) s x (node_here at n cs g s x e) k
 
   pub all_written : (k m : Link) (l : Which) → links_of (somes (set cs s (Some (record x { prev = k; next = m; list = l }))))
-      ≡ record (links_of (somes cs)) { next = set (links_of (somes cs)).next s m.slot; prev = set (links_of (somes cs)).prev s k.slot; lists = set (links_of (somes cs)).lists s l }
-  all_written k m l = ap links_of (somes-set cs s (record x { prev = k; next = m; list = l }) g.full) ∙ links-all (somes cs) s x (node_here at n cs g s x e) k m l
+      ≡ record (links_of (somes cs)) {
+        next = set (links_of (somes cs)).next s m.slot;
+        prev = set (links_of (somes cs)).prev s k.slot;
+        lists = set (links_of (somes cs)).lists s l;
+      }
+  all_written k m l = ap links_of (somes-set cs s (record x { prev = k; next = m; list = l }) g.full)
+      ∙ links-all (somes cs) s x (node_here at n cs g s x e) k m l
 
-  pub prev_written : (k : Link) → links_of (somes (set cs s (Some (record x { prev = k })))) ≡ record (links_of (somes cs)) { prev = set (links_of (somes cs)).prev s k.slot }
+  pub prev_written : (k : Link) → links_of (somes (set cs s (Some (record x { prev = k })))) ≡ record (links_of (somes cs)) {
+    prev =
+        set (links_of (somes cs)).prev s k.slot;
+  }
   prev_written k = ap links_of (somes-set cs s (record x { prev = k }) g.full) ∙ links-prev (somes cs) s x (node_here at n cs g s x e) k
 
-  pub descriptor_written : (d : Descriptor) → links_of (somes (set cs s (Some (record x { descriptor = d })))) ≡ record (links_of (somes cs)) { descriptors = set (links_of (somes cs)).descriptors s d }
+  pub descriptor_written : (d : Descriptor) → links_of (somes (set cs s (Some (record x { descriptor = d })))) ≡ record (links_of (somes cs)) {
+    descriptors =
+        set (links_of (somes cs)).descriptors s d;
+  }
   descriptor_written d = ap links_of (somes-set cs s (record x { descriptor = d }) g.full) ∙ links-descriptor (somes cs) s x (node_here at n cs g s x e) d
 
   pub next_good : (k : Link) → IsLink at n k → Good at n (set cs s (Some (record x { next = k })))
@@ -135,7 +154,8 @@ pub seen : (at : Ptr) (n : ℕ) (cs : List (Option Node)) → Good at n cs → l
 seen at n cs g = length-map (somes cs) (λ z. z.next.slot) ∙ length-somes cs g.full ∙ g.len
 
 -- n copies of a node whose links point to nodes
-pub good_copies : (at : Ptr) (n : ℕ) (cs : List (Option Node)) (x : Node) → cs ≡ map Some (replicate n x) → length cs ≡ n → IsLink at n x.prev → IsLink at n x.next → Good at n cs
+pub good_copies : (at : Ptr) (n : ℕ) (cs : List (Option Node)) (x : Node) → cs ≡ map Some (replicate n x) → length cs ≡ n → IsLink at n x.prev →
+    IsLink at n x.next → Good at n cs
 good_copies at n cs x e l kp kn =
     let ns : somes cs ≡ replicate n x = ap somes e ∙ somes-map (replicate n x) in
     record {
@@ -147,7 +167,12 @@ good_copies at n cs x e l kp kn =
       len = l;
     }
 
-pub view-copies : (n : ℕ) (x : Node) → links_of (replicate n x) ≡ record { next = replicate n x.next.slot; prev = replicate n x.prev.slot; lists = replicate n x.list; descriptors = replicate n x.descriptor }
+pub view-copies : (n : ℕ) (x : Node) → links_of (replicate n x) ≡ record {
+  next = replicate n x.next.slot;
+  prev = replicate n x.prev.slot;
+  lists = replicate n x.list;
+  descriptors = replicate n x.descriptor;
+}
 view-copies n x =
     let e1 = map-replicate-at n x (λ z. z.next.slot) in
     let e2 = map-replicate-at n x (λ z. z.prev.slot) in

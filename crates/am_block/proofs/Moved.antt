@@ -1,5 +1,6 @@
 -- What a move leaves of the rings.
-use Rattle.std.proofs.Common.{append_assoc, append-nil, ◌≡◌, ◌≢◌, ℕ, ◌+◌, ◌<◌, ◌≤◌, ◌⊎◌, List, [], ◌∷◌, ◌++◌, length, get_or, refl, sym, ap, ◌∙◌, subst, inl, inr, arith, cond, ◌==◌, take, drop, add-one}
+use Rattle.std.proofs.Common.{append_assoc, append-nil, ◌≡◌, ◌≢◌, ℕ, ◌+◌, ◌<◌, ◌≤◌, ◌⊎◌, List, [], ◌∷◌, ◌++◌, length, get_or, refl, sym, ap, ◌∙◌, subst, inl}
+use Rattle.std.proofs.Common.{inr, arith, cond, ◌==◌, take, drop, add-one}
 use Rattle.std.proofs.Math.ListN.{set}
 use Rattle.std.proofs.lemmas.List.Sums.{sum_by-append, split_at_first, passes_at_first}
 use borrow.Author.Tests.{eqb-true}
@@ -42,7 +43,8 @@ module _ (n : ℕ) (p : Pools) (f : Fine n p) where
 
   pub fine-apart : (w : Which) → Apart (head n w ∷ slots p w)
   fine-apart w =
-      let zero_head : times (head n w) (slots p w) ≡ 0 = (let le = times-le-standings p w (head n w) in let z = f.below (head n w) (head-ge n w) in omega arith) in
+      let zero_head : times (head n w) (slots p w) ≡ 0 = (let le = times-le-standings p w (head n w) in let z = f.below (head n w) (head-ge n w) in
+      omega arith) in
       (off-absent (head n w) (slots p w) zero_head, apart-once (slots p w) (λ x. let le = times-le-standings p w x in let o = f.once x in omega arith))
 
   pub fine-off : (a w : Which) (x : ℕ) → Other a w → InRing n p a x → Off x (head n w ∷ slots p w)
@@ -99,7 +101,8 @@ cut s xs h =
     let at : get_or xs (place s xs) 0 ≡ s = eqb-true (get_or xs (place s xs) 0) s (passes_at_first (λ x. x == s) xs 0 h) in
     split_at_first (λ x. x == s) xs 0 h ∙ ap (λ g. take (place s xs) xs ++ g ∷ drop (place s xs + 1) xs) at
 
-module _ (nx pv : List ℕ) (n : ℕ) (p : Pools) (f : Fine n p) (rings : (w : Which) → Ring nx pv (head n w) (slots p w)) (ln : length nx ≡ n + 6) (lp : length pv ≡ n + 6) where
+module _ (nx pv : List ℕ) (n : ℕ) (p : Pools) (f : Fine n p) (rings : (w : Which) →
+    Ring nx pv (head n w) (slots p w)) (ln : length nx ≡ n + 6) (lp : length pv ≡ n + 6) where
   module _ (s : ℕ) (from : Which) (there : place s (slots p from) < length (slots p from)) where
     abbrev us : List ℕ
     us = take (place s (slots p from)) (slots p from)
@@ -122,11 +125,13 @@ module _ (nx pv : List ℕ) (n : ℕ) (p : Pools) (f : Fine n p) (rings : (w : W
     pub behind-in : InRing n p from (get_or nx s 0)
     behind-in =
         let e = path-next nx pv (head n from) s (head n from) us vs path in
-        subst (InRing n p from) (sym e) (let P : List ℕ → Type 0 = λ zs. (first_of vs (head n from) ≡ head n from) ⊎ (1 ≤ times (first_of vs (head n from)) zs) in
+        subst (InRing n p from) (sym e) (let P : List ℕ → Type 0 =
+        λ zs. (first_of vs (head n from) ≡ head n from) ⊎ (1 ≤ times (first_of vs (head n from)) zs) in
         subst P (sym (cut s (slots p from) there)) (first-in (head n from) s us vs))
 
     -- the rings without s
-    pub take-rings : (w : Which) → Ring (set nx (get_or pv s 0) (get_or nx s 0)) (set pv (get_or nx s 0) (get_or pv s 0)) (head n w) (slots (with_slots p from (without s (slots p from))) w)
+    pub take-rings : (w : Which) → Ring (set nx (get_or pv s 0) (get_or nx s 0)) (set pv (get_or nx s 0) (get_or pv s 0)) (head n w)
+        (slots (with_slots p from (without s (slots p from))) w)
     take-rings w =
         let nx1 = set nx (get_or pv s 0) (get_or nx s 0) in
         let pv1 = set pv (get_or nx s 0) (get_or pv s 0) in
@@ -136,13 +141,15 @@ module _ (nx pv : List ℕ) (n : ℕ) (p : Pools) (f : Fine n p) (rings : (w : W
               let b1 = in-bound n p f from (get_or pv s 0) before-in in
               let b2 = in-bound n p f from (get_or nx s 0) behind-in in
               let joined : us ++ vs ≡ out = ap (λ m. us ++ drop m (slots p from)) (add-one (place s (slots p from))) in
-              let a : Apart (head n from ∷ (us ++ s ∷ vs)) = subst (λ (zs : List ℕ). Apart (head n from ∷ zs)) (cut s (slots p from) there) (fine-apart n p f from) in
+              let a : Apart (head n from ∷ (us ++ s ∷ vs)) = subst (λ (zs : List ℕ). Apart (head n from ∷ zs)) (cut s (slots p from) there)
+              (fine-apart n p f from) in
               let r : Ring nx1 pv1 (head n from) (us ++ vs) = ring-take nx pv (head n from) s us vs a here (omega arith) (omega arith) in
               subst (λ (u : Which). Ring nx1 pv1 (head n u) (slots (with_slots p from out) u)) e
               (subst (λ (zs : List ℕ). Ring nx1 pv1 (head n from) zs) (joined ∙ sym (slots-same p from out)) r)
           | inr o ↦
               subst (λ (zs : List ℕ). Ring nx1 pv1 (head n w) zs) (sym (o.kept p out))
-              (ring-frame nx pv (get_or pv s 0) (get_or nx s 0) (get_or nx s 0) (get_or pv s 0) (head n w) (slots p w) (fine-off n p f from w (get_or pv s 0) o before-in) (fine-off n p f from w (get_or nx s 0) o behind-in) (rings w))
+              (ring-frame nx pv (get_or pv s 0) (get_or nx s 0) (get_or nx s 0) (get_or pv s 0) (head n w) (slots p w)
+              (fine-off n p f from w (get_or pv s 0) o before-in) (fine-off n p f from w (get_or nx s 0) o behind-in) (rings w))
         ]
 
   module _ (s : ℕ) (absent : standings p s ≡ 0) (lt : s < n) (to : Which) where
@@ -168,8 +175,10 @@ module _ (nx pv : List ℕ) (n : ℕ) (p : Pools) (f : Fine n p) (rings : (w : W
           | inl e ↦
               let b = in-bound n p f to t tail-in in
               let b2 = head-lt n to in
-              let r = ring-put nx pv h s (slots p to) (fine-apart n p f to) (fine-absent n p f s to absent lt) (rings to) (omega arith) (omega arith) (omega arith) (omega arith) in
-              subst (λ (u : Which). Ring nx2 pv2 (head n u) (slots (with_slots p to more) u)) e (subst (λ (zs : List ℕ). Ring nx2 pv2 h zs) (sym (slots-same p to more)) r)
+              let r = ring-put nx pv h s (slots p to) (fine-apart n p f to) (fine-absent n p f s to absent lt) (rings to) (omega arith) (omega arith)
+              (omega arith) (omega arith) in
+              subst (λ (u : Which). Ring nx2 pv2 (head n u) (slots (with_slots p to more) u)) e
+              (subst (λ (zs : List ℕ). Ring nx2 pv2 h zs) (sym (slots-same p to more)) r)
           | inr o ↦
               let os = fine-absent n p f s w absent lt in
               let r1 = ring-frame nx pv t s s t (head n w) (slots p w) (fine-off n p f to w t o tail-in) os (rings w) in

@@ -1,5 +1,6 @@
 -- What a move leaves of a block.
-use Rattle.std.proofs.Common.{◌↔◌, Option, None, Some, sym, subst, suc, not, ◌||◌, add-one, ◌≡◌, ℕ, ◌+◌, ◌<◌, ◌≤◌, ◌==◌, Bool, true, false, cond, List, [], ◌∷◌, ◌++◌, length, take, drop, refl, ap, ◌∙◌, arith, length-append, get_or}
+use Rattle.std.proofs.Common.{◌↔◌, Option, None, Some, sym, subst, suc, not, ◌||◌, add-one, ◌≡◌, ℕ, ◌+◌, ◌<◌, ◌≤◌, ◌==◌, Bool, true, false, cond, List, [], ◌∷◌}
+use Rattle.std.proofs.Common.{◌++◌, length, take, drop, refl, ap, ◌∙◌, arith, length-append, get_or}
 use Rattle.std.proofs.lemmas.List.Sums.{sum_by-cons, sum_by-append, split_at_first, passes_at_first}
 use Rattle.std.proofs.Math.ListN.{length-set}
 use Rattle.std.proofs.lemmas.List.Edits.{length-remove}
@@ -10,7 +11,8 @@ use Rattle.am_block.specs.declared.List.TheVariants.{Free, Requests, Replies, In
 use Rattle.std.specs.Option.{option_map}
 use Rattle.std.proofs.lemmas.Option.{slice_get_within, gets}
 use Rattle.am_block.specs.declared.Slot.{Slot}
-use Rattle.am_block.specs.Pools.{behind, IsLast, Pools, slots, with_slots, size, times, standings, total, IsBlock, stands_in, home, place, without, moved, with_descriptor}
+use Rattle.am_block.specs.Pools.{behind, IsLast, Pools, slots, with_slots, size, times, standings, total, IsBlock, stands_in, home, place, without, moved}
+use Rattle.am_block.specs.Pools.{with_descriptor}
 
 pub size-with_slots : (p : Pools) (l : Which) (xs : List ℕ) → size (with_slots p l xs) ≡ size p
 size-with_slots p Free xs = refl
@@ -123,7 +125,8 @@ IsBlock-moved p from s to b h =
     }
 
 -- while a slot is out, each list is shorter than the size
-pub room_left : (p : Pools) (from : Which) (s : ℕ) (to : Which) → IsBlock p → place s (slots p from) < length (slots p from) → length (slots (with_slots p from (without s (slots p from))) to) < size p
+pub room_left : (p : Pools) (from : Which) (s : ℕ) (to : Which) → IsBlock p → place s (slots p from) < length (slots p from) →
+    length (slots (with_slots p from (without s (slots p from))) to) < size p
 room_left p from s to b h =
     let a1 = total-with_slots p from (without s (slots p from)) in
     let a2 = length-without s (slots p from) h in
@@ -134,7 +137,16 @@ room_left p from s to b h =
 pub home-stands : (p : Pools) (s : ℕ) → IsBlock p → s < size p → stands_in s (slots p (home p s)) ≡ true
 unfolding home
 home-stands p s b h =
-    grind (arith, b.once s h, times-none s p.free, times-none s p.requests, times-none s p.replies, times-none s p.in_flight, times-none s p.notices, times-none s p.received)
+    grind (
+      arith,
+      b.once s h,
+      times-none s p.free,
+      times-none s p.requests,
+      times-none s p.replies,
+      times-none s p.in_flight,
+      times-none s p.notices,
+      times-none s p.received,
+    )
 
 -- another descriptor at a slot leaves a block
 pub IsBlock-with_descriptor : (p : Pools) (s : ℕ) (d : Descriptor) → IsBlock p → IsBlock (with_descriptor p s d)
@@ -158,7 +170,8 @@ none_behind s xs (Some t) there is =
     (λ none. absurd (cc), λ last. absurd (omega arith))
 
 -- behind a slot of a block there is none exactly where it is the last of its list
-pub behind_none : (p v : Pools) (s : ℕ) (r : Option Slot) → IsBlock p → p ≡ v → s < size v → option_map (λ t. t.0) r ≡ behind s (slots v (home v s)) → (r ≡ None) ↔ IsLast s (slots v (home v s))
+pub behind_none : (p v : Pools) (s : ℕ) (r : Option Slot) → IsBlock p → p ≡ v → s < size v → option_map (λ t. t.0) r ≡ behind s (slots v (home v s)) →
+    (r ≡ None) ↔ IsLast s (slots v (home v s))
 behind_none p v s r b e =
     let P : Pools → Type 0 = λ w. s < size w → option_map (λ t. t.0) r ≡ behind s (slots w (home w s)) → (r ≡ None) ↔ IsLast s (slots w (home w s)) in
     subst P e (λ h is. none_behind s (slots p (home p s)) r (home-there p s b h) is)

@@ -1,5 +1,6 @@
 -- What taking out and putting in leave of a ring.
-use Rattle.std.proofs.Common.{append_assoc, append-nil, ◌≡◌, ◌≢◌, ℕ, ◌<◌, List, [], ◌∷◌, ◌++◌, length, get_or, refl, sym, ap, ◌∙◌, subst, arith, get_or-set_other, get_or-set_same}
+use Rattle.std.proofs.Common.{append_assoc, append-nil, ◌≡◌, ◌≢◌, ℕ, ◌<◌, List, [], ◌∷◌, ◌++◌, length, get_or, refl, sym, ap, ◌∙◌, subst, arith}
+use Rattle.std.proofs.Common.{get_or-set_other, get_or-set_same}
 use Rattle.std.proofs.Math.ListN.{set, length-set}
 use Rattle.am_block.specs.Ring.{Path, Ring, chain, Off, Apart}
 
@@ -39,10 +40,15 @@ TailOff p [] h = Unit {0}
 TailOff p (v ∷ vs) h = SourcesOff p v (vs ++ h ∷ []) × Off v (vs ++ h ∷ [])
 
 -- the number s is taken out of a path
-taken : (nx pv : List ℕ) (a s h p q : ℕ) (us vs : List ℕ) → Path nx pv a (us ++ s ∷ (vs ++ h ∷ [])) → p ≡ last_of a us → q ≡ first_of vs h → p < length nx → q < length pv
+taken : (nx pv : List ℕ) (a s h p q : ℕ) (us vs : List ℕ) → Path nx pv a (us ++ s ∷ (vs ++ h ∷ [])) → p ≡ last_of a us → q ≡ first_of vs h → p < length nx →
+    q < length pv
     → SourcesOff p a us → Off q us → TailOff p vs h → Path (set nx p q) (set pv q p) a (us ++ (vs ++ h ∷ []))
-taken nx pv a s h p q [] [] k ep eq lp lq c1 c2 c3 =
-    (ap (λ x. get_or (set nx p q) x 0) (sym ep) ∙ get_or-set_same nx p q 0 lp ∙ eq, ap (λ x. get_or (set pv q p) x 0) (sym eq) ∙ get_or-set_same pv q p 0 lq ∙ ep, tt)
+taken nx pv a s h p q [] [] k ep eq lp lq c1 c2 c3 = (
+  ap (λ x. get_or (set nx p q) x 0) (sym ep) ∙ get_or-set_same nx p q 0 lp ∙ eq,
+  ap (λ x. get_or (set pv q p) x 0) (sym eq) ∙ get_or-set_same pv q p 0 lq
+      ∙ ep,
+  tt,
+)
 taken nx pv a s h p q [] (v ∷ vs) k ep eq lp lq c1 c2 c3 =
     let P : ℕ → Type 0 = λ x. Off x (vs ++ h ∷ []) in (
       ap (λ x. get_or (set nx p q) x 0) (sym ep) ∙ get_or-set_same nx p q 0 lp ∙ eq,
@@ -53,7 +59,8 @@ taken nx pv a s h p q (u ∷ us) vs k ep eq lp lq c1 c2 c3 =
     (get_or-set_other nx p a q 0 c1.0 ∙ k.0, get_or-set_other pv q u p 0 c2.0 ∙ k.1, taken nx pv u s h p q us vs k.2 ep eq lp lq c1.1 c2.1 c3)
 
 -- the number s is put at the end of a path
-put : (nx pv : List ℕ) (a s h t : ℕ) (xs : List ℕ) → Path nx pv a (xs ++ h ∷ []) → t ≡ last_of a xs → t < length nx → s < length nx → s < length pv → h < length pv
+put : (nx pv : List ℕ) (a s h t : ℕ) (xs : List ℕ) → Path nx pv a (xs ++ h ∷ []) → t ≡ last_of a xs → t < length nx → s < length nx → s < length pv →
+    h < length pv
     → SourcesOff t a xs → a ≢ s → Off s xs → Off h xs → h ≢ s → Path (set (set nx t s) s h) (set (set pv s t) h s) a (xs ++ s ∷ h ∷ [])
 put nx pv a s h t [] k et lt ls ls' lh c1 n c2 c3 hs =
     let sh : s ≢ h = λ e. hs (sym e) in
@@ -127,7 +134,8 @@ tail-off h s us (v ∷ vs) a =
     (sources-off (last_of h us) v h vs p.1.0 p.1.1, off-append v vs (h ∷ []) t.1.0 ((λ e. n (sym e)), tt))
 
 -- a ring loses s
-pub ring-take : (nx pv : List ℕ) (h s : ℕ) (us vs : List ℕ) → Apart (h ∷ (us ++ s ∷ vs)) → Ring nx pv h (us ++ s ∷ vs) → get_or pv s 0 < length nx → get_or nx s 0 < length pv
+pub ring-take : (nx pv : List ℕ) (h s : ℕ) (us vs : List ℕ) → Apart (h ∷ (us ++ s ∷ vs)) → Ring nx pv h (us ++ s ∷ vs) → get_or pv s 0 < length nx →
+    get_or nx s 0 < length pv
     → Ring (set nx (get_or pv s 0) (get_or nx s 0)) (set pv (get_or nx s 0) (get_or pv s 0)) h (us ++ vs)
 ring-take nx pv h s us vs a r lp lq =
     let k : Path nx pv h (us ++ s ∷ (vs ++ h ∷ [])) = subst (λ (zs : List ℕ). Path nx pv h zs) (append_assoc us (s ∷ vs) (h ∷ [])) r in
@@ -146,7 +154,8 @@ pub ring-frame : (nx pv : List ℕ) (p v q w h : ℕ) (xs : List ℕ) → Off p 
 ring-frame nx pv p v q w h xs op oq r = frame nx pv p v q w h (xs ++ h ∷ []) (sources-off p h h xs op.0 op.1) (off-append q xs (h ∷ []) oq.1 (oq.0, tt)) r
 
 -- a ring gets s at its end
-pub ring-put : (nx pv : List ℕ) (h s : ℕ) (xs : List ℕ) → Apart (h ∷ xs) → Off s (h ∷ xs) → Ring nx pv h xs → get_or pv h 0 < length nx → s < length nx → s < length pv → h < length pv
+pub ring-put : (nx pv : List ℕ) (h s : ℕ) (xs : List ℕ) → Apart (h ∷ xs) → Off s (h ∷ xs) → Ring nx pv h xs → get_or pv h 0 < length nx → s < length nx →
+    s < length pv → h < length pv
     → Ring (set (set nx (get_or pv h 0) s) s h) (set (set pv s (get_or pv h 0)) h s) h (xs ++ s ∷ [])
 ring-put nx pv h s xs a o r lt ls ls' lh =
     let t = get_or pv h 0 in

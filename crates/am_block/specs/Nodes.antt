@@ -1,7 +1,7 @@
 -- The nodes of a block.
 use Rattle.std.specs.Prelude.{◌≡◌, ℕ, ◌<◌, ◌≤◌, List, length, map, slice_get, Option, Some}
 use Rattle.am_block.specs.Places.{somes}
-use Rattle.am_row.specs.Ownership.{place_at}
+use Rattle.am_block_row.specs.Ownership.{place_at}
 use Rattle.am_block.specs.Links.{Links}
 use Rattle.am_block.specs.declared.nodes.Node.{Node}
 use Rattle.am_block.specs.declared.nodes.Link.{Link}

@@ -5,7 +5,7 @@ ghost use Rattle.std.specs.Borrow.{sem};
 ghost use Rattle.am_block.specs.Links.{joined, inserted, closed};
 
 use crate::{Descriptor, List};
-use am_row::{Base, Deed, Row, Spot, allocate, deallocate};
+use am_block_row::{Base, Deed, Row, Spot, allocate, deallocate};
 use std::alloc::{AllocError, Global};
 use std::marker::Model;
 

@@ -1,5 +1,6 @@
 -- The ends of the other channels, one call more.
-use Rattle.std.proofs.Common.{◌≡◌, ◌≢◌, ℕ, ◌+◌, ◌==◌, Bool, true, false, ◌||◌, ◌&&◌, List, [], ◌∷◌, ◌++◌, Option, Some, None, refl, sym, ap, ◌∙◌, subst, arith, eqb-true, if◌then◌else◌}
+use Rattle.std.proofs.Common.{◌≡◌, ◌≢◌, ℕ, ◌+◌, ◌==◌, Bool, true, false, ◌||◌, ◌&&◌, List, [], ◌∷◌, ◌++◌, Option, Some, None, refl, sym, ap, ◌∙◌, subst, arith}
+use Rattle.std.proofs.Common.{eqb-true, if◌then◌else◌}
 use Rattle.std.proofs.lemmas.Bool.{and_parts}
 use Rattle.am_lemmas.proofs.Bools.{and_second_fails}
 use Rattle.am_names.specs.Names.{same_node}
@@ -57,23 +58,35 @@ elsewhere_counted c log e x is elsewhere =
     no_more n = omega arith
 
 -- an entry with this event and this outcome
-at : (c : Channel) (x : Entry) (event : Event) (outcome : Outcome) → x.event ≡ event → x.outcome ≡ outcome → ((stamp : ℕ) → IsElsewhere c (record { stamp = stamp; event = event; outcome = outcome })) → IsElsewhere c x
+at : (c : Channel) (x : Entry) (event : Event) (outcome : Outcome) → x.event ≡ event → x.outcome ≡ outcome →
+    ((stamp : ℕ) → IsElsewhere c (record { stamp = stamp; event = event; outcome = outcome })) → IsElsewhere c x
 at c x event outcome e o is = subst (λ (y : Entry). IsElsewhere c y) (entry_is x event outcome e o) (is x.stamp)
 
-receipt_elsewhere : (c d : Channel) (number seq attempt : ℕ) (r : Received) (x : Entry) → d ≢ c → x.event ≡ Events.Receive d.node d.peer number → x.outcome ≡ Out.Received d.number seq attempt r → IsElsewhere c x
+receipt_elsewhere : (c d : Channel) (number seq attempt : ℕ) (r : Received) (x : Entry) → d ≢ c → x.event ≡ Events.Receive d.node d.peer number →
+    x.outcome ≡ Out.Received d.number seq attempt r → IsElsewhere c x
 receipt_elsewhere c d number seq attempt r x other event outcome =
     at c x (Events.Receive d.node d.peer number) (Out.Received d.number seq attempt r) event outcome
-    (λ stamp. record { binds = refl; sends = refl; frees = and_second_fails (frees_by r) (same_channel c d.node d.peer d.number) (apart c d other); decides = and_second_fails (decides_by r) (same_channel c d.node d.peer d.number) (apart c d other) })
+    (λ stamp. record {
+      binds = refl;
+      sends = refl;
+      frees = and_second_fails (frees_by r) (same_channel c d.node d.peer d.number) (apart c d other);
+      decides = and_second_fails (decides_by r) (same_channel c d.node d.peer d.number) (apart c d other);
+    })
 
 time_out_elsewhere : (c d : Channel) (b : Bound) (timed : TimedOut) (x : Entry) → d ≢ c → TellsTimedOut d b timed x → IsElsewhere c x
 time_out_elsewhere c d b (Times.Resend sent) x other tells =
     at c x (Events.Expire d.node d.peer d.number) (Out.Sent b.message d.peer d.number sent.seq sent.attempt tells.number) tells.event tells.outcome
     (λ stamp. record { binds = refl; sends = apart c d other; frees = refl; decides = refl })
 time_out_elsewhere c d b (Times.GaveUp gone) x other tells =
-    at c x (Events.Expire d.node d.peer d.number) (if tells.is_answered then Out.Delivered gone.message.serial else Out.Unknown gone.message.serial) tells.event tells.outcome
+    at c x (Events.Expire d.node d.peer d.number) (if tells.is_answered then Out.Delivered gone.message.serial else Out.Unknown gone.message.serial) tells.event
+    tells.outcome
     (by_test tells.is_answered)
   where
-    by_test : (t : Bool) → (stamp : ℕ) → IsElsewhere c (record { stamp = stamp; event = Events.Expire d.node d.peer d.number; outcome = if t then Out.Delivered gone.message.serial else Out.Unknown gone.message.serial })
+    by_test : (t : Bool) → (stamp : ℕ) → IsElsewhere c (record {
+      stamp = stamp;
+      event = Events.Expire d.node d.peer d.number;
+      outcome = if t then Out.Delivered gone.message.serial else Out.Unknown gone.message.serial;
+    })
     by_test true stamp = record { binds = refl; sends = refl; frees = apart c d other; decides = refl }
     by_test false stamp = record { binds = refl; sends = refl; frees = apart c d other; decides = refl }
 
@@ -90,7 +103,9 @@ call_elsewhere c d e (TimeOut tries) x other tells = expiry_elsewhere c d tries 
 call_elsewhere c d e (Answer p) x other tells =
     receipt_elsewhere c d tells.number p.seq p.attempt (settled_as tells.limit tells.bounces (settled e.sending p)) x other tells.event tells.outcome
 call_elsewhere c d e (Arrive p v) x other tells =
-    receipt_elsewhere c d tells.number p.seq p.attempt (arrived_as p.message tells.answer v (arrival e.receiving p.seq p.attempt)) x other tells.event tells.outcome
+    receipt_elsewhere c d tells.number p.seq p.attempt (arrived_as p.message tells.answer v (arrival e.receiving p.seq p.attempt)) x other tells.event
+    tells.outcome
 
-pub call_apart : (c d : Channel) (log : List Entry) (e there : Ends) (call : Call) (x : Entry) → AreCounted c log e → Tells d there call x → d ≢ c → AreCounted c (log ++ x ∷ []) e
+pub call_apart : (c d : Channel) (log : List Entry) (e there : Ends) (call : Call) (x : Entry) → AreCounted c log e → Tells d there call x → d ≢ c →
+    AreCounted c (log ++ x ∷ []) e
 call_apart c d log e there call x is tells other = elsewhere_counted c log e x is (call_elsewhere c d there call x other tells)

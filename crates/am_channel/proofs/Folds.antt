@@ -18,10 +18,12 @@ new_counted c = record { seq = refl; bound = refl; attempt = tt; mark = refl }
 abbrev AllCounted : List Entry → (Channel → Ends) → Type 0
 AllCounted log ends = (c : Channel) → AreCounted c log (ends c)
 
-one_more : (log : List Entry) (ends : Channel → Ends) (t : Told) → AllCounted log ends → Tells t.channel (ends t.channel) t.call t.entry → AllCounted (log ++ t.entry ∷ []) (changed ends t)
+one_more : (log : List Entry) (ends : Channel → Ends) (t : Told) → AllCounted log ends → Tells t.channel (ends t.channel) t.call t.entry →
+    AllCounted (log ++ t.entry ∷ []) (changed ends t)
 one_more log ends t are tells c = by_test (same_channel c t.channel.node t.channel.peer t.channel.number) refl
   where
-    by_test : (b : Bool) → same_channel c t.channel.node t.channel.peer t.channel.number ≡ b → AreCounted c (log ++ t.entry ∷ []) (if b then after (ends c) t.call else ends c)
+    by_test : (b : Bool) → same_channel c t.channel.node t.channel.peer t.channel.number ≡ b →
+        AreCounted c (log ++ t.entry ∷ []) (if b then after (ends c) t.call else ends c)
     by_test true is =
         let here : t.channel ≡ c = same_channel-is c t.channel is in
         call_counted c log (ends c) t.call t.entry (are c) (subst (λ (d : Channel). Tells d (ends d) t.call t.entry) here tells)
@@ -29,7 +31,8 @@ one_more log ends t are tells c = by_test (same_channel c t.channel.node t.chann
         call_apart c t.channel log (ends c) (ends t.channel) t.call t.entry (are c) tells
         (λ here. true≢false (sym (subst (λ (d : Channel). same_channel c d.node d.peer d.number ≡ true) (sym here) (same_channel-refl c)) ∙ is))
 
-counted_from : (log : List Entry) (ends : Channel → Ends) (told : List Told) → AllCounted log ends → AreMade ends told → AllCounted (log ++ entries_of told) (ends_after ends told)
+counted_from : (log : List Entry) (ends : Channel → Ends) (told : List Told) → AllCounted log ends → AreMade ends told →
+    AllCounted (log ++ entries_of told) (ends_after ends told)
 counted_from log ends [] are made c = subst (λ (xs : List Entry). AreCounted c xs (ends c)) (sym (append-nil log)) (are c)
 counted_from log ends (t ∷ told) are made c =
     subst (λ (xs : List Entry). AreCounted c xs (ends_after (changed ends t) told c))

@@ -1,7 +1,8 @@
 -- Of all answers for a text just one is right, apart from want of memory.
-use Rattle.std.proofs.Common.{◌≡◌, ◌⊎◌, ℕ, ◌<◌, ◌^◌, List, length, take, drop, Option, Some, None, Result, Ok, Err, refl, sym, ap, ◌∙◌, subst, inl, inr, ⊎_elim, arith, length-drop}
+use Rattle.std.proofs.Common.{◌≡◌, ◌⊎◌, ℕ, ◌<◌, ◌^◌, List, length, take, drop, Option, Some, None, Result, Ok, Err, refl, sym, ap, ◌∙◌, subst, inl, inr, ⊎_elim}
+use Rattle.std.proofs.Common.{arith, length-drop}
 use Rattle.am_lexer.specs.Text.{lines_of}
-use Rattle.am_report.specs.Report.{report}
+use Rattle.am_office_report.specs.Report.{report}
 use Rattle.am_scenario_types.specs.declared.parts.Form.{Form}
 use Rattle.am_scenario_types.specs.declared.faults.ScenarioFault.{ScenarioFault}
 use Rattle.am_scenario_types.specs.Lists.{ScenarioLists}
@@ -32,7 +33,8 @@ ReportView form s bytes answer =
     ((count_of (lines_of bytes) ≡ None) × (answer ≡ Err (Answers.Fault 2 Whats.Form)))
     ⊎ (StandsAt form s bytes answer ⊎ (answer ≡ Err Answers.NoMemory))
 
-stopped_view : (form : Form) (s : ScenarioLists) (bytes : List ℕ) (count number : ℕ) (why : LineStop) → IsReason why → count_of (lines_of bytes) ≡ Some count → StopsAtLine form s count (drop 2 (lines_of bytes)) number why → ReportView form s bytes (Err (at_line number why))
+stopped_view : (form : Form) (s : ScenarioLists) (bytes : List ℕ) (count number : ℕ) (why : LineStop) → IsReason why → count_of (lines_of bytes) ≡ Some count →
+    StopsAtLine form s count (drop 2 (lines_of bytes)) number why → ReportView form s bytes (Err (at_line number why))
 stopped_view form s bytes count number why reason is p =
     inr (inl (record {
       count = count;
@@ -40,10 +42,22 @@ stopped_view form s bytes count number why reason is p =
       journal = p.journal;
       left = _;
       reached = p.reached;
-      ending = inl (p.more, inr (record { line = p.line; more = p.left; left' = refl; why = why; reason = reason; stops = p.stops; answer' = ap (λ (n : ℕ). Err (at_line n why)) p.number' }));
+      ending = inl (
+        p.more,
+        inr (record {
+          line = p.line;
+          more = p.left;
+          left' = refl;
+          why = why;
+          reason = reason;
+          stops = p.stops;
+          answer' = ap (λ (n : ℕ). Err (at_line n why)) p.number';
+        }),
+      );
     }))
 
-lacking_view : (form : Form) (s : ScenarioLists) (bytes : List ℕ) (count number : ℕ) → count_of (lines_of bytes) ≡ Some count → LacksLine form s count (drop 2 (lines_of bytes)) number → ReportView form s bytes (Err (Answers.Fault number Whats.Form))
+lacking_view : (form : Form) (s : ScenarioLists) (bytes : List ℕ) (count number : ℕ) → count_of (lines_of bytes) ≡ Some count →
+    LacksLine form s count (drop 2 (lines_of bytes)) number → ReportView form s bytes (Err (Answers.Fault number Whats.Form))
 lacking_view form s bytes count number is p =
     inr (inl (record {
       count = count;
@@ -54,7 +68,8 @@ lacking_view form s bytes count number is p =
       ending = inl (p.more, inl (refl, ap (λ (n : ℕ). Err (Answers.Fault n Whats.Form)) p.number'));
     }))
 
-report_view : (form : Form) (s : ScenarioLists) (bytes : List ℕ) (answer : Answer) → FitsMemory bytes → AnswersReport form s bytes answer → ReportView form s bytes answer
+report_view : (form : Form) (s : ScenarioLists) (bytes : List ℕ) (answer : Answer) → FitsMemory bytes → AnswersReport form s bytes answer →
+    ReportView form s bytes answer
 report_view form s bytes (Ok x) fits p =
     let ids = ids_of s in
     let text : length bytes ≡ length (report ids p.journal) = ap length p.text in
@@ -71,7 +86,8 @@ report_view form s bytes (Err (Answers.Fault number Whats.Form)) fits (inl p) = 
 report_view form s bytes (Err (Answers.Fault number Whats.Form)) fits (inr p) =
     ⊎_elim
     (λ (q : LacksLine form s p.count (drop 2 (lines_of bytes)) number). lacking_view form s bytes p.count number p.count' q)
-    (λ (q : StopsAtLine form s p.count (drop 2 (lines_of bytes)) number (Stops.What Whats.Form)). stopped_view form s bytes p.count number (Stops.What Whats.Form) tt p.count' q)
+    (λ (q : StopsAtLine form s p.count (drop 2 (lines_of bytes)) number (Stops.What Whats.Form)). stopped_view form s bytes p.count number
+    (Stops.What Whats.Form) tt p.count' q)
     p.stops
 report_view form s bytes (Err (Answers.Fault number Whats.Follows)) fits (inl p) =
     inr (inl (record {
@@ -82,9 +98,12 @@ report_view form s bytes (Err (Answers.Fault number Whats.Follows)) fits (inl p)
       reached = p.has.reached;
       ending = inr (refl, inl (p.early, ap (λ (n : ℕ). Err (Answers.Fault n Whats.Follows)) p.number'));
     }))
-report_view form s bytes (Err (Answers.Fault number Whats.Follows)) fits (inr p) = stopped_view form s bytes p.count number (Stops.What Whats.Follows) tt p.count' p.stops
-report_view form s bytes (Err (Answers.Fault number (Whats.NotEnabled condition))) fits p = stopped_view form s bytes p.count number (Stops.What (Whats.NotEnabled condition)) tt p.count' p.stops
-report_view form s bytes (Err (Answers.Fault number Whats.Outcome)) fits p = stopped_view form s bytes p.count number (Stops.What Whats.Outcome) tt p.count' p.stops
+report_view form s bytes (Err (Answers.Fault number Whats.Follows)) fits (inr p) =
+    stopped_view form s bytes p.count number (Stops.What Whats.Follows) tt p.count' p.stops
+report_view form s bytes (Err (Answers.Fault number (Whats.NotEnabled condition))) fits p =
+    stopped_view form s bytes p.count number (Stops.What (Whats.NotEnabled condition)) tt p.count' p.stops
+report_view form s bytes (Err (Answers.Fault number Whats.Outcome)) fits p =
+    stopped_view form s bytes p.count number (Stops.What Whats.Outcome) tt p.count' p.stops
 report_view form s bytes (Err (Answers.Fault number Whats.Tail)) fits p =
     inr (inl (record {
       count = length p.journal;
@@ -101,7 +120,8 @@ report_view form s bytes (Err (Answers.Scenario fault)) fits p = absurd p.stops
 no_count : (n : ℕ) (o : Option ℕ) → o ≡ None → o ≡ Some n → ⊥
 no_count n o e f = cc
 
-report_once : (form : Form) (s : ScenarioLists) → IsLawful s → (bytes : List ℕ) (one other : Answer) → ReportView form s bytes one → ReportView form s bytes other → AreSame one other
+report_once : (form : Form) (s : ScenarioLists) → IsLawful s → (bytes : List ℕ) (one other : Answer) → ReportView form s bytes one →
+    ReportView form s bytes other → AreSame one other
 report_once form s lawful bytes one other (inr (inr p)) q = inr (inl p)
 report_once form s lawful bytes one other (inl p) (inr (inr q)) = inr (inr q)
 report_once form s lawful bytes one other (inr (inl p)) (inr (inr q)) = inr (inr q)
@@ -134,11 +154,13 @@ same_scenario a b r e f = cc
 not_both : (a : ScenarioLists) (b : ScenarioFault) (r : Result ScenarioLists ScenarioFault) → r ≡ Ok a → r ≡ Err b → ⊥
 not_both a b r e f = cc
 
-parts_once : SpellsLawful → (form : Form) (front bytes : List ℕ) (one other : Answer) → FitsMemory bytes → PartsView form front bytes one → PartsView form front bytes other → AreSame one other
+parts_once : SpellsLawful → (form : Form) (front bytes : List ℕ) (one other : Answer) → FitsMemory bytes → PartsView form front bytes one →
+    PartsView form front bytes other → AreSame one other
 parts_once laws form front bytes one other fits (inr (inr p)) q = inr (inl p)
 parts_once laws form front bytes one other fits (inl p) (inr (inr q)) = inr (inr q)
 parts_once laws form front bytes one other fits (inr (inl p)) (inr (inr q)) = inr (inr q)
-parts_once laws form front bytes one other fits (inl p) (inl q) = inl (p.2 ∙ ap (λ (f : ScenarioFault). Err (Answers.Scenario f)) (same_fault p.0 q.0 (grammar form front) p.1 q.1) ∙ sym q.2)
+parts_once laws form front bytes one other fits (inl p) (inl q) = inl (p.2
+    ∙ ap (λ (f : ScenarioFault). Err (Answers.Scenario f)) (same_fault p.0 q.0 (grammar form front) p.1 q.1) ∙ sym q.2)
 parts_once laws form front bytes one other fits (inl p) (inr (inl q)) = absurd (not_both q.0 p.0 (grammar form front) q.1 p.1)
 parts_once laws form front bytes one other fits (inr (inl p)) (inl q) = absurd (not_both p.0 q.0 (grammar form front) p.1 q.1)
 parts_once laws form front bytes one other fits (inr (inl p)) (inr (inl q)) =
@@ -169,18 +191,21 @@ scenario_once : (form : Form) (text : List ℕ) (one other : Answer) → Scenari
 scenario_once form text one other (inr (inr p)) q = inr (inl p)
 scenario_once form text one other (inl p) (inr (inr q)) = inr (inr q)
 scenario_once form text one other (inr (inl p)) (inr (inr q)) = inr (inr q)
-scenario_once form text one other (inl p) (inl q) = inl (p.2 ∙ ap (λ (f : ScenarioFault). Err (Answers.Scenario f)) (same_fault p.0 q.0 (grammar form text) p.1 q.1) ∙ sym q.2)
+scenario_once form text one other (inl p) (inl q) = inl (p.2 ∙ ap (λ (f : ScenarioFault). Err (Answers.Scenario f))
+    (same_fault p.0 q.0 (grammar form text) p.1 q.1) ∙ sym q.2)
 scenario_once form text one other (inl p) (inr (inl q)) = absurd (not_both q.0 p.0 (grammar form text) q.1 p.1)
 scenario_once form text one other (inr (inl p)) (inl q) = absurd (not_both p.0 q.0 (grammar form text) p.1 q.1)
 scenario_once form text one other (inr (inl p)) (inr (inl q)) = inl (p.2 ∙ sym q.2)
 
 -- ---- every text
 
-at_once : SpellsLawful → (form : Form) (text : List ℕ) (at : Option ℕ) (one other : Answer) → FitsMemory text → AnswersAt form text at one → AnswersAt form text at other → AreSame one other
+at_once : SpellsLawful → (form : Form) (text : List ℕ) (at : Option ℕ) (one other : Answer) → FitsMemory text → AnswersAt form text at one →
+    AnswersAt form text at other → AreSame one other
 at_once laws form text None one other fits p q = scenario_once form text one other (scenario_view form text one p) (scenario_view form text other q)
 at_once laws form text (Some place) one other fits p q =
     let less : FitsMemory (drop place text) = omega (arith, fits, length-drop place text) in
-    parts_once laws form (take place text) (drop place text) one other less (parts_view form (take place text) (drop place text) one p) (parts_view form (take place text) (drop place text) other q)
+    parts_once laws form (take place text) (drop place text) one other less (parts_view form (take place text) (drop place text) one p)
+    (parts_view form (take place text) (drop place text) other q)
 
 pub one_answer : SpellsLawful → OneAnswer
 one_answer laws form text one fits p = λ other q. at_once laws form text (place_of text) one other fits p q
@@ -205,7 +230,8 @@ apart stop one other is passed reason (inl same) = stop_of_yes stop other (sym s
 apart stop one other is passed reason (inr (inl want)) = reason (one_stop stop Answers.NoMemory one is want)
 apart stop one other is passed reason (inr (inr want)) = stop_of_yes Answers.NoMemory other want passed
 
-never_both : SpellsLawful → (form : Form) (text : List ℕ) (stop : CheckStop) → FitsMemory text → ((stop ≡ Answers.NoMemory) → ⊥) → Checks form text (Err stop) → IsChecked form text → ⊥
+never_both : SpellsLawful → (form : Form) (text : List ℕ) (stop : CheckStop) → FitsMemory text → ((stop ≡ Answers.NoMemory) → ⊥) → Checks form text (Err stop) →
+    IsChecked form text → ⊥
 never_both laws form text stop fits reason p c =
     apart stop (Err stop) (Ok tt) refl refl reason (one_answer laws form text (Err stop) fits p (Ok tt) (answered_yes form text c))
 

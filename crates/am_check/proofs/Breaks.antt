@@ -1,5 +1,6 @@
 -- The lines of a report.
-use Rattle.std.proofs.Common.{◌≡◌, ℕ, ◌^◌, ◌<◌, ◌≤◌, ◌+◌, true, false, eqb, List, [], ◌∷◌, ◌++◌, length, drop, map, Some, refl, ap, ◌∙◌, append_assoc, arith, length-append}
+use Rattle.std.proofs.Common.{◌≡◌, ℕ, ◌^◌, ◌<◌, ◌≤◌, ◌+◌, true, false, eqb, List, [], ◌∷◌, ◌++◌, length, drop, map, Some, refl, ap, ◌∙◌, append_assoc, arith}
+use Rattle.std.proofs.Common.{length-append}
 use Rattle.std.specs.Prelude.{codes}
 use Rattle.std.specs.Fmt.{decimal}
 use Rattle.std.specs.List.{flat_map}
@@ -8,13 +9,13 @@ use Rattle.std.proofs.lemmas.List.{append-nil}
 use Rattle.am_lexer.specs.Text.{lines_of}
 use Rattle.am_names.specs.declared.EndpointId.{EndpointId}
 use Rattle.am_office.specs.declared.Entry.{Entry}
-use Rattle.am_text.specs.Words.{spaced}
-use Rattle.am_entry_lines.specs.Lines.{line_of}
-use Rattle.am_report.specs.Report.{report, journal_part, entries_line, end_part, messages_part, told}
-use Rattle.am_journal_lines.specs.Grammar.{printed}
-use Rattle.am_journal_lines.proofs.Cuts.{is_free}
-use Rattle.am_journal_lines.proofs.Decimals.{decimal_read}
-use Rattle.am_journal_lines.proofs.Lines.{printed_lines}
+use Rattle.am_office_text.specs.Words.{spaced}
+use Rattle.am_office_lines.specs.Lines.{line_of}
+use Rattle.am_office_report.specs.Report.{report, journal_part, entries_line, end_part, messages_part, told}
+use Rattle.am_check_lines.specs.Grammar.{printed}
+use Rattle.am_check_lines.proofs.Cuts.{is_free}
+use Rattle.am_check_lines.proofs.Decimals.{decimal_read}
+use Rattle.am_check_lines.proofs.Lines.{printed_lines}
 use Rattle.am_check.specs.Cut.{first_line}
 use Rattle.am_check.specs.Verdict.{count_in, count_of}
 use Rattle.am_check.proofs.Newlines.{printed_whole, decimal_whole}
@@ -54,7 +55,8 @@ second_is : (journal : List Entry) → entries_line journal ≡ second journal +
 unfolding entries_line second spaced
 second_is journal = ap (λ (l : List ℕ). codes "entries " ++ (l ++ codes "\n")) (append-nil (decimal (length journal)))
 
-report_is : (ids : List EndpointId) (journal : List Entry) → report ids journal ≡ first_line ++ 10 ∷ (second journal ++ 10 ∷ (flat_map line_of journal ++ behind ids journal))
+report_is : (ids : List EndpointId) (journal : List Entry) → report ids journal ≡ first_line ++
+    10 ∷ (second journal ++ 10 ∷ (flat_map line_of journal ++ behind ids journal))
 unfolding report journal_part behind spaced
 report_is ids journal =
     let lines = flat_map line_of journal in
@@ -67,12 +69,14 @@ second_whole : (journal : List Entry) → is_free 10 (second journal) ≡ true
 unfolding second
 second_whole journal = decimal_whole (length journal)
 
-pub lines_are : (ids : List EndpointId) (journal : List Entry) → lines_of (report ids journal) ≡ first_line ∷ second journal ∷ (map printed journal ++ lines_of (behind ids journal))
+pub lines_are : (ids : List EndpointId) (journal : List Entry) →
+    lines_of (report ids journal) ≡ first_line ∷ second journal ∷ (map printed journal ++ lines_of (behind ids journal))
 lines_are ids journal =
     let lines = flat_map line_of journal ++ behind ids journal in
     ap lines_of (report_is ids journal)
     ∙ line_first first_line (second journal ++ 10 ∷ lines) refl
-    ∙ ap (λ (ls : List (List ℕ)). first_line ∷ ls) (line_first (second journal) lines (second_whole journal) ∙ ap (λ (ls : List (List ℕ)). second journal ∷ ls) (journal_lines journal (behind ids journal)))
+    ∙ ap (λ (ls : List (List ℕ)). first_line ∷ ls) (line_first (second journal) lines (second_whole journal)
+    ∙ ap (λ (ls : List (List ℕ)). second journal ∷ ls) (journal_lines journal (behind ids journal)))
 
 second_read : (journal : List Entry) → length journal < 2 ^ 64 → count_in (second journal) ≡ Some (length journal)
 unfolding count_in second
@@ -95,5 +99,13 @@ bytes_of (x ∷ journal) =
 pub count_fits : (ids : List EndpointId) (journal : List Entry) → length journal ≤ length (report ids journal)
 count_fits ids journal =
     let lines = flat_map line_of journal in
-    let text : length (report ids journal) ≡ length (first_line ++ 10 ∷ (second journal ++ 10 ∷ (lines ++ behind ids journal))) = ap length (report_is ids journal) in
-    omega (arith, text, bytes_of journal, length-append first_line (10 ∷ (second journal ++ 10 ∷ (lines ++ behind ids journal))), length-append (second journal) (10 ∷ (lines ++ behind ids journal)), length-append lines (behind ids journal))
+    let text : length (report ids journal) ≡ length (first_line ++ 10 ∷ (second journal ++ 10 ∷ (lines ++ behind ids journal))) =
+    ap length (report_is ids journal) in
+    omega (
+      arith,
+      text,
+      bytes_of journal,
+      length-append first_line (10 ∷ (second journal ++ 10 ∷ (lines ++ behind ids journal))),
+      length-append (second journal) (10 ∷ (lines ++ behind ids journal)),
+      length-append lines (behind ids journal),
+    )

@@ -6,7 +6,7 @@ use Rattle.am_names.specs.declared.EndpointId.{EndpointId}
 use Rattle.am_model.specs.Layout.{declared, has_id}
 use Rattle.am_scenario_types.specs.declared.parts.EndLine.{EndLine}
 use Rattle.am_scenario_types.specs.Lists.{ScenarioLists}
-use Rattle.am_scripts.specs.Layout.{layout_of, setting_of}
+use Rattle.am_model_scripts.specs.Layout.{layout_of, setting_of}
 use Rattle.am_check.specs.Declares.{declares}
 
 any_line : (e : EndpointId) (lines : List EndLine) → declares e lines ≡ list_any (has_id e) (map setting_of lines)

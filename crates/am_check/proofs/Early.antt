@@ -12,8 +12,8 @@ use Rattle.am_model.specs.declared.EntryFault.{EntryFault}
 use Rattle.am_model.specs.declared.EntryFault.TheVariants as EntryFaults
 use Rattle.am_scenario_types.specs.declared.parts.Form.TheVariants.{Run}
 use Rattle.am_scenario_types.specs.Lists.{ScenarioLists}
-use Rattle.am_scripts.specs.Layout.{layout_of}
-use Rattle.am_drain.specs.Made.{next_entry}
+use Rattle.am_model_scripts.specs.Layout.{layout_of}
+use Rattle.am_model_drain.specs.Made.{next_entry}
 use Rattle.am_check.specs.Follows.{IsEarly}
 use Rattle.am_check.specs.Lines.{StopsEvent, stop_in_run}
 
@@ -25,7 +25,9 @@ unfailing (Some c) l p h = absurd (cc)
 abbrev pub TellsEarly : ScenarioLists → List Entry → Event → Bool → Type 0
 TellsEarly s past event early = failing (layout_of s) past event ≡ None → (early ≡ true) ↔ IsEarly Run s past (next_entry (layout_of s) past event)
 
-pub early_stops : (s : ScenarioLists) (past : List Entry) (new : ClusterView) (event : Event) (early : Bool) (fault : EntryFault) → TellsEarly s past event early → Applies (record { layout = layout_of s; journal = past }) new event (Err fault) → StopsEvent Run s past event (stop_in_run early fault)
+pub early_stops : (s : ScenarioLists) (past : List Entry) (new : ClusterView) (event : Event) (early : Bool) (fault : EntryFault) →
+    TellsEarly s past event early → Applies (record { layout = layout_of s; journal = past }) new event (Err fault) →
+    StopsEvent Run s past event (stop_in_run early fault)
 early_stops s past new event true (EntryFaults.LogFull part) tells told =
     let free = unfailing (failing (layout_of s) past event) (full_log (layout_of s) past event) part told.0 in
     (free, (tells free).0 refl)

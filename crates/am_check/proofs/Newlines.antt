@@ -1,5 +1,6 @@
 -- No printed line has a newline in it.
-use Rattle.std.proofs.Common.{◌≡◌, ℕ, zero, suc, ◌/◌, ◌%◌, ◌+◌, Bool, true, false, eqb, ltb, cond, List, [], ◌∷◌, ◌++◌, Option, Some, None, refl, inl, inr, arith}
+use Rattle.std.proofs.Common.{◌≡◌, ℕ, zero, suc, ◌/◌, ◌%◌, ◌+◌, Bool, true, false, eqb, ltb, cond, List, [], ◌∷◌, ◌++◌, Option, Some, None, refl, inl, inr}
+use Rattle.std.proofs.Common.{arith}
 use Rattle.std.specs.Prelude.{codes}
 use Rattle.std.specs.Fmt.{decimal, digits, digits_onto, digit_glyph}
 use Rattle.std.specs.List.{list_all}
@@ -31,10 +32,10 @@ use Rattle.am_office.specs.declared.Received.{Received}
 use Rattle.am_office.specs.declared.Received.TheVariants as Got
 use Rattle.am_office.specs.declared.Refusal.{Refusal}
 use Rattle.am_office.specs.declared.Refusal.TheVariants as Refusals
-use Rattle.am_text.specs.Words.{Word, spaced, serial, tag, cause, verdict, why}
-use Rattle.am_entry_lines.specs.Lines.{who, what, actor, interface, driver, call, handler_kind, mask, refusal, handler, sends, received, outcome, after_arrow}
-use Rattle.am_journal_lines.specs.Grammar.{printed}
-use Rattle.am_journal_lines.proofs.Cuts.{is_free}
+use Rattle.am_office_text.specs.Words.{Word, spaced, serial, tag, cause, verdict, why}
+use Rattle.am_office_lines.specs.Lines.{who, what, actor, interface, driver, call, handler_kind, mask, refusal, handler, sends, received, outcome, after_arrow}
+use Rattle.am_check_lines.specs.Grammar.{printed}
+use Rattle.am_check_lines.proofs.Cuts.{is_free}
 
 -- a word has no newline
 abbrev IsWhole : List ℕ → Type 0
@@ -80,7 +81,8 @@ tag_whole t = either (eqb t.0 0) (codes "none") _ refl (either (eqb t.0 18446744
 
 serial_whole : (s : Serial) → IsWhole (serial s)
 unfolding serial
-serial_whole s = whole_append (decimal s.source.0 ++ codes ".") (decimal s.count) (whole_append (decimal s.source.0) (codes ".") (decimal_whole s.source.0) refl) (decimal_whole s.count)
+serial_whole s = whole_append (decimal s.source.0 ++ codes ".") (decimal s.count) (whole_append (decimal s.source.0) (codes ".") (decimal_whole s.source.0)
+    refl) (decimal_whole s.count)
 
 cause_whole : (c : Cause) → IsWhole (cause c)
 unfolding cause
@@ -234,4 +236,5 @@ printed_whole x =
     let after : AreWhole (after_arrow (outcome x.outcome)) = after_whole (outcome x.outcome) (outcome_whole x.outcome) in
     let words : AreWhole (what x.event ++ after_arrow (outcome x.outcome)) =
     rw (list_all-append (is_free 10) (what x.event) (after_arrow (outcome x.outcome)), what_whole x.event, after) refl in
-    whole_append (who x.event) (spaced (what x.event ++ after_arrow (outcome x.outcome))) (who_whole x.event) (spaced_whole (what x.event ++ after_arrow (outcome x.outcome)) words)
+    whole_append (who x.event) (spaced (what x.event ++ after_arrow (outcome x.outcome))) (who_whole x.event)
+    (spaced_whole (what x.event ++ after_arrow (outcome x.outcome)) words)

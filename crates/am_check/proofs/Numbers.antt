@@ -15,14 +15,16 @@ use Rattle.am_office.specs.declared.Call.TheVariants as Calls
 use Rattle.am_office.specs.declared.Event.{Event}
 use Rattle.am_office.specs.declared.Event.TheVariants as Events
 use Rattle.am_model.specs.Layout.{Layout, EndSetting, AllAre, IsSettingLawful, has_id, declared}
-use Rattle.am_model.specs.History.{is_in_range, is_actor_in_range, is_call_in_range, is_kind_in_range, are_words_in_range, are_credits_in_range, is_byte, is_four_bytes, is_eight_bytes}
+use Rattle.am_model.specs.History.{is_in_range, is_actor_in_range, is_call_in_range, is_kind_in_range, are_words_in_range, are_credits_in_range, is_byte}
+use Rattle.am_model.specs.History.{is_four_bytes, is_eight_bytes}
 use Rattle.am_scenario_types.specs.Lists.{ScenarioLists}
 use Rattle.am_scenario_types.specs.Lawful.{IsLawful}
-use Rattle.am_scripts.specs.Layout.{layout_of}
-use Rattle.am_scripts.proofs.Lawful.{lawful_layout}
-use Rattle.am_journal_lines.specs.Grammar.{IsByte, AreWords, AreNumbersOf, AreNumbersOfCall, AreNumbersOfKind, IsNumberOfActor}
+use Rattle.am_model_scripts.specs.Layout.{layout_of}
+use Rattle.am_model_scripts.proofs.Lawful.{lawful_layout}
+use Rattle.am_check_lines.specs.Grammar.{IsByte, AreWords, AreNumbersOf, AreNumbersOfCall, AreNumbersOfKind, IsNumberOfActor}
 
-known_byte : (layout : Layout) (e : EndpointId) (settings : List EndSetting) → AllAre (IsSettingLawful layout) settings → list_any (has_id e) settings ≡ true → IsByte e.0
+known_byte : (layout : Layout) (e : EndpointId) (settings : List EndSetting) → AllAre (IsSettingLawful layout) settings → list_any (has_id e) settings ≡ true →
+    IsByte e.0
 known_byte layout e [] all h = absurd (cc)
 known_byte layout e (setting ∷ settings) all h =
     ⊎_elim
@@ -79,7 +81,8 @@ call_numbers s lawful Calls.Close h = tt
 call_numbers s lawful (Calls.Test mask) h = tt
 
 -- an endpoint and a node
-both : (s : ScenarioLists) → IsLawful s → (node : NodeId) (e : EndpointId) → (declared (layout_of s) e && nat_lt node.0 s.nodes) ≡ true → IsByte node.0 × IsByte e.0
+both : (s : ScenarioLists) → IsLawful s → (node : NodeId) (e : EndpointId) → (declared (layout_of s) e && nat_lt node.0 s.nodes) ≡ true →
+    IsByte node.0 × IsByte e.0
 both s lawful node e h =
     let p = and_parts (declared (layout_of s) e) (nat_lt node.0 s.nodes) h in
     (node_byte s lawful node p.1, end_byte s lawful e p.0)

@@ -2,7 +2,7 @@
 use Rattle.std.proofs.Common.{◌≡◌, ◌+◌, List, [], ◌∷◌, ◌++◌, length, map, ℕ, sym, ap, subst, ◌∙◌, append_assoc}
 use Rattle.std.proofs.lemmas.List.{map_push, length-append}
 use Rattle.am_office.specs.declared.Entry.{Entry}
-use Rattle.am_journal_lines.specs.Grammar.{printed}
+use Rattle.am_check_lines.specs.Grammar.{printed}
 use Rattle.am_model.proofs.Each.{each_push}
 use Rattle.am_scenario_types.specs.declared.parts.Form.{Form}
 use Rattle.am_scenario_types.specs.Lists.{ScenarioLists}
@@ -14,7 +14,8 @@ pub record IsOneOn (form : Form) (s : ScenarioLists) (lines : List (List ℕ)) (
   pub begun : IsBegun form s journal
   pub lines' : lines ≡ map printed journal ++ left
 
-pub one_on : (form : Form) (s : ScenarioLists) (lines : List (List ℕ)) (past journal : List Entry) (line : List ℕ) (left : List (List ℕ)) → IsBegun form s past → lines ≡ map printed past ++ line ∷ left → PassesLine form s past line journal → IsOneOn form s lines past journal left
+pub one_on : (form : Form) (s : ScenarioLists) (lines : List (List ℕ)) (past journal : List Entry) (line : List ℕ) (left : List (List ℕ)) →
+    IsBegun form s past → lines ≡ map printed past ++ line ∷ left → PassesLine form s past line journal → IsOneOn form s lines past journal left
 one_on form s lines past journal line left begun is p =
     let x = p.entry in
     let made : IsOneOn form s lines past (past ++ x ∷ []) left = record {

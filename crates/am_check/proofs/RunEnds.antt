@@ -11,27 +11,30 @@ use Rattle.am_model.specs.History.{is_bound, channel_to}
 use Rattle.am_scenario_types.specs.declared.parts.ThreadLine.{ThreadLine}
 use Rattle.am_scenario_types.specs.declared.parts.ScriptCall.{ScriptCall}
 use Rattle.am_scenario_types.specs.Lists.{ScenarioLists}
-use Rattle.am_scripts.specs.Layout.{layout_of}
-use Rattle.am_scripts.specs.Links.{first_some, nodes_of}
-use Rattle.am_scripts.specs.Scripts.{calls_of, script_of}
-use Rattle.am_scripts.specs.Standings.{Standing, standings, is_missed, holds_nothing, is_idle}
-use Rattle.am_drain.specs.declared.Turn.{Turn}
-use Rattle.am_drain.specs.declared.Turn.TheVariants.{Once}
-use Rattle.am_drain.specs.Rules.{Left, fewer, finds_room, has_reply, has_request, is_pollable, left_after, left_to, make_of, next_call, next_page_in, next_poll, next_send, next_time_out, next_turn, page_in_of, poll_of, send_of, time_out, time_out_at, time_out_to}
+use Rattle.am_model_scripts.specs.Layout.{layout_of}
+use Rattle.am_model_scripts.specs.Links.{first_some, nodes_of}
+use Rattle.am_model_scripts.specs.Scripts.{calls_of, script_of}
+use Rattle.am_model_scripts.specs.Standings.{Standing, standings, is_missed, holds_nothing, is_idle}
+use Rattle.am_model_drain.specs.declared.Turn.{Turn}
+use Rattle.am_model_drain.specs.declared.Turn.TheVariants.{Once}
+use Rattle.am_model_drain.specs.Rules.{Left, fewer, finds_room, has_reply, has_request, is_pollable, left_after, left_to, make_of, next_call, next_page_in}
+use Rattle.am_model_drain.specs.Rules.{next_poll, next_send, next_time_out, next_turn, page_in_of, poll_of, send_of, time_out, time_out_at, time_out_to}
 use Rattle.am_model.specs.History.{IsHistory}
 use Rattle.am_scenario_types.specs.Lawful.{IsLawful}
-use Rattle.am_scripts.specs.Scripts.{BeginsScripts}
-use Rattle.am_scripts.proofs.Done.{scripts_are_done}
-use Rattle.am_drain.proofs.Rest.{NoRule, no_call_left, no_rule, rests_at_end}
-use Rattle.am_drain_laws.proofs.Soundness.{histories_are_sound}
+use Rattle.am_model_scripts.specs.Scripts.{BeginsScripts}
+use Rattle.am_model_scripts.proofs.Done.{scripts_are_done}
+use Rattle.am_model_drain.proofs.Rest.{NoRule, no_call_left, no_rule, rests_at_end}
+use Rattle.am_laws_drain.proofs.Soundness.{histories_are_sound}
 use Rattle.am_check.specs.Follows.{IsRunEnded}
 
 -- none of some there is
-none_from : {X Y : Type 0} (f : X → Option Y) (P : X → Type 0) → ((x : X) → P x → f x ≡ None) → (xs : List X) → AllByRecursion P xs → first_some (map f xs) ≡ None
+none_from : {X Y : Type 0} (f : X → Option Y) (P : X → Type 0) → ((x : X) → P x → f x ≡ None) → (xs : List X) → AllByRecursion P xs →
+    first_some (map f xs) ≡ None
 none_from f P step [] h = refl
 none_from f P step (x ∷ xs) h = ap (λ o. first_some (o ∷ map f xs)) (step x h.0) ∙ none_from f P step xs h.1
 
-none_of : {X Y : Type 0} (f : X → Option Y) (p : X → Bool) → ((x : X) → p x ≡ true → f x ≡ None) → (xs : List X) → list_all p xs ≡ true → first_some (map f xs) ≡ None
+none_of : {X Y : Type 0} (f : X → Option Y) (p : X → Bool) → ((x : X) → p x ≡ true → f x ≡ None) → (xs : List X) → list_all p xs ≡ true →
+    first_some (map f xs) ≡ None
 none_of f p step [] h = refl
 none_of f p step (x ∷ xs) h =
     let both = and_parts (p x) (list_all p xs) h in
@@ -45,13 +48,17 @@ none_found p q step (x ∷ xs) h =
 
 -- ---- channels
 
-idle_number : (past : List Entry) (node peer : NodeId) (number : ℕ) → not (is_bound (channel_to node peer number) past) ≡ true → time_out node peer past number ≡ None
-idle_number past node peer number h = ap (λ (b : Bool). cond b (Some (Once (Events.Expire node peer number))) None) (not-true (is_bound (channel_to node peer number) past) h)
+idle_number : (past : List Entry) (node peer : NodeId) (number : ℕ) → not (is_bound (channel_to node peer number) past) ≡ true →
+    time_out node peer past number ≡ None
+idle_number past node peer number h = ap (λ (b : Bool). cond b (Some (Once (Events.Expire node peer number))) None)
+    (not-true (is_bound (channel_to node peer number) past) h)
 
 idle_peer : (s : ScenarioLists) (past : List Entry) (node peer : NodeId) → is_idle s past node peer ≡ true → time_out_to s past node peer ≡ None
-idle_peer s past node peer h = none_of (time_out node peer past) (λ (number : ℕ). not (is_bound (channel_to node peer number) past)) (idle_number past node peer) (range_with_len 0 s.channels) h
+idle_peer s past node peer h = none_of (time_out node peer past) (λ (number : ℕ). not (is_bound (channel_to node peer number) past))
+    (idle_number past node peer) (range_with_len 0 s.channels) h
 
-idle_node : (s : ScenarioLists) (past : List Entry) (node : NodeId) → AllByRecursion (λ (peer : NodeId). is_idle s past node peer ≡ true) (nodes_of s) → time_out_at s past node ≡ None
+idle_node : (s : ScenarioLists) (past : List Entry) (node : NodeId) → AllByRecursion (λ (peer : NodeId). is_idle s past node peer ≡ true) (nodes_of s) →
+    time_out_at s past node ≡ None
 idle_node s past node h = none_from (time_out_to s past node) (λ (peer : NodeId). is_idle s past node peer ≡ true) (idle_peer s past node) (nodes_of s) h
 
 -- ---- endpoints
@@ -89,13 +96,15 @@ no_arrival s h =
 -- ---- threads
 
 none_after : (s : ScenarioLists) (past : List Entry) (t : ThreadLine) → calls_of t.id past ≡ script_of s t.id → left_to s past t ≡ None
-none_after s past t h = ap (left_after (length (calls_of t.id past))) (ap (λ (cs : List ScriptCall). slice_get (script_of s t.id) (length cs)) h ∙ past_end (script_of s t.id))
+none_after s past t h = ap (left_after (length (calls_of t.id past))) (ap (λ (cs : List ScriptCall). slice_get (script_of s t.id) (length cs)) h
+    ∙ past_end (script_of s t.id))
   where
     past_end : (cs : List ScriptCall) → slice_get cs (length cs) ≡ None
     past_end [] = refl
     past_end (c ∷ cs) = past_end cs
 
-none_called : (s : ScenarioLists) (past : List Entry) (ts : List ThreadLine) → AllByRecursion (λ (t : ThreadLine). calls_of t.id past ≡ script_of s t.id) ts → fold fewer None (filter_map (left_to s past) ts) ≡ None
+none_called : (s : ScenarioLists) (past : List Entry) (ts : List ThreadLine) → AllByRecursion (λ (t : ThreadLine). calls_of t.id past ≡ script_of s t.id) ts →
+    fold fewer None (filter_map (left_to s past) ts) ≡ None
 none_called s past [] h = refl
 none_called s past (t ∷ ts) h =
     ap (λ (o : Option Left). fold fewer None (cons_option o (filter_map (left_to s past) ts))) (none_after s past t h.0) ∙ none_called s past ts h.1
@@ -108,7 +117,8 @@ no_turn s journal ended =
     ends = standings (layout_of s) journal
 
     time_outs : next_time_out s journal ≡ None
-    time_outs = none_from (time_out_at s journal) (λ (node : NodeId). AllByRecursion (λ (peer : NodeId). is_idle s journal node peer ≡ true) (nodes_of s)) (idle_node s journal) (nodes_of s) ended.rest.channels
+    time_outs = none_from (time_out_at s journal) (λ (node : NodeId). AllByRecursion (λ (peer : NodeId). is_idle s journal node peer ≡ true) (nodes_of s))
+        (idle_node s journal) (nodes_of s) ended.rest.channels
 
     pages : next_page_in ends ≡ None
     pages = ap (option_map page_in_of) (none_found is_missed (λ (x : Standing). not (is_missed x)) (λ x h. not-true (is_missed x) h) ends ended.rest.wanted)
@@ -132,7 +142,8 @@ no_some : (t : Option Turn) → is_none t ≡ true → t ≡ None
 no_some None h = refl
 no_some (Some t) h = absurd (cc)
 
-ends : (s : ScenarioLists) (journal : List Entry) → IsLawful s → IsHistory (layout_of s) journal → BeginsScripts s journal → next_turn s journal ≡ None → IsRunEnded s journal
+ends : (s : ScenarioLists) (journal : List Entry) → IsLawful s → IsHistory (layout_of s) journal → BeginsScripts s journal → next_turn s journal ≡ None →
+    IsRunEnded s journal
 ends s journal lawful history scripts none =
     let no : NoRule s journal = no_rule s journal none in
     record {
@@ -148,7 +159,8 @@ none_test (Some t) true h = absurd (cc)
 none_test (Some t) false h = refl
 
 -- a run is at its end exactly where no rule applies
-pub ended_test : (s : ScenarioLists) (journal : List Entry) (test : Bool) (t : Option Turn) → IsLawful s → IsHistory (layout_of s) journal → BeginsScripts s journal → is_some t ≡ not test → t ≡ next_turn s journal → IsTrue test ↔ IsRunEnded s journal
+pub ended_test : (s : ScenarioLists) (journal : List Entry) (test : Bool) (t : Option Turn) → IsLawful s → IsHistory (layout_of s) journal →
+    BeginsScripts s journal → is_some t ≡ not test → t ≡ next_turn s journal → IsTrue test ↔ IsRunEnded s journal
 ended_test s journal test t lawful history scripts told turn = (
   (λ yes'. ends s journal lawful history scripts (sym turn ∙ no_some t (sym is ∙ yes'))),
   (λ ended. is ∙ ap (λ (o : Option Turn). is_none o) (turn ∙ no_turn s journal ended)),

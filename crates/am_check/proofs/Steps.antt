@@ -6,8 +6,8 @@ use Rattle.am_office.specs.declared.Event.{Event}
 use Rattle.am_scenario_types.specs.declared.parts.StepLine.{StepLine}
 use Rattle.am_scenario_types.specs.Lists.{ScenarioLists}
 use Rattle.am_scenario_types.specs.Lawful.{IsLawful}
-use Rattle.am_scripts.specs.Layout.{events_of, layout_of}
-use Rattle.am_scripts.proofs.Lawful.{steps_in_range}
+use Rattle.am_model_scripts.specs.Layout.{events_of, layout_of}
+use Rattle.am_model_scripts.proofs.Lawful.{steps_in_range}
 use Rattle.am_model.specs.History.{is_in_range}
 use Rattle.am_model.specs.Layout.{Layout}
 use Rattle.am_model.proofs.Alls.{all_at}
@@ -16,9 +16,11 @@ pub step_at : (steps : List StepLine) (k : ℕ) → slice_get (events_of steps) 
 step_at steps k = slice_get-map (λ (step : StepLine). step.event) steps k
 
 -- the event of a step is in range, in the layout of its scenario
-pub in_range_at : (s : ScenarioLists) (layout : Layout) (k : ℕ) (event : Event) → IsLawful s → layout ≡ layout_of s → slice_get (events_of s.steps) k ≡ Some event → is_in_range layout event ≡ true
+pub in_range_at : (s : ScenarioLists) (layout : Layout) (k : ℕ) (event : Event) → IsLawful s → layout ≡ layout_of s →
+    slice_get (events_of s.steps) k ≡ Some event → is_in_range layout event ≡ true
 in_range_at s layout k event lawful same at =
-    let there : is_in_range (layout_of s) event ≡ true = all_at (λ (e : Event). is_in_range (layout_of s) e ≡ true) (events_of s.steps) k event (steps_in_range s lawful) at in
+    let there : is_in_range (layout_of s) event ≡ true = all_at (λ (e : Event). is_in_range (layout_of s) e ≡ true) (events_of s.steps) k event
+    (steps_in_range s lawful) at in
     subst (λ (l : Layout). is_in_range l event ≡ true) (sym same) there
 
 -- a step is one of them

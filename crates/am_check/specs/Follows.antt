@@ -11,12 +11,12 @@ use Rattle.am_scenario_types.specs.declared.parts.Form.TheVariants.{Step, Run}
 use Rattle.am_scenario_types.specs.declared.parts.EndLine.{EndLine}
 use Rattle.am_scenario_types.specs.declared.parts.ScriptCall.{ScriptCall}
 use Rattle.am_scenario_types.specs.Lists.{ScenarioLists}
-use Rattle.am_scripts.specs.Layout.{layout_of, events_of}
-use Rattle.am_scripts.specs.Links.{IsReceiptInOrder, is_all_received, next_receipt}
-use Rattle.am_scripts.specs.Scripts.{KeepsScripts, call_left, call_made}
-use Rattle.am_scripts.specs.Standings.{IsAtRest}
-use Rattle.am_scripts.specs.Follows.{is_last, is_of_run}
-use Rattle.am_drain.specs.Made.{next_entry}
+use Rattle.am_model_scripts.specs.Layout.{layout_of, events_of}
+use Rattle.am_model_scripts.specs.Links.{IsReceiptInOrder, is_all_received, next_receipt}
+use Rattle.am_model_scripts.specs.Scripts.{KeepsScripts, call_left, call_made}
+use Rattle.am_model_scripts.specs.Standings.{IsAtRest}
+use Rattle.am_model_scripts.specs.Follows.{is_last, is_of_run}
+use Rattle.am_model_drain.specs.Made.{next_entry}
 
 -- the endpoints of a scenario, in their order
 abbrev pub ids_of : ScenarioLists → List EndpointId

@@ -2,14 +2,13 @@
 use Rattle.std.specs.Prelude.{◌≡◌, ◌⊎◌, ℕ, Bool, true, Some, None, List, [], ◌∷◌, ◌++◌}
 use Rattle.am_office.specs.declared.Event.{Event}
 use Rattle.am_office.specs.declared.Entry.{Entry}
-use Rattle.am_journal_lines.specs.Grammar.{printed}
-use Rattle.am_journal_lines.specs.Reading.{event_of}
+use Rattle.am_check_lines.specs.Grammar.{IsLineOf, printed}
 use Rattle.am_model.specs.History.{failing}
 use Rattle.am_model.specs.Steps.{NotEnabled, LogFull, stop}
 use Rattle.am_scenario_types.specs.declared.parts.Form.{Form}
 use Rattle.am_scenario_types.specs.Lists.{ScenarioLists}
-use Rattle.am_scripts.specs.Layout.{layout_of}
-use Rattle.am_drain.specs.Made.{next_entry}
+use Rattle.am_model_scripts.specs.Layout.{layout_of}
+use Rattle.am_model_drain.specs.Made.{next_entry}
 use Rattle.am_model.specs.declared.EntryFault.{EntryFault}
 use Rattle.am_model.specs.declared.EntryFault.TheVariants as EntryFaults
 use Rattle.am_check.specs.declared.faults.CheckWhat.TheVariants as Whats
@@ -19,15 +18,15 @@ use Rattle.am_check.specs.Follows.{MayCome, IsEarly, Comes}
 
 -- a line tells an event that may come
 pub record TellsOne (form : Form) (s : ScenarioLists) (past : List Entry) (line : List ℕ) (event : Event) : Type 0 where
-  pub told : event_of line ≡ Some event
+  pub told : IsLineOf line event
   pub may : MayCome form s past event
 
--- why a line does not pass after these entries: it is no journal line; its event may not come; its event isn't enabled; its entry
+-- why a line does not pass after these entries: it is no event's line; its event may not come; its event isn't enabled; its entry
 -- would come too early; a log is full; or it isn't the line of the entry that the machine makes
 abbrev pub StopsLine : Form → ScenarioLists → List Entry → List ℕ → LineStop → Type 0
-StopsLine form s past line (Stops.What Whats.Form) = event_of line ≡ None
+StopsLine form s past line (Stops.What Whats.Form) = (event : Event) → ¬ (IsLineOf line event)
 StopsLine form s past line (Stops.What Whats.Follows) =
-    (event : Event) × (event_of line ≡ Some event)
+    (event : Event) × IsLineOf line event
     × ((¬ (MayCome form s past event)) ⊎ (MayCome form s past event × (failing (layout_of s) past event ≡ None) × IsEarly form s past (next_entry (layout_of s) past event)))
 StopsLine form s past line (Stops.What (Whats.NotEnabled condition)) =
     (event : Event) × TellsOne form s past line event × (stop (layout_of s) past event ≡ Some (NotEnabled condition))

@@ -1,9 +1,9 @@
 -- A cluster that follows the steps of its scenario, as the checker sees it.
 use Rattle.std.specs.Prelude.{◌≡◌, length}
 use Rattle.am_scenario_types.specs.Lawful.{IsLawful}
-use Rattle.am_scripts.specs.Layout.{layout_of}
+use Rattle.am_model_scripts.specs.Layout.{layout_of}
 use Rattle.am_check.specs.declared.step_cluster.StepCluster.TheInside.{Inside}
-use Rattle.am_scripted.specs.Scripted.{RunView}
+use Rattle.am_cluster_scripted.specs.Scripted.{RunView}
 
 abbrev pub view_of : Inside → RunView
 view_of m = record { scenario = m.scenario.now; journal = m.cluster.journal }

@@ -1,12 +1,13 @@
 -- What the checker answers for a text of a scenario and its report.
-use Rattle.std.specs.Prelude.{◌≡◌, ◌⊎◌, ◌<◌, ℕ, ◌+◌, ◌-◌, ◌^◌, min, Option, Some, None, List, [], ◌∷◌, ◌++◌, nat_eq, take, drop, length, map, codes, if◌then◌else◌, Result, Ok, Err}
+use Rattle.std.specs.Prelude.{◌≡◌, ◌⊎◌, ◌<◌, ℕ, ◌+◌, ◌-◌, ◌^◌, min, Option, Some, None, List, [], ◌∷◌, ◌++◌, nat_eq, take, drop, length, map, codes}
+use Rattle.std.specs.Prelude.{if◌then◌else◌, Result, Ok, Err}
 use Rattle.std.specs.List.{starts_with}
 use Rattle.std.specs.Str.{bytes_eq}
 use Rattle.am_lexer.specs.Text.{lines_of}
 use Rattle.am_office.specs.declared.Entry.{Entry}
-use Rattle.am_report.specs.Report.{report}
-use Rattle.am_journal_lines.specs.Reading.{printed_number}
-use Rattle.am_journal_lines.specs.Grammar.{printed}
+use Rattle.am_office_report.specs.Report.{report}
+use Rattle.am_check_lines.specs.Reading.{printed_number}
+use Rattle.am_check_lines.specs.Grammar.{printed}
 use Rattle.am_scenario_types.specs.declared.parts.Form.{Form}
 use Rattle.am_scenario_types.specs.Lists.{ScenarioLists}
 use Rattle.am_scenario.specs.Laws.{Spells, FirstFault}

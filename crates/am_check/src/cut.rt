@@ -17,7 +17,7 @@ fn is_report(text: &[u8]) -> bool
 
 /// How many bytes stand before the report, if there is one.
 #[tactic(auto, unfolding(crate::specs::Cut::place_from))]
-pub(crate) fn place_of(text: &[u8]) -> Option<usize>
+pub fn place_of(text: &[u8]) -> Option<usize>
     ensures place { result ≡ place_of text.now }
     ensures within { IfSome result (λ place. place ≤ length text.now) }
 {

@@ -1,14 +1,15 @@
 //! Whether the numbers of an event are in range, and what must be declared is; and whether the event is one of a run.
 
 ghost use Rattle.am_check.specs.Declares.{declares};
-ghost use Rattle.am_scripts.specs.Layout.{layout_of};
+ghost use Rattle.am_model_scripts.specs.Layout.{layout_of};
 ghost use Rattle.am_model.specs.History as ranges;
 ghost use Rattle.am_model.specs.Layout as layouts;
-ghost use Rattle.am_scripts.specs.Follows as follows;
+ghost use Rattle.am_model_scripts.specs.Follows as follows;
 ghost use Rattle.std.specs.Prelude.{◌≡◌, ◌&&◌, nat_lt};
 
+use am_model::{are_credits_in_range, is_kind_in_range};
 use am_names::{EndpointId, NodeId};
-use am_office::{Actor, Call, Event, HandlerKind};
+use am_office::{Actor, Call, Event};
 use am_scenario::{EndLine, Scenario};
 
 /// Whether one of these lines declares an endpoint.
@@ -30,24 +31,6 @@ fn is_thread(scenario: &Scenario, thread: u8) -> bool
     ensures { result ≡ follows.is_thread scenario.now thread }
 {
     scenario.threads.iter().any(|line| line.id == thread)
-}
-
-fn is_kind_in_range(kind: HandlerKind) -> bool
-    ensures { result ≡ ranges.is_kind_in_range kind }
-{
-    match kind {
-        HandlerKind::Note => true,
-        HandlerKind::Echo(to) | HandlerKind::Add(to) => 1 <= to && to < 16,
-    }
-}
-
-fn are_credits_in_range(pool: Option<u8>, credits: u8) -> bool
-    ensures { result ≡ ranges.are_credits_in_range pool credits }
-{
-    match pool {
-        None => 1 <= credits && credits <= 8,
-        Some(_) => credits <= 8,
-    }
 }
 
 fn is_call_in_range(scenario: &Scenario, call: Call) -> bool

@@ -9,7 +9,8 @@ ghost use Rattle.std.specs.Prelude.{◌≡◌, ◌↔◌, IfErr, IfOk, IsTrue, L
 
 use crate::faults::LineStop;
 use am_names::NoMemory;
-use am_office::{Entry, Event, Journal};
+use am_office::{Entry, Event};
+use am_office_journal::LoggedJournal;
 use std::alloc::Global;
 
 /// A cluster that makes the entries of a scenario of one form.
@@ -37,6 +38,6 @@ pub(crate) trait Follower {
         ensures { IsTrue result ↔ IsEnded form (scenario self.now) (journal self.now) };
 
     /// The entries so far.
-    fn entries(&self, alloc: Global) -> Result<Journal, NoMemory>
+    fn entries<'a>(&'a self, alloc: Global) -> Result<LoggedJournal<'a>, NoMemory>
         ensures { IfOk result (λ entries. entries ≡ journal self.now) };
 }

@@ -5,7 +5,7 @@
 ghost use Rattle.am_check.specs.Exact.{IsExact, IsOnly};
 ghost use Rattle.am_check.specs.Follows.{IsBegun, ids_of};
 ghost use Rattle.am_check.specs.Verdict.{AnswersParts, AnswersReport, AnswersScenario, Checks, HasJournal, number_of};
-ghost use Rattle.am_report.specs.Report as texts;
+ghost use Rattle.am_office_report.specs.Report as texts;
 ghost use Rattle.am_scenario_types.specs.Lawful.{IsLawful, IsOfForm};
 ghost use Rattle.am_scenario_types.specs.declared.parts.Form.TheVariants as Forms;
 ghost use Rattle.am_scenario_types.specs.declared.parts.Network.TheVariants.{Packet};
@@ -23,20 +23,21 @@ mod same;
 mod step_cluster;
 mod tail;
 
-use crate::cut::place_of;
+pub use crate::cut::place_of;
 pub use crate::exact::answers_are_exact;
 pub use crate::faults::{CheckStop, CheckWhat};
 use crate::follower::Follower;
-use crate::head::split_head;
+pub use crate::head::split_head;
 use crate::lines::{check_lines, line_number};
 use crate::step_cluster::StepCluster;
+pub use crate::step_cluster::step_event;
 use crate::tail::{difference, number_of};
 // A line of a printed journal, read back as the event that it tells.
-pub use am_journal_lines::{PrintedEntry, parse_line};
+pub use am_check_lines::{PrintedEntry, parse_line};
+use am_cluster_scripted::ScriptedCluster;
 use am_names::{EndpointId, NoMemory};
-use am_report::report;
+use am_office_report::report;
 use am_scenario::{Form, ReadFault, Scenario, read};
-use am_scripted::ScriptedCluster;
 use std::alloc::{AllocError, Global};
 
 /// The endpoints of a scenario, in their order.

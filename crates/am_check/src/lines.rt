@@ -1,18 +1,18 @@
 //! The lines of a journal, one after the other.
 
 ghost use Rattle.am_check.specs.Lines.{IsOther, PassesLine, StopsLine, TellsOne};
-ghost use Rattle.am_journal_lines.specs.Grammar.{printed};
+ghost use Rattle.am_check_lines.specs.Grammar.{printed};
 ghost use Rattle.am_check.specs.Verdict.{Reaches, StopsJournal, at_line, number_of};
 ghost use Rattle.am_lexer.specs.Text.{lines_of};
 ghost use Rattle.std.specs.Prelude.{◌≡◌, ◌↔◌, ◌<◌, ◌+◌, ◌-◌, ℕ, [], List, IfErr, IfOk, IsTrue, OnOk, length, take};
 
 use crate::faults::{CheckStop, CheckWhat, LineStop};
 use crate::follower::Follower;
-use am_entry_lines::entry_line;
-use am_journal_lines::{parse_line, printed_lines_are_read};
+use am_check_lines::{parse_line, printed_lines_are_read};
 use am_lexer::next_line;
 use am_names::NoMemory;
 use am_office::{Entry, Event};
+use am_office_lines::entry_line;
 use std::alloc::Global;
 
 /// Whether a printed line is this one and a newline.

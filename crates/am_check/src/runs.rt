@@ -3,13 +3,13 @@
 
 ghost use Rattle.am_check.specs.Follows.{ComesInRun, IsEarly, IsNextCall, IsRunEnded};
 ghost use Rattle.am_check.specs.Lines.{stop_in_run};
-ghost use Rattle.am_drain.specs.Made.{next_entry};
-ghost use Rattle.am_scripts.specs.Layout.{layout_of};
+ghost use Rattle.am_model_drain.specs.Made.{next_entry};
+ghost use Rattle.am_model_scripts.specs.Layout.{layout_of};
 ghost use Rattle.am_model.specs.History as history;
 ghost use Rattle.am_scenario_types.specs.declared.parts.Form.TheVariants.{Run};
-ghost use Rattle.am_scripts.specs.Follows as follows;
-ghost use Rattle.am_scripts.specs.Links as links;
-ghost use Rattle.am_scripts.specs.Scripts.{BeginsScripts, call_left, call_made};
+ghost use Rattle.am_model_scripts.specs.Follows as follows;
+ghost use Rattle.am_model_scripts.specs.Links as links;
+ghost use Rattle.am_model_scripts.specs.Scripts.{BeginsScripts, call_left, call_made};
 ghost use Rattle.std.specs.Prelude.{◌≡◌, ◌↔◌, ◌<◌, IsTrue, None, Some, true};
 
 use crate::events::{is_in_range, is_of_run};
@@ -17,12 +17,13 @@ use crate::faults::{CheckWhat, LineStop};
 use crate::follower::Follower;
 use crate::same::is_same_script_call;
 use crate::step_cluster::stop_of;
-use am_drainer::{Machine, next_turn, receipt};
+use am_cluster_drainer::{Machine, next_turn, receipt};
+use am_cluster_scripted::ScriptedCluster;
 use am_model::EntryFault;
 use am_names::{NoMemory, NodeId};
-use am_office::{Actor, Entry, Event, Journal};
+use am_office::{Actor, Entry, Event};
+use am_office_journal::LoggedJournal;
 use am_scenario::ScriptCall;
-use am_scripted::ScriptedCluster;
 use std::alloc::Global;
 
 /// Whether a call of a declared thread is the next one of its script.
@@ -142,7 +143,7 @@ impl<'a> Follower for ScriptedCluster<'a> {
         is_run_ended(self)
     }
 
-    fn entries(&self, alloc: Global) -> Result<Journal, NoMemory> {
+    fn entries<'b>(&'b self, alloc: Global) -> Result<LoggedJournal<'b>, NoMemory> {
         self.journal(alloc)
     }
 }

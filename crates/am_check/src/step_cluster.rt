@@ -1,7 +1,7 @@
 //! The journal of a step script: each event is that of the next step line.
 
 ghost use Rattle.am_check.specs.Lines.{stop_of};
-ghost use Rattle.am_scripts.specs.Layout.{events_of};
+ghost use Rattle.am_model_scripts.specs.Layout.{events_of};
 ghost use Rattle.am_scenario_types.specs.Lawful.{IsLawful};
 ghost use Rattle.am_scenario_types.specs.declared.parts.Form.TheVariants.{Step};
 ghost use Rattle.std.specs.Prelude.{◌≡◌, ◌↔◌, [], IfOk, IsTrue, Some, slice_get};
@@ -12,7 +12,8 @@ use crate::same::is_same;
 use am_machine::Cluster;
 use am_model::EntryFault;
 use am_names::NoMemory;
-use am_office::{Entry, Event, Journal};
+use am_office::{Entry, Event};
+use am_office_journal::LoggedJournal;
 use am_scenario::{Scenario, StepLine};
 use std::alloc::Global;
 use std::marker::Model;
@@ -27,7 +28,7 @@ pub(crate) struct StepCluster<'a> {
 }
 
 impl<'a> Model for StepCluster<'a> {
-    ghost use Rattle.am_scripted.specs.Scripted.{RunView};
+    ghost use Rattle.am_cluster_scripted.specs.Scripted.{RunView};
 
     ghost Value = { RunView };
 
@@ -56,7 +57,7 @@ impl<'a> StepCluster<'a> {
 
 /// The event of the step line at this place.
 #[tactic(auto, using(crate::proofs::Steps::step_at))]
-fn step_event(steps: &[StepLine], place: usize) -> Option<Event>
+pub fn step_event(steps: &[StepLine], place: usize) -> Option<Event>
     ensures { result ≡ slice_get (events_of steps.now) place }
 {
     match steps.get(place) {
@@ -113,7 +114,7 @@ impl<'a> Follower for StepCluster<'a> {
         self.made == scenario.steps.len()
     }
 
-    fn entries(&self, alloc: Global) -> Result<Journal, NoMemory> {
+    fn entries<'b>(&'b self, alloc: Global) -> Result<LoggedJournal<'b>, NoMemory> {
         self.cluster.journal(alloc)
     }
 }

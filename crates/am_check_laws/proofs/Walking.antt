@@ -1,5 +1,6 @@
 -- The journal of a checked report, one entry after the other.
-use Rattle.std.proofs.Common.{◌≡◌, ℕ, suc, Bool, true, false, ◌||◌, List, [], ◌∷◌, ◌++◌, map, length, take, None, refl, sym, ap, ◌∙◌, subst, arith, length-append, add-one}
+use Rattle.std.proofs.Common.{◌≡◌, ℕ, suc, Bool, true, false, ◌||◌, List, [], ◌∷◌, ◌++◌, map, length, take, None, refl, sym, ap, ◌∙◌, subst, arith}
+use Rattle.std.proofs.Common.{length-append, add-one}
 use Rattle.std.specs.Prelude.{not}
 use Rattle.std.proofs.lemmas.List.{take_all, map_push, length-map}
 use Rattle.std.proofs.lemmas.List.Folds.{list_all-append}
@@ -9,10 +10,10 @@ use Rattle.am_office.specs.declared.Entry.{Entry}
 use Rattle.am_check.proofs.Coming.{in_range}
 use Rattle.am_check.specs.Follows.{Comes, IsBegun, IsEnded}
 use Rattle.am_check_laws.specs.Laws.{IsStepHistory, IsRunHistory, IsHistoryOf}
-use Rattle.am_drain.proofs.Entries.{entry_is_step}
-use Rattle.am_scripts.specs.Layout.{layout_of, events_of}
-use Rattle.am_laws_steps.proofs.Steps.{walked_more, no_condition}
-use Rattle.am_laws_steps.specs.Laws.{IsUnstopped, Walked}
+use Rattle.am_model_drain.proofs.Entries.{entry_is_step}
+use Rattle.am_model_scripts.specs.Layout.{layout_of, events_of}
+use Rattle.am_model_steps.proofs.Steps.{walked_more, no_condition}
+use Rattle.am_model_steps.specs.Laws.{IsUnstopped, Walked}
 use Rattle.am_model.proofs.Each.{each_has, over_each}
 use Rattle.am_model.specs.History.{EachAfter, IsHistory, failing, is_in_range}
 use Rattle.am_model.specs.Steps.{full_log, step_entry}
@@ -21,13 +22,14 @@ use Rattle.am_scenario_types.specs.declared.parts.Form.TheVariants.{Step, Run}
 use Rattle.am_scenario_types.specs.declared.parts.StepLine.{StepLine}
 use Rattle.am_scenario_types.specs.Lawful.{IsLawful}
 use Rattle.am_scenario_types.specs.Lists.{ScenarioLists}
-use Rattle.am_scripts.specs.Links.{IsReceiptInOrder, ReceivesInOrder, is_all_received}
-use Rattle.am_scripts.specs.Follows.{KeepsToEvents, is_last, is_of_run}
-use Rattle.am_scripts.proofs.Links.{all_is_received}
+use Rattle.am_model_scripts.specs.Links.{IsReceiptInOrder, ReceivesInOrder, is_all_received}
+use Rattle.am_model_scripts.specs.Follows.{KeepsToEvents, is_last, is_of_run}
+use Rattle.am_model_scripts.proofs.Links.{all_is_received}
 
 -- ---- a history, with one stamp after the other
 
-walked_one : (form : Form) (s : ScenarioLists) → IsLawful s → (past : List Entry) (x : Entry) → Walked (layout_of s) past → Comes form s past x → Walked (layout_of s) (past ++ x ∷ [])
+walked_one : (form : Form) (s : ScenarioLists) → IsLawful s → (past : List Entry) (x : Entry) → Walked (layout_of s) past → Comes form s past x →
+    Walked (layout_of s) (past ++ x ∷ [])
 walked_one form s lawful past x walked c =
     let layout = layout_of s in
     let range : is_in_range layout x.event ≡ true = in_range form s lawful past x.event c.may in
@@ -40,7 +42,8 @@ all_walked form s journal lawful begun =
     over_each (Comes form s) (Walked (layout_of s)) (walked_one form s lawful) [] journal (record { history = tt; stamped = refl; below = tt }) begun
 
 -- what each entry that comes has, each entry of the journal has
-each_so : (form : Form) (s : ScenarioLists) (Law : List Entry → Entry → Type 0) → ((past : List Entry) (x : Entry) → Comes form s past x → Law past x) → (journal : List Entry) → IsBegun form s journal → EachAfter Law [] journal
+each_so : (form : Form) (s : ScenarioLists) (Law : List Entry → Entry → Type 0) → ((past : List Entry) (x : Entry) → Comes form s past x → Law past x) →
+    (journal : List Entry) → IsBegun form s journal → EachAfter Law [] journal
 each_so form s Law law journal begun = each_has (Comes form s) Law (λ _. Unit {0}) (λ _ _ _ _. tt) (λ past x _ c. law past x c) [] journal tt begun
 
 all_unstopped : (form : Form) (s : ScenarioLists) (journal : List Entry) → IsBegun form s journal → EachAfter (IsUnstopped (layout_of s)) [] journal
@@ -85,19 +88,22 @@ all_of_run s past x h c = let last = c.may.of_run in rw (list_all-append (λ (y 
 run_history : (s : ScenarioLists) (journal : List Entry) → IsLawful s → IsBegun Run s journal → IsEnded Run s journal → IsRunHistory s journal
 run_history s journal lawful begun ended =
     let walked = all_walked Run s journal lawful begun in
-    let receipts : ReceivesInOrder s journal = each_so Run s (λ (past : List Entry) (x : Entry). IsReceiptInOrder s past x.event) (λ past x c. c.may.receipt) journal begun in
+    let receipts : ReceivesInOrder s journal = each_so Run s (λ (past : List Entry) (x : Entry). IsReceiptInOrder s past x.event) (λ past x c. c.may.receipt)
+    journal begun in
     record {
       history = walked.history;
       stamped = walked.stamped;
       scripts = ended.scripts;
       links = all_is_received s journal receipts ended.received;
-      last_tries = each_so Run s (λ (past : List Entry) (x : Entry). (not (is_last s past x) || is_all_received s past) ≡ true) (λ past x c. in_time (is_last s past x) (is_all_received s past) c.in_time) journal begun;
+      last_tries = each_so Run s (λ (past : List Entry) (x : Entry). (not (is_last s past x) || is_all_received s past) ≡ true)
+          (λ past x c. in_time (is_last s past x) (is_all_received s past) c.in_time) journal begun;
       rest = ended.rest;
       events = over_each (Comes Run s) (KeepsToEvents s) (all_of_run s) [] journal refl begun;
       unstopped = all_unstopped Run s journal begun;
     }
 
-pub history_of : (form : Form) (s : ScenarioLists) (journal : List Entry) → IsLawful s → IsBegun form s journal → IsEnded form s journal → IsHistoryOf form s journal
+pub history_of : (form : Form) (s : ScenarioLists) (journal : List Entry) → IsLawful s → IsBegun form s journal → IsEnded form s journal →
+    IsHistoryOf form s journal
 history_of Step s journal lawful begun ended = step_history s journal lawful begun ended
 history_of Run s journal lawful begun ended = run_history s journal lawful begun ended
 

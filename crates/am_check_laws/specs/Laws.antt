@@ -2,18 +2,18 @@
 use Rattle.std.specs.Prelude.{◌≡◌, ◌↔◌, ℕ, Some, List, [], map, length, take, drop}
 use Rattle.std.specs.List.{range_with_len}
 use Rattle.am_office.specs.declared.Entry.{Entry}
-use Rattle.am_report.specs.Report.{report}
+use Rattle.am_office_report.specs.Report.{report}
 use Rattle.am_scenario_types.specs.declared.parts.Form.{Form}
 use Rattle.am_scenario_types.specs.declared.parts.Form.TheVariants.{Step, Run}
 use Rattle.am_scenario_types.specs.Lawful.{IsLawful}
 use Rattle.am_scenario_types.specs.Lists.{ScenarioLists}
 use Rattle.am_scenario.specs.Laws.{Spells}
-use Rattle.am_scripts.specs.Layout.{layout_of, events_of}
-use Rattle.am_scripts.specs.Links.{KeepsLinks}
-use Rattle.am_scripts.specs.Scripts.{KeepsScripts}
-use Rattle.am_scripts.specs.Standings.{IsAtRest}
-use Rattle.am_scripts.specs.Follows.{KeepsLastTries, KeepsToEvents}
-use Rattle.am_laws_steps.specs.Laws.{IsUnstopped}
+use Rattle.am_model_scripts.specs.Layout.{layout_of, events_of}
+use Rattle.am_model_scripts.specs.Links.{KeepsLinks}
+use Rattle.am_model_scripts.specs.Scripts.{KeepsScripts}
+use Rattle.am_model_scripts.specs.Standings.{IsAtRest}
+use Rattle.am_model_scripts.specs.Follows.{KeepsLastTries, KeepsToEvents}
+use Rattle.am_model_steps.specs.Laws.{IsUnstopped}
 use Rattle.am_model.specs.History.{EachAfter, IsHistory}
 use Rattle.am_model.specs.PostOffice.{PostOffice}
 use Rattle.am_model.specs.Steps.{FollowsSteps}

@@ -12,12 +12,12 @@ use Rattle.am_model.specs.History.{IsHistory}
 use Rattle.am_model.specs.Merge.{is_ordered}
 use Rattle.am_model.specs.PostOffice.{PostOffice}
 use Rattle.am_scenario_types.specs.Lists.{ScenarioLists}
-use Rattle.am_scripts.specs.Layout.{layout_of}
-use Rattle.am_drain.specs.Cut.{IsDrainCutOff, IsDrainedWithRoom}
-use Rattle.am_drain.specs.Follows.{IsGoodPhase, IsStoppedFor}
-use Rattle.am_drainer.specs.Stops.{IsDrainBeginning}
-use Rattle.am_drain_steps.specs.Endings.{UnknownIsPlanned, WithholdsNothing}
-use Rattle.am_run_laws.specs.Drained.{HasShortLogs}
+use Rattle.am_model_scripts.specs.Layout.{layout_of}
+use Rattle.am_model_drain.specs.Cut.{IsDrainCutOff, IsDrainedWithRoom}
+use Rattle.am_model_drain.specs.Follows.{IsGoodPhase, IsStoppedFor}
+use Rattle.am_cluster_drainer.specs.Stops.{IsDrainBeginning}
+use Rattle.am_laws_drain_steps.specs.Endings.{UnknownIsPlanned, WithholdsNothing}
+use Rattle.am_laws_runs.specs.Drained.{HasShortLogs}
 use Rattle.am_cluster.specs.declared.RunFault.{RunFault}
 use Rattle.am_cluster.specs.declared.RunFault.TheVariants as Runs
 use Rattle.am_cluster.specs.declared.DrainFault.{DrainFault}

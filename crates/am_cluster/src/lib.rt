@@ -2,33 +2,36 @@
 #![tactic(auto)]
 
 ghost use Rattle.am_cluster.specs.Runs.{IsAloneStopped, IsDrainHalted, IsRunDone, IsRunStopped, ObeysRunLaws};
-ghost use Rattle.am_drain.specs.Cut.{IsDrainedWithRoom};
-ghost use Rattle.am_drain.specs.Follows.{IsGoodPhase};
-ghost use Rattle.am_drainer.specs.Stops.{IsDrainStopped};
-ghost use Rattle.am_drain_steps.specs.Runs.{IsWholeRun};
-ghost use Rattle.am_scripts.specs.Layout.{layout_of};
+ghost use Rattle.am_model_drain.specs.Cut.{IsDrainedWithRoom};
+ghost use Rattle.am_model_drain.specs.Follows.{IsGoodPhase};
+ghost use Rattle.am_cluster_drainer.specs.Stops.{IsDrainStopped};
+ghost use Rattle.am_laws_drain_steps.specs.Runs.{IsWholeRun};
+ghost use Rattle.am_model_scripts.specs.Layout.{layout_of};
 ghost use Rattle.am_model.specs.History.{IsHistory};
 ghost use Rattle.am_model.specs.Merge.{is_ordered};
 ghost use Rattle.am_model.specs.PostOffice.{PostOffice};
-ghost use Rattle.am_run_laws.specs.Left.{LeavesNothing};
+ghost use Rattle.am_laws_runs.specs.Left.{LeavesNothing};
 ghost use Rattle.am_scenario_types.specs.Lawful.{IsLawful};
 ghost use Rattle.am_scenario_types.specs.declared.parts.Network.TheVariants.{Packet};
 ghost use Rattle.am_scenario_types.specs.declared.parts.ThreadLine.{ThreadLine};
-ghost use Rattle.am_scripts.specs.Links.{KeepsLinks, ReceivesInOrder};
-ghost use Rattle.am_scripts.specs.Scripts.{BeginsScripts, calls_of};
+ghost use Rattle.am_model_scripts.specs.Links.{KeepsLinks, ReceivesInOrder};
+ghost use Rattle.am_model_scripts.specs.Scripts.{BeginsScripts, calls_of};
 ghost use Rattle.std.specs.Prelude.{◌≡◌, [], true, IfErr, IfOk, OnOk, length, map};
 
-use am_crew::make_phase;
-pub use am_crew::{Gate, OpenGate};
-use am_machine::Cluster;
-use am_model::EntryFault;
-use am_office::{Journal, Part};
-use am_run_laws::{
+mod journals;
+
+pub use crate::journals::RunJournal;
+use am_cluster_crew::make_phase;
+pub use am_cluster_crew::{Gate, OpenGate};
+pub use am_cluster_scripted::calls_made;
+use am_cluster_scripted::{ScriptedCluster, drain_cluster, tell_logs};
+use am_laws_runs::{
     drains_leave_nothing, drains_receive_all, none_is_refused, runs_with_room_are_whole,
 };
+use am_machine::Cluster;
+use am_model::EntryFault;
+use am_office::Part;
 use am_scenario_types::Scenario;
-pub use am_scripted::calls_made;
-use am_scripted::{ScriptedCluster, drain_cluster, tell_logs};
 use std::alloc::Global;
 use std::thread::Threads;
 use thiserror::Error;
@@ -36,7 +39,7 @@ use thiserror::Error;
 /// A run that came to its end.
 #[derive(Debug, Drop)]
 pub struct Finished {
-    pub journal: Journal,
+    pub journal: RunJournal,
 }
 
 /// Why a run did not come to its end.
@@ -44,7 +47,7 @@ pub struct Finished {
 pub enum RunFault {
     /// The log of this part is full, and the next entry would have to go into it. The journal has the entries before it.
     #[error("a log is full")]
-    LogFull { part: Part, journal: Journal },
+    LogFull { part: Part, journal: RunJournal },
     /// There is no memory for the run.
     #[error("there is no memory for the run")]
     NoMemory,
@@ -86,7 +89,7 @@ pub fn drain(cluster: &mut Cluster, scenario: &Scenario, made: &mut [u32]) -> Re
     drains_receive_all();
     tell_logs(cluster, scenario);
     cluster.laws();
-    let drained = am_scripted::drain(cluster, scenario, made);
+    let drained = am_cluster_scripted::drain(cluster, scenario, made);
     cluster.laws();
     match drained {
         Ok(()) => Ok(()),
@@ -101,7 +104,7 @@ pub fn drain(cluster: &mut Cluster, scenario: &Scenario, made: &mut [u32]) -> Re
 fn run_of(
     scenario: &Scenario,
     drained: Result<(), EntryFault>,
-    journal: Journal,
+    journal: RunJournal,
 ) -> Result<Finished, RunFault>
     requires lawful { IsLawful scenario.now }
     requires packet { scenario.now.network ≡ Packet }
@@ -140,20 +143,14 @@ pub fn alone(alloc: Global, scenario: &Scenario) -> Result<Finished, RunFault>
         Ok(machine) => machine,
         Err(_) => return Err(RunFault::NoMemory),
     };
-    let drained = am_drainer::drain(&mut machine);
-    match machine.journal(alloc) {
-        Ok(journal) => run_of(scenario, drained, journal),
-        Err(_) => Err(RunFault::NoMemory),
-    }
+    let drained = am_cluster_drainer::drain(&mut machine);
+    machine.laws();
+    run_of(scenario, drained, RunJournal::of(machine.into_cluster()))
 }
 
 /// The drain of what the threads of a run made: the cluster is that of the scenario, and its journal is a good phase, which is empty
 /// where there are no turns. It answers as `run` does of that phase.
-pub fn drain_phase(
-    alloc: Global,
-    scenario: &Scenario,
-    mut cluster: Cluster,
-) -> Result<Finished, RunFault>
+pub fn drain_phase(scenario: &Scenario, mut cluster: Cluster) -> Result<Finished, RunFault>
     requires lawful { IsLawful scenario.now }
     requires packet { scenario.now.network ≡ Packet }
     requires layout { cluster.layout ≡ layout_of scenario.now }
@@ -167,10 +164,8 @@ pub fn drain_phase(
     none_is_refused();
     tell_logs(&cluster, scenario);
     let drained = drain_cluster(&mut cluster, scenario);
-    let journal = match cluster.journal(alloc) {
-        Ok(journal) => journal,
-        Err(_) => return Err(RunFault::NoMemory),
-    };
+    cluster.laws();
+    let journal = RunJournal::of(cluster);
     match drained {
         Ok(()) => Ok(Finished { journal }),
         Err(EntryFault::LogFull(full)) => Err(RunFault::LogFull {
@@ -220,5 +215,5 @@ pub fn run<R: Threads + Sync, G: Gate + Sync>(
     let Ok(cluster) = make_phase(rt, alloc, scenario, gate) else {
         return Err(RunFault::NoMemory);
     };
-    drain_phase(alloc, scenario, cluster)
+    drain_phase(scenario, cluster)
 }

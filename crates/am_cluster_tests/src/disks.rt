@@ -3,8 +3,8 @@
 use crate::gates::{Hold, HoldingGate};
 use crate::phases::hold;
 use am_cluster::run;
-use am_entry_lines::entry_line;
 use am_office::{Entry, NoMemory};
+use am_office_lines::entry_line;
 use am_scenario::{Form, read};
 use std::alloc::Global;
 use std::test::Fail;
@@ -51,7 +51,8 @@ pub fn begins<R: Threads + Sync>(
     let gate = HoldingGate::new(holds);
     let scenario = read(alloc, Form::Run, text.as_bytes())?;
     let finished = run(rt, alloc, &scenario, &gate)?;
-    let made = first_lines(alloc, &finished.journal.entries, lines.lines().count())?;
+    let journal = finished.journal.copied(alloc)?;
+    let made = first_lines(alloc, &journal.entries, lines.lines().count())?;
     Ok(gate.held_in_vain() == 0 && made.as_slice() == lines.as_bytes())
 }
 

@@ -1,13 +1,13 @@
 //! A run whose cluster is taken apart into its nodes and put together between its phase and its drain.
 
-ghost use Rattle.am_drain.specs.Cut.{IsDrainedWithRoom};
-ghost use Rattle.am_drain.specs.Follows.{IsGoodPhase};
-ghost use Rattle.am_scripts.specs.Layout.{layout_of};
+ghost use Rattle.am_model_drain.specs.Cut.{IsDrainedWithRoom};
+ghost use Rattle.am_model_drain.specs.Follows.{IsGoodPhase};
+ghost use Rattle.am_model_scripts.specs.Layout.{layout_of};
 ghost use Rattle.am_model.specs.Layout.{AllAre};
 ghost use Rattle.am_office.specs.declared.Entry.{Entry as Made};
 ghost use Rattle.am_scenario_types.specs.Lawful.{IsLawful};
 ghost use Rattle.am_scenario_types.specs.declared.parts.Network.TheVariants.{Packet};
-ghost use Rattle.am_scripts.specs.Links.{ReceivesInOrder};
+ghost use Rattle.am_model_scripts.specs.Links.{ReceivesInOrder};
 ghost use Rattle.std.specs.Prelude.{◌≡◌, ◌≤◌, ◌^◌, IfSome, IsTrue};
 
 use am_cluster::{calls_made, drain};
@@ -32,7 +32,8 @@ fn are_low(entries: &[Entry]) -> bool
 fn is_low(alloc: Global, cluster: &Cluster) -> Option<bool>
     ensures { IfSome result (λ low. IsTrue low → AllAre (λ (x : Made). x.stamp ≤ 2 ^ 63) cluster.now.journal) }
 {
-    let journal = cluster.journal(alloc).ok()?;
+    let logged = cluster.journal(alloc).ok()?;
+    let journal = logged.copied(alloc).ok()?;
     Some(are_low(&journal.entries))
 }
 
@@ -66,5 +67,6 @@ pub fn drained_in_parts(alloc: Global, scenario: &Scenario, cluster: Cluster) ->
     let mut cluster = parted(alloc, scenario, cluster)?;
     let mut made = calls_made(alloc, scenario, &cluster).ok()?;
     drain(&mut cluster, scenario, &mut made).ok()?;
-    cluster.journal(alloc).ok()
+    let logged = cluster.journal(alloc).ok()?;
+    logged.copied(alloc).ok()
 }

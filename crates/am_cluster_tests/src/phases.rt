@@ -3,10 +3,11 @@
 use crate::disks::begins;
 use crate::gates::{Hold, HoldingGate, Moment, StepGate};
 use crate::workloads::workload;
-use am_cluster::{OpenGate, run};
-use am_crew::make_phase;
-use am_office::{Entry, Journal, accepted_of};
-use am_report::report;
+use am_cluster::{OpenGate, RunJournal, run};
+use am_cluster_crew::make_phase;
+use am_office::{Entry, accepted_of};
+use am_office_journal::LoggedJournal;
+use am_office_report::report;
 use am_scenario::{Form, read};
 use std::alloc::Global;
 use std::test::Fail;
@@ -45,7 +46,7 @@ pub const fn hold(worker: u32, turn: u32, other: u32, its_turn: u32) -> Hold {
 }
 
 /// The number of accepted messages.
-fn accepted(entries: &[Entry]) -> usize {
+fn accepted(entries: &[&Entry]) -> usize {
     let mut count = 0usize;
     for entry in entries {
         if accepted_of(entry).is_some() {
@@ -56,7 +57,7 @@ fn accepted(entries: &[Entry]) -> usize {
 }
 
 /// The numbers of fates that a journal's report tells, and of those that say pending.
-fn fates_told(alloc: Global, journal: &Journal) -> Result<(usize, usize), Fail> {
+fn fates_told(alloc: Global, journal: &LoggedJournal) -> Result<(usize, usize), Fail> {
     let text = String::from_utf8(report(alloc, &[], journal)?)?;
     let mut told = 0usize;
     let mut pending = 0usize;
@@ -72,8 +73,9 @@ fn fates_told(alloc: Global, journal: &Journal) -> Result<(usize, usize), Fail> 
 }
 
 /// Whether each accepted message has a fate that is told, and none is pending.
-fn tells_each_fate(alloc: Global, journal: &Journal) -> Result<bool, Fail> {
-    Ok(fates_told(alloc, journal)? == (accepted(&journal.entries), 0))
+fn tells_each_fate(alloc: Global, journal: &RunJournal) -> Result<bool, Fail> {
+    let logged = journal.logged(alloc)?;
+    Ok(fates_told(alloc, &logged)? == (accepted(logged.entries()), 0))
 }
 
 #[test]
@@ -110,10 +112,10 @@ fn most_entries_are_made_in_the_phase(rt: HostRuntime) -> Result<(), Fail> {
     let scenario = workload(rt.alloc(), 1000)?;
     let gate = StepGate::new(&rt, 16);
     let phase = make_phase(&rt, rt.alloc(), &scenario, &gate)?;
-    let by_workers = phase.journal(rt.alloc())?.entries.len();
+    let by_workers = phase.journal(rt.alloc())?.entries().len();
     let gate = StepGate::new(&rt, 16);
     let finished = run(&rt, rt.alloc(), &scenario, &gate)?;
-    let all = finished.journal.entries.len();
+    let all = finished.journal.logged(rt.alloc())?.entries().len();
     assert!(rt; by_workers > all / 2);
     assert!(rt; tells_each_fate(rt.alloc(), &finished.journal)?);
     Ok(())

@@ -3,7 +3,7 @@
 ghost use Rattle.am_scenario_types.specs.Lawful.{IsLawful};
 ghost use Rattle.am_scenario_types.specs.declared.parts.Network.TheVariants.{Packet};
 ghost use Rattle.am_scenario_types.specs.declared.parts.ThreadLine.{ThreadLine};
-ghost use Rattle.am_scripts.specs.Scripts.{calls_of};
+ghost use Rattle.am_model_scripts.specs.Scripts.{calls_of};
 ghost use Rattle.std.specs.Prelude.{◌≡◌, ◌≤◌, [], IfOk, length, map};
 
 use am_office::NoMemory;

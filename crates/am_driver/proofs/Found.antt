@@ -14,7 +14,8 @@ pub some_found : {X : Type 0} (p : X → Bool) (xs : List X) → is_some (find p
 some_found p [] = refl
 some_found p (x ∷ xs) = by_test p x xs (p x) (some_found p xs)
   where
-    by_test : {X : Type 0} (p : X → Bool) (x : X) (xs : List X) (b : Bool) → is_some (find p xs) ≡ list_any p xs → is_some (cond b (Some x) (find p xs)) ≡ (b || list_any p xs)
+    by_test : {X : Type 0} (p : X → Bool) (x : X) (xs : List X) (b : Bool) → is_some (find p xs) ≡ list_any p xs →
+        is_some (cond b (Some x) (find p xs)) ≡ (b || list_any p xs)
     by_test p x xs true more = refl
     by_test p x xs false more = more
 
@@ -35,7 +36,8 @@ found P p (y ∷ ys) x all h = by_test P p y ys x (p y) refl all h (λ more. fou
     here {X} P p y ys x e holds passes =
         record { holds = subst P e holds; passes = ap p (sym e) ∙ passes; among = λ q h. or_left (q y) (list_any q ys) (ap q e ∙ h) }
 
-    by_test : {X : Type 0} (P : X → Type 0) (p : X → Bool) (y : X) (ys : List X) (x : X) (b : Bool) → p y ≡ b → AllAre P (y ∷ ys) → cond b (Some y) (find p ys) ≡ Some x → (find p ys ≡ Some x → IsFound P p ys x) → IsFound P p (y ∷ ys) x
+    by_test : {X : Type 0} (P : X → Type 0) (p : X → Bool) (y : X) (ys : List X) (x : X) (b : Bool) → p y ≡ b → AllAre P (y ∷ ys) →
+        cond b (Some y) (find p ys) ≡ Some x → (find p ys ≡ Some x → IsFound P p ys x) → IsFound P p (y ∷ ys) x
     by_test P p y ys x true t all h more = here P p y ys x (cc) all.0 t
     by_test P p y ys x false t all h more = later P p y ys x (more h)
 

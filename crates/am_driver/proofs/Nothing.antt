@@ -8,7 +8,8 @@ use Rattle.am_driver.specs.declared.EndView.{EndView}
 use Rattle.am_driver.specs.declared.Move.{Move}
 use Rattle.am_driver.specs.declared.Move.TheVariants as Moves
 use Rattle.am_driver.specs.Lists.{ViewLists}
-use Rattle.am_driver.specs.Moves.{has_frame, is_next, is_after, may_unload, wants_memory, wants_frame, may_page_out, free_frame, next_framed, must_drain, is_crowded, given, load_into, unload, page_in, load, drain, page_out, first_move, next_move, NoRuleApplies}
+use Rattle.am_driver.specs.Moves.{has_frame, is_next, is_after, may_unload, wants_memory, wants_frame, may_page_out, free_frame, next_framed, must_drain}
+use Rattle.am_driver.specs.Moves.{is_crowded, given, load_into, unload, page_in, load, drain, page_out, first_move, next_move, NoRuleApplies}
 use Rattle.am_driver.proofs.Found.{some_found, weaker}
 
 some_map : {X Y : Type 0} (f : X → Y) (o : Option X) → is_some (option_map f o) ≡ is_some o
@@ -73,7 +74,8 @@ real_load None end h = cc
 real_load (Some frame) None h = cc
 real_load (Some frame) (Some e) h = cc
 
-passed : (o : Option Move) (rest : List (Option Move)) → o ≢ Some Moves.Nothing → first_move (o ∷ rest) ≡ Moves.Nothing → (is_some o ≡ false) × (first_move rest ≡ Moves.Nothing)
+passed : (o : Option Move) (rest : List (Option Move)) → o ≢ Some Moves.Nothing → first_move (o ∷ rest) ≡ Moves.Nothing →
+    (is_some o ≡ false) × (first_move rest ≡ Moves.Nothing)
 passed None rest real h = (refl, h)
 passed (Some move) rest real h = absurd (real (ap (λ (m : Move). Some m) h))
 
@@ -88,11 +90,16 @@ nothing_applies view h =
     let f3 : List (Option Move) = drain view ∷ f4 in
     let f2 : List (Option Move) = load view ∷ f3 in
     let f1 : List (Option Move) = page_in view ∷ f2 in
-    let h1 : (is_some (unload view) ≡ false) × (first_move f1 ≡ Moves.Nothing) = passed (unload view) f1 (real_map (λ (e : EndView). Moves.Unload e.id) (λ e w. cc) (find may_unload view.ends)) h in
-    let h2 : (is_some (page_in view) ≡ false) × (first_move f2 ≡ Moves.Nothing) = passed (page_in view) f2 (real_map (λ (e : EndView). Moves.PageIn e.id) (λ e w. cc) (find wants_memory view.ends)) h1.1 in
-    let h3 : (is_some (load view) ≡ false) × (first_move f3 ≡ Moves.Nothing) = passed (load view) f3 (real_load (free_frame view) (find wants_frame view.ends)) h2.1 in
-    let h4 : (is_some (drain view) ≡ false) × (first_move f4 ≡ Moves.Nothing) = passed (drain view) f4 (real_map (λ (e : EndView). Moves.Drain e.id) (λ e w. cc) (given (must_drain view) (next_framed view))) h3.1 in
-    let h5 : (is_some (page_out view) ≡ false) × (first_move f5 ≡ Moves.Nothing) = passed (page_out view) f5 (real_map (λ (e : EndView). Moves.PageOut e.id) (λ e w. cc) (given (is_crowded view) (find may_page_out view.ends))) h4.1 in
+    let h1 : (is_some (unload view) ≡ false) × (first_move f1 ≡ Moves.Nothing) =
+    passed (unload view) f1 (real_map (λ (e : EndView). Moves.Unload e.id) (λ e w. cc) (find may_unload view.ends)) h in
+    let h2 : (is_some (page_in view) ≡ false) × (first_move f2 ≡ Moves.Nothing) =
+    passed (page_in view) f2 (real_map (λ (e : EndView). Moves.PageIn e.id) (λ e w. cc) (find wants_memory view.ends)) h1.1 in
+    let h3 : (is_some (load view) ≡ false) × (first_move f3 ≡ Moves.Nothing) =
+    passed (load view) f3 (real_load (free_frame view) (find wants_frame view.ends)) h2.1 in
+    let h4 : (is_some (drain view) ≡ false) × (first_move f4 ≡ Moves.Nothing) =
+    passed (drain view) f4 (real_map (λ (e : EndView). Moves.Drain e.id) (λ e w. cc) (given (must_drain view) (next_framed view))) h3.1 in
+    let h5 : (is_some (page_out view) ≡ false) × (first_move f5 ≡ Moves.Nothing) =
+    passed (page_out view) f5 (real_map (λ (e : EndView). Moves.PageOut e.id) (λ e w. cc) (given (is_crowded view) (find may_page_out view.ends))) h4.1 in
     record {
       unload = sym (some_unload view) ∙ h1.0;
       page_in = sym (some_page_in view) ∙ h2.0;

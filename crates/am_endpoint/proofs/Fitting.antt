@@ -7,8 +7,8 @@ use Rattle.am_office.specs.declared.Outcome.{Outcome}
 use Rattle.am_office.specs.declared.Outcome.TheVariants as Out
 use Rattle.am_model.specs.Endpoint.{State}
 use Rattle.am_model.specs.Changes.{put, reached}
-use Rattle.am_body.specs.Views.{Fits}
-use Rattle.am_body.proofs.Slots.{slots_put}
+use Rattle.am_endpoint_body.specs.Views.{Fits}
+use Rattle.am_endpoint_body.proofs.Slots.{slots_put}
 
 reached_by : (t : Bool) (m : Message) (s : State) → Fits (if t then put m s else s).body → Fits s.body
 reached_by true m s fits = omega (arith, fits, slots_put m s)

@@ -1,10 +1,9 @@
 -- What is kept of a state, in memory and on disk.
-use Rattle.std.proofs.Common.{◌≡◌, ℕ, Bool, true, false, [], ◌||◌, Option, Some, None, cond, refl, sym, ap, ◌∙◌, subst, true≢false}
+use Rattle.std.proofs.Common.{◌≡◌, ℕ, Bool, true, false, ◌||◌, Option, Some, cond, refl, sym, ap, ◌∙◌, subst, true≢false}
 use Rattle.am_names.specs.declared.Cause.TheVariants as Causes
 use Rattle.am_names.specs.declared.EndpointId.{EndpointId}
 use Rattle.am_names.specs.declared.Message.{Message}
 use Rattle.am_names.specs.declared.NodeId.{NodeId}
-use Rattle.am_names.specs.declared.Serial.{Serial}
 use Rattle.am_names.specs.declared.Verdict.TheVariants as Verdicts
 use Rattle.am_office.specs.declared.Call.{Call}
 use Rattle.am_office.specs.declared.Entry.{Entry}
@@ -16,16 +15,13 @@ use Rattle.am_office.specs.declared.Place.{Place}
 use Rattle.am_office.specs.declared.Place.TheVariants.{Host, Disk, Frame, Direct}
 use Rattle.am_office.specs.declared.Received.{Received}
 use Rattle.am_office.specs.declared.Received.TheVariants as Got
-use Rattle.am_model.specs.declared.Flying.{Flying}
 use Rattle.am_model.specs.declared.Head.{Head}
-use Rattle.am_model.specs.Allowed.{MayArrive, MaySettle, arrival_verdict, arrived_message, is_network_of, verdict_in}
-use Rattle.am_model.specs.Changes.{after, called, changed, flying_of, received}
-use Rattle.am_model.specs.Endpoint.{State, is_direct, is_in_a_frame, is_on_disk, is_on_host, verdict}
-use Rattle.am_model.specs.Order.{IsInOrder}
-use Rattle.am_model.proofs.PlaceKinds.{framed_not_on_disk}
+use Rattle.am_model.specs.Allowed.{MayArrive, arrival_verdict, arrived_message, is_network_of, verdict_in}
+use Rattle.am_model.specs.Changes.{after, called, changed, received}
+use Rattle.am_model.specs.Endpoint.{State, is_direct, is_on_disk, is_on_host, verdict}
 use Rattle.am_model.proofs.Unchanged.{called_place, carried_place, received_place, expired_place}
 use Rattle.am_endpoint.specs.Events.{is_kept_out, keeps_in_memory}
-use Rattle.am_endpoint.specs.Held.{IsAway, IsHeldOf, IsHere, head_of, held_wanted, with_wanted}
+use Rattle.am_endpoint.specs.Held.{IsHeldOf, IsHere, held_wanted, with_wanted}
 use Rattle.am_endpoint.specs.declared.fields.Fields.{Fields}
 use Rattle.am_endpoint.specs.declared.held.Held.{Held}
 use Rattle.am_endpoint.specs.declared.held.Held.TheVariants.{Here, OnDisk}
@@ -35,21 +31,8 @@ use Rattle.am_endpoint.specs.declared.held.Held.TheVariants.{Here, OnDisk}
 pub here_of : (pool : Option ℕ) (s : State) (held : Held) (f : Fields) → IsHeldOf pool s held → held ≡ Here f → IsHere pool s f
 here_of pool s held f holds is = subst (λ (h : Held). IsHeldOf pool s h) is holds
 
-pub away_of : (pool : Option ℕ) (s : State) (held : Held) (h : Head) → IsHeldOf pool s held → held ≡ OnDisk h → IsAway s h
-away_of pool s held h holds is = subst (λ (x : Held). IsHeldOf pool s x) is holds
-
-pub never_away : (pool : Option ℕ) (s : State) (held : Held) (h : Head) → IsHeldOf pool s held → held ≡ OnDisk h → is_on_disk s.head.place ≡ false → ⊥
-never_away pool s held h holds is here = true≢false (sym (away_of pool s held h holds is).on_disk ∙ here)
-
-pub head_told : (pool : Option ℕ) (s : State) (held : Held) → IsHeldOf pool s held → head_of held ≡ s.head
-head_told pool s (Here f) holds = ap (λ (t : State). t.head) holds.state
-head_told pool s (OnDisk h) holds = holds.head
-
-pub body_told : (pool : Option ℕ) (s : State) (f : Fields) → IsHere pool s f → f.body ≡ record { pool = pool; body = s.body; flights = f.body.flights }
-body_told pool s f here =
-    ap (λ (p : Option ℕ). record f.body { pool = p }) here.pooled ∙ ap (λ (t : State). record f.body { pool = pool; body = t.body }) here.state
-
-pub wanted_held : (pool : Option ℕ) (s : State) (held : Held) (wanted : Bool) → IsHeldOf pool s held → IsHeldOf pool (with_wanted s wanted) (held_wanted held wanted)
+pub wanted_held : (pool : Option ℕ) (s : State) (held : Held) (wanted : Bool) → IsHeldOf pool s held →
+    IsHeldOf pool (with_wanted s wanted) (held_wanted held wanted)
 wanted_held pool s (Here f) wanted holds =
     record { in_memory = holds.in_memory; state = ap (λ (t : State). with_wanted t wanted) holds.state; pooled = holds.pooled }
 wanted_held pool s (OnDisk h) wanted holds =
@@ -61,7 +44,8 @@ bound_place : (node : NodeId) (e end : EndpointId) (s : State) (o : Outcome) →
 bound_place node e end s (Out.Sent m peer channel seq attempt number) = refl
 bound_place node e end s o = refl
 
-changed_here : (e : EndpointId) (s : State) (event : Event) (o : Outcome) → keeps_in_memory event ≡ true → is_on_disk s.head.place ≡ false → is_on_disk (changed e s event o).head.place ≡ false
+changed_here : (e : EndpointId) (s : State) (event : Event) (o : Outcome) → keeps_in_memory event ≡ true → is_on_disk s.head.place ≡ false →
+    is_on_disk (changed e s event o).head.place ≡ false
 changed_here e s (Events.Carry from) o keeps here = ap is_on_disk (carried_place e from s o) ∙ here
 changed_here e s (Events.Bind node end) o keeps here = ap is_on_disk (bound_place node e end s o) ∙ here
 changed_here e s (Events.Expire node peer channel) o keeps here = ap is_on_disk (expired_place s o) ∙ here
@@ -72,7 +56,8 @@ changed_here e s (Events.Unload node end) o keeps here = refl
 changed_here e s (Events.Load node end frame) o keeps here = refl
 changed_here e s event o keeps here = absurd (cc)
 
-pub stays_here : (e : EndpointId) (s : State) (x : Entry) → keeps_in_memory x.event ≡ true → is_on_disk s.head.place ≡ false → is_on_disk (after e s x).head.place ≡ false
+pub stays_here : (e : EndpointId) (s : State) (x : Entry) → keeps_in_memory x.event ≡ true → is_on_disk s.head.place ≡ false →
+    is_on_disk (after e s x).head.place ≡ false
 stays_here e s x keeps here = changed_here e s x.event x.outcome keeps here
 
 pub called_here : (s : State) (c : Call) (o : Outcome) → is_on_disk s.head.place ≡ false → is_on_disk (called s c o).head.place ≡ false
@@ -92,22 +77,17 @@ host_here (Frame frame) is = absurd (cc)
 host_here Direct is = absurd (cc)
 host_here Disk is = absurd (cc)
 
-flies_framed : (framed : Bool) (serial : Serial) (s : State) (f : Flying) → (framed ≡ false → s.body.in_flight ≡ []) → flying_of serial s.body.in_flight ≡ Some f → framed ≡ true
-flies_framed true serial s f grounded flies = refl
-flies_framed false serial s f grounded flies =
-    let none : None ≡ Some f = sym (ap (flying_of serial) (grounded refl)) ∙ flies in
-    absurd (cc)
-
-pub settled_here : (pool : Option ℕ) (limit : ℕ) (e : EndpointId) (s : State) (x : Entry) → IsInOrder pool e s → MaySettle limit e s x → is_on_disk s.head.place ≡ false
-settled_here pool limit e s x order may =
-    framed_not_on_disk s.head.place (flies_framed (is_in_a_frame s.head.place) may.flight.message.serial s may.flight order.grounded may.in_flight)
-
 -- a message that arrives at an endpoint on disk
 
-pub disk_verdict : (s : State) (m : Message) → is_on_disk s.head.place ≡ true → verdict s m ≡ cond s.head.closed (Verdicts.Refused Causes.NoEndpoint) (Verdicts.Refused Causes.NotResident)
+pub disk_verdict : (s : State) (m : Message) → is_on_disk s.head.place ≡ true →
+    verdict s m ≡ cond s.head.closed (Verdicts.Refused Causes.NoEndpoint) (Verdicts.Refused Causes.NotResident)
 disk_verdict s m on = by_place s.head.place s.head.closed on
   where
-    by_place : (place : Place) (closed : Bool) → is_on_disk place ≡ true → verdict (record { head = record { place = place; wanted = s.head.wanted; draining = s.head.draining; closed = closed }; body = s.body }) m ≡ cond closed (Verdicts.Refused Causes.NoEndpoint) (Verdicts.Refused Causes.NotResident)
+    by_place : (place : Place) (closed : Bool) → is_on_disk place ≡ true →
+        verdict (record {
+          head = record { place = place; wanted = s.head.wanted; draining = s.head.draining; closed = closed };
+          body = s.body;
+        }) m ≡ cond closed (Verdicts.Refused Causes.NoEndpoint) (Verdicts.Refused Causes.NotResident)
     by_place Disk true on = refl
     by_place Disk false on = refl
     by_place Host closed on = absurd (cc)
@@ -118,7 +98,8 @@ refused : (closed : Bool) → Some Verdicts.Accepted ≡ Some (cond closed (Verd
 refused true is = absurd (cc)
 refused false is = absurd (cc)
 
-refused_so : (e : EndpointId) (s : State) (m : Message) (channel seq attempt : ℕ) (r : Received) → verdict_in r ≡ Some (verdict s m) → is_on_disk s.head.place ≡ true → received e s r ≡ with_wanted s (is_kept_out (Out.Received channel seq attempt r) || s.head.wanted)
+refused_so : (e : EndpointId) (s : State) (m : Message) (channel seq attempt : ℕ) (r : Received) → verdict_in r ≡ Some (verdict s m) →
+    is_on_disk s.head.place ≡ true → received e s r ≡ with_wanted s (is_kept_out (Out.Received channel seq attempt r) || s.head.wanted)
 refused_so e s m channel seq attempt (Got.Accepted n answer) judged on = absurd (refused s.head.closed (judged ∙ ap Some (disk_verdict s m on)))
 refused_so e s m channel seq attempt (Got.Refused n Causes.NotResident answer) judged on = refl
 refused_so e s m channel seq attempt (Got.Refused n Causes.NoEndpoint answer) judged on = refl
@@ -131,12 +112,15 @@ refused_so e s m channel seq attempt r judged on = absurd (cc)
 direct_never : (place : Place) → is_direct place ≡ true → is_on_disk place ≡ true → ⊥
 direct_never place direct on = true≢false (sym on ∙ direct_here place direct)
 
-arrived_so : (e : EndpointId) (s : State) (m : Message) (event : Event) (o : Outcome) → arrived_message event o ≡ Some m → arrival_verdict event o ≡ Some (verdict s m) → is_network_of event s.head.place ≡ true → is_on_disk s.head.place ≡ true → changed e s event o ≡ with_wanted s (is_kept_out o || s.head.wanted)
+arrived_so : (e : EndpointId) (s : State) (m : Message) (event : Event) (o : Outcome) → arrived_message event o ≡ Some m →
+    arrival_verdict event o ≡ Some (verdict s m) → is_network_of event s.head.place ≡ true → is_on_disk s.head.place ≡ true →
+    changed e s event o ≡ with_wanted s (is_kept_out o || s.head.wanted)
 arrived_so e s m (Events.Carry from) o is judged network on = absurd (direct_never s.head.place network on)
 arrived_so e s m (Events.Receive node peer number) (Out.Received channel seq attempt r) is judged network on = refused_so e s m channel seq attempt r judged on
 arrived_so e s m event o is judged network on = absurd (cc)
 
-pub arrived_on_disk : (e : EndpointId) (s : State) (x : Entry) → MayArrive e s x → is_on_disk s.head.place ≡ true → after e s x ≡ with_wanted s (is_kept_out x.outcome || s.head.wanted)
+pub arrived_on_disk : (e : EndpointId) (s : State) (x : Entry) → MayArrive e s x → is_on_disk s.head.place ≡ true →
+    after e s x ≡ with_wanted s (is_kept_out x.outcome || s.head.wanted)
 arrived_on_disk e s x may on = arrived_so e s may.message x.event x.outcome may.is_message may.judged may.network on
 
 -- a paging that failed changes nothing

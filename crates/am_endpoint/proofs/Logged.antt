@@ -15,9 +15,9 @@ use Rattle.am_model.specs.declared.Flying.{Flying}
 use Rattle.am_model.specs.declared.Head.{Head}
 use Rattle.am_model.specs.declared.Queued.{Queued}
 use Rattle.am_names.specs.declared.Serial.{Serial}
-use Rattle.am_body.specs.Flights.{aloft, front_aloft}
-use Rattle.am_body.specs.Views.{Fits, View}
-use Rattle.am_body.proofs.Slots.{fits_within}
+use Rattle.am_endpoint_body.specs.Flights.{aloft, front_aloft}
+use Rattle.am_endpoint_body.specs.Views.{Fits, View}
+use Rattle.am_endpoint_body.proofs.Slots.{fits_within}
 use Rattle.am_model.specs.Endpoint.{State, fresh, front_of, is_on_disk}
 use Rattle.am_model.specs.Allowed.{MayBind, are_numbers_in_range}
 use Rattle.am_model.specs.Calls.{outcome_of_call}
@@ -39,10 +39,13 @@ use Rattle.am_endpoint.specs.declared.Endpoint.TheInside.{Inside}
 use Rattle.am_endpoint.proofs.Holding.{called_here, stays_here, wanted_held}
 
 -- the state by a log that is one entry longer
-next : (i : Inside) (log : Vec Entry Global) (x : Entry) → log.items ≡ i.log.items ++ x ∷ [] → state_by i.settings log.items ≡ after i.settings.id (replayed i) x
+next : (i : Inside) (log : Vec Entry Global) (x : Entry) → log.items ≡ i.log.items ++ x ∷ [] →
+    state_by i.settings log.items ≡ after i.settings.id (replayed i) x
 next i log x items = ap (state_by i.settings) items ∙ replay_push i.settings.id (fresh i.settings.tag i.settings.place) i.log.items x
 
-pub entered : (i : Inside) (held : Held) (log : Vec Entry Global) (x : Entry) → IsReplay i → log.items ≡ i.log.items ++ x ∷ [] → length i.log.items < i.settings.log → IsHeldOf i.settings.pool (after i.settings.id (replayed i) x) held → IsInOrder i.settings.pool i.settings.id (after i.settings.id (replayed i) x) → IsReplay (record i { held = held; log = log })
+pub entered : (i : Inside) (held : Held) (log : Vec Entry Global) (x : Entry) → IsReplay i → log.items ≡ i.log.items ++ x ∷ [] →
+    length i.log.items < i.settings.log → IsHeldOf i.settings.pool (after i.settings.id (replayed i) x) held →
+    IsInOrder i.settings.pool i.settings.id (after i.settings.id (replayed i) x) → IsReplay (record i { held = held; log = log })
 entered i held log x kept items room holds order =
     let set = i.settings in
     let is = next i log x items in
@@ -56,7 +59,8 @@ entered i held log x kept items room holds order =
     }
 
 -- the fields of an endpoint that stays in memory, after an entry
-pub here_after : (i : Inside) (f g : Fields) (x : Entry) → keeps_in_memory x.event ≡ true → IsHere i.settings.pool (replayed i) f → state_in g ≡ after i.settings.id (state_in f) x → g.body.pool ≡ f.body.pool → IsHere i.settings.pool (after i.settings.id (replayed i) x) g
+pub here_after : (i : Inside) (f g : Fields) (x : Entry) → keeps_in_memory x.event ≡ true → IsHere i.settings.pool (replayed i) f →
+    state_in g ≡ after i.settings.id (state_in f) x → g.body.pool ≡ f.body.pool → IsHere i.settings.pool (after i.settings.id (replayed i) x) g
 here_after i f g x keeps here changed pool =
     record {
       in_memory = stays_here i.settings.id (replayed i) x keeps here.in_memory;
@@ -75,7 +79,8 @@ bound_so : (node : NodeId) (end e : EndpointId) (s : State) (x : Entry) → MayB
 bound_so node end e s x may =
     let flown : List Flying → State = λ fs. with_body s (record (without_front s.body) { in_flight = s.body.in_flight ++ fs }) in
     (λ k. changed e s (may.event k) (may.outcome k))
-    ∙ ap (λ (n : ℕ). flown (record { message = may.queued.message; bounces = n; answered = false } ∷ [])) (bounces_front s.body.replies s.body.requests may.queued may.is_front)
+    ∙ ap (λ (n : ℕ). flown (record { message = may.queued.message; bounces = n; answered = false } ∷ []))
+    (bounces_front s.body.replies s.body.requests may.queued may.is_front)
     ∙ ap (λ (f : Option Queued). flown (aloft f)) (sym may.is_front)
 
 -- an entry that binds the front message, by what is held
@@ -83,27 +88,34 @@ pub record IsBound (i : Inside) (f : Fields) (x : Entry) : Type 0 where
   pub some : IsSome (front_of f.body.body.replies f.body.body.requests)
   pub change : after i.settings.id (state_in f) x ≡ with_body (state_in f) (front_aloft f.body.body)
 
-pub bound_here : (i : Inside) (v : EndpointView) (f : Fields) (x : Entry) → view_of i ≡ v → IsHere i.settings.pool (replayed i) f → MayBind v.settings.node v.settings.id (state_after v) x → IsBound i f x
+pub bound_here : (i : Inside) (v : EndpointView) (f : Fields) (x : Entry) → view_of i ≡ v → IsHere i.settings.pool (replayed i) f →
+    MayBind v.settings.node v.settings.id (state_after v) x → IsBound i f x
 bound_here i v f x e here may =
-    let is : MayBind v.settings.node v.settings.id (state_in f) x = subst (λ (s : State). MayBind v.settings.node v.settings.id s x) (sym (here.state ∙ ap state_after e)) may in
+    let is : MayBind v.settings.node v.settings.id (state_in f) x = subst (λ (s : State). MayBind v.settings.node v.settings.id s x) (sym (here.state
+    ∙ ap state_after e)) may in
     record {
       some = subst (λ (q : Option Queued). IsSome q) (sym is.is_front) refl;
       change = bound_so v.settings.node v.settings.id i.settings.id (state_in f) x is;
     }
 
 -- a body after an entry that keeps the order fits its slots
-pub fits_next : (i : Inside) (f : Fields) (x : Entry) → IsHere i.settings.pool (replayed i) f → IsInOrder i.settings.pool i.settings.id (after i.settings.id (replayed i) x) → Fits (after i.settings.id (state_in f) x).body
-fits_next i f x here order = subst (λ (s : State). Fits (after i.settings.id s x).body) (sym here.state) (fits_within (after i.settings.id (replayed i) x).body order.within)
+pub fits_next : (i : Inside) (f : Fields) (x : Entry) → IsHere i.settings.pool (replayed i) f →
+    IsInOrder i.settings.pool i.settings.id (after i.settings.id (replayed i) x) → Fits (after i.settings.id (state_in f) x).body
+fits_next i f x here order = subst (λ (s : State). Fits (after i.settings.id s x).body) (sym here.state)
+    (fits_within (after i.settings.id (replayed i) x).body order.within)
 
 -- the slot of the message that an entry settles, among what is held
-pub slot_held : (i : Inside) (v : EndpointView) (f : Fields) (serial : Option Serial) (slot : ℕ) → view_of i ≡ v → i.held ≡ Here f → IsHere i.settings.pool (replayed i) f → IsSlotOf serial (state_after v).body.in_flight v.flights slot → IsSlotOf serial f.body.body.in_flight f.body.flights slot
+pub slot_held : (i : Inside) (v : EndpointView) (f : Fields) (serial : Option Serial) (slot : ℕ) → view_of i ≡ v → i.held ≡ Here f →
+    IsHere i.settings.pool (replayed i) f → IsSlotOf serial (state_after v).body.in_flight v.flights slot →
+    IsSlotOf serial f.body.body.in_flight f.body.flights slot
 slot_held i v f serial slot e is here at =
     subst (λ (s : State). IsSlotOf serial s.body.in_flight f.body.flights slot) (sym here.state)
     (subst (λ (h : Held). IsSlotOf serial (replayed i).body.in_flight (flights_of h) slot) is
     (subst (λ (w : EndpointView). IsSlotOf serial (state_after w).body.in_flight w.flights slot) (sym e) at))
 
 -- and after a call
-pub here_called : (i : Inside) (f g : Fields) (call : Call) (o : Outcome) → IsHere i.settings.pool (replayed i) f → state_in g ≡ called (state_in f) call o → g.body.pool ≡ f.body.pool → IsHere i.settings.pool (called (replayed i) call o) g
+pub here_called : (i : Inside) (f g : Fields) (call : Call) (o : Outcome) → IsHere i.settings.pool (replayed i) f → state_in g ≡ called (state_in f) call o →
+    g.body.pool ≡ f.body.pool → IsHere i.settings.pool (called (replayed i) call o) g
 here_called i f g call o here changed pool =
     record {
       in_memory = called_here (replayed i) call o here.in_memory;
@@ -112,35 +124,37 @@ here_called i f g call o here changed pool =
     }
 
 -- an entry that keeps the order
-pub order_next : (i : Inside) (v : EndpointView) (x : Entry) → view_of i ≡ v → IsReplay i → KeepsOrder v.settings.bounces v.settings.pool v.settings.id (state_after v) x → IsInOrder i.settings.pool i.settings.id (after i.settings.id (replayed i) x)
+pub order_next : (i : Inside) (v : EndpointView) (x : Entry) → view_of i ≡ v → IsReplay i →
+    KeepsOrder v.settings.bounces v.settings.pool v.settings.id (state_after v) x → IsInOrder i.settings.pool i.settings.id (after i.settings.id (replayed i) x)
 order_next i v x e kept keeps =
     let told : KeepsOrder i.settings.bounces i.settings.pool i.settings.id (state_after (view_of i)) x =
     subst (λ (w : EndpointView). KeepsOrder w.settings.bounces w.settings.pool w.settings.id (state_after w) x) (sym e) keeps in
     told kept.lawful.bounces kept.order
 
-pub outcome_here : (i : Inside) (f : Fields) (call : Call) (o : Outcome) → IsHere i.settings.pool (replayed i) f → o ≡ outcome_of_call f.body.pool i.settings.id (state_in f) call → o ≡ outcome_of_call i.settings.pool i.settings.id (replayed i) call
+pub outcome_here : (i : Inside) (f : Fields) (call : Call) (o : Outcome) → IsHere i.settings.pool (replayed i) f →
+    o ≡ outcome_of_call f.body.pool i.settings.id (state_in f) call → o ≡ outcome_of_call i.settings.pool i.settings.id (replayed i) call
 outcome_here i f call o here is =
     is
     ∙ ap (λ (p : Option ℕ). outcome_of_call p i.settings.id (state_in f) call) here.pooled
     ∙ ap (λ (s : State). outcome_of_call i.settings.pool i.settings.id s call) here.state
 
 -- a call, where its numbers are in range
-pub order_made : (i : Inside) (f : Fields) (call : Call) (o : Outcome) → IsReplay i → IsHere i.settings.pool (replayed i) f → are_numbers_in_range i.settings.pool call ≡ true → o ≡ outcome_of_call f.body.pool i.settings.id (state_in f) call → IsInOrder i.settings.pool i.settings.id (called (replayed i) call o)
+pub order_made : (i : Inside) (f : Fields) (call : Call) (o : Outcome) → IsReplay i → IsHere i.settings.pool (replayed i) f →
+    are_numbers_in_range i.settings.pool call ≡ true → o ≡ outcome_of_call f.body.pool i.settings.id (state_in f) call →
+    IsInOrder i.settings.pool i.settings.id (called (replayed i) call o)
 order_made i f call o kept here range is =
     let set = i.settings in
     let s = replayed i in
-    subst (λ (w : Outcome). IsInOrder set.pool set.id (called s call w)) (sym (outcome_here i f call o here is)) (order_called set.pool set.id s call range kept.order)
+    subst (λ (w : Outcome). IsInOrder set.pool set.id (called s call w)) (sym (outcome_here i f call o here is))
+    (order_called set.pool set.id s call range kept.order)
 
-pub outcome_made : (i : Inside) (v : EndpointView) (f : Fields) (call : Call) (o : Outcome) → view_of i ≡ v → IsHere i.settings.pool (replayed i) f → o ≡ outcome_of_call f.body.pool i.settings.id (state_in f) call → o ≡ outcome_of_call v.settings.pool v.settings.id (state_after v) call
+pub outcome_made : (i : Inside) (v : EndpointView) (f : Fields) (call : Call) (o : Outcome) → view_of i ≡ v → IsHere i.settings.pool (replayed i) f →
+    o ≡ outcome_of_call f.body.pool i.settings.id (state_in f) call → o ≡ outcome_of_call v.settings.pool v.settings.id (state_after v) call
 outcome_made i v f call o e here is =
     outcome_here i f call o here is ∙ ap (λ (w : EndpointView). outcome_of_call w.settings.pool w.settings.id (state_after w) call) e
 
 pub order_told : (i : Inside) (v : EndpointView) → view_of i ≡ v → IsReplay i → IsInOrder v.settings.pool v.settings.id (state_after v)
 order_told i v e kept = subst (λ (w : EndpointView). IsInOrder w.settings.pool w.settings.id (state_after w)) e kept.order
-
--- where it lies, as its log tells
-pub disk_told : (i : Inside) (v : EndpointView) (on : Bool) → view_of i ≡ v → is_on_disk (state_after v).head.place ≡ on → is_on_disk (replayed i).head.place ≡ on
-disk_told i v on e is = ap (λ (w : EndpointView). is_on_disk (state_after w).head.place) e ∙ is
 
 -- a log with more room
 pub same_log : (i : Inside) (log : Vec Entry Global) → log.items ≡ i.log.items → IsReplay i → IsReplay (record i { log = log })
@@ -156,15 +170,19 @@ same_log i log items kept =
     }
 
 -- what is held after an entry that changes at most whether it is wanted
-pub noted : (i : Inside) (v : EndpointView) (x : Entry) (held : Held) (wanted : Bool) → view_of i ≡ v → IsReplay i → held ≡ held_wanted i.held wanted → after v.settings.id (state_after v) x ≡ with_wanted (state_after v) wanted → IsHeldOf i.settings.pool (after i.settings.id (replayed i) x) held
+pub noted : (i : Inside) (v : EndpointView) (x : Entry) (held : Held) (wanted : Bool) → view_of i ≡ v → IsReplay i → held ≡ held_wanted i.held wanted →
+    after v.settings.id (state_after v) x ≡ with_wanted (state_after v) wanted → IsHeldOf i.settings.pool (after i.settings.id (replayed i) x) held
 noted i v x held wanted e kept is change =
     let here : after i.settings.id (replayed i) x ≡ with_wanted (replayed i) wanted =
     subst (λ (w : EndpointView). after w.settings.id (state_after w) x ≡ with_wanted (state_after w) wanted) (sym e) change in
     subst (λ (h : Held). IsHeldOf i.settings.pool (after i.settings.id (replayed i) x) h) (sym is)
-    (subst (λ (s : State). IsHeldOf i.settings.pool s (held_wanted i.held wanted)) (sym here) (wanted_held i.settings.pool (replayed i) i.held wanted kept.held))
+    (subst (λ (s : State). IsHeldOf i.settings.pool s (held_wanted i.held wanted)) (sym here)
+    (wanted_held i.settings.pool (replayed i) i.held wanted kept.held))
 
 -- what is held after it went to disk
-pub gave : (i : Inside) (v : EndpointView) (x : Entry) (node : NodeId) (end : EndpointId) (f : Fields) (h : Head) (held : Held) → view_of i ≡ v → x.event ≡ Events.PageOut node end → x.outcome ≡ Out.Done → state_in f ≡ state_after v → h ≡ (paged_out (state_in f) Out.Done).head → held ≡ OnDisk h → IsHeldOf i.settings.pool (after i.settings.id (replayed i) x) held
+pub gave : (i : Inside) (v : EndpointView) (x : Entry) (node : NodeId) (end : EndpointId) (f : Fields) (h : Head) (held : Held) → view_of i ≡ v →
+    x.event ≡ Events.PageOut node end → x.outcome ≡ Out.Done → state_in f ≡ state_after v → h ≡ (paged_out (state_in f) Out.Done).head → held ≡ OnDisk h →
+    IsHeldOf i.settings.pool (after i.settings.id (replayed i) x) held
 gave i v x node end f h held e event outcome state head is =
     let out : after i.settings.id (replayed i) x ≡ paged_out (replayed i) Out.Done = λ k. changed i.settings.id (replayed i) (event k) (outcome k) in
     subst (λ (w : Held). IsHeldOf i.settings.pool (after i.settings.id (replayed i) x) w) (sym is)
@@ -174,7 +192,10 @@ gave i v x node end f h held e event outcome state head is =
     })
 
 -- what is held after it came from disk with its body
-pub came : (i : Inside) (v : EndpointView) (x : Entry) (node : NodeId) (end : EndpointId) (h : Head) (b : View) → view_of i ≡ v → x.event ≡ Events.PageIn node end → x.outcome ≡ Out.Done → h ≡ (state_after v).head → b ≡ record { pool = v.settings.pool; body = (state_after v).body; flights = b.flights } → IsHere i.settings.pool (after i.settings.id (replayed i) x) (record { head = record h { place = Host }; body = b })
+pub came : (i : Inside) (v : EndpointView) (x : Entry) (node : NodeId) (end : EndpointId) (h : Head) (b : View) → view_of i ≡ v →
+    x.event ≡ Events.PageIn node end → x.outcome ≡ Out.Done → h ≡ (state_after v).head →
+    b ≡ record { pool = v.settings.pool; body = (state_after v).body; flights = b.flights } →
+    IsHere i.settings.pool (after i.settings.id (replayed i) x) (record { head = record h { place = Host }; body = b })
 came i v x node end h b e event outcome head body =
     let back : after i.settings.id (replayed i) x ≡ paged_in (replayed i) Out.Done = λ k. changed i.settings.id (replayed i) (event k) (outcome k) in
     let heads : h ≡ (replayed i).head = head ∙ sym (ap (λ (w : EndpointView). (state_after w).head) e) in
@@ -188,11 +209,14 @@ came i v x node end h b e event outcome head body =
 
 -- and its body, which stays the one that the log gives
 
-pub noted_body : (i : Inside) (v : EndpointView) (log : Vec Entry Global) (x : Entry) (wanted : Bool) → view_of i ≡ v → log.items ≡ i.log.items ++ x ∷ [] → after v.settings.id (state_after v) x ≡ with_wanted (state_after v) wanted → (state_by i.settings log.items).body ≡ (state_after v).body
+pub noted_body : (i : Inside) (v : EndpointView) (log : Vec Entry Global) (x : Entry) (wanted : Bool) → view_of i ≡ v → log.items ≡ i.log.items ++ x ∷ [] →
+    after v.settings.id (state_after v) x ≡ with_wanted (state_after v) wanted → (state_by i.settings log.items).body ≡ (state_after v).body
 noted_body i v log x wanted e items change =
-    ap (λ (s : State). s.body) (next i log x items) ∙ ap (λ (w : EndpointView). (after w.settings.id (state_after w) x).body) e ∙ ap (λ (s : State). s.body) change
+    ap (λ (s : State). s.body) (next i log x items) ∙ ap (λ (w : EndpointView). (after w.settings.id (state_after w) x).body) e
+    ∙ ap (λ (s : State). s.body) change
 
-pub gave_body : (i : Inside) (v : EndpointView) (log : Vec Entry Global) (x : Entry) (node : NodeId) (end : EndpointId) → view_of i ≡ v → log.items ≡ i.log.items ++ x ∷ [] → x.event ≡ Events.PageOut node end → x.outcome ≡ Out.Done → (state_by i.settings log.items).body ≡ (state_after v).body
+pub gave_body : (i : Inside) (v : EndpointView) (log : Vec Entry Global) (x : Entry) (node : NodeId) (end : EndpointId) → view_of i ≡ v →
+    log.items ≡ i.log.items ++ x ∷ [] → x.event ≡ Events.PageOut node end → x.outcome ≡ Out.Done → (state_by i.settings log.items).body ≡ (state_after v).body
 gave_body i v log x node end e items event outcome =
     ap (λ (s : State). s.body) (next i log x items)
     ∙ (λ k. (changed i.settings.id (replayed i) (event k) (outcome k)).body)

@@ -9,7 +9,7 @@ use Rattle.am_model.specs.declared.Head.{Head}
 use Rattle.am_model.specs.Endpoint.{Body, State}
 use Rattle.am_model.specs.Calls.{unless}
 use Rattle.am_model.specs.Changes.{called}
-use Rattle.am_body.specs.Views.{View}
+use Rattle.am_endpoint_body.specs.Views.{View}
 use Rattle.am_endpoint.specs.Done.{done}
 
 abbrev pub at_head : Head → Body → State
@@ -20,7 +20,8 @@ pub record Does (h : Head) (b c : Body) (call : Call) : Type 0 where
   pub yes : called (at_head h b) call Out.Done ≡ at_head h c
   pub no : (r : Refusal) → called (at_head h b) call (Out.Refused r) ≡ at_head h b
 
-pub done_state : (h : Head) (v w : View) (c : Body) (call : Call) (r : Result (Unit {0}) Refusal) → Does h v.body c call → OnOk r (w ≡ record v { body = c }) → OnErr r (w ≡ v) → at_head h w.body ≡ called (at_head h v.body) call (done r)
+pub done_state : (h : Head) (v w : View) (c : Body) (call : Call) (r : Result (Unit {0}) Refusal) → Does h v.body c call → OnOk r (w ≡ record v { body = c }) →
+    OnErr r (w ≡ v) → at_head h w.body ≡ called (at_head h v.body) call (done r)
 done_state h v w c call (Ok u) does ok err = ap (λ (x : View). at_head h x.body) ok ∙ sym does.yes
 done_state h v w c call (Err r) does ok err = ap (λ (x : View). at_head h x.body) err ∙ sym (does.no r)
 

@@ -1,7 +1,7 @@
 -- The slot of a message in flight that an entry settles.
 use Rattle.std.specs.Prelude.{◌≡◌, ℕ, Option, None, Some, List}
 use Rattle.am_names.specs.declared.Serial.{Serial}
-use Rattle.am_body.specs.Flights.{slot_of}
+use Rattle.am_endpoint_body.specs.Flights.{slot_of}
 use Rattle.am_model.specs.declared.Flying.{Flying}
 
 -- this is the slot of the first message in flight that has the serial, where there is a serial

@@ -3,7 +3,7 @@ use Rattle.std.specs.Prelude.{◌≡◌, ◌≤◌, Bool, true, false}
 use Rattle.am_office.specs.declared.Place.{Place}
 use Rattle.am_office.specs.declared.Place.TheVariants.{Host, Disk, Frame, Direct}
 use Rattle.am_model.specs.Layout.{IsPoolLawful}
-use Rattle.am_body.specs.declared.settings.EndSettings.{EndSettings}
+use Rattle.am_endpoint_body.specs.declared.settings.EndSettings.{EndSettings}
 
 -- whether an endpoint may begin there
 abbrev pub is_opening_place : Place → Bool

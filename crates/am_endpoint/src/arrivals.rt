@@ -4,7 +4,6 @@ ghost use Rattle.am_model.specs.Endpoint.{is_waited_for, verdict};
 ghost use Rattle.std.specs.Prelude.{◌≡◌, cond};
 
 use crate::fields::Fields;
-use am_body::is_request;
 use am_model::{Head, is_resident};
 use am_names::{Cause, Message, Serial, Verdict};
 
@@ -43,7 +42,7 @@ impl Fields {
         if !self.body.matches(m.tag) {
             return Verdict::Refused(Cause::BadTag);
         }
-        let is_request = is_request(m);
+        let is_request = m.is_request();
         if is_request && self.body.handler_at(m.handler).is_none() {
             return Verdict::Refused(Cause::BadHandler);
         }

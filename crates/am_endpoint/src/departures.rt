@@ -1,6 +1,6 @@
 // What it makes of the state of an endpoint that its front message leaves.
-ghost use Rattle.am_body.specs.Flights.{front_aloft};
-ghost use Rattle.am_body.specs.Views.{Fits};
+ghost use Rattle.am_endpoint_body.specs.Flights.{front_aloft};
+ghost use Rattle.am_endpoint_body.specs.Views.{Fits};
 ghost use Rattle.am_endpoint.specs.Seen.{state_in};
 ghost use Rattle.am_model.specs.Changes.{bounces_of, carried, left, noticed, put, queued, reached, with_body, without_front};
 ghost use Rattle.am_model.specs.Endpoint.{front_of};

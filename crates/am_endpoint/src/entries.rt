@@ -1,5 +1,5 @@
 // What each entry makes of the state of an endpoint.
-ghost use Rattle.am_body.specs.Views.{Fits};
+ghost use Rattle.am_endpoint_body.specs.Views.{Fits};
 ghost use Rattle.am_endpoint.specs.Events.{keeps_flights};
 ghost use Rattle.am_endpoint.specs.Seen.{state_in};
 ghost use Rattle.am_model.specs.Allowed.{message_in};

@@ -4,7 +4,7 @@ ghost use Rattle.am_model.specs.Changes.{paged_out, wanted_on_host};
 ghost use Rattle.am_office.specs.declared.Outcome.TheVariants as Out;
 ghost use Rattle.std.specs.Prelude.{◌≡◌};
 
-use am_body::Body;
+use am_endpoint_body::Body;
 use am_model::Head;
 use am_office::Place;
 

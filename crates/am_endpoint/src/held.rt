@@ -4,7 +4,7 @@ ghost use Rattle.am_model.specs.Endpoint.{fresh};
 ghost use Rattle.std.specs.Prelude.{◌≡◌, IfOk};
 
 use crate::fields::Fields;
-use am_body::{Body, EndSettings};
+use am_endpoint_body::{Body, EndSettings};
 use am_model::{Head, is_on_disk};
 use am_names::NoMemory;
 use std::alloc::Global;

@@ -2,7 +2,7 @@
 #![tactic(auto)]
 
 ghost use Rattle.am_block.specs.Pools.{without};
-ghost use Rattle.am_body.specs.Flights.{slot_of};
+ghost use Rattle.am_endpoint_body.specs.Flights.{slot_of};
 ghost use Rattle.am_endpoint.specs.Empty.{HasNoArrivals, HasNoQueued};
 ghost use Rattle.am_endpoint.specs.Events.{is_kept_out, keeps_flights};
 ghost use Rattle.am_endpoint.specs.Flights.{IsSlotOf};
@@ -12,12 +12,12 @@ ghost use Rattle.am_endpoint.specs.Seen.{state_in};
 ghost use Rattle.am_endpoint.specs.Settings.{AreLawful};
 ghost use Rattle.am_endpoint.specs.View.{EndpointView, state_after};
 ghost use Rattle.am_model.specs.Parts.{last_stamp};
-ghost use Rattle.am_model.specs.Allowed.{MayArrive, MayBind, MayCarry, MayDrain, MayLoad, MayPageIn, MayPageOut, MaySettle, MayUnload, are_numbers_in_range, is_well_formed};
+ghost use Rattle.am_model.specs.Allowed.{MayArrive, MayBind, MayCarry, MayDrain, MayLoad, MayPageIn, MayPageOut, MaySettle, MayUnload, are_numbers_in_range};
 ghost use Rattle.am_model.specs.Calls.{outcome_of_call};
 ghost use Rattle.am_model.specs.Changes.{after, flying_of, has_arrivals};
 ghost use Rattle.am_model.specs.Endpoint.{front, is_on_disk, verdict};
 ghost use Rattle.am_model.specs.Order.{IsInOrder, KeepsOrder};
-ghost use Rattle.am_names.specs.Names.{is_request};
+ghost use Rattle.am_names.specs.Names.{is_request, is_well_formed};
 ghost use Rattle.std.specs.Option.{option_map};
 ghost use Rattle.std.specs.Prelude.{◌≡◌, ◌||◌, ◌==◌, not, ◌+◌, ◌<◌, ◌≤◌, ◌^◌, [], ◌∷◌, ◌++◌, length, count_by, IfOk, IsTrue, OnErr, OnOk, IfSome, MatchOption, Err, None, is_some, max, true, false, ◌↔◌};
 
@@ -35,7 +35,7 @@ use crate::fields::Fields;
 use crate::held::Held;
 pub use crate::settings::EndFault;
 use am_block::Slot;
-pub use am_body::{Body, EndSettings};
+pub use am_endpoint_body::{Body, EndSettings};
 use am_model::{Flying, Head, Queued, is_on_disk};
 pub use am_names::NoMemory;
 use am_names::{Cause, EndpointId, Message, NodeId, Serial, Verdict};
@@ -163,14 +163,15 @@ impl Endpoint {
 }
 
 impl Endpoint {
-    /// What is known of it wherever it lies.
-    fn head(&self) -> Head
+    /// What is known of it wherever it lies: its place, and whether it is wanted, draining and closed.
+    pub fn head(&self) -> Head
         ensures { result ≡ (state_after self.now).head }
     {
         self.held.head()
     }
 
-    fn is_on_disk(&self) -> bool
+    /// Whether it is on disk.
+    pub fn is_on_disk(&self) -> bool
         ensures { result ≡ is_on_disk (state_after self.now).head.place }
     {
         is_on_disk(self.place())

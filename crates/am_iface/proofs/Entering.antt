@@ -1,6 +1,7 @@
 -- What an interface keeps, one call more.
 use Rattle.std.specs.Prelude.{slice_get, slice_set}
-use Rattle.std.proofs.Common.{◌≡◌, ⊎_elim, ℕ, zero, suc, ◌+◌, ◌*◌, ◌<◌, ◌≤◌, Bool, true, false, ◌&&◌, List, [], ◌∷◌, ◌++◌, length, get_or, Some, is_some, refl, sym, ap, ◌∙◌, subst, arith, eq-eqb, eqb-true, ◌==◌}
+use Rattle.std.proofs.Common.{◌≡◌, ⊎_elim, ℕ, zero, suc, ◌+◌, ◌*◌, ◌<◌, ◌≤◌, Bool, true, false, ◌&&◌, List, [], ◌∷◌, ◌++◌, length, get_or, Some, is_some, refl}
+use Rattle.std.proofs.Common.{sym, ap, ◌∙◌, subst, arith, eq-eqb, eqb-true, ◌==◌}
 use Rattle.std.proofs.lemmas.List.{length_push, length-set}
 use Rattle.std.proofs.lemmas.Option.{slice_get_read}
 use Rattle.am_lemmas.proofs.Lists.{slice_get-set_cases}
@@ -20,17 +21,19 @@ use Rattle.am_iface.specs.Settings.{SettingsView}
 use Rattle.am_iface.specs.Kept.{AreOfLog, AreEndsOf, AreEmissionsOf, IsCounted, settings_in, view_of}
 use Rattle.am_iface.specs.View.{InterfaceView, own}
 use Rattle.am_iface.specs.declared.Interface.TheInside.{Inside}
-use Rattle.am_local.specs.Interface.{channel_in}
+use Rattle.am_model_parts.specs.Interface.{channel_in}
 use Rattle.am_iface.specs.Made.{IsMade}
 use Rattle.am_iface.proofs.Emissions.{call_emits}
 
 -- the ends of the call's channel are new, and those of the others as they were
-ends_made : (node peer : NodeId) (channel : ℕ) (log : List Entry) (ends : List Ends) (new : Ends) (x : Entry) → channel < 4 → AreEndsOf node log ends → IsMade (channel_to node peer channel) log new x → AreEndsOf node (log ++ x ∷ []) (slice_set ends (4 * peer.0 + channel) new)
+ends_made : (node peer : NodeId) (channel : ℕ) (log : List Entry) (ends : List Ends) (new : Ends) (x : Entry) → channel < 4 → AreEndsOf node log ends →
+    IsMade (channel_to node peer channel) log new x → AreEndsOf node (log ++ x ∷ []) (slice_set ends (4 * peer.0 + channel) new)
 ends_made node peer channel log ends new x below are made to k e lt got =
     ⊎_elim here there (slice_get-set_cases ends (4 * peer.0 + channel) (4 * to + k) new e got)
   where
     counted_now : AreCounted (channel_to node peer channel) (log ++ x ∷ []) new
-    counted_now = subst (λ (f : Ends). AreCounted (channel_to node peer channel) (log ++ x ∷ []) f) (sym made.leaves) (call_counted (channel_to node peer channel) log made.old made.call x made.counted made.tells)
+    counted_now = subst (λ (f : Ends). AreCounted (channel_to node peer channel) (log ++ x ∷ []) f) (sym made.leaves)
+        (call_counted (channel_to node peer channel) log made.old made.call x made.counted made.tells)
 
     here : (4 * to + k ≡ 4 * peer.0 + channel) × (e ≡ new) → AreCounted (channel_to node (node_at to) k) (log ++ x ∷ []) e
     here both =
@@ -48,7 +51,9 @@ ends_made node peer channel log ends new x below are made to k e lt got =
         both.0 (omega (arith, same_peer, same_channel)))
 
 -- one packet more to its peer, if it emits one
-emissions_made : (node peer : NodeId) (channel : ℕ) (log : List Entry) (counts : List ℕ) (n : ℕ) (new : Ends) (x : Entry) → AreEmissionsOf node log counts → IsMade (channel_to node peer channel) log new x → slice_get counts peer.0 ≡ Some n → AreEmissionsOf node (log ++ x ∷ []) (slice_set counts peer.0 (n + bit (is_some (emitted_of x))))
+emissions_made : (node peer : NodeId) (channel : ℕ) (log : List Entry) (counts : List ℕ) (n : ℕ) (new : Ends) (x : Entry) → AreEmissionsOf node log counts →
+    IsMade (channel_to node peer channel) log new x → slice_get counts peer.0 ≡ Some n →
+    AreEmissionsOf node (log ++ x ∷ []) (slice_set counts peer.0 (n + bit (is_some (emitted_of x))))
 emissions_made node peer channel log counts n new x are made was to k got =
     ⊎_elim here there (slice_get-set_cases counts peer.0 to (n + bit (is_some (emitted_of x))) k got)
   where
@@ -98,7 +103,10 @@ emissions_made node peer channel log counts n new x are made was to k got =
             by_test true is = absurd (apart (eqb-true a b is))
             by_test false is = refl
 
-pub entered : (set : SettingsView) (ends : List Ends) (counts : List ℕ) (log : List Entry) (peer : NodeId) (channel n : ℕ) (new : Ends) (x : Entry) → AreOfLog set ends counts log → peer.0 < set.nodes → channel < set.channels → length log < set.log → IsMade (channel_to set.node peer channel) log new x → n ≡ get_or counts peer.0 n → AreOfLog set (slice_set ends (4 * peer.0 + channel) new) (slice_set counts peer.0 (n + bit (is_some (emitted_of x)))) (log ++ x ∷ [])
+pub entered : (set : SettingsView) (ends : List Ends) (counts : List ℕ) (log : List Entry) (peer : NodeId) (channel n : ℕ) (new : Ends) (x : Entry) →
+    AreOfLog set ends counts log → peer.0 < set.nodes → channel < set.channels → length log < set.log → IsMade (channel_to set.node peer channel) log new x →
+    n ≡ get_or counts peer.0 n → AreOfLog set (slice_set ends (4 * peer.0 + channel) new) (slice_set counts peer.0 (n + bit (is_some (emitted_of x))))
+    (log ++ x ∷ [])
 entered set ends counts log peer channel n new x is to on room made at =
     let below : channel < 4 = omega (arith, is.lawful.channels) in
     let within : peer.0 < 16 = omega (arith, is.lawful.nodes) in
@@ -118,7 +126,8 @@ read_same (x ∷ xs) zero d = refl
 read_same (x ∷ xs) (suc k) d = read_same xs k d
 
 -- the count of a peer's packets is small
-pub count_within : (i : Inside) (v : InterfaceView) (peer : NodeId) (n : ℕ) (b : Bool) → view_of i ≡ v → IsCounted i → peer.0 < v.settings.nodes → n ≡ get_or i.emissions.items peer.0 n → n + bit b ≤ 65537
+pub count_within : (i : Inside) (v : InterfaceView) (peer : NodeId) (n : ℕ) (b : Bool) → view_of i ≡ v → IsCounted i → peer.0 < v.settings.nodes →
+    n ≡ get_or i.emissions.items peer.0 n → n + bit b ≤ 65537
 count_within i v peer n b seen is to at =
     let on : peer.0 < i.limits.nodes = subst (λ (w : InterfaceView). peer.0 < w.settings.nodes) (sym seen) to in
     let within : peer.0 < 16 = omega (arith, is.lawful.nodes) in
@@ -126,31 +135,38 @@ count_within i v peer n b seen is to at =
     omega (arith, most.1, is.bounded, is.lawful.log, bit_at_most b)
 
 -- what an interface keeps once the call is written, as its callers see it
-pub record IsWritten (i : Inside) (peer : NodeId) (channel : ℕ) (new : Ends) (x : Entry) (b : Bool) (all : List Ends) (counts : List ℕ) (items : List Entry) : Type 0 where
+pub record IsWritten (i : Inside) (peer : NodeId) (channel : ℕ) (new : Ends) (x : Entry) (b : Bool) (all : List Ends) (counts : List ℕ) (items : List Entry) :
+    Type 0 where
   pub emits : b ≡ is_some (emitted_of x)
   pub ends : all ≡ slice_set i.ends.items (4 * peer.0 + channel) new
   pub emissions : counts ≡ slice_set i.emissions.items peer.0 (get_or i.emissions.items peer.0 0 + bit b)
   pub log : items ≡ i.log.items ++ x ∷ []
 
-pub entered_seen : (i : Inside) (v : InterfaceView) (peer : NodeId) (channel : ℕ) (new : Ends) (x : Entry) (emits : Bool) (all : List Ends) (counts : List ℕ) (log : List Entry) → view_of i ≡ v → IsCounted i → peer.0 < v.settings.nodes → channel < v.settings.channels → length i.log.items < i.limits.log → IsMade (channel_in (own v) peer channel) v.log new x → IsWritten i peer channel new x emits all counts log → AreOfLog (settings_in i) all counts log
+pub entered_seen : (i : Inside) (v : InterfaceView) (peer : NodeId) (channel : ℕ) (new : Ends) (x : Entry) (emits : Bool) (all : List Ends) (counts : List ℕ)
+    (log : List Entry) → view_of i ≡ v → IsCounted i → peer.0 < v.settings.nodes → channel < v.settings.channels → length i.log.items < i.limits.log →
+    IsMade (channel_in (own v) peer channel) v.log new x → IsWritten i peer channel new x emits all counts log → AreOfLog (settings_in i) all counts log
 entered_seen i v peer channel new x emits all counts log seen is to on room made written =
-    let made_here : IsMade (channel_to i.limits.node peer channel) i.log.items new x = subst (λ (w : InterfaceView). IsMade (channel_in (own w) peer channel) w.log new x) (sym seen) made in
+    let made_here : IsMade (channel_to i.limits.node peer channel) i.log.items new x =
+    subst (λ (w : InterfaceView). IsMade (channel_in (own w) peer channel) w.log new x) (sym seen) made in
     let to_here : peer.0 < i.limits.nodes = subst (λ (w : InterfaceView). peer.0 < w.settings.nodes) (sym seen) to in
     let on_here : channel < i.limits.channels = subst (λ (w : InterfaceView). channel < w.settings.channels) (sym seen) on in
     let n = get_or i.emissions.items peer.0 0 in
-    let kept = entered (settings_in i) i.ends.items i.emissions.items i.log.items peer channel n new x is to_here on_here room made_here (read_same i.emissions.items peer.0 0) in
+    let kept = entered (settings_in i) i.ends.items i.emissions.items i.log.items peer channel n new x is to_here on_here room made_here
+    (read_same i.emissions.items peer.0 0) in
     let counted : counts ≡ slice_set i.emissions.items peer.0 (n + bit (is_some (emitted_of x))) =
     written.emissions ∙ ap (λ (b : Bool). slice_set i.emissions.items peer.0 (n + bit b)) written.emits in
     subst (λ (es : List Ends). AreOfLog (settings_in i) es counts log) (sym written.ends)
     (subst (λ (ns : List ℕ). AreOfLog (settings_in i) (slice_set i.ends.items (4 * peer.0 + channel) new) ns log) (sym counted)
-    (subst (λ (xs : List Entry). AreOfLog (settings_in i) (slice_set i.ends.items (4 * peer.0 + channel) new) (slice_set i.emissions.items peer.0 (n + bit (is_some (emitted_of x)))) xs) (sym written.log) kept))
+    (subst (λ (xs : List Entry). AreOfLog (settings_in i) (slice_set i.ends.items (4 * peer.0 + channel) new)
+    (slice_set i.emissions.items peer.0 (n + bit (is_some (emitted_of x)))) xs) (sym written.log) kept))
 
 -- the log is short
 pub log_within : (i : Inside) (v : InterfaceView) → view_of i ≡ v → IsCounted i → length v.log ≤ 65536
 log_within i v seen is = subst (λ (w : InterfaceView). length w.log ≤ 65536) seen (omega (arith, is.bounded, is.lawful.log))
 
 -- the ends of each channel are kept
-pub ends_within : (i : Inside) (v : InterfaceView) (peer : NodeId) (channel : ℕ) → view_of i ≡ v → IsCounted i → peer.0 < v.settings.nodes → channel < v.settings.channels → 4 * peer.0 + channel < length i.ends.items
+pub ends_within : (i : Inside) (v : InterfaceView) (peer : NodeId) (channel : ℕ) → view_of i ≡ v → IsCounted i → peer.0 < v.settings.nodes →
+    channel < v.settings.channels → 4 * peer.0 + channel < length i.ends.items
 ends_within i v peer channel seen is to on =
     let to_here : peer.0 < i.limits.nodes = subst (λ (w : InterfaceView). peer.0 < w.settings.nodes) (sym seen) to in
     let on_here : channel < i.limits.channels = subst (λ (w : InterfaceView). channel < w.settings.channels) (sym seen) on in

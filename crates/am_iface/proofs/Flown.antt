@@ -13,7 +13,7 @@ use Rattle.am_office.specs.declared.Outcome.TheVariants as Out
 use Rattle.am_office.specs.declared.Entry.{Entry}
 use Rattle.am_block.specs.Pools.{without}
 use Rattle.am_block.specs.declared.Slot.{Slot}
-use Rattle.am_body.specs.Flights.{slot_of}
+use Rattle.am_endpoint_body.specs.Flights.{slot_of}
 use Rattle.am_endpoint.specs.View.{EndpointView, state_after, state_by}
 use Rattle.am_model.specs.History.{decided}
 use Rattle.am_model.specs.declared.Flying.{Flying}
@@ -21,7 +21,9 @@ use Rattle.am_iface.specs.With.{Lands, flights_without, slots_without}
 use Rattle.am_model.specs.Changes.{settled_in, settled_by}
 
 -- the slot of the message that is settled is out
-pub landed : (settled : Option Serial) (serial : Serial) (flying : List Flying) (slots new : List ℕ) (found : Option Slot) (slot : Slot) → settled ≡ Some serial → option_map (λ (s : Slot). s.0) found ≡ slot_of serial flying slots → found ≡ Some slot → new ≡ without slot.0 slots → new ≡ flights_without settled flying slots
+pub landed : (settled : Option Serial) (serial : Serial) (flying : List Flying) (slots new : List ℕ) (found : Option Slot) (slot : Slot) →
+    settled ≡ Some serial → option_map (λ (s : Slot). s.0) found ≡ slot_of serial flying slots → found ≡ Some slot → new ≡ without slot.0 slots →
+    new ≡ flights_without settled flying slots
 landed settled serial flying slots new found slot is at some gone =
     gone
     ∙ ap (λ (o : Option ℕ). slots_without o slots) (sym (ap (λ (o : Option Slot). option_map (λ (s : Slot). s.0) o) some) ∙ at)
@@ -43,7 +45,12 @@ settles_none m answer Verdicts.Accepted = refl
 settles_none m answer (Verdicts.Refused cause) = refl
 
 -- a parcel that arrives leaves the slots
-pub arrives : (e g f : EndpointView) (p : Parcel) (node : NodeId) (stamp answer : ℕ) (verdict : Verdict) (came : Received) (x : Entry) → came ≡ decided p.message answer verdict → x ≡ record { stamp = stamp; event = Events.Receive node p.from p.number; outcome = Out.Received p.channel p.seq p.attempt came } → g.flights ≡ e.flights → f.flights ≡ g.flights → Lands x e f
+pub arrives : (e g f : EndpointView) (p : Parcel) (node : NodeId) (stamp answer : ℕ) (verdict : Verdict) (came : Received) (x : Entry) →
+    came ≡ decided p.message answer verdict → x ≡ record {
+      stamp = stamp;
+      event = Events.Receive node p.from p.number;
+      outcome = Out.Received p.channel p.seq p.attempt came;
+    } → g.flights ≡ e.flights → f.flights ≡ g.flights → Lands x e f
 arrives e g f p node stamp answer verdict came x is made before after =
     after ∙ before
     ∙ ap (λ (o : Option Serial). flights_without o (state_after e).body.in_flight e.flights)

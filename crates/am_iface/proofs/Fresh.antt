@@ -14,9 +14,9 @@ use Rattle.am_model.specs.Endpoint.{verdict, is_direct}
 use Rattle.am_model.specs.History.{decided, next_number}
 use Rattle.am_channel.specs.declared.ends.Ends.{Ends}
 use Rattle.am_channel.specs.Counted.{AreCounted}
-use Rattle.am_local.specs.Interface.{arrive_at, channel_in, needs, needs_arrival}
-use Rattle.am_local.specs.declared.work.Work.TheVariants as Works
-use Rattle.am_local.proofs.Granting.{work_granted}
+use Rattle.am_model_parts.specs.Interface.{arrive_at, channel_in, needs, needs_arrival}
+use Rattle.am_model_parts.specs.declared.work.Work.TheVariants as Works
+use Rattle.am_model_parts.proofs.Granting.{work_granted}
 use Rattle.am_endpoint.specs.View.{EndpointView, state_after}
 use Rattle.am_iface.specs.View.{FitsParcel, InterfaceView, own}
 use Rattle.am_iface.proofs.Telling.{fresh_came, fresh_is, parcel_outcome}
@@ -30,7 +30,8 @@ pub record IsFreshAt (v : InterfaceView) (e : EndpointView) (p : Parcel) (ends :
   pub verdict : said ≡ verdict (state_after e) p.message
   pub decided : came ≡ decided p.message answer said
 
-pub came_is : (v : InterfaceView) (e : EndpointView) (p : Parcel) (ends : Ends) (answer : ℕ) (said : Verdict) (came : Received) → IsFreshAt v e p ends answer said came → came ≡ arrive_at (state_after e) p.message answer (arrival ends.receiving p.seq p.attempt)
+pub came_is : (v : InterfaceView) (e : EndpointView) (p : Parcel) (ends : Ends) (answer : ℕ) (said : Verdict) (came : Received) →
+    IsFreshAt v e p ends answer said came → came ≡ arrive_at (state_after e) p.message answer (arrival ends.receiving p.seq p.attempt)
 came_is v e p ends answer said came is =
     fresh_came (state_after e) p.message answer said (arrival ends.receiving p.seq p.attempt) came
     (fresh_is p.message.dest e.settings.id (arrival ends.receiving p.seq p.attempt)
@@ -38,7 +39,12 @@ came_is v e p ends answer said came is =
     is.verdict
     is.decided
 
-pub fresh_entry : (v : InterfaceView) (e : EndpointView) (p : Parcel) (ends : Ends) (answer : ℕ) (said : Verdict) (came : Received) (stamp : ℕ) (node : NodeId) (x : Entry) → IsFreshAt v e p ends answer said came → node ≡ v.settings.node → x ≡ record { stamp = stamp; event = Events.Receive node p.from p.number; outcome = Out.Received p.channel p.seq p.attempt came } → IsEntryOf v (state_after e) stamp (Works.Receive (Packets.Parcel p)) x
+pub fresh_entry : (v : InterfaceView) (e : EndpointView) (p : Parcel) (ends : Ends) (answer : ℕ) (said : Verdict) (came : Received) (stamp : ℕ) (node : NodeId)
+    (x : Entry) → IsFreshAt v e p ends answer said came → node ≡ v.settings.node → x ≡ record {
+      stamp = stamp;
+      event = Events.Receive node p.from p.number;
+      outcome = Out.Received p.channel p.seq p.attempt came;
+    } → IsEntryOf v (state_after e) stamp (Works.Receive (Packets.Parcel p)) x
 fresh_entry v e p ends answer said came stamp node x is here made =
     record {
       event = ap (λ (y : Entry). y.event) made ∙ ap (λ (n : NodeId). Events.Receive n p.from p.number) here;
@@ -56,8 +62,15 @@ pub record IsAlike (e f : EndpointView) : Type 0 where
   pub log : f.log ≡ e.log
 
 -- the endpoint may be given it
-pub fresh_arrives : (v : InterfaceView) (e f : EndpointView) (p : Parcel) (stamp : ℕ) (x : Entry) → FitsParcel v.settings p → needs (own v) (Works.Receive (Packets.Parcel p)) ≡ Some e.settings.id → is_direct (state_after e).head.place ≡ false → IsEntryOf v (state_after e) stamp (Works.Receive (Packets.Parcel p)) x → IsAlike e f → MayArrive f.settings.id (state_after f) x
+pub fresh_arrives : (v : InterfaceView) (e f : EndpointView) (p : Parcel) (stamp : ℕ) (x : Entry) → FitsParcel v.settings p →
+    needs (own v) (Works.Receive (Packets.Parcel p)) ≡ Some e.settings.id → is_direct (state_after e).head.place ≡ false →
+    IsEntryOf v (state_after e) stamp (Works.Receive (Packets.Parcel p)) x → IsAlike e f → MayArrive f.settings.id (state_after f) x
 fresh_arrives v e f p stamp x fits needs packet is alike =
-    subst (λ (g : EndpointView). MayArrive g.settings.id (state_after g) x) (λ j. record { settings = sym alike.settings j; log = sym alike.log j; ready = f.ready; flights = f.flights })
+    subst (λ (g : EndpointView). MayArrive g.settings.id (state_after g) x) (λ j. record {
+      settings = sym alike.settings j;
+      log = sym alike.log j;
+      ready = f.ready;
+      flights = f.flights;
+    })
     (work_granted (own v) e.settings.id (state_after e) (Works.Receive (Packets.Parcel p)) x
     (record { needs = needs; enabled = is.enabled; event = is.event; outcome = is.outcome; fits = fits.formed; packet = packet }))

@@ -13,12 +13,14 @@ longer log past x is =
     omega (arith, same, more)
 
 -- whatever is answered for Ok, it is no fault
-pub ok_alike : (A B : Type 0) (P : Type 0) (a : A) (b : B) (e : EntryFault) → (◌≡◌ {A = Result A EntryFault} (Ok a) (Err e)) ↔ P → (◌≡◌ {A = Result B EntryFault} (Ok b) (Err e)) ↔ P
+pub ok_alike : (A B : Type 0) (P : Type 0) (a : A) (b : B) (e : EntryFault) → (◌≡◌ {A = Result A EntryFault} (Ok a) (Err e)) ↔ P →
+    (◌≡◌ {A = Result B EntryFault} (Ok b) (Err e)) ↔ P
 ok_alike A B P a b e is =
     ((λ h. absurd (cc)), (λ p. absurd (let both : ◌≡◌ {A = Result A EntryFault} (Ok a) (Err e) = is.1 p in cc)))
 
 -- and a fault is the same whatever Ok answers
-pub err_alike : (A B : Type 0) (P : Type 0) (f e : EntryFault) → (◌≡◌ {A = Result A EntryFault} (Err f) (Err e)) ↔ P → (◌≡◌ {A = Result B EntryFault} (Err f) (Err e)) ↔ P
+pub err_alike : (A B : Type 0) (P : Type 0) (f e : EntryFault) → (◌≡◌ {A = Result A EntryFault} (Err f) (Err e)) ↔ P →
+    (◌≡◌ {A = Result B EntryFault} (Err f) (Err e)) ↔ P
 err_alike A B P f e is = (
   (λ h. is.0 (let same : f ≡ e = cc in ap Err same)),
   (λ p. let both : ◌≡◌ {A = Result A EntryFault} (Err f) (Err e) = is.1 p in let same : f ≡ e = cc in ap Err same),

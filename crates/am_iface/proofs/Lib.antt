@@ -15,3 +15,4 @@ pub mod Untouched
 pub mod Flown
 pub mod Settled
 pub mod Last
+pub mod Refusing

@@ -3,9 +3,9 @@ use Rattle.std.specs.Prelude.{IsSome}
 use Rattle.std.proofs.Common.{◌≡◌, Bool, Option, Some, None, refl, sym, ap, ◌∙◌}
 use Rattle.am_names.specs.declared.EndpointId.{EndpointId}
 use Rattle.am_names.specs.declared.Message.{Message}
-use Rattle.am_local.specs.Interface.{InterfaceLog, needs, needs_bound}
-use Rattle.am_local.specs.declared.work.Work.{Work}
-use Rattle.am_local.specs.declared.work.Work.TheVariants as Works
+use Rattle.am_model_parts.specs.Interface.{InterfaceLog, needs, needs_bound}
+use Rattle.am_model_parts.specs.declared.work.Work.{Work}
+use Rattle.am_model_parts.specs.declared.work.Work.TheVariants as Works
 
 -- a message is bound where an endpoint is touched
 pub is_bound : (m : Option Message) (t : Bool) (e : EndpointId) → needs_bound m t ≡ Some e → IsSome m

@@ -6,8 +6,8 @@ use Rattle.am_office.specs.declared.Part.{Part}
 use Rattle.am_office.specs.declared.Part.TheVariants as Parts
 use Rattle.am_office.specs.declared.Entry.{Entry}
 use Rattle.am_endpoint.specs.View.{EndpointView, state_after}
-use Rattle.am_local.specs.Interface.{failing_at}
-use Rattle.am_local.specs.declared.work.Work.{Work}
+use Rattle.am_model_parts.specs.Interface.{failing_at}
+use Rattle.am_model_parts.specs.declared.work.Work.{Work}
 use Rattle.am_model.specs.declared.EntryFault.{EntryFault}
 use Rattle.am_model.specs.declared.EntryFault.TheVariants as Faults
 use Rattle.am_iface.specs.View.{InterfaceView, own}
@@ -35,7 +35,8 @@ pub record Follows (e f : EndpointView) (w : Work) (x : Entry) (result : Result 
   pub err_flights : OnErr result (f.flights ≡ e.flights)
   pub kept : OnErr result (f.ready ≡ e.ready)
 
-pub turns_with : (old new : InterfaceView) (e f : EndpointView) (stamp : ℕ) (w : Work) (x : Entry) (result : Result (Unit {0}) EntryFault) → IsEntryOf old (state_after e) stamp w x → EntersWith old new e x result → Follows e f w x result → TurnsWith old new e f stamp w result
+pub turns_with : (old new : InterfaceView) (e f : EndpointView) (stamp : ℕ) (w : Work) (x : Entry) (result : Result (Unit {0}) EntryFault) →
+    IsEntryOf old (state_after e) stamp w x → EntersWith old new e x result → Follows e f w x result → TurnsWith old new e f stamp w result
 turns_with old new e f stamp w x (Ok u) is enters follows =
     let entry = entry_is old (state_after e) stamp w x is in
     record {
@@ -65,14 +66,18 @@ turns_with old new e f stamp w x (Err fault) is enters follows =
     }
 
 -- a turn that a condition keeps from being made
-pub turns_with_by_failing : (old : InterfaceView) (e : EndpointView) (stamp : ℕ) (w : Work) (why : Condition) → failing_at (own old) (state_after e) w ≡ Some why → TurnsWith old old e e stamp w (Err (Faults.NotEnabled why))
+pub turns_with_by_failing : (old : InterfaceView) (e : EndpointView) (stamp : ℕ) (w : Work) (why : Condition) →
+    failing_at (own old) (state_after e) w ≡ Some why → TurnsWith old old e e stamp w (Err (Faults.NotEnabled why))
 turns_with_by_failing old e stamp w why fails =
     record {
       logged = tt;
       there = tt;
       flies = tt;
       same = refl;
-      disabled = λ c. ((λ h. fails ∙ ap (λ (k : Condition). Some k) (let same : why ≡ c = cc in same)), (λ h. let same : why ≡ c = (let both : Some why ≡ Some c = sym fails ∙ h in cc) in ap (λ (k : Condition). Err (Faults.NotEnabled k)) same));
+      disabled = λ c. (
+        (λ h. fails ∙ ap (λ (k : Condition). Some k) (let same : why ≡ c = cc in same)),
+        (λ h. let same : why ≡ c = (let both : Some why ≡ Some c = sym fails ∙ h in cc) in ap (λ (k : Condition). Err (Faults.NotEnabled k)) same),
+      );
       full = λ p. ((λ h. absurd (cc)), (λ h. absurd (let both : Some why ≡ None = sym fails ∙ h.0 in cc)));
       err = refl;
       err_there = refl;
@@ -81,9 +86,15 @@ turns_with_by_failing old e stamp w why fails =
     }
 
 -- want of memory, where each other fault has its cause
-pub starved_with : (old new : InterfaceView) (e f : EndpointView) (stamp : ℕ) (w : Work) (result : Result (Unit {0}) EntryFault) → TurnsWith old new e f stamp w result → result ≡ Err Faults.NoMemory → HasRoomWith old e w
+pub starved_with : (old new : InterfaceView) (e f : EndpointView) (stamp : ℕ) (w : Work) (result : Result (Unit {0}) EntryFault) →
+    TurnsWith old new e f stamp w result → result ≡ Err Faults.NoMemory → HasRoomWith old e w
 starved_with old new e f stamp w result turns starved =
     let none = no_condition (failing_at (own old) (state_after e) w) result turns.disabled starved in
     let there : length e.log ≢ e.settings.log =
     λ full. not_full (Parts.Endpoint e.settings.id) result starved ((turns.full (Parts.Endpoint e.settings.id)).1 (none, inl (refl, full))) in
-    record { enabled = none; there = there; here = λ full. not_full (Parts.Interface old.settings.node) result starved ((turns.full (Parts.Interface old.settings.node)).1 (none, inr (there, (refl, full)))) }
+    record {
+      enabled = none;
+      there = there;
+      here = λ full. not_full (Parts.Interface old.settings.node) result starved
+          ((turns.full (Parts.Interface old.settings.node)).1 (none, inr (there, (refl, full))));
+    }

@@ -10,9 +10,10 @@ use Rattle.am_office.specs.declared.Entry.{Entry}
 use Rattle.am_channel.specs.declared.sending.Bound.{Bound}
 use Rattle.am_model.specs.Channels.{Arrival, Stale, Again, Fresh, Channel, bound_message}
 use Rattle.am_model.specs.History.{is_bound}
-use Rattle.am_local.specs.declared.work.Work.{Work}
-use Rattle.am_local.specs.declared.work.Work.TheVariants as Works
-use Rattle.am_local.specs.Interface.{InterfaceLog, answers_to, arrival_in, channel_in, emits_to, has_try_left, needs, needs_arrival, needs_bound, sends_again_to, settles}
+use Rattle.am_model_parts.specs.declared.work.Work.{Work}
+use Rattle.am_model_parts.specs.declared.work.Work.TheVariants as Works
+use Rattle.am_model_parts.specs.Interface.{InterfaceLog, answers_to, arrival_in, channel_in, emits_to, has_try_left, needs, needs_arrival, needs_bound}
+use Rattle.am_model_parts.specs.Interface.{sends_again_to, settles}
 use Rattle.am_iface.specs.Touches.{EmitsNone, TouchesNone}
 use Rattle.am_iface.proofs.Frees.{bound_is}
 
@@ -32,7 +33,8 @@ not_false false = ((λ h. absurd (true≢false h)), (λ h. absurd (true≢false 
 
 pub touches_none : (i : InterfaceLog) (w : Work) → (needs i w ≡ None) ↔ TouchesNone i w
 touches_none i (Works.Receive (Packets.Parcel p)) = arrives_nowhere p.message.dest (arrival_in i p.from p.channel p.seq p.attempt)
-touches_none i (Works.Receive (Packets.Answer p)) = none_bound (bound_message (channel_in i p.from p.channel) i.log) (settles i (channel_in i p.from p.channel) p)
+touches_none i (Works.Receive (Packets.Answer p)) = none_bound (bound_message (channel_in i p.from p.channel) i.log)
+    (settles i (channel_in i p.from p.channel) p)
 touches_none i (Works.Bind end) = ((λ h. let both : Some end ≡ None = h in cc), (λ h. absurd h))
 touches_none i (Works.Expire peer channel) =
     let left = has_try_left i (channel_in i peer channel) in
@@ -69,5 +71,6 @@ none_is None t is = ((λ h. is), (λ h. refl))
 none_is (Some b) t is = ((λ h. absurd (cc)), (λ h. absurd (true≢false (sym is ∙ h))))
 
 -- a channel is idle where nothing is bound
-pub idle_is : (c : Channel) (log : List Entry) (b : Option Bound) → option_map (λ (b : Bound). b.message) b ≡ bound_message c log → (b ≡ None) ↔ (is_bound c log ≡ false)
+pub idle_is : (c : Channel) (log : List Entry) (b : Option Bound) → option_map (λ (b : Bound). b.message) b ≡ bound_message c log →
+    (b ≡ None) ↔ (is_bound c log ≡ false)
 idle_is c log b is = none_is b (is_bound c log) (bound_is c log b is)

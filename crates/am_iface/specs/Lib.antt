@@ -7,3 +7,4 @@ pub mod Touches
 pub mod Turns
 pub mod With
 pub mod Ways
+pub mod Refusals

@@ -1,9 +1,9 @@
 -- Which works touch no endpoint, and which emit no packet.
 use Rattle.std.specs.Prelude.{◌≡◌, ◌≢◌, ◌⊎◌, true, false, None}
 use Rattle.am_names.specs.declared.Packet.TheVariants as Packets
-use Rattle.am_local.specs.declared.work.Work.{Work}
-use Rattle.am_local.specs.declared.work.Work.TheVariants as Works
-use Rattle.am_local.specs.Interface.{InterfaceLog, arrival_in, channel_in, has_try_left, settles}
+use Rattle.am_model_parts.specs.declared.work.Work.{Work}
+use Rattle.am_model_parts.specs.declared.work.Work.TheVariants as Works
+use Rattle.am_model_parts.specs.Interface.{InterfaceLog, arrival_in, channel_in, has_try_left, settles}
 use Rattle.am_model.specs.Channels.{Channel, Fresh, Stale, bound_message}
 
 -- no message is bound to the channel

@@ -5,20 +5,12 @@ use Rattle.am_office.specs.declared.Part.{Part}
 use Rattle.am_office.specs.declared.Part.TheVariants as Parts
 use Rattle.am_office.specs.declared.Entry.{Entry}
 use Rattle.am_model.specs.Endpoint.{State}
-use Rattle.am_model.specs.Packets.{stamp_of}
-use Rattle.am_local.specs.declared.work.Work.{Work}
-use Rattle.am_local.specs.declared.work.Work.TheVariants as Works
-use Rattle.am_local.specs.Interface.{event_of, failing_at, outcome_at}
+use Rattle.am_model_parts.specs.declared.work.Work.{Work}
+use Rattle.am_model_parts.specs.Interface.{event_of, failing_at, outcome_at, stamp_in}
 use Rattle.am_model.specs.declared.EntryFault.{EntryFault}
 use Rattle.am_model.specs.declared.EntryFault.TheVariants as Faults
 use Rattle.am_iface.specs.View.{InterfaceView, own}
 use Rattle.am_model.specs.Parts.{last_stamp}
-
--- the stamp of the packet in hand, and 0 where there is none
-abbrev pub stamp_in : Work → ℕ
-stamp_in (Works.Receive p) = stamp_of p
-stamp_in (Works.Bind end) = 0
-stamp_in (Works.Expire peer channel) = 0
 
 -- the stamp of an entry that is made now: above the floor, the last entry and the packet in hand
 abbrev pub stamp_after : ℕ → List Entry → Work → ℕ

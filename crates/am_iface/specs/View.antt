@@ -5,10 +5,10 @@ use Rattle.am_names.specs.declared.Parcel.{Parcel}
 use Rattle.am_names.specs.declared.AnswerPacket.{AnswerPacket}
 use Rattle.am_names.specs.declared.Packet.TheVariants as Packets
 use Rattle.am_office.specs.declared.Entry.{Entry}
-use Rattle.am_model.specs.Allowed.{is_well_formed}
-use Rattle.am_local.specs.declared.work.Work.{Work}
-use Rattle.am_local.specs.declared.work.Work.TheVariants as Works
-use Rattle.am_local.specs.Interface.{InterfaceLog}
+use Rattle.am_names.specs.Names.{is_well_formed}
+use Rattle.am_model_parts.specs.declared.work.Work.{Work}
+use Rattle.am_model_parts.specs.declared.work.Work.TheVariants as Works
+use Rattle.am_model_parts.specs.Interface.{InterfaceLog}
 use Rattle.am_iface.specs.Settings.{SettingsView}
 
 pub record InterfaceView : Type 0 where

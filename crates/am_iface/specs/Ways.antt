@@ -4,7 +4,7 @@ use Rattle.am_office.specs.declared.Condition.{Condition}
 use Rattle.am_office.specs.declared.Condition.TheVariants.{NoChannel}
 use Rattle.am_model.specs.declared.Queued.{Queued}
 use Rattle.am_model.specs.History.{free_from}
-use Rattle.am_local.specs.Interface.{home_in}
+use Rattle.am_model_parts.specs.Interface.{home_in}
 use Rattle.am_iface.specs.View.{InterfaceView, own}
 use Rattle.am_iface.specs.declared.binds.Way.{Way}
 

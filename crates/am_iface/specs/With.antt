@@ -6,16 +6,16 @@ use Rattle.am_office.specs.declared.Part.TheVariants as Parts
 use Rattle.am_office.specs.declared.Entry.{Entry}
 use Rattle.am_names.specs.declared.Serial.{Serial}
 use Rattle.am_block.specs.Pools.{without}
-use Rattle.am_body.specs.Flights.{slot_of}
+use Rattle.am_endpoint_body.specs.Flights.{slot_of}
 use Rattle.am_endpoint.specs.View.{EndpointView, state_after}
-use Rattle.am_local.specs.declared.work.Work.{Work}
-use Rattle.am_local.specs.declared.work.Work.TheVariants as Works
+use Rattle.am_model_parts.specs.declared.work.Work.{Work}
+use Rattle.am_model_parts.specs.declared.work.Work.TheVariants as Works
 use Rattle.am_names.specs.declared.Message.{Message}
 use Rattle.am_model.specs.declared.Flying.{Flying}
 use Rattle.am_model.specs.declared.Queued.{Queued}
 use Rattle.am_model.specs.Changes.{flying_of, settled_in}
 use Rattle.am_model.specs.Endpoint.{State, front}
-use Rattle.am_local.specs.Interface.{InterfaceLog, failing_at, home_in}
+use Rattle.am_model_parts.specs.Interface.{InterfaceLog, failing_at, home_in}
 use Rattle.am_model.specs.declared.EntryFault.{EntryFault}
 use Rattle.am_model.specs.declared.EntryFault.TheVariants as Faults
 use Rattle.am_iface.specs.View.{InterfaceView, own}

@@ -8,8 +8,8 @@ ghost use Rattle.am_iface.specs.View.{own};
 ghost use Rattle.am_iface.specs.Made.{IsMade};
 ghost use Rattle.am_iface.specs.Ways.{IsWay, missing_channel};
 ghost use Rattle.am_iface.specs.With.{IsFullOf, IsHomeKnown, TurnsWith};
-ghost use Rattle.am_local.specs.Interface.{channel_in, channel_of_front, failing_at, home_in};
-ghost use Rattle.am_local.specs.declared.work.Work.TheVariants as Works;
+ghost use Rattle.am_model_parts.specs.Interface.{channel_in, channel_of_front, failing_at, home_in};
+ghost use Rattle.am_model_parts.specs.declared.work.Work.TheVariants as Works;
 ghost use Rattle.am_model.specs.Allowed.{MayBind};
 ghost use Rattle.am_model.specs.Endpoint.{front, is_direct};
 ghost use Rattle.am_model.specs.History.{free_from};
@@ -30,7 +30,7 @@ use am_office::{Condition, Entry, Part, growth};
 
 /// A message that is to be bound, the node where it goes, and the channel to it that is free.
 #[derive(Drop)]
-struct Way {
+pub(crate) struct Way {
     queued: Queued,
     peer: NodeId,
     channel: u8,
@@ -61,7 +61,7 @@ impl Interface {
 
     /// The front message of an endpoint with the lowest free channel to its destination's node, or the first condition that keeps
     /// it from being bound.
-    fn way(&self, endpoint: &Endpoint) -> Result<Way, Condition>
+    pub(crate) fn way(&self, endpoint: &Endpoint) -> Result<Way, Condition>
         requires { IsHomeKnown (own self.now) (front (state_after endpoint.now)) }
         ensures fault { result_err result ≡ failing_at (own self.now) (state_after endpoint.now) (Works.Bind endpoint.now.settings.id) }
         ensures way { IfOk result (λ way. IsWay self.now (front (state_after endpoint.now)) way) }

@@ -3,7 +3,7 @@ ghost use Rattle.am_iface.specs.ByEnds.{emits_retry, needs_settling, needs_time_
 ghost use Rattle.am_channel.specs.Sending.{settled, timed_out};
 ghost use Rattle.am_channel.specs.Calls as Calls;
 ghost use Rattle.am_channel.specs.Calls.{after};
-ghost use Rattle.am_local.specs.Interface.{answers_to, needs_arrival};
+ghost use Rattle.am_model_parts.specs.Interface.{answers_to, needs_arrival};
 ghost use Rattle.am_model.specs.Channels.{Fresh, arrival};
 ghost use Rattle.std.specs.Prelude.{◌≡◌, ◌+◌, ◌-◌, ◌<◌, ◌≤◌, ◌^◌, IfSome, IsNone, IsSome};
 

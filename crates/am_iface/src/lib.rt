@@ -4,16 +4,16 @@
 
 ghost use Rattle.am_iface.specs.Settings.{AreLawful};
 ghost use Rattle.am_endpoint.specs.View.{state_after};
-ghost use Rattle.am_iface.specs.Turns.{HasRoom, IsFull, Turns, entry_by, stamp_after, stamp_in};
+ghost use Rattle.am_iface.specs.Turns.{HasRoom, IsFull, Turns, entry_by, stamp_after};
 ghost use Rattle.am_iface.specs.View.{FitsAnswer, FitsInterface, FitsParcel, InterfaceView, IsChannelOf, own};
 ghost use Rattle.am_model.specs.Parts.{last_stamp};
 ghost use Rattle.am_iface.specs.With.{Flies, HasRoomWith, IsFullOf, KnowsHome};
 ghost use Rattle.am_iface.specs.Touches.{EmitsNone, TouchesNone};
 ghost use Rattle.am_channel.specs.declared.sending.Bound.{Bound};
 ghost use Rattle.am_channel.specs.Counted.{AreCounted};
-ghost use Rattle.am_local.specs.Granted.{FitsEndpoint};
-ghost use Rattle.am_local.specs.Interface.{arrival_in, channel_in, emits_to, event_of, failing_at, home_in, needs, needs_arrival, outcome_at};
-ghost use Rattle.am_local.specs.declared.work.Work.TheVariants as Works;
+ghost use Rattle.am_model_parts.specs.Granted.{FitsEndpoint};
+ghost use Rattle.am_model_parts.specs.Interface.{arrival_in, channel_in, emits_to, event_of, failing_at, home_in, needs, needs_arrival, outcome_at, stamp_in};
+ghost use Rattle.am_model_parts.specs.declared.work.Work.TheVariants as Works;
 ghost use Rattle.am_model.specs.Endpoint.{State, is_direct};
 ghost use Rattle.am_model.specs.History.{is_bound, next_number};
 ghost use Rattle.am_names.specs.declared.Packet.TheVariants as Packets;
@@ -31,6 +31,7 @@ mod by_ends;
 mod entries;
 mod opening;
 mod packets;
+mod refusals;
 mod settings;
 mod with;
 
@@ -41,13 +42,14 @@ use crate::entries::{answer_receipt, parcel_receipt, repeat, resend};
 use crate::opening::{no_emissions, unused_ends};
 use crate::packets::emits;
 pub use crate::packets::emitted_of;
+pub use crate::refusals::refused_by;
 pub use crate::settings::IfaceSettings;
 use crate::settings::Limits;
 pub use am_channel::Bound;
 use am_channel::{Ends, TimedOut};
 use am_endpoint::Endpoint;
-pub use am_local::work::Work;
 pub use am_model::{EntryFault, EntryFault as IfaceFault};
+pub use am_model_parts::work::Work;
 use am_names::{AnswerPacket, EndpointId, NodeId, Packet, Parcel};
 pub use am_office::NoMemory;
 use am_office::{Condition, Entry, Part, Received, growth};
@@ -348,7 +350,7 @@ impl Interface {
         requires packet { stamp_in work.now + 1 < 2 ^ 64 }
         ensures { result ≡ stamp_after floor self.now.log work.now }
     {
-        1 + floor.max(self.last_stamp()).max(stamp_in(work))
+        1 + floor.max(self.last_stamp()).max(work.stamp())
     }
 
     /// The stamp of an entry that is made now, here and at an endpoint.
@@ -587,15 +589,4 @@ fn one_if(is: bool) -> u32
     ensures { result ≡ cond is 1 0 }
 {
     if is { 1 } else { 0 }
-}
-
-/// The stamp of the packet in hand, and 0 where there is none.
-fn stamp_in(work: &Work) -> u64
-    ensures { result ≡ stamp_in work.now }
-{
-    match work {
-        Work::Receive(Packet::Parcel(p)) => p.stamp,
-        Work::Receive(Packet::Answer(p)) => p.stamp,
-        Work::Bind(_) | Work::Expire { .. } => 0,
-    }
 }

@@ -1,11 +1,10 @@
 // A node of two with its one endpoint, and the calls on them, each made only where it may be.
 ghost use Rattle.am_endpoint.specs.View.{state_after};
-ghost use Rattle.am_iface.specs.Turns.{stamp_in};
 ghost use Rattle.am_iface.specs.View.{FitsInterface, IsChannelOf, own};
 ghost use Rattle.am_iface.specs.With.{IsHomeKnown, KnowsHome};
-ghost use Rattle.am_local.specs.Granted.{FitsEndpoint, IsInFlight};
-ghost use Rattle.am_local.specs.Interface.{channel_in, home_in};
-ghost use Rattle.am_model.specs.Allowed.{are_numbers_in_range, is_well_formed};
+ghost use Rattle.am_model_parts.specs.Granted.{FitsEndpoint, IsInFlight};
+ghost use Rattle.am_model_parts.specs.Interface.{channel_in, home_in};
+ghost use Rattle.am_model.specs.Allowed.{are_numbers_in_range};
 ghost use Rattle.am_model.specs.Channels.{bound_message};
 ghost use Rattle.am_model.specs.Endpoint.{entry_at, front};
 ghost use Rattle.am_names.specs.declared.EndpointId.{EndpointId};
@@ -14,21 +13,15 @@ ghost use Rattle.std.specs.Prelude.{◌≡◌, ◌<◌, ◌≤◌, ℕ, IfOk, If
 
 use am_endpoint::{EndFault, EndSettings, Endpoint};
 use am_iface::{IfaceSettings, Interface, Turned, Work};
-use am_names::{EndpointId, Message, MsgKind, NodeId, Packet, Tag, Words};
-use am_office::{Actor, Call, Entry, Event, HandlerKind, NoMemory, Outcome, Place};
+use am_model::{are_credits_in_range, is_kind_in_range};
+use am_names::{EndpointId, NodeId, Packet, Tag};
+use am_office::{Actor, Call, Entry, Event, NoMemory, Outcome, Place};
 use std::alloc::Global;
 use std::marker::Model;
 use std::process::Abort;
 
 /// Stamps stay below it.
 pub const LATE: u64 = 1000;
-
-const NONE: Words = Words {
-    a: 0,
-    b: 0,
-    c: 0,
-    d: 0,
-};
 
 /// A node of two, with its interface and its one endpoint, which has the node's number. Contracts see its log.
 #[derive(Drop)]
@@ -39,7 +32,7 @@ pub struct Node {
 
 impl Model for Node {
     ghost use Rattle.am_iface.specs.View.{own};
-    ghost use Rattle.am_local.specs.Interface.{home_in};
+    ghost use Rattle.am_model_parts.specs.Interface.{home_in};
     ghost use Rattle.am_names.specs.declared.EndpointId.{EndpointId};
     ghost use Rattle.am_office.specs.declared.Entry.{Entry};
     ghost use Rattle.std.specs.Prelude.{◌≡◌, ◌<◌, List, None, Some, IsSome};
@@ -77,46 +70,14 @@ fn homes(alloc: Global) -> Result<Vec<Option<NodeId>>, NoMemory>
     Ok(homes)
 }
 
-/// Whether a message has the form of its kind.
-fn is_well_formed(m: &Message) -> bool
-    ensures { result ≡ is_well_formed m.now }
-{
-    match m.kind {
-        MsgKind::Request => m.about.is_none(),
-        MsgKind::Reply => m.about.is_some() && m.reply_tag.0 == 0,
-        MsgKind::Empty => m.about.is_some()
-            && m.reply_tag.0 == 0
-            && m.handler == 0
-            && m.words == NONE,
-    }
-}
-
 /// Whether the numbers of a call on an endpoint without a pool are in range.
 fn is_in_range(call: &Call) -> bool
     ensures { IsTrue result → are_numbers_in_range None call.now ≡ true }
 {
     match *call {
-        Call::Map { credits, .. } => 1 <= credits && credits <= 8,
-        Call::SetHandler {
-            kind: HandlerKind::Note,
-            ..
-        } => true,
-        Call::SetHandler {
-            kind: HandlerKind::Echo(handler) | HandlerKind::Add(handler),
-            ..
-        } => 1 <= handler && handler <= 15,
+        Call::Map { credits, .. } => are_credits_in_range(None, credits),
+        Call::SetHandler { kind, .. } => is_kind_in_range(kind),
         _ => true,
-    }
-}
-
-/// The stamp of the packet in hand, and 0 where there is none.
-fn stamp_in(work: &Work) -> u64
-    ensures { result ≡ stamp_in work.now }
-{
-    match work {
-        Work::Receive(Packet::Parcel(p)) => p.stamp,
-        Work::Receive(Packet::Answer(p)) => p.stamp,
-        Work::Bind(_) | Work::Expire { .. } => 0,
     }
 }
 
@@ -139,7 +100,7 @@ fn fits(interface: &Interface, work: &Work) -> bool
             && p.from.0 < 2
             && p.channel < 1
             && 1 <= p.seq
-            && is_well_formed(&p.message),
+            && p.message.is_well_formed(),
         Work::Receive(Packet::Answer(p)) => p.to == interface.node()
             && p.from.0 < 2
             && p.channel < 1,
@@ -181,7 +142,7 @@ fn fits_endpoint(interface: &Interface, endpoint: &Endpoint, work: &Work) -> boo
     ensures flies { IsTrue result → FitsEndpoint (own interface.now) (state_after endpoint.now) work.now }
 {
     match *work {
-        Work::Receive(Packet::Parcel(p)) => is_well_formed(&p.message),
+        Work::Receive(Packet::Parcel(p)) => p.message.is_well_formed(),
         Work::Receive(Packet::Answer(p)) => is_in_flight(interface, endpoint, p.from, p.channel),
         Work::Bind(_) => is_home_known(interface, endpoint),
         Work::Expire { peer, channel } => is_in_flight(interface, endpoint, peer, channel),
@@ -233,7 +194,7 @@ impl Node {
 
     fn turn_now(&mut self, rt: &impl Abort, floor: u64, work: Work) -> Turned {
         assert!(rt; fits(&self.interface, &work));
-        assert!(rt; floor < LATE && stamp_in(&work) < LATE);
+        assert!(rt; floor < LATE && work.stamp() < LATE);
         assert!(rt; self.interface.last_stamp() < LATE && self.endpoint.last_stamp() < LATE);
         match self.interface.needs(&work) {
             None => self

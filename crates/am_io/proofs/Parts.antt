@@ -1,10 +1,11 @@
 -- What is left of known bytes, and what is held.
-use Rattle.std.proofs.Common.{◌≡◌, ℕ, subst, ◌+◌, ◌<◌, ◌≤◌, List, [], ◌++◌, length, take, drop, Option, Some, None, refl, sym, ap, ◌∙◌, append_assoc, length-drop, length-append, length-take, arith}
-use Rattle.std.specs.Io.KnownBytes.{Appends, Consumes, IsAtEnd, Keeps}
-use Rattle.std.proofs.lemmas.List.{append-nil, take-append-drop, drop-drop, drop_all, take_at}
+use Rattle.std.proofs.Common.{◌≡◌, ℕ, ◌+◌, ◌<◌, ◌≤◌, List, [], ◌++◌, length, take, drop, Option, Some, None, refl, sym, ap, ◌∙◌, append_assoc}
+use Rattle.std.proofs.Common.{length-drop, length-append, length-take, arith}
+use Rattle.std.specs.Io.KnownBytes.{Appends, Consumes, Keeps}
+use Rattle.std.proofs.lemmas.List.{take-append-drop, drop-drop, drop_all, take_at}
 use Rattle.std.specs.Prelude.{Result, Ok, Err}
 use Rattle.am_io.specs.Causes.{Rose, ShortageCause, Stands, Counter, WriteCause}
-use Rattle.am_io.specs.Whole.{IsAll, IsLonger, TakeCause, TakesAtMost}
+use Rattle.am_io.specs.Whole.{TakeCause, TakesAtMost}
 use Rattle.am_io.specs.declared.sink.SinkFault.{SinkFault}
 use Rattle.am_io.specs.declared.sink.SinkFault.TheVariants as sinks
 use Rattle.am_io.specs.declared.whole.TakeFault.{TakeFault}
@@ -19,7 +20,10 @@ pub stands_then : (a b c : Counter) → Stands a b → Stands b c → Stands a c
 stands_then a b c first next = record { told' = let f = first.told' in let n = next.told' in omega (arith, f, n); met' = next.met' ∙ first.met' }
 
 pub rose_then : (a b c : Counter) → Stands a b → Rose b c → Rose a c
-rose_then a b c first next = record { told' = let f = first.told' in let n = next.told' in omega (arith, f, n); met' = let f = first.met' in let n = next.met' in omega (arith, f, n) }
+rose_then a b c first next = record {
+  told' = let f = first.told' in let n = next.told' in omega (arith, f, n);
+  met' = let f = first.met' in let n = next.met' in omega (arith, f, n);
+}
 
 pub take_then : {T : Type 0} (r : Result T TakeFault) (a b c : Counter) → Stands a b → TakeCause r b c → TakeCause r a c
 take_then (Ok x) a b c first next = stands_then a b c first next
@@ -55,10 +59,6 @@ consumes_then (Some xs) None c p q f g = absurd f
 consumes_then (Some xs) (Some ys) None p q f g = absurd g
 consumes_then (Some xs) (Some ys) (Some zs) p q f g = f ∙ ap (λ (l : List ℕ). p ++ l) g ∙ sym (append_assoc p q zs)
 
-pub appends_none : (a : Option (List ℕ)) → Appends a a []
-appends_none None = tt
-appends_none (Some xs) = sym (append-nil xs)
-
 pub appends_then : (a b c : Option (List ℕ)) (p q : List ℕ) → Appends a b p → Appends b c q → Appends a c (p ++ q)
 appends_then None b c p q f g = tt
 appends_then (Some xs) None c p q f g = absurd f
@@ -72,16 +72,6 @@ appends_kept (Some xs) (Some ys) None p f g = absurd g
 appends_kept (Some xs) (Some ys) (Some zs) p f g = g ∙ f
 
 -- ---- taking
-
-pub taken_all : (a b : Option (List ℕ)) (bytes : List ℕ) → Consumes a b bytes → IsAtEnd b → IsAll a bytes
-taken_all None b bytes f e = tt
-taken_all (Some xs) None bytes f e = absurd f
-taken_all (Some xs) (Some ys) bytes f e = f ∙ ap (λ (l : List ℕ). bytes ++ l) e ∙ append-nil bytes
-
-pub taken_longer : (a b : Option (List ℕ)) (bytes : List ℕ) (most : ℕ) → Consumes a b bytes → most < length bytes → IsLonger a most
-taken_longer None b bytes most f lt = tt
-taken_longer (Some xs) None bytes most f lt = absurd f
-taken_longer (Some xs) (Some ys) bytes most f lt = omega (arith, ap length f, length-append bytes ys)
 
 -- nothing was taken
 pub took_none : (a : Option (List ℕ)) (most : ℕ) → TakesAtMost most a a
@@ -102,24 +92,20 @@ pub record Gave (a b : Option (List ℕ)) (text rest : List ℕ) : Type 0 where
   pub split : text ≡ front ++ rest
   pub given : Appends a b front
 
-pub gave_none : (a : Option (List ℕ)) (text : List ℕ) → Gave a a text text
-gave_none a text = record { front = []; split = refl; given = appends_none a }
-
-pub gave_more : (a b c : Option (List ℕ)) (text rest : List ℕ) (count : ℕ) → Gave a b text rest → Appends b c (take count rest) → Gave a c text (drop count rest)
+pub gave_more : (a b c : Option (List ℕ)) (text rest : List ℕ) (count : ℕ) → Gave a b text rest → Appends b c (take count rest) →
+    Gave a c text (drop count rest)
 gave_more a b c text rest count so_far more = record {
   front = so_far.front ++ take count rest;
-  split = so_far.split ∙ ap (λ (l : List ℕ). so_far.front ++ l) (sym (take-append-drop count rest)) ∙ sym (append_assoc so_far.front (take count rest) (drop count rest));
+  split = so_far.split ∙ ap (λ (l : List ℕ). so_far.front ++ l) (sym (take-append-drop count rest))
+      ∙ sym (append_assoc so_far.front (take count rest) (drop count rest));
   given = appends_then a b c so_far.front (take count rest) so_far.given more;
 }
 
-pub gave_all : (a b : Option (List ℕ)) (text rest : List ℕ) → Gave a b text rest → rest ≡ [] → Appends a b text
-gave_all a b text rest so_far none =
-    let whole : so_far.front ≡ text = sym (so_far.split ∙ ap (λ (l : List ℕ). so_far.front ++ l) none ∙ append-nil so_far.front) in
-    subst (λ (l : List ℕ). Appends a b l) whole so_far.given
-
-pub gave_front : (a b c : Option (List ℕ)) (text rest : List ℕ) → Gave a b text rest → 0 < length rest → Keeps b c → (count : ℕ) × (count < length text) × Appends a c (take count text)
+pub gave_front : (a b c : Option (List ℕ)) (text rest : List ℕ) → Gave a b text rest → 0 < length rest → Keeps b c →
+    (count : ℕ) × (count < length text) × Appends a c (take count text)
 gave_front a b c text rest so_far some kept =
-    let whole : take (length so_far.front) text ≡ so_far.front = ap (λ (l : List ℕ). take (length so_far.front) l) so_far.split ∙ take_at so_far.front rest (length so_far.front) refl in
+    let whole : take (length so_far.front) text ≡ so_far.front = ap (λ (l : List ℕ). take (length so_far.front) l) so_far.split
+    ∙ take_at so_far.front rest (length so_far.front) refl in
     (length so_far.front, omega (arith, ap length so_far.split, length-append so_far.front rest), rw whole (appends_kept a b c so_far.front so_far.given kept))
 
 -- ---- reading from memory
@@ -132,5 +118,6 @@ pub copied_length : (xs buf to : List ℕ) (count : ℕ) → count ≤ length xs
 copied_length xs buf to count le le2 e =
     omega (arith, ap length e, length-append (take count xs) (drop count buf), length-take count xs, length-drop count buf)
 
-pub read_front : (xs buf to : List ℕ) (at count : ℕ) → count ≤ length (drop at xs) → to ≡ take count (drop at xs) ++ drop count buf → drop at xs ≡ take count to ++ drop (at + count) xs
+pub read_front : (xs buf to : List ℕ) (at count : ℕ) → count ≤ length (drop at xs) → to ≡ take count (drop at xs) ++ drop count buf →
+    drop at xs ≡ take count to ++ drop (at + count) xs
 read_front xs buf to at count le e = front_read xs to at count (copied_front (drop at xs) buf to count le e)

@@ -1,5 +1,6 @@
 -- A round's scenario is lawful.
-use Rattle.std.proofs.Common.{◌≡◌, ◌≢◌, ℕ, zero, suc, ◌+◌, ◌*◌, ◌/◌, ◌%◌, ◌<◌, ◌≤◌, Bool, true, false, List, [], ◌∷◌, ◌++◌, length, drop, Option, Some, None, refl, sym, ap, ◌∙◌, subst, ⊎_elim, arith, length-append, add-one}
+use Rattle.std.proofs.Common.{◌≡◌, ◌≢◌, ℕ, zero, suc, ◌+◌, ◌*◌, ◌/◌, ◌%◌, ◌<◌, ◌≤◌, Bool, true, false, List, [], ◌∷◌, ◌++◌, length, drop, Option, Some, None}
+use Rattle.std.proofs.Common.{refl, sym, ap, ◌∙◌, subst, ⊎_elim, arith, length-append, add-one}
 use Rattle.std.specs.Prelude.{◌==◌, find, count_by, if◌then◌else◌, IsSome}
 use Rattle.std.specs.List.{All, AllPairs}
 use Rattle.std.specs.Option.{option_map, option_or}
@@ -19,19 +20,21 @@ use Rattle.am_names.specs.declared.NodeId.{NodeId}
 use Rattle.am_office.specs.declared.Call.{Call}
 use Rattle.am_office.specs.declared.Call.TheVariants.{Request, Poll, SetHandler}
 use Rattle.am_office.specs.declared.HandlerKind.TheVariants.{Note}
-use Rattle.am_plan.specs.declared.plan.PlanLine.{PlanLine}
+use Rattle.am_scenario_plan.specs.declared.plan.PlanLine.{PlanLine}
 use Rattle.am_scenario_types.specs.declared.parts.Form.TheVariants.{Run}
 use Rattle.am_scenario_types.specs.declared.parts.Network.TheVariants.{Packet}
 use Rattle.am_scenario_types.specs.declared.parts.EndLine.{EndLine}
 use Rattle.am_scenario_types.specs.declared.parts.FaultLine.{FaultLine}
 use Rattle.am_scenario_types.specs.declared.parts.ThreadLine.{ThreadLine}
 use Rattle.am_scenario_types.specs.declared.parts.ScriptCall.{ScriptCall}
-use Rattle.am_scenario_types.specs.Lawful.{node_of, thread_node, IsDeclared, IsOn, IsLawfulEnd, IsLawfulBundle, IsLawfulThread, IsLawfulPlanLine, IsSamePlace, IsLawfulFaultLine, IsSamePageCall, IsLawfulCall, IsLawfulScriptCall, IsLawfulEvent, IsLawful, IsOfForm}
-use Rattle.am_words.specs.declared.codes.CodedWord.{CodedWord}
-use Rattle.am_words.specs.Codes.{Fits}
+use Rattle.am_scenario_types.specs.Lawful.{node_of, thread_node, IsDeclared, IsOn, IsLawfulEnd, IsLawfulBundle, IsLawfulThread, IsLawfulPlanLine, IsSamePlace}
+use Rattle.am_scenario_types.specs.Lawful.{IsLawfulFaultLine, IsSamePageCall, IsLawfulCall, IsLawfulScriptCall, IsLawfulEvent, IsLawful, IsOfForm}
+use Rattle.am_job_words.specs.declared.codes.CodedWord.{CodedWord}
+use Rattle.am_job_words.specs.Codes.{Fits}
 use Rattle.am_job.specs.Scripts.{map_to, maps_below, on_owner, on_sender, opening, openings_below, owner, polls, script, sending, sendings}
-use Rattle.am_job.specs.Rounds.{end_line, ends_below, round_at, round_size, round_words, scenario, thread_line, threads_below}
-use Rattle.am_generator.specs.Calls.{call_on}
+use Rattle.am_job.specs.Rounds.{end_line, round_at, round_size, round_words, scenario, thread_line}
+use Rattle.am_job.proofs.Below.{ends_below, threads_below}
+use Rattle.am_scenario_generator.specs.Calls.{call_on}
 
 -- ---- tests and lists
 
@@ -40,13 +43,22 @@ use Rattle.am_generator.specs.Calls.{call_on}
 ends_all : (w n : ℕ) → w ≤ 8 → n ≤ 2 * w → All (IsLawfulEnd Packet w) (ends_below n)
 ends_all w n few small =
     lines_all end_line (IsLawfulEnd Packet w) n
-    (λ k less. record { id = omega (arith, few, less, small); node = omega (arith, less, small); tag = omega (arith, few, less, small); disk = λ h. absurd (cc) })
+    (λ k less. record {
+      id = omega (arith, few, less, small);
+      node = omega (arith, less, small);
+      tag = omega (arith, few, less, small);
+      disk = λ h. absurd (cc);
+    })
 
 threads_all : (w n : ℕ) → w ≤ 8 → n ≤ w → All (IsLawfulThread w) (threads_below n)
-threads_all w n few small = lines_all thread_line (IsLawfulThread w) n (λ k less. record { id = omega (arith, few, less, small); node = omega (arith, less, small) })
+threads_all w n few small = lines_all thread_line (IsLawfulThread w) n (λ k less. record {
+  id = omega (arith, few, less, small);
+  node = omega (arith, less, small);
+})
 
 -- each node has one thread
-counted : (node n : ℕ) → count_by (λ thread. thread.node.0 == node) (threads_below (n + 1)) ≡ count_by (λ thread. thread.node.0 == node) (threads_below n) + (if n == node then 1 else 0)
+counted : (node n : ℕ) → count_by (λ thread. thread.node.0 == node) (threads_below (n + 1)) ≡ count_by (λ thread. thread.node.0 ==
+    node) (threads_below n) + (if n == node then 1 else 0)
 counted node n =
     ap (λ (threads : List ThreadLine). count_by (λ thread. thread.node.0 == node) threads) (lines_more thread_line n)
     ∙ sum_by_push (λ thread. if thread.node.0 == node then 1 else 0) (threads_below n) (thread_line n)
@@ -58,7 +70,8 @@ none_yet node (suc n) before =
     subst (λ (k : ℕ). count_by (λ thread. thread.node.0 == node) (threads_below k) ≡ 0) (add-one n)
     (counted node n ∙ rw other (omega (arith, none_yet node n (omega arith))))
 
-one_more : (node n : ℕ) (b : Bool) → (n == node) ≡ b → count_by (λ thread. thread.node.0 == node) (threads_below n) ≤ 1 → count_by (λ thread. thread.node.0 == node) (threads_below n) + (if b then 1 else 0) ≤ 1
+one_more : (node n : ℕ) (b : Bool) → (n == node) ≡ b → count_by (λ thread. thread.node.0 == node) (threads_below n) ≤ 1 →
+    count_by (λ thread. thread.node.0 == node) (threads_below n) + (if b then 1 else 0) ≤ 1
 one_more node n true e most = let at : n ≡ node = eqb-true n node e in omega (arith, none_yet node n (omega arith))
 one_more node n false e most = omega arith
 
@@ -75,7 +88,8 @@ end_there : (id : EndpointId) (n : ℕ) → id.0 < n → node_of (ends_below n) 
 end_there id n less = ap (λ (o : Option EndLine). option_map (λ end. end.node) o) (key_finds end_line (λ end. end.id.0) (λ k. refl) n id.0 less)
 
 thread_there : (id n : ℕ) → id < n → thread_node (threads_below n) id ≡ Some (record { 0 = id })
-thread_there id n less = ap (λ (o : Option ThreadLine). option_map (λ thread. thread.node) o) (key_finds thread_line (λ thread. thread.id) (λ k. refl) n id less)
+thread_there id n less = ap (λ (o : Option ThreadLine). option_map (λ thread. thread.node) o)
+    (key_finds thread_line (λ thread. thread.id) (λ k. refl) n id less)
 
 -- ---- calls
 
@@ -107,17 +121,20 @@ some_maps : (w n k : ℕ) → w ≤ 8 → n < w → k ≤ w → All (IsMade w) (
 unfolding maps_below
 some_maps w n zero few t within = All-nil (IsMade w)
 some_maps w n (suc k) few t within =
-    All-push (IsMade w) (maps_below n k) (on_sender n (map_to k)) (some_maps w n k few t (omega arith)) (senders_call w n (map_to k) t (a_map w k few (omega arith)))
+    All-push (IsMade w) (maps_below n k) (on_sender n (map_to k)) (some_maps w n k few t (omega arith))
+    (senders_call w n (map_to k) t (a_map w k few (omega arith)))
 
 an_opening : (w n : ℕ) → w ≤ 8 → n < w → All (IsMade w) (opening w n)
 unfolding opening
 an_opening w n few t =
-    All-cons (IsMade w) (on_owner n (SetHandler 1 Note)) (maps_below n w) (owners_call w n (SetHandler 1 Note) t (omega arith, tt)) (some_maps w n w few t (omega arith))
+    All-cons (IsMade w) (on_owner n (SetHandler 1 Note)) (maps_below n w) (owners_call w n (SetHandler 1 Note) t (omega arith, tt))
+    (some_maps w n w few t (omega arith))
 
 all_openings : (w n : ℕ) → w ≤ 8 → n ≤ w → All (IsMade w) (openings_below w n)
 unfolding openings_below
 all_openings w zero few within = All-nil (IsMade w)
-all_openings w (suc n) few within = All-append (IsMade w) (openings_below w n) (opening w n) (all_openings w n few (omega arith)) (an_opening w n few (omega arith))
+all_openings w (suc n) few within = All-append (IsMade w) (openings_below w n) (opening w n) (all_openings w n few (omega arith))
+    (an_opening w n few (omega arith))
 
 some_polls : (w n times : ℕ) → n < w → All (IsMade w) (polls n times)
 unfolding polls
@@ -154,7 +171,8 @@ all_sendings w j (word ∷ words) some few fits =
 
 all_calls : (w : ℕ) (words : List CodedWord) → 0 < w → w ≤ 8 → All Fits words → All (IsMade w) (script w words)
 unfolding script
-all_calls w words some few fits = All-append (IsMade w) (openings_below w w) (sendings w 0 words) (all_openings w w few (omega arith)) (all_sendings w 0 words some few fits)
+all_calls w words some few fits = All-append (IsMade w) (openings_below w w) (sendings w 0 words) (all_openings w w few (omega arith))
+    (all_sendings w 0 words some few fits)
 
 -- ---- numbers of calls
 
@@ -190,7 +208,12 @@ sending_length w n word =
 sendings_length : (w j : ℕ) (words : List CodedWord) → length (sendings w j words) ≡ (w + 2) * length words
 unfolding sendings
 sendings_length w j [] = omega arith
-sendings_length w j (word ∷ words) = omega (arith, length-append (sending w (j % w) word) (sendings w (j + 1) words), sending_length w (j % w) word, sendings_length w (j + 1) words)
+sendings_length w j (word ∷ words) = omega (
+  arith,
+  length-append (sending w (j % w) word) (sendings w (j + 1) words),
+  sending_length w (j % w) word,
+  sendings_length w (j + 1) words,
+)
 
 pub script_length : (w : ℕ) (words : List CodedWord) → length (script w words) ≡ (w + 1) * w + (w + 2) * length words
 unfolding script
@@ -207,7 +230,8 @@ few_calls w words few size = omega (arith, script_length w words, within_size w 
 
 -- ---- the whole
 
-scenario_lawful : (w turns : ℕ) (words : List CodedWord) → 0 < w → w ≤ 8 → turns ≤ 10_000 → length words ≤ round_size w → All Fits words → IsLawful (scenario w turns words)
+scenario_lawful : (w turns : ℕ) (words : List CodedWord) → 0 < w → w ≤ 8 → turns ≤ 10_000 → length words ≤ round_size w → All Fits words →
+    IsLawful (scenario w turns words)
 unfolding scenario
 scenario_lawful w turns words some few most size fits = record {
   settings = record {
@@ -245,7 +269,8 @@ scenario_runs : (w turns : ℕ) (words : List CodedWord) → IsOfForm Run (scena
 unfolding scenario
 scenario_runs w turns words = (refl, refl)
 
-pub rounds_are_lawful : (w turns : ℕ) (words : List CodedWord) (number : ℕ) → 0 < w → w ≤ 8 → turns ≤ 10_000 → All Fits words → IsLawful (round_at w turns words number)
+pub rounds_are_lawful : (w turns : ℕ) (words : List CodedWord) (number : ℕ) → 0 < w → w ≤ 8 → turns ≤ 10_000 → All Fits words →
+    IsLawful (round_at w turns words number)
 rounds_are_lawful w turns words number some few most fits =
     scenario_lawful w turns (round_words w words number) some few most (omega (arith, length-take (round_size w) (drop (round_size w * number) words)))
     (All-take Fits (round_size w) (drop (round_size w * number) words) (All-drop Fits (round_size w * number) words fits))

@@ -1,3 +1,4 @@
+pub mod Below
 pub mod Lawfully
 pub mod More
 pub mod Sent

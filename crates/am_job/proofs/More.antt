@@ -1,14 +1,15 @@
 -- One more of each.
-use Rattle.std.proofs.Common.{◌≡◌, ℕ, ◌+◌, ◌%◌, ◌<◌, ◌≤◌, List, [], ◌∷◌, ◌++◌, refl, sym, ap, ◌∙◌, length, drop, get_or, map, arith, append_assoc, append-nil, add-one}
+use Rattle.std.proofs.Common.{◌≡◌, ℕ, ◌+◌, ◌%◌, ◌<◌, ◌≤◌, List, [], ◌∷◌, ◌++◌, refl, sym, ap, ◌∙◌, length, drop, get_or, map, arith, append_assoc, append-nil}
+use Rattle.std.proofs.Common.{add-one}
 use Rattle.std.specs.List.{range_with_len}
 use Rattle.std.proofs.lemmas.List.{drop_more, drop_all}
 use Rattle.std.proofs.lemmas.List.FromFn.{map-range_with_len_more}
 use Rattle.am_office.specs.declared.Call.TheVariants.{Poll}
 use Rattle.am_scenario_types.specs.declared.parts.ScriptCall.{ScriptCall}
-use Rattle.am_words.specs.declared.codes.CodedWord.{CodedWord}
+use Rattle.am_job_words.specs.declared.codes.CodedWord.{CodedWord}
 use Rattle.am_scenario_types.specs.Lists.{ScenarioLists}
-use Rattle.am_words.specs.Codes.{sent_words}
-use Rattle.am_words.specs.Texts.{long_count}
+use Rattle.am_job_words.specs.Codes.{sent_words}
+use Rattle.am_job_words.specs.Texts.{long_count}
 use Rattle.am_job.specs.Lists.{JobLists}
 use Rattle.am_job.specs.Rounds.{job_of, round_at, round_count, rounds_of}
 use Rattle.am_job.specs.Scripts.{map_to, maps_below, on_owner, on_sender, opening, openings_below, polls, sending, sendings}
@@ -42,7 +43,8 @@ polls_more n times = rw add-one refl
 pub none_grown : {A : Type 0} (start none : List A) → none ≡ [] → start ≡ start ++ none
 none_grown start none is = rw is (sym (append-nil start))
 
-pub one_grown : {A : Type 0} (start was now piece before after : List A) → was ≡ start ++ before → now ≡ was ++ piece → after ≡ before ++ piece → now ≡ start ++ after
+pub one_grown : {A : Type 0} (start was now piece before after : List A) → was ≡ start ++ before → now ≡ was ++ piece → after ≡ before ++ piece →
+    now ≡ start ++ after
 one_grown {A} start was now piece before after so_far push next =
     push ∙ ap (λ (l : List A). l ++ piece) so_far ∙ append_assoc start before piece ∙ ap (λ (l : List A). start ++ l) (sym next)
 
@@ -57,7 +59,8 @@ unfolding sendings
 sendings_nil w j = refl
 
 -- what was sent, and what is still to be sent
-pub send_more : (w i : ℕ) (start was now : List ScriptCall) (words : List CodedWord) (d : CodedWord) (n : ℕ) → i < length words → n ≡ i % w → now ≡ was ++ sending w n (get_or words i d)
+pub send_more : (w i : ℕ) (start was now : List ScriptCall) (words : List CodedWord) (d : CodedWord) (n : ℕ) → i < length words → n ≡ i % w →
+    now ≡ was ++ sending w n (get_or words i d)
     → was ++ sendings w i (drop i words) ≡ start ++ sendings w 0 words → now ++ sendings w (i + 1) (drop (i + 1) words) ≡ start ++ sendings w 0 words
 send_more w i start was now words d n below is sent' so_far =
     let word : CodedWord = get_or words i d in
@@ -69,7 +72,8 @@ send_more w i start was now words d n below is sent' so_far =
     ∙ ap (λ (l : List ScriptCall). was ++ l) (sym (ap (λ (l : List CodedWord). sendings w i l) next ∙ sendings_cons w i word (drop (i + 1) words)))
     ∙ so_far
 
-pub send_all : (w i : ℕ) (start was : List ScriptCall) (words : List CodedWord) → length words ≤ i → was ++ sendings w i (drop i words) ≡ start ++ sendings w 0 words → was ≡ start ++ sendings w 0 words
+pub send_all : (w i : ℕ) (start was : List ScriptCall) (words : List CodedWord) → length words ≤ i →
+    was ++ sendings w i (drop i words) ≡ start ++ sendings w 0 words → was ≡ start ++ sendings w 0 words
 send_all w i start was words past so_far =
     sym (append-nil was)
     ∙ ap (λ (l : List ScriptCall). was ++ l) (sym (ap (λ (l : List CodedWord). sendings w i l) (drop_all i words past) ∙ sendings_nil w i))
@@ -77,7 +81,8 @@ send_all w i start was words past so_far =
 
 -- ---- one round more
 
-pub made_more : (f : ℕ → ScenarioLists) (n : ℕ) (rounds new : List ScenarioLists) (made : ScenarioLists) → rounds ≡ map f (range_with_len 0 n) → made ≡ f n → new ≡ rounds ++ made ∷ [] → new ≡ map f (range_with_len 0 (n + 1))
+pub made_more : (f : ℕ → ScenarioLists) (n : ℕ) (rounds new : List ScenarioLists) (made : ScenarioLists) → rounds ≡ map f (range_with_len 0 n) → made ≡ f n →
+    new ≡ rounds ++ made ∷ [] → new ≡ map f (range_with_len 0 (n + 1))
 made_more f n rounds new made so_far is push =
     push
     ∙ ap (λ (l : List ScenarioLists). l ++ made ∷ []) so_far
@@ -87,7 +92,9 @@ made_more f n rounds new made so_far is push =
 abbrev job : List ScenarioLists → ℕ → JobLists
 job rounds long = record { rounds = rounds; long = long }
 
-pub job_is : (w turns n long : ℕ) (text : List ℕ) (sent : List CodedWord) (rounds : List ScenarioLists) → rounds ≡ map (round_at w turns sent) (range_with_len 0 n) → n ≡ round_count w (length sent) → sent ≡ sent_words text → long ≡ long_count text → job rounds long ≡ job_of w turns text
+pub job_is : (w turns n long : ℕ) (text : List ℕ) (sent : List CodedWord) (rounds : List ScenarioLists) →
+    rounds ≡ map (round_at w turns sent) (range_with_len 0 n) → n ≡ round_count w (length sent) → sent ≡ sent_words text → long ≡ long_count text →
+    job rounds long ≡ job_of w turns text
 unfolding job_of
 job_is w turns n long text sent rounds made all sent_is long_is =
     let whole : rounds ≡ rounds_of w turns (sent_words text) =

@@ -1,5 +1,6 @@
 -- The rounds of a text send its short words.
-use Rattle.std.proofs.Common.{◌≡◌, ℕ, zero, suc, lit<, ◌+◌, ◌-◌, ◌*◌, ◌/◌, ◌%◌, ◌<◌, ◌≤◌, Bool, true, false, Option, Some, List, [], ◌∷◌, ◌++◌, refl, sym, ap, ◌∙◌, subst, ⊎_elim, length, take, drop, get_or, map, if◌then◌else◌, arith, append-nil, length-append}
+use Rattle.std.proofs.Common.{◌≡◌, ℕ, zero, suc, lit<, ◌+◌, ◌-◌, ◌*◌, ◌/◌, ◌%◌, ◌<◌, ◌≤◌, Bool, true, false, Option, Some, List, [], ◌∷◌, ◌++◌, refl, sym, ap}
+use Rattle.std.proofs.Common.{◌∙◌, subst, ⊎_elim, length, take, drop, get_or, map, if◌then◌else◌, arith, append-nil, length-append}
 use Rattle.std.specs.Prelude.{filter, option_to_list}
 use Rattle.std.specs.Cmp.Lexicographic.{slice_cmp}
 use Rattle.std.specs.List.{All, range_with_len}
@@ -18,14 +19,14 @@ use Rattle.am_office.specs.declared.Call.TheVariants.{Poll, Request, SetHandler}
 use Rattle.am_office.specs.declared.HandlerKind.TheVariants.{Note}
 use Rattle.am_scenario_types.specs.declared.parts.ScriptCall.{ScriptCall}
 use Rattle.am_scenario_types.specs.Lists.{ScenarioLists}
-use Rattle.am_words.specs.declared.codes.CodedWord.{CodedWord}
-use Rattle.am_words.specs.Codes.{coded, sent_words}
-use Rattle.am_words.specs.Counts.{Counted, IsCountOf, Tells, ask, rows_of, same_word, see_journal, times, word_asked, words_run}
-use Rattle.am_words.specs.Lists.{WordCountLists}
-use Rattle.am_words.specs.Texts.{closed, is_gap, is_short, short_words, words_after, words_of}
-use Rattle.am_words.proofs.Carried.{IsWord, code_carries}
-use Rattle.am_words.proofs.Tallied.{grown, listed, tells_ask, tells_journal}
-use Rattle.am_words.proofs.Told.{rows_count}
+use Rattle.am_job_words.specs.declared.codes.CodedWord.{CodedWord}
+use Rattle.am_job_words.specs.Codes.{coded, sent_words}
+use Rattle.am_job_words.specs.Counts.{Counted, IsCountOf, Tells, ask, rows_of, same_word, see_journal, times, word_asked, words_run}
+use Rattle.am_job_words.specs.Lists.{WordCountLists}
+use Rattle.am_job_words.specs.Texts.{closed, is_gap, is_short, short_words, words_after, words_of}
+use Rattle.am_job_words.proofs.Carried.{IsWord, code_carries}
+use Rattle.am_job_words.proofs.Tallied.{grown, listed, tells_ask, tells_journal}
+use Rattle.am_job_words.proofs.Told.{rows_count}
 use Rattle.am_job.specs.Asked.{ask_script, asked_by, asked_in_all, run_in_all, words_asked}
 use Rattle.am_job.specs.Lists.{JobLists}
 use Rattle.am_job.specs.Laws.{JobsSendWords}
@@ -94,10 +95,12 @@ round_is : (w : ℕ) (words : List (List ℕ)) (n : ℕ) → round_words w (map 
 round_is w words n =
     ap (λ (l : List CodedWord). take (round_size w) l) (drop-map coded (round_size w * n) words) ∙ take-map coded (round_size w) (drop (round_size w * n) words)
 
-pub round_asks : (w turns : ℕ) (words : List (List ℕ)) (n : ℕ) → All IsWord words → words_asked (round_at w turns (map coded words) n).script ≡ take (round_size w) (drop (round_size w * n) words)
+pub round_asks : (w turns : ℕ) (words : List (List ℕ)) (n : ℕ) → All IsWord words →
+    words_asked (round_at w turns (map coded words) n).script ≡ take (round_size w) (drop (round_size w * n) words)
 round_asks w turns words n are =
     ap (λ (l : List CodedWord). words_asked (scenario w turns l).script) (round_is w words n)
-    ∙ scenario_asks w turns (take (round_size w) (drop (round_size w * n) words)) (All-take IsWord (round_size w) (drop (round_size w * n) words) (All-drop IsWord (round_size w * n) words are))
+    ∙ scenario_asks w turns (take (round_size w) (drop (round_size w * n) words)) (All-take IsWord (round_size w) (drop (round_size w * n) words)
+    (All-drop IsWord (round_size w * n) words are))
 
 both_parts : (n m : ℕ) (words : List (List ℕ)) → take n words ++ take m (drop n words) ≡ take (n + m) words
 both_parts n m words =
@@ -110,9 +113,11 @@ asked_one round = append-nil (words_asked round.script)
 
 pub asked_more : (rounds : List ScenarioLists) (round : ScenarioLists) → asked_in_all (rounds ++ round ∷ []) ≡ asked_in_all rounds ++ words_asked round.script
 asked_more rounds round =
-    flat_map-append (λ (round : ScenarioLists). words_asked round.script) rounds (round ∷ []) ∙ ap (λ (l : List (List ℕ)). asked_in_all rounds ++ l) (asked_one round)
+    flat_map-append (λ (round : ScenarioLists). words_asked round.script) rounds (round ∷ [])
+    ∙ ap (λ (l : List (List ℕ)). asked_in_all rounds ++ l) (asked_one round)
 
-rounds_ask : (w turns : ℕ) (words : List (List ℕ)) (n : ℕ) → All IsWord words → asked_in_all (map (round_at w turns (map coded words)) (range_with_len 0 n)) ≡ take (round_size w * n) words
+rounds_ask : (w turns : ℕ) (words : List (List ℕ)) (n : ℕ) → All IsWord words →
+    asked_in_all (map (round_at w turns (map coded words)) (range_with_len 0 n)) ≡ take (round_size w * n) words
 rounds_ask w turns words zero are = let none : 0 ≡ round_size w * 0 = omega arith in ap (λ (k : ℕ). take k words) none
 rounds_ask w turns words (suc n) are =
     let f : ℕ → ScenarioLists = round_at w turns (map coded words) in
@@ -219,34 +224,42 @@ short_few text size word =
 
 pub few_times : (job : JobLists) → IsJob job → (word : List ℕ) → times (asked_by job) word < 0xffff_ffff_ffff_ffff
 few_times job is word =
-    let sends : asked_by job ≡ short_words is.text = ap (λ (j : JobLists). asked_by j) is.is ∙ jobs_send_words is.w is.turns is.text is.some is.nodes is.is_text in
+    let sends : asked_by job ≡ short_words is.text = ap (λ (j : JobLists). asked_by j) is.is
+    ∙ jobs_send_words is.w is.turns is.text is.some is.nodes is.is_text in
     subst (λ (words : List (List ℕ)). times words word < 0xffff_ffff_ffff_ffff) (sym sends) (short_few is.text is.size word)
 
 -- ---- a script more
 
-pub tells_script : (script : List ScriptCall) (counted : Counted) (asked ran : List (List ℕ)) → Tells counted asked ran → Tells (ask_script counted script) (asked ++ words_asked script) ran
+pub tells_script : (script : List ScriptCall) (counted : Counted) (asked ran : List (List ℕ)) → Tells counted asked ran →
+    Tells (ask_script counted script) (asked ++ words_asked script) ran
 tells_script [] counted asked ran tells = subst (λ (words : List (List ℕ)). Tells counted words ran) (sym (append-nil asked)) tells
 tells_script (made ∷ script) counted asked ran tells =
     let word : Option (List ℕ) = word_asked made.call in
     subst (λ (words : List (List ℕ)). Tells (ask_script (ask counted word) script) words ran)
-    (grown asked (option_to_list word) (words_asked script) (words_asked (made ∷ script)) (listed (λ (made : ScriptCall). word_asked made.call) made script word refl))
+    (grown asked (option_to_list word) (words_asked script) (words_asked (made ∷ script))
+    (listed (λ (made : ScriptCall). word_asked made.call) made script word refl))
     (tells_script script (ask counted word) (asked ++ option_to_list word) ran (tells_ask counted asked ran word tells))
 
 -- ---- the counts of a job
 
-pub ask_round : (rounds : List ScenarioLists) (i : ℕ) (round : ScenarioLists) (old new : Counted) → i < length rounds → round ≡ get_or rounds i round → new ≡ ask_script old round.script → Tells old (asked_in_all (take i rounds)) [] → Tells new (asked_in_all (take (i + 1) rounds)) []
+pub ask_round : (rounds : List ScenarioLists) (i : ℕ) (round : ScenarioLists) (old new : Counted) → i < length rounds → round ≡ get_or rounds i round →
+    new ≡ ask_script old round.script → Tells old (asked_in_all (take i rounds)) [] → Tells new (asked_in_all (take (i + 1) rounds)) []
 ask_round rounds i round old new below at is tells =
     let next : asked_in_all (take i rounds) ++ words_asked round.script ≡ asked_in_all (take (i + 1) rounds) =
     sym (asked_more (take i rounds) round)
     ∙ ap (λ (r : ScenarioLists). asked_in_all (take i rounds ++ r ∷ [])) at
     ∙ ap (λ (l : List ScenarioLists). asked_in_all l) (sym (take_more rounds i round below)) in
     subst (λ (counted : Counted). Tells counted (asked_in_all (take (i + 1) rounds)) []) (sym is)
-    (subst (λ (words : List (List ℕ)). Tells (ask_script old round.script) words []) next (tells_script round.script old (asked_in_all (take i rounds)) [] tells))
+    (subst (λ (words : List (List ℕ)). Tells (ask_script old round.script) words []) next
+    (tells_script round.script old (asked_in_all (take i rounds)) [] tells))
 
 ran_more : (journals : List (List Entry)) (journal : List Entry) → run_in_all (journals ++ journal ∷ []) ≡ run_in_all journals ++ words_run journal
-ran_more journals journal = flat_map-append words_run journals (journal ∷ []) ∙ ap (λ (l : List (List ℕ)). run_in_all journals ++ l) (append-nil (words_run journal))
+ran_more journals journal = flat_map-append words_run journals (journal ∷ [])
+    ∙ ap (λ (l : List (List ℕ)). run_in_all journals ++ l) (append-nil (words_run journal))
 
-pub see_round : (asked : List (List ℕ)) (journals : List (List Entry)) (i : ℕ) (journal : List Entry) (old new : Counted) → i < length journals → journal ≡ get_or journals i journal → new ≡ see_journal old journal → Tells old asked (run_in_all (take i journals)) → Tells new asked (run_in_all (take (i + 1) journals))
+pub see_round : (asked : List (List ℕ)) (journals : List (List Entry)) (i : ℕ) (journal : List Entry) (old new : Counted) → i < length journals →
+    journal ≡ get_or journals i journal → new ≡ see_journal old journal → Tells old asked (run_in_all (take i journals)) →
+    Tells new asked (run_in_all (take (i + 1) journals))
 see_round asked journals i journal old new below at is tells =
     let next : run_in_all (take i journals) ++ words_run journal ≡ run_in_all (take (i + 1) journals) =
     sym (ran_more (take i journals) journal)
@@ -255,13 +268,17 @@ see_round asked journals i journal old new below at is tells =
     subst (λ (counted : Counted). Tells counted asked (run_in_all (take (i + 1) journals))) (sym is)
     (subst (λ (words : List (List ℕ)). Tells (see_journal old journal) asked words) next (tells_journal journal old asked (run_in_all (take i journals)) tells))
 
-pub all_asked : (rounds : List ScenarioLists) (i : ℕ) (counted : Counted) → length rounds ≤ i → Tells counted (asked_in_all (take i rounds)) [] → Tells counted (asked_in_all rounds) []
+pub all_asked : (rounds : List ScenarioLists) (i : ℕ) (counted : Counted) → length rounds ≤ i → Tells counted (asked_in_all (take i rounds)) [] →
+    Tells counted (asked_in_all rounds) []
 all_asked rounds i counted past tells = subst (λ (l : List ScenarioLists). Tells counted (asked_in_all l) []) (take_all i rounds past) tells
 
-pub all_seen : (asked : List (List ℕ)) (journals : List (List Entry)) (i : ℕ) (counted : Counted) → length journals ≤ i → Tells counted asked (run_in_all (take i journals)) → Tells counted asked (run_in_all journals)
+pub all_seen : (asked : List (List ℕ)) (journals : List (List Entry)) (i : ℕ) (counted : Counted) → length journals ≤ i →
+    Tells counted asked (run_in_all (take i journals)) → Tells counted asked (run_in_all journals)
 all_seen asked journals i counted past tells = subst (λ (l : List (List Entry)). Tells counted asked (run_in_all l)) (take_all i journals past) tells
 
-pub counts_are : (job : JobLists) (journals : List (List Entry)) (counted : Counted) (rows : List WordCountLists) → IsJob job → ((word : List ℕ) → times (run_in_all journals) word ≤ times (asked_by job) word) → Tells counted (asked_by job) (run_in_all journals)
+pub counts_are : (job : JobLists) (journals : List (List Entry)) (counted : Counted) (rows : List WordCountLists) → IsJob job →
+    ((word : List ℕ) → times (run_in_all journals) word ≤ times (asked_by job) word) → Tells counted (asked_by job) (run_in_all journals)
     → IsStrictlySortedBy (slice_cmp nat_cmp) (keys_of counted) → rows ≡ rows_of counted → IsCountOf (asked_by job) (run_in_all journals) rows
 counts_are job journals counted rows is few told sorted rows_are =
-    subst (λ (l : List WordCountLists). IsCountOf (asked_by job) (run_in_all journals) l) (sym rows_are) (rows_count counted (asked_by job) (run_in_all journals) sorted told few (few_times job is))
+    subst (λ (l : List WordCountLists). IsCountOf (asked_by job) (run_in_all journals) l) (sym rows_are)
+    (rows_count counted (asked_by job) (run_in_all journals) sorted told few (few_times job is))

@@ -6,9 +6,9 @@ use Rattle.am_scenario_types.specs.declared.parts.Network.TheVariants.{Packet}
 use Rattle.am_scenario_types.specs.declared.parts.EndLine.{EndLine}
 use Rattle.am_scenario_types.specs.declared.parts.ThreadLine.{ThreadLine}
 use Rattle.am_scenario_types.specs.Lists.{ScenarioLists}
-use Rattle.am_words.specs.declared.codes.CodedWord.{CodedWord}
-use Rattle.am_words.specs.Codes.{sent_words}
-use Rattle.am_words.specs.Texts.{long_count}
+use Rattle.am_job_words.specs.declared.codes.CodedWord.{CodedWord}
+use Rattle.am_job_words.specs.Codes.{sent_words}
+use Rattle.am_job_words.specs.Texts.{long_count}
 use Rattle.am_job.specs.Lists.{JobLists}
 use Rattle.am_job.specs.Scripts.{script}
 
@@ -16,15 +16,9 @@ use Rattle.am_job.specs.Scripts.{script}
 abbrev pub end_line : ℕ → EndLine
 end_line e = record { id = record { 0 = e }; node = record { 0 = e / 2 }; tag = record { 0 = 100 + e }; disk = false }
 
-abbrev pub ends_below : ℕ → List EndLine
-ends_below n = map end_line (range_with_len 0 n)
-
 -- thread n is on node n
 abbrev pub thread_line : ℕ → ThreadLine
 thread_line n = record { id = n; node = record { 0 = n } }
-
-abbrev pub threads_below : ℕ → List ThreadLine
-threads_below n = map thread_line (range_with_len 0 n)
 
 -- the scenario in which w nodes send these words to their owners, with so many turns
 unfoldable pub scenario : ℕ → ℕ → List CodedWord → ScenarioLists
@@ -39,9 +33,9 @@ scenario w turns words = record {
   keep = 64;
   log = 65_536;
   turns = turns;
-  ends = ends_below (2 * w);
+  ends = map end_line (range_with_len 0 (2 * w));
   bundles = [];
-  threads = threads_below w;
+  threads = map thread_line (range_with_len 0 w);
   plan = [];
   faults = [];
   script = script w words;

@@ -4,8 +4,8 @@ use Rattle.am_office.specs.declared.Call.{Call}
 use Rattle.am_office.specs.declared.Call.TheVariants.{Request, Poll, Map, SetHandler}
 use Rattle.am_office.specs.declared.HandlerKind.TheVariants.{Note}
 use Rattle.am_scenario_types.specs.declared.parts.ScriptCall.{ScriptCall}
-use Rattle.am_words.specs.declared.codes.CodedWord.{CodedWord}
-use Rattle.am_generator.specs.Calls.{call_on}
+use Rattle.am_job_words.specs.declared.codes.CodedWord.{CodedWord}
+use Rattle.am_scenario_generator.specs.Calls.{call_on}
 
 -- a thread's call on the endpoint of its node that owns, and on the one that sends
 abbrev pub on_owner : ℕ → Call → ScriptCall

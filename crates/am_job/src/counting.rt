@@ -1,15 +1,15 @@
 //! The counts of a job's words.
 
 ghost use Rattle.std.specs.Prelude.{◌≡◌, ◌≤◌, ℕ, IfOk, List, OnOk, [], length};
-ghost use Rattle.am_words.specs.Counts.{IsCountOf, Tells, times};
+ghost use Rattle.am_job_words.specs.Counts.{IsCountOf, Tells, times};
 ghost use Rattle.am_job.specs.Asked.{ask_script, asked_by, asked_in_all, run_in_all};
 ghost use Rattle.am_job.specs.Rounds.{IsJob};
 
 use crate::scenario::Job;
+use am_job_words::{Tally, WordCount};
 use am_names::NoMemory;
 use am_office::Journal;
 use am_scenario_types::{Scenario, ScriptCall};
-use am_words::{Tally, WordCount};
 use std::alloc::Global;
 
 /// Counts each word that a script sends. After `NoMemory` the counts are of no more use.

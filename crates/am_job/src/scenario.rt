@@ -1,16 +1,16 @@
 //! The rounds in which the words of a text are sent, and the scenario of each.
 
-ghost use Rattle.std.specs.Prelude.{◌≡◌, ◌*◌, ◌<◌, ◌≤◌, ◌^◌, IfOk, length};
-ghost use Rattle.std.specs.List.{All};
+ghost use Rattle.std.specs.Prelude.{◌≡◌, ◌*◌, ◌<◌, ◌≤◌, ◌^◌, IfOk, length, map};
+ghost use Rattle.std.specs.List.{All, range_with_len};
 ghost use Rattle.am_scenario_types.specs.declared.parts.Form.TheVariants.{Run};
 ghost use Rattle.am_scenario_types.specs.Lawful.{IsLawful, IsOfForm};
-ghost use Rattle.am_words.specs.Codes.{Fits};
-ghost use Rattle.am_job.specs.Rounds.{IsJob, ends_below, job_of, round_at, round_count, round_size, round_words, scenario, threads_below};
+ghost use Rattle.am_job_words.specs.Codes.{Fits};
+ghost use Rattle.am_job.specs.Rounds.{IsJob, end_line, job_of, round_at, round_count, round_size, round_words, scenario, thread_line};
 
 use crate::script::make_script;
+use am_job_words::{CodedWord, split};
 use am_names::{EndpointId, NoMemory, NodeId, Tag};
 use am_scenario_types::{EndLine, Network, Scenario, ThreadLine};
-use am_words::{CodedWord, split};
 use std::alloc::{AllocError, Global};
 use std::marker::Model;
 
@@ -33,7 +33,7 @@ impl Model for Job {
 
 #[tactic(auto, using(am_lemmas::proofs::Numbered::lines_more))]
 fn make_ends(alloc: Global, count: u8) -> Result<Vec<EndLine>, AllocError>
-    ensures { IfOk result (λ ends. ends.items ≡ ends_below count) }
+    ensures { IfOk result (λ ends. ends.items ≡ map end_line (range_with_len 0 count)) }
 {
     let mut ends = Vec::new(alloc);
     for id in 0..count {
@@ -49,7 +49,7 @@ fn make_ends(alloc: Global, count: u8) -> Result<Vec<EndLine>, AllocError>
 
 #[tactic(auto, using(am_lemmas::proofs::Numbered::lines_more))]
 fn make_threads(alloc: Global, count: u8) -> Result<Vec<ThreadLine>, AllocError>
-    ensures { IfOk result (λ threads. threads.items ≡ threads_below count) }
+    ensures { IfOk result (λ threads. threads.items ≡ map thread_line (range_with_len 0 count)) }
 {
     let mut threads = Vec::new(alloc);
     for id in 0..count {

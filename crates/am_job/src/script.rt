@@ -4,10 +4,10 @@ ghost use Rattle.std.specs.Prelude.{◌≡◌, ◌++◌, ◌%◌, ◌<◌, ◌�
 ghost use Rattle.am_office.specs.declared.Call.TheVariants.{Request};
 ghost use Rattle.am_job.specs.Scripts.{map_to, maps_below, on_owner, on_sender, opening, openings_below, owner, polls, script, sending, sendings};
 
+use am_job_words::CodedWord;
 use am_names::{EndpointId, Tag};
 use am_office::{Call, HandlerKind};
 use am_scenario_types::ScriptCall;
-use am_words::CodedWord;
 use std::alloc::{AllocError, Global};
 
 // A thread's call on the endpoint of its node that owns words.

@@ -1,10 +1,10 @@
 ghost use Rattle.std.specs.Prelude.{◌<◌, ◌≤◌, length};
 
 use am_job::{ask_script, counts, rounds};
+use am_job_words::{CodedWord, Tally, WordCount, split};
 use am_names::{EndpointId, Message, MsgKind, Serial, Tag, Words};
 use am_office::{Actor, Call, Entry, Event, Journal, Outcome};
 use am_scenario_types::ScriptCall;
-use am_words::{CodedWord, Tally, WordCount, split};
 use std::alloc::Global;
 use std::fmt::Write;
 use std::test::Fail;

@@ -11,7 +11,8 @@ use Rattle.am_scenario_types.specs.declared.parts.Form.{Form}
 pub explains_other : (form : Form) (bytes : List ℕ) (checked : Answer) → CheckAnswers form bytes checked → checked.status ≢ 10 → Explains form bytes checked
 explains_other form bytes checked checks other = record { checked = checked; checks = checks; more = inl (other, refl) }
 
-pub tells_other : (form : Form) (bytes : List ℕ) (serial : Serial) (checked : Answer) → CheckAnswers form bytes checked → checked.status ≢ 0 → TellsWhy form bytes serial checked
+pub tells_other : (form : Form) (bytes : List ℕ) (serial : Serial) (checked : Answer) → CheckAnswers form bytes checked → checked.status ≢ 0 →
+    TellsWhy form bytes serial checked
 tells_other form bytes serial checked checks other = record { checked = checked; checks = checks; more = inl (other, refl) }
 
 -- what `check` says yes to is checked

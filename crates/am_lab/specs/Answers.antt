@@ -1,6 +1,5 @@
 -- What the program answers to what was asked for, and to the bytes that were read for it.
-use Rattle.std.specs.Prelude.{◌≡◌, ◌≢◌, ◌⊎◌, ℕ, ◌≤◌, ◌<◌, Bool, true, false, List, ◌++◌, codes, length, take, Option, Some, None, Err}
-use Rattle.std.specs.Io.KnownBytes.{Appends}
+use Rattle.std.specs.Prelude.{◌≡◌, ◌≢◌, ◌⊎◌, ℕ, ◌≤◌, Bool, true, false, List, ◌++◌, length, Option, Some, None, Err}
 use Rattle.am_check.specs.Verdict.{Checks}
 use Rattle.am_check.specs.declared.faults.CheckStop.TheVariants as Stops
 use Rattle.am_check.specs.declared.faults.CheckWhat.{CheckWhat}
@@ -8,6 +7,7 @@ use Rattle.am_io.specs.Causes.{Rose, Stands, Counter}
 use Rattle.am_io.specs.Whole.{IsAll, IsLonger}
 use Rattle.am_main_check.specs.Checks.{CheckAnswers}
 use Rattle.am_main_lines.specs.Lines.{Answer}
+use Rattle.am_main_lines.specs.Offers.{IsOffered, no_memory, read_fault, too_long}
 use Rattle.am_main_run.specs.Runs.{RunAnswers}
 use Rattle.am_names.specs.declared.Serial.{Serial}
 use Rattle.am_scenario.specs.Grammar.{grammar}
@@ -17,9 +17,11 @@ use Rattle.am_segment.specs.Spelling.{segment_grammar}
 use Rattle.am_lab_drawings.specs.Charts.{ChartAnswers}
 use Rattle.am_lab_view.specs.declared.parts.Part.{Part}
 use Rattle.am_lab_words.specs.declared.Lines.{Lines}
-use Rattle.am_lab_derived.specs.Answers.{ExpandedAnswers, PrintsScenario, RoundAnswers, made_from}
+use Rattle.am_lab_derived.specs.Answers.{ExpandedAnswers, PrintsScenario, RoundAnswers}
+use Rattle.am_scenario_generator.specs.Scenarios.{generated}
 use Rattle.am_lab_due.specs.Due.{IsDue as WasDue}
 use Rattle.am_lab_reasons.specs.Reasons.{Tells}
+use Rattle.am_lab_schedules.specs.Schedules.{SchedulesAnswers}
 use Rattle.am_lab_texts.specs.Replays.{ReplayAnswers}
 use Rattle.am_lab_texts.specs.Scenarios.{ScenarioAnswers}
 use Rattle.am_lab_words.specs.declared.Asked.{Asked}
@@ -61,28 +63,18 @@ part_of None = None
 part_of (Some lines) = Some (record { from = lines.from; to = lines.to })
 
 -- The answer of a command to the bytes; `scenario make` has none to look at. The answer to `schedule` is one that `run` may give to
--- the text, whatever the seed.
+-- the text, whatever the seed; to `schedule` with many seeds it tells one such run for each.
 abbrev pub AnswersTo : Asked → List ℕ → Answer → Type 0
 AnswersTo (Commands.Explain form) bytes answer = Explains form bytes answer
 AnswersTo (Commands.Why form serial) bytes answer = TellsWhy form bytes serial answer
 AnswersTo (Commands.Chart form lines) bytes answer = ChartAnswers form bytes (part_of lines) answer
 AnswersTo (Commands.Scenario form) bytes answer = ScenarioAnswers form bytes answer
-AnswersTo (Commands.Made n) bytes answer = PrintsScenario (made_from n) answer
+AnswersTo (Commands.Made n) bytes answer = PrintsScenario (generated n) answer
 AnswersTo Commands.Expanded bytes answer = ExpandedAnswers (segment_grammar bytes) answer
 AnswersTo (Commands.Round nodes turns number) bytes answer = RoundAnswers nodes turns number bytes answer
 AnswersTo Commands.Replay bytes answer = ReplayAnswers bytes answer
 AnswersTo (Commands.Schedule seed) bytes answer = RunAnswers (grammar Forms.Run bytes) answer
-
--- ---- the other answers, which don't look at the bytes
-
-abbrev pub read_fault : Answer
-read_fault = record { status = 4; text = codes "read fault\n" }
-
-abbrev pub too_long : Answer
-too_long = record { status = 7; text = codes "input too long\n" }
-
-abbrev pub no_memory : Answer
-no_memory = record { status = 8; text = codes "no memory\n" }
+AnswersTo (Commands.Schedules seeds) bytes answer = SchedulesAnswers (grammar Forms.Run bytes) seeds.from seeds.to answer
 
 -- ---- which answer is due
 
@@ -106,27 +98,8 @@ IsDueToText asked left before now answer =
 
 -- To `scenario make` the scenario, or that memory ran out: it reads nothing.
 abbrev pub IsDue : Asked → (left : Option (List ℕ)) (before now : Counter) → Answer → Type 0
-IsDue (Commands.Made n) left before now answer = (answer ≡ no_memory) ⊎ PrintsScenario (made_from n) answer
+IsDue (Commands.Made n) left before now answer = (answer ≡ no_memory) ⊎ PrintsScenario (generated n) answer
 IsDue asked left before now answer = IsDueToText asked left before now answer
-
--- ---- what the sink takes of it
-
--- the status and the whole text are those of the answer
-pub record IsWhole (answer : Answer) (status : ℕ) (old new : Option (List ℕ)) : Type 0 where
-  pub status' : status ≡ answer.status
-  pub given : Appends old new answer.text
-
--- a front of the text was appended, and not all of it: the status is that of a fault of the sink or of want of memory
-pub record IsCutShort (text : List ℕ) (status : ℕ) (old new : Option (List ℕ)) : Type 0 where
-  pub status' : (status ≡ 5) ⊎ (status ≡ 8)
-  pub count : ℕ
-  pub shorter : count < length text
-  pub given : Appends old new (take count text)
-
--- The answer was offered to the sink. It took the text whole, under the answer's status; or a shorter front of it, with
--- status 5 where the sink failed, or with status 8 where the sink found no memory.
-abbrev pub IsOffered : Answer → ℕ → Option (List ℕ) → Option (List ℕ) → Type 0
-IsOffered answer status old new = IsWhole answer status old new ⊎ IsCutShort answer.text status old new
 
 -- THE PROGRAM: an answer that is due was offered
 pub record IsAnswered (asked : Asked) (left : Option (List ℕ)) (before now : Counter) (status : ℕ) (old new : Option (List ℕ)) : Type 0 where

@@ -19,6 +19,7 @@ use am_lab_drawings::chart_output;
 use am_lab_due::due;
 use am_lab_reasons::why;
 use am_lab_schedule::schedule_output;
+use am_lab_schedules::schedules_output;
 use am_lab_texts::{replay_output, scenario_output};
 use am_lab_view::Part;
 use am_lab_words::{Asked, Lines};
@@ -147,5 +148,6 @@ pub(crate) fn answered(alloc: Global, asked: Asked, bytes: &[u8]) -> Result<Outp
         } => round_scenario(alloc, nodes, turns, number, bytes),
         Asked::Replay => replay_output(alloc, bytes),
         Asked::Schedule(seed) => scheduled(alloc, bytes, seed),
+        Asked::Schedules(seeds) => schedules_output(alloc, bytes, seeds.from, seeds.to),
     }
 }

@@ -1,7 +1,8 @@
 //! What is answered: the source is read here.
 
 ghost use Rattle.am_io.specs.Whole.{TakesAtMost};
-ghost use Rattle.am_lab.specs.Answers.{AnswersTo, IsDue, IsDueToText, no_memory, reads_text};
+ghost use Rattle.am_lab.specs.Answers.{AnswersTo, IsDue, IsDueToText, reads_text};
+ghost use Rattle.am_main_lines.specs.Offers.{no_memory};
 ghost use Rattle.am_lab.specs.Replies.{answer_of};
 ghost use Rattle.am_lab_words.specs.Ranges.{IsInRange};
 ghost use Rattle.std.specs.Prelude.{◌≡◌, ◌⊎◌, ◌<◌, ◌^◌, true, false, length};

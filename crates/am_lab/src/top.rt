@@ -2,7 +2,8 @@
 
 ghost use Rattle.am_io.specs.Causes.{Rose, Stands};
 ghost use Rattle.am_io.specs.Whole.{TakesAtMost};
-ghost use Rattle.am_lab.specs.Answers.{IsAnswered, IsOffered, no_memory, reads_text};
+ghost use Rattle.am_lab.specs.Answers.{IsAnswered, reads_text};
+ghost use Rattle.am_main_lines.specs.Offers.{IsOffered, no_memory};
 ghost use Rattle.am_lab.specs.Replies.{answer_of};
 ghost use Rattle.am_lab_words.specs.Ranges.{IsInRange};
 ghost use Rattle.std.specs.Prelude.{◌≡◌, ◌≢◌, false};
@@ -34,12 +35,13 @@ fn offer<K: Sink>(sink: &mut K, reply: &Reply) -> u8
 /// answers a right report with what became of a message, `chart` with a picture of its lines, `replay` with the run's
 /// journal as a step script, and each any other text as `am2 check` does. `scenario` prints the scenario that it reads; or
 /// the one behind a run, of a number, for which nothing is read, of a text with segments, or of a round of a text's words.
-/// `schedule` prints the report of a run of the scenario, as `am2 run` may.
+/// `schedule` prints the report of a run of the scenario, as `am2 run` may; or of many such runs a line each, and how many
+/// distinct journals there were.
 ///
 /// | Status | The text | When |
 /// |---|---|---|
-/// | 0 | `check ok`, what became of the message, the picture, the step script, the scenario, or the run's report | the report is right; for `scenario` and `schedule` the text spells a scenario, or there is one behind the run |
-/// | 3, 6, 10 | as `am2 check` has it, and for `explain` what was due; 3 and 6 for `schedule` as `am2 run` has it | the scenario or the report has a fault, or meets a full log |
+/// | 0 | `check ok`, what became of the message, the picture, the step script, the scenario, the run's report, or the runs' lines | the report is right; for `scenario` and `schedule` the text spells a scenario, or there is one behind the run |
+/// | 3, 6, 10 | as `am2 check` has it, and for `explain` what was due; 3 and 6 for `schedule` as `am2 run` has it, but the lines of many runs with status 6 | the scenario or the report has a fault, or a run meets a full log |
 /// | 4 | `read fault` | a read failed |
 /// | 5 | a front of the text | a write failed |
 /// | 7 | `input too long` | the source had more than 16,777,216 bytes left |

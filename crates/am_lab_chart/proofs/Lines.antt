@@ -1,5 +1,6 @@
 -- The line of an entry is a text of printable ASCII.
-use Rattle.std.proofs.Common.{◌≡◌, ℕ, zero, suc, ◌<◌, ◌%◌, ◌/◌, Bool, true, false, ◌==◌, List, [], ◌∷◌, ◌++◌, codes, Option, Some, None, refl, arith, if◌then◌else◌}
+use Rattle.std.proofs.Common.{◌≡◌, ℕ, zero, suc, ◌<◌, ◌%◌, ◌/◌, Bool, true, false, ◌==◌, List, [], ◌∷◌, ◌++◌, codes, Option, Some, None, refl, arith}
+use Rattle.std.proofs.Common.{if◌then◌else◌}
 use Rattle.std.proofs.lemmas.Bool.Decides.{nat_tests}
 use Rattle.std.specs.Fmt.{decimal, digits, digits_onto, digit_glyph}
 use Rattle.std.specs.List.{list_all}
@@ -31,9 +32,9 @@ use Rattle.am_office.specs.declared.Received.TheVariants as Got
 use Rattle.am_office.specs.declared.Outcome.{Outcome}
 use Rattle.am_office.specs.declared.Outcome.TheVariants as Out
 use Rattle.am_office.specs.declared.Entry.{Entry}
-use Rattle.am_text.specs.Words.{Word, spaced, serial, tag, cause, verdict, why}
-use Rattle.am_entry_lines.specs.Lines.{actor, interface, driver, who, handler_kind, mask, call, what, refusal, handler, sends, received, outcome, after_arrow}
-use Rattle.am_journal_lines.specs.Grammar.{printed}
+use Rattle.am_office_text.specs.Words.{Word, spaced, serial, tag, cause, verdict, why}
+use Rattle.am_office_lines.specs.Lines.{actor, interface, driver, who, handler_kind, mask, call, what, refusal, handler, sends, received, outcome, after_arrow}
+use Rattle.am_check_lines.specs.Grammar.{printed}
 use Rattle.am_lab_xml.specs.Escaped.{is_allowed, is_text}
 use Rattle.am_lab_xml.proofs.Bools.{all_of_both, first, second, joined}
 
@@ -62,7 +63,8 @@ number_is_text n = digits_are_text 64 n [] refl
 serial_is_text : (s : Serial) → is_text (serial s) ≡ true
 unfolding serial
 serial_is_text s =
-    all_of_both is_allowed (decimal s.source.0 ++ codes ".") (decimal s.count) (all_of_both is_allowed (decimal s.source.0) (codes ".") (number_is_text s.source.0) refl) (number_is_text s.count)
+    all_of_both is_allowed (decimal s.source.0 ++ codes ".") (decimal s.count) (all_of_both is_allowed (decimal s.source.0) (codes ".")
+    (number_is_text s.source.0) refl) (number_is_text s.count)
 
 tag_is_text : (t : Tag) → is_text (tag t) ≡ true
 unfolding tag
@@ -236,7 +238,8 @@ spaced_is_text : (words : List Word) → AreTexts words → is_text (spaced word
 unfolding spaced AreTexts
 spaced_is_text [] h = refl
 spaced_is_text (word ∷ words) h =
-    all_of_both is_allowed (codes " " ++ word) (spaced words) (first (is_text word) (list_all is_text words) h) (spaced_is_text words (second (is_text word) (list_all is_text words) h))
+    all_of_both is_allowed (codes " " ++ word) (spaced words) (first (is_text word) (list_all is_text words) h)
+    (spaced_is_text words (second (is_text word) (list_all is_text words) h))
 
 both_are_texts : (a b : List Word) → AreTexts a → AreTexts b → AreTexts (a ++ b)
 unfolding AreTexts
@@ -246,4 +249,5 @@ pub line_is_text : (x : Entry) → is_text (printed x) ≡ true
 line_is_text x =
     let words : List Word = what x.event ++ after_arrow (outcome x.outcome) in
     all_of_both is_allowed (who x.event) (spaced words) (who_is_text x.event)
-    (spaced_is_text words (both_are_texts (what x.event) (after_arrow (outcome x.outcome)) (what_is_text x.event) (arrow_is_text (outcome x.outcome) (outcome_is_text x.outcome))))
+    (spaced_is_text words (both_are_texts (what x.event) (after_arrow (outcome x.outcome)) (what_is_text x.event)
+    (arrow_is_text (outcome x.outcome) (outcome_is_text x.outcome))))

@@ -1,6 +1,6 @@
 -- What is drawn is sound, and its titles are the lines of its rows.
 use Rattle.std.proofs.Common.{ℕ, zero, suc, ◌+◌, List, [], ◌∷◌, codes, map, Option, Some, None, refl}
-use Rattle.am_journal_lines.specs.Grammar.{printed}
+use Rattle.am_check_lines.specs.Grammar.{printed}
 use Rattle.am_lab_picture.specs.Data.{LaneLists, PictureLists}
 use Rattle.am_lab_picture.specs.declared.data.Arrow.{Arrow}
 use Rattle.am_lab_picture.specs.declared.data.Cross.{Cross}
@@ -18,11 +18,13 @@ use Rattle.am_lab_chart.specs.Captions.{sign_at}
 use Rattle.am_lab_layout.specs.Signs.{ending_sign, inner_of, label_of, sign_of, spot_of}
 use Rattle.am_lab_chart.specs.Bars.{bar, frame_caption, frame_part, has_room, lane_bars, level_width, received, records, stretch}
 use Rattle.am_lab_chart.specs.Ways.{arc, arrow, cross, is_own, straight}
-use Rattle.am_lab_chart.specs.Rows.{fate_of, fate_x, inner, inner_text, label, label_at, label_text, labelled, line_number, line_text, link, link_line, mark, row_at, row_head, row_of, texts_of, title, x_of}
+use Rattle.am_lab_chart.specs.Rows.{fate_of, fate_x, inner, inner_text, label, label_at, label_text, labelled, line_number, line_text, link, link_line, mark}
+use Rattle.am_lab_chart.specs.Rows.{row_at, row_head, row_of, texts_of, title, x_of}
 use Rattle.am_lab_chart.specs.Lanes.{band, end_head, interface, interface_lane, nodes}
 use Rattle.am_lab_chart.specs.Legends.{Drawn, Explained, Headed, arrow_head, head_attributes, meaning, shape, style}
 use Rattle.am_lab_chart.specs.Tables.{heads}
-use Rattle.am_lab_chart.specs.Drawing.{shapes, definitions, description, drawing, entries_of, front, inside, lanes_of, legend, page, scale, size_class, svg_attributes}
+use Rattle.am_lab_chart.specs.Drawing.{shapes, definitions, description, drawing, entries_of, front, inside, lanes_of, legend, page, scale, size_class}
+use Rattle.am_lab_chart.specs.Drawing.{svg_attributes}
 use Rattle.am_lab_chart.proofs.Titled.{Has, both, break, choice, each_has, element, nothing, numbered_has}
 use Rattle.am_lab_chart.proofs.Lines.{line_is_text}
 
@@ -61,8 +63,10 @@ bars : (p : PictureLists) (left : ℕ) (lane : LaneLists) → Has [] (lane_bars 
 unfolding lane_bars
 bars p left lane =
     let x = left_of p left lane.id in
-    both (each (bar p x) lane.residency) (Contents.Both (each (records p x) lane.records) (each (received p x) lane.received)) (each_has (bar p x) (place_bar p x) lane.residency)
-    (both (each (records p x) lane.records) (each (received p x) lane.received) (each_has (records p x) (record_level p x) lane.records) (each_has (received p x) (received_level p x) lane.received))
+    both (each (bar p x) lane.residency) (Contents.Both (each (records p x) lane.records) (each (received p x) lane.received))
+    (each_has (bar p x) (place_bar p x) lane.residency)
+    (both (each (records p x) lane.records) (each (received p x) lane.received) (each_has (records p x) (record_level p x) lane.records)
+    (each_has (received p x) (received_level p x) lane.received))
 
 -- ---- ways
 
@@ -97,7 +101,8 @@ own_text y row = record { sound = refl; plain = refl; titles' = refl }
 
 row_texts : (p : PictureLists) (y line : ℕ) (row : Row) → Has [] (texts_of p y line row)
 row_texts p y line row =
-    choice (has_text p) (Contents.Both (line_number y line) (line_text y row)) Contents.Nothing (both (line_number y line) (line_text y row) (number_text y line) (own_text y row)) nothing
+    choice (has_text p) (Contents.Both (line_number y line) (line_text y row)) Contents.Nothing
+    (both (line_number y line) (line_text y row) (number_text y line) (own_text y row)) nothing
 
 row_fate : (p : PictureLists) (y : ℕ) (about : Option Message) → Has [] (fate_of p y about)
 row_fate p y None = nothing
@@ -125,7 +130,8 @@ beside_text p left x y about to text = record { sound = refl; plain = refl; titl
 
 row_label : (p : PictureLists) (left x y : ℕ) (about : Option Message) (to : Option Link) (text : Option (List ℕ)) → Has [] (label p left x y about to text)
 row_label p left x y about to None = nothing
-row_label p left x y about to (Some text) = choice (has_text p) (label_text p left x y about to text) Contents.Nothing (beside_text p left x y about to text) nothing
+row_label p left x y about to (Some text) = choice (has_text p) (label_text p left x y about to text) Contents.Nothing (beside_text p left x y about to text)
+    nothing
 
 row_mark : (p : PictureLists) (left x y : ℕ) (row : Row) → Has [] (mark p left x y row)
 unfolding mark
@@ -143,7 +149,8 @@ unfolding row_of
 row_has p left line row =
     let y = y_of p line in
     both _ Contents.Break
-    (element (codes "g") [] (row_at p left y line row) refl refl (both (row_head p y line row) (mark p left (x_of p left (spot_of row.entry.event)) y row) (head_has p y line row) (row_mark p left (x_of p left (spot_of row.entry.event)) y row)))
+    (element (codes "g") [] (row_at p left y line row) refl refl (both (row_head p y line row) (mark p left (x_of p left (spot_of row.entry.event)) y row)
+    (head_has p y line row) (row_mark p left (x_of p left (spot_of row.entry.event)) y row)))
     break
 
 -- ---- lanes
@@ -223,7 +230,8 @@ entries_have : (p : PictureLists) (left : ℕ) → Has (map (λ (row : Row). pri
 unfolding entries_of
 entries_have p left =
     both _ _ (each_has (arrow p left) (way p left) p.arrows)
-    (both _ _ (each_has (cross p left) (lost p left) p.crosses) (numbered_has (row_of p left) (λ (row : Row). printed row.entry) (row_has p left) p.first p.rows))
+    (both _ _ (each_has (cross p left) (lost p left) p.crosses) (numbered_has (row_of p left) (λ (row : Row). printed row.entry) (row_has p left) p.first
+    p.rows))
 
 inside_has : (p : PictureLists) (left : ℕ) → Has (map (λ (row : Row). printed row.entry) p.rows) (inside p left)
 unfolding inside

@@ -1,7 +1,7 @@
 -- What a picture's text is to whoever reads it.
 use Rattle.std.proofs.Common.{◌≡◌, ℕ, List, [], ◌++◌, codes, map, Result, Ok, Err, IfOk, refl, ap, sym, ◌∙◌, subst, append-nil}
 use Rattle.std.specs.Global.{Vec}
-use Rattle.am_journal_lines.specs.Grammar.{printed as line_of}
+use Rattle.am_check_lines.specs.Grammar.{printed as line_of}
 use Rattle.am_lab_picture.specs.Data.{PictureLists}
 use Rattle.am_lab_picture.specs.declared.data.Row.{Row}
 use Rattle.am_lab_xml.specs.Grammar.{IsDocument}
@@ -30,10 +30,12 @@ titles_are_lines p =
     let h : Has (lines p ++ []) (Contents.Both tree Contents.Break) = both tree Contents.Break (drawing_has p (left_edge p)) break in
     texts_are_found (codes "title") (Contents.Both tree Contents.Break) refl h.sound h.plain ∙ h.titles' ∙ append-nil (lines p)
 
-pub document_of : {E : Type 0} (p : PictureLists) (r : Result (Vec ℕ) E) → IfOk r (λ (out : Vec ℕ). out.items ≡ svg_of p) → IfOk r (λ (out : Vec ℕ). IsDocument out.items)
+pub document_of : {E : Type 0} (p : PictureLists) (r : Result (Vec ℕ) E) → IfOk r (λ (out : Vec ℕ). out.items ≡ svg_of p) →
+    IfOk r (λ (out : Vec ℕ). IsDocument out.items)
 document_of p (Ok out) e = subst IsDocument (sym e) (is_document p)
 document_of p (Err e) h = tt
 
-pub titles_of : {E : Type 0} (p : PictureLists) (r : Result (Vec ℕ) E) → IfOk r (λ (out : Vec ℕ). out.items ≡ svg_of p) → IfOk r (λ (out : Vec ℕ). texts_in (codes "title") out.items ≡ lines p)
+pub titles_of : {E : Type 0} (p : PictureLists) (r : Result (Vec ℕ) E) → IfOk r (λ (out : Vec ℕ). out.items ≡ svg_of p) →
+    IfOk r (λ (out : Vec ℕ). texts_in (codes "title") out.items ≡ lines p)
 titles_of p (Ok out) e = ap (texts_in (codes "title")) e ∙ titles_are_lines p
 titles_of p (Err e) h = tt

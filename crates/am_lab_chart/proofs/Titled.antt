@@ -19,7 +19,8 @@ break = record { sound = refl; plain = refl; titles' = refl }
 pub both : {s t : List (List ℕ)} (a b : Content) → Has s a → Has t b → Has (s ++ t) (Contents.Both a b)
 both a b h k = record { sound = rw (h.sound, k.sound) refl; plain = rw (h.plain, k.plain) refl; titles' = rw (h.titles', k.titles') refl }
 
-pub element : {t : List (List ℕ)} (name : List ℕ) (given : List Named) (inside : Content) → (is_name name && are_names (map name_of given)) ≡ true → is_bare (codes "title") name given ≡ false → Has t inside → Has t (Contents.Element name given inside)
+pub element : {t : List (List ℕ)} (name : List ℕ) (given : List Named) (inside : Content) → (is_name name && are_names (map name_of given)) ≡ true →
+    is_bare (codes "title") name given ≡ false → Has t inside → Has t (Contents.Element name given inside)
 element name given inside names other h =
     record { sound = rw (names, h.sound) refl; plain = rw other h.plain; titles' = rw other h.titles' }
 
@@ -32,6 +33,7 @@ module _ {X : Type 0} where
   each_has f h [] = nothing
   each_has f h (x ∷ xs) = both (f x) (each f xs) (h x) (each_has f h xs)
 
-  pub numbered_has : (f : ℕ → X → Content) (title : X → List ℕ) → ((n : ℕ) (x : X) → Has (title x ∷ []) (f n x)) → (n : ℕ) (xs : List X) → Has (map title xs) (numbered f n xs)
+  pub numbered_has : (f : ℕ → X → Content) (title : X → List ℕ) → ((n : ℕ) (x : X) → Has (title x ∷ []) (f n x)) → (n : ℕ) (xs : List X) →
+      Has (map title xs) (numbered f n xs)
   numbered_has f title h n [] = nothing
   numbered_has f title h n (x ∷ xs) = both (f n x) (numbered f (n + 1) xs) (h n x) (numbered_has f title h (n + 1) xs)

@@ -5,7 +5,8 @@ use Rattle.am_lab_xml.specs.Attributes.{place}
 use Rattle.am_lab_xml.specs.Trees.{Content, Named, each, numbered, printed}
 use Rattle.am_lab_xml.specs.Trees.{Content as Contents}
 use Rattle.am_lab_chart.specs.declared.tables.TheConstants.{STYLE}
-use Rattle.am_lab_chart.specs.Tables.{bar_meanings, call_meanings, call_shapes, ending_shapes, event_meanings, event_shapes, fate_meanings, fate_shapes, heads, legend_shapes, told_meanings, way_meanings}
+use Rattle.am_lab_chart.specs.Tables.{bar_meanings, call_meanings, call_shapes, ending_shapes, event_meanings, event_shapes, fate_meanings, fate_shapes, heads}
+use Rattle.am_lab_chart.specs.Tables.{legend_shapes, told_meanings, way_meanings}
 use Rattle.am_lab_layout.specs.Layout.{has_text, height, left_edge, width}
 use Rattle.am_lab_chart.specs.Captions.{number, word}
 use Rattle.am_lab_chart.specs.Legends.{arrow_head, meaning, shape, style}

@@ -2,7 +2,7 @@
 use Rattle.std.specs.Prelude.{ℕ, zero, suc, ◌+◌, ◌-◌, ◌/◌, ◌&&◌, ◌^◌, nat_lt, nat_le, List, [], ◌∷◌, codes, if◌then◌else◌}
 use Rattle.std.specs.Fmt.{decimal}
 use Rattle.am_names.specs.declared.Tag.{Tag}
-use Rattle.am_text.specs.Words.{tag}
+use Rattle.am_office_text.specs.Words.{tag}
 use Rattle.am_lab_picture.specs.Data.{LaneLists, PictureLists}
 use Rattle.am_lab_xml.specs.Trees.{Content}
 use Rattle.am_lab_xml.specs.Trees.{Content as Contents}

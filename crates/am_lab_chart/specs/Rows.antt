@@ -1,7 +1,7 @@
 -- The row of an entry: its line as the title and as text, the fate of what it is about, its sign, and the line that leads from there.
 use Rattle.std.specs.Prelude.{ℕ, ◌+◌, ◌/◌, List, [], ◌∷◌, codes, Option, Some, None, if◌then◌else◌}
 use Rattle.std.specs.Fmt.{decimal}
-use Rattle.am_journal_lines.specs.Grammar.{printed}
+use Rattle.am_check_lines.specs.Grammar.{printed}
 use Rattle.am_office.specs.declared.Outcome.{Outcome}
 use Rattle.am_office.specs.declared.Outcome.TheVariants as Out
 use Rattle.am_lab_picture.specs.Data.{PictureLists}

@@ -10,7 +10,7 @@ use am_lab_layout::{frame_of, has_text, left_of, place_class, y_of};
 use am_lab_picture::{Lane, Picture, Residency, Span};
 use am_lab_xml::Attribute::{Number, Word};
 use am_lab_xml::put_empty;
-use am_text::small;
+use am_office_text::small;
 use std::alloc::{AllocError, Global};
 
 // Appends a box from one line of the report to another.

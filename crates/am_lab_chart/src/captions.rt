@@ -5,11 +5,11 @@ ghost use Rattle.am_lab_chart.specs.Captions.{caption, sign_at};
 ghost use Rattle.am_lab_xml.specs.Attributes.{attribute_of};
 ghost use Rattle.am_lab_xml.specs.Escaped.{escaped};
 ghost use Rattle.am_lab_xml.specs.Trees.{printed};
-ghost use Rattle.am_text.specs.Pieces.{word_of};
+ghost use Rattle.am_office_text.specs.Pieces.{word_of};
 
 use am_lab_xml::Attribute::{Number, Word};
 use am_lab_xml::{Attribute, put_close, put_empty, put_open, put_text};
-use am_text::{Piece, put_word};
+use am_office_text::{Piece, put_word};
 use std::alloc::{AllocError, Global};
 
 fn text_of(alloc: Global, piece: Piece) -> Result<Vec<u8>, AllocError>

@@ -4,7 +4,7 @@ ghost use Rattle.std.specs.Prelude.{◌≡◌, ◌≤◌, ◌++◌, IfOk, OnOk, 
 ghost use Rattle.am_lab_chart.specs.Drawing as drawing;
 ghost use Rattle.am_lab_layout.specs.Layout as layout;
 ghost use Rattle.am_lab_layout.specs.Layout.{IsDrawable};
-ghost use Rattle.am_journal_lines.specs.Grammar as lines;
+ghost use Rattle.am_check_lines.specs.Grammar as lines;
 ghost use Rattle.am_lab_xml.specs.Grammar.{IsDocument};
 ghost use Rattle.am_lab_xml.specs.Reading.{texts_in};
 ghost use Rattle.am_lab_xml.specs.Trees.{opening, printed};

@@ -4,7 +4,7 @@ ghost use Rattle.std.specs.Prelude.{◌≡◌, ◌≤◌, ◌++◌, OnOk};
 ghost use Rattle.am_lab_chart.specs.Lanes as lanes;
 ghost use Rattle.am_lab_layout.specs.Layout.{IsDrawable};
 ghost use Rattle.am_lab_xml.specs.Trees.{each, printed};
-ghost use Rattle.am_text.specs.Pieces.{word_of};
+ghost use Rattle.am_office_text.specs.Pieces.{word_of};
 
 use crate::captions::put_caption;
 use am_lab_layout::{TOP, band_left, band_width, bottom, has_interfaces, x_of_end, x_of_interface};
@@ -12,7 +12,7 @@ use am_lab_picture::{Lane, Picture};
 use am_lab_xml::Attribute::{Number, Word};
 use am_lab_xml::put_empty;
 use am_names::{NodeId, Tag};
-use am_text::{Piece, small};
+use am_office_text::{Piece, small};
 use std::alloc::{AllocError, Global};
 
 // Appends a text in the middle of a head.

@@ -1,14 +1,13 @@
 //! The row of an entry.
 
 ghost use Rattle.std.specs.Prelude.{◌≡◌, ◌≤◌, ◌<◌, ◌+◌, ◌^◌, ◌++◌, IfOk, OnOk, length, option_map};
-ghost use Rattle.am_journal_lines.specs.Grammar as lines;
+ghost use Rattle.am_check_lines.specs.Grammar as lines;
 ghost use Rattle.am_lab_layout.specs.Layout.{IsDrawable};
 ghost use Rattle.am_lab_chart.specs.Rows as rows;
 ghost use Rattle.am_lab_xml.specs.Trees.{numbered, printed};
-ghost use Rattle.am_text.specs.Pieces.{word_of};
+ghost use Rattle.am_office_text.specs.Pieces.{word_of};
 
 use crate::captions::{put_caption, put_sign};
-use am_entry_lines::entry_line;
 use am_lab_layout::{
     Ending, Link, Spot, class_of, ending_dashes, ending_sign, fate_class, fate_sign, has_text,
     head_of, inner_of, label_of, link_of, sign_of, spot_of, x_of_end, x_of_interface, y_of,
@@ -18,11 +17,12 @@ use am_lab_xml::Attribute::{Number, Word};
 use am_lab_xml::{put_break, put_close, put_empty, put_open, put_text};
 use am_names::NoMemory;
 use am_office::{Entry, Outcome};
-use am_text::{Piece, count};
+use am_office_lines::entry_line;
+use am_office_text::{Piece, count};
 use std::alloc::{AllocError, Global};
 
 /// The line of an entry, without its newline.
-#[tactic(auto, using(crate::proofs::Endings::same_fronts), unfolding(am_entry_lines::specs::Lines::line_of))]
+#[tactic(auto, using(crate::proofs::Endings::same_fronts), unfolding(am_office_lines::specs::Lines::line_of))]
 pub(crate) fn line_of(alloc: Global, entry: &Entry) -> Result<Vec<u8>, NoMemory>
     ensures { IfOk result (λ text. text.items ≡ lines.printed entry.now) }
 {

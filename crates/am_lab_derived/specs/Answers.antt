@@ -2,27 +2,23 @@
 -- of a round of words.
 use Rattle.std.specs.Prelude.{◌≡◌, ◌⊎◌, ℕ, zero, suc, ◌<◌, ◌≤◌, List, [], ◌∷◌, codes, length, slice_get, Option, Some, None, Result, Ok, Err}
 use Rattle.std.specs.Fmt.{decimal}
-use Rattle.am_generator.specs.Scenarios.{generated}
 use Rattle.am_job.specs.Rounds.{rounds_of}
 use Rattle.am_lab_scenario.specs.Texts.{scenario_text}
 use Rattle.am_main_lines.specs.Lines.{Answer, refusal}
+use Rattle.am_main_lines.specs.Offers.{text_too_long}
 use Rattle.am_scenario.specs.Laws.{Spells}
 use Rattle.am_scenario_types.specs.declared.faults.ScenarioFault.{ScenarioFault}
 use Rattle.am_scenario_types.specs.declared.parts.Form.TheVariants.{Run}
 use Rattle.am_scenario_types.specs.Lists.{ScenarioLists}
 use Rattle.am_segment.specs.declared.scenario.SegmentScenario.{SegmentScenario}
-use Rattle.am_text.specs.Words.{line}
-use Rattle.am_words.specs.Codes.{sent_words}
+use Rattle.am_office_text.specs.Words.{line}
+use Rattle.am_job_words.specs.Codes.{sent_words}
 
 -- THE HEADLINE: the text is the scenario's one printed form, and `am2 run` reads that scenario in it.
 pub record PrintsScenario (scenario : ScenarioLists) (answer : Answer) : Type 0 where
   pub status' : answer.status ≡ 0
   pub text' : answer.text ≡ scenario_text scenario
   pub spells : Spells Run answer.text scenario
-
--- the scenario of a number
-unfoldable pub made_from : ℕ → ScenarioLists
-made_from n = generated n
 
 -- the answer to what a text with segments spells, or to its first fault
 abbrev pub ExpandedAnswers : Result SegmentScenario ScenarioFault → Answer → Type 0
@@ -46,9 +42,6 @@ RoundOrNone number count None answer = answer ≡ no_round number count
 -- the answer to a number, where these are the rounds
 abbrev pub PrintsRound : ℕ → List ScenarioLists → Answer → Type 0
 PrintsRound number rounds answer = RoundOrNone number (length rounds) (numbered number rounds) answer
-
-abbrev pub text_too_long : Answer
-text_too_long = record { status = 11; text = codes "text too long\n" }
 
 -- the answer to a text and a number: the rounds are those in which `am2 count` sends the text's words, and a text of
 -- more than 1,048,576 bytes is not counted

@@ -3,17 +3,18 @@
 ghost use Rattle.std.specs.Prelude.{◌≡◌, ◌⊎◌, ◌+◌, ◌<◌, ◌≤◌, IfNone, IfOk, IfSome};
 ghost use Rattle.std.specs.List.{All};
 ghost use Rattle.am_job.specs.Rounds.{rounds_of};
-ghost use Rattle.am_lab_derived.specs.Answers.{PrintsRound, RoundAnswers, no_round, text_too_long};
+ghost use Rattle.am_lab_derived.specs.Answers.{PrintsRound, RoundAnswers, no_round};
+ghost use Rattle.am_main_lines.specs.Offers.{text_too_long};
 ghost use Rattle.am_main_lines.specs.Lines.{answer_in};
-ghost use Rattle.am_words.specs.Codes.{Fits};
+ghost use Rattle.am_job_words.specs.Codes.{Fits};
 
 use crate::outputs::printed;
 use am_job::{round, round_count};
+use am_job_words::{CodedWord, split};
 use am_main_lines::Output;
 use am_names::NoMemory;
-use am_text::Piece::{Number, Text};
-use am_text::put_line;
-use am_words::{CodedWord, split};
+use am_office_text::Piece::{Number, Text};
+use am_office_text::put_line;
 use std::alloc::{AllocError, Global};
 
 // How many bytes a text that is counted has at most.

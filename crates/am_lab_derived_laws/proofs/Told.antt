@@ -4,26 +4,28 @@ use Rattle.std.specs.List.{AllZip}
 use Rattle.std.proofs.Common.{◌≡◌, inl, inr, ℕ, zero, suc, List, [], ◌∷◌, Some, Result, Ok, refl, sym, subst, append-nil}
 use Rattle.am_cluster.proofs.Obeying.{alone_is_stopped}
 use Rattle.am_cluster.specs.declared.RunFault.TheVariants as Runs
-use Rattle.am_count.specs.Counting.{IsRound, PrintsCount}
-use Rattle.am_counting.specs.Rounds.{IsRoundRun}
+use Rattle.am_job_count.specs.Counting.{IsRound, PrintsCount}
+use Rattle.am_job_cluster.specs.Rounds.{IsRoundRun}
 use Rattle.am_job.specs.Rounds.{round_at, rounds_of}
 use Rattle.am_lab_derived.proofs.Rounds.{round_is}
-use Rattle.am_lab_derived.specs.Answers.{PrintsScenario, made_from, numbered}
-use Rattle.am_lab_derived_laws.specs.Laws.{BeginsWithRun, CountsAreRun, CutCountsAreRun, IsCountedRun, IsCutRun, MakesAreRun, RunMayTell, SegmentsAreRun, TellOneRun, cut_off, reported}
+use Rattle.am_lab_derived.specs.Answers.{PrintsScenario, numbered}
+use Rattle.am_scenario_generator.specs.Scenarios.{generated}
+use Rattle.am_lab_derived_laws.specs.Laws.{BeginsWithRun, CountsAreRun, CutCountsAreRun, IsCountedRun, IsCutRun, MakesAreRun, RunMayTell, SegmentsAreRun}
+use Rattle.am_lab_derived_laws.specs.Laws.{TellOneRun, cut_off, reported}
 use Rattle.am_main_count.specs.Counts.{CutsCount}
 use Rattle.am_main_lines.specs.Lines.{Answer, full_line, ids_of}
 use Rattle.am_main_run.proofs.OneAnswer.{have_one_answer}
 use Rattle.am_main_run.proofs.RunMeaning.{is_run_of}
-use Rattle.am_main_run.specs.Runs.{IsRunAnswer, IsRunOf, MakeAnswers, PrintsCutRun, RunAnswers, TellsCutRun, make_text, scenario_of}
+use Rattle.am_main_run.specs.Runs.{IsRunAnswer, IsRunOf, MakeAnswers, PrintsCutRun, RunAnswers, TellsCutRun, make_text}
 use Rattle.am_main_segments.specs.Segments.{IsSegmentsAnswer}
 use Rattle.am_office.specs.declared.Entry.{Entry}
 use Rattle.am_office.specs.declared.Part.{Part}
-use Rattle.am_report.specs.Report.{report}
+use Rattle.am_office_report.specs.Report.{report}
 use Rattle.am_scenario_types.specs.declared.faults.ScenarioFault.{ScenarioFault}
 use Rattle.am_scenario_types.specs.Lists.{ScenarioLists}
 use Rattle.am_segment.specs.declared.scenario.SegmentScenario.{SegmentScenario}
 use Rattle.am_segment.specs.Printed.{segments_text}
-use Rattle.am_words.specs.Codes.{sent_words}
+use Rattle.am_job_words.specs.Codes.{sent_words}
 
 -- ---- what a printed scenario's text is answered
 
@@ -38,34 +40,28 @@ run_reported s journal run = inl (refl, record { journal = journal; run = run; t
 
 -- ---- make
 
-same_scenario : (n : ℕ) → scenario_of n ≡ made_from n
-unfolding scenario_of made_from
-same_scenario n = refl
-
-no_turns : (n : ℕ) → (made_from n).turns ≡ 0
-unfolding made_from
+no_turns : (n : ℕ) → (generated n).turns ≡ 0
+unfolding generated
 no_turns n = refl
 
 answer_is : (answer : Answer) (status : ℕ) (text : List ℕ) → answer.status ≡ status → answer.text ≡ text → answer ≡ record { status = status; text = text }
 answer_is answer status text one other = λ i. record { status = one i; text = other i }
 
-one_of : (n : ℕ) (printed ran answer : Answer) → PrintsScenario (made_from n) printed → RunMayTell printed.text ran → IsRunAnswer (made_from n) answer → ran ≡ answer
+one_of : (n : ℕ) (printed ran answer : Answer) → PrintsScenario (generated n) printed → RunMayTell printed.text ran → IsRunAnswer (generated n) answer →
+    ran ≡ answer
 one_of n printed ran answer prints tells is =
-    have_one_answer.run (Ok (made_from n)) ran answer (no_turns n) (told_of (made_from n) printed ran prints tells) is
+    have_one_answer.run (Ok (generated n)) ran answer (no_turns n) (told_of (generated n) printed ran prints tells) is
 
-run_of_number : (n : ℕ) (journal : List Entry) → IsRunOf (scenario_of n) journal → IsRunOf (made_from n) journal
-run_of_number n journal run = subst (λ (s : ScenarioLists). IsRunOf s journal) (same_scenario n) run
-
-cut_of_number : (n : ℕ) (part : Part) (text : List ℕ) (c : TellsCutRun n part text) → IsRunAnswer (made_from n) (cut_off (made_from n) part c.journal)
+cut_of_number : (n : ℕ) (part : Part) (text : List ℕ) (c : TellsCutRun n part text) → IsRunAnswer (generated n) (cut_off (generated n) part c.journal)
 cut_of_number n part text c =
-    let told = λ (s : ScenarioLists). IsRunAnswer s (cut_off s part c.journal) in
-    let stopped = alone_is_stopped (scenario_of n) (Runs.LogFull part c.journal) c.cut in
-    subst told (same_scenario n) (inr (refl, (part, record { journal = c.journal; cut = stopped; text' = refl })))
+    let stopped = alone_is_stopped (generated n) (Runs.LogFull part c.journal) c.cut in
+    inr (refl, (part, record { journal = c.journal; cut = stopped; text' = refl }))
 
-made_is_run : (n : ℕ) (printed made ran : Answer) → PrintsScenario (made_from n) printed → MakeAnswers n made → RunMayTell printed.text ran → TellOneRun n made ran
+made_is_run : (n : ℕ) (printed made ran : Answer) → PrintsScenario (generated n) printed → MakeAnswers n made → RunMayTell printed.text ran →
+    TellOneRun n made ran
 made_is_run n printed made ran prints (inl (done, sums)) tells =
-    let s = made_from n in
-    let is = run_reported s sums.journal (run_of_number n sums.journal sums.run) in
+    let s = generated n in
+    let is = run_reported s sums.journal sums.run in
     record {
       journal = sums.journal;
       alike = inl (answer_is made 0 (make_text n 1744 sums.journal) done sums.text', one_of n printed ran (reported s sums.journal) prints tells is);
@@ -74,7 +70,7 @@ made_is_run n printed made ran prints (inr (done, (part, c))) tells =
     let is = cut_of_number n part made.text c in
     record {
       journal = c.journal;
-      alike = inr (part, answer_is made 6 (full_line part) done c.text', one_of n printed ran (cut_off (made_from n) part c.journal) prints tells is);
+      alike = inr (part, answer_is made 6 (full_line part) done c.text', one_of n printed ran (cut_off (generated n) part c.journal) prints tells is);
     }
 
 -- ---- segments
@@ -100,7 +96,8 @@ segments_are_run s printed told prints (inr (done, cut)) =
 
 -- ---- count
 
-at_place : {A B : Type 0} (R : A → B → Type 0) (xs : List A) (ys : List B) (k : ℕ) (x : A) → AllZip R xs ys → slice_get xs k ≡ Some x → (y : B) × (slice_get ys k ≡ Some y) × R x y
+at_place : {A B : Type 0} (R : A → B → Type 0) (xs : List A) (ys : List B) (k : ℕ) (x : A) → AllZip R xs ys → slice_get xs k ≡ Some x →
+    (y : B) × (slice_get ys k ≡ Some y) × R x y
 at_place R [] ys k x all is = absurd (cc)
 at_place R (a ∷ xs) [] k x all is = absurd all
 at_place R (a ∷ xs) (b ∷ ys) zero x all is =
@@ -108,14 +105,17 @@ at_place R (a ∷ xs) (b ∷ ys) zero x all is =
     (b, refl, subst (λ z. R z b) same all.0)
 at_place R (a ∷ xs) (b ∷ ys) (suc k) x all is = at_place R xs ys k x all.1 is
 
-at_number : {A B : Type 0} (R : A → B → Type 0) (xs : List A) (ys : List B) (number : ℕ) (x : A) → AllZip R xs ys → numbered number xs ≡ Some x → (y : B) × (numbered number ys ≡ Some y) × R x y
+at_number : {A B : Type 0} (R : A → B → Type 0) (xs : List A) (ys : List B) (number : ℕ) (x : A) → AllZip R xs ys → numbered number xs ≡ Some x →
+    (y : B) × (numbered number ys ≡ Some y) × R x y
 at_number R xs ys zero x all is = absurd (cc)
 at_number R xs ys (suc k) x all is = at_place R xs ys k x all is
 
 round_run : (s : ScenarioLists) (journal : List Entry) → IsRoundRun s journal → IsRunOf s journal
 round_run s journal run = is_run_of s journal run.done run.whole run.obeys
 
-counts_are_run : (nodes turns number : ℕ) (bytes text : List ℕ) (counts : PrintsCount IsRoundRun nodes turns bytes text) (round : ScenarioLists) (printed : Answer) → numbered number (rounds_of nodes turns (sent_words bytes)) ≡ Some round → PrintsScenario round printed → IsCountedRun number round counts.journals printed
+counts_are_run : (nodes turns number : ℕ) (bytes text : List ℕ) (counts : PrintsCount IsRoundRun nodes turns bytes text) (round : ScenarioLists)
+    (printed : Answer) → numbered number (rounds_of nodes turns (sent_words bytes)) ≡ Some round → PrintsScenario round printed →
+    IsCountedRun number round counts.journals printed
 counts_are_run nodes turns number bytes text counts round printed is prints =
     let found = at_number (IsRound IsRoundRun) (rounds_of nodes turns (sent_words bytes)) counts.journals number round counts.rounds is in
     record {

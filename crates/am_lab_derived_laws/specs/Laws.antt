@@ -1,21 +1,22 @@
 -- What `am2 run` answers to the text of a scenario that stands behind another run.
 use Rattle.std.specs.Prelude.{◌≡◌, ◌⊎◌, ℕ, List, ◌++◌, Some}
-use Rattle.am_count.specs.Counting.{PrintsCount}
-use Rattle.am_counting.specs.Rounds.{IsRoundRun}
+use Rattle.am_job_count.specs.Counting.{PrintsCount}
+use Rattle.am_job_cluster.specs.Rounds.{IsRoundRun}
 use Rattle.am_job.specs.Rounds.{rounds_of}
-use Rattle.am_lab_derived.specs.Answers.{PrintsScenario, made_from, numbered}
+use Rattle.am_lab_derived.specs.Answers.{PrintsScenario, numbered}
+use Rattle.am_scenario_generator.specs.Scenarios.{generated}
 use Rattle.am_main_count.specs.Counts.{CutsCount}
 use Rattle.am_main_lines.specs.Lines.{Answer, full_line, ids_of}
 use Rattle.am_main_run.specs.Runs.{MakeAnswers, RunAnswers, make_text}
 use Rattle.am_main_segments.specs.Segments.{IsSegmentsAnswer}
 use Rattle.am_office.specs.declared.Entry.{Entry}
 use Rattle.am_office.specs.declared.Part.{Part}
-use Rattle.am_report.specs.Report.{report}
+use Rattle.am_office_report.specs.Report.{report}
 use Rattle.am_scenario.specs.Grammar.{grammar}
 use Rattle.am_scenario_types.specs.declared.parts.Form.TheVariants.{Run}
 use Rattle.am_scenario_types.specs.Lists.{ScenarioLists}
 use Rattle.am_segment.specs.declared.scenario.SegmentScenario.{SegmentScenario}
-use Rattle.am_words.specs.Codes.{sent_words}
+use Rattle.am_job_words.specs.Codes.{sent_words}
 
 -- an answer that `am2 run` may give to this text
 abbrev pub RunMayTell : List ℕ → Answer → Type 0
@@ -35,12 +36,12 @@ cut_off s part journal = record { status = 6; text = full_line part ++ report (i
 pub record TellOneRun (n : ℕ) (made ran : Answer) : Type 0 where
   pub journal : List Entry
   pub alike :
-      ((made ≡ record { status = 0; text = make_text n 1744 journal }) × (ran ≡ reported (made_from n) journal))
-      ⊎ ((part : Part) × (made ≡ record { status = 6; text = full_line part }) × (ran ≡ cut_off (made_from n) part journal))
+      ((made ≡ record { status = 0; text = make_text n 1744 journal }) × (ran ≡ reported (generated n) journal))
+      ⊎ ((part : Part) × (made ≡ record { status = 6; text = full_line part }) × (ran ≡ cut_off (generated n) part journal))
 
 -- each answer of `run` to the text of a number's scenario tells the run that `make` tells
 abbrev pub MakesAreRun : Type 0
-MakesAreRun = (n : ℕ) (printed made ran : Answer) → PrintsScenario (made_from n) printed → MakeAnswers n made → RunMayTell printed.text ran → TellOneRun n made ran
+MakesAreRun = (n : ℕ) (printed made ran : Answer) → PrintsScenario (generated n) printed → MakeAnswers n made → RunMayTell printed.text ran → TellOneRun n made ran
 
 -- ---- segments
 

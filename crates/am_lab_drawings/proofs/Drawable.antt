@@ -1,5 +1,6 @@
 -- The picture of a report can be drawn.
-use Rattle.std.proofs.Common.{◌≡◌, ◌≢◌, ℕ, zero, suc, ◌+◌, ◌-◌, ◌*◌, ◌^◌, ◌<◌, ◌≤◌, ◌⊎◌, inl, inr, Bool, true, false, ◌&&◌, List, [], ◌∷◌, length, map, take, drop, Option, Some, None, Result, Ok, Err, refl, sym, ap, ◌∙◌, subst, arith, slice_index_or}
+use Rattle.std.proofs.Common.{◌≡◌, ◌≢◌, ℕ, zero, suc, ◌+◌, ◌-◌, ◌*◌, ◌^◌, ◌<◌, ◌≤◌, ◌⊎◌, inl, inr, Bool, true, false, ◌&&◌, List, [], ◌∷◌, length, map, take}
+use Rattle.std.proofs.Common.{drop, Option, Some, None, Result, Ok, Err, refl, sym, ap, ◌∙◌, subst, arith, slice_index_or}
 use Rattle.std.specs.Prelude.{IfOk, All, AllPairs, nat_le, nat_lt, if◌then◌else◌}
 use Rattle.std.proofs.lemmas.Bool.{and_parts, leb-true, ltb-true}
 use Rattle.std.proofs.lemmas.List.{length-drop, length-map, length-take}
@@ -21,7 +22,7 @@ use Rattle.am_lab_view.specs.declared.parts.PictureFault.{PictureFault}
 use Rattle.am_lab_view.specs.declared.parts.PictureFault.TheVariants as Faults
 use Rattle.am_lab_view.specs.Standings.{lane}
 use Rattle.am_lab_picture.specs.Rows.{entries_in, row}
-use Rattle.am_scripts.specs.Layout.{layout_of}
+use Rattle.am_model_scripts.specs.Layout.{layout_of}
 
 -- ---- at most 256 endpoints
 
@@ -69,13 +70,15 @@ good_lines count (Some part) l e =
     subst (AreGood count) f.1 (record { few = leb-true (part.to + 1 - part.from) 20_000 f.0; within = omega (arith, rise, last) })
 
 -- what is shown is the picture of lines
-shown_of : (s : ScenarioLists) (journal : List Entry) (r : Result Lines PictureFault) (p : PictureLists) → Ok p ≡ picture_by s journal r → (lines : Lines) × (r ≡ Ok lines) × (p ≡ picture_of s journal lines)
+shown_of : (s : ScenarioLists) (journal : List Entry) (r : Result Lines PictureFault) (p : PictureLists) → Ok p ≡ picture_by s journal r →
+    (lines : Lines) × (r ≡ Ok lines) × (p ≡ picture_of s journal lines)
 shown_of s journal (Ok lines) p e = (lines, refl, cc)
 shown_of s journal (Err fault) p e = absurd (cc)
 
 -- ---- the picture
 
-drawable_of : (s : ScenarioLists) (journal : List Entry) (lines : Lines) → IsLawful s → length journal < 2 ^ 31 → AreGood (length journal) lines → IsDrawable (picture_of s journal lines)
+drawable_of : (s : ScenarioLists) (journal : List Entry) (lines : Lines) → IsLawful s → length journal < 2 ^ 31 → AreGood (length journal) lines →
+    IsDrawable (picture_of s journal lines)
 drawable_of s journal lines lawful short good =
     let all = length-map (entries_in lines journal) (row journal) in
     let taken : length (entries_in lines journal) ≤ lines.count = omega (arith, length-take lines.count (drop (lines.first - 3) journal)) in
@@ -89,7 +92,8 @@ drawable_of s journal lines lawful short good =
       lanes = omega (arith, lanes, ends);
     }
 
-pub drawable : SpellsLawful → (form : Form) (text : List ℕ) (part : Option Part) (p : PictureLists) → length text < 2 ^ 31 → Shows form text part (Ok p) → IsDrawable p
+pub drawable : SpellsLawful → (form : Form) (text : List ℕ) (part : Option Part) (p : PictureLists) → length text < 2 ^ 31 → Shows form text part (Ok p) →
+    IsDrawable p
 drawable law form text part p few shows =
     let s = shows.scenario in
     let shown = shows.shown in
@@ -97,16 +101,24 @@ drawable law form text part p few shows =
     let found = shown_of s shown.journal (lines_of (length shown.journal) part) p shown.answer' in
     let bytes = drop shows.place text in
     let left = length-drop shows.place text in
-    let low = (reported form s lawful bytes (omega (arith, few, left)) (record { journal = shown.journal; begun = shown.begun; ended = shown.ended; text = shown.report' })).low in
+    let low = (reported form s lawful bytes (omega (arith, few, left)) (record {
+      journal = shown.journal;
+      begun = shown.begun;
+      ended = shown.ended;
+      text = shown.report';
+    })).low in
     let short : length shown.journal < 2 ^ 31 = omega (arith, low, left, few) in
     subst IsDrawable (sym found.2) (drawable_of s shown.journal found.0 lawful short (good_lines (length shown.journal) part found.0 found.1))
 
 -- what is shown is shown, or there was no memory
-pub shown_only : {P : Type 0} (result : Result P PictureFault) (shows : Result P PictureFault → Type 0) → (result ≡ Err Faults.NoMemory) ⊎ shows result → (p : P) → result ≡ Ok p → shows (Ok p)
+pub shown_only : {P : Type 0} (result : Result P PictureFault) (shows : Result P PictureFault → Type 0) → (result ≡ Err Faults.NoMemory) ⊎ shows result →
+    (p : P) → result ≡ Ok p → shows (Ok p)
 shown_only result shows (inl none) p is = absurd (cc)
 shown_only result shows (inr shown) p is = subst shows is shown
 
-pub refusal_shown : {P O E : Type 0} (fault : PictureFault) (told : Result O E) (shows : Result P PictureFault → Type 0) (holds : O → Result P PictureFault → Type 0) → (◌≡◌ {A = Result P PictureFault} (Err fault) (Err Faults.NoMemory)) ⊎ shows (Err fault) → IfOk told (λ o. holds o (Err fault)) → IfOk told (λ o. fault ≢ Faults.NoMemory) → IfOk told (λ o. (shown : Result P PictureFault) × shows shown × holds o shown)
+pub refusal_shown : {P O E : Type 0} (fault : PictureFault) (told : Result O E) (shows : Result P PictureFault → Type 0) (holds : O → Result P PictureFault →
+    Type 0) → (◌≡◌ {A = Result P PictureFault} (Err fault) (Err Faults.NoMemory)) ⊎ shows (Err fault) → IfOk told (λ o. holds o (Err fault)) →
+    IfOk told (λ o. fault ≢ Faults.NoMemory) → IfOk told (λ o. (shown : Result P PictureFault) × shows shown × holds o shown)
 refusal_shown fault (Ok o) shows holds (inl none) is some = absurd (some (cc))
 refusal_shown fault (Ok o) shows holds (inr shown) is some = (Err fault, shown, is)
 refusal_shown fault (Err e) shows holds found is some = tt

@@ -4,15 +4,15 @@ use Rattle.std.specs.List.{flat_map}
 use Rattle.am_names.specs.declared.NodeId.{NodeId}
 use Rattle.am_office.specs.declared.Entry.{Entry}
 use Rattle.am_office.specs.declared.Event.{Event}
-use Rattle.am_drainer.specs.Reads.{call_event}
+use Rattle.am_cluster_drainer.specs.Reads.{call_event}
 use Rattle.am_scenario_types.specs.declared.parts.Form.{Form}
 use Rattle.am_scenario_types.specs.declared.parts.Form.TheVariants.{Step, Run}
 use Rattle.am_scenario_types.specs.declared.parts.ScriptCall.{ScriptCall}
 use Rattle.am_scenario_types.specs.declared.parts.ThreadLine.{ThreadLine}
 use Rattle.am_scenario_types.specs.Lists.{ScenarioLists}
-use Rattle.am_scripts.specs.Layout.{events_of}
-use Rattle.am_scripts.specs.Links.{due, nodes_of, receipt}
-use Rattle.am_scripts.specs.Scripts.{call_left}
+use Rattle.am_model_scripts.specs.Layout.{events_of}
+use Rattle.am_model_scripts.specs.Links.{due, nodes_of, receipt}
+use Rattle.am_model_scripts.specs.Scripts.{call_left}
 use Rattle.am_lab_due.specs.Texts.{next_line}
 
 abbrev pub next_if : Option Event → List ℕ

@@ -5,18 +5,18 @@ use Rattle.am_check.specs.Follows.{ids_of}
 use Rattle.am_check.specs.Verdict.{HasJournal, Reaches}
 use Rattle.am_check.specs.declared.faults.CheckWhat.{CheckWhat}
 use Rattle.am_check.specs.declared.faults.CheckWhat.TheVariants as Whats
-use Rattle.am_drain.specs.Made.{next_entry}
-use Rattle.am_journal_lines.specs.Reading.{event_of}
+use Rattle.am_model_drain.specs.Made.{next_entry}
+use Rattle.am_check_lines.specs.Reading.{event_of}
 use Rattle.am_lexer.specs.Text.{lines_of}
 use Rattle.am_model.specs.History.{is_in_range}
 use Rattle.am_office.specs.declared.Condition.{Condition}
 use Rattle.am_office.specs.declared.Entry.{Entry}
 use Rattle.am_office.specs.declared.Event.{Event}
-use Rattle.am_report.specs.Report.{report}
+use Rattle.am_office_report.specs.Report.{report}
 use Rattle.am_scenario.specs.Laws.{Spells}
 use Rattle.am_scenario_types.specs.declared.parts.Form.{Form}
 use Rattle.am_scenario_types.specs.Lists.{ScenarioLists}
-use Rattle.am_scripts.specs.Layout.{layout_of}
+use Rattle.am_model_scripts.specs.Layout.{layout_of}
 use Rattle.am_lab_due.specs.Choices.{choices}
 use Rattle.am_lab_due.specs.Found.{found}
 use Rattle.am_lab_due.specs.Texts.{due_entry, due_line}

@@ -14,7 +14,7 @@ use Rattle.am_model.specs.declared.Head.{Head}
 use Rattle.am_model.specs.Channels.{emitted}
 use Rattle.am_model.specs.History.{state_of}
 use Rattle.am_model.specs.Layout.{Layout, home}
-use Rattle.am_text.specs.Words.{Word, spaced}
+use Rattle.am_office_text.specs.Words.{Word, spaced}
 
 unfoldable pub place_words : Place → List Word
 place_words Host = codes "host" ∷ []

@@ -3,7 +3,7 @@ use Rattle.std.specs.Prelude.{ℕ, Option, Some, None, List, ◌++◌, codes}
 use Rattle.am_office.specs.declared.Event.{Event}
 use Rattle.am_office.specs.declared.Entry.{Entry}
 use Rattle.am_office.specs.declared.Outcome.TheVariants as Out
-use Rattle.am_entry_lines.specs.Lines.{line_of}
+use Rattle.am_office_lines.specs.Lines.{line_of}
 
 -- the line of an event of which nothing has come yet
 abbrev pub event_line : Event → List ℕ

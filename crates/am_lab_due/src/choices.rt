@@ -3,17 +3,17 @@
 ghost use Rattle.am_lab_due.specs.Choices.{call_line, choices, next_call, next_packet, next_packets};
 ghost use Rattle.am_scenario_types.specs.declared.parts.Form.TheVariants.{Run};
 ghost use Rattle.am_scenario_types.specs.declared.parts.ThreadLine.{ThreadLine};
-ghost use Rattle.am_scripts.specs.Follows.{is_thread};
-ghost use Rattle.am_scripts.specs.Links.{nodes_of};
+ghost use Rattle.am_model_scripts.specs.Follows.{is_thread};
+ghost use Rattle.am_model_scripts.specs.Links.{nodes_of};
 ghost use Rattle.std.specs.List.{flat_map, AllByRecursion};
 ghost use Rattle.std.specs.Prelude.{◌≡◌, ◌<◌, ◌++◌, OnOk, true};
 
 use crate::texts::{put_next, put_next_if};
-use am_drainer::Machine;
+use am_cluster_drainer::Machine;
+use am_cluster_scripted::ScriptedCluster;
 use am_names::{NoMemory, NodeId};
 use am_office::{Actor, Event};
 use am_scenario::{ScriptCall, ThreadLine};
-use am_scripted::ScriptedCluster;
 
 fn put_call(out: &mut Vec<u8>, call: Option<ScriptCall>) -> Result<(), NoMemory>
     ensures { OnOk result (out.new.items ≡ out.old.items ++ call_line call) }

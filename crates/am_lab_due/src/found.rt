@@ -1,21 +1,19 @@
 //! What an event that isn't enabled finds in the state of a cluster.
 
 ghost use Rattle.am_lab_due.specs.Found.{end_line, end_words, flag_words, found, found_end, found_in, found_link, network_line, place_words, word_if};
-ghost use Rattle.am_endpoint.specs.View.{state_after};
 ghost use Rattle.am_model.specs.Channels.{emitted};
 ghost use Rattle.am_model.specs.History.{is_in_range};
-ghost use Rattle.am_scripts.specs.Layout.{is_direct, layout_of};
-ghost use Rattle.am_text.specs.Words.{spaced};
+ghost use Rattle.am_model_scripts.specs.Layout.{is_direct, layout_of};
+ghost use Rattle.am_office_text.specs.Words.{spaced};
 ghost use Rattle.std.specs.Prelude.{◌≡◌, ◌<◌, ◌++◌, OnOk, length, true, false};
 
-use am_endpoint::Endpoint;
 use am_machine::Cluster;
 use am_model::Head;
 use am_names::{EndpointId, NoMemory, NodeId};
 use am_office::{Condition, Event, Place};
+use am_office_text::Piece::{Number, Text};
+use am_office_text::{put_end, put_spaced, put_word, small};
 use am_scenario::{Network, Scenario};
-use am_text::Piece::{Number, Text};
-use am_text::{put_end, put_spaced, put_word, small};
 use std::alloc::AllocError;
 
 #[tactic(auto, unfolding(crate::specs::Found::place_words))]
@@ -67,24 +65,13 @@ fn put_head(out: &mut Vec<u8>, end: EndpointId, node: NodeId, head: Head) -> Res
     put_end(out)
 }
 
-fn head_of(end: &Endpoint) -> Head
-    ensures { result ≡ (state_after end.now).head }
-{
-    Head {
-        place: end.place(),
-        wanted: end.wanted(),
-        draining: end.draining(),
-        closed: end.closed(),
-    }
-}
-
 // Appends an endpoint as it stands.
 fn put_found_end(out: &mut Vec<u8>, cluster: &Cluster, id: EndpointId) -> Result<(), NoMemory>
     ensures { OnOk result (out.new.items ≡ out.old.items ++ found_end cluster.now.layout cluster.now.journal id) }
 {
     match cluster.end(id) {
         Some(end) => {
-            put_head(out, id, end.node(), head_of(end))?;
+            put_head(out, id, end.node(), end.head())?;
             Ok(())
         }
         None => Err(NoMemory),

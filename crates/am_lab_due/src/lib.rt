@@ -16,8 +16,7 @@ mod texts;
 mod told;
 
 use crate::told::{due_entry, due_line, found_state, next_events, next_step};
-use am_check::CheckWhat;
-use am_lab_journal::place_of;
+use am_check::{CheckWhat, place_of};
 use am_names::NoMemory;
 use am_scenario::{Form, ReadFault, Scenario, read};
 use std::alloc::Global;

@@ -4,11 +4,11 @@ ghost use Rattle.am_lab_due.specs.Texts.{due_entry, due_line, next_line};
 ghost use Rattle.am_lab_due.specs.Choices.{next_if, step_line};
 ghost use Rattle.std.specs.Prelude.{◌≡◌, ◌++◌, OnOk, Some, option_map};
 
-use am_entry_lines::entry_line;
 use am_names::NoMemory;
 use am_office::{Entry, Event, Outcome};
-use am_text::Piece::Text;
-use am_text::{put_end, put_word};
+use am_office_lines::entry_line;
+use am_office_text::Piece::Text;
+use am_office_text::{put_end, put_word};
 use std::alloc::AllocError;
 
 /// Appends an event that might have come.

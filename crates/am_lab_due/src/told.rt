@@ -9,28 +9,29 @@ ghost use Rattle.am_lab_due.specs.Texts.{due_entry, due_line};
 ghost use Rattle.am_lab_journal.specs.Lines.{IsMadeAgain};
 ghost use Rattle.am_model.specs.History.{EachAfter, is_in_range};
 ghost use Rattle.am_office.specs.declared.Entry.{Entry as Made};
-ghost use Rattle.am_report.specs.Report as texts;
+ghost use Rattle.am_office_report.specs.Report as texts;
 ghost use Rattle.am_scenario_types.specs.declared.parts.Form.{Form as Kind};
 ghost use Rattle.am_lexer.specs.Text.{lines_of};
-ghost use Rattle.am_journal_lines.specs.Reading.{event_of};
+ghost use Rattle.am_check_lines.specs.Reading.{event_of};
 ghost use Rattle.am_scenario_types.specs.Lawful.{IsLawful};
 ghost use Rattle.am_scenario_types.specs.declared.parts.Form.TheVariants as Forms;
 ghost use Rattle.am_scenario_types.specs.declared.parts.Network.TheVariants.{Packet};
-ghost use Rattle.am_scripts.specs.Layout.{events_of, layout_of};
+ghost use Rattle.am_model_scripts.specs.Layout.{events_of, layout_of};
 ghost use Rattle.std.specs.Prelude.{◌≡◌, ◌≤◌, ◌-◌, [], ◌∷◌, ℕ, List, IfOk, OnOk, option_map, slice_get, true};
 
 use crate::choices::put_choices;
 use crate::found::put_found;
 use crate::texts::{put_due_entry, put_due_line, put_step};
-use am_journal_lines::parse_line;
+use am_check::step_event;
+use am_check_lines::parse_line;
+use am_cluster_scripted::ScriptedCluster;
 use am_lab_journal::{reach, reach_end};
 use am_lexer::next_line;
 use am_machine::Cluster;
 use am_main_lines::report_of;
 use am_names::NoMemory;
 use am_office::{Condition, Entry, Event};
-use am_scenario::{Scenario, StepLine};
-use am_scripted::ScriptedCluster;
+use am_scenario::Scenario;
 use std::alloc::{AllocError, Global};
 
 // The event that the first of some lines tells.
@@ -171,17 +172,6 @@ pub(crate) fn due_line(
     }
 }
 
-// The event of the step line at this place.
-#[tactic(auto, using(am_check::proofs::Steps::step_at))]
-fn step_event(steps: &[StepLine], place: usize) -> Option<Event>
-    ensures { result ≡ slice_get (events_of steps.now) place }
-{
-    match steps.get(place) {
-        Some(step) => Some(step.event),
-        None => None,
-    }
-}
-
 /// The step that might have come in place of a line.
 pub(crate) fn next_step(alloc: Global, scenario: &Scenario, line: u32) -> Result<Vec<u8>, NoMemory>
     requires { 3 ≤ line }
@@ -222,7 +212,8 @@ fn follow_line<'a>(
 {
     let mut cluster = Cluster::new(alloc, scenario)?;
     reach(&mut cluster, bytes, line)?;
-    let journal = cluster.journal(alloc)?;
+    let logged = cluster.journal(alloc)?;
+    let journal = logged.copied(alloc)?;
     let mut run = ScriptedCluster::new(alloc, scenario)?;
     follow(&mut run, &journal.entries)?;
     Ok(run)

@@ -1,17 +1,18 @@
 -- What is left of a journal that is made again from its lines.
-use Rattle.std.proofs.Common.{◌≡◌, ℕ, ◌+◌, ◌-◌, ◌<◌, ◌≤◌, List, [], ◌∷◌, ◌++◌, drop, length, map, true, Option, Some, None, refl, sym, ap, ◌∙◌, subst, arith, append_assoc}
+use Rattle.std.proofs.Common.{◌≡◌, ℕ, ◌+◌, ◌-◌, ◌<◌, List, [], ◌∷◌, ◌++◌, drop, length, map, true, Option, Some, refl, sym, ap, ◌∙◌, subst, arith}
+use Rattle.std.proofs.Common.{append_assoc}
 use Rattle.std.proofs.lemmas.List.{append-nil}
 use Rattle.am_office.specs.declared.Event.{Event}
 use Rattle.am_office.specs.declared.Entry.{Entry}
 use Rattle.am_model.specs.Layout.{Layout}
 use Rattle.am_model.specs.History.{EachAfter, is_in_range}
-use Rattle.am_drain.specs.Made.{next_entry}
-use Rattle.am_journal_lines.specs.Grammar.{printed}
-use Rattle.am_journal_lines.specs.Reading.{event_of}
+use Rattle.am_model_drain.specs.Made.{next_entry}
+use Rattle.am_check_lines.specs.Grammar.{printed}
+use Rattle.am_check_lines.specs.Reading.{event_of}
 use Rattle.am_scenario_types.specs.declared.parts.Form.{Form}
 use Rattle.am_scenario_types.specs.Lists.{ScenarioLists}
 use Rattle.am_scenario_types.specs.Lawful.{IsLawful}
-use Rattle.am_scripts.specs.Layout.{layout_of}
+use Rattle.am_model_scripts.specs.Layout.{layout_of}
 use Rattle.am_check.specs.Follows.{Comes}
 use Rattle.am_check.specs.Verdict.{Reaches, count_of}
 use Rattle.am_lexer.specs.Text.{lines_of}
@@ -29,11 +30,13 @@ made_again form s lawful past x c =
       told = told_by_line form s lawful past x c;
     }
 
-each_again : (form : Form) (s : ScenarioLists) → IsLawful s → (past journal : List Entry) → EachAfter (Comes form s) past journal → EachAfter (IsMadeAgain (layout_of s)) past journal
+each_again : (form : Form) (s : ScenarioLists) → IsLawful s → (past journal : List Entry) → EachAfter (Comes form s) past journal →
+    EachAfter (IsMadeAgain (layout_of s)) past journal
 each_again form s lawful past [] e = tt
 each_again form s lawful past (x ∷ xs) e = (made_again form s lawful past x e.0, each_again form s lawful (past ++ x ∷ []) xs e.1)
 
-pub are_lines : (form : Form) (s : ScenarioLists) → IsLawful s → (lines : List (List ℕ)) (journal : List Entry) (left : List (List ℕ)) → Reaches form s lines journal left → AreLines (layout_of s) lines journal left
+pub are_lines : (form : Form) (s : ScenarioLists) → IsLawful s → (lines : List (List ℕ)) (journal : List Entry) (left : List (List ℕ)) →
+    Reaches form s lines journal left → AreLines (layout_of s) lines journal left
 are_lines form s lawful lines journal left r = record { each = each_again form s lawful [] journal r.begun; lines' = r.lines' }
 
 -- ---- what is left after so many entries
@@ -45,11 +48,13 @@ pub record IsLeft (layout : Layout) (journal : List Entry) (left : List (List �
   pub rest' : rest ≡ map printed more ++ left
   pub count' : place + length more ≡ count
 
-pub at_first : (layout : Layout) (lines : List (List ℕ)) (journal : List Entry) (left : List (List ℕ)) (count : ℕ) → AreLines layout lines journal left → length journal ≡ count → IsLeft layout journal left count 0 [] lines
+pub at_first : (layout : Layout) (lines : List (List ℕ)) (journal : List Entry) (left : List (List ℕ)) (count : ℕ) → AreLines layout lines journal left →
+    length journal ≡ count → IsLeft layout journal left count 0 [] lines
 at_first layout lines journal left count a long = record { more = journal; all = refl; each = a.each; rest' = a.lines'; count' = omega (arith, long) }
 
 -- one line more: its event is in range, and the entry made of it is the journal's
-pub record GoesOn (layout : Layout) (journal : List Entry) (left : List (List ℕ)) (count place : ℕ) (past : List Entry) (event : Event) (after : List (List ℕ)) : Type 0 where
+pub record GoesOn (layout : Layout) (journal : List Entry) (left : List (List ℕ)) (count place : ℕ) (past : List Entry) (event : Event) (after : List (List ℕ))
+    : Type 0 where
   pub in_range' : is_in_range layout event ≡ true
   pub next : IsLeft layout journal left count (place + 1) (past ++ next_entry layout past event ∷ []) after
 
@@ -62,10 +67,13 @@ line_same a b ls ks e = cc
 rest_same : (a b : List ℕ) (ls ks : List (List ℕ)) → a ∷ ls ≡ b ∷ ks → ls ≡ ks
 rest_same a b ls ks e = cc
 
-pub goes_on : (layout : Layout) (journal : List Entry) (left : List (List ℕ)) (count place : ℕ) (past : List Entry) (rest : List (List ℕ)) (line : List ℕ) (after : List (List ℕ)) (event : Event) → IsLeft layout journal left count place past rest → place < count → rest ≡ line ∷ after → event_of line ≡ Some event → GoesOn layout journal left count place past event after
+pub goes_on : (layout : Layout) (journal : List Entry) (left : List (List ℕ)) (count place : ℕ) (past : List Entry) (rest : List (List ℕ)) (line : List ℕ)
+    (after : List (List ℕ)) (event : Event) → IsLeft layout journal left count place past rest → place < count → rest ≡ line ∷ after →
+    event_of line ≡ Some event → GoesOn layout journal left count place past event after
 goes_on layout journal left count place past rest line after event is below cut told = by_more is.more is.all is.each (sym cut ∙ is.rest') is.count'
   where
-    by_more : (more : List Entry) → past ++ more ≡ journal → EachAfter (IsMadeAgain layout) past more → line ∷ after ≡ map printed more ++ left → place + length more ≡ count → GoesOn layout journal left count place past event after
+    by_more : (more : List Entry) → past ++ more ≡ journal → EachAfter (IsMadeAgain layout) past more → line ∷ after ≡ map printed more ++ left →
+        place + length more ≡ count → GoesOn layout journal left count place past event after
     by_more [] all each rest' long = absurd (omega (arith, below, long))
     by_more (x ∷ more) all each rest' long =
         let same : line ≡ printed x = line_same line (printed x) after (map printed more ++ left) rest' in
@@ -83,7 +91,8 @@ pub record IsAll (journal past : List Entry) (left rest : List (List ℕ)) : Typ
   pub same : past ≡ journal
   pub rest' : rest ≡ left
 
-pub at_last : (layout : Layout) (journal : List Entry) (left : List (List ℕ)) (count place : ℕ) (past : List Entry) (rest : List (List ℕ)) → IsLeft layout journal left count place past rest → place ≡ count → IsAll journal past left rest
+pub at_last : (layout : Layout) (journal : List Entry) (left : List (List ℕ)) (count place : ℕ) (past : List Entry) (rest : List (List ℕ)) →
+    IsLeft layout journal left count place past rest → place ≡ count → IsAll journal past left rest
 at_last layout journal left count place past rest is ended = by_more is.more is.all is.rest' is.count'
   where
     by_more : (more : List Entry) → past ++ more ≡ journal → rest ≡ map printed more ++ left → place + length more ≡ count → IsAll journal past left rest
@@ -92,7 +101,8 @@ at_last layout journal left count place past rest is ended = by_more is.more is.
 
 -- ---- the lines of a journal in a report
 
-pub place_lines : (layout : Layout) (bytes : List ℕ) (lines : List (List ℕ)) (number : ℕ) → HasPlace layout bytes number → lines ≡ drop 2 (lines_of bytes) → HasLines layout lines (number - 3)
+pub place_lines : (layout : Layout) (bytes : List ℕ) (lines : List (List ℕ)) (number : ℕ) → HasPlace layout bytes number → lines ≡ drop 2 (lines_of bytes) →
+    HasLines layout lines (number - 3)
 place_lines layout bytes lines number h e =
     record {
       journal = h.journal;
@@ -101,13 +111,11 @@ place_lines layout bytes lines number h e =
       count' = omega (arith, h.number');
     }
 
-pub low_enough : (layout : Layout) (bytes : List ℕ) (number : ℕ) → HasPlace layout bytes number → 3 ≤ number
-low_enough layout bytes number h = omega (arith, h.number')
-
 one_count : (a b : ℕ) (o : Option ℕ) → o ≡ Some a → o ≡ Some b → a ≡ b
 one_count a b o e f = cc
 
-pub end_lines : (layout : Layout) (bytes : List ℕ) (lines : List (List ℕ)) (count : ℕ) → HasEnd layout bytes → count_of (lines_of bytes) ≡ Some count → lines ≡ drop 2 (lines_of bytes) → HasLines layout lines count
+pub end_lines : (layout : Layout) (bytes : List ℕ) (lines : List (List ℕ)) (count : ℕ) → HasEnd layout bytes → count_of (lines_of bytes) ≡ Some count →
+    lines ≡ drop 2 (lines_of bytes) → HasLines layout lines count
 end_lines layout bytes lines count h is e =
     record {
       journal = h.journal;

@@ -5,9 +5,9 @@ use Rattle.am_office.specs.declared.Entry.{Entry}
 use Rattle.am_model.specs.Layout.{Layout}
 use Rattle.am_model.specs.History.{EachAfter, is_in_range}
 use Rattle.am_model.specs.Steps.{stop}
-use Rattle.am_drain.specs.Made.{next_entry}
-use Rattle.am_journal_lines.specs.Grammar.{printed}
-use Rattle.am_journal_lines.specs.Reading.{event_of}
+use Rattle.am_model_drain.specs.Made.{next_entry}
+use Rattle.am_check_lines.specs.Grammar.{printed}
+use Rattle.am_check_lines.specs.Reading.{event_of}
 use Rattle.am_check.specs.Verdict.{count_of}
 
 -- an entry is made again by its line: the line tells its event, nothing stops that, and it is what the machine makes of it

@@ -5,7 +5,7 @@ ghost use Rattle.am_lexer.specs.Text.{lines_of};
 ghost use Rattle.am_office.specs.declared.Entry.{Entry};
 ghost use Rattle.std.specs.Prelude.{◌≡◌, [], ℕ, List, IfOk, length};
 
-use am_journal_lines::parse_line;
+use am_check_lines::parse_line;
 use am_lexer::next_line;
 use am_machine::Cluster;
 use am_names::NoMemory;

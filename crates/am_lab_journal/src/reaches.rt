@@ -6,8 +6,8 @@ ghost use Rattle.am_lexer.specs.Text.{lines_of};
 ghost use Rattle.am_office.specs.declared.Entry.{Entry};
 ghost use Rattle.std.specs.Prelude.{◌≡◌, ◌+◌, [], ℕ, List, IfOk, OnOk, Some, drop, length};
 
-use crate::head::split_head;
 use crate::plays::play;
+use am_check::split_head;
 use am_machine::Cluster;
 use am_names::NoMemory;
 

@@ -9,7 +9,8 @@ row_y : (p : PictureLists) (line : ℕ) → p.first ≤ line → line < p.first 
 unfolding y_of
 row_y p line low high = rw (le-ltb line p.first low, lt-ltb line (p.first + length p.rows) high) refl
 
-further : (wide : Bool) (k m : ℕ) → k < m → 190 + (if wide then 18 * k else 3 * k) + (if wide then 9 else 1) < 190 + (if wide then 18 * m else 3 * m) + (if wide then 9 else 1)
+further : (wide : Bool) (k m : ℕ) → k < m → 190 + (if wide then 18 * k else 3 * k) + (if wide then 9 else 1) < 190 + (if wide then 18 * m else 3 * m) +
+    (if wide then 9 else 1)
 further true k m h = omega arith
 further false k m h = omega arith
 
@@ -25,7 +26,8 @@ starts : (wide : Bool) (n : ℕ) → 190 ≤ 190 + (if wide then 18 * n else 3 *
 starts true n = omega arith
 starts false n = omega arith
 
-by_tests : (p : PictureLists) (line : ℕ) (front within : Bool) → nat_lt line p.first ≡ front → nat_lt line (p.first + length p.rows) ≡ within → (top ≤ y_of p line) × (y_of p line ≤ bottom p)
+by_tests : (p : PictureLists) (line : ℕ) (front within : Bool) → nat_lt line p.first ≡ front → nat_lt line (p.first + length p.rows) ≡ within →
+    (top ≤ y_of p line) × (y_of p line ≤ bottom p)
 unfolding y_of bottom
 by_tests p line true within e f = rw e (omega arith, starts (has_text p) (length p.rows))
 by_tests p line false true e f =

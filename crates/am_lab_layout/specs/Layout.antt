@@ -1,10 +1,11 @@
 -- Where things lie in the picture. All lengths are pixels; x grows to the right, y downwards.
-use Rattle.std.specs.Prelude.{ℕ, ◌≤◌, ◌<◌, ◌^◌, Bool, true, false, ◌+◌, ◌-◌, ◌*◌, ◌%◌, ◌&&◌, ◌==◌, nat_lt, nat_le, min, max, List, [], ◌∷◌, length, count_by, if◌then◌else◌}
+use Rattle.std.specs.Prelude.{ℕ, ◌≤◌, ◌<◌, ◌^◌, Bool, true, false, ◌+◌, ◌-◌, ◌*◌, ◌%◌, ◌&&◌, ◌==◌, nat_lt, nat_le, min, max, List, [], ◌∷◌, length, count_by}
+use Rattle.std.specs.Prelude.{if◌then◌else◌}
 use Rattle.am_names.specs.declared.EndpointId.{EndpointId}
 use Rattle.am_names.specs.declared.NodeId.{NodeId}
 use Rattle.am_scenario_types.specs.declared.parts.Network.{Network}
 use Rattle.am_scenario_types.specs.declared.parts.Network.TheVariants as Networks
-use Rattle.am_journal_lines.specs.Grammar.{printed}
+use Rattle.am_check_lines.specs.Grammar.{printed}
 use Rattle.am_lab_picture.specs.Data.{LaneLists, PictureLists}
 use Rattle.am_lab_picture.specs.declared.data.Row.{Row}
 

@@ -13,7 +13,7 @@ use Rattle.am_office.specs.declared.Received.{Received}
 use Rattle.am_office.specs.declared.Received.TheVariants as Got
 use Rattle.am_office.specs.declared.Refusal.{Refusal}
 use Rattle.am_office.specs.declared.Refusal.TheVariants as Refusals
-use Rattle.am_text.specs.Words as texts
+use Rattle.am_office_text.specs.Words as texts
 use Rattle.am_lab_layout.specs.declared.signs.Spot.{Spot}
 use Rattle.am_lab_layout.specs.declared.signs.Spot.TheVariants as Spots
 use Rattle.am_lab_layout.specs.declared.signs.Ending.{Ending}

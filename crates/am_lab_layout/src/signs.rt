@@ -2,11 +2,11 @@
 
 ghost use Rattle.std.specs.Prelude.{◌≡◌, option_map};
 ghost use Rattle.am_lab_layout.specs.Signs as signs;
-ghost use Rattle.am_text.specs.Pieces.{word_of};
+ghost use Rattle.am_office_text.specs.Pieces.{word_of};
 
 use am_names::{EndpointId, Message, NodeId};
 use am_office::{Call, Event, Outcome, Received, Refusal};
-use am_text::{Piece, cause_word, small, why_word};
+use am_office_text::{Piece, cause_word, small, why_word};
 
 /// Where a sign stands.
 #[derive(Clone, Copy)]

@@ -36,7 +36,8 @@ lanes_by : (end : EndLine) (r r' : List (Span Residency)) (q q' p p' : List (Spa
 lanes_by end r r' q q' p p' e1 e2 e3 = rw (e1, e2, e3) refl
 
 -- the lane of the standings
-pub lane_is : (end : EndLine) (line until : ℕ) (s : Standing) (ss : List Standing) → until ≡ line + 1 + length ss → lane_ended end (lane_followed (lane_begun s line) (line + 1) ss) until ≡ lane_of end line (s ∷ ss)
+pub lane_is : (end : EndLine) (line until : ℕ) (s : Standing) (ss : List Standing) → until ≡ line + 1 + length ss →
+    lane_ended end (lane_followed (lane_begun s line) (line + 1) ss) until ≡ lane_of end line (s ∷ ss)
 lane_is end line until s ss e =
     let each = is_each (lane_begun s line) (line + 1) ss in
     let a : length (map (λ (t : Standing). t.residency) ss) ≡ length ss = length-map ss (λ (t : Standing). t.residency) in
@@ -48,7 +49,8 @@ lane_is end line until s ss e =
     (ended_so _ _ until (line + 1 + length (map (λ (t : Standing). t.received) ss)) each.received (omega (arith, e, c)))
 
 -- one standing more
-pub followed_more : (t : LaneTracked) (line : ℕ) (ss : List Standing) (s : Standing) → lane_followed t line (ss ++ s ∷ []) ≡ lane_followed_by (lane_followed t line ss) s (line + length ss)
+pub followed_more : (t : LaneTracked) (line : ℕ) (ss : List Standing) (s : Standing) →
+    lane_followed t line (ss ++ s ∷ []) ≡ lane_followed_by (lane_followed t line ss) s (line + length ss)
 followed_more t line [] s = let here : line + 0 ≡ line = omega arith in ap (λ (n : ℕ). lane_followed_by t s n) (sym here)
 followed_more t line (x ∷ ss) s =
     let next : line + 1 + length ss ≡ line + length (x ∷ ss) = omega arith in

@@ -1,5 +1,6 @@
 -- Rows, arrows and crosses are what the journal says.
-use Rattle.std.proofs.Common.{◌≡◌, ℕ, zero, suc, ◌+◌, ◌-◌, ◌≤◌, Bool, true, false, not, ◌==◌, ◌&&◌, cond, List, [], ◌∷◌, ◌++◌, Option, Some, None, IfSome, map, take, drop, refl, sym, ap, ◌∙◌, subst, true≢false, arith, slice_get, filter_map, if◌then◌else◌}
+use Rattle.std.proofs.Common.{◌≡◌, ℕ, zero, suc, ◌+◌, ◌-◌, ◌≤◌, Bool, true, false, not, ◌==◌, ◌&&◌, cond, List, [], ◌∷◌, ◌++◌, Option, Some, None, IfSome, map}
+use Rattle.std.proofs.Common.{take, drop, refl, sym, ap, ◌∙◌, subst, true≢false, arith, slice_get, filter_map, if◌then◌else◌}
 use Rattle.std.specs.List.{AllByRecursion, filter, position_from, cons_option}
 use Rattle.std.specs.Option.{option_map}
 use Rattle.std.proofs.lemmas.Bool.{eqb-true}
@@ -10,15 +11,18 @@ use Rattle.am_office.specs.Entries.{emitted_of}
 use Rattle.am_office.specs.declared.Entry.{Entry}
 use Rattle.am_lab_picture.specs.Abouts.{about_of, reply_of}
 use Rattle.am_lab_picture.specs.Arrows.{arrow, arrow_at, arrow_by, arrow_from, arrow_of, arrow_shown, cross, cross_by, if_shown, is_shown}
-use Rattle.am_lab_picture.specs.Laws.{ArrowsJoinEmissionsToReceipts, CrossesAreOfTheUnreceived, CrossesStandAtEmissions, HasItsFate, IsArrow, IsCross, IsInLine, IsRow, RowsAreEntries, RowsTellFates}
-use Rattle.am_lab_picture.specs.Numbered.{numbered}
+use Rattle.am_lab_picture.specs.Laws.{ArrowsJoinEmissionsToReceipts, CrossesAreOfTheUnreceived, CrossesStandAtEmissions, HasItsFate, IsArrow, IsCross, IsInLine}
+use Rattle.am_lab_picture.specs.Laws.{IsRow, RowsAreEntries, RowsTellFates}
+use Rattle.am_lemmas.proofs.Bools.{and_first, and_second}
+use Rattle.am_lemmas.specs.Numbered.{numbered}
 use Rattle.am_lab_picture.specs.Rows.{entries_in, named_by, row}
-use Rattle.am_lab_picture.specs.Ways.{emits, emitter, is_received, is_way, received_way, same_way, way_of}
+use Rattle.am_lab_picture.specs.Ways.{emits, emitter, is_received, is_way, received_way, same_way}
+use Rattle.am_names.specs.Packets.{way_of}
 use Rattle.am_lab_picture.specs.declared.data.Arrow.{Arrow}
 use Rattle.am_lab_picture.specs.declared.data.Cross.{Cross}
 use Rattle.am_lab_picture.specs.declared.data.Lines.{Lines}
 use Rattle.am_lab_picture.specs.declared.data.Row.{Row}
-use Rattle.am_lab_picture.specs.declared.ways.Way.{Way}
+use Rattle.am_names.specs.declared.Way.{Way}
 
 -- ---- rows
 
@@ -67,7 +71,9 @@ in_line journal line place x is at =
     (omega (arith, is), ap (λ (n : ℕ). slice_get journal n) there ∙ at)
 
 -- what holds of all that each item gives in its line
-numbered_all : {Y : Type 0} (P : Y → Type 0) (journal : List Entry) (give : ℕ → Entry → List Y) → ((line : ℕ) (x : Entry) → IsInLine journal line x → AllByRecursion P (give line x)) → (line place : ℕ) (xs : List Entry) → line ≡ place + 3 → IsFrom journal place xs → AllByRecursion P (numbered give line xs)
+numbered_all : {Y : Type 0} (P : Y → Type 0) (journal : List Entry) (give : ℕ → Entry → List Y) →
+    ((line : ℕ) (x : Entry) → IsInLine journal line x → AllByRecursion P (give line x)) → (line place : ℕ) (xs : List Entry) → line ≡ place + 3 →
+    IsFrom journal place xs → AllByRecursion P (numbered give line xs)
 numbered_all P journal give each line place [] is from = tt
 numbered_all P journal give each line place (x ∷ xs) is from =
     all_append P (give line x) (numbered give (line + 1) xs)
@@ -75,14 +81,6 @@ numbered_all P journal give each line place (x ∷ xs) is from =
     (numbered_all P journal give each (line + 1) (place + 1) xs (omega (arith, is)) (from_next journal place x xs from))
 
 -- ---- arrows
-
-pub and_left : (a b : Bool) → (a && b) ≡ true → a ≡ true
-and_left true b e = refl
-and_left false b e = absurd (true≢false (sym e))
-
-pub and_right : (a b : Bool) → (a && b) ≡ true → b ≡ true
-and_right true b e = e
-and_right false b e = absurd (true≢false (sym e))
 
 pub node_is : (a b : NodeId) → a.0 ≡ b.0 → a ≡ b
 node_is a b e = ap (λ (n : ℕ). record { 0 = n }) e
@@ -95,11 +93,11 @@ way_parts a b e1 e2 e3 = by_rw a.from a.to a.number b e1 e2 e3
 
 way_is : (a b : Way) → same_way a b ≡ true → a ≡ b
 way_is a b e =
-    let front = and_left (a.from.0 == b.from.0 && a.to.0 == b.to.0) (a.number == b.number) e in
+    let front = and_first (a.from.0 == b.from.0 && a.to.0 == b.to.0) (a.number == b.number) e in
     way_parts a b
-    (node_is a.from b.from (eqb-true a.from.0 b.from.0 (and_left (a.from.0 == b.from.0) (a.to.0 == b.to.0) front)))
-    (node_is a.to b.to (eqb-true a.to.0 b.to.0 (and_right (a.from.0 == b.from.0) (a.to.0 == b.to.0) front)))
-    (eqb-true a.number b.number (and_right (a.from.0 == b.from.0 && a.to.0 == b.to.0) (a.number == b.number) e))
+    (node_is a.from b.from (eqb-true a.from.0 b.from.0 (and_first (a.from.0 == b.from.0) (a.to.0 == b.to.0) front)))
+    (node_is a.to b.to (eqb-true a.to.0 b.to.0 (and_second (a.from.0 == b.from.0) (a.to.0 == b.to.0) front)))
+    (eqb-true a.number b.number (and_second (a.from.0 == b.from.0 && a.to.0 == b.to.0) (a.number == b.number) e))
 
 low_by : (b : Bool) (i n : ℕ) (rest : Option ℕ) → cond b (Some i) rest ≡ Some n → (rest ≡ Some n → i + 1 ≤ n) → i ≤ n
 low_by true i n rest e more = let same : i ≡ n = cc in omega (arith, same)
@@ -109,7 +107,8 @@ low : {X : Type 0} (p : X → Bool) (i : ℕ) (xs : List X) (n : ℕ) → positi
 low p i [] n e = absurd (cc)
 low p i (y ∷ xs) n e = low_by (p y) i n (position_from p (i + 1) xs) e (λ f. low p (i + 1) xs n f)
 
-found_by : {X : Type 0} (p : X → Bool) (b : Bool) (i n k : ℕ) (y x : X) (xs : List X) (rest : Option ℕ) → p y ≡ b → cond b (Some i) rest ≡ Some n → n ≡ i + k → slice_get (y ∷ xs) k ≡ Some x → (rest ≡ Some n → i + 1 ≤ n) → ((j : ℕ) → rest ≡ Some n → n ≡ i + 1 + j → slice_get xs j ≡ Some x → p x ≡ true) → p x ≡ true
+found_by : {X : Type 0} (p : X → Bool) (b : Bool) (i n k : ℕ) (y x : X) (xs : List X) (rest : Option ℕ) → p y ≡ b → cond b (Some i) rest ≡ Some n → n ≡ i + k →
+    slice_get (y ∷ xs) k ≡ Some x → (rest ≡ Some n → i + 1 ≤ n) → ((j : ℕ) → rest ≡ Some n → n ≡ i + 1 + j → slice_get xs j ≡ Some x → p x ≡ true) → p x ≡ true
 found_by p true i n zero y x xs rest is found at here later more = let same : y ≡ x = cc in ap p (sym same) ∙ is
 found_by p true i n (suc k) y x xs rest is found at here later more = let same : i ≡ n = cc in absurd (omega (arith, same, at))
 found_by p false i n zero y x xs rest is found at here later more = let above = later found in absurd (omega (arith, above, at))
@@ -127,7 +126,8 @@ both_ways w v e =
     subst (λ (u : Way). same_way u w ≡ true) is (subst (λ (u : Way). same_way w u ≡ true) (sym is) e)
 
 module _ (journal : List Entry) (line : ℕ) (x : Entry) (there : IsInLine journal line x) (w : Way) (way : received_way x.event ≡ Some w) where
-  of_is : (place : ℕ) (y : Entry) (o : Option Packet) → slice_get journal place ≡ Some y → emits w y ≡ true → emitted_of y ≡ o → IfSome (arrow_of journal line x place y o) (IsArrow journal)
+  of_is : (place : ℕ) (y : Entry) (o : Option Packet) → slice_get journal place ≡ Some y → emits w y ≡ true → emitted_of y ≡ o →
+      IfSome (arrow_of journal line x place y o) (IsArrow journal)
   of_is place y None at emits' e = tt
   of_is place y (Some p) at emits' e =
       let same : same_way w (way_of p) ≡ true = subst (λ (o : Option Packet). is_way w (option_map way_of o) ≡ true) e emits' in
@@ -143,7 +143,8 @@ module _ (journal : List Entry) (line : ℕ) (x : Entry) (there : IsInLine journ
         counts' = refl;
       }
 
-  at_is : (place : ℕ) (o : Option Entry) → emitter journal w ≡ Some place → slice_get journal place ≡ o → IfSome (arrow_at journal line x place o) (IsArrow journal)
+  at_is : (place : ℕ) (o : Option Entry) → emitter journal w ≡ Some place → slice_get journal place ≡ o →
+      IfSome (arrow_at journal line x place o) (IsArrow journal)
   at_is place None found at = tt
   at_is place (Some y) found at = of_is place y (emitted_of y) at (found_at (emits w) 0 place place journal y found (omega arith) at) refl
 
@@ -151,7 +152,8 @@ module _ (journal : List Entry) (line : ℕ) (x : Entry) (there : IsInLine journ
   from_is None found = tt
   from_is (Some place) found = at_is place (slice_get journal place) found refl
 
-arrow_is : (journal : List Entry) (line : ℕ) (x : Entry) (o : Option Way) → IsInLine journal line x → received_way x.event ≡ o → IfSome (arrow_by journal line x o) (IsArrow journal)
+arrow_is : (journal : List Entry) (line : ℕ) (x : Entry) (o : Option Way) → IsInLine journal line x → received_way x.event ≡ o →
+    IfSome (arrow_by journal line x o) (IsArrow journal)
 arrow_is journal line x None there way = tt
 arrow_is journal line x (Some w) there way = from_is journal line x there w way (emitter journal w) refl
 
@@ -175,16 +177,21 @@ arrows_join lines journal =
 abbrev is_lost : List Entry → Packet → Bool
 is_lost journal p = not (is_received journal (way_of p))
 
-cross_packets : (journal : List Entry) (p : Packet) (c : Cross) (b : Bool) (rest : List Cross) (more : List Packet) → c.packet ≡ p → map (λ (d : Cross). d.packet) rest ≡ more → map (λ (d : Cross). d.packet) ((if b then [] else c ∷ []) ++ rest) ≡ cond (not b) (p ∷ more) more
+cross_packets : (journal : List Entry) (p : Packet) (c : Cross) (b : Bool) (rest : List Cross) (more : List Packet) → c.packet ≡ p →
+    map (λ (d : Cross). d.packet) rest ≡ more → map (λ (d : Cross). d.packet) ((if b then [] else c ∷ []) ++ rest) ≡ cond (not b) (p ∷ more) more
 cross_packets journal p c true rest more is e = e
 cross_packets journal p c false rest more is e = rw (is, e) refl
 
-cross_more : (journal : List Entry) (line : ℕ) (x : Entry) (o : Option Packet) (rest : List Cross) (more : List Packet) → map (λ (d : Cross). d.packet) rest ≡ filter (is_lost journal) more → map (λ (d : Cross). d.packet) (cross_by journal line x o ++ rest) ≡ filter (is_lost journal) (cons_option o more)
+cross_more : (journal : List Entry) (line : ℕ) (x : Entry) (o : Option Packet) (rest : List Cross) (more : List Packet) →
+    map (λ (d : Cross). d.packet) rest ≡ filter (is_lost journal) more →
+    map (λ (d : Cross). d.packet) (cross_by journal line x o ++ rest) ≡ filter (is_lost journal) (cons_option o more)
 cross_more journal line x None rest more e = e
 cross_more journal line x (Some p) rest more e =
-    cross_packets journal p (record { line = line; packet = p; about = named_by journal (about_of x) }) (is_received journal (way_of p)) rest (filter (is_lost journal) more) refl e
+    cross_packets journal p (record { line = line; packet = p; about = named_by journal (about_of x) }) (is_received journal (way_of p)) rest
+    (filter (is_lost journal) more) refl e
 
-crosses_of : (journal : List Entry) (line : ℕ) (xs : List Entry) → map (λ (c : Cross). c.packet) (numbered (cross journal) line xs) ≡ filter (is_lost journal) (filter_map emitted_of xs)
+crosses_of : (journal : List Entry) (line : ℕ) (xs : List Entry) →
+    map (λ (c : Cross). c.packet) (numbered (cross journal) line xs) ≡ filter (is_lost journal) (filter_map emitted_of xs)
 crosses_of journal line [] = refl
 crosses_of journal line (x ∷ xs) =
     cross_more journal line x (emitted_of x) (numbered (cross journal) (line + 1) xs) (filter_map emitted_of xs) (crosses_of journal (line + 1) xs)
@@ -196,7 +203,8 @@ cross_if : (journal : List Entry) (b : Bool) (c : Cross) → IsCross journal c �
 cross_if journal true c h = tt
 cross_if journal false c h = (h, tt)
 
-cross_is : (journal : List Entry) (line : ℕ) (x : Entry) (o : Option Packet) → IsInLine journal line x → emitted_of x ≡ o → AllByRecursion (IsCross journal) (cross_by journal line x o)
+cross_is : (journal : List Entry) (line : ℕ) (x : Entry) (o : Option Packet) → IsInLine journal line x → emitted_of x ≡ o →
+    AllByRecursion (IsCross journal) (cross_by journal line x o)
 cross_is journal line x None there e = tt
 cross_is journal line x (Some p) there e =
     cross_if journal (is_received journal (way_of p)) (record { line = line; packet = p; about = named_by journal (about_of x) })

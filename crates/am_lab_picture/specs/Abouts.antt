@@ -5,20 +5,7 @@ use Rattle.am_names.specs.declared.Serial.{Serial}
 use Rattle.am_office.specs.declared.Entry.{Entry}
 use Rattle.am_office.specs.declared.Outcome.{Outcome}
 use Rattle.am_office.specs.declared.Outcome.TheVariants as Out
-use Rattle.am_office.specs.declared.Received.{Received}
-use Rattle.am_office.specs.declared.Received.TheVariants as Got
-use Rattle.am_office.specs.Entries.{given_up_of}
-
--- the message that a receipt puts, refuses, judges again, settles, puts back or returns
-abbrev pub received_about : Received → Option Serial
-received_about (Got.Accepted m answer) = Some m.serial
-received_about (Got.Refused m cause answer) = Some m.serial
-received_about (Got.Again serial verdict answer) = Some serial
-received_about Got.Stale = None
-received_about (Got.Delivered serial) = Some serial
-received_about (Got.Requeued serial cause used) = Some serial
-received_about (Got.Returned serial cause) = Some serial
-received_about Got.Nothing = None
+use Rattle.am_office.specs.Entries.{given_up_of, received_about}
 
 -- the message that an outcome names, and of a run the one that ran; where it names none, the one that is given up
 abbrev pub about_by : Option Serial → Outcome → Option Serial

@@ -10,11 +10,12 @@ use Rattle.am_office.specs.declared.Received.TheVariants as Got
 use Rattle.am_lab_picture.specs.declared.data.Arrow.{Arrow}
 use Rattle.am_lab_picture.specs.declared.data.Cross.{Cross}
 use Rattle.am_lab_picture.specs.declared.data.Lines.{Lines}
-use Rattle.am_lab_picture.specs.declared.ways.Way.{Way}
+use Rattle.am_names.specs.declared.Way.{Way}
 use Rattle.am_lab_picture.specs.Abouts.{about_of}
-use Rattle.am_lab_picture.specs.Numbered.{numbered}
+use Rattle.am_lemmas.specs.Numbered.{numbered}
 use Rattle.am_lab_picture.specs.Rows.{entries_in, named_by}
-use Rattle.am_lab_picture.specs.Ways.{emitter, is_received, received_way, way_of}
+use Rattle.am_lab_picture.specs.Ways.{emitter, is_received, received_way}
+use Rattle.am_names.specs.Packets.{way_of}
 
 -- whether a receipt judges a message or settles one
 abbrev pub does_count : Received → Bool

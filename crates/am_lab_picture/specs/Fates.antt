@@ -6,9 +6,9 @@ use Rattle.std.specs.BTreeSet.{BTreeSet}
 use Rattle.std.specs.BTreeSet as sets
 use Rattle.am_names.specs.declared.Cause.{Cause}
 use Rattle.am_names.specs.declared.Serial.{Serial}
-use Rattle.am_names.specs.Names.{same_serial, serial_order}
+use Rattle.am_names.specs.Names.{serial_order}
 use Rattle.am_office.specs.declared.Entry.{Entry}
-use Rattle.am_office.specs.Fates.{cause_if, causes_of, is_accepted, is_run, is_unknown}
+use Rattle.am_office.specs.Fates.{causes_of, is_accepted, is_run, is_unknown}
 use Rattle.am_lab_picture.specs.declared.fates.FateTable.{FateTable}
 
 -- whether a set has a serial
@@ -18,11 +18,6 @@ has set s = sets.contains serial_order set s
 -- the cause that is kept for a serial
 abbrev pub cause_in : BTreeMap Serial Cause → Serial → Option Cause
 cause_in causes s = maps.get serial_order causes s
-
--- the cause of a return, if it is of this serial
-abbrev pub cause_for : Serial → Option (Serial × Cause) → Option Cause
-cause_for s None = None
-cause_for s (Some returned) = cause_if (same_serial s returned.0) returned.1
 
 -- the table says of each serial what the entries say
 pub record AreFates (table : FateTable) (journal : List Entry) : Type 0 where

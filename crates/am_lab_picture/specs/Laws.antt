@@ -8,7 +8,8 @@ use Rattle.am_office.specs.declared.Entry.{Entry}
 use Rattle.am_lab_picture.specs.Abouts.{about_of, reply_of}
 use Rattle.am_lab_picture.specs.Arrows.{arrows, counts, crosses}
 use Rattle.am_lab_picture.specs.Rows.{entries_in, named_by, rows}
-use Rattle.am_lab_picture.specs.Ways.{is_received, receives, way_of}
+use Rattle.am_lab_picture.specs.Ways.{is_received, receives}
+use Rattle.am_names.specs.Packets.{way_of}
 use Rattle.am_lab_picture.specs.declared.data.Arrow.{Arrow}
 use Rattle.am_lab_picture.specs.declared.data.Cross.{Cross}
 use Rattle.am_lab_picture.specs.declared.data.Lines.{Lines}

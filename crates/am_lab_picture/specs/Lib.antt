@@ -3,7 +3,6 @@ pub mod Abouts
 pub mod Ways
 pub mod Fates
 pub mod Rows
-pub mod Numbered
 pub mod Arrows
 pub mod Residencies
 pub mod Spans

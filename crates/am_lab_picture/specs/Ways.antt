@@ -9,13 +9,12 @@ use Rattle.std.specs.List.{list_any, position_from}
 use Rattle.std.specs.Option.{option_map}
 use Rattle.std.specs.Ordering.{nat_cmp, ordering_then}
 use Rattle.am_names.specs.Names.{same_node}
-use Rattle.am_names.specs.Packets.{from_of, number_of, receiver_of}
-use Rattle.am_names.specs.declared.Packet.{Packet}
+use Rattle.am_names.specs.Packets.{way_of}
+use Rattle.am_names.specs.declared.Way.{Way}
 use Rattle.am_office.specs.Entries.{emitted_of}
 use Rattle.am_office.specs.declared.Entry.{Entry}
 use Rattle.am_office.specs.declared.Event.{Event}
 use Rattle.am_office.specs.declared.Event.TheVariants as Events
-use Rattle.am_lab_picture.specs.declared.ways.Way.{Way}
 
 abbrev pub way_order : Way → Way → Ordering
 way_order a b = ordering_then (nat_cmp a.from.0 b.from.0) (ordering_then (nat_cmp a.to.0 b.to.0) (nat_cmp a.number b.number))
@@ -27,9 +26,6 @@ same_way a b = same_node a.from b.from && same_node a.to b.to && (a.number == b.
 abbrev pub is_way : Way → Option Way → Bool
 is_way w None = false
 is_way w (Some other) = same_way w other
-
-abbrev pub way_of : Packet → Way
-way_of p = record { from = from_of p; to = receiver_of p; number = number_of p }
 
 -- the packet that an entry emits
 abbrev pub emitted_way : Entry → Option Way

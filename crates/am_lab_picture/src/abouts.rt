@@ -1,41 +1,10 @@
 //! Which message an entry is about.
 
 ghost use Rattle.am_lab_picture.specs.Abouts as abouts;
-ghost use Rattle.am_office.specs.Entries as does;
 ghost use Rattle.std.specs.Prelude.{◌≡◌};
 
 use am_names::{Message, Serial};
-use am_office::{Call, Entry, Event, Outcome, Received};
-
-fn received_about(received: Received) -> Option<Serial>
-    ensures { result ≡ abouts.received_about received }
-{
-    match received {
-        Received::Accepted { message, .. } | Received::Refused { message, .. } => {
-            Some(message.serial)
-        }
-        Received::Again { serial, .. }
-        | Received::Delivered(serial)
-        | Received::Requeued { serial, .. }
-        | Received::Returned { serial, .. } => Some(serial),
-        Received::Stale | Received::Nothing => None,
-    }
-}
-
-fn given_up_of(entry: &Entry) -> Option<Serial>
-    ensures { result ≡ does.given_up_of entry.now }
-{
-    match (entry.event, entry.outcome) {
-        (
-            Event::Call {
-                call: Call::GiveUp(serial),
-                ..
-            },
-            Outcome::Done,
-        ) => Some(serial),
-        _ => None,
-    }
-}
+use am_office::{Entry, Outcome, given_up_of};
 
 fn about_by(given_up: Option<Serial>, outcome: Outcome) -> Option<Serial>
     ensures { result ≡ abouts.about_by given_up outcome }
@@ -50,7 +19,7 @@ fn about_by(given_up: Option<Serial>, outcome: Outcome) -> Option<Serial>
         Outcome::Zero { serial, .. } | Outcome::Delivered(serial) | Outcome::Unknown(serial) => {
             Some(serial)
         }
-        Outcome::Received { result, .. } => received_about(result),
+        Outcome::Received { result, .. } => result.about(),
         Outcome::Silent
         | Outcome::Done
         | Outcome::Refused(_)

@@ -1,12 +1,12 @@
 //! What became of each message, found by its serial without a look at the entries.
 
-ghost use Rattle.std.specs.Prelude.{◌≡◌, ◌||◌, [], List, IfOk, OnOk, option_to_list};
+ghost use Rattle.std.specs.Prelude.{◌≡◌, ◌||◌, [], List, IfOk, OnOk};
 ghost use Rattle.std.specs.Option.{option_or};
-ghost use Rattle.am_lab_picture.specs.Fates.{AreFates, cause_for, cause_in, has};
+ghost use Rattle.am_lab_picture.specs.Fates.{AreFates, cause_in, has};
+ghost use Rattle.am_office.specs.Fates.{cause_for};
 ghost use Rattle.am_names.specs.Names.{has_serial};
 ghost use Rattle.am_names.specs.declared.Serial.{Serial};
 ghost use Rattle.am_office.specs.Entries.{is_serial, passes};
-ghost use Rattle.am_office.specs.Fates as fates;
 
 use am_names::{Cause, Message, Serial};
 use am_office::{Entry, Fate, accepted_of, return_of, run_of, unknown_of};
@@ -56,19 +56,6 @@ fn note_return(
         causes.insert(serial, cause)?;
     }
     Ok(())
-}
-
-// What became of an accepted message, by what its entries were.
-fn fate_by(cause: Option<Cause>, unknown: bool, ran: bool) -> Fate
-    ensures { result ≡ fates.fate_by (option_to_list cause) unknown ran }
-{
-    match (cause, unknown, ran) {
-        (Some(cause), _, _) => Fate::Returned(cause),
-        (None, true, true) => Fate::UnknownButRan,
-        (None, true, false) => Fate::Unknown,
-        (None, false, true) => Fate::Ran,
-        (None, false, false) => Fate::Pending,
-    }
 }
 
 impl FateTable {
@@ -123,6 +110,6 @@ impl FateTable {
         let cause = self.returned.get(&serial).copied();
         let unknown = self.unknown.contains(&serial);
         let ran = self.ran.contains(&serial);
-        Some(fate_by(cause, unknown, ran))
+        Some(Fate::of(cause, unknown, ran))
     }
 }

@@ -1,8 +1,8 @@
 //! A journal with what is looked up in it.
 
 use crate::fates::FateTable;
-use crate::ways::{Way, emitters_of, received_in};
-use am_names::{NoMemory, Serial};
+use crate::ways::{emitters_of, received_in};
+use am_names::{NoMemory, Serial, Way};
 use am_office::{Entry, Fate, Journal};
 use std::alloc::Global;
 use std::collections::{BTreeMap, BTreeSet};

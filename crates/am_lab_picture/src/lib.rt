@@ -26,4 +26,3 @@ pub use laws::{
 pub use packets::{arrows, crosses};
 pub use residencies::residency_of;
 pub use spans::Track;
-pub use ways::Way;

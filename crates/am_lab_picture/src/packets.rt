@@ -8,9 +8,9 @@ use crate::abouts::about_of;
 use crate::data::{Arrow, Cross, Lines};
 use crate::entries::{entries_in, named_by};
 use crate::journals::IndexedJournal;
-use crate::ways::{Way, received_way, way_of};
+use crate::ways::received_way;
 use am_iface::emitted_of;
-use am_names::Packet;
+use am_names::{Packet, Way};
 use am_office::{Entry, Outcome, Received};
 use std::alloc::{AllocError, Global};
 
@@ -150,7 +150,7 @@ fn put_cross_of(
 ) -> Result<(), AllocError>
     ensures { OnOk result (made.new.items ≡ made.old.items ++ arrows.cross_by journal.now line entry.now (Some packet)) }
 {
-    if journal.is_received(way_of(packet)) {
+    if journal.is_received(packet.way()) {
         return Ok(());
     }
     made.push(Cross {

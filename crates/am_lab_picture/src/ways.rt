@@ -4,46 +4,19 @@ ghost use Rattle.std.specs.Prelude.{◌≡◌, ◌||◌, IfOk, OnOk};
 ghost use Rattle.std.specs.Option.{option_or};
 ghost use Rattle.am_lab_picture.specs.Ways as ways;
 ghost use Rattle.am_lab_picture.specs.Ways.{AreEmitters, AreReceived, has_way, place_for, place_in, receives};
-ghost use Rattle.am_lab_picture.specs.declared.ways.Way.{Way};
+ghost use Rattle.am_names.specs.declared.Way.{Way};
 
 use am_iface::emitted_of;
-use am_names::{NodeId, Packet};
+use am_names::Way;
 use am_office::{Entry, Event};
 use std::alloc::{AllocError, Global};
 use std::collections::{BTreeMap, BTreeSet};
-
-/// A packet, by its link and its number there.
-#[derive(Clone, Copy, PartialEq, Eq, PartialOrd, Ord, Debug)]
-pub struct Way {
-    pub from: NodeId,
-    pub to: NodeId,
-    /// Its place among the packets emitted from `from` to `to`, from 1.
-    pub number: u32,
-}
-
-/// The link and the number of a packet.
-pub(crate) fn way_of(packet: Packet) -> Way
-    ensures { result ≡ ways.way_of packet }
-{
-    match packet {
-        Packet::Parcel(parcel) => Way {
-            from: parcel.from,
-            to: parcel.to,
-            number: parcel.number,
-        },
-        Packet::Answer(answer) => Way {
-            from: answer.from,
-            to: answer.to,
-            number: answer.number,
-        },
-    }
-}
 
 fn emitted_way(entry: &Entry) -> Option<Way>
     ensures { result ≡ ways.emitted_way entry.now }
 {
     match emitted_of(entry) {
-        Some(packet) => Some(way_of(packet)),
+        Some(packet) => Some(packet.way()),
         None => None,
     }
 }

@@ -1,2 +1,2 @@
-pub mod Numbering
+pub mod Joined
 pub mod Reported

@@ -1,5 +1,6 @@
 -- The journal of a report is told by its lines.
-use Rattle.std.proofs.Common.{◌≡◌, ℕ, ◌-◌, ◌<◌, ◌≤◌, ◌^◌, Option, Some, Result, Ok, Err, List, [], ◌++◌, drop, take, length, map, refl, sym, ap, ◌∙◌, subst, arith, length-drop}
+use Rattle.std.proofs.Common.{◌≡◌, ℕ, ◌-◌, ◌<◌, ◌≤◌, ◌^◌, Option, Some, Result, Ok, Err, List, [], ◌++◌, drop, take, length, map, refl, sym, ap, ◌∙◌, subst}
+use Rattle.std.proofs.Common.{arith, length-drop}
 use Rattle.std.proofs.lemmas.List.{take_all}
 use Rattle.std.specs.Global.{Vec}
 use Rattle.std.specs.Prelude.{IfOk}
@@ -8,18 +9,18 @@ use Rattle.am_check.specs.Exact.{IsChecked}
 use Rattle.am_check.specs.Follows.{ids_of}
 use Rattle.am_check.specs.Verdict.{IsReportOf, count_of}
 use Rattle.am_check.proofs.Breaks.{behind, count_fits, count_is, rest_is}
-use Rattle.am_journal_lines.specs.Grammar.{printed}
+use Rattle.am_check_lines.specs.Grammar.{printed}
 use Rattle.am_lexer.specs.Text.{lines_of}
 use Rattle.am_names.specs.declared.Serial.{Serial}
 use Rattle.am_office.specs.declared.Entry.{Entry}
-use Rattle.am_report.specs.Report.{report}
-use Rattle.am_plan.specs.declared.plan.PlanLine.{PlanLine}
+use Rattle.am_office_report.specs.Report.{report}
+use Rattle.am_scenario_plan.specs.declared.plan.PlanLine.{PlanLine}
 use Rattle.am_scenario.specs.Grammar.{grammar}
 use Rattle.am_scenario_types.specs.declared.faults.ScenarioFault.{ScenarioFault}
 use Rattle.am_scenario_types.specs.declared.parts.Form.{Form}
 use Rattle.am_scenario_types.specs.Lists.{ScenarioLists}
 use Rattle.am_scenario_types.specs.Lawful.{IsLawful}
-use Rattle.am_scripts.specs.Layout.{layout_of}
+use Rattle.am_model_scripts.specs.Layout.{layout_of}
 use Rattle.am_lab_journal.specs.Lines.{AreLines, HasEnd}
 use Rattle.am_lab_journal.proofs.Again.{are_lines}
 use Rattle.am_lab_reasons.specs.Reasons.{Tells, TellsOf, reasons}
@@ -31,11 +32,13 @@ pub record IsReported (form : Form) (s : ScenarioLists) (bytes : List ℕ) (jour
   pub count : count_of (lines_of bytes) ≡ Some (length journal)
   pub low : length journal ≤ length bytes
 
-pub reported : (form : Form) (s : ScenarioLists) → IsLawful s → (bytes : List ℕ) → length bytes < 2 ^ 31 → (r : IsReportOf form s bytes) → IsReported form s bytes r.journal
+pub reported : (form : Form) (s : ScenarioLists) → IsLawful s → (bytes : List ℕ) → length bytes < 2 ^ 31 → (r : IsReportOf form s bytes) →
+    IsReported form s bytes r.journal
 reported form s lawful bytes few r =
     let ids = ids_of s in
     let low : length r.journal ≤ length bytes = subst (λ (b : List ℕ). length r.journal ≤ length b) (sym r.text) (count_fits ids r.journal) in
-    let lines : drop 2 (lines_of bytes) ≡ map printed r.journal ++ lines_of (behind ids r.journal) = ap (λ (b : List ℕ). drop 2 (lines_of b)) r.text ∙ rest_is ids r.journal in
+    let lines : drop 2 (lines_of bytes) ≡ map printed r.journal ++ lines_of (behind ids r.journal) = ap (λ (b : List ℕ). drop 2 (lines_of b)) r.text
+    ∙ rest_is ids r.journal in
     record {
       left = lines_of (behind ids r.journal);
       are = are_lines form s lawful (drop 2 (lines_of bytes)) r.journal (lines_of (behind ids r.journal)) (record { begun = r.begun; lines' = lines });
@@ -53,11 +56,14 @@ same_scenario a b r e f = cc
 
 -- ---- what is told
 
-told_if : {E : Type 0} (r : Result (Vec ℕ) E) (P Q : List ℕ → Type 0) → ((out : List ℕ) → P out → Q out) → IfOk r (λ (out : Vec ℕ). P out.items) → IfOk r (λ (out : Vec ℕ). Q out.items)
+told_if : {E : Type 0} (r : Result (Vec ℕ) E) (P Q : List ℕ → Type 0) → ((out : List ℕ) → P out → Q out) → IfOk r (λ (out : Vec ℕ). P out.items) →
+    IfOk r (λ (out : Vec ℕ). Q out.items)
 told_if (Ok out) P Q f h = f out.items h
 told_if (Err e) P Q f h = tt
 
-pub told_of : {E : Type 0} (form : Form) (s : ScenarioLists) (bytes : List ℕ) (serial : Serial) (r : IsReportOf form s bytes) (plan : List PlanLine) (journal : List Entry) (result : Result (Vec ℕ) E) → plan ≡ s.plan → journal ≡ r.journal → IfOk result (λ (out : Vec ℕ). out.items ≡ reasons plan journal serial) → IfOk result (λ (out : Vec ℕ). TellsOf form s bytes serial out.items)
+pub told_of : {E : Type 0} (form : Form) (s : ScenarioLists) (bytes : List ℕ) (serial : Serial) (r : IsReportOf form s bytes) (plan : List PlanLine)
+    (journal : List Entry) (result : Result (Vec ℕ) E) → plan ≡ s.plan → journal ≡ r.journal →
+    IfOk result (λ (out : Vec ℕ). out.items ≡ reasons plan journal serial) → IfOk result (λ (out : Vec ℕ). TellsOf form s bytes serial out.items)
 told_of form s bytes serial r plan journal result same is h =
     told_if result (λ (out : List ℕ). out ≡ reasons plan journal serial) (λ (out : List ℕ). TellsOf form s bytes serial out)
     (λ out p. record {
@@ -72,11 +78,16 @@ told_of form s bytes serial r plan journal result same is h =
 one_place : (a b : ℕ) (o : Option ℕ) → o ≡ Some a → o ≡ Some b → a ≡ b
 one_place a b o e f = cc
 
-pub tells_all : {E : Type 0} (form : Form) (text : List ℕ) (serial : Serial) → IsChecked form text → (place : ℕ) (bytes : List ℕ) (s : ScenarioLists) → place_of text ≡ Some place → bytes ≡ drop place text → grammar form (take place text) ≡ Ok s → (result : Result (Vec ℕ) E) → ((f : Form) → IsReportOf f s bytes → IfOk result (λ (out : Vec ℕ). TellsOf f s bytes serial out.items)) → IfOk result (λ (out : Vec ℕ). Tells form text serial out.items)
+pub tells_all : {E : Type 0} (form : Form) (text : List ℕ) (serial : Serial) → IsChecked form text → (place : ℕ) (bytes : List ℕ) (s : ScenarioLists) →
+    place_of text ≡ Some place → bytes ≡ drop place text → grammar form (take place text) ≡ Ok s → (result : Result (Vec ℕ) E) →
+    ((f : Form) → IsReportOf f s bytes → IfOk result (λ (out : Vec ℕ). TellsOf f s bytes serial out.items)) →
+    IfOk result (λ (out : Vec ℕ). Tells form text serial out.items)
 tells_all form text serial k place bytes s at behind' spelled result f =
     let e : k.place ≡ place = one_place k.place place (place_of text) k.place' at in
-    let same : k.scenario ≡ s = same_scenario k.scenario s (grammar form (take place text)) (subst (λ (p : ℕ). grammar form (take p text) ≡ Ok k.scenario) e k.spelled) spelled in
-    let report' = subst (λ (t : ScenarioLists). IsReportOf form t (drop place text)) same (subst (λ (p : ℕ). IsReportOf form k.scenario (drop p text)) e k.report) in
+    let same : k.scenario ≡ s = same_scenario k.scenario s (grammar form (take place text))
+    (subst (λ (p : ℕ). grammar form (take p text) ≡ Ok k.scenario) e k.spelled) spelled in
+    let report' = subst (λ (t : ScenarioLists). IsReportOf form t (drop place text)) same
+    (subst (λ (p : ℕ). IsReportOf form k.scenario (drop p text)) e k.report) in
     told_if result (λ (out : List ℕ). TellsOf form s bytes serial out) (λ (out : List ℕ). Tells form text serial out)
     (λ out p. record { place = place; place' = at; scenario = s; spelled = spelled; told = subst (λ (b : List ℕ). TellsOf form s b serial out) behind' p })
     (f form (subst (λ (b : List ℕ). IsReportOf form s b) (sym behind') report'))

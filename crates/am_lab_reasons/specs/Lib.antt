@@ -1,4 +1,3 @@
-pub mod Numbered
 pub mod Touches
 pub mod Packets
 pub mod Reasons

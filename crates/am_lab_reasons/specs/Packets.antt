@@ -9,12 +9,12 @@ use Rattle.am_office.specs.declared.Entry.{Entry}
 use Rattle.am_office.specs.declared.Event.{Event}
 use Rattle.am_office.specs.declared.Event.TheVariants as Events
 use Rattle.am_model.specs.Packets.{from_of, receiver_of}
-use Rattle.am_plan.specs.Shape.{fault_at, number_of}
-use Rattle.am_plan.specs.declared.plan.LinkFault.{LinkFault}
-use Rattle.am_plan.specs.declared.plan.LinkFault.TheVariants.{Lose, Repeat, Late}
-use Rattle.am_plan.specs.declared.plan.PlanLine.{PlanLine}
-use Rattle.am_text.specs.Words.{spaced}
-use Rattle.am_lab_reasons.specs.Numbered.{numbered}
+use Rattle.am_scenario_plan.specs.Shape.{fault_at, number_of}
+use Rattle.am_scenario_plan.specs.declared.plan.LinkFault.{LinkFault}
+use Rattle.am_scenario_plan.specs.declared.plan.LinkFault.TheVariants.{Lose, Repeat, Late}
+use Rattle.am_scenario_plan.specs.declared.plan.PlanLine.{PlanLine}
+use Rattle.am_office_text.specs.Words.{spaced}
+use Rattle.am_lemmas.specs.Numbered.{numbered}
 
 -- an event receives the packet with this number of the link from one node to another
 abbrev pub receives : NodeId → NodeId → ℕ → Event → Bool

@@ -3,7 +3,7 @@ use Rattle.std.specs.Prelude.{◌≡◌, ℕ, Option, Some, None, List, [], ◌+
 use Rattle.std.specs.Fmt.{decimal}
 use Rattle.am_check.specs.Cut.{place_of}
 use Rattle.am_check.specs.Follows.{IsBegun, IsEnded, ids_of}
-use Rattle.am_entry_lines.specs.Lines.{line_of}
+use Rattle.am_office_lines.specs.Lines.{line_of}
 use Rattle.am_names.specs.declared.Cause.{Cause}
 use Rattle.am_names.specs.declared.Cause.TheVariants as Causes
 use Rattle.am_names.specs.declared.Serial.{Serial}
@@ -12,13 +12,13 @@ use Rattle.am_office.specs.declared.endings.Fate.{Fate}
 use Rattle.am_office.specs.declared.endings.Fate.TheVariants as Fates
 use Rattle.am_office.specs.Entries.{emitted_of}
 use Rattle.am_office.specs.Fates.{fate}
-use Rattle.am_plan.specs.declared.plan.PlanLine.{PlanLine}
-use Rattle.am_report.specs.Report.{report}
+use Rattle.am_scenario_plan.specs.declared.plan.PlanLine.{PlanLine}
+use Rattle.am_office_report.specs.Report.{report}
 use Rattle.am_scenario.specs.Laws.{Spells}
 use Rattle.am_scenario_types.specs.declared.parts.Form.{Form}
 use Rattle.am_scenario_types.specs.Lists.{ScenarioLists}
-use Rattle.am_text.specs.Words.{line, serial}
-use Rattle.am_lab_reasons.specs.Numbered.{numbered}
+use Rattle.am_office_text.specs.Words.{line, serial}
+use Rattle.am_lemmas.specs.Numbered.{numbered}
 use Rattle.am_lab_reasons.specs.Packets.{packet_line}
 use Rattle.am_lab_reasons.specs.Touches.{touches}
 

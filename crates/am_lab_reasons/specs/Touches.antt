@@ -6,20 +6,7 @@ use Rattle.am_names.specs.Names.{same_serial}
 use Rattle.am_office.specs.declared.Entry.{Entry}
 use Rattle.am_office.specs.declared.Outcome.{Outcome}
 use Rattle.am_office.specs.declared.Outcome.TheVariants as Out
-use Rattle.am_office.specs.declared.Received.{Received}
-use Rattle.am_office.specs.declared.Received.TheVariants as Got
-use Rattle.am_office.specs.Entries.{given_up_of, is_serial}
-
--- what came of a receipt names the message: it was put, refused, judged before, delivered, put back or returned
-abbrev pub names_received : Serial → Received → Bool
-names_received s (Got.Accepted m answer) = same_serial s m.serial
-names_received s (Got.Refused m cause answer) = same_serial s m.serial
-names_received s (Got.Again t verdict answer) = same_serial s t
-names_received s Got.Stale = false
-names_received s (Got.Delivered t) = same_serial s t
-names_received s (Got.Requeued t cause used) = same_serial s t
-names_received s (Got.Returned t cause) = same_serial s t
-names_received s Got.Nothing = false
+use Rattle.am_office.specs.Entries.{given_up_of, is_serial, received_about}
 
 abbrev pub is_reply : Serial → Option Message → Bool
 is_reply s None = false
@@ -45,7 +32,7 @@ names s (Out.Returned m cause) = same_serial s m.serial
 names s (Out.Sent m peer channel seq attempt number) = same_serial s m.serial
 names s (Out.Delivered t) = same_serial s t
 names s (Out.Unknown t) = same_serial s t
-names s (Out.Received channel seq attempt result) = names_received s result
+names s (Out.Received channel seq attempt result) = is_serial s (received_about result)
 
 abbrev pub touches : Serial → Entry → Bool
 touches s x = names s x.outcome || is_serial s (given_up_of x)

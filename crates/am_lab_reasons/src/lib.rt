@@ -14,7 +14,8 @@ mod told;
 mod touches;
 
 use crate::told::put_reasons;
-use am_lab_journal::{place_of, reach_end};
+use am_check::place_of;
+use am_lab_journal::reach_end;
 use am_machine::Cluster;
 use am_names::{NoMemory, Serial};
 use am_office::Journal;
@@ -49,7 +50,8 @@ fn reasons_of(
 {
     let mut cluster = Cluster::new(alloc, scenario)?;
     reach_end(&mut cluster, bytes)?;
-    let journal = cluster.journal(alloc)?;
+    let logged = cluster.journal(alloc)?;
+    let journal = logged.copied(alloc)?;
     text_of(alloc, &scenario.plan, &journal, serial)
 }
 

@@ -1,26 +1,17 @@
 //! What became of a packet.
 
 ghost use Rattle.am_lab_reasons.specs.Packets.{is_received, never, packet_line, receipt, received_lines, received_or, receives, way_line};
-ghost use Rattle.am_lab_reasons.specs.Numbered.{numbered};
-ghost use Rattle.am_plan.specs.Shape as shapes;
-ghost use Rattle.am_plan.specs.declared.plan.LinkFault.TheVariants.{Late};
-ghost use Rattle.am_model.specs.Packets.{from_of, receiver_of};
+ghost use Rattle.am_lemmas.specs.Numbered.{numbered};
+ghost use Rattle.am_scenario_plan.specs.Shape as shapes;
+ghost use Rattle.am_scenario_plan.specs.declared.plan.LinkFault.TheVariants.{Late};
 ghost use Rattle.std.specs.Prelude.{◌≡◌, ◌<◌, ◌^◌, ◌++◌, OnOk, Some, length};
 
-use am_names::{NodeId, Packet};
+use am_names::{Packet, Way};
 use am_office::{Entry, Event};
-use am_plan::{LinkFault, PlanLine};
-use am_text::Piece::{Number, Text};
-use am_text::{count, put_end, put_spaced, put_word, small};
+use am_office_text::Piece::{Number, Text};
+use am_office_text::{count, put_end, put_spaced, put_word, small};
+use am_scenario_plan::{LinkFault, PlanLine};
 use std::alloc::AllocError;
-
-/// The link and the number of a packet.
-#[derive(Clone, Copy)]
-pub(crate) struct Way {
-    pub(crate) from: NodeId,
-    pub(crate) to: NodeId,
-    pub(crate) number: u32,
-}
 
 fn receives(way: Way, event: Event) -> bool
     ensures { result ≡ receives way.from way.to way.number event }
@@ -146,25 +137,6 @@ fn put_way(
     put_end(out)
 }
 
-fn way_of(packet: Packet) -> Way
-    ensures from { result.from ≡ from_of packet }
-    ensures to { result.to ≡ receiver_of packet }
-    ensures number { result.number ≡ shapes.number_of packet }
-{
-    match packet {
-        Packet::Parcel(parcel) => Way {
-            from: parcel.from,
-            to: parcel.to,
-            number: parcel.number,
-        },
-        Packet::Answer(answer) => Way {
-            from: answer.from,
-            to: answer.to,
-            number: answer.number,
-        },
-    }
-}
-
 /// Appends what became of a packet, if there is one.
 pub(crate) fn put_packet(
     out: &mut Vec<u8>,
@@ -176,7 +148,7 @@ pub(crate) fn put_packet(
     ensures { OnOk result (out.new.items ≡ out.old.items ++ packet_line plan.now entries.now packet) }
 {
     match packet {
-        Some(packet) => put_way(out, plan, entries, way_of(packet)),
+        Some(packet) => put_way(out, plan, entries, packet.way()),
         None => Ok(()),
     }
 }

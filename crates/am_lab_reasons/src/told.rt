@@ -1,18 +1,18 @@
 //! What became of a message, and why.
 
 ghost use Rattle.am_lab_reasons.specs.Reasons.{cause_text, end_text, ending, entry_lines, fate_text, reasons, touching_lines};
-ghost use Rattle.am_lab_reasons.specs.Numbered.{numbered};
+ghost use Rattle.am_lemmas.specs.Numbered.{numbered};
 ghost use Rattle.std.specs.Prelude.{◌≡◌, ◌<◌, ◌^◌, ◌++◌, OnOk, length};
 
 use crate::packets::put_packet;
 use crate::touches::touches;
-use am_entry_lines::entry_line;
 use am_iface::emitted_of;
 use am_names::{Cause, NoMemory, Serial};
 use am_office::{Entry, Fate, Journal, fate};
-use am_plan::PlanLine;
-use am_text::Piece::{Number, Text};
-use am_text::{Piece, put_word};
+use am_office_lines::entry_line;
+use am_office_text::Piece::{Number, Text};
+use am_office_text::{Piece, put_word};
+use am_scenario_plan::PlanLine;
 use std::alloc::AllocError;
 
 // Appends an entry with the number of its line, and what became of the packet that it emits.

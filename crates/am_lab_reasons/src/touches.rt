@@ -1,24 +1,18 @@
 //! Which entries touch a message.
 
-ghost use Rattle.am_lab_reasons.specs.Touches.{is_reply, names, names_received, touches};
-ghost use Rattle.am_office.specs.Entries.{given_up_of, is_serial};
+ghost use Rattle.am_lab_reasons.specs.Touches.{is_reply, names, touches};
+ghost use Rattle.am_office.specs.Entries.{is_serial};
 ghost use Rattle.std.specs.Prelude.{◌≡◌};
 
 use am_names::{Message, Serial};
-use am_office::{Call, Entry, Event, Outcome, Received};
+use am_office::{Entry, Outcome, given_up_of};
 
-fn names_received(serial: Serial, received: Received) -> bool
-    ensures { result ≡ names_received serial received }
+fn is_serial(serial: Serial, other: Option<Serial>) -> bool
+    ensures { result ≡ is_serial serial other }
 {
-    match received {
-        Received::Accepted { message, .. } | Received::Refused { message, .. } => {
-            serial == message.serial
-        }
-        Received::Again { serial: other, .. }
-        | Received::Delivered(other)
-        | Received::Requeued { serial: other, .. }
-        | Received::Returned { serial: other, .. } => serial == other,
-        Received::Stale | Received::Nothing => false,
+    match other {
+        Some(other) => serial == other,
+        None => false,
     }
 }
 
@@ -46,7 +40,7 @@ fn names(serial: Serial, outcome: Outcome) -> bool
         | Outcome::Sent { message, .. } => serial == message.serial,
         Outcome::Zero { serial: other, .. } | Outcome::Delivered(other) | Outcome::Unknown(other) =>
             serial == other,
-        Outcome::Received { result, .. } => names_received(serial, result),
+        Outcome::Received { result, .. } => is_serial(serial, result.about()),
         Outcome::Silent
         | Outcome::Done
         | Outcome::Refused(_)
@@ -58,24 +52,9 @@ fn names(serial: Serial, outcome: Outcome) -> bool
     }
 }
 
-fn gives_up(serial: Serial, entry: &Entry) -> bool
-    ensures { result ≡ is_serial serial (given_up_of entry.now) }
-{
-    match (entry.event, entry.outcome) {
-        (
-            Event::Call {
-                call: Call::GiveUp(other),
-                ..
-            },
-            Outcome::Done,
-        ) => serial == other,
-        _ => false,
-    }
-}
-
 /// Whether an entry touches a message.
 pub(crate) fn touches(serial: Serial, entry: &Entry) -> bool
     ensures { result ≡ touches serial entry.now }
 {
-    names(serial, entry.outcome) || gives_up(serial, entry)
+    names(serial, entry.outcome) || is_serial(serial, given_up_of(entry))
 }

@@ -15,9 +15,11 @@ use Rattle.am_office.specs.declared.Event.TheVariants as Events
 use Rattle.am_office.specs.Entries.{share_part}
 use Rattle.am_model.specs.Choice.{first_holding}
 use Rattle.am_model.specs.Endpoint.{State, front}
-use Rattle.am_model.specs.History.{channel_for, channel_to, failing, is_actor_in_range, is_call_in_range, is_home, is_in_range, is_later, is_packet_before, is_taken_before, state_of}
+use Rattle.am_model.specs.History.{channel_for, channel_to, failing, is_actor_in_range, is_call_in_range, is_home, is_in_range, is_later, is_packet_before}
+use Rattle.am_model.specs.History.{is_taken_before, state_of}
 use Rattle.am_model.specs.Layout.{Layout, declared}
-use Rattle.am_model.specs.Tables.{bind_table, call_table, carry_table, drain_table, expire_table, load_table, page_in_table, page_out_table, unload_table, want_table}
+use Rattle.am_model.specs.Tables.{bind_table, call_table, carry_table, drain_table, expire_table, load_table, page_in_table, page_out_table, unload_table}
+use Rattle.am_model.specs.Tables.{want_table}
 use Rattle.am_lab_scenario.specs.Replays.{by_anyone}
 use Rattle.am_lab_replays.specs.Callers.{callers_aside, made_by_anyone}
 use Rattle.am_lab_replays.proofs.Readings.{bound_stays, channel_stays, frame_stays, link_stays, state_stays}
@@ -25,7 +27,9 @@ use Rattle.am_lab_replays.proofs.Roles.{share_stays, whoever}
 
 -- ---- conditions
 
-front_channel_stays : (layout : Layout) (node : NodeId) (past : List Entry) (end : EndpointId) → channel_for layout node (callers_aside past) (front (state_of layout (callers_aside past) end)) ≡ channel_for layout node past (front (state_of layout past end))
+front_channel_stays : (layout : Layout) (node : NodeId) (past : List Entry) (end : EndpointId) →
+    channel_for layout node (callers_aside past) (front (state_of layout (callers_aside past) end)) ≡ channel_for layout node past
+    (front (state_of layout past end))
 front_channel_stays layout node past end =
     ap (λ (s : State). channel_for layout node (callers_aside past) (front s)) (state_stays layout past end)
     ∙ channel_stays layout node past (front (state_of layout past end))
@@ -40,8 +44,10 @@ condition_stays layout past (Events.Want actor end) = λ i. first_holding (want_
 condition_stays layout past (Events.Carry end) = λ i. first_holding ((not layout.direct, Needs.NotDirect) ∷ carry_table (state_stays layout past end i))
 condition_stays layout past (Events.Bind node end) =
     λ i. on_packets layout (bind_table (is_home layout end node) (state_stays layout past end i) (front_channel_stays layout node past end i))
-condition_stays layout past (Events.Expire node peer channel) = λ i. on_packets layout (expire_table (is_some (bound_stays (channel_to node peer channel) past i)))
-condition_stays layout past (Events.Receive node peer number) = λ i. on_packets layout ((nat_lt (length (link_stays peer node past i)) number, Needs.NoPacket) ∷ [])
+condition_stays layout past (Events.Expire node peer channel) =
+    λ i. on_packets layout (expire_table (is_some (bound_stays (channel_to node peer channel) past i)))
+condition_stays layout past (Events.Receive node peer number) =
+    λ i. on_packets layout ((nat_lt (length (link_stays peer node past i)) number, Needs.NoPacket) ∷ [])
 condition_stays layout past (Events.Drain node end) = λ i. on_packets layout (drain_table (is_home layout end node) (state_stays layout past end i))
 condition_stays layout past (Events.Unload node end) = λ i. on_packets layout (unload_table (is_home layout end node) (state_stays layout past end i))
 condition_stays layout past (Events.Load node end frame) =
@@ -83,7 +89,8 @@ taken_stays : (stamp : ℕ) (past : List Entry) (event : Event) → is_taken_bef
 taken_stays stamp past event =
     whoever (is_taken_before stamp (callers_aside past)) (λ actor end call. refl) (λ actor end. refl) event ∙ taken_after stamp past event
 
-after_parts : (past : List Entry) (x : Entry) → list_all (λ (y : Entry). not (share_part (made_by_anyone x) y) || nat_lt y.stamp x.stamp) (callers_aside past) ≡ list_all (λ (y : Entry). not (share_part x y) || nat_lt y.stamp x.stamp) past
+after_parts : (past : List Entry) (x : Entry) → list_all (λ (y : Entry). not (share_part (made_by_anyone x) y) || nat_lt y.stamp x.stamp) (callers_aside past) ≡
+    list_all (λ (y : Entry). not (share_part x y) || nat_lt y.stamp x.stamp) past
 after_parts past x =
     list_all-map (λ (y : Entry). not (share_part (made_by_anyone x) y) || nat_lt y.stamp x.stamp) made_by_anyone past
     ∙ (λ i. list_all (λ (y : Entry). not (share_stays x y i) || nat_lt y.stamp x.stamp) past)

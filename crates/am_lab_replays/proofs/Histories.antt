@@ -2,7 +2,7 @@
 use Rattle.std.proofs.Common.{List, [], ◌∷◌, ◌++◌, sym, ◌∙◌, subst}
 use Rattle.std.proofs.lemmas.List.{map_push}
 use Rattle.am_office.specs.declared.Entry.{Entry}
-use Rattle.am_laws_steps.specs.Laws.{IsUnstopped}
+use Rattle.am_model_steps.specs.Laws.{IsUnstopped}
 use Rattle.am_model.specs.History.{EachAfter, MayFollow}
 use Rattle.am_model.specs.Layout.{Layout}
 use Rattle.am_lab_replays.specs.Callers.{CallersChangeNothing, CallersStopNothing, callers_aside, made_by_anyone}
@@ -10,7 +10,8 @@ use Rattle.am_lab_replays.proofs.Enabled.{failing_stays, later_stays, range_stay
 use Rattle.am_lab_replays.proofs.Outcomes.{outcome_stays, stop_stays}
 
 -- what holds of each entry with its caller aside, after those before it with theirs
-each_aside : (May : List Entry → Entry → Type 0) → ((past : List Entry) (x : Entry) → May past x → May (callers_aside past) (made_by_anyone x)) → (past xs : List Entry) → EachAfter May past xs → EachAfter May (callers_aside past) (callers_aside xs)
+each_aside : (May : List Entry → Entry → Type 0) → ((past : List Entry) (x : Entry) → May past x → May (callers_aside past) (made_by_anyone x)) →
+    (past xs : List Entry) → EachAfter May past xs → EachAfter May (callers_aside past) (callers_aside xs)
 each_aside May step past [] h = tt
 each_aside May step past (x ∷ xs) h =
     let rest = each_aside May step (past ++ x ∷ []) xs h.1 in

@@ -44,5 +44,6 @@ map-reverse f (x ∷ xs) =
     ∙ sym (reverse-append (f x ∷ []) (map f xs))
 
 -- the last one that passes
-pub last_stays : {X : Type 0} (f : X → X) (p : X → Bool) → ((x : X) → p (f x) ≡ p x) → (xs : List X) → find p (reverse (map f xs)) ≡ option_map f (find p (reverse xs))
+pub last_stays : {X : Type 0} (f : X → X) (p : X → Bool) → ((x : X) → p (f x) ≡ p x) → (xs : List X) →
+    find p (reverse (map f xs)) ≡ option_map f (find p (reverse xs))
 last_stays f p same xs = ap (find p) (sym (map-reverse f xs)) ∙ find_stays f p same (reverse xs)

@@ -20,7 +20,8 @@ use Rattle.am_model.specs.Calls.{outcome_of_call}
 use Rattle.am_model.specs.Changes.{flying_of}
 use Rattle.am_model.specs.Channels.{Again, Arrival, Channel, Fresh, Mark, Stale, arrival, bound_message, emitted, mark}
 use Rattle.am_model.specs.Endpoint.{State, front, verdict}
-use Rattle.am_model.specs.History.{arrive, bind, bind_to, bounced, carry, channel_for, channel_to, counts, decided, expire, is_answered, judged, next_number, outcome_of, page, receive, settle, settle_by, state_of}
+use Rattle.am_model.specs.History.{arrive, bind, bind_to, bounced, carry, channel_for, channel_to, counts, decided, expire, is_answered, judged, next_number}
+use Rattle.am_model.specs.History.{outcome_of, page, receive, settle, settle_by, state_of}
 use Rattle.am_model.specs.Layout.{Fault, Layout, home}
 use Rattle.am_model.specs.Steps.{full_by, full_log, is_end_full, least_such, stop, stop_by}
 use Rattle.am_model.specs.Tables.{may_try, page_ended, tries_ended}
@@ -28,7 +29,8 @@ use Rattle.am_model.specs.declared.Queued.{Queued}
 use Rattle.am_lab_scenario.specs.Replays.{by_anyone}
 use Rattle.am_lab_replays.specs.Callers.{callers_aside}
 use Rattle.am_lab_replays.proofs.Enabled.{failing_stays}
-use Rattle.am_lab_replays.proofs.Readings.{attempt_stays, bound_stays, channel_stays, end_log_stays, link_stays, mark_stays, next_stays, node_log_stays, pages_stay, sequence_stays, state_stays}
+use Rattle.am_lab_replays.proofs.Readings.{attempt_stays, bound_stays, channel_stays, end_log_stays, link_stays, mark_stays, next_stays, node_log_stays}
+use Rattle.am_lab_replays.proofs.Readings.{pages_stay, sequence_stays, state_stays}
 use Rattle.am_lab_replays.proofs.Roles.{ends_stay, node_stays, whoever}
 
 -- ---- carries, binds and time-outs
@@ -37,7 +39,8 @@ carry_stays : (layout : Layout) (past : List Entry) (q : Option Queued) → carr
 carry_stays layout past None = refl
 carry_stays layout past (Some q) = λ i. judged layout.bounces q.message q.bounces (verdict (state_stays layout past q.message.dest i) q.message)
 
-bind_to_stays : (node : NodeId) (past : List Entry) (q : Queued) (peer : Option NodeId) (channel : Option ℕ) → bind_to node (callers_aside past) q peer channel ≡ bind_to node past q peer channel
+bind_to_stays : (node : NodeId) (past : List Entry) (q : Queued) (peer : Option NodeId) (channel : Option ℕ) →
+    bind_to node (callers_aside past) q peer channel ≡ bind_to node past q peer channel
 bind_to_stays node past q (Some peer) (Some channel) =
     λ i. Out.Sent q.message peer channel (sequence_stays (channel_to node peer channel) past i + 1) 0 (next_stays node peer past i)
 bind_to_stays node past q (Some peer) None = refl
@@ -49,7 +52,8 @@ bind_stays layout node past (Some q) =
     ap (bind_to node (callers_aside past) q (home layout q.message.dest)) (channel_stays layout node past (Some q))
     ∙ bind_to_stays node past q (home layout q.message.dest) (channel_for layout node past (Some q))
 
-expire_stays : (layout : Layout) (node peer : NodeId) (channel : ℕ) (past : List Entry) (m : Option Message) → expire layout node peer channel (callers_aside past) m ≡ expire layout node peer channel past m
+expire_stays : (layout : Layout) (node peer : NodeId) (channel : ℕ) (past : List Entry) (m : Option Message) →
+    expire layout node peer channel (callers_aside past) m ≡ expire layout node peer channel past m
 expire_stays layout node peer channel past None = refl
 expire_stays layout node peer channel past (Some m) =
     let c = channel_to node peer channel in
@@ -59,19 +63,22 @@ expire_stays layout node peer channel past (Some m) =
 
 -- ---- receipts
 
-arrive_stays : (layout : Layout) (past : List Entry) (m : Message) (node peer : NodeId) (a : Arrival) → arrive layout (callers_aside past) m (next_number node peer (callers_aside past)) a ≡ arrive layout past m (next_number node peer past) a
+arrive_stays : (layout : Layout) (past : List Entry) (m : Message) (node peer : NodeId) (a : Arrival) →
+    arrive layout (callers_aside past) m (next_number node peer (callers_aside past)) a ≡ arrive layout past m (next_number node peer past) a
 arrive_stays layout past m node peer Stale = refl
 arrive_stays layout past m node peer (Again v) = λ i. Got.Again m.serial v (next_stays node peer past i)
 arrive_stays layout past m node peer Fresh = λ i. decided m (next_stays node peer past i) (verdict (state_stays layout past m.dest i) m)
 
-settle_stays : (layout : Layout) (c : Channel) (past : List Entry) (p : AnswerPacket) (m : Option Message) → settle layout c (callers_aside past) p m ≡ settle layout c past p m
+settle_stays : (layout : Layout) (c : Channel) (past : List Entry) (p : AnswerPacket) (m : Option Message) →
+    settle layout c (callers_aside past) p m ≡ settle layout c past p m
 settle_stays layout c past p None = refl
 settle_stays layout c past p (Some m) =
     λ i. if (p.seq == sequence_stays c past i) && counts p.verdict (p.attempt == attempt_stays c past i)
     then settle_by layout.bounces m (bounced (flying_of m.serial (state_stays layout past m.serial.source i).body.in_flight)) p.verdict
     else Got.Nothing
 
-receive_stays : (layout : Layout) (node peer : NodeId) (past : List Entry) (p : Option Packet) → receive layout node peer (callers_aside past) p ≡ receive layout node peer past p
+receive_stays : (layout : Layout) (node peer : NodeId) (past : List Entry) (p : Option Packet) →
+    receive layout node peer (callers_aside past) p ≡ receive layout node peer past p
 receive_stays layout node peer past None = refl
 receive_stays layout node peer past (Some (Packets.Parcel p)) =
     let c = channel_to node peer p.channel in
@@ -109,20 +116,23 @@ made_stays layout past (Events.Load node end frame) = refl
 made_stays layout past (Events.PageOut node end) = page_stays layout node past
 made_stays layout past (Events.PageIn node end) = page_stays layout node past
 
-pub outcome_stays : (layout : Layout) (past : List Entry) (event : Event) → outcome_of layout (callers_aside past) (by_anyone event) ≡ outcome_of layout past event
+pub outcome_stays : (layout : Layout) (past : List Entry) (event : Event) →
+    outcome_of layout (callers_aside past) (by_anyone event) ≡ outcome_of layout past event
 outcome_stays layout past event =
     whoever (outcome_of layout (callers_aside past)) (λ actor end call. refl) (λ actor end. refl) event ∙ made_stays layout past event
 
 -- ---- full logs
 
-full_by_stays : (layout : Layout) (past : List Entry) (e : Option EndpointId) (interface : Option NodeId) → full_by layout (callers_aside past) e interface ≡ full_by layout past e interface
+full_by_stays : (layout : Layout) (past : List Entry) (e : Option EndpointId) (interface : Option NodeId) →
+    full_by layout (callers_aside past) e interface ≡ full_by layout past e interface
 full_by_stays layout past (Some e) interface = refl
 full_by_stays layout past None (Some node) = λ i. if nat_le layout.log (node_log_stays past node i) then Some (Parts.Interface node) else None
 full_by_stays layout past None None = refl
 
 full_log_stays : (layout : Layout) (past : List Entry) (event : Event) → full_log layout (callers_aside past) (by_anyone event) ≡ full_log layout past event
 full_log_stays layout past event =
-    let touched : ends_touched (by_anyone event) (outcome_of layout (callers_aside past) (by_anyone event)) ≡ ends_touched event (outcome_of layout past event) =
+    let touched : ends_touched (by_anyone event) (outcome_of layout (callers_aside past) (by_anyone event)) ≡ ends_touched event
+    (outcome_of layout past event) =
     ends_stay event (outcome_of layout (callers_aside past) (by_anyone event)) ∙ ap (ends_touched event) (outcome_stays layout past event) in
     (λ i. full_by layout (callers_aside past) (least_such (λ (e : EndpointId). nat_le layout.log (end_log_stays past e i)) (touched i)) (node_stays event i))
     ∙ full_by_stays layout past (least_such (is_end_full layout past) (ends_touched event (outcome_of layout past event))) (node_touched event)

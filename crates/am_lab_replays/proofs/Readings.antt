@@ -11,14 +11,16 @@ use Rattle.am_names.specs.declared.Packet.{Packet}
 use Rattle.am_office.specs.declared.Entry.{Entry}
 use Rattle.am_office.specs.Entries.{emitted_of, touches, touches_node}
 use Rattle.am_model.specs.Changes.{after, replay}
-use Rattle.am_model.specs.Channels.{Channel, attempt, attempt_by, binds, bound_by, bound_message, decides, emitted, frees, is_on_link, last_such, mark, mark_by, sends, sequence}
+use Rattle.am_model.specs.Channels.{Channel, attempt, attempt_by, binds, bound_by, bound_message, decides, emitted, frees, is_on_link, last_such, mark, mark_by}
+use Rattle.am_model.specs.Channels.{sends, sequence}
 use Rattle.am_model.specs.Endpoint.{State}
 use Rattle.am_model.specs.History.{channel_by, channel_for, channel_to, free_from, is_frame_held, is_in_frame, is_page_call, next_number, page_calls, state_of}
 use Rattle.am_model.specs.Layout.{EndSetting, Layout, home, opening}
 use Rattle.am_model.specs.declared.Queued.{Queued}
 use Rattle.am_lab_replays.specs.Callers.{callers_aside, made_by_anyone}
 use Rattle.am_lab_replays.proofs.Lists.{count_stays, filter_map_stays, filter_stays, last_stays}
-use Rattle.am_lab_replays.proofs.Roles.{binds_stays, change_stays, decides_stays, emitted_stays, frees_stays, page_call_stays, sends_stays, touches_node_stays, touches_stays}
+use Rattle.am_lab_replays.proofs.Roles.{binds_stays, change_stays, decides_stays, emitted_stays, frees_stays, page_call_stays, sends_stays, touches_node_stays}
+use Rattle.am_lab_replays.proofs.Roles.{touches_stays}
 
 -- ---- endpoints
 
@@ -31,7 +33,8 @@ state_stays layout past e =
     ap (replay e (opening layout e)) (filter_stays made_by_anyone (touches e) (touches_stays e) past)
     ∙ replay_stays e (opening layout e) (filter (touches e) past)
 
-pub frame_stays : (layout : Layout) (past : List Entry) (node : NodeId) (frame : ℕ) → is_frame_held layout (callers_aside past) node frame ≡ is_frame_held layout past node frame
+pub frame_stays : (layout : Layout) (past : List Entry) (node : NodeId) (frame : ℕ) →
+    is_frame_held layout (callers_aside past) node frame ≡ is_frame_held layout past node frame
 frame_stays layout past node frame =
     λ i. list_any (λ (s : EndSetting). same_node node s.node && is_in_frame frame (state_stays layout past s.id i).head.place) layout.ends
 
@@ -89,15 +92,18 @@ pages_stay node past = count_stays made_by_anyone (λ (x : Entry). is_page_call 
 
 -- ---- the free channel
 
-free_from_stays : (node peer : NodeId) (past : List Entry) (number more : ℕ) → free_from node peer (callers_aside past) number more ≡ free_from node peer past number more
+free_from_stays : (node peer : NodeId) (past : List Entry) (number more : ℕ) →
+    free_from node peer (callers_aside past) number more ≡ free_from node peer past number more
 free_from_stays node peer past number zero = refl
 free_from_stays node peer past number (suc more) =
     λ i. if is_some (bound_stays (channel_to node peer number) past i) then free_from_stays node peer past (number + 1) more i else Some number
 
-channel_by_stays : (layout : Layout) (node : NodeId) (past : List Entry) (peer : Option NodeId) → channel_by layout node (callers_aside past) peer ≡ channel_by layout node past peer
+channel_by_stays : (layout : Layout) (node : NodeId) (past : List Entry) (peer : Option NodeId) →
+    channel_by layout node (callers_aside past) peer ≡ channel_by layout node past peer
 channel_by_stays layout node past None = refl
 channel_by_stays layout node past (Some peer) = free_from_stays node peer past 0 layout.channels
 
-pub channel_stays : (layout : Layout) (node : NodeId) (past : List Entry) (q : Option Queued) → channel_for layout node (callers_aside past) q ≡ channel_for layout node past q
+pub channel_stays : (layout : Layout) (node : NodeId) (past : List Entry) (q : Option Queued) →
+    channel_for layout node (callers_aside past) q ≡ channel_for layout node past q
 channel_stays layout node past None = refl
 channel_stays layout node past (Some q) = channel_by_stays layout node past (home layout q.message.dest)

@@ -3,16 +3,16 @@ use Rattle.std.proofs.Common.{◌≡◌, ℕ, List, [], ◌∷◌, length, map, 
 use Rattle.std.specs.List.{range_with_len}
 use Rattle.std.proofs.lemmas.List.{length-map, take_all}
 use Rattle.am_check_laws.specs.Laws.{IsRunHistory, IsStepHistory}
-use Rattle.am_laws_steps.proofs.Steps.{histories_agree, made_alone}
-use Rattle.am_laws_steps.specs.Laws.{IsMade}
+use Rattle.am_model_steps.proofs.Steps.{histories_agree, made_alone}
+use Rattle.am_model_steps.specs.Laws.{IsMade}
 use Rattle.am_main_lines.specs.Lines.{ids_of}
 use Rattle.am_main_step.specs.Answer.{answer_of, answer_of_made}
 use Rattle.am_model.specs.Steps.{Made}
 use Rattle.am_office.specs.declared.Entry.{Entry}
 use Rattle.am_office.specs.declared.Event.{Event}
-use Rattle.am_report.specs.Report.{report}
+use Rattle.am_office_report.specs.Report.{report}
 use Rattle.am_scenario_types.specs.Lists.{ScenarioLists}
-use Rattle.am_scripts.specs.Layout.{events_of, layout_of}
+use Rattle.am_model_scripts.specs.Layout.{events_of, layout_of}
 use Rattle.am_lab_scenario.proofs.Ranges.{replayable}
 use Rattle.am_lab_scenario.proofs.Replayed.{replay_is_read, steps_are_events}
 use Rattle.am_lab_scenario.specs.Replays.{by_anyone, replayed}
@@ -59,7 +59,10 @@ all_made s journal h =
       stopped = λ why e. absurd (cc);
     }
 
-answer_is : (s : ScenarioLists) (journal : List Entry) → IsStepHistory s journal → answer_of (Ok s) ≡ record { status = 0; text = report (ids_of s.ends) journal }
+answer_is : (s : ScenarioLists) (journal : List Entry) → IsStepHistory s journal → answer_of (Ok s) ≡ record {
+  status = 0;
+  text = report (ids_of s.ends) journal;
+}
 answer_is s journal h = ap (answer_of_made s) (sym (made_alone (layout_of s) (events_of s.steps) (whole_journal journal) (all_made s journal h)))
 
 pub makes_it_again : ReplaysAreTheRun

@@ -12,7 +12,8 @@ use Rattle.am_office.specs.declared.Entry.{Entry}
 use Rattle.am_office.specs.declared.Event.{Event}
 use Rattle.am_office.specs.declared.Event.TheVariants as Events
 use Rattle.am_office.specs.declared.Outcome.{Outcome}
-use Rattle.am_office.specs.Entries.{accepted_in, accepted_of, emitted_in, emitted_of, ends_touched, is_node, node_touched, run_in, run_of, share_part, shares_node, touches, touches_node, unknown_in, unknown_of}
+use Rattle.am_office.specs.Entries.{accepted_in, accepted_of, emitted_in, emitted_of, ends_touched, is_node, node_touched, run_in, run_of, share_part}
+use Rattle.am_office.specs.Entries.{shares_node, touches, touches_node, unknown_in, unknown_of}
 use Rattle.am_office.specs.Fates.{cause_of}
 use Rattle.am_model.specs.Changes.{after, changed}
 use Rattle.am_model.specs.Channels.{Channel, binds, decides, frees, sends}
@@ -22,7 +23,9 @@ use Rattle.am_lab_scenario.specs.Replays.{by_anyone}
 use Rattle.am_lab_replays.specs.Callers.{made_by_anyone}
 
 -- what reads the same of each call and each want by whomever, reads the same of every event
-pub whoever : {X : Type 0} (read : Event → X) → ((actor : Actor) (end : EndpointId) (call : Call) → read (Events.Call Outside end call) ≡ read (Events.Call actor end call)) → ((actor : Actor) (end : EndpointId) → read (Events.Want Outside end) ≡ read (Events.Want actor end)) → (event : Event) → read (by_anyone event) ≡ read event
+pub whoever : {X : Type 0} (read : Event → X) → ((actor : Actor) (end : EndpointId) (call : Call) →
+    read (Events.Call Outside end call) ≡ read (Events.Call actor end call)) → ((actor : Actor) (end : EndpointId) →
+    read (Events.Want Outside end) ≡ read (Events.Want actor end)) → (event : Event) → read (by_anyone event) ≡ read event
 unfolding by_anyone
 whoever read calls wants (Events.Call actor end call) = calls actor end call
 whoever read calls wants (Events.Want actor end) = wants actor end

@@ -15,7 +15,7 @@ use Rattle.am_office.specs.declared.Outcome.{Outcome}
 use Rattle.am_office.specs.declared.Outcome.TheVariants as Out
 use Rattle.am_office.specs.Entries.{accepted_of, is_serial, passes, run_of, unknown_of}
 use Rattle.am_office.specs.Fates.{cause_of, causes_of, fate, fate_by, fate_of_accepted, is_accepted, is_run, is_unknown}
-use Rattle.am_report.specs.Report.{listed, listed_with, run_at, run_in, runs_at, told}
+use Rattle.am_office_report.specs.Report.{listed, listed_with, run_at, run_in, runs_at, told}
 use Rattle.am_lab_scenario.specs.Replays.{by_anyone}
 use Rattle.am_lab_replays.specs.Callers.{CallersTellNothing, callers_aside, made_by_anyone}
 use Rattle.am_lab_replays.proofs.Lists.{any_stays, filter_map_stays, fold_stays}
@@ -52,7 +52,8 @@ listed_stays journal =
 told_stays : (journal : List Entry) → told (callers_aside journal) ≡ told journal
 told_stays journal = λ i. map (λ (m : Serial × MsgKind). record { serial = m.0; kind = m.1; fate = end_stays journal m.0 i }) (listed_stays journal i)
 
-called_run_stays : (actor : Actor) (end : EndpointId) (call : Call) (outcome : Outcome) → run_in (Events.Call Outside end call) outcome ≡ run_in (Events.Call actor end call) outcome
+called_run_stays : (actor : Actor) (end : EndpointId) (call : Call) (outcome : Outcome) →
+    run_in (Events.Call Outside end call) outcome ≡ run_in (Events.Call actor end call) outcome
 called_run_stays actor end Calls.Poll (Out.Ran m (Some h) r) = refl
 called_run_stays actor end Calls.Poll (Out.Zero s w) = refl
 called_run_stays actor end call outcome = refl

@@ -4,10 +4,10 @@ use Rattle.am_names.specs.declared.EndpointId.{EndpointId}
 use Rattle.am_names.specs.declared.Serial.{Serial}
 use Rattle.am_office.specs.declared.Entry.{Entry}
 use Rattle.am_office.specs.Fates.{fate}
-use Rattle.am_laws_steps.specs.Laws.{IsUnstopped}
+use Rattle.am_model_steps.specs.Laws.{IsUnstopped}
 use Rattle.am_model.specs.History.{EachAfter, IsHistory}
 use Rattle.am_model.specs.Layout.{Layout}
-use Rattle.am_report.specs.Report.{runs_at, told}
+use Rattle.am_office_report.specs.Report.{runs_at, told}
 use Rattle.am_lab_scenario.specs.Replays.{by_anyone}
 
 -- the same entry, whoever made its call

@@ -6,13 +6,13 @@ use Rattle.am_main_step.specs.Answer.{answer_of}
 use Rattle.am_model.specs.History.{IsHistory}
 use Rattle.am_model.specs.Steps.{FollowsSteps}
 use Rattle.am_office.specs.declared.Entry.{Entry}
-use Rattle.am_report.specs.Report.{report}
+use Rattle.am_office_report.specs.Report.{report}
 use Rattle.am_scenario.specs.Grammar.{grammar}
 use Rattle.am_scenario.specs.Laws.{Spells}
 use Rattle.am_scenario_types.specs.declared.parts.Form.TheVariants.{Step}
 use Rattle.am_scenario_types.specs.Lawful.{IsLawful}
 use Rattle.am_scenario_types.specs.Lists.{ScenarioLists}
-use Rattle.am_scripts.specs.Layout.{events_of, layout_of}
+use Rattle.am_model_scripts.specs.Layout.{events_of, layout_of}
 use Rattle.am_lab_scenario.specs.Replays.{replayed, step_script}
 use Rattle.am_lab_scenario.specs.Texts.{scenario_text}
 use Rattle.am_lab_replays.specs.Callers.{TellTheSame, callers_aside}

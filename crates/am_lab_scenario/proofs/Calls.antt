@@ -11,20 +11,23 @@ use Rattle.am_office.specs.declared.Call.{Call}
 use Rattle.am_office.specs.declared.Call.TheVariants as Calls
 use Rattle.am_office.specs.declared.Event.{Event}
 use Rattle.am_office.specs.declared.Event.TheVariants as Events
-use Rattle.am_text.specs.Words.{Word}
-use Rattle.am_entry_lines.specs.Lines.{call, what}
+use Rattle.am_office_text.specs.Words.{Word}
+use Rattle.am_office_lines.specs.Lines.{call, what}
 use Rattle.am_scenario_types.specs.declared.parts.ThreadLine.{ThreadLine}
 use Rattle.am_scenario_types.specs.declared.parts.Form.TheVariants.{Step}
 use Rattle.am_scenario_types.specs.Lawful.{IsLawfulCall, IsLawfulEvent}
-use Rattle.am_draft.specs.declared.line.Line.TheVariants as line
-use Rattle.am_draft.specs.Said.{Said, node_count, frame_count, channel_count, thread_of}
-use Rattle.am_lines.specs.declared.head.Head.{Head}
-use Rattle.am_lines.specs.declared.head.Head.TheVariants as head
-use Rattle.am_lines.specs.Calls.{call_at, request_at, poll_at, set_tag_at, least_share, map_at, unmap_at, set_handler_at, give_up_at, close_at, test_at}
-use Rattle.am_lines.specs.Script.{script_line, thread_call_line}
-use Rattle.am_lines.specs.Steps.{step, outside_line, head_node, bind_line, expire_line, receive_line, interface_line, load_line, drive_line, driver_line}
-use Rattle.am_lines.specs.Lines.{words_say}
-use Rattle.am_lab_scenario.proofs.Places.{number_here, within_here, below_here, node_here, tag_here, serial_here, kind_here, mask_here, IsWantedEnd, declared_end, end_here}
+use Rattle.am_scenario_draft.specs.declared.line.Line.TheVariants as line
+use Rattle.am_scenario_draft.specs.Said.{Said, node_count, frame_count, channel_count, thread_of}
+use Rattle.am_scenario_lines.specs.declared.head.Head.{Head}
+use Rattle.am_scenario_lines.specs.declared.head.Head.TheVariants as head
+use Rattle.am_scenario_lines.specs.Calls.{call_at, request_at, poll_at, set_tag_at, least_share, map_at, unmap_at, set_handler_at, give_up_at, close_at}
+use Rattle.am_scenario_lines.specs.Calls.{test_at}
+use Rattle.am_scenario_lines.specs.Script.{script_line, thread_call_line}
+use Rattle.am_scenario_lines.specs.Steps.{step, outside_line, head_node, bind_line, expire_line, receive_line, interface_line, load_line, drive_line}
+use Rattle.am_scenario_lines.specs.Steps.{driver_line}
+use Rattle.am_scenario_lines.specs.Lines.{words_say}
+use Rattle.am_lab_scenario.proofs.Places.{number_here, within_here, below_here, node_here, tag_here, serial_here, kind_here, mask_here, IsWantedEnd}
+use Rattle.am_lab_scenario.proofs.Places.{declared_end, end_here}
 
 -- what is read of a verb and the words behind it
 abbrev pub taken : {A : Type 0} → (Word → List Word → Result A What) → List Word → Result A What
@@ -36,16 +39,35 @@ HasSmallEnds said = All (λ end. end.id.0 ≤ 255) said.ends
 byte_in : (n : ℕ) → n ≤ 255 → (0 ≤ n) × (n ≤ 255)
 byte_in n h = (omega arith, h)
 
-pub call_here : (said : Said) (wanted : Option NodeId) (e : EndpointId) (c : Call) → HasSmallEnds said → IsWantedEnd said.ends wanted e → IsLawfulCall said.ends (least_share said.version) c → taken (call_at said wanted) (call e c) ≡ Ok ((e, c), [])
+pub call_here : (said : Said) (wanted : Option NodeId) (e : EndpointId) (c : Call) → HasSmallEnds said → IsWantedEnd said.ends wanted e →
+    IsLawfulCall said.ends (least_share said.version) c → taken (call_at said wanted) (call e c) ≡ Ok ((e, c), [])
 unfolding call word_at call_at request_at poll_at set_tag_at map_at unmap_at set_handler_at give_up_at close_at test_at
 call_here said wanted e (Calls.Request i h w) small at n =
-    rw (end_here said wanted e _ small at, within_here 0 255 i _ (byte_in i n.0) (omega (arith, n.0)), within_here 0 255 h _ (byte_in h n.1) (omega (arith, n.1)), number_here w.a _ n.2.0, number_here w.b _ n.2.1, number_here w.c _ n.2.2, number_here w.d _ n.2.3) refl
+    rw (
+      end_here said wanted e _ small at,
+      within_here 0 255 i _ (byte_in i n.0) (omega (arith, n.0)),
+      within_here 0 255 h _ (byte_in h n.1) (omega (arith, n.1)),
+      number_here w.a _ n.2.0,
+      number_here w.b _ n.2.1,
+      number_here w.c _ n.2.2,
+      number_here w.d _ n.2.3,
+    ) refl
 call_here said wanted e Calls.Poll small at n = rw (end_here said wanted e _ small at) refl
 call_here said wanted e (Calls.SetTag t) small at n = rw (end_here said wanted e _ small at, tag_here t _ n) refl
 call_here said wanted e (Calls.Map i name t c) small at n =
-    rw (end_here said wanted e _ small at, within_here 0 255 i _ (byte_in i n.0) (omega (arith, n.0)), end_here said None name _ small (declared_end said.ends name n.1), tag_here t _ n.2, within_here (least_share said.version) 8 c _ n.3 (omega (arith, n.3.1))) refl
+    rw (
+      end_here said wanted e _ small at,
+      within_here 0 255 i _ (byte_in i n.0) (omega (arith, n.0)),
+      end_here said None name _ small (declared_end said.ends name n.1),
+      tag_here t _ n.2,
+      within_here (least_share said.version) 8 c _ n.3 (omega (arith, n.3.1)),
+    ) refl
 call_here said wanted e (Calls.Unmap i) small at n = rw (end_here said wanted e _ small at, within_here 0 255 i _ (byte_in i n) (omega (arith, n))) refl
-call_here said wanted e (Calls.SetHandler i k) small at n = rw (end_here said wanted e _ small at, within_here 0 255 i _ (byte_in i n.0) (omega (arith, n.0)), kind_here k n.1) refl
+call_here said wanted e (Calls.SetHandler i k) small at n = rw (
+  end_here said wanted e _ small at,
+  within_here 0 255 i _ (byte_in i n.0) (omega (arith, n.0)),
+  kind_here k n.1,
+) refl
 call_here said wanted e (Calls.GiveUp s) small at n = rw (end_here said wanted e _ small at, serial_here s _ n) refl
 call_here said wanted e Calls.Close small at n = rw (end_here said wanted e _ small at) refl
 call_here said wanted e (Calls.Test m) small at n = rw (end_here said wanted e _ small at, mask_here m _) refl
@@ -53,7 +75,8 @@ call_here said wanted e (Calls.Test m) small at n = rw (end_here said wanted e _
 -- ---- a call of a thread
 
 -- the verb of a call is none of a bundle
-thread_calls : (said : Said) (thread : ThreadLine) (t : ℕ) (e : EndpointId) (c : Call) → thread_of said t ≡ Some thread → script_line said t (call e c) ≡ taken (thread_call_line said thread) (call e c)
+thread_calls : (said : Said) (thread : ThreadLine) (t : ℕ) (e : EndpointId) (c : Call) → thread_of said t ≡ Some thread →
+    script_line said t (call e c) ≡ taken (thread_call_line said thread) (call e c)
 unfolding call word_at script_line
 thread_calls said thread t e (Calls.Request i h w) found = rw found refl
 thread_calls said thread t e Calls.Poll found = rw found refl
@@ -65,7 +88,8 @@ thread_calls said thread t e (Calls.GiveUp s) found = rw found refl
 thread_calls said thread t e Calls.Close found = rw found refl
 thread_calls said thread t e (Calls.Test m) found = rw found refl
 
-call_line_is : (said : Said) (thread : ThreadLine) (e : EndpointId) (c : Call) → taken (call_at said (Some thread.node)) (call e c) ≡ Ok ((e, c), []) → length said.script < 16_384
+call_line_is : (said : Said) (thread : ThreadLine) (e : EndpointId) (c : Call) → taken (call_at said (Some thread.node)) (call e c) ≡ Ok ((e, c), []) →
+    length said.script < 16_384
     → taken (thread_call_line said thread) (call e c) ≡ Ok (line.Call (record { thread = thread.id; endpoint = e; call = c }))
 unfolding call word_at thread_call_line ended
 call_line_is said thread e (Calls.Request i h w) read few = let room : ltb (length said.script) 16_384 ≡ true = lt-ltb _ _ few in rw (read, room) refl
@@ -78,7 +102,8 @@ call_line_is said thread e (Calls.GiveUp s) read few = let room : ltb (length sa
 call_line_is said thread e Calls.Close read few = let room : ltb (length said.script) 16_384 ≡ true = lt-ltb _ _ few in rw (read, room) refl
 call_line_is said thread e (Calls.Test m) read few = let room : ltb (length said.script) 16_384 ≡ true = lt-ltb _ _ few in rw (read, room) refl
 
-pub script_here : (said : Said) (thread : ThreadLine) (t : ℕ) (e : EndpointId) (c : Call) → HasSmallEnds said → thread_of said t ≡ Some thread → IsWantedEnd said.ends (Some thread.node) e → IsLawfulCall said.ends (least_share said.version) c → length said.script < 16_384
+pub script_here : (said : Said) (thread : ThreadLine) (t : ℕ) (e : EndpointId) (c : Call) → HasSmallEnds said → thread_of said t ≡ Some thread →
+    IsWantedEnd said.ends (Some thread.node) e → IsLawfulCall said.ends (least_share said.version) c → length said.script < 16_384
     → script_line said t (call e c) ≡ Ok (line.Call (record { thread = thread.id; endpoint = e; call = c }))
 script_here said thread t e c small found at lawful few =
     thread_calls said thread t e c found ∙ call_line_is said thread e c (call_here said (Some thread.node) e c small at lawful) few
@@ -106,7 +131,8 @@ unfolding step ended
 step_here said e few = let room : ltb (length said.steps) 65_536 ≡ true = lt-ltb (length said.steps) 65_536 few in rw room refl
 
 -- the verb of a call is neither that of a carry nor that of a want
-outside_calls : (said : Said) (e : EndpointId) (c : Call) → outside_line said (call e c) ≡ (taken (call_at said None) (call e c) >>= (λ made. step said (Events.Call Actors.Outside made.0.0 made.0.1) made.1))
+outside_calls : (said : Said) (e : EndpointId) (c : Call) → outside_line said (call e c) ≡ (taken (call_at said None) (call e c) >>=
+    (λ made. step said (Events.Call Actors.Outside made.0.0 made.0.1) made.1))
 unfolding call word_at outside_line
 outside_calls said e (Calls.Request i h w) = refl
 outside_calls said e Calls.Poll = refl
@@ -125,7 +151,8 @@ head_node_here said n h = let there : ltb n.0 (node_count said.settings) ≡ tru
 abbrev pub IsLawfulHere : Said → Event → Type 0
 IsLawfulHere said e = IsLawfulEvent said.ends (node_count said.settings) (frame_count said.settings) (channel_count said.settings) (least_share said.version) e
 
-pub event_here : (said : Said) (e : Event) → HasSmallEnds said → node_count said.settings ≤ 16 → frame_count said.settings ≤ 16 → channel_count said.settings ≤ 4 → IsLawfulHere said e → length said.steps < 65_536
+pub event_here : (said : Said) (e : Event) → HasSmallEnds said → node_count said.settings ≤ 16 → frame_count said.settings ≤ 16 →
+    channel_count said.settings ≤ 4 → IsLawfulHere said e → length said.steps < 65_536
     → words_say Step said (head_for e) (what e) ≡ Ok (line.Step e)
 unfolding words_say what word_at outside_line interface_line driver_line drive_line bind_line expire_line receive_line load_line
 event_here said (Events.Call (Actors.Thread t) e c) small nodes frames channels h few = absurd (cc (h.0))
@@ -134,19 +161,26 @@ event_here said (Events.Call Actors.Outside e c) small nodes frames channels h f
 event_here said (Events.Want (Actors.Thread t) e) small nodes frames channels h few = absurd (cc (h.0))
 event_here said (Events.Want Actors.Outside e) small nodes frames channels h few =
     rw (end_here said None e [] small (declared_end said.ends e h.1)) (step_here said (Events.Want Actors.Outside e) few)
-event_here said (Events.Carry e) small nodes frames channels h few = rw (end_here said None e [] small (declared_end said.ends e h)) (step_here said (Events.Carry e) few)
+event_here said (Events.Carry e) small nodes frames channels h few =
+    rw (end_here said None e [] small (declared_end said.ends e h)) (step_here said (Events.Carry e) few)
 event_here said (Events.Bind n e) small nodes frames channels h few =
     rw (head_node_here said n h.0, end_here said None e [] small (declared_end said.ends e h.1)) (step_here said (Events.Bind n e) few)
 event_here said (Events.Expire n p c) small nodes frames channels h few =
-    rw (head_node_here said n h.0, node_here said.settings p _ h.1 nodes, below_here (channel_count said.settings) c [] h.2 (omega (arith, h.2))) (step_here said (Events.Expire n p c) few)
+    rw (head_node_here said n h.0, node_here said.settings p _ h.1 nodes, below_here (channel_count said.settings) c [] h.2 (omega (arith, h.2)))
+    (step_here said (Events.Expire n p c) few)
 event_here said (Events.Receive n p k) small nodes frames channels h few =
-    rw (head_node_here said n h.0, node_here said.settings p _ h.1 nodes, within_here 1 0xffff_ffff k [] h.2 (omega (arith, h.2.1))) (step_here said (Events.Receive n p k) few)
+    rw (head_node_here said n h.0, node_here said.settings p _ h.1 nodes, within_here 1 0xffff_ffff k [] h.2 (omega (arith, h.2.1)))
+    (step_here said (Events.Receive n p k) few)
 event_here said (Events.Drain n e) small nodes frames channels h few =
     rw (head_node_here said n h.0, end_here said None e [] small (declared_end said.ends e h.1)) (step_here said (Events.Drain n e) few)
 event_here said (Events.Unload n e) small nodes frames channels h few =
     rw (head_node_here said n h.0, end_here said None e [] small (declared_end said.ends e h.1)) (step_here said (Events.Unload n e) few)
 event_here said (Events.Load n e f) small nodes frames channels h few =
-    rw (head_node_here said n h.0, end_here said None e _ small (declared_end said.ends e h.1), below_here (frame_count said.settings) f [] h.2 (omega (arith, h.2))) (step_here said (Events.Load n e f) few)
+    rw (
+      head_node_here said n h.0,
+      end_here said None e _ small (declared_end said.ends e h.1),
+      below_here (frame_count said.settings) f [] h.2 (omega (arith, h.2)),
+    ) (step_here said (Events.Load n e f) few)
 event_here said (Events.PageOut n e) small nodes frames channels h few =
     rw (head_node_here said n h.0, end_here said None e [] small (declared_end said.ends e h.1)) (step_here said (Events.PageOut n e) few)
 event_here said (Events.PageIn n e) small nodes frames channels h few =

@@ -6,9 +6,9 @@ use Rattle.std.proofs.lemmas.Bool.{leb-true, le-leb, ne_eqb, and_parts}
 use Rattle.std.proofs.lemmas.List.{append-nil}
 use Rattle.std.proofs.lemmas.List.Folds.{list_all-append}
 use Rattle.am_lexer.specs.Text.{lines_of, words_of, is_text_line, has_bytes}
-use Rattle.am_text.specs.Words.{Word, spaced, line}
-use Rattle.am_journal_lines.specs.Reading.{words_in, words_behind}
-use Rattle.am_journal_lines.proofs.Cuts.{is_free, cut_all}
+use Rattle.am_office_text.specs.Words.{Word, spaced, line}
+use Rattle.am_check_lines.specs.Reading.{words_in, words_behind}
+use Rattle.am_check_lines.proofs.Cuts.{is_free, cut_all}
 use Rattle.am_lab_scenario.proofs.Words.{is_letter, is_word, both}
 
 -- ---- no space, and printable bytes alone
@@ -84,7 +84,8 @@ line_before (b ∷ text) rest h =
     let other : eqb b 10 ≡ false = ne_eqb b 10 (λ e. omega arith) in
     rw other (ap (onto_first b) (line_before text rest p.1))
 
-pub line_back : (first : Word) (words : List Word) (rest : List ℕ) → is_word first ≡ true → list_all is_word words ≡ true → lines_of (line first words ++ rest) ≡ (first ++ spaced words) ∷ lines_of rest
+pub line_back : (first : Word) (words : List Word) (rest : List ℕ) → is_word first ≡ true → list_all is_word words ≡ true →
+    lines_of (line first words ++ rest) ≡ (first ++ spaced words) ∷ lines_of rest
 line_back first words rest f h =
     ap lines_of (append_assoc (first ++ spaced words) (codes "\n") rest)
     ∙ line_before (first ++ spaced words) rest (line_is_text first words f h)

@@ -9,17 +9,17 @@ use Rattle.am_lexer.specs.Text.{number_of}
 use Rattle.am_office.specs.declared.Actor.TheVariants as Actors
 use Rattle.am_office.specs.declared.Event.{Event}
 use Rattle.am_office.specs.declared.Event.TheVariants as Events
-use Rattle.am_text.specs.Words.{Word}
-use Rattle.am_entry_lines.specs.Lines.{who, actor, interface, driver}
+use Rattle.am_office_text.specs.Words.{Word}
+use Rattle.am_office_lines.specs.Lines.{who, actor, interface, driver}
 use Rattle.am_scenario_types.specs.declared.parts.Form.{Form}
 use Rattle.am_scenario_types.specs.declared.parts.Form.TheVariants.{Step}
-use Rattle.am_draft.specs.declared.settings.Version.{Version}
-use Rattle.am_draft.specs.declared.line.Line.{Line}
-use Rattle.am_draft.specs.Said.{Said, with_line, node_count}
-use Rattle.am_lines.specs.declared.head.Head.{Head}
-use Rattle.am_lines.specs.declared.head.Head.TheVariants as head
-use Rattle.am_lines.specs.Heads.{head_of, setting_name_of, declaration_of, actor_of, section_of, is_of_form}
-use Rattle.am_lines.specs.Lines.{words_say}
+use Rattle.am_scenario_draft.specs.declared.settings.Version.{Version}
+use Rattle.am_scenario_draft.specs.declared.line.Line.{Line}
+use Rattle.am_scenario_draft.specs.Said.{Said, with_line, node_count}
+use Rattle.am_scenario_lines.specs.declared.head.Head.{Head}
+use Rattle.am_scenario_lines.specs.declared.head.Head.TheVariants as head
+use Rattle.am_scenario_lines.specs.Heads.{head_of, setting_name_of, declaration_of, actor_of, section_of, is_of_form}
+use Rattle.am_scenario_lines.specs.Lines.{words_say}
 use Rattle.am_scenario.specs.Order.{after_words, placed}
 use Rattle.am_lab_scenario.proofs.Words.{is_word, number_read, number_differs, numbered_word}
 use Rattle.am_lab_scenario.proofs.Calls.{head_for, IsLawfulHere}
@@ -30,12 +30,14 @@ outside_head : (version : Option Version) → head_of version (codes "x") ≡ So
 unfolding head_of setting_name_of declaration_of actor_of
 outside_head version = refl
 
-numbered_thread : (version : Option Version) (digits : List ℕ) (n : ℕ) → bytes_eq digits (codes "ries") ≡ false → bytes_eq digits (codes "urns") ≡ false → bytes_eq digits (codes "hread") ≡ false → number_of digits ≡ Some n
+numbered_thread : (version : Option Version) (digits : List ℕ) (n : ℕ) → bytes_eq digits (codes "ries") ≡ false → bytes_eq digits (codes "urns") ≡ false →
+    bytes_eq digits (codes "hread") ≡ false → number_of digits ≡ Some n
     → head_of version (116 ∷ digits) ≡ Some (head.OfThread n)
 unfolding head_of setting_name_of declaration_of actor_of
 numbered_thread version digits n tries turns thread read = rw (tries, turns, thread, read) refl
 
-numbered_interface : (version : Option Version) (digits : List ℕ) (n : ℕ) → number_of digits ≡ Some n → head_of version (105 ∷ digits) ≡ Some (head.OfInterface n)
+numbered_interface : (version : Option Version) (digits : List ℕ) (n : ℕ) → number_of digits ≡ Some n →
+    head_of version (105 ∷ digits) ≡ Some (head.OfInterface n)
 unfolding head_of setting_name_of declaration_of actor_of
 numbered_interface version digits n read = rw read refl
 
@@ -45,7 +47,8 @@ numbered_driver version digits n read = rw read refl
 
 pub thread_head : (version : Option Version) (t : ℕ) → t < 2 ^ 64 → head_of version (codes "t" ++ decimal t) ≡ Some (head.OfThread t)
 thread_head version t h =
-    numbered_thread version (decimal t) t (number_differs t 114 (codes "ies") h (omega arith)) (number_differs t 117 (codes "rns") h (omega arith)) (number_differs t 104 (codes "read") h (omega arith)) (number_read t h)
+    numbered_thread version (decimal t) t (number_differs t 114 (codes "ies") h (omega arith)) (number_differs t 117 (codes "rns") h (omega arith))
+    (number_differs t 104 (codes "read") h (omega arith)) (number_read t h)
 
 interface_head : (version : Option Version) (n : ℕ) → n < 2 ^ 64 → head_of version (codes "i" ++ decimal n) ≡ Some (head.OfInterface n)
 interface_head version n h = numbered_interface version (decimal n) n (number_read n h)
@@ -74,7 +77,8 @@ outside_is version e is says = record {
   of_form = rw says refl;
 }
 
-interface_is : (version : Option Version) (e : Event) (n : ℕ) → n < 2 ^ 64 → who e ≡ codes "i" ++ decimal n → head_for e ≡ head.OfInterface n → IsStepHead version e
+interface_is : (version : Option Version) (e : Event) (n : ℕ) → n < 2 ^ 64 → who e ≡ codes "i" ++ decimal n → head_for e ≡ head.OfInterface n →
+    IsStepHead version e
 interface_is version e n small is says = record {
   named = rw (is, says) (interface_head version n small);
   word = rw is (numbered_word 105 n refl small);
@@ -111,7 +115,8 @@ step_head said (Events.PageIn n e) few h = driver_is said.version (Events.PageIn
 -- ---- a line in its place
 
 pub after_here : (form : Form) (number : ℕ) (said : Said) (first : Word) (words : List Word) (h : Head) (section : ℕ) (l : Line)
-    → eqb (slice_index first 0) 35 ≡ false → head_of said.version first ≡ Some h → section_of h ≡ section → 1 ≤ said.section → said.section ≤ section → is_of_form form h ≡ true
+    → eqb (slice_index first 0) 35 ≡ false → head_of said.version first ≡ Some h → section_of h ≡ section → 1 ≤ said.section → said.section ≤ section →
+    is_of_form form h ≡ true
     → (ltb 2 section && not (is_some said.settings.network && is_some said.settings.nodes)) ≡ false → words_say form said h words ≡ Ok l
     → after_words form number said (first ∷ words) ≡ Ok (with_line number (record said { section = section }) l)
 unfolding after_words placed

@@ -1,5 +1,6 @@
 -- An element of a list beside those before it, and the elements of rising keys, found one by one.
-use Rattle.std.proofs.Common.{◌≡◌, ℕ, zero, suc, ◌<◌, ◌≤◌, Bool, true, false, eqb, ltb, cond, List, [], ◌∷◌, ◌++◌, length, None, refl, sym, ap, ◌∙◌, inl, inr, arith}
+use Rattle.std.proofs.Common.{◌≡◌, ℕ, zero, suc, ◌<◌, ◌≤◌, Bool, true, false, eqb, ltb, cond, List, [], ◌∷◌, ◌++◌, length, None, refl, sym, ap, ◌∙◌, inl, inr}
+use Rattle.std.proofs.Common.{arith}
 use Rattle.std.specs.Prelude.{find, filter, count_by, ◌⊎◌}
 use Rattle.std.specs.List.{All, AllPairs}
 use Rattle.std.specs.Option.{option_to_list}
@@ -30,7 +31,8 @@ pub none_found : {X : Type 0} (p : X → Bool) (xs : List X) → All (λ x. p x 
 none_found p [] all = refl
 none_found p (x ∷ xs) all = let first : p x ≡ false = All-head (λ x. p x ≡ false) x xs all in rw first (none_found p xs (All-tail (λ x. p x ≡ false) x xs all))
 
-pub counted_before : {X : Type 0} (p : X → Bool) (pre : List X) (x : X) (post : List X) (limit : ℕ) → p x ≡ true → count_by p (pre ++ x ∷ post) ≤ limit → count_by p pre < limit
+pub counted_before : {X : Type 0} (p : X → Bool) (pre : List X) (x : X) (post : List X) (limit : ℕ) → p x ≡ true → count_by p (pre ++ x ∷ post) ≤ limit →
+    count_by p pre < limit
 counted_before p pre x post limit e few =
     let one : ◌≡◌ {A = ℕ} (cond (p x) 1 0) 1 = rw e refl in
     omega (arith, few, one, sum_by-append (λ a. cond (p a) 1 0) pre (x ∷ post), sum_by-cons (λ a. cond (p a) 1 0) x post)
@@ -46,7 +48,8 @@ none_kept p (x ∷ xs) all = let first : p x ≡ false = All-head (λ x. p x ≡
 
 all_kept : {X : Type 0} (p : X → Bool) (xs : List X) → All (λ x. p x ≡ true) xs → filter p xs ≡ xs
 all_kept p [] all = refl
-all_kept {X} p (x ∷ xs) all = let first : p x ≡ true = All-head (λ x. p x ≡ true) x xs all in rw first (ap (λ (l : List X). x ∷ l) (all_kept p xs (All-tail (λ x. p x ≡ true) x xs all)))
+all_kept {X} p (x ∷ xs) all = let first : p x ≡ true = All-head (λ x. p x ≡ true) x xs all in
+    rw first (ap (λ (l : List X). x ∷ l) (all_kept p xs (All-tail (λ x. p x ≡ true) x xs all)))
 
 abbrev is_below : {X : Type 0} → (X → ℕ) → ℕ → X → Bool
 is_below key n x = ltb (key x) n
@@ -64,7 +67,8 @@ three_ways (suc a) (suc b) = elim (three_ways a b) [
   | inr (inr more) ↦ inr (inr (omega arith))
 ]
 
-one_more : {X : Type 0} (key : X → ℕ) (n : ℕ) (xs : List X) → Rise key xs → filter (is_below key (suc n)) xs ≡ filter (is_below key n) xs ++ option_to_list (find (has_key key n) xs)
+one_more : {X : Type 0} (key : X → ℕ) (n : ℕ) (xs : List X) → Rise key xs →
+    filter (is_below key (suc n)) xs ≡ filter (is_below key n) xs ++ option_to_list (find (has_key key n) xs)
 one_more key n [] rise = refl
 one_more {X} key n (x ∷ xs) rise =
     let rest = one_more key n xs (pairs_tail (λ a b. key a < key b) x xs rise) in
@@ -79,8 +83,10 @@ one_more {X} key n (x ∷ xs) rise =
           let kept : ltb (key x) (suc n) ≡ true = lt-ltb (key x) (suc n) (omega arith) in
           let was : ltb (key x) n ≡ false = le-ltb (key x) n (omega arith) in
           let found : eqb (key x) n ≡ true = eq-eqb (key x) n same in
-          let none = none_kept (is_below key (suc n)) xs (All-weaker (λ y. key x < key y) (λ y. ltb (key y) (suc n) ≡ false) (λ y l. le-ltb (key y) (suc n) (omega arith)) xs later) in
-          let none_was = none_kept (is_below key n) xs (All-weaker (λ y. key x < key y) (λ y. ltb (key y) n ≡ false) (λ y l. le-ltb (key y) n (omega arith)) xs later) in
+          let none = none_kept (is_below key (suc n)) xs (All-weaker (λ y. key x < key y) (λ y. ltb (key y) (suc n) ≡ false)
+          (λ y l. le-ltb (key y) (suc n) (omega arith)) xs later) in
+          let none_was = none_kept (is_below key n) xs (All-weaker (λ y. key x < key y) (λ y. ltb (key y) n ≡ false) (λ y l. le-ltb (key y) n (omega arith)) xs
+          later) in
           rw (kept, was, found, none, none_was) refl
       | inr (inr more) ↦
           let dropped : ltb (key x) (suc n) ≡ false = le-ltb (key x) (suc n) (omega arith) in
@@ -95,4 +101,5 @@ below_is {X} key xs (suc n) rise = ap (λ (l : List X). l ++ option_to_list (fin
 
 -- all keys being below a number, the list itself is found
 pub all_below_are : {X : Type 0} (key : X → ℕ) (xs : List X) (n : ℕ) → Rise key xs → All (λ x. key x < n) xs → below key xs n ≡ xs
-all_below_are key xs n rise small = below_is key xs n rise ∙ all_kept (is_below key n) xs (All-weaker (λ x. key x < n) (λ x. ltb (key x) n ≡ true) (λ x l. lt-ltb (key x) n l) xs small)
+all_below_are key xs n rise small = below_is key xs n rise ∙ all_kept (is_below key n) xs
+    (All-weaker (λ x. key x < n) (λ x. ltb (key x) n ≡ true) (λ x l. lt-ltb (key x) n l) xs small)

@@ -16,15 +16,15 @@ use Rattle.am_office.specs.declared.HandlerKind.{HandlerKind}
 use Rattle.am_office.specs.declared.HandlerKind.TheVariants as Kinds
 use Rattle.am_office.specs.declared.Mask.{Mask}
 use Rattle.am_office.specs.declared.Mask.TheVariants as Masks
-use Rattle.am_text.specs.Words.{Word, tag, serial}
-use Rattle.am_entry_lines.specs.Lines.{handler_kind, mask}
+use Rattle.am_office_text.specs.Words.{Word, tag, serial}
+use Rattle.am_office_lines.specs.Lines.{handler_kind, mask}
 use Rattle.am_scenario_types.specs.declared.parts.EndLine.{EndLine}
 use Rattle.am_scenario_types.specs.Lawful.{IsWithin, IsLawfulKind, IsLawfulSerial, IsDeclared, IsOn}
-use Rattle.am_draft.specs.declared.settings.Settings.{Settings}
-use Rattle.am_draft.specs.Said.{Said, node_count}
-use Rattle.am_lines.specs.Places.{below, node_at, is_wanted, end_word, end_at, tag_at, serial_at}
-use Rattle.am_lines.specs.Declarations.{mask_at}
-use Rattle.am_lines.specs.Calls.{kind_at}
+use Rattle.am_scenario_draft.specs.declared.settings.Settings.{Settings}
+use Rattle.am_scenario_draft.specs.Said.{Said, node_count}
+use Rattle.am_scenario_lines.specs.Places.{below, node_at, is_wanted, end_word, end_at, tag_at, serial_at}
+use Rattle.am_scenario_lines.specs.Declarations.{mask_at}
+use Rattle.am_scenario_lines.specs.Calls.{kind_at}
 use Rattle.am_scenario.proofs.Below.{found_holds}
 use Rattle.am_lab_scenario.proofs.Words.{number_read, number_differs, serial_read}
 
@@ -45,7 +45,8 @@ pub below_here : (limit n : ℕ) (rest : List Word) → n < limit → n < 2 ^ 64
 unfolding below
 below_here limit n rest h small = let less : ltb n limit ≡ true = lt-ltb n limit h in rw (number_here n rest small, less) refl
 
-pub node_here : (settings : Settings) (node : NodeId) (rest : List Word) → node.0 < node_count settings → node_count settings ≤ 16 → node_at settings (decimal node.0 ∷ rest) ≡ Ok (node, rest)
+pub node_here : (settings : Settings) (node : NodeId) (rest : List Word) → node.0 < node_count settings → node_count settings ≤ 16 →
+    node_at settings (decimal node.0 ∷ rest) ≡ Ok (node, rest)
 unfolding node_at
 node_here settings node rest h few = rw (below_here (node_count settings) node.0 rest h (omega arith)) refl
 
@@ -56,7 +57,8 @@ unfolding tag_at word_at tag
 tag_here t rest h = elim (cases_eq t.0 0) [
   | inl z ↦ let yes : eqb t.0 0 ≡ true = eq-eqb t.0 0 z in rw (yes, z) refl
   | inr nz ↦ elim (cases_eq t.0 18446744073709551615) [
-    | inl m ↦ let differ : eqb t.0 0 ≡ false = ne_eqb t.0 0 nz in let yes : eqb t.0 18446744073709551615 ≡ true = eq-eqb t.0 18446744073709551615 m in rw (differ, yes, m) refl
+    | inl m ↦ let differ : eqb t.0 0 ≡ false = ne_eqb t.0 0 nz in let yes : eqb t.0 18446744073709551615 ≡ true = eq-eqb t.0 18446744073709551615 m in
+        rw (differ, yes, m) refl
     | inr nm ↦
         let differ : eqb t.0 0 ≡ false = ne_eqb t.0 0 nz in
         let max : eqb t.0 18446744073709551615 ≡ false = ne_eqb t.0 18446744073709551615 nm in
@@ -103,7 +105,8 @@ end_on ends node id h =
     let found = mapped_to (λ end. end.node) (find (λ end. eqb end.id.0 id.0) ends) node h in
     (found.0, found.1, eq-eqb found.0.node.0 node.0 (ap (λ (n : NodeId). n.0) found.2))
 
-pub end_with_node : (ends : List EndLine) (node : NodeId) (id : EndpointId) → IsOn ends node id → (end : EndLine) × (find (λ end. eqb end.id.0 id.0) ends ≡ Some end) × (end.node ≡ node)
+pub end_with_node : (ends : List EndLine) (node : NodeId) (id : EndpointId) → IsOn ends node id →
+    (end : EndLine) × (find (λ end. eqb end.id.0 id.0) ends ≡ Some end) × (end.node ≡ node)
 end_with_node ends node id h = mapped_to (λ end. end.node) (find (λ end. eqb end.id.0 id.0) ends) node h
 
 pub id_of_found : (ends : List EndLine) (id : EndpointId) (end : EndLine) → find (λ end. eqb end.id.0 id.0) ends ≡ Some end → end.id ≡ id
@@ -118,11 +121,13 @@ small_id ends wanted id small w =
     let n : w.0.id.0 ≡ id.0 = ap (λ (e : EndpointId). e.0) same in
     omega arith
 
-pub end_word_here : (said : Said) (wanted : Option NodeId) (id : EndpointId) → id.0 < 2 ^ 64 → (w : IsWantedEnd said.ends wanted id) → end_word said wanted (decimal id.0) ≡ Ok w.0
+pub end_word_here : (said : Said) (wanted : Option NodeId) (id : EndpointId) → id.0 < 2 ^ 64 → (w : IsWantedEnd said.ends wanted id) →
+    end_word said wanted (decimal id.0) ≡ Ok w.0
 unfolding end_word
 end_word_here said wanted id small w = rw (number_read id.0 small, w.1, w.2) refl
 
-pub end_here : (said : Said) (wanted : Option NodeId) (id : EndpointId) (rest : List Word) → All (λ end. end.id.0 ≤ 255) said.ends → IsWantedEnd said.ends wanted id → end_at said wanted (decimal id.0 ∷ rest) ≡ Ok (id, rest)
+pub end_here : (said : Said) (wanted : Option NodeId) (id : EndpointId) (rest : List Word) → All (λ end. end.id.0 ≤ 255) said.ends →
+    IsWantedEnd said.ends wanted id → end_at said wanted (decimal id.0 ∷ rest) ≡ Ok (id, rest)
 unfolding end_at word_at
 end_here said wanted id rest small w =
     rw (end_word_here said wanted id (small_id said.ends wanted id small w) w, id_of_found said.ends id w.0 w.1) refl

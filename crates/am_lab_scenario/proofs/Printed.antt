@@ -3,9 +3,9 @@ use Rattle.std.proofs.Common.{◌≡◌, ℕ, List, [], ◌∷◌, ◌++◌, sym
 use Rattle.std.proofs.lemmas.List.{append-nil}
 use Rattle.am_office.specs.declared.Event.{Event}
 use Rattle.am_office.specs.declared.Outcome.TheVariants as Out
-use Rattle.am_text.specs.Words.{Word, spaced, line}
-use Rattle.am_text.proofs.Extended.{spaced_append}
-use Rattle.am_entry_lines.specs.Lines.{line_of, outcome, who, what}
+use Rattle.am_office_text.specs.Words.{Word, spaced, line}
+use Rattle.am_office_text.proofs.Extended.{spaced_append}
+use Rattle.am_office_lines.specs.Lines.{line_of, outcome, who, what}
 use Rattle.am_lab_scenario.specs.Texts.{event_line}
 
 -- one word behind a space
@@ -15,10 +15,13 @@ one_word new mid word e = e ∙ ap (λ (l : List ℕ). mid ++ l) (append-nil (co
 
 -- a line whose words are appended in two parts
 pub whole_line : {T E : Type 0} (result : Result T E) (old one two three new first : List ℕ) (ws vs : List Word)
-    → one ≡ old ++ first → two ≡ one ++ spaced ws → three ≡ two ++ spaced vs → OnOk result (new ≡ three ++ codes "\n") → OnOk result (new ≡ old ++ line first (ws ++ vs))
+    → one ≡ old ++ first → two ≡ one ++ spaced ws → three ≡ two ++ spaced vs → OnOk result (new ≡ three ++ codes "\n") →
+    OnOk result (new ≡ old ++ line first (ws ++ vs))
 whole_line (Ok x) old one two three new first ws vs e1 e2 e3 e4 =
-    let words : three ≡ one ++ spaced (ws ++ vs) = e3 ∙ ap (λ (l : List ℕ). l ++ spaced vs) e2 ∙ append_assoc one (spaced ws) (spaced vs) ∙ ap (λ (l : List ℕ). one ++ l) (sym (spaced_append ws vs)) in
-    let all : three ≡ old ++ (first ++ spaced (ws ++ vs)) = words ∙ ap (λ (l : List ℕ). l ++ spaced (ws ++ vs)) e1 ∙ append_assoc old first (spaced (ws ++ vs)) in
+    let words : three ≡ one ++ spaced (ws ++ vs) = e3 ∙ ap (λ (l : List ℕ). l ++ spaced vs) e2 ∙ append_assoc one (spaced ws) (spaced vs)
+    ∙ ap (λ (l : List ℕ). one ++ l) (sym (spaced_append ws vs)) in
+    let all : three ≡ old ++ (first ++ spaced (ws ++ vs)) = words ∙ ap (λ (l : List ℕ). l ++ spaced (ws ++ vs)) e1
+    ∙ append_assoc old first (spaced (ws ++ vs)) in
     e4 ∙ ap (λ (l : List ℕ). l ++ codes "\n") all ∙ append_assoc old (first ++ spaced (ws ++ vs)) (codes "\n")
 whole_line (Err x) old one two three new first ws vs e1 e2 e3 e4 = e4
 

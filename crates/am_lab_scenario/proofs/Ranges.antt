@@ -1,5 +1,6 @@
 -- The events of a history may stand in a step script, whoever made them.
-use Rattle.std.proofs.Common.{◌≡◌, ℕ, ◌<◌, ◌≤◌, ◌^◌, Bool, true, eqb, ltb, ◌||◌, List, [], ◌∷◌, ◌++◌, map, Option, Some, None, refl, sym, ap, ◌∙◌, inl, inr, arith}
+use Rattle.std.proofs.Common.{◌≡◌, ℕ, ◌<◌, ◌≤◌, ◌^◌, Bool, true, eqb, ltb, ◌||◌, List, [], ◌∷◌, ◌++◌, map, Option, Some, None, refl, sym, ap, ◌∙◌, inl, inr}
+use Rattle.std.proofs.Common.{arith}
 use Rattle.std.specs.List.{All, list_any}
 use Rattle.std.proofs.lemmas.Bool.{and_parts, cases_Bool, ltb-true, leb-true}
 use Rattle.std.proofs.lemmas.List.Elements.{All-nil, All-cons}
@@ -18,7 +19,7 @@ use Rattle.am_model.specs.History.{EachAfter, MayFollow, is_in_range, is_call_in
 use Rattle.am_scenario_types.specs.declared.parts.EndLine.{EndLine}
 use Rattle.am_scenario_types.specs.Lists.{ScenarioLists}
 use Rattle.am_scenario_types.specs.Lawful.{IsDeclared, IsWithin, AreWords, IsLawfulKind, IsLawfulCall, IsLawfulEvent, least_credits}
-use Rattle.am_scripts.specs.Layout.{setting_of, layout_of}
+use Rattle.am_model_scripts.specs.Layout.{setting_of, layout_of}
 use Rattle.am_lab_scenario.specs.Replays.{by_anyone, HistoriesAreReplayable}
 
 declared_back : (ends : List EndLine) (id : EndpointId) → list_any (has_id id) (map setting_of ends) ≡ true → IsDeclared ends id
@@ -26,7 +27,8 @@ declared_back [] id h = absurd cc
 declared_back (end ∷ ends) id h = elim (cases_Bool (eqb end.id.0 id.0)) [
   | inl t ↦ rw t refl
   | inr f ↦
-      let rest : list_any (has_id id) (map setting_of ends) ≡ true = sym (ap (λ (b : Bool). b || list_any (has_id id) (map setting_of ends)) (eqb_commutes id.0 end.id.0 ∙ f)) ∙ h in
+      let rest : list_any (has_id id) (map setting_of ends) ≡ true =
+      sym (ap (λ (b : Bool). b || list_any (has_id id) (map setting_of ends)) (eqb_commutes id.0 end.id.0 ∙ f)) ∙ h in
       rw f (declared_back ends id rest)
 ]
 
@@ -73,7 +75,8 @@ call_back s (Calls.Test mask) h = tt
 number_back : (n : ℕ) → ltb n (2 ^ 32) ≡ true → n ≤ 0xffff_ffff
 number_back n h = let less : n < 2 ^ 32 = ltb-true n (2 ^ 32) h in omega arith
 
-event_back : (s : ScenarioLists) (e : Event) → is_in_range (layout_of s) e ≡ true → IsLawfulEvent s.ends s.nodes s.frames s.channels (least_credits s.pool) (by_anyone e)
+event_back : (s : ScenarioLists) (e : Event) → is_in_range (layout_of s) e ≡ true →
+    IsLawfulEvent s.ends s.nodes s.frames s.channels (least_credits s.pool) (by_anyone e)
 unfolding by_anyone
 event_back s (Events.Call actor end call) h =
     let p = and_parts _ _ h in

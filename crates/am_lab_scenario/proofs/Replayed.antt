@@ -6,12 +6,13 @@ use Rattle.std.proofs.lemmas.List.Elements.{All-nil, All-map}
 use Rattle.am_lemmas.proofs.Lists.{all_pairs_none}
 use Rattle.am_office.specs.declared.Event.{Event}
 use Rattle.am_office.specs.declared.Entry.{Entry}
-use Rattle.am_plan.specs.declared.plan.PlanLine.{PlanLine}
+use Rattle.am_scenario_plan.specs.declared.plan.PlanLine.{PlanLine}
 use Rattle.am_scenario_types.specs.declared.parts.Form.TheVariants.{Step}
 use Rattle.am_scenario_types.specs.declared.parts.StepLine.{StepLine}
 use Rattle.am_scenario_types.specs.Lists.{ScenarioLists}
 use Rattle.am_scenario_types.specs.Lawful.{IsLawful, IsLawfulPlanLine, IsSamePlace, IsLawfulScriptCall, IsLawfulEvent, least_credits}
-use Rattle.am_lab_scenario.specs.Texts.{setting_lines, number_lines, declared_lines, end_line, bundle_line, thread_line, swap_fault_line, step_line, scenario_text, lines_before, in_lines}
+use Rattle.am_lab_scenario.specs.Texts.{setting_lines, number_lines, declared_lines, end_line, bundle_line, thread_line, swap_fault_line, step_line}
+use Rattle.am_lab_scenario.specs.Texts.{scenario_text, lines_before, in_lines}
 use Rattle.am_lab_scenario.specs.Replays.{by_anyone, step_of, replay_line, step_script, IsReplayable, ReplaysAreRead, StepsAreEvents}
 use Rattle.am_lab_scenario.proofs.Spelled.{printed_is_read}
 
@@ -58,7 +59,8 @@ is_lawful s journal lawful may =
 pub replay_is_read : ReplaysAreRead
 replay_is_read s journal lawful may = printed_is_read Step (step_script s journal) (is_lawful s journal lawful may) (refl, refl)
 
-events_kept : (before : ℕ) (journal : List Entry) → map (λ (step : StepLine). step.event) (in_lines before (map step_of journal)) ≡ map (λ (x : Entry). by_anyone x.event) journal
+events_kept : (before : ℕ) (journal : List Entry) → map (λ (step : StepLine). step.event) (in_lines before (map step_of journal)) ≡ map
+    (λ (x : Entry). by_anyone x.event) journal
 unfolding in_lines
 events_kept before [] = refl
 events_kept before (x ∷ journal) = ap (λ (l : List Event). by_anyone x.event ∷ l) (events_kept (before + 1) journal)
@@ -72,11 +74,15 @@ step_by_step : (journal : List Entry) → flat_map replay_line journal ≡ flat_
 step_by_step [] = refl
 step_by_step (x ∷ journal) = ap (λ (l : List ℕ). replay_line x ++ l) (step_by_step journal)
 
-pub declared_is : (s : ScenarioLists) (journal : List Entry) → flat_map end_line s.ends ++ flat_map bundle_line s.bundles ++ flat_map thread_line s.threads ++ flat_map swap_fault_line s.faults ≡ declared_lines (step_script s journal)
+pub declared_is : (s : ScenarioLists) (journal : List Entry) →
+    flat_map end_line s.ends ++ flat_map bundle_line s.bundles ++ flat_map thread_line s.threads ++ flat_map swap_fault_line s.faults ≡ declared_lines
+    (step_script s journal)
 unfolding declared_lines
-declared_is s journal = ap (λ (l : List ℕ). l ++ flat_map swap_fault_line s.faults) (sym (append-nil (flat_map end_line s.ends ++ flat_map bundle_line s.bundles ++ flat_map thread_line s.threads)))
+declared_is s journal = ap (λ (l : List ℕ). l ++ flat_map swap_fault_line s.faults) (sym
+    (append-nil (flat_map end_line s.ends ++ flat_map bundle_line s.bundles ++ flat_map thread_line s.threads)))
 
-pub text_is : (s : ScenarioLists) (journal : List Entry) → setting_lines s ++ (flat_map end_line s.ends ++ flat_map bundle_line s.bundles ++ flat_map thread_line s.threads ++ flat_map swap_fault_line s.faults) ++ flat_map replay_line journal ≡ scenario_text (step_script s journal)
+pub text_is : (s : ScenarioLists) (journal : List Entry) → setting_lines s ++ (flat_map end_line s.ends ++ flat_map bundle_line s.bundles ++ flat_map
+    thread_line s.threads ++ flat_map swap_fault_line s.faults) ++ flat_map replay_line journal ≡ scenario_text (step_script s journal)
 unfolding scenario_text setting_lines number_lines
 text_is s journal =
     ap (λ (l : List ℕ). setting_lines s ++ l ++ flat_map replay_line journal) (declared_is s journal)

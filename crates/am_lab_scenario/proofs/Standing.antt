@@ -3,7 +3,7 @@ use Rattle.std.proofs.Common.{◌≡◌, ℕ, ◌≤◌, List, Option, Some, Non
 use Rattle.std.specs.List.{All}
 use Rattle.std.proofs.lemmas.List.Elements.{All-weaker}
 use Rattle.am_bundle.specs.Lists.{BundleLists}
-use Rattle.am_plan.specs.declared.plan.PlanLine.{PlanLine}
+use Rattle.am_scenario_plan.specs.declared.plan.PlanLine.{PlanLine}
 use Rattle.am_scenario_types.specs.declared.parts.EndLine.{EndLine}
 use Rattle.am_scenario_types.specs.declared.parts.ThreadLine.{ThreadLine}
 use Rattle.am_scenario_types.specs.declared.parts.FaultLine.{FaultLine}
@@ -11,11 +11,11 @@ use Rattle.am_scenario_types.specs.declared.parts.ScriptCall.{ScriptCall}
 use Rattle.am_scenario_types.specs.declared.parts.StepLine.{StepLine}
 use Rattle.am_scenario_types.specs.Lists.{ScenarioLists}
 use Rattle.am_scenario_types.specs.Lawful.{IsLawful, IsLawfulEnd, least_credits}
-use Rattle.am_draft.specs.declared.settings.Version.{Version}
-use Rattle.am_draft.specs.declared.settings.Version.TheVariants.{One, Two}
-use Rattle.am_draft.specs.declared.settings.Settings.{Settings}
-use Rattle.am_draft.specs.Said.{Said}
-use Rattle.am_lines.specs.Calls.{least_share}
+use Rattle.am_scenario_draft.specs.declared.settings.Version.{Version}
+use Rattle.am_scenario_draft.specs.declared.settings.Version.TheVariants.{One, Two}
+use Rattle.am_scenario_draft.specs.declared.settings.Settings.{Settings}
+use Rattle.am_scenario_draft.specs.Said.{Said}
+use Rattle.am_scenario_lines.specs.Calls.{least_share}
 
 abbrev pub version_said : Option ℕ → Option Version
 version_said None = Some One
@@ -36,7 +36,8 @@ settings_said s = record {
 }
 
 -- all settings and these lines
-abbrev pub standing : ScenarioLists → List EndLine → List BundleLists → List ThreadLine → List PlanLine → List FaultLine → List ScriptCall → List StepLine → Said
+abbrev pub standing : ScenarioLists → List EndLine → List BundleLists → List ThreadLine → List PlanLine → List FaultLine → List ScriptCall → List StepLine →
+    Said
 standing s ends bundles threads plan faults script steps = record {
   section = 0;
   version = version_said s.pool;

@@ -1,5 +1,6 @@
 -- The printed words: each has bytes, all of them printable and none a space, and is read back.
-use Rattle.std.proofs.Common.{◌≡◌, ℕ, ◌+◌, ◌^◌, ◌<◌, ◌≤◌, Bool, true, false, eqb, leb, ltb, ◌&&◌, List, [], ◌∷◌, ◌++◌, length, take, drop, Some, refl, inl, inr, append_assoc, rules, arith}
+use Rattle.std.proofs.Common.{◌≡◌, ℕ, ◌+◌, ◌^◌, ◌<◌, ◌≤◌, Bool, true, false, eqb, leb, ltb, ◌&&◌, List, [], ◌∷◌, ◌++◌, length, take, drop, Some, refl, inl, inr}
+use Rattle.std.proofs.Common.{append_assoc, rules, arith}
 use Rattle.std.specs.Prelude.{codes}
 use Rattle.std.specs.Fmt.{decimal}
 use Rattle.std.specs.List.{list_all, position}
@@ -12,11 +13,11 @@ use Rattle.std.proofs.lemmas.List.Folds.{list_all-append}
 use Rattle.am_lexer.specs.Text.{is_digit, value_after, number_of, has_bytes}
 use Rattle.am_names.specs.declared.Serial.{Serial}
 use Rattle.am_names.specs.declared.Tag.{Tag}
-use Rattle.am_text.specs.Words.{tag, serial}
-use Rattle.am_lines.specs.Places.{serial_of}
+use Rattle.am_office_text.specs.Words.{tag, serial}
+use Rattle.am_scenario_lines.specs.Places.{serial_of}
 use Rattle.am_scenario_types.specs.Lawful.{IsLawfulSerial}
-use Rattle.am_journal_lines.proofs.Decimals.{decimal_free, letters_free}
-use Rattle.am_journal_lines.proofs.Cuts.{is_free, first_place}
+use Rattle.am_check_lines.proofs.Decimals.{decimal_free, letters_free}
+use Rattle.am_check_lines.proofs.Cuts.{is_free, first_place}
 
 -- a byte that may stand in a word
 abbrev pub is_letter : ℕ → Bool
@@ -82,7 +83,8 @@ unfolding tag
 tag_word t h = elim (cases_eq t.0 0) [
   | inl z ↦ let yes : eqb t.0 0 ≡ true = eq-eqb t.0 0 z in rw yes refl
   | inr nz ↦ elim (cases_eq t.0 18446744073709551615) [
-    | inl m ↦ let differ : eqb t.0 0 ≡ false = ne_eqb t.0 0 nz in let yes : eqb t.0 18446744073709551615 ≡ true = eq-eqb t.0 18446744073709551615 m in rw (differ, yes) refl
+    | inl m ↦ let differ : eqb t.0 0 ≡ false = ne_eqb t.0 0 nz in let yes : eqb t.0 18446744073709551615 ≡ true = eq-eqb t.0 18446744073709551615 m in
+        rw (differ, yes) refl
     | inr nm ↦
         let differ : eqb t.0 0 ≡ false = ne_eqb t.0 0 nz in
         let max : eqb t.0 18446744073709551615 ≡ false = ne_eqb t.0 18446744073709551615 nm in

@@ -10,7 +10,7 @@ use Rattle.am_scenario_types.specs.declared.parts.StepLine.{StepLine}
 use Rattle.am_scenario_types.specs.Lists.{ScenarioLists}
 use Rattle.am_scenario_types.specs.Lawful.{IsLawful, IsLawfulEvent, least_credits}
 use Rattle.am_model.specs.History.{IsHistory}
-use Rattle.am_scripts.specs.Layout.{layout_of}
+use Rattle.am_model_scripts.specs.Layout.{layout_of}
 use Rattle.am_scenario.specs.Laws.{Spells}
 use Rattle.am_lab_scenario.specs.Texts.{event_line, scenario_text, as_printed}
 

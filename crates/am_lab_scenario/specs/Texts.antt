@@ -7,9 +7,9 @@ use Rattle.am_office.specs.declared.Actor.TheVariants as Actors
 use Rattle.am_office.specs.declared.Event.{Event}
 use Rattle.am_office.specs.declared.Event.TheVariants as Events
 use Rattle.am_bundle.specs.Lists.{BundleLists}
-use Rattle.am_plan.specs.declared.plan.LinkFault.{LinkFault}
-use Rattle.am_plan.specs.declared.plan.LinkFault.TheVariants.{Lose, Repeat, Late}
-use Rattle.am_plan.specs.declared.plan.PlanLine.{PlanLine}
+use Rattle.am_scenario_plan.specs.declared.plan.LinkFault.{LinkFault}
+use Rattle.am_scenario_plan.specs.declared.plan.LinkFault.TheVariants.{Lose, Repeat, Late}
+use Rattle.am_scenario_plan.specs.declared.plan.PlanLine.{PlanLine}
 use Rattle.am_scenario_types.specs.declared.parts.Network.{Network}
 use Rattle.am_scenario_types.specs.declared.parts.Network.TheVariants.{Direct, Packet}
 use Rattle.am_scenario_types.specs.declared.parts.EndLine.{EndLine}
@@ -18,8 +18,8 @@ use Rattle.am_scenario_types.specs.declared.parts.FaultLine.{FaultLine}
 use Rattle.am_scenario_types.specs.declared.parts.ScriptCall.{ScriptCall}
 use Rattle.am_scenario_types.specs.declared.parts.StepLine.{StepLine}
 use Rattle.am_scenario_types.specs.Lists.{ScenarioLists}
-use Rattle.am_text.specs.Words.{Word, line, tag}
-use Rattle.am_entry_lines.specs.Lines.{who, what, mask}
+use Rattle.am_office_text.specs.Words.{Word, line, tag}
+use Rattle.am_office_lines.specs.Lines.{who, what, mask}
 
 -- ---- the version and the settings
 

@@ -1,18 +1,17 @@
 //! The lines of a scenario's text, each appended to what was there.
 
 ghost use Rattle.std.specs.Prelude.{◌≡◌, ◌++◌, OnOk};
-ghost use Rattle.am_text.specs.Words.{spaced};
-ghost use Rattle.am_entry_lines.specs.Lines as entry;
+ghost use Rattle.am_office_text.specs.Words.{spaced};
 ghost use Rattle.am_lab_scenario.specs.Texts as text;
 
-use am_entry_lines::entry_line;
 use am_names::{EndpointId, NoMemory};
-use am_office::{Actor, Entry, Event, Mask, Outcome};
+use am_office::{Actor, Entry, Event, Outcome};
+use am_office_lines::{entry_line, mask_word};
+use am_office_text::Piece::{Number, Tag, Text};
+use am_office_text::{count, put_end, put_line, put_spaced, put_word, small};
 use am_scenario_types::{
     Bundle, EndLine, FaultLine, LinkFault, Network, PlanLine, ScriptCall, StepLine, ThreadLine,
 };
-use am_text::Piece::{Number, Tag, Text};
-use am_text::{count, put_end, put_line, put_spaced, put_word, small};
 use std::alloc::AllocError;
 
 #[tactic(auto, unfolding(crate::specs::Texts::network_word))]
@@ -41,16 +40,6 @@ pub fn put_end_line(out: &mut Vec<u8>, end: &EndLine) -> Result<(), AllocError>
         put_line(out, "endpoint", &[id, node, tag, Text("disk")])
     } else {
         put_line(out, "endpoint", &[id, node, tag])
-    }
-}
-
-#[tactic(auto, unfolding(am_entry_lines::specs::Lines::mask))]
-fn mask_word(mask: Mask) -> &'static str
-    ensures { result.now ≡ entry.mask mask }
-{
-    match mask {
-        Mask::NoEvents => "noevents",
-        Mask::NotEmpty => "notempty",
     }
 }
 

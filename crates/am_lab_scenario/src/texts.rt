@@ -15,11 +15,11 @@ use crate::lines::{
     put_step_line, put_swap_fault_line, put_thread_line,
 };
 use am_names::NoMemory;
+use am_office_text::Piece::Text;
+use am_office_text::put_line;
 use am_scenario_types::{
     Bundle, EndLine, FaultLine, PlanLine, Scenario, ScriptCall, StepLine, ThreadLine,
 };
-use am_text::Piece::Text;
-use am_text::put_line;
 use std::alloc::{AllocError, Global};
 
 fn version_number(pool: Option<u8>) -> u32

@@ -8,10 +8,10 @@ ghost use Rattle.am_scenario_types.specs.declared.parts.Form.TheVariants as Form
 ghost use Rattle.am_scenario_types.specs.declared.parts.Network.TheVariants as Networks;
 ghost use Rattle.std.specs.Prelude.{◌≡◌, IfOk};
 
+use am_cluster_schedule::run_scheduled;
 use am_main_lines::{Output, fault_output};
 use am_main_run::ended_output;
 use am_scenario::{Form, ReadFault, Scenario, read};
-use am_schedule::run_scheduled;
 use std::alloc::{AllocError, Global};
 
 /// What is printed of a scenario's run by this seed.

@@ -27,9 +27,11 @@ printed_again : (s : ScenarioLists) → scenario_text (as_printed s) ≡ scenari
 unfolding scenario_text setting_lines number_lines declared_lines
 printed_again s = ap (λ (l : List ℕ). setting_lines s ++ declared_lines s ++ flat_map call_line s.script ++ l) (steps_again (lines_before s) s.steps)
 
-pub says_printed : (form : Form) (bytes : List ℕ) (s : ScenarioLists) (answer : Answer) → Spells form bytes s → IsLawful s → IsOfForm form s → answer ≡ record { status = 0; text = scenario_text s } → ScenarioAnswers form bytes answer
+pub says_printed : (form : Form) (bytes : List ℕ) (s : ScenarioLists) (answer : Answer) → Spells form bytes s → IsLawful s → IsOfForm form s →
+    answer ≡ record { status = 0; text = scenario_text s } → ScenarioAnswers form bytes answer
 says_printed form bytes s answer spelled lawful of_form is =
     inl (record { scenario = s; spelled = spelled; answer' = is; back = read_back form s lawful of_form; again = printed_again s })
 
-pub says_refused : (form : Form) (bytes : List ℕ) (fault : ScenarioFault) (answer : Answer) → FirstFault form bytes fault → answer ≡ refusal fault → ScenarioAnswers form bytes answer
+pub says_refused : (form : Form) (bytes : List ℕ) (fault : ScenarioFault) (answer : Answer) → FirstFault form bytes fault → answer ≡ refusal fault →
+    ScenarioAnswers form bytes answer
 says_refused form bytes fault answer first is = inr (record { fault = fault; first = first; answer' = is })

@@ -5,7 +5,7 @@ use Rattle.am_check_laws.specs.Laws.{IsRunHistory, IsTrueReport}
 use Rattle.am_main_check.specs.Checks.{CheckAnswers}
 use Rattle.am_main_lines.specs.Lines.{Answer}
 use Rattle.am_office.specs.declared.Entry.{Entry}
-use Rattle.am_report.specs.Report.{report}
+use Rattle.am_office_report.specs.Report.{report}
 use Rattle.am_scenario_types.specs.declared.parts.Form.TheVariants.{Run}
 use Rattle.am_scenario_types.specs.Lists.{ScenarioLists}
 use Rattle.am_lab_replays.specs.Laws.{MakesItAgain, replay_of}

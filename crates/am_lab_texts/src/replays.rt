@@ -9,7 +9,8 @@ ghost use Rattle.am_scenario_types.specs.Lawful.{IsLawful};
 ghost use Rattle.am_scenario_types.specs.declared.parts.Form.TheVariants.{Run};
 ghost use Rattle.std.specs.Prelude.{◌≡◌, ◌≤◌, ◌<◌, ◌^◌, IfOk, List, length};
 
-use am_lab_journal::{place_of, reach_end};
+use am_check::place_of;
+use am_lab_journal::reach_end;
 use am_lab_replays::replays_are_the_run;
 use am_lab_scenario::replay_text;
 use am_machine::Cluster;
@@ -62,7 +63,8 @@ fn told_report(alloc: Global, scenario: &Scenario, bytes: &[u8]) -> Result<Outpu
 {
     let mut cluster = Cluster::new(alloc, scenario)?;
     reach_end(&mut cluster, bytes)?;
-    let journal = cluster.journal(alloc)?;
+    let logged = cluster.journal(alloc)?;
+    let journal = logged.copied(alloc)?;
     told(alloc, scenario, &journal)
 }
 

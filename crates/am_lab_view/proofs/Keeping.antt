@@ -13,7 +13,7 @@ use Rattle.am_model.specs.History.{IsHistory, MayFollow, state_of}
 use Rattle.am_model.specs.Layout.{EndSetting, IsLawful, Layout, has_id, opening_by}
 use Rattle.am_model.proofs.Each.{each_push, state_of_push}
 use Rattle.am_model.proofs.Unchanged.{paged_out_body}
-use Rattle.am_drain.proofs.Entries.{entry_may_follow}
+use Rattle.am_model_drain.proofs.Entries.{entry_may_follow}
 use Rattle.am_laws_disk.specs.Disk.{pages_out}
 use Rattle.am_laws_disk.proofs.Still.{stays}
 use Rattle.am_machine.proofs.Applied.{enabled_of}
@@ -46,7 +46,9 @@ if_body : (t : Bool) (a b : State) → a.body ≡ b.body → (if t then a else b
 if_body true a b e = e
 if_body false a b e = refl
 
-body_by : (layout : Layout) (past : List Entry) (x : Entry) (e : EndpointId) (direct out : Bool) → layout.direct ≡ direct → pages_out e x.event ≡ out → IsLawful layout → IsHistory layout past → MayFollow layout past x → is_on_disk (state_of layout (past ++ x ∷ []) e).head.place ≡ true → (state_of layout (past ++ x ∷ []) e).body ≡ (state_of layout past e).body
+body_by : (layout : Layout) (past : List Entry) (x : Entry) (e : EndpointId) (direct out : Bool) → layout.direct ≡ direct → pages_out e x.event ≡ out →
+    IsLawful layout → IsHistory layout past → MayFollow layout past x → is_on_disk (state_of layout (past ++ x ∷ []) e).head.place ≡ true →
+    (state_of layout (past ++ x ∷ []) e).body ≡ (state_of layout past e).body
 body_by layout past x e true out direct is lawful history may on =
     absurd (true≢false (sym on ∙ off_disk layout direct (past ++ x ∷ []) (each_push (MayFollow layout) [] past x history may) e))
 body_by layout past x e false true direct is lawful history may on =
@@ -54,7 +56,12 @@ body_by layout past x e false true direct is lawful history may on =
     ∙ if_body (touches e x) (after e (state_of layout past e) x) (state_of layout past e) (paged_body e (state_of layout past e) x.event x.outcome is)
 body_by layout past x e false false direct is lawful history may on = (stays layout past x direct lawful history may e is on).body
 
-pub keeps_next : (layout : Layout) (past : List Entry) (x : Entry) (e : EndpointId) (kept : Standing) → IsLawful layout → IsHistory layout past → MayFollow layout past x → kept ≡ standing layout past e → Keeps kept (state_of layout (past ++ x ∷ []) e)
+pub keeps_next : (layout : Layout) (past : List Entry) (x : Entry) (e : EndpointId) (kept : Standing) → IsLawful layout → IsHistory layout past →
+    MayFollow layout past x → kept ≡ standing layout past e → Keeps kept (state_of layout (past ++ x ∷ []) e)
 keeps_next layout past x e kept lawful history may is on =
-    let body : (state_of layout (past ++ x ∷ []) e).body ≡ (state_of layout past e).body = body_by layout past x e layout.direct (pages_out e x.event) refl refl lawful history may on in
-    (ap (λ (s : Standing). s.records) is ∙ ap (λ (b : Body). length b.awaited) (sym body), ap (λ (s : Standing). s.received) is ∙ ap (λ (b : Body). length b.received) (sym body))
+    let body : (state_of layout (past ++ x ∷ []) e).body ≡ (state_of layout past e).body =
+    body_by layout past x e layout.direct (pages_out e x.event) refl refl lawful history may on in (
+      ap (λ (s : Standing). s.records) is ∙ ap (λ (b : Body). length b.awaited) (sym body),
+      ap (λ (s : Standing). s.received) is
+          ∙ ap (λ (b : Body). length b.received) (sym body),
+    )

@@ -1,18 +1,19 @@
 -- In a history each packet that is received was emitted before, so each receipt has its arrow.
-use Rattle.std.proofs.Common.{◌≡◌, ℕ, suc, ◌+◌, ◌<◌, ◌≤◌, Bool, true, false, ◌&&◌, ◌||◌, ◌==◌, cond, List, [], ◌∷◌, ◌++◌, Option, Some, None, is_some, length, map, refl, sym, ap, ◌∙◌, subst, true≢false, arith, filter_map, ⊎_elim, length-append, append_assoc}
+use Rattle.std.proofs.Common.{◌≡◌, ℕ, suc, ◌+◌, ◌<◌, ◌≤◌, Bool, true, false, ◌&&◌, ◌||◌, ◌==◌, cond, List, [], ◌∷◌, ◌++◌, Option, Some, None, is_some, length}
+use Rattle.std.proofs.Common.{map, refl, sym, ap, ◌∙◌, subst, true≢false, arith, filter_map, ⊎_elim, length-append, append_assoc}
 use Rattle.std.specs.Prelude.{nat_le, nat_lt}
 use Rattle.std.specs.List.{AllByRecursion, cons_option, filter, position_from}
 use Rattle.std.specs.Option.{option_map, option_or}
 use Rattle.std.proofs.lemmas.Bool.{cases_lt, eq-eqb, eqb-true, le-leb, leb-true, lt-ltb, ltb-false}
 use Rattle.std.proofs.lemmas.List.Elements.{filter-append, filter_map-append}
 use Rattle.am_lemmas.proofs.Lists.{slice_get-Some}
-use Rattle.am_drain_steps.proofs.Receipts.{packet_next}
+use Rattle.am_laws_drain_steps.proofs.Receipts.{packet_next}
 use Rattle.am_model.specs.Channels.{emitted, is_on_link}
 use Rattle.am_model.specs.Choice.{first_holding}
 use Rattle.am_model.specs.History.{EachAfter, IsHistory, MayFollow, failing, is_in_range}
 use Rattle.am_model.specs.Layout.{Layout}
 use Rattle.am_model.proofs.Each.{over_each}
-use Rattle.am_names.specs.Packets.{from_of, number_of, receiver_of}
+use Rattle.am_names.specs.Packets.{from_of, number_of, receiver_of, way_of}
 use Rattle.am_names.specs.declared.NodeId.{NodeId}
 use Rattle.am_names.specs.declared.Packet.{Packet}
 use Rattle.am_names.specs.declared.Packet.TheVariants as Packets
@@ -24,13 +25,14 @@ use Rattle.am_office.specs.declared.Event.{Event}
 use Rattle.am_office.specs.declared.Event.TheVariants as Events
 use Rattle.am_lab_picture.specs.Arrows.{arrow_at, arrow_by, arrow_from, arrow_of, arrow_shown, counts, if_shown, is_among, is_shown}
 use Rattle.am_lab_picture.specs.Abouts.{about_of}
-use Rattle.am_lab_picture.specs.Numbered.{numbered}
+use Rattle.am_lemmas.specs.Numbered.{numbered}
 use Rattle.am_lab_picture.specs.Rows.{named_by}
-use Rattle.am_lab_picture.specs.Ways.{emits, emitter, is_way, received_way, way_of}
+use Rattle.am_lab_picture.specs.Ways.{emits, emitter, is_way, received_way}
 use Rattle.am_lab_picture.specs.declared.data.Arrow.{Arrow}
-use Rattle.am_lab_picture.specs.declared.ways.Way.{Way}
+use Rattle.am_names.specs.declared.Way.{Way}
 use Rattle.am_lab_picture.proofs.Finding.{position_push}
-use Rattle.am_lab_picture.proofs.Shown.{and_left, and_right, found_at, node_is}
+use Rattle.am_lemmas.proofs.Bools.{and_first, and_second}
+use Rattle.am_lab_picture.proofs.Shown.{found_at, node_is}
 use Rattle.am_lab_view.specs.Laws.{EachReceiptHasItsArrow, all_lines, receipt_line}
 
 -- ---- what was emitted is found
@@ -48,7 +50,8 @@ some_last (Some n) k = refl
 
 emitted_push : (from to : NodeId) (past more : List Entry) → emitted from to (past ++ more) ≡ emitted from to past ++ emitted from to more
 emitted_push from to past more =
-    ap (filter (is_on_link from to)) (filter_map-append emitted_of past more) ∙ filter-append (is_on_link from to) (filter_map emitted_of past) (filter_map emitted_of more)
+    ap (filter (is_on_link from to)) (filter_map-append emitted_of past more)
+    ∙ filter-append (is_on_link from to) (filter_map emitted_of past) (filter_map emitted_of more)
 
 on_link : (from to : NodeId) (p : Packet) → is_on_link from to p ≡ (same_node from (from_of p) && same_node to (receiver_of p))
 on_link from to (Packets.Parcel p) = refl
@@ -61,13 +64,17 @@ to_way from to n = record { from = from; to = to; number = n }
 abbrev IsFound : List Entry → Type 0
 IsFound journal = (from to : NodeId) (n : ℕ) → 1 ≤ n → n ≤ length (emitted from to journal) → is_some (emitter journal (to_way from to n)) ≡ true
 
-module _ (layout : Layout) (past : List Entry) (x : Entry) (may : MayFollow layout past x) (from to : NodeId) (n : ℕ) (above : length (emitted from to past) < n) where
-  new_on : (p : Packet) (b : Bool) → emitted_of x ≡ Some p → is_on_link from to p ≡ b → n ≤ length (emitted from to past) + length (cond b (p ∷ []) []) → is_way (to_way from to n) (Some (way_of p)) ≡ true
+module _ (layout : Layout) (past : List Entry) (x : Entry) (may : MayFollow layout past x) (from to : NodeId) (n : ℕ)
+    (above : length (emitted from to past) < n) where
+  new_on : (p : Packet) (b : Bool) → emitted_of x ≡ Some p → is_on_link from to p ≡ b → n ≤ length (emitted from to past) + length (cond b (p ∷ []) []) →
+      is_way (to_way from to n) (Some (way_of p)) ≡ true
   new_on p false e on most = absurd (omega (arith, above, most))
   new_on p true e on most =
       let link : (same_node from (from_of p) && same_node to (receiver_of p)) ≡ true = sym (on_link from to p) ∙ on in
-      let is_from : from ≡ from_of p = node_is from (from_of p) (eqb-true from.0 (from_of p).0 (and_left (same_node from (from_of p)) (same_node to (receiver_of p)) link)) in
-      let is_to : to ≡ receiver_of p = node_is to (receiver_of p) (eqb-true to.0 (receiver_of p).0 (and_right (same_node from (from_of p)) (same_node to (receiver_of p)) link)) in
+      let is_from : from ≡ from_of p = node_is from (from_of p) (eqb-true from.0 (from_of p).0
+      (and_first (same_node from (from_of p)) (same_node to (receiver_of p)) link)) in
+      let is_to : to ≡ receiver_of p = node_is to (receiver_of p) (eqb-true to.0 (receiver_of p).0
+      (and_second (same_node from (from_of p)) (same_node to (receiver_of p)) link)) in
       let next : number_of p ≡ length (emitted from to past) + 1 =
       packet_next layout past x may p e
       ∙ ap (λ (a : NodeId). length (emitted a (receiver_of p) past) + 1) (sym is_from)
@@ -76,19 +83,22 @@ module _ (layout : Layout) (past : List Entry) (x : Entry) (may : MayFollow layo
       let same : n ≡ number_of p = omega (arith, above, most, next) in
       both (same_node from (from_of p) && same_node to (receiver_of p)) (n == number_of p) link (eq-eqb n (number_of p) same)
 
-  new_by : (o : Option Packet) → emitted_of x ≡ o → n ≤ length (emitted from to past) + length (filter (is_on_link from to) (cons_option o [])) → is_way (to_way from to n) (option_map way_of o) ≡ true
+  new_by : (o : Option Packet) → emitted_of x ≡ o → n ≤ length (emitted from to past) + length (filter (is_on_link from to) (cons_option o [])) →
+      is_way (to_way from to n) (option_map way_of o) ≡ true
   new_by None e most = absurd (omega (arith, above, most))
   new_by (Some p) e most = new_on p (is_on_link from to p) e refl most
 
 found_more : (layout : Layout) (past : List Entry) (x : Entry) → IsFound past → MayFollow layout past x → IsFound (past ++ x ∷ [])
 found_more layout past x found may from to n least most =
     let w = to_way from to n in
-    let pushed : emitter (past ++ x ∷ []) w ≡ option_or (emitter past w) (cond (emits w x) (Some (length past)) None) = position_push (emits w) 0 (length past) past x (omega arith) in
+    let pushed : emitter (past ++ x ∷ []) w ≡ option_or (emitter past w) (cond (emits w x) (Some (length past)) None) =
+    position_push (emits w) 0 (length past) past x (omega arith) in
     let grown = ap (λ (l : List Packet). length l) (emitted_push from to past (x ∷ [])) ∙ length-append (emitted from to past) (emitted from to (x ∷ [])) in
     ap is_some pushed
     ∙ ⊎_elim
     (λ (above : length (emitted from to past) < n).
-    ap (λ (b : Bool). is_some (option_or (emitter past w) (cond b (Some (length past)) None))) (new_by layout past x may from to n above (emitted_of x) refl (omega (arith, most, grown)))
+    ap (λ (b : Bool). is_some (option_or (emitter past w) (cond b (Some (length past)) None)))
+    (new_by layout past x may from to n above (emitted_of x) refl (omega (arith, most, grown)))
     ∙ some_last (emitter past w) (length past))
     (λ (within : n ≤ length (emitted from to past)). some_first (emitter past w) (cond (emits w x) (Some (length past)) None) (found from to n least within))
     (cases_lt (length (emitted from to past)) n)
@@ -110,12 +120,13 @@ pub record IsThere (past : List Entry) (w : Way) : Type 0 where
   pub least : 1 ≤ w.number
   pub most : w.number ≤ length (emitted w.from w.to past)
 
-there_by : (layout : Layout) (past : List Entry) (event : Event) → is_in_range layout event ≡ true → failing layout past event ≡ None → (w : Way) → received_way event ≡ Some w → IsThere past w
+there_by : (layout : Layout) (past : List Entry) (event : Event) → is_in_range layout event ≡ true → failing layout past event ≡ None → (w : Way) →
+    received_way event ≡ Some w → IsThere past w
 there_by layout past (Events.Receive node peer number) range enabled w is =
     let way : record { from = peer; to = node; number = number } ≡ w = cc in
     subst (λ (v : Way). IsThere past v) way
     (record {
-      least = leb-true 1 number (and_right _ (nat_le 1 number) (and_left _ _ range));
+      least = leb-true 1 number (and_second _ (nat_le 1 number) (and_first _ _ range));
       most = ltb-false (length (emitted peer node past)) number (second_fails layout.direct (nat_lt (length (emitted peer node past)) number) _ _ enabled);
     })
 there_by layout past event range enabled w is = absurd (cc)
@@ -124,13 +135,16 @@ there_by layout past event range enabled w is = absurd (cc)
 abbrev HasEmitter : List Entry → Entry → Type 0
 HasEmitter journal x = (w : Way) → received_way x.event ≡ Some w → is_some (emitter journal w) ≡ true
 
-each_has : (layout : Layout) (journal past xs : List Entry) → IsFound journal → past ++ xs ≡ journal → EachAfter (MayFollow layout) past xs → AllByRecursion (HasEmitter journal) xs
+each_has : (layout : Layout) (journal past xs : List Entry) → IsFound journal → past ++ xs ≡ journal → EachAfter (MayFollow layout) past xs →
+    AllByRecursion (HasEmitter journal) xs
 each_has layout journal past [] found all each = tt
 each_has layout journal past (x ∷ xs) found all each = (
   λ (w : Way) (is : received_way x.event ≡ Some w).
       let there = there_by layout past x.event each.0.in_range each.0.enabled w is in
       let most = there.most in
-      let grown = ap (λ (j : List Entry). length (emitted w.from w.to j)) (sym all) ∙ ap (λ (l : List Packet). length l) (emitted_push w.from w.to past (x ∷ xs)) ∙ length-append (emitted w.from w.to past) (emitted w.from w.to (x ∷ xs)) in
+      let grown = ap (λ (j : List Entry). length (emitted w.from w.to j)) (sym all)
+      ∙ ap (λ (l : List Packet). length l) (emitted_push w.from w.to past (x ∷ xs))
+      ∙ length-append (emitted w.from w.to past) (emitted w.from w.to (x ∷ xs)) in
       found w.from w.to w.number there.least (omega (arith, most, grown)),
   each_has layout journal (past ++ x ∷ []) xs found (append_assoc past (x ∷ []) xs ∙ all) each.1,
 )
@@ -152,20 +166,23 @@ module _ (journal : List Entry) (line : ℕ) (x : Entry) (low : 3 ≤ line) (wit
 
   among : (a : Arrow) → a.to ≡ line → is_shown (all_lines journal) a ≡ true
   among a is =
-      let here : is_among (all_lines journal) line ≡ true = both (nat_le 3 line) (nat_lt line (3 + length journal)) (le-leb 3 line low) (lt-ltb line (3 + length journal) within) in
+      let here : is_among (all_lines journal) line ≡ true = both (nat_le 3 line) (nat_lt line (3 + length journal)) (le-leb 3 line low)
+      (lt-ltb line (3 + length journal) within) in
       last (is_among (all_lines journal) a.from) (is_among (all_lines journal) a.to) (ap (is_among (all_lines journal)) is ∙ here)
     where
       last : (b c : Bool) → c ≡ true → (b || c) ≡ true
       last true c e = refl
       last false c e = e
 
-  of_packet : (place : ℕ) (y : Entry) (w : Way) (o : Option Packet) → is_way w (option_map way_of o) ≡ true → map (λ (d : Arrow). d.to) (if_shown (all_lines journal) (arrow_of journal line x place y o)) ≡ line ∷ []
+  of_packet : (place : ℕ) (y : Entry) (w : Way) (o : Option Packet) → is_way w (option_map way_of o) ≡ true →
+      map (λ (d : Arrow). d.to) (if_shown (all_lines journal) (arrow_of journal line x place y o)) ≡ line ∷ []
   of_packet place y w None e = absurd (true≢false (sym e))
   of_packet place y w (Some p) e =
       let a : Arrow = record { from = place + 3; to = line; packet = p; about = named_by journal (about_of y); counts = counts x.outcome } in
       to_if a (is_shown (all_lines journal) a) (among a refl) refl
 
-  of_place : (w : Way) (o : Option ℕ) → emitter journal w ≡ o → is_some o ≡ true → map (λ (d : Arrow). d.to) (if_shown (all_lines journal) (arrow_from journal line x o)) ≡ line ∷ []
+  of_place : (w : Way) (o : Option ℕ) → emitter journal w ≡ o → is_some o ≡ true →
+      map (λ (d : Arrow). d.to) (if_shown (all_lines journal) (arrow_from journal line x o)) ≡ line ∷ []
   of_place w None found some = absurd (true≢false (sym some))
   of_place w (Some place) found some =
       let less = place_within (emits w) 0 journal place found in
@@ -173,7 +190,8 @@ module _ (journal : List Entry) (line : ℕ) (x : Entry) (low : 3 ≤ line) (wit
       ap (λ (o : Option Entry). map (λ (d : Arrow). d.to) (if_shown (all_lines journal) (arrow_at journal line x place o))) there.1
       ∙ of_packet place there.0 w (emitted_of there.0) (found_at (emits w) 0 place place journal there.0 found (omega arith) there.1)
 
-  of_way : (o : Option Way) → ((w : Way) → o ≡ Some w → is_some (emitter journal w) ≡ true) → map (λ (d : Arrow). d.to) (if_shown (all_lines journal) (arrow_by journal line x o)) ≡ cond (is_some o) (line ∷ []) []
+  of_way : (o : Option Way) → ((w : Way) → o ≡ Some w → is_some (emitter journal w) ≡ true) →
+      map (λ (d : Arrow). d.to) (if_shown (all_lines journal) (arrow_by journal line x o)) ≡ cond (is_some o) (line ∷ []) []
   of_way None has = refl
   of_way (Some w) has = of_place w (emitter journal w) refl (has w refl)
 
@@ -181,11 +199,13 @@ map_append : (xs ys : List Arrow) → map (λ (d : Arrow). d.to) (xs ++ ys) ≡ 
 map_append [] ys = refl
 map_append (x ∷ xs) ys = ap (λ (l : List ℕ). x.to ∷ l) (map_append xs ys)
 
-all_receipts : (journal : List Entry) (line : ℕ) (xs : List Entry) → 3 ≤ line → line + length xs ≡ 3 + length journal → AllByRecursion (HasEmitter journal) xs → map (λ (d : Arrow). d.to) (numbered (arrow_shown journal (all_lines journal)) line xs) ≡ numbered receipt_line line xs
+all_receipts : (journal : List Entry) (line : ℕ) (xs : List Entry) → 3 ≤ line → line + length xs ≡ 3 + length journal → AllByRecursion (HasEmitter journal) xs →
+    map (λ (d : Arrow). d.to) (numbered (arrow_shown journal (all_lines journal)) line xs) ≡ numbered receipt_line line xs
 all_receipts journal line [] low long has = refl
 all_receipts journal line (x ∷ xs) low long has =
     map_append (arrow_shown journal (all_lines journal) line x) (numbered (arrow_shown journal (all_lines journal)) (line + 1) xs)
-    ∙ ap (λ (l : List ℕ). l ++ map (λ (d : Arrow). d.to) (numbered (arrow_shown journal (all_lines journal)) (line + 1) xs)) (of_way journal line x low (omega (arith, long)) (received_way x.event) has.0)
+    ∙ ap (λ (l : List ℕ). l ++ map (λ (d : Arrow). d.to) (numbered (arrow_shown journal (all_lines journal)) (line + 1) xs))
+    (of_way journal line x low (omega (arith, long)) (received_way x.event) has.0)
     ∙ ap (λ (l : List ℕ). receipt_line line x ++ l) (all_receipts journal (line + 1) xs (omega (arith, low)) (omega (arith, long)) has.1)
 
 pub each_receipt_has_its_arrow : EachReceiptHasItsArrow

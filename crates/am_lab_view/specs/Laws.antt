@@ -5,18 +5,18 @@ use Rattle.am_lab_reasons.specs.Packets as reasons
 use Rattle.am_model.specs.Endpoint.{State}
 use Rattle.am_model.specs.History.{IsHistory, state_of}
 use Rattle.am_model.specs.Layout.{Layout}
-use Rattle.am_names.specs.Packets.{from_of, number_of, receiver_of}
+use Rattle.am_names.specs.Packets.{from_of, number_of, receiver_of, way_of}
 use Rattle.am_names.specs.declared.EndpointId.{EndpointId}
 use Rattle.am_names.specs.declared.Packet.{Packet}
 use Rattle.am_office.specs.declared.Entry.{Entry}
 use Rattle.am_scenario_types.specs.Lists.{ScenarioLists}
-use Rattle.am_scripts.specs.Layout.{layout_of}
+use Rattle.am_model_scripts.specs.Layout.{layout_of}
 use Rattle.am_lab_picture.specs.Arrows.{arrows}
 use Rattle.am_lab_picture.specs.Data.{LaneLists}
-use Rattle.am_lab_picture.specs.Numbered.{numbered}
+use Rattle.am_lemmas.specs.Numbered.{numbered}
 use Rattle.am_lab_picture.specs.Residencies.{residency_of}
 use Rattle.am_lab_picture.specs.Spans.{AreJoined, spread}
-use Rattle.am_lab_picture.specs.Ways.{is_received, received_way, way_of}
+use Rattle.am_lab_picture.specs.Ways.{is_received, received_way}
 use Rattle.am_lab_picture.specs.declared.data.Arrow.{Arrow}
 use Rattle.am_lab_picture.specs.declared.data.Lines.{Lines}
 use Rattle.am_lab_view.specs.Standings.{lanes}

@@ -3,7 +3,7 @@ use Rattle.std.specs.Prelude.{◌≡◌, ℕ, Option, Some, List, Result, Ok, Er
 use Rattle.am_check.specs.Cut.{place_of}
 use Rattle.am_check.specs.Follows.{IsBegun, IsEnded, ids_of}
 use Rattle.am_office.specs.declared.Entry.{Entry}
-use Rattle.am_report.specs.Report.{report, summary}
+use Rattle.am_office_report.specs.Report.{report, summary}
 use Rattle.am_scenario.specs.Laws.{Spells}
 use Rattle.am_scenario_types.specs.Lists.{ScenarioLists}
 use Rattle.am_scenario_types.specs.declared.parts.Form.{Form}

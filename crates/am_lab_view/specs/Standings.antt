@@ -7,7 +7,7 @@ use Rattle.am_model.specs.History.{state_of}
 use Rattle.am_model.specs.Layout.{EndSetting, Layout}
 use Rattle.am_scenario_types.specs.Lists.{ScenarioLists}
 use Rattle.am_scenario_types.specs.declared.parts.EndLine.{EndLine}
-use Rattle.am_scripts.specs.Layout.{layout_of}
+use Rattle.am_model_scripts.specs.Layout.{layout_of}
 use Rattle.am_lab_picture.specs.Data.{LaneLists}
 use Rattle.am_lab_picture.specs.Lanes.{LaneTracked, lane_begun, lane_ended, lane_followed, lane_followed_by, lane_of, lane_value}
 use Rattle.am_lab_picture.specs.Residencies.{residency_of}

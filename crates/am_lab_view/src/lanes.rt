@@ -7,7 +7,7 @@ ghost use Rattle.am_lab_view.specs.Standings.{tracked};
 ghost use Rattle.am_model.specs.History.{EachAfter};
 ghost use Rattle.am_office.specs.declared.Entry.{Entry};
 ghost use Rattle.am_scenario_types.specs.Lawful.{IsLawful};
-ghost use Rattle.am_scripts.specs.Layout.{layout_of};
+ghost use Rattle.am_model_scripts.specs.Layout.{layout_of};
 ghost use Rattle.std.specs.Prelude.{◌≡◌, ◌+◌, ◌≤◌, ◌<◌, ◌^◌, ◌++◌, [], List, IfOk, OnOk, length, map};
 
 use crate::steps::step;

@@ -18,7 +18,7 @@ mod steps;
 mod tracks;
 
 use crate::pictures::picture_in;
-use am_lab_journal::place_of;
+use am_check::place_of;
 pub use am_lab_picture::Picture;
 use am_scenario::{Form, read};
 pub use laws::{each_receipt_has_its_arrow, lanes_are_the_states, receipts_are_those_of_reasons};

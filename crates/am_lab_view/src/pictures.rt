@@ -6,9 +6,10 @@ ghost use Rattle.am_lab_view.specs.Pictures.{ShowsOf, picture_by, picture_of};
 ghost use Rattle.am_lab_view.specs.Parts as parts;
 ghost use Rattle.am_lab_view.specs.declared.parts.PictureFault.TheVariants.{NoMemory as Starved};
 ghost use Rattle.am_model.specs.History.{EachAfter};
+ghost use Rattle.am_office_report.specs.Report.{summary};
 ghost use Rattle.am_scenario_types.specs.Lawful.{IsLawful};
 ghost use Rattle.am_scenario_types.specs.declared.parts.Form.{Form as Kind};
-ghost use Rattle.am_scripts.specs.Layout.{layout_of};
+ghost use Rattle.am_model_scripts.specs.Layout.{layout_of};
 ghost use Rattle.std.specs.Prelude.{◌≡◌, ◌⊎◌, ◌+◌, ◌≤◌, ◌<◌, ◌^◌, [], Err, IfOk, length};
 
 use crate::lanes::lanes;
@@ -18,9 +19,18 @@ use am_lab_picture::{Arrow, Cross, IndexedJournal, Lines, Picture, Row, arrows, 
 use am_machine::Cluster;
 use am_names::NoMemory;
 use am_office::Journal;
-use am_report::summary;
+use am_office_journal::LoggedJournal;
+use am_office_report::summary;
 use am_scenario::Scenario;
 use std::alloc::Global;
+
+// The two lines of a journal's summary.
+fn summary_of(alloc: Global, journal: &Journal) -> Result<Vec<u8>, NoMemory>
+    ensures { IfOk result (λ lines. lines.items ≡ summary journal.now) }
+{
+    let logged = LoggedJournal::of(alloc, &journal.entries)?;
+    summary(alloc, &logged)
+}
 
 // The picture of some lines of a journal.
 fn drawn(
@@ -37,7 +47,7 @@ fn drawn(
     ensures { IfOk result (λ picture. picture ≡ picture_of scenario.now journal lines) }
 {
     let lanes = lanes(alloc, scenario, &journal.entries, lines)?;
-    let summary = summary(alloc, &journal)?;
+    let summary = summary_of(alloc, &journal)?;
     let indexed = IndexedJournal::new(alloc, journal)?;
     let rows = rows(alloc, &indexed, lines)?;
     let arrows = arrows(alloc, &indexed, lines)?;
@@ -63,7 +73,8 @@ fn journal_of(alloc: Global, scenario: &Scenario, bytes: &[u8]) -> Result<Journa
 {
     let mut cluster = Cluster::new(alloc, scenario)?;
     reach_end(&mut cluster, bytes)?;
-    cluster.journal(alloc)
+    let logged = cluster.journal(alloc)?;
+    logged.copied(alloc)
 }
 
 // The picture of some lines of a journal, or why there is none.

@@ -33,6 +33,14 @@ pub struct Lines {
     pub to: u32,
 }
 
+/// Seeds from one up to another, which isn't among them.
+#[derive(Clone, Copy, PartialEq, Eq, Debug)]
+pub struct Seeds {
+    pub from: u64,
+    /// Above `from`, and at most 100,000 above it.
+    pub to: u64,
+}
+
 /// What the words ask for.
 #[derive(Clone, Copy, PartialEq, Eq, Debug)]
 pub enum Asked {
@@ -69,6 +77,8 @@ pub enum Asked {
     Replay,
     /// `schedule SEED`: the report of a run of the scenario, in which this seed draws whose turn is next.
     Schedule(u64),
+    /// `schedule SEED..SEED2`: a line for the run of each of these seeds, and how many distinct journals there were.
+    Schedules(Seeds),
 }
 
 /// The words that the program takes.

@@ -5,11 +5,14 @@ use Rattle.am_lab_xml.specs.Escaped.{escaped_byte, meant, is_allowed, is_printab
 use Rattle.am_lab_xml.specs.Grammar.{is_plain}
 use Rattle.am_lab_xml.proofs.Bools.{first, second}
 
-module _ (P : ℕ → List ℕ → Type 0) (amp : P 38 (codes "&amp;")) (less : P 60 (codes "&lt;")) (greater : P 62 (codes "&gt;")) (quote : P 34 (codes "&quot;")) (apostrophe : P 39 (codes "&apos;")) (feed : P 10 (codes "&#10;")) (plain : (b : ℕ) → is_plain b ≡ true → P b (b ∷ [])) (other : (b : ℕ) → is_allowed b ≡ false → P b (codes "?")) where
+module _ (P : ℕ → List ℕ → Type 0) (amp : P 38 (codes "&amp;")) (less : P 60 (codes "&lt;")) (greater : P 62 (codes "&gt;")) (quote : P 34 (codes "&quot;"))
+    (apostrophe : P 39 (codes "&apos;")) (feed : P 10 (codes "&#10;")) (plain : (b : ℕ) → is_plain b ≡ true → P b (b ∷ [])) (other : (b : ℕ) →
+    is_allowed b ≡ false → P b (codes "?")) where
   at : (b c : ℕ) → eqb b c ≡ true → P c (escaped_byte c) → P b (escaped_byte b)
   at b c e h = subst (λ (x : ℕ). P x (escaped_byte x)) (sym (eqb-true b c e)) h
 
-  by_tests : (b : ℕ) (t1 t2 t3 t4 t5 t6 t7 : Bool) → eqb b 38 ≡ t1 → eqb b 60 ≡ t2 → eqb b 62 ≡ t3 → eqb b 34 ≡ t4 → eqb b 39 ≡ t5 → eqb b 10 ≡ t6 → is_printable b ≡ t7 → P b (escaped_byte b)
+  by_tests : (b : ℕ) (t1 t2 t3 t4 t5 t6 t7 : Bool) → eqb b 38 ≡ t1 → eqb b 60 ≡ t2 → eqb b 62 ≡ t3 → eqb b 34 ≡ t4 → eqb b 39 ≡ t5 → eqb b 10 ≡ t6 →
+      is_printable b ≡ t7 → P b (escaped_byte b)
   unfolding escaped_byte
   by_tests b true t2 t3 t4 t5 t6 t7 e1 e2 e3 e4 e5 e6 e7 = at b 38 e1 amp
   by_tests b false true t3 t4 t5 t6 t7 e1 e2 e3 e4 e5 e6 e7 = at b 60 e2 less
@@ -37,11 +40,13 @@ plain_is_read b plain allowed rest = by_test (eqb b 38) refl
 
 byte_is_read : (b : ℕ) → IsReadAs b (escaped_byte b)
 unfolding IsReadAs meant
-byte_is_read b = of_written IsReadAs (λ h rest. refl) (λ h rest. refl) (λ h rest. refl) (λ h rest. refl) (λ h rest. refl) (λ h rest. refl) plain_is_read (λ c no_byte h rest. let wrong : false ≡ true = sym no_byte ∙ h in cc) b
+byte_is_read b = of_written IsReadAs (λ h rest. refl) (λ h rest. refl) (λ h rest. refl) (λ h rest. refl) (λ h rest. refl) (λ h rest. refl) plain_is_read
+    (λ c no_byte h rest. let wrong : false ≡ true = sym no_byte ∙ h in cc) b
 
 -- a text is read out of what is written for it
 pub escape_is_read : (text : List ℕ) → is_text text ≡ true → unescaped (escaped text) ≡ text
 unfolding IsReadAs
 escape_is_read [] h = refl
 escape_is_read (b ∷ text) h =
-    byte_is_read b (first (is_allowed b) (is_text text) h) (escaped text) ∙ ap (λ (t : List ℕ). b ∷ t) (escape_is_read text (second (is_allowed b) (is_text text) h))
+    byte_is_read b (first (is_allowed b) (is_text text) h) (escaped text)
+    ∙ ap (λ (t : List ℕ). b ∷ t) (escape_is_read text (second (is_allowed b) (is_text text) h))

@@ -35,7 +35,8 @@ listed (a ∷ given) h =
     let names : List (List ℕ) = map name_of given in
     let other : Bool = not (list_any (bytes_eq a.name) names) in
     let front : (is_name a.name && other) ≡ true = first (is_name a.name && other) (are_names names) h in
-    Listed.More a.name (escaped a.value) (attributes given) names (first (is_name a.name) other front) (not_so (list_any (bytes_eq a.name) names) (second (is_name a.name) other front)) (characters a.value)
+    Listed.More a.name (escaped a.value) (attributes given) names (first (is_name a.name) other front)
+    (not_so (list_any (bytes_eq a.name) names) (second (is_name a.name) other front)) (characters a.value)
     (listed given (second (is_name a.name && other) (are_names names) h))
 
 pub formed : (content : Content) → is_sound content ≡ true → IsContent (printed content)
@@ -48,11 +49,13 @@ formed (Contents.Empty name given) h =
 formed (Contents.Element name given inside) h =
     let names = are_names (map name_of given) in
     let front : (is_name name && names) ≡ true = first (is_name name && names) (is_sound inside) h in
-    Formed.Element name (attributes given) (printed inside) (map name_of given) (first (is_name name) names front) (listed given (second (is_name name) names front)) (formed inside (second (is_name name && names) (is_sound inside) h))
+    Formed.Element name (attributes given) (printed inside) (map name_of given) (first (is_name name) names front)
+    (listed given (second (is_name name) names front)) (formed inside (second (is_name name && names) (is_sound inside) h))
 formed (Contents.Both a b) h =
     Formed.Both (printed a) (printed b) (formed a (first (is_sound a) (is_sound b) h)) (formed b (second (is_sound a) (is_sound b) h))
 
-pub document : (name : List ℕ) (given : List Named) (inside : Content) → is_sound (Contents.Element name given inside) ≡ true → IsDocument (printed (Contents.Both (Contents.Element name given inside) Contents.Break))
+pub document : (name : List ℕ) (given : List Named) (inside : Content) → is_sound (Contents.Element name given inside) ≡ true →
+    IsDocument (printed (Contents.Both (Contents.Element name given inside) Contents.Break))
 document name given inside h =
     let names = are_names (map name_of given) in
     let front : (is_name name && names) ≡ true = first (is_name name && names) (is_sound inside) h in

@@ -1,5 +1,6 @@
 -- The texts of a tree's elements are found in its text.
-use Rattle.std.proofs.Common.{◌≡◌, ℕ, Bool, true, false, ◌&&◌, not, eqb, List, [], ◌∷◌, ◌++◌, codes, map, bytes_eq, refl, ap, sym, ◌∙◌, append_assoc, append-nil}
+use Rattle.std.proofs.Common.{◌≡◌, ℕ, Bool, true, false, ◌&&◌, not, eqb, List, [], ◌∷◌, ◌++◌, codes, map, bytes_eq, refl, ap, sym, ◌∙◌, append_assoc}
+use Rattle.std.proofs.Common.{append-nil}
 use Rattle.std.specs.List.{list_all, list_any}
 use Rattle.am_lab_xml.specs.Escaped.{escaped, escaped_byte, unescaped}
 use Rattle.am_lab_xml.specs.Grammar.{is_plain}
@@ -42,7 +43,8 @@ letter_is_name_byte b h = rw h refl
 pub bytes_of_name : (name : List ℕ) → is_name name ≡ true → list_all is_name_byte name ≡ true
 bytes_of_name [] h = refl
 bytes_of_name (b ∷ name) h =
-    joined (is_name_byte b) (list_all is_name_byte name) (letter_is_name_byte b (first (is_letter b) (list_all is_name_byte name) h)) (second (is_letter b) (list_all is_name_byte name) h)
+    joined (is_name_byte b) (list_all is_name_byte name) (letter_is_name_byte b (first (is_letter b) (list_all is_name_byte name) h))
+    (second (is_letter b) (list_all is_name_byte name) h)
 
 name_begins_none : (name : List ℕ) → is_name name ≡ true → has_no_tag name ≡ true
 name_begins_none name h = all_weaker is_name_byte no_tag name_byte_begins_none name (bytes_of_name name h)
@@ -74,21 +76,25 @@ skip name (b ∷ text) rest h =
 -- ---- tags
 
 -- the bytes of another name, or of one that goes on, are no tag of a name
-begins_name : (name n : List ℕ) (d : ℕ) (more : List ℕ) → list_all is_name_byte name ≡ true → list_all is_name_byte n ≡ true → is_name_byte d ≡ false → begins (name ++ codes ">") (n ++ d ∷ more) ≡ (bytes_eq n name && eqb d 62)
+begins_name : (name n : List ℕ) (d : ℕ) (more : List ℕ) → list_all is_name_byte name ≡ true → list_all is_name_byte n ≡ true → is_name_byte d ≡ false →
+    begins (name ++ codes ">") (n ++ d ∷ more) ≡ (bytes_eq n name && eqb d 62)
 begins_name [] [] d more h k ends = and_true (eqb d 62)
 begins_name [] (b ∷ n) d more h k ends = rw (apart is_name_byte b 62 (first (is_name_byte b) (list_all is_name_byte n) k) refl) refl
 begins_name (a ∷ name) [] d more h k ends =
     rw (apart (λ x. not (is_name_byte x)) d a (rw ends refl) (rw (first (is_name_byte a) (list_all is_name_byte name) h) refl)) refl
 begins_name (a ∷ name) (b ∷ n) d more h k ends =
-    ap (λ (t : Bool). eqb b a && t) (begins_name name n d more (second (is_name_byte a) (list_all is_name_byte name) h) (second (is_name_byte b) (list_all is_name_byte n) k) ends)
+    ap (λ (t : Bool). eqb b a && t) (begins_name name n d more (second (is_name_byte a) (list_all is_name_byte name) h)
+    (second (is_name_byte b) (list_all is_name_byte n) k) ends)
     ∙ and_assoc (eqb b a) (bytes_eq n name) (eqb d 62)
 
 -- only the tag of this name with no attributes begins so
-opens : (name n : List ℕ) (given : List Named) (d : ℕ) (more : List ℕ) → is_name name ≡ true → is_name n ≡ true → is_name_byte d ≡ false → begins (name ++ codes ">") (n ++ (attributes given ++ d ∷ more)) ≡ (is_bare name n given && eqb d 62)
+opens : (name n : List ℕ) (given : List Named) (d : ℕ) (more : List ℕ) → is_name name ≡ true → is_name n ≡ true → is_name_byte d ≡ false →
+    begins (name ++ codes ">") (n ++ (attributes given ++ d ∷ more)) ≡ (is_bare name n given && eqb d 62)
 unfolding attribute
 opens name n [] d more h k ends = begins_name name n d more (bytes_of_name name h) (bytes_of_name n k) ends
 opens name n (a ∷ given) d more h k ends =
-    begins_name name n 32 ((a.name ++ codes "=\"" ++ escaped a.value ++ codes "\"" ++ attributes given) ++ d ∷ more) (bytes_of_name name h) (bytes_of_name n k) refl
+    begins_name name n 32 ((a.name ++ codes "=\"" ++ escaped a.value ++ codes "\"" ++ attributes given) ++ d ∷ more) (bytes_of_name name h) (bytes_of_name n k)
+    refl
     ∙ and_false (bytes_eq n name)
 
 passed : (name bytes : List ℕ) → begins (name ++ codes ">") bytes ≡ false → texts_in name (60 ∷ bytes) ≡ texts_in name bytes
@@ -96,7 +102,8 @@ passed name bytes h = rw h refl
 
 closing_passed : (name n rest : List ℕ) → is_name name ≡ true → is_name n ≡ true → texts_in name (closing n ++ rest) ≡ texts_in name rest
 closing_passed name n rest h k =
-    passed name ((47 ∷ n ++ codes ">") ++ rest) (begins_name name [] 47 ((n ++ codes ">") ++ rest) (bytes_of_name name h) refl refl ∙ and_false (bytes_eq [] name))
+    passed name ((47 ∷ n ++ codes ">") ++ rest) (begins_name name [] 47 ((n ++ codes ">") ++ rest) (bytes_of_name name h) refl refl
+    ∙ and_false (bytes_eq [] name))
     ∙ skip name (47 ∷ n ++ codes ">") rest (all_of_both no_tag (47 ∷ n) (codes ">") (name_begins_none n k) refl)
 
 laid : (n given x inside c rest : List ℕ) → ((((n ++ given) ++ x) ++ inside) ++ c) ++ rest ≡ n ++ (given ++ (x ++ (inside ++ (c ++ rest))))
@@ -105,7 +112,8 @@ laid n given x inside c rest = simp append_assoc
 laid_empty : (n given x rest : List ℕ) → ((n ++ given) ++ x) ++ rest ≡ n ++ (given ++ (x ++ rest))
 laid_empty n given x rest = simp append_assoc
 
-empty_passed : (name n : List ℕ) (given : List Named) (rest : List ℕ) → is_name name ≡ true → is_name n ≡ true → are_names (map name_of given) ≡ true → texts_in name ((codes "<" ++ n ++ attributes given ++ codes "/>") ++ rest) ≡ texts_in name rest
+empty_passed : (name n : List ℕ) (given : List Named) (rest : List ℕ) → is_name name ≡ true → is_name n ≡ true → are_names (map name_of given) ≡ true →
+    texts_in name ((codes "<" ++ n ++ attributes given ++ codes "/>") ++ rest) ≡ texts_in name rest
 empty_passed name n given rest h k names =
     ap (λ (t : List ℕ). texts_in name (60 ∷ t)) (laid_empty n (attributes given) (codes "/>") rest)
     ∙ passed name (n ++ (attributes given ++ 47 ∷ 62 ∷ rest)) (opens name n given 47 (62 ∷ rest) h k refl ∙ and_false (is_bare name n given))
@@ -117,7 +125,8 @@ empty_passed name n given rest h k names =
 behind_name : (n more : List ℕ) → list_all is_name_byte n ≡ true → behind_tag (n ++ 62 ∷ more) ≡ up_to_tag more
 behind_name [] more h = refl
 behind_name (b ∷ n) more h =
-    rw (apart is_name_byte b 62 (first (is_name_byte b) (list_all is_name_byte n) h) refl) (behind_name n more (second (is_name_byte b) (list_all is_name_byte n) h))
+    rw (apart is_name_byte b 62 (first (is_name_byte b) (list_all is_name_byte n) h) refl)
+    (behind_name n more (second (is_name_byte b) (list_all is_name_byte n) h))
 
 up_to : (text more : List ℕ) → has_no_tag text ≡ true → up_to_tag (text ++ 60 ∷ more) ≡ text
 up_to [] more h = refl
@@ -147,17 +156,21 @@ Finds name content = (rest : List ℕ) → texts_in name (printed content ++ res
 spread : List ℕ → List ℕ → List Named → List ℕ → List ℕ → List ℕ
 spread name n given inside rest = n ++ (attributes given ++ 62 ∷ (inside ++ (closing n ++ rest)))
 
-behind_opening : (name n : List ℕ) (given : List Named) (inside rest : List ℕ) → is_name n ≡ true → are_names (map name_of given) ≡ true → texts_in name (spread name n given inside rest) ≡ texts_in name (inside ++ (closing n ++ rest))
+behind_opening : (name n : List ℕ) (given : List Named) (inside rest : List ℕ) → is_name n ≡ true → are_names (map name_of given) ≡ true →
+    texts_in name (spread name n given inside rest) ≡ texts_in name (inside ++ (closing n ++ rest))
 unfolding spread
 behind_opening name n given inside rest k names =
     skip name n (attributes given ++ 62 ∷ (inside ++ (closing n ++ rest))) (name_begins_none n k)
     ∙ skip name (attributes given) (62 ∷ (inside ++ (closing n ++ rest))) (attributes_begin_none given names)
 
 -- an element of another name, or with attributes
-other_found : (name n : List ℕ) (given : List Named) (inside : Content) (rest : List ℕ) → is_name name ≡ true → is_name n ≡ true → are_names (map name_of given) ≡ true → is_bare name n given ≡ false → Finds name inside → texts_in name (60 ∷ spread name n given (printed inside) rest) ≡ texts name inside ++ texts_in name rest
+other_found : (name n : List ℕ) (given : List Named) (inside : Content) (rest : List ℕ) → is_name name ≡ true → is_name n ≡ true →
+    are_names (map name_of given) ≡ true → is_bare name n given ≡ false → Finds name inside →
+    texts_in name (60 ∷ spread name n given (printed inside) rest) ≡ texts name inside ++ texts_in name rest
 unfolding spread Finds
 other_found name n given inside rest h k names other finds =
-    passed name (spread name n given (printed inside) rest) (opens name n given 62 (printed inside ++ (closing n ++ rest)) h k refl ∙ and_true (is_bare name n given) ∙ other)
+    passed name (spread name n given (printed inside) rest) (opens name n given 62 (printed inside ++ (closing n ++ rest)) h k refl
+    ∙ and_true (is_bare name n given) ∙ other)
     ∙ behind_opening name n given (printed inside) rest k names
     ∙ finds (closing n ++ rest)
     ∙ ap (λ (t : List (List ℕ)). texts name inside ++ t) (closing_passed name n rest h k)
@@ -166,29 +179,38 @@ taken : (name bytes : List ℕ) → begins (name ++ codes ">") bytes ≡ true �
 taken name bytes h = rw h refl
 
 -- an element of this name with no attributes
-own_found : (name n : List ℕ) (inside : Content) (rest : List ℕ) → is_name name ≡ true → is_name n ≡ true → bytes_eq n name ≡ true → holds_text inside ≡ true → texts_in name (60 ∷ spread name n [] (printed inside) rest) ≡ text_of inside ∷ texts_in name rest
+own_found : (name n : List ℕ) (inside : Content) (rest : List ℕ) → is_name name ≡ true → is_name n ≡ true → bytes_eq n name ≡ true → holds_text inside ≡ true →
+    texts_in name (60 ∷ spread name n [] (printed inside) rest) ≡ text_of inside ∷ texts_in name rest
 unfolding spread
 own_found name n inside rest h k same holds =
     let more : List ℕ = printed inside ++ (closing n ++ rest) in
-    let behind : behind_tag (n ++ 62 ∷ more) ≡ printed inside = behind_name n more (bytes_of_name n k) ∙ up_to (printed inside) ((47 ∷ n ++ codes ">") ++ rest) (text_begins_none inside holds) in
+    let behind : behind_tag (n ++ 62 ∷ more) ≡ printed inside = behind_name n more (bytes_of_name n k)
+    ∙ up_to (printed inside) ((47 ∷ n ++ codes ">") ++ rest) (text_begins_none inside holds) in
     let read : unescaped (behind_tag (n ++ 62 ∷ more)) ≡ text_of inside = ap unescaped behind ∙ text_is_read inside holds in
     taken name (n ++ 62 ∷ more) (opens name n [] 62 more h k refl ∙ and_true (bytes_eq n name) ∙ same)
     ∙ ap (λ (t : List ℕ). t ∷ texts_in name (n ++ 62 ∷ more)) read
     ∙ ap (λ (t : List (List ℕ)). text_of inside ∷ t)
-    (behind_opening name n [] (printed inside) rest k refl ∙ skip name (printed inside) (closing n ++ rest) (text_begins_none inside holds) ∙ closing_passed name n rest h k)
+    (behind_opening name n [] (printed inside) rest k refl ∙ skip name (printed inside) (closing n ++ rest) (text_begins_none inside holds)
+    ∙ closing_passed name n rest h k)
 
-by_bare : (name n : List ℕ) (given : List Named) (inside : Content) (rest : List ℕ) → is_name name ≡ true → is_name n ≡ true → are_names (map name_of given) ≡ true → are_texts name (Contents.Element n given inside) ≡ true → (are_texts name inside ≡ true → Finds name inside) → (bare : Bool) → is_bare name n given ≡ bare → texts_in name (60 ∷ spread name n given (printed inside) rest) ≡ texts name (Contents.Element n given inside) ++ texts_in name rest
+by_bare : (name n : List ℕ) (given : List Named) (inside : Content) (rest : List ℕ) → is_name name ≡ true → is_name n ≡ true →
+    are_names (map name_of given) ≡ true → are_texts name (Contents.Element n given inside) ≡ true → (are_texts name inside ≡ true → Finds name inside) →
+    (bare : Bool) → is_bare name n given ≡ bare → texts_in name (60 ∷ spread name n given (printed inside) rest) ≡ texts name
+    (Contents.Element n given inside) ++ texts_in name rest
 by_bare name n [] inside rest h k names are finds true e = rw e (own_found name n inside rest h k e (rw e at are))
 by_bare name n (a ∷ given) inside rest h k names are finds true e = cc
 by_bare name n given inside rest h k names are finds false e = rw e (other_found name n given inside rest h k names e (finds (rw e at are)))
 
-element_found : (name n : List ℕ) (given : List Named) (inside : Content) → is_name name ≡ true → is_sound (Contents.Element n given inside) ≡ true → are_texts name (Contents.Element n given inside) ≡ true → (is_sound inside ≡ true → are_texts name inside ≡ true → Finds name inside) → Finds name (Contents.Element n given inside)
+element_found : (name n : List ℕ) (given : List Named) (inside : Content) → is_name name ≡ true → is_sound (Contents.Element n given inside) ≡ true →
+    are_texts name (Contents.Element n given inside) ≡ true → (is_sound inside ≡ true → are_texts name inside ≡ true → Finds name inside) →
+    Finds name (Contents.Element n given inside)
 unfolding spread Finds
 element_found name n given inside h sound are finds rest =
     let names = are_names (map name_of given) in
     let front : (is_name n && names) ≡ true = first (is_name n && names) (is_sound inside) sound in
     ap (λ (t : List ℕ). texts_in name (60 ∷ t)) (laid n (attributes given) (codes ">") (printed inside) (closing n) rest)
-    ∙ by_bare name n given inside rest h (first (is_name n) names front) (second (is_name n) names front) are (finds (second (is_name n && names) (is_sound inside) sound)) (is_bare name n given) refl
+    ∙ by_bare name n given inside rest h (first (is_name n) names front) (second (is_name n) names front) are
+    (finds (second (is_name n && names) (is_sound inside) sound)) (is_bare name n given) refl
 
 finds : (name : List ℕ) → is_name name ≡ true → (content : Content) → is_sound content ≡ true → are_texts name content ≡ true → Finds name content
 unfolding Finds
@@ -201,10 +223,12 @@ finds name h (Contents.Element n given inside) sound are rest = element_found na
 finds name h (Contents.Both a b) sound are rest =
     ap (texts_in name) (append_assoc (printed a) (printed b) rest)
     ∙ finds name h a (first (is_sound a) (is_sound b) sound) (first (are_texts name a) (are_texts name b) are) (printed b ++ rest)
-    ∙ ap (λ (t : List (List ℕ)). texts name a ++ t) (finds name h b (second (is_sound a) (is_sound b) sound) (second (are_texts name a) (are_texts name b) are) rest)
+    ∙ ap (λ (t : List (List ℕ)). texts name a ++ t) (finds name h b (second (is_sound a) (is_sound b) sound) (second (are_texts name a) (are_texts name b) are)
+    rest)
     ∙ sym (append_assoc (texts name a) (texts name b) (texts_in name rest))
 
-pub texts_are_found : (name : List ℕ) (content : Content) → is_name name ≡ true → is_sound content ≡ true → are_texts name content ≡ true → texts_in name (printed content) ≡ texts name content
+pub texts_are_found : (name : List ℕ) (content : Content) → is_name name ≡ true → is_sound content ≡ true → are_texts name content ≡ true →
+    texts_in name (printed content) ≡ texts name content
 unfolding Finds
 texts_are_found name content h sound are =
     ap (texts_in name) (sym (append-nil (printed content))) ∙ finds name h content sound are [] ∙ append-nil (texts name content)

@@ -8,8 +8,8 @@ ghost use Rattle.am_lab_xml.specs.Trees.{attribute, attributes, closing, opening
 ghost use Rattle.am_lab_xml.specs.Trees.{Content as Contents};
 
 use crate::escaped::put_text;
-use am_text::Piece::Number;
-use am_text::put_word;
+use am_office_text::Piece::Number;
+use am_office_text::{put_bytes, put_word};
 use std::alloc::AllocError;
 
 /// A place in a list of places, as in the `d` of a path: a text, a number, a space and a number.
@@ -29,12 +29,6 @@ pub enum Attribute<'a> {
     Number(&'static str, u64),
     /// These places, one behind the other.
     Path(&'static str, &'a [Point]),
-}
-
-fn put_bytes(out: &mut Vec<u8>, bytes: &[u8]) -> Result<(), AllocError>
-    ensures { OnOk result (out.new.items ≡ out.old.items ++ bytes.now) }
-{
-    out.extend_from_slice(bytes)
 }
 
 /// Appends a number as text, in decimal.

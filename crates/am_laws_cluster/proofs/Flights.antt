@@ -1,6 +1,7 @@
 -- An endpoint with a message in flight is in a frame and open.
 use Rattle.std.specs.Prelude.{not, count_by}
-use Rattle.std.proofs.Common.{◌≡◌, ◌⊎◌, inl, inr, ⊎_elim, ◌==◌, ℕ, ◌+◌, ◌≤◌, Bool, true, false, cond, ◌&&◌, List, [], ◌∷◌, ◌++◌, drop, length, Option, Some, None, refl, sym, ap, ◌∙◌, subst, arith, eqb-true, true≢false, if◌then◌else◌}
+use Rattle.std.proofs.Common.{◌≡◌, ◌⊎◌, inl, inr, ⊎_elim, ◌==◌, ℕ, ◌+◌, ◌≤◌, Bool, true, false, cond, ◌&&◌, List, [], ◌∷◌, ◌++◌, drop, length, Option, Some}
+use Rattle.std.proofs.Common.{None, refl, sym, ap, ◌∙◌, subst, arith, eqb-true, true≢false, if◌then◌else◌}
 use Rattle.std.proofs.lemmas.Bool.{and_parts, not-false}
 use Rattle.std.proofs.lemmas.List.Sums.{sum_by-cons}
 use Rattle.std.specs.List.{list_any, find}
@@ -76,8 +77,10 @@ idle_empty : (s : State) → is_idle s.body ≡ true → IsEmpty s
 idle_empty s h =
     let outer = and_parts ((length s.body.received == 0) && (messages_held s.body == 0)) (length s.body.awaited == 0) h in
     let inner = and_parts (length s.body.received == 0) (messages_held s.body == 0) outer.0 in
-    let none : messages_held s.body ≡ 0 = eqb-true (messages_held s.body) 0 inner.1 in
-    (omega (arith, none, ones_queue s.body.requests, ones_queue s.body.replies, ones_flights s.body.in_flight, ones_notices s.body.notices), omega (arith, ones_received s.body.received, eqb-true (length s.body.received) 0 inner.0))
+    let none : messages_held s.body ≡ 0 = eqb-true (messages_held s.body) 0 inner.1 in (
+      omega (arith, none, ones_queue s.body.requests, ones_queue s.body.replies, ones_flights s.body.in_flight, ones_notices s.body.notices),
+      omega (arith, ones_received s.body.received, eqb-true (length s.body.received) 0 inner.0),
+    )
 
 -- an endpoint that is closed was so before, or closes now
 called_closed : (s : State) (c : Call) (o : Outcome) → (called s c o).head.closed ≡ true → (s.head.closed ≡ true) ⊎ ((c ≡ Calls.Close) × (o ≡ Out.Done))
@@ -158,8 +161,10 @@ called_notices s Calls.Close Out.Done = omega arith
 called_notices s c o = omega arith
 
 -- a closed endpoint without messages accepts none
-accepts_none : (pool : Option ℕ) (end : EndpointId) (s : State) (c : Call) (o : Outcome) → o ≡ outcome_of_call pool end s c → s.head.closed ≡ true → weight any (run_by c o) ≡ 0 → one_weight (passing any) (newly (accepted_by c o)) ≡ 0
-accepts_none pool end s (Calls.Request index handler words) (Out.Requested m) fits closed none = absurd (true≢false (sym closed ∙ (made pool end s index handler words m fits).opened))
+accepts_none : (pool : Option ℕ) (end : EndpointId) (s : State) (c : Call) (o : Outcome) → o ≡ outcome_of_call pool end s c → s.head.closed ≡ true →
+    weight any (run_by c o) ≡ 0 → one_weight (passing any) (newly (accepted_by c o)) ≡ 0
+accepts_none pool end s (Calls.Request index handler words) (Out.Requested m) fits closed none =
+    absurd (true≢false (sym closed ∙ (made pool end s index handler words m fits).opened))
 accepts_none pool end s Calls.Poll (Out.Ran m handler None) fits closed none = refl
 accepts_none pool end s Calls.Poll (Out.Ran m handler (Some reply)) fits closed none = absurd (omega (arith, none))
 accepts_none pool end s Calls.Poll (Out.Zero serial why) fits closed none = refl
@@ -173,7 +178,8 @@ record Closings (layout : Layout) (past : List Entry) : Type 0 where
   pub history : IsHistory layout past
   pub empty : (e : EndpointId) → (state_of layout past e).head.closed ≡ true → IsEmpty (state_of layout past e)
 
-closings_more : (layout : Layout) (past : List Entry) (x : Entry) → Closings layout past → MayFollow layout past x → (e : EndpointId) → touches e x ≡ true → (changed e (state_of layout past e) x.event x.outcome).head.closed ≡ true → IsEmpty (changed e (state_of layout past e) x.event x.outcome)
+closings_more : (layout : Layout) (past : List Entry) (x : Entry) → Closings layout past → MayFollow layout past x → (e : EndpointId) → touches e x ≡ true →
+    (changed e (state_of layout past e) x.event x.outcome).head.closed ≡ true → IsEmpty (changed e (state_of layout past e) x.event x.outcome)
 closings_more layout past x k may e at closed = by_event x.event refl (fits_call layout past e x may at) at closed
   where
     put_none : (state_of layout past e).head.closed ≡ true → (w : Option Message) → put_at e x.event x.outcome ≡ w → weight any (put_at e x.event x.outcome) ≡ 0
@@ -183,42 +189,66 @@ closings_more layout past x k may e at closed = by_event x.event refl (fits_call
         here : (n : Message) → put_at e x.event x.outcome ≡ Some n → IsWelcome (state_of layout past e) n
         here n is' = by_put (put_of x) refl is'
           where
-            by_test : (l : Message) (b : Bool) → same_end e l.dest ≡ b → put_of x ≡ Some l → (if b then Some l else None) ≡ Some n → IsWelcome (state_of layout past e) n
+            by_test : (l : Message) (b : Bool) → same_end e l.dest ≡ b → put_of x ≡ Some l → (if b then Some l else None) ≡ Some n →
+                IsWelcome (state_of layout past e) n
             by_test l true on there f =
                 let same : l ≡ n = cc in
                 subst (λ (v : Message). IsWelcome (state_of layout past e) v) same
-                (subst (λ (v : EndpointId). IsWelcome (state_of layout past v) l) (sym (same_end-is e l.dest on)) (put_facts layout past x (delivers layout past k.history) may l there).welcome)
+                (subst (λ (v : EndpointId). IsWelcome (state_of layout past v) l) (sym (same_end-is e l.dest on))
+                (put_facts layout past x (delivers layout past k.history) may l there).welcome)
             by_test l false on there f = absurd (cc)
 
-            by_put : (w : Option Message) → put_of x ≡ w → Rattle.am_model.specs.PostOffice.only_if (λ (l : Message). same_end e l.dest) w ≡ Some n → IsWelcome (state_of layout past e) n
+            by_put : (w : Option Message) → put_of x ≡ w → Rattle.am_model.specs.PostOffice.only_if (λ (l : Message). same_end e l.dest) w ≡ Some n →
+                IsWelcome (state_of layout past e) n
             by_put None there f = absurd (cc)
             by_put (Some l) there f = by_test l (same_end e l.dest) refl there f
 
-    got : (state_of layout past e).head.closed ≡ true → count_by any (changed e (state_of layout past e) x.event x.outcome).body.received + weight any (run_at e x.event x.outcome) ≡ 0
-    got was = omega (arith, (k.empty e was).1, put_none was (put_at e x.event x.outcome) refl, changed_received layout.pool any e (state_of layout past e) x.event x.outcome at (fits_call layout past e x may at))
+    got : (state_of layout past e).head.closed ≡ true → count_by any (changed e (state_of layout past e) x.event x.outcome).body.received + weight any
+        (run_at e x.event x.outcome) ≡ 0
+    got was = omega (
+      arith,
+      (k.empty e was).1,
+      put_none was (put_at e x.event x.outcome) refl,
+      changed_received layout.pool any e (state_of layout past e) x.event x.outcome at (fits_call layout past e x may at),
+    )
 
-    called_empty : (actor : Actor) (end : EndpointId) (call : Call) → x.event ≡ Events.Call actor end call → FitsCall layout.pool (state_of layout past e) (Events.Call actor end call) x.outcome → same_end e end ≡ true → (called (state_of layout past e) call x.outcome).head.closed ≡ true → IsEmpty (called (state_of layout past e) call x.outcome)
+    called_empty : (actor : Actor) (end : EndpointId) (call : Call) → x.event ≡ Events.Call actor end call →
+        FitsCall layout.pool (state_of layout past e) (Events.Call actor end call) x.outcome → same_end e end ≡ true →
+        (called (state_of layout past e) call x.outcome).head.closed ≡ true → IsEmpty (called (state_of layout past e) call x.outcome)
     called_empty actor end call ev fits on now =
         ⊎_elim
         (λ (was : (state_of layout past e).head.closed ≡ true).
         let m = entry_moves e (state_of layout past e) (Events.Call actor end call) x.outcome tt in
-        let r : weight any (run_at e x.event x.outcome) ≡ weight any (run_by call x.outcome) = ap (λ (v : Event). weight any (run_at e v x.outcome)) ev ∙ ap (λ (b : Bool). weight any (if b then run_by call x.outcome else None)) on in
-        let c : count_by any (changed e (state_of layout past e) x.event x.outcome).body.received ≡ count_by any (called (state_of layout past e) call x.outcome).body.received = ap (λ (v : Event). count_by any (changed e (state_of layout past e) v x.outcome).body.received) ev in
-        let none : one_weight (passing any) (newly (accepted_by call x.outcome)) ≡ 0 = accepts_none layout.pool end (state_of layout past e) call x.outcome fits was (omega (arith, got was, r)) in
-        (omega (arith, (k.empty e was).0, m.leaves (passing any), m.comes (passing any), none, called_notices (state_of layout past e) call x.outcome), omega (arith, got was, c)))
+        let r : weight any (run_at e x.event x.outcome) ≡ weight any (run_by call x.outcome) = ap (λ (v : Event). weight any (run_at e v x.outcome)) ev
+        ∙ ap (λ (b : Bool). weight any (if b then run_by call x.outcome else None)) on in
+        let c : count_by any (changed e (state_of layout past e) x.event x.outcome).body.received ≡ count_by any
+        (called (state_of layout past e) call x.outcome).body.received =
+        ap (λ (v : Event). count_by any (changed e (state_of layout past e) v x.outcome).body.received) ev in
+        let none : one_weight (passing any) (newly (accepted_by call x.outcome)) ≡ 0 =
+        accepts_none layout.pool end (state_of layout past e) call x.outcome fits was (omega (arith, got was, r)) in (
+          omega (arith, (k.empty e was).0, m.leaves (passing any), m.comes (passing any), none, called_notices (state_of layout past e) call x.outcome),
+          omega (arith, got was, c),
+        ))
         (λ (closes : (call ≡ Calls.Close) × (x.outcome ≡ Out.Done)).
-        let done : Out.Done ≡ outcome_of_call layout.pool end (state_of layout past e) Calls.Close = sym closes.1 ∙ fits ∙ ap (outcome_of_call layout.pool end (state_of layout past e)) closes.0 in
+        let done : Out.Done ≡ outcome_of_call layout.pool end (state_of layout past e) Calls.Close = sym closes.1 ∙ fits
+        ∙ ap (outcome_of_call layout.pool end (state_of layout past e)) closes.0 in
         subst (λ (c : Call). IsEmpty (called (state_of layout past e) c x.outcome)) (sym closes.0)
         (subst (λ (o : Outcome). IsEmpty (called (state_of layout past e) Calls.Close o)) (sym closes.1)
-        (idle_empty (state_of layout past e) (unless_busy (state_of layout past e) (state_of layout past e).head.closed (is_idle (state_of layout past e).body) refl (sym done)))))
+        (idle_empty (state_of layout past e) (unless_busy (state_of layout past e) (state_of layout past e).head.closed (is_idle (state_of layout past e).body)
+        refl (sym done)))))
         (called_closed (state_of layout past e) call x.outcome now)
 
-    other_empty : is_call x.event ≡ false → (changed e (state_of layout past e) x.event x.outcome).head.closed ≡ true → IsEmpty (changed e (state_of layout past e) x.event x.outcome)
+    other_empty : is_call x.event ≡ false → (changed e (state_of layout past e) x.event x.outcome).head.closed ≡ true →
+        IsEmpty (changed e (state_of layout past e) x.event x.outcome)
     other_empty off now =
-        let was : (state_of layout past e).head.closed ≡ true = sym (other_closed e (state_of layout past e) x.event x.outcome off) ∙ now in
-        (omega (arith, (k.empty e was).0, no_more any e (state_of layout past e) x.event x.outcome (fits_send layout past e x may at) off), omega (arith, got was, no_call_run e x.event x.outcome off))
+        let was : (state_of layout past e).head.closed ≡ true = sym (other_closed e (state_of layout past e) x.event x.outcome off) ∙ now in (
+          omega (arith, (k.empty e was).0, no_more any e (state_of layout past e) x.event x.outcome (fits_send layout past e x may at) off),
+          omega (arith, got was, no_call_run e x.event x.outcome off),
+        )
 
-    by_event : (event : Event) → x.event ≡ event → FitsCall layout.pool (state_of layout past e) event x.outcome → list_any (same_end e) (ends_touched event x.outcome) ≡ true → (changed e (state_of layout past e) event x.outcome).head.closed ≡ true → IsEmpty (changed e (state_of layout past e) event x.outcome)
+    by_event : (event : Event) → x.event ≡ event → FitsCall layout.pool (state_of layout past e) event x.outcome →
+        list_any (same_end e) (ends_touched event x.outcome) ≡ true → (changed e (state_of layout past e) event x.outcome).head.closed ≡ true →
+        IsEmpty (changed e (state_of layout past e) event x.outcome)
     by_event (Events.Call actor end call) ev fits t now = called_empty actor end call ev fits (one_touched (same_end e end) t) now
     by_event event ev fits t now =
         subst (λ (v : Event). IsEmpty (changed e (state_of layout past e) v x.outcome)) ev
@@ -230,7 +260,8 @@ closings layout past h =
     (λ xs x k may. record { history = each_push (MayFollow layout) [] xs x k.history may; empty = λ e. more xs x k may e (touches e x) refl })
     [] past (record { history = tt; empty = λ e closed. none (find (has_id e) layout.ends) }) h
   where
-    more : (xs : List Entry) (x : Entry) → Closings layout xs → MayFollow layout xs x → (e : EndpointId) (t : Bool) → touches e x ≡ t → (state_of layout (xs ++ x ∷ []) e).head.closed ≡ true → IsEmpty (state_of layout (xs ++ x ∷ []) e)
+    more : (xs : List Entry) (x : Entry) → Closings layout xs → MayFollow layout xs x → (e : EndpointId) (t : Bool) → touches e x ≡ t →
+        (state_of layout (xs ++ x ∷ []) e).head.closed ≡ true → IsEmpty (state_of layout (xs ++ x ∷ []) e)
     more xs x k may e true at = rw (state_of_push layout xs x e true at) (closings_more layout xs x k may e at)
     more xs x k may e false at = rw (state_of_push layout xs x e false at) (k.empty e)
 
@@ -267,7 +298,8 @@ left_place s o true = refl
 left_place s o false = refl
 
 -- what a list of conditions says where none of them holds
-pub third_none : (a b c : Bool) (u v w : Condition) (rest : Option Condition) → cond a (Some u) (cond b (Some v) (cond c (Some w) rest)) ≡ None → (b ≡ false) × (c ≡ false) × (rest ≡ None)
+pub third_none : (a b c : Bool) (u v w : Condition) (rest : Option Condition) → cond a (Some u) (cond b (Some v) (cond c (Some w) rest)) ≡ None →
+    (b ≡ false) × (c ≡ false) × (rest ≡ None)
 third_none true b c u v w rest h = absurd (cc)
 third_none false true c u v w rest h = absurd (cc)
 third_none false false true u v w rest h = absurd (cc)
@@ -297,7 +329,8 @@ IsAloft s = 1 ≤ flights_of s → is_resident s.head.place ≡ true
 stays_aloft : (s t : State) → t.head.place ≡ s.head.place → flights_of t ≤ flights_of s → IsAloft s → IsAloft t
 stays_aloft s t same fewer k low = ap is_resident same ∙ k (omega (arith, fewer, low))
 
-touched_aloft : (layout : Layout) (past : List Entry) (x : Entry) → MayFollow layout past x → (e : EndpointId) → touches e x ≡ true → IsAloft (state_of layout past e) → IsAloft (changed e (state_of layout past e) x.event x.outcome)
+touched_aloft : (layout : Layout) (past : List Entry) (x : Entry) → MayFollow layout past x → (e : EndpointId) → touches e x ≡ true →
+    IsAloft (state_of layout past e) → IsAloft (changed e (state_of layout past e) x.event x.outcome)
 touched_aloft layout past x may e at k = by_event x.event x.outcome may.enabled at
   where
     s : State
@@ -306,41 +339,66 @@ touched_aloft layout past x may e at k = by_event x.event x.outcome may.enabled 
     there : (end : EndpointId) → list_any (same_end e) (end ∷ []) ≡ true → end ≡ e
     there end t = sym (same_end-is e end (one_touched (same_end e end) t))
 
-    out_aloft : (end : EndpointId) (o : Outcome) → end ≡ e → is_on_host (state_of layout past end).head.place ≡ true → IsAloft (paged_out (state_of layout past e) o)
+    out_aloft : (end : EndpointId) (o : Outcome) → end ≡ e → is_on_host (state_of layout past end).head.place ≡ true →
+        IsAloft (paged_out (state_of layout past e) o)
     out_aloft end o same host low =
         let before : 1 ≤ flights_of (state_of layout past e) = omega (arith, low, out_flown (passing any) (state_of layout past e) o) in
-        absurd (not_both (state_of layout past e).head.place (k before) (subst (λ (w : EndpointId). is_on_host (state_of layout past w).head.place ≡ true) same host))
+        absurd (not_both (state_of layout past e).head.place (k before) (subst (λ (w : EndpointId). is_on_host (state_of layout past w).head.place ≡ true) same
+        host))
 
-    in_aloft : (end : EndpointId) (o : Outcome) → end ≡ e → is_on_disk (state_of layout past end).head.place ≡ true → IsAloft (paged_in (state_of layout past e) o)
+    in_aloft : (end : EndpointId) (o : Outcome) → end ≡ e → is_on_disk (state_of layout past end).head.place ≡ true →
+        IsAloft (paged_in (state_of layout past e) o)
     in_aloft end o same disk low =
         let before : 1 ≤ flights_of (state_of layout past e) = omega (arith, low, in_flown (passing any) (state_of layout past e) o) in
-        absurd (not_disk (state_of layout past e).head.place (k before) (subst (λ (w : EndpointId). is_on_disk (state_of layout past w).head.place ≡ true) same disk))
+        absurd (not_disk (state_of layout past e).head.place (k before) (subst (λ (w : EndpointId). is_on_disk (state_of layout past w).head.place ≡ true) same
+        disk))
 
-    by_event : (event : Event) (o : Outcome) → failing layout past event ≡ None → list_any (same_end e) (ends_touched event o) ≡ true → IsAloft (changed e (state_of layout past e) event o)
-    by_event (Events.Call actor end call) o on t = stays_aloft (state_of layout past e) (called (state_of layout past e) call o) (called_place (state_of layout past e) call o) (omega (arith, called_flown (passing any) (state_of layout past e) call o)) k
+    by_event : (event : Event) (o : Outcome) → failing layout past event ≡ None → list_any (same_end e) (ends_touched event o) ≡ true →
+        IsAloft (changed e (state_of layout past e) event o)
+    by_event (Events.Call actor end call) o on t = stays_aloft (state_of layout past e) (called (state_of layout past e) call o)
+        (called_place (state_of layout past e) call o) (omega (arith, called_flown (passing any) (state_of layout past e) call o)) k
     by_event (Events.Want actor end) o on t = k
     by_event (Events.Carry end) o on t =
-        stays_aloft (state_of layout past e) (changed e (state_of layout past e) (Events.Carry end) o) (reached_place e (if same_end e end then left (state_of layout past e) o else state_of layout past e) o ∙ left_place (state_of layout past e) o (same_end e end))
-        (omega (arith, reached_flown (passing any) e (if same_end e end then left (state_of layout past e) o else state_of layout past e) o, left_flown (passing any) (state_of layout past e) o (same_end e end))) k
+        stays_aloft (state_of layout past e) (changed e (state_of layout past e) (Events.Carry end) o)
+        (reached_place e (if same_end e end then left (state_of layout past e) o else state_of layout past e) o
+        ∙ left_place (state_of layout past e) o (same_end e end))
+        (omega (
+          arith,
+          reached_flown (passing any) e (if same_end e end then left (state_of layout past e) o else state_of layout past e) o,
+          left_flown (passing any) (state_of layout past e) o (same_end e end),
+        )) k
     by_event (Events.Bind node end) o on t = λ low.
-        let c = third_none layout.direct (not (is_home layout end node)) (not (is_resident (state_of layout past end).head.place)) Needs.NotPacket Needs.OtherNode Needs.NotResident _ on in
-        ap is_resident (bound_place (state_of layout past e) o) ∙ subst (λ (w : EndpointId). is_resident (state_of layout past w).head.place ≡ true) (there end t) (not-false (is_resident (state_of layout past end).head.place) c.1)
-    by_event (Events.Expire node peer channel) o on t = stays_aloft (state_of layout past e) (expired (state_of layout past e) o) (expired_place (state_of layout past e) o) (expired_fewer (state_of layout past e) o) k
-    by_event (Events.Receive node peer number) (Out.Received channel seq attempt r) on t = stays_aloft (state_of layout past e) (received e (state_of layout past e) r) (received_place e (state_of layout past e) r) (received_fewer e (state_of layout past e) r) k
+        let c = third_none layout.direct (not (is_home layout end node)) (not (is_resident (state_of layout past end).head.place)) Needs.NotPacket
+        Needs.OtherNode Needs.NotResident _ on in
+        ap is_resident (bound_place (state_of layout past e) o)
+        ∙ subst (λ (w : EndpointId). is_resident (state_of layout past w).head.place ≡ true) (there end t)
+        (not-false (is_resident (state_of layout past end).head.place) c.1)
+    by_event (Events.Expire node peer channel) o on t = stays_aloft (state_of layout past e) (expired (state_of layout past e) o)
+        (expired_place (state_of layout past e) o) (expired_fewer (state_of layout past e) o) k
+    by_event (Events.Receive node peer number) (Out.Received channel seq attempt r) on t =
+        stays_aloft (state_of layout past e) (received e (state_of layout past e) r) (received_place e (state_of layout past e) r)
+        (received_fewer e (state_of layout past e) r) k
     by_event (Events.Receive node peer number) o on t = k
     by_event (Events.Drain node end) o on t = k
     by_event (Events.Unload node end) o on t = λ low.
-        let c = third_none layout.direct (not (is_home layout end node)) (not (is_resident (state_of layout past end).head.place)) Needs.NotPacket Needs.OtherNode Needs.NotResident _ on in
-        let f : not (length (state_of layout past end).body.in_flight == 0) ≡ false = second_none (not (state_of layout past end).head.draining) (not (length (state_of layout past end).body.in_flight == 0)) Needs.NotDraining Needs.InFlight c.2 in
-        let none : length (state_of layout past end).body.in_flight ≡ 0 = eqb-true (length (state_of layout past end).body.in_flight) 0 (not-false (length (state_of layout past end).body.in_flight == 0) f) in
-        let here : length (state_of layout past e).body.in_flight ≡ 0 = subst (λ (w : EndpointId). length (state_of layout past w).body.in_flight ≡ 0) (there end t) none in
+        let c = third_none layout.direct (not (is_home layout end node)) (not (is_resident (state_of layout past end).head.place)) Needs.NotPacket
+        Needs.OtherNode Needs.NotResident _ on in
+        let f : not (length (state_of layout past end).body.in_flight == 0) ≡ false =
+        second_none (not (state_of layout past end).head.draining) (not (length (state_of layout past end).body.in_flight == 0)) Needs.NotDraining
+        Needs.InFlight c.2 in
+        let none : length (state_of layout past end).body.in_flight ≡ 0 =
+        eqb-true (length (state_of layout past end).body.in_flight) 0 (not-false (length (state_of layout past end).body.in_flight == 0) f) in
+        let here : length (state_of layout past e).body.in_flight ≡ 0 =
+        subst (λ (w : EndpointId). length (state_of layout past w).body.in_flight ≡ 0) (there end t) none in
         absurd (omega (arith, low, here, ones_flights (state_of layout past e).body.in_flight))
     by_event (Events.Load node end frame) o on t = λ low. refl
     by_event (Events.PageOut node end) o on t =
-        let c = third_none layout.direct (not (is_home layout end node)) (not (is_on_host (state_of layout past end).head.place)) Needs.NotPacket Needs.OtherNode Needs.NotOnHost _ on in
+        let c = third_none layout.direct (not (is_home layout end node)) (not (is_on_host (state_of layout past end).head.place)) Needs.NotPacket
+        Needs.OtherNode Needs.NotOnHost _ on in
         out_aloft end o (there end t) (not-false (is_on_host (state_of layout past end).head.place) c.1)
     by_event (Events.PageIn node end) o on t =
-        let c = third_none layout.direct (not (is_home layout end node)) (not (is_on_disk (state_of layout past end).head.place)) Needs.NotPacket Needs.OtherNode Needs.NotOnDisk _ on in
+        let c = third_none layout.direct (not (is_home layout end node)) (not (is_on_disk (state_of layout past end).head.place)) Needs.NotPacket
+        Needs.OtherNode Needs.NotOnDisk _ on in
         in_aloft end o (there end t) (not-false (is_on_disk (state_of layout past end).head.place) c.1)
 
 pub all_aloft : (layout : Layout) (past : List Entry) → IsHistory layout past → (e : EndpointId) → IsAloft (state_of layout past e)
@@ -349,7 +407,8 @@ all_aloft layout past h =
     (λ xs x k may e. more xs x k may e (touches e x) refl)
     [] past (λ e. none (find (has_id e) layout.ends)) h
   where
-    more : (xs : List Entry) (x : Entry) → ((e : EndpointId) → IsAloft (state_of layout xs e)) → MayFollow layout xs x → (e : EndpointId) (t : Bool) → touches e x ≡ t → IsAloft (state_of layout (xs ++ x ∷ []) e)
+    more : (xs : List Entry) (x : Entry) → ((e : EndpointId) → IsAloft (state_of layout xs e)) → MayFollow layout xs x → (e : EndpointId) (t : Bool) →
+        touches e x ≡ t → IsAloft (state_of layout (xs ++ x ∷ []) e)
     more xs x k may e true at = rw (state_of_push layout xs x e true at) (touched_aloft layout xs x may e at (k e))
     more xs x k may e false at = rw (state_of_push layout xs x e false at) (k e)
 
@@ -358,7 +417,8 @@ all_aloft layout past h =
     none (Some setting) low = absurd (omega (arith, low))
 
 -- an endpoint with a message in flight is open
-pub open_aloft : (layout : Layout) (past : List Entry) → IsHistory layout past → (e : EndpointId) → 1 ≤ flights_of (state_of layout past e) → (state_of layout past e).head.closed ≡ false
+pub open_aloft : (layout : Layout) (past : List Entry) → IsHistory layout past → (e : EndpointId) → 1 ≤ flights_of (state_of layout past e) →
+    (state_of layout past e).head.closed ≡ false
 open_aloft layout past h e low = by_closed (state_of layout past e).head.closed refl
   where
     by_closed : (b : Bool) → (state_of layout past e).head.closed ≡ b → b ≡ false
@@ -371,10 +431,17 @@ some_queued [] (request ∷ requests) q is = omega arith
 some_queued (reply ∷ replies) requests q is = omega arith
 
 -- an endpoint with a message to send is open
-pub open_queued : (layout : Layout) (past : List Entry) → IsHistory layout past → (e : EndpointId) (q : Queued) → front (state_of layout past e) ≡ Some q → (state_of layout past e).head.closed ≡ false
+pub open_queued : (layout : Layout) (past : List Entry) → IsHistory layout past → (e : EndpointId) (q : Queued) → front (state_of layout past e) ≡ Some q →
+    (state_of layout past e).head.closed ≡ false
 open_queued layout past h e q is = by_closed (state_of layout past e).head.closed refl
   where
     by_closed : (b : Bool) → (state_of layout past e).head.closed ≡ b → b ≡ false
     by_closed false closed = refl
     by_closed true closed =
-        absurd (omega (arith, some_queued (state_of layout past e).body.replies (state_of layout past e).body.requests q is, ones_queue (state_of layout past e).body.replies, ones_queue (state_of layout past e).body.requests, ((closings layout past h).empty e closed).0))
+        absurd (omega (
+          arith,
+          some_queued (state_of layout past e).body.replies (state_of layout past e).body.requests q is,
+          ones_queue (state_of layout past e).body.replies,
+          ones_queue (state_of layout past e).body.requests,
+          ((closings layout past h).empty e closed).0,
+        ))

@@ -14,17 +14,20 @@ pub cons_gave : {A : Type 0} (w : Option A) (xs : List A) (a : A) → (k : ℕ) 
 cons_gave None xs a r = r
 cons_gave (Some b) xs a r = (suc r.0, r.1)
 
-pub times_gave : (role : Entry → Option Message) (p : Message → Bool) (past : List Entry) → 1 ≤ times role p past → (m : Message) × Gave role past m × (p m ≡ true)
+pub times_gave : (role : Entry → Option Message) (p : Message → Bool) (past : List Entry) → 1 ≤ times role p past →
+    (m : Message) × Gave role past m × (p m ≡ true)
 times_gave role p [] h = absurd (omega (arith, h))
 times_gave role p (y ∷ past) h = by_message (role y) refl (λ more. times_gave role p past more)
   where
     count : times role p (y ∷ past) ≡ bit (passes p (role y)) + times role p past
     count = sum_by-cons (λ (z : Entry). bit (passes p (role z))) y past
 
-    later : 1 ≤ times role p past → (1 ≤ times role p past → (m : Message) × Gave role past m × (p m ≡ true)) → (m : Message) × Gave role (y ∷ past) m × (p m ≡ true)
+    later : 1 ≤ times role p past → (1 ≤ times role p past → (m : Message) × Gave role past m × (p m ≡ true)) →
+        (m : Message) × Gave role (y ∷ past) m × (p m ≡ true)
     later low more = let r = more low in (r.0, cons_gave (role y) (filter_map role past) r.0 r.1, r.2)
 
-    by_message : (w : Option Message) → role y ≡ w → (1 ≤ times role p past → (m : Message) × Gave role past m × (p m ≡ true)) → (m : Message) × Gave role (y ∷ past) m × (p m ≡ true)
+    by_message : (w : Option Message) → role y ≡ w → (1 ≤ times role p past → (m : Message) × Gave role past m × (p m ≡ true)) →
+        (m : Message) × Gave role (y ∷ past) m × (p m ≡ true)
     by_message None is more = later (omega (arith, h, count, ap (λ (o : Option Message). bit (passes p o)) is)) more
     by_message (Some m) is more = by_test (p m) refl
       where
@@ -33,14 +36,16 @@ times_gave role p (y ∷ past) h = by_message (role y) refl (λ more. times_gave
         by_test false at = later (omega (arith, h, count, ap (λ (o : Option Message). bit (passes p o)) is, ap bit at)) more
 
 -- what was given is counted
-counted : (role : Entry → Option Message) (p : Message → Bool) (past : List Entry) (m : Message) (k : ℕ) → slice_get (filter_map role past) k ≡ Some m → p m ≡ true → 1 ≤ times role p past
+counted : (role : Entry → Option Message) (p : Message → Bool) (past : List Entry) (m : Message) (k : ℕ) → slice_get (filter_map role past) k ≡ Some m →
+    p m ≡ true → 1 ≤ times role p past
 counted role p [] m k e at = absurd (cc)
 counted role p (y ∷ past) m k e at = by_given (λ j f. counted role p past m j f at) (role y) refl k e
   where
     count : times role p (y ∷ past) ≡ bit (passes p (role y)) + times role p past
     count = sum_by-cons (λ (z : Entry). bit (passes p (role z))) y past
 
-    by_given : ((j : ℕ) → slice_get (filter_map role past) j ≡ Some m → 1 ≤ times role p past) → (w : Option Message) → role y ≡ w → (j : ℕ) → slice_get (cons_option w (filter_map role past)) j ≡ Some m → 1 ≤ times role p (y ∷ past)
+    by_given : ((j : ℕ) → slice_get (filter_map role past) j ≡ Some m → 1 ≤ times role p past) → (w : Option Message) → role y ≡ w → (j : ℕ) →
+        slice_get (cons_option w (filter_map role past)) j ≡ Some m → 1 ≤ times role p (y ∷ past)
     by_given more None is j f = omega (arith, count, more j f)
     by_given more (Some b) is zero f =
         let same : b ≡ m = cc in

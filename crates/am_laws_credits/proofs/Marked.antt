@@ -1,5 +1,6 @@
 -- Records and flights are flagged just where a reply to them was put.
-use Rattle.std.proofs.Common.{◌≡◌, ℕ, zero, suc, ◌+◌, ◌≤◌, Bool, true, false, ◌||◌, List, [], ◌∷◌, ◌++◌, Option, Some, None, refl, sym, ap, ◌∙◌, subst, arith, true≢false}
+use Rattle.std.proofs.Common.{◌≡◌, ℕ, zero, suc, ◌+◌, ◌≤◌, Bool, true, false, ◌||◌, List, [], ◌∷◌, ◌++◌, Option, Some, None, refl, sym, ap, ◌∙◌, subst, arith}
+use Rattle.std.proofs.Common.{true≢false}
 use Rattle.std.specs.List.{list_any, find}
 use Rattle.am_lemmas.proofs.Bools.{or_first_fails}
 use Rattle.am_names.specs.declared.EndpointId.{EndpointId}
@@ -55,11 +56,17 @@ every P [] f = tt
 every P (a ∷ xs) f = (f a, every P xs f)
 
 -- the reply that an entry puts comes to the source of its request
-pub reply_comes : (layout : Layout) (past : List Entry) (x : Entry) → IsHistory layout past → MayFollow layout past x → (m : Message) (t : Serial) → put_of x ≡ Some m → m.about ≡ Some t → m.dest ≡ t.source
-reply_comes layout past x h may m t is about = (accepted_reply layout past h m t (put_facts layout past x (delivers layout past h) may m is).accepted about).reply.dest
+pub reply_comes : (layout : Layout) (past : List Entry) (x : Entry) → IsHistory layout past → MayFollow layout past x → (m : Message) (t : Serial) →
+    put_of x ≡ Some m → m.about ≡ Some t → m.dest ≡ t.source
+reply_comes layout past x h may m t is about = (accepted_reply layout past h m t (put_facts layout past x (delivers layout past h) may m is).accepted
+    about).reply.dest
 
 -- where an entry puts no reply to what is not flagged, what is not flagged has none
-pub unflagged : {X : Type 0} (serial : X → Serial) (flag : X → Bool) (layout : Layout) (past : List Entry) (x : Entry) → IsHistory layout past → MayFollow layout past x → (e : EndpointId) (xs : List X) → AllAre (λ a. (serial a).source ≡ e) xs → AllAre (λ a. flag a ≡ false → replied (serial a) past ≡ 0) xs → ((m : Message) (t : Serial) → put_of x ≡ Some m → m.about ≡ Some t → same_end e m.dest ≡ true → AllAre (λ a. same_serial t (serial a) ≡ true → flag a ≡ true) xs) → AllAre (λ a. flag a ≡ false → replied (serial a) (past ++ x ∷ []) ≡ 0) xs
+pub unflagged : {X : Type 0} (serial : X → Serial) (flag : X → Bool) (layout : Layout) (past : List Entry) (x : Entry) → IsHistory layout past →
+    MayFollow layout past x → (e : EndpointId) (xs : List X) → AllAre (λ a. (serial a).source ≡ e) xs →
+    AllAre (λ a. flag a ≡ false → replied (serial a) past ≡ 0) xs → ((m : Message) (t : Serial) → put_of x ≡ Some m → m.about ≡ Some t →
+    same_end e m.dest ≡ true → AllAre (λ a. same_serial t (serial a) ≡ true → flag a ≡ true) xs) →
+    AllAre (λ a. flag a ≡ false → replied (serial a) (past ++ x ∷ []) ≡ 0) xs
 unflagged serial flag layout past x h may e xs own none marks = by_put (put_of x) refl
   where
     none_more : (s : Serial) → bit (passes (is_about s) (put_of x)) ≡ 0 → replied s past ≡ 0 → replied s (past ++ x ∷ []) ≡ 0
@@ -68,27 +75,33 @@ unflagged serial flag layout past x h may e xs own none marks = by_put (put_of x
     by_about : (m : Message) → put_of x ≡ Some m → (w : Option Serial) → m.about ≡ w → AllAre (λ a. flag a ≡ false → replied (serial a) (past ++ x ∷ []) ≡ 0) xs
     by_about m is None about =
         all_map (λ a. flag a ≡ false → replied (serial a) past ≡ 0) (λ a. flag a ≡ false → replied (serial a) (past ++ x ∷ []) ≡ 0) xs
-        (λ a k f. none_more (serial a) (ap (λ (o : Option Message). bit (passes (is_about (serial a)) o)) is ∙ ap (λ (o : Option Serial). bit (is_serial (serial a) o)) about) (k f)) none
+        (λ a k f. none_more (serial a) (ap (λ (o : Option Message). bit (passes (is_about (serial a)) o)) is
+        ∙ ap (λ (o : Option Serial). bit (is_serial (serial a) o)) about) (k f)) none
     by_about m is (Some t) about = by_end (same_end e m.dest) refl
       where
         apart : (s : Serial) → same_serial s t ≡ false → replied s past ≡ 0 → replied s (past ++ x ∷ []) ≡ 0
-        apart s off before = none_more s (ap (λ (o : Option Message). bit (passes (is_about s) o)) is ∙ ap (λ (o : Option Serial). bit (is_serial s o)) about ∙ ap bit off) before
+        apart s off before = none_more s (ap (λ (o : Option Message). bit (passes (is_about s) o)) is ∙ ap (λ (o : Option Serial). bit (is_serial s o)) about
+            ∙ ap bit off) before
 
         by_end : (b : Bool) → same_end e m.dest ≡ b → AllAre (λ a. flag a ≡ false → replied (serial a) (past ++ x ∷ []) ≡ 0) xs
         by_end true at =
-            all_both (λ a. flag a ≡ false → replied (serial a) past ≡ 0) (λ a. same_serial t (serial a) ≡ true → flag a ≡ true) (λ a. flag a ≡ false → replied (serial a) (past ++ x ∷ []) ≡ 0) xs
+            all_both (λ a. flag a ≡ false → replied (serial a) past ≡ 0) (λ a. same_serial t (serial a) ≡ true → flag a ≡ true) (λ a. flag a ≡ false →
+            replied (serial a) (past ++ x ∷ []) ≡ 0) xs
             (λ a k m' f. by_same a k m' f (same_serial (serial a) t) refl) none (marks m t is about at)
           where
-            by_same : (a : _) → (flag a ≡ false → replied (serial a) past ≡ 0) → (same_serial t (serial a) ≡ true → flag a ≡ true) → flag a ≡ false → (b : Bool) → same_serial (serial a) t ≡ b → replied (serial a) (past ++ x ∷ []) ≡ 0
+            by_same : (a : _) → (flag a ≡ false → replied (serial a) past ≡ 0) → (same_serial t (serial a) ≡ true → flag a ≡ true) → flag a ≡ false →
+                (b : Bool) → same_serial (serial a) t ≡ b → replied (serial a) (past ++ x ∷ []) ≡ 0
             by_same a k m' f true same =
                 let is' : serial a ≡ t = same_serial-is (serial a) t same in
                 absurd (true≢false (sym (m' (ap (same_serial t) is' ∙ same_serial-refl t)) ∙ f))
             by_same a k m' f false same = apart (serial a) same (k f)
         by_end false at =
-            all_both (λ a. flag a ≡ false → replied (serial a) past ≡ 0) (λ a. (serial a).source ≡ e) (λ a. flag a ≡ false → replied (serial a) (past ++ x ∷ []) ≡ 0) xs
+            all_both (λ a. flag a ≡ false → replied (serial a) past ≡ 0) (λ a. (serial a).source ≡ e) (λ a. flag a ≡ false →
+            replied (serial a) (past ++ x ∷ []) ≡ 0) xs
             (λ a k mine f. by_same a k mine f (same_serial (serial a) t) refl) none own
           where
-            by_same : (a : _) → (flag a ≡ false → replied (serial a) past ≡ 0) → (serial a).source ≡ e → flag a ≡ false → (b : Bool) → same_serial (serial a) t ≡ b → replied (serial a) (past ++ x ∷ []) ≡ 0
+            by_same : (a : _) → (flag a ≡ false → replied (serial a) past ≡ 0) → (serial a).source ≡ e → flag a ≡ false → (b : Bool) →
+                same_serial (serial a) t ≡ b → replied (serial a) (past ++ x ∷ []) ≡ 0
             by_same a k mine f true same =
                 let is' : serial a ≡ t = same_serial-is (serial a) t same in
                 let there : m.dest ≡ e = reply_comes layout past x h may m t is about ∙ ap (λ (w : Serial). w.source) (sym is') ∙ mine in
@@ -102,11 +115,13 @@ unflagged serial flag layout past x h may e xs own none marks = by_put (put_of x
     by_put (Some m) is = by_about m is m.about refl
 
 -- what is flagged by a put had its reply put
-flagged : (past : List Entry) (x : Entry) (m : Message) (t s : Serial) (b : Bool) → put_of x ≡ Some m → m.about ≡ Some t → (b ≡ true → 1 ≤ replied s (past ++ x ∷ [])) → (b || same_serial t s) ≡ true → 1 ≤ replied s (past ++ x ∷ [])
+flagged : (past : List Entry) (x : Entry) (m : Message) (t s : Serial) (b : Bool) → put_of x ≡ Some m → m.about ≡ Some t →
+    (b ≡ true → 1 ≤ replied s (past ++ x ∷ [])) → (b || same_serial t s) ≡ true → 1 ≤ replied s (past ++ x ∷ [])
 flagged past x m t s true is about k h = k refl
 flagged past x m t s false is about k h =
     let same : t ≡ s = same_serial-is t s h in
-    let one' : bit (passes (is_about s) (put_of x)) ≡ 1 = ap (λ (o : Option Message). bit (passes (is_about s) o)) is ∙ ap bit (about_itself s m (about ∙ ap (λ (w : Serial). Some w) same)) in
+    let one' : bit (passes (is_about s) (put_of x)) ≡ 1 = ap (λ (o : Option Message). bit (passes (is_about s) o)) is
+    ∙ ap bit (about_itself s m (about ∙ ap (λ (w : Serial). Some w) same)) in
     omega (arith, replied_push s past x, one')
 
 arrived_there : (t : Serial) (xs : List Awaited) → AllAre (λ (a : Awaited). same_serial t a.serial ≡ true → a.arrived ≡ true) (with_arrived (Some t) xs)
@@ -138,38 +153,48 @@ pub record Flags (layout : Layout) (past : List Entry) : Type 0 where
   pub flags : (e : EndpointId) → AreFlagged layout past e (state_of layout past e).body
 
 -- the flights of an endpoint are its own
-pub flights_own : (layout : Layout) (past : List Entry) → IsHistory layout past → (e : EndpointId) → AllAre (λ (f : Flying). f.message.serial.source ≡ e) (state_of layout past e).body.in_flight
+pub flights_own : (layout : Layout) (past : List Entry) → IsHistory layout past → (e : EndpointId) →
+    AllAre (λ (f : Flying). f.message.serial.source ≡ e) (state_of layout past e).body.in_flight
 flights_own layout past h e = (own_are layout past h e).flights
 
 -- what is accepted here was not before
-pub was_new : (layout : Layout) (past : List Entry) (x : Entry) → IsHistory layout past → MayFollow layout past x → (m : Message) → accepted_of x ≡ Some m → times accepted_of (has_serial m.serial) past ≡ 0
+pub was_new : (layout : Layout) (past : List Entry) (x : Entry) → IsHistory layout past → MayFollow layout past x → (m : Message) → accepted_of x ≡ Some m →
+    times accepted_of (has_serial m.serial) past ≡ 0
 was_new layout past x h may m is =
-    let now : times accepted_of (has_serial m.serial) (past ++ x ∷ []) ≤ 1 = (each_once layout (past ++ x ∷ []) (each_push (MayFollow layout) [] past x h may)).accepted m.serial in
-    let one' : bit (passes (has_serial m.serial) (accepted_of x)) ≡ 1 = ap (λ (o : Option Message). bit (passes (has_serial m.serial) o)) is ∙ ap bit (same_serial-refl m.serial) in
+    let now : times accepted_of (has_serial m.serial) (past ++ x ∷ []) ≤ 1 =
+    (each_once layout (past ++ x ∷ []) (each_push (MayFollow layout) [] past x h may)).accepted m.serial in
+    let one' : bit (passes (has_serial m.serial) (accepted_of x)) ≡ 1 = ap (λ (o : Option Message). bit (passes (has_serial m.serial) o)) is
+    ∙ ap bit (same_serial-refl m.serial) in
     omega (arith, now, one', role_push accepted_in (has_serial m.serial) past x)
 
 -- what is accepted here is of its endpoint
-pub accepted_here : (layout : Layout) (past : List Entry) (e : EndpointId) (x : Entry) → MayFollow layout past x → touches e x ≡ true → (m : Message) → accepted_of x ≡ Some m → m.serial.source ≡ e
+pub accepted_here : (layout : Layout) (past : List Entry) (e : EndpointId) (x : Entry) → MayFollow layout past x → touches e x ≡ true → (m : Message) →
+    accepted_of x ≡ Some m → m.serial.source ≡ e
 accepted_here layout past e x may at m is = by_event x.event x.outcome at (accepts_next layout past x.event x.outcome may.outcome) is
   where
     by_message : (end : EndpointId) (n : Option Message) → e ≡ end → HasSerial (new_serial end (state_of layout past end)) n → n ≡ Some m → m.serial.source ≡ e
     by_message end None there next e' = absurd (cc)
-    by_message end (Some n) there next e' = let same : n ≡ m = cc in ap (λ (w : Message). w.serial.source) (sym same) ∙ ap (λ (w : Serial). w.source) next ∙ sym there
+    by_message end (Some n) there next e' = let same : n ≡ m = cc in ap (λ (w : Message). w.serial.source) (sym same) ∙ ap (λ (w : Serial). w.source) next
+        ∙ sym there
 
-    by_event : (event : Event) (o : Outcome) → list_any (same_end e) (ends_touched event o) ≡ true → Accepts layout past event o → accepted_in event o ≡ Some m → m.serial.source ≡ e
+    by_event : (event : Event) (o : Outcome) → list_any (same_end e) (ends_touched event o) ≡ true → Accepts layout past event o →
+        accepted_in event o ≡ Some m → m.serial.source ≡ e
     by_event (Events.Call actor end call) o t next e' = by_message end (accepted_by call o) (same_end-is e end (one_touched (same_end e end) t)) next e'
     by_event event o t next e' = absurd (cc)
 
 -- what takes off was not put
-pub not_yet_put : (layout : Layout) (past : List Entry) (e : EndpointId) (x : Entry) → IsHistory layout past → MayFollow layout past x → touches e x ≡ true → (m : Message) → bound_at x.event x.outcome ≡ Some m → times put_of (has_serial m.serial) past ≡ 0
+pub not_yet_put : (layout : Layout) (past : List Entry) (e : EndpointId) (x : Entry) → IsHistory layout past → MayFollow layout past x → touches e x ≡ true →
+    (m : Message) → bound_at x.event x.outcome ≡ Some m → times put_of (has_serial m.serial) past ≡ 0
 not_yet_put layout past e x h may at m is = by_network layout.direct refl
   where
     on_direct : (event : Event) (o : Outcome) → FitsDirect e (state_of layout past e) event o → bound_at event o ≡ Some m → ⊥
     on_direct (Events.Bind node end) o fits b = fits
     on_direct event o fits b = cc
 
-    of_front : (event : Event) (o : Outcome) → FitsSend e (state_of layout past e) event o → bound_at event o ≡ Some m → (q : Queued) × (front (state_of layout past e) ≡ Some q) × (q.message ≡ m)
-    of_front (Events.Bind node end) o fits b = let both : Some fits.queued.message ≡ Some m = sym fits.is_sent ∙ b in let same : fits.queued.message ≡ m = cc in (fits.queued, fits.is_front, same)
+    of_front : (event : Event) (o : Outcome) → FitsSend e (state_of layout past e) event o → bound_at event o ≡ Some m →
+        (q : Queued) × (front (state_of layout past e) ≡ Some q) × (q.message ≡ m)
+    of_front (Events.Bind node end) o fits b = let both : Some fits.queued.message ≡ Some m = sym fits.is_sent
+        ∙ b in let same : fits.queued.message ≡ m = cc in (fits.queued, fits.is_front, same)
     of_front event o fits b = absurd (cc)
 
     by_situation : (w n : ℕ) → 1 ≤ w → Situation m.serial past w n → times put_of (has_serial m.serial) past ≡ 0
@@ -181,10 +206,17 @@ not_yet_put layout past e x h may at m is = by_network layout.direct refl
     by_network true d = absurd (on_direct x.event x.outcome (fits_direct layout d past e x may) is)
     by_network false d =
         let f = of_front x.event x.outcome (fits_send layout past e x may at) is in
-        let own : m.serial.source ≡ e = ap (λ (w : Message). w.serial.source) (sym f.2) ∙ front_are (λ (w : Message). w.serial.source ≡ e) (state_of layout past e) f.0 f.1 (own_are layout past h e) in
-        let mine : bit (has_serial m.serial f.0.message) ≡ 1 = ap (λ (w : Message). bit (same_serial m.serial w.serial)) f.2 ∙ ap bit (same_serial-refl m.serial) in
-        let here : 1 ≤ to_send (has_serial m.serial) (state_of layout past e).body = omega (arith, front_leaves (has_serial m.serial) (state_of layout past e) f.0 f.1, mine) in
-        by_situation (waiting layout past m.serial) _ (subst (λ (w : EndpointId). 1 ≤ to_send (has_serial m.serial) (state_of layout past w).body) (sym own) here) ((kept_packets layout d past h).stands m.serial)
+        let own : m.serial.source ≡ e = ap (λ (w : Message). w.serial.source) (sym f.2)
+        ∙ front_are (λ (w : Message). w.serial.source ≡ e) (state_of layout past e) f.0 f.1 (own_are layout past h e) in
+        let mine : bit (has_serial m.serial f.0.message) ≡ 1 = ap (λ (w : Message). bit (same_serial m.serial w.serial)) f.2
+        ∙ ap bit (same_serial-refl m.serial) in
+        let here : 1 ≤ to_send (has_serial m.serial) (state_of layout past e).body = omega (
+          arith,
+          front_leaves (has_serial m.serial) (state_of layout past e) f.0 f.1,
+          mine,
+        ) in
+        by_situation (waiting layout past m.serial) _ (subst (λ (w : EndpointId). 1 ≤ to_send (has_serial m.serial) (state_of layout past w).body) (sym own)
+        here) ((kept_packets layout d past h).stands m.serial)
 
 -- nothing was put about what was not put
 pub not_replied : (layout : Layout) (past : List Entry) → IsHistory layout past → (s : Serial) → times put_of (has_serial s) past ≡ 0 → replied s past ≡ 0
@@ -194,38 +226,69 @@ not_replied layout past h s none = by_count (replied s past) refl
     by_count zero is = refl
     by_count (suc n) is = absurd (omega (arith, (put_reply layout past h s (omega (arith, is))).3.put, none))
 
-touched_flags : (layout : Layout) (past : List Entry) (x : Entry) → IsHistory layout past → MayFollow layout past x → (e : EndpointId) → AreFlagged layout past e (state_of layout past e).body → touches e x ≡ true → AreFlagged layout (past ++ x ∷ []) e (changed e (state_of layout past e) x.event x.outcome).body
+touched_flags : (layout : Layout) (past : List Entry) (x : Entry) → IsHistory layout past → MayFollow layout past x → (e : EndpointId) →
+    AreFlagged layout past e (state_of layout past e).body → touches e x ≡ true →
+    AreFlagged layout (past ++ x ∷ []) e (changed e (state_of layout past e) x.event x.outcome).body
 touched_flags layout past x h may e k at =
     record {
       own = own;
-      waiting = unflagged (λ (a : Awaited). a.serial) (λ (a : Awaited). a.arrived) layout past x h may e (changed e (state_of layout past e) x.event x.outcome).body.awaited own
-          (awaited_kept (λ (a : Awaited). a.arrived ≡ false → replied a.serial past ≡ 0) e (state_of layout past e) x.event x.outcome (λ m t is about a r f. r (or_first_fails a.arrived (same_serial t a.serial) f)) k.waiting (λ index m is f. none_about layout past h m.serial (was_new layout past x h may m is)))
-          (λ m t is about here. subst (AllAre (λ (a : Awaited). same_serial t a.serial ≡ true → a.arrived ≡ true)) (sym ((put_awaited e (state_of layout past e) x.event x.outcome m is here).0 ∙ ap (λ (w : Option Serial). with_arrived w (state_of layout past e).body.awaited) about)) (arrived_there t (state_of layout past e).body.awaited));
-      came = awaited_kept (λ (a : Awaited). a.arrived ≡ true → 1 ≤ replied a.serial (past ++ x ∷ [])) e (state_of layout past e) x.event x.outcome (λ m t is about a r f. flagged past x m t a.serial a.arrived is about r f)
-          (all_map (λ (a : Awaited). a.arrived ≡ true → 1 ≤ replied a.serial past) (λ (a : Awaited). a.arrived ≡ true → 1 ≤ replied a.serial (past ++ x ∷ [])) (state_of layout past e).body.awaited (λ a r f. omega (arith, r f, replied_push a.serial past x)) k.came)
+      waiting = unflagged (λ (a : Awaited). a.serial) (λ (a : Awaited). a.arrived) layout past x h may e
+          (changed e (state_of layout past e) x.event x.outcome).body.awaited own
+          (awaited_kept (λ (a : Awaited). a.arrived ≡ false →
+          replied a.serial past ≡ 0) e (state_of layout past e) x.event x.outcome (λ m t is about a r f. r
+          (or_first_fails a.arrived (same_serial t a.serial) f)) k.waiting (λ index m is f. none_about layout past h m.serial
+          (was_new layout past x h may m is)))
+          (λ m t is about here. subst (AllAre (λ (a : Awaited). same_serial t a.serial ≡ true →
+          a.arrived ≡ true)) (sym ((put_awaited e (state_of layout past e) x.event x.outcome m is here).0
+          ∙ ap (λ (w : Option Serial). with_arrived w (state_of layout past e).body.awaited) about))
+          (arrived_there t (state_of layout past e).body.awaited));
+      came = awaited_kept (λ (a : Awaited). a.arrived ≡ true →
+          1 ≤ replied a.serial (past ++ x ∷ [])) e (state_of layout past e) x.event x.outcome
+          (λ m t is about a r f. flagged past x m t a.serial a.arrived is about r f)
+          (all_map (λ (a : Awaited). a.arrived ≡ true → 1 ≤ replied a.serial past) (λ (a : Awaited). a.arrived ≡ true →
+          1 ≤ replied a.serial (past ++ x ∷ [])) (state_of layout past e).body.awaited (λ a r f. omega (arith, r f, replied_push a.serial past x)) k.came)
           (λ index m is f. absurd (true≢false (sym f)));
-      unmarked = unflagged (λ (f : Flying). f.message.serial) (λ (f : Flying). f.answered) layout past x h may e (changed e (state_of layout past e) x.event x.outcome).body.in_flight flying
-          (flights_kept (λ (f : Flying). f.answered ≡ false → replied f.message.serial past ≡ 0) e (state_of layout past e) x.event x.outcome (λ m t is about a r f. r (or_first_fails a.answered (same_serial t a.message.serial) f)) k.unmarked (λ m is f. not_replied layout past h m.serial (not_yet_put layout past e x h may at m is)))
-          (λ m t is about here. subst (AllAre (λ (f : Flying). same_serial t f.message.serial ≡ true → f.answered ≡ true)) (sym ((put_awaited e (state_of layout past e) x.event x.outcome m is here).1 ∙ ap (λ (w : Option Serial). with_marked w (state_of layout past e).body.in_flight) about)) (marked_there t (state_of layout past e).body.in_flight));
-      marked = flights_kept (λ (f : Flying). f.answered ≡ true → 1 ≤ replied f.message.serial (past ++ x ∷ [])) e (state_of layout past e) x.event x.outcome (λ m t is about a r f. flagged past x m t a.message.serial a.answered is about r f)
-          (all_map (λ (f : Flying). f.answered ≡ true → 1 ≤ replied f.message.serial past) (λ (f : Flying). f.answered ≡ true → 1 ≤ replied f.message.serial (past ++ x ∷ [])) (state_of layout past e).body.in_flight (λ a r f. omega (arith, r f, replied_push a.message.serial past x)) k.marked)
+      unmarked = unflagged (λ (f : Flying). f.message.serial) (λ (f : Flying). f.answered) layout past x h may e
+          (changed e (state_of layout past e) x.event x.outcome).body.in_flight flying
+          (flights_kept (λ (f : Flying). f.answered ≡ false →
+          replied f.message.serial past ≡ 0) e (state_of layout past e) x.event x.outcome
+          (λ m t is about a r f. r (or_first_fails a.answered (same_serial t a.message.serial) f)) k.unmarked
+          (λ m is f. not_replied layout past h m.serial (not_yet_put layout past e x h may at m is)))
+          (λ m t is about here. subst (AllAre (λ (f : Flying). same_serial t f.message.serial ≡ true →
+          f.answered ≡ true)) (sym ((put_awaited e (state_of layout past e) x.event x.outcome m is here).1
+          ∙ ap (λ (w : Option Serial). with_marked w (state_of layout past e).body.in_flight) about))
+          (marked_there t (state_of layout past e).body.in_flight));
+      marked = flights_kept (λ (f : Flying). f.answered ≡ true →
+          1 ≤ replied f.message.serial (past ++ x ∷ [])) e (state_of layout past e) x.event x.outcome
+          (λ m t is about a r f. flagged past x m t a.message.serial a.answered is about r f)
+          (all_map (λ (f : Flying). f.answered ≡ true → 1 ≤ replied f.message.serial past) (λ (f : Flying). f.answered ≡ true →
+          1 ≤ replied f.message.serial (past ++ x ∷ [])) (state_of layout past e).body.in_flight
+          (λ a r f. omega (arith, r f, replied_push a.message.serial past x)) k.marked)
           (λ m is f. absurd (true≢false (sym f)));
     }
   where
     own : AllAre (λ (a : Awaited). a.serial.source ≡ e) (changed e (state_of layout past e) x.event x.outcome).body.awaited
-    own = awaited_kept (λ (a : Awaited). a.serial.source ≡ e) e (state_of layout past e) x.event x.outcome (λ m t is about a r. r) k.own (λ index m is. accepted_here layout past e x may at m is)
+    own = awaited_kept (λ (a : Awaited). a.serial.source ≡ e) e (state_of layout past e) x.event x.outcome (λ m t is about a r. r) k.own
+        (λ index m is. accepted_here layout past e x may at m is)
 
     flying : AllAre (λ (f : Flying). f.message.serial.source ≡ e) (changed e (state_of layout past e) x.event x.outcome).body.in_flight
-    flying = subst (λ (s : State). AllAre (λ (f : Flying). f.message.serial.source ≡ e) s.body.in_flight) (state_of_push layout past x e true at) (flights_own layout (past ++ x ∷ []) (each_push (MayFollow layout) [] past x h may) e)
+    flying = subst (λ (s : State). AllAre (λ (f : Flying). f.message.serial.source ≡ e) s.body.in_flight) (state_of_push layout past x e true at)
+        (flights_own layout (past ++ x ∷ []) (each_push (MayFollow layout) [] past x h may) e)
 
-untouched_flags : (layout : Layout) (past : List Entry) (x : Entry) → IsHistory layout past → MayFollow layout past x → (e : EndpointId) → AreFlagged layout past e (state_of layout past e).body → touches e x ≡ false → AreFlagged layout (past ++ x ∷ []) e (state_of layout past e).body
+untouched_flags : (layout : Layout) (past : List Entry) (x : Entry) → IsHistory layout past → MayFollow layout past x → (e : EndpointId) →
+    AreFlagged layout past e (state_of layout past e).body → touches e x ≡ false → AreFlagged layout (past ++ x ∷ []) e (state_of layout past e).body
 untouched_flags layout past x h may e k off =
     record {
       own = k.own;
-      waiting = unflagged (λ (a : Awaited). a.serial) (λ (a : Awaited). a.arrived) layout past x h may e (state_of layout past e).body.awaited k.own k.waiting (λ m t is about here. absurd (away m is here));
-      came = all_map (λ (a : Awaited). a.arrived ≡ true → 1 ≤ replied a.serial past) (λ (a : Awaited). a.arrived ≡ true → 1 ≤ replied a.serial (past ++ x ∷ [])) (state_of layout past e).body.awaited (λ a r f. omega (arith, r f, replied_push a.serial past x)) k.came;
-      unmarked = unflagged (λ (f : Flying). f.message.serial) (λ (f : Flying). f.answered) layout past x h may e (state_of layout past e).body.in_flight (flights_own layout past h e) k.unmarked (λ m t is about here. absurd (away m is here));
-      marked = all_map (λ (f : Flying). f.answered ≡ true → 1 ≤ replied f.message.serial past) (λ (f : Flying). f.answered ≡ true → 1 ≤ replied f.message.serial (past ++ x ∷ [])) (state_of layout past e).body.in_flight (λ a r f. omega (arith, r f, replied_push a.message.serial past x)) k.marked;
+      waiting = unflagged (λ (a : Awaited). a.serial) (λ (a : Awaited). a.arrived) layout past x h may e (state_of layout past e).body.awaited k.own k.waiting
+          (λ m t is about here. absurd (away m is here));
+      came = all_map (λ (a : Awaited). a.arrived ≡ true → 1 ≤ replied a.serial past) (λ (a : Awaited). a.arrived ≡ true →
+          1 ≤ replied a.serial (past ++ x ∷ [])) (state_of layout past e).body.awaited (λ a r f. omega (arith, r f, replied_push a.serial past x)) k.came;
+      unmarked = unflagged (λ (f : Flying). f.message.serial) (λ (f : Flying). f.answered) layout past x h may e (state_of layout past e).body.in_flight
+          (flights_own layout past h e) k.unmarked (λ m t is about here. absurd (away m is here));
+      marked = all_map (λ (f : Flying). f.answered ≡ true → 1 ≤ replied f.message.serial past) (λ (f : Flying). f.answered ≡ true →
+          1 ≤ replied f.message.serial (past ++ x ∷ [])) (state_of layout past e).body.in_flight
+          (λ a r f. omega (arith, r f, replied_push a.message.serial past x)) k.marked;
     }
   where
     away : (m : Message) → put_of x ≡ Some m → same_end e m.dest ≡ true → ⊥
@@ -239,7 +302,8 @@ flags layout past h =
     (λ xs x k may. record { history = each_push (MayFollow layout) [] xs x k.history may; flags = λ e. more xs x k may e (touches e x) refl })
     [] past (record { history = tt; flags = λ e. none e (find (has_id e) layout.ends) }) h).flags
   where
-    more : (xs : List Entry) (x : Entry) → Flags layout xs → MayFollow layout xs x → (e : EndpointId) (t : Bool) → touches e x ≡ t → AreFlagged layout (xs ++ x ∷ []) e (state_of layout (xs ++ x ∷ []) e).body
+    more : (xs : List Entry) (x : Entry) → Flags layout xs → MayFollow layout xs x → (e : EndpointId) (t : Bool) → touches e x ≡ t →
+        AreFlagged layout (xs ++ x ∷ []) e (state_of layout (xs ++ x ∷ []) e).body
     more xs x k may e true at = rw (state_of_push layout xs x e true at) (touched_flags layout xs x k.history may e (k.flags e) at)
     more xs x k may e false at = rw (state_of_push layout xs x e false at) (untouched_flags layout xs x k.history may e (k.flags e) at)
 

@@ -46,7 +46,8 @@ put_was_accepted layout past h =
     [] past (record { history = tt; known = λ m g. absurd (cc) }) h).known
 
 -- a reply is accepted only where its request runs
-about_le : (layout : Layout) (past : List Entry) (s : Serial) (event : Event) (o : Outcome) → IsAcceptedBy layout past event o → SendsOne event o → bit (passes (is_about s) (accepted_in event o)) ≤ bit (passes (has_serial s) (run_in event o))
+about_le : (layout : Layout) (past : List Entry) (s : Serial) (event : Event) (o : Outcome) → IsAcceptedBy layout past event o → SendsOne event o →
+    bit (passes (is_about s) (accepted_in event o)) ≤ bit (passes (has_serial s) (run_in event o))
 about_le layout past s (Events.Call actor end (Calls.Request index handler words)) (Out.Requested m) asked one' =
     let none : m.about ≡ None = no_about layout past end index handler words m asked in
     omega (arith, ap (λ (w : Option Serial). bit (is_serial s w)) none)
@@ -54,7 +55,8 @@ about_le layout past s (Events.Call actor end Calls.Poll) (Out.Ran m handler (So
     omega (arith, ap (λ (w : Option Serial). bit (is_serial s w)) one'.2)
 about_le layout past s event o asked one' = omega arith
 
-pub replies_le : (layout : Layout) (past : List Entry) → IsHistory layout past → (s : Serial) → times accepted_of (is_about s) past ≤ times run_of (has_serial s) past
+pub replies_le : (layout : Layout) (past : List Entry) → IsHistory layout past → (s : Serial) →
+    times accepted_of (is_about s) past ≤ times run_of (has_serial s) past
 replies_le layout past h s =
     (over_each (MayFollow layout) (λ xs. IsHistory layout xs × (times accepted_of (is_about s) xs ≤ times run_of (has_serial s) xs))
     (λ xs x k may. (
@@ -64,7 +66,8 @@ replies_le layout past h s =
         k.1,
         role_push accepted_in (is_about s) xs x,
         role_push run_in (has_serial s) xs x,
-        about_le layout xs s x.event x.outcome (is_asked layout xs x (knows layout xs k.0) may) (subst (λ (o : Outcome). SendsOne x.event o) (sym may.outcome) (event_one layout xs x.event)),
+        about_le layout xs s x.event x.outcome (is_asked layout xs x (knows layout xs k.0) may)
+            (subst (λ (o : Outcome). SendsOne x.event o) (sym may.outcome) (event_one layout xs x.event)),
       ),
     ))
     [] past (tt, omega arith) h).1
@@ -86,20 +89,27 @@ about_is s m h = by_about m.about refl h
     by_about None is e = absurd (true≢false (sym e))
     by_about (Some t) is e = is ∙ ap (λ (w : Serial). Some w) (sym (same_serial-is s t e))
 
-pub accepted_reply : (layout : Layout) (past : List Entry) → IsHistory layout past → (m : Message) (s : Serial) → WasAccepted past m → m.about ≡ Some s → IsPutReply past m s
+pub accepted_reply : (layout : Layout) (past : List Entry) → IsHistory layout past → (m : Message) (s : Serial) → WasAccepted past m → m.about ≡ Some s →
+    IsPutReply past m s
 accepted_reply layout past h m s known about =
-    let ran : 1 ≤ times run_of (has_serial s) past = omega (arith, gave_times accepted_of (is_about s) past m known (about_itself s m about), replies_le layout past h s) in
+    let ran : 1 ≤ times run_of (has_serial s) past = omega (
+      arith,
+      gave_times accepted_of (is_about s) past m known (about_itself s m about),
+      replies_le layout past h s,
+    ) in
     record { accepted = known; reply = (credits layout past h).replies m known s about; ran = ran; put = omega (arith, ran, (each_once layout past h).run s) }
 
 -- a reply that was put: its request was put, so it is not returned
-pub put_reply : (layout : Layout) (past : List Entry) → IsHistory layout past → (s : Serial) → 1 ≤ times put_of (is_about s) past → (m : Message) × Gave put_of past m × (m.about ≡ Some s) × IsPutReply past m s
+pub put_reply : (layout : Layout) (past : List Entry) → IsHistory layout past → (s : Serial) → 1 ≤ times put_of (is_about s) past →
+    (m : Message) × Gave put_of past m × (m.about ≡ Some s) × IsPutReply past m s
 put_reply layout past h s low =
     let g = times_gave put_of (is_about s) past low in
     let about : g.0.about ≡ Some s = about_is s g.0 g.2 in
     (g.0, g.1, about, accepted_reply layout past h g.0 s (put_was_accepted layout past h g.0 g.1) about)
 
 -- nothing is put about a serial that was not accepted
-pub none_about : (layout : Layout) (past : List Entry) → IsHistory layout past → (s : Serial) → times accepted_of (has_serial s) past ≡ 0 → times put_of (is_about s) past ≡ 0
+pub none_about : (layout : Layout) (past : List Entry) → IsHistory layout past → (s : Serial) → times accepted_of (has_serial s) past ≡ 0 →
+    times put_of (is_about s) past ≡ 0
 none_about layout past h s none = by_count (times put_of (is_about s) past) refl
   where
     by_count : (n : ℕ) → times put_of (is_about s) past ≡ n → n ≡ 0

@@ -37,7 +37,8 @@ counted_there f (x ∷ xs) h = by_test (f x) refl (λ low. counted_there f xs lo
     by_test false is more = more (omega (arith, h, sum_by-cons (λ (y : Entry). bit (f y)) x xs, ap bit is))
 
 -- a serial that is held did not end
-asked_held : (past : List Entry) (e : EndpointId) (t : Serial) (event : Event) (o : Outcome) → is_held past (asked_where e (λ index s. same_serial t s) event o) ≡ true → list_any (ends_hold t) past ≡ false
+asked_held : (past : List Entry) (e : EndpointId) (t : Serial) (event : Event) (o : Outcome) →
+    is_held past (asked_where e (λ index s. same_serial t s) event o) ≡ true → list_any (ends_hold t) past ≡ false
 asked_held past e t (Events.Call actor end (Calls.Request index handler words)) (Out.Requested m) h = by_tests (same_end e end) (same_serial t m.serial) refl h
   where
     not_true : (b : Bool) → not b ≡ true → b ≡ false
@@ -45,7 +46,8 @@ asked_held past e t (Events.Call actor end (Calls.Request index handler words)) 
     not_true false g = refl
 
     by_tests : (a b : Bool) → same_serial t m.serial ≡ b → is_held past (if a && b then Some m.serial else None) ≡ true → list_any (ends_hold t) past ≡ false
-    by_tests true true is g = subst (λ (w : Serial). list_any (ends_hold w) past ≡ false) (sym (same_serial-is t m.serial is)) (not_true (list_any (ends_hold m.serial) past) g)
+    by_tests true true is g = subst (λ (w : Serial). list_any (ends_hold w) past ≡ false) (sym (same_serial-is t m.serial is))
+        (not_true (list_any (ends_hold m.serial) past) g)
     by_tests true false is g = absurd (true≢false (sym g))
     by_tests false b is g = absurd (true≢false (sym g))
 asked_held past e t event o h = absurd (true≢false (sym h))
@@ -90,7 +92,8 @@ each_there : (xs : List Awaited) → AllAre (λ (a : Awaited). 1 ≤ records_of 
 each_there [] = tt
 each_there (a ∷ xs) = (
   omega (arith, sum_by-cons (λ (y : Awaited). bit (same_serial a.serial y.serial)) a xs, ap bit (same_serial-refl a.serial)),
-  all_map (λ (b : Awaited). 1 ≤ records_of b.serial xs) (λ (b : Awaited). 1 ≤ records_of b.serial (a ∷ xs)) xs (λ b low. omega (arith, low, sum_by-cons (λ (y : Awaited). bit (same_serial b.serial y.serial)) a xs)) (each_there xs),
+  all_map (λ (b : Awaited). 1 ≤ records_of b.serial xs) (λ (b : Awaited). 1 ≤ records_of b.serial (a ∷ xs)) xs
+      (λ b low. omega (arith, low, sum_by-cons (λ (y : Awaited). bit (same_serial b.serial y.serial)) a xs)) (each_there xs),
 )
 
 -- the seventh part: a waiting record is of an open request
@@ -100,9 +103,12 @@ waiting_open layout past h e = by_closed (state_of layout past e).head.closed re
     under : AreUnder past (state_of layout past e)
     under = (credits layout past h).under e
 
-    open_for : (state_of layout past e).head.closed ≡ false → (a : Awaited) → IsUnder past (state_of layout past e).body.tag a → (1 ≤ records_of a.serial (state_of layout past e).body.awaited) × (a.arrived ≡ false → replied a.serial past ≡ 0) → a.arrived ≡ false → IsOpenFor layout past e a
+    open_for : (state_of layout past e).head.closed ≡ false → (a : Awaited) → IsUnder past (state_of layout past e).body.tag a →
+        (1 ≤ records_of a.serial (state_of layout past e).body.awaited) × (a.arrived ≡ false → replied a.serial past ≡ 0) → a.arrived ≡ false →
+        IsOpenFor layout past e a
     open_for opened a u k off =
-        let still : list_any (ends_hold a.serial) past ≡ false = held_not_ended past e a.serial (omega (arith, k.0, (holds layout past h).held e (λ index s. same_serial a.serial s))) in
+        let still : list_any (ends_hold a.serial) past ≡ false =
+        held_not_ended past e a.serial (omega (arith, k.0, (holds layout past h).held e (λ index s. same_serial a.serial s))) in
         record {
           request = u.request;
           accepted = u.accepted;
@@ -116,10 +122,16 @@ waiting_open layout past h e = by_closed (state_of layout past e).head.closed re
           some = eqb-false (state_of layout past e).body.tag.0 0 u.some;
         }
 
-    by_closed : (b : Bool) → (state_of layout past e).head.closed ≡ b → AllAre (λ (a : Awaited). a.arrived ≡ false → IsOpenFor layout past e a) (state_of layout past e).body.awaited
-    by_closed true is = all_map (λ (a : Awaited). ⊥) (λ (a : Awaited). a.arrived ≡ false → IsOpenFor layout past e a) (state_of layout past e).body.awaited (λ a none. absurd none) (under.closed is)
+    by_closed : (b : Bool) → (state_of layout past e).head.closed ≡ b → AllAre (λ (a : Awaited). a.arrived ≡ false →
+        IsOpenFor layout past e a) (state_of layout past e).body.awaited
+    by_closed true is = all_map (λ (a : Awaited). ⊥) (λ (a : Awaited). a.arrived ≡ false →
+        IsOpenFor layout past e a) (state_of layout past e).body.awaited (λ a none. absurd none) (under.closed is)
     by_closed false is =
-        all_both (IsUnder past (state_of layout past e).body.tag) (λ (a : Awaited). (1 ≤ records_of a.serial (state_of layout past e).body.awaited) × (a.arrived ≡ false → replied a.serial past ≡ 0)) (λ (a : Awaited). a.arrived ≡ false → IsOpenFor layout past e a) (state_of layout past e).body.awaited
+        all_both (IsUnder past (state_of layout past e).body.tag) (λ (a : Awaited). (1 ≤ records_of a.serial (state_of layout past e).body.awaited) ×
+        (a.arrived ≡ false → replied a.serial past ≡ 0)) (λ (a : Awaited). a.arrived ≡ false →
+        IsOpenFor layout past e a) (state_of layout past e).body.awaited
         (open_for is) under.under
-        (all_both (λ (a : Awaited). 1 ≤ records_of a.serial (state_of layout past e).body.awaited) (λ (a : Awaited). a.arrived ≡ false → replied a.serial past ≡ 0) (λ (a : Awaited). (1 ≤ records_of a.serial (state_of layout past e).body.awaited) × (a.arrived ≡ false → replied a.serial past ≡ 0)) (state_of layout past e).body.awaited
+        (all_both (λ (a : Awaited). 1 ≤ records_of a.serial (state_of layout past e).body.awaited) (λ (a : Awaited). a.arrived ≡ false →
+        replied a.serial past ≡ 0) (λ (a : Awaited). (1 ≤ records_of a.serial (state_of layout past e).body.awaited) × (a.arrived ≡ false →
+        replied a.serial past ≡ 0)) (state_of layout past e).body.awaited
         (λ a low w. (low, w)) (each_there (state_of layout past e).body.awaited) (flags layout past h e).waiting)

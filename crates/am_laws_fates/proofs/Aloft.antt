@@ -23,7 +23,8 @@ use Rattle.am_model.specs.Choice.{without_first}
 use Rattle.am_model.specs.declared.Queued.{Queued}
 use Rattle.am_model.specs.declared.Flying.{Flying}
 use Rattle.am_model.specs.Endpoint.{State, Body, front, front_of}
-use Rattle.am_model.specs.Changes.{called, left, reached, queued, appended, requests_left, without_front, bounces_of, paged_out, paged_in, changed, put, received, expired, bound, flying_of, without_flight, requeued_flight, with_marked, marked}
+use Rattle.am_model.specs.Changes.{called, left, reached, queued, appended, requests_left, without_front, bounces_of, paged_out, paged_in, changed, put}
+use Rattle.am_model.specs.Changes.{received, expired, bound, flying_of, without_flight, requeued_flight, with_marked, marked}
 use Rattle.am_office.specs.Entries.{accepted_by}
 use Rattle.am_model.specs.History.{judged}
 use Rattle.am_model.proofs.Queues.{Judged}
@@ -108,18 +109,40 @@ pub record Moves (old new : Body) (gone come : Option Queued) : Type 0 where
 pub stays : (b : Body) → Moves b b None None
 stays b = record { rest = b; leaves = λ v. omega arith; comes = λ v. omega arith }
 
-both_appended : (v : Weight) (m : Message) (bounces : ℕ) (requests replies : List Queued) (is : Bool) → queue_weight v (appended is m bounces requests) + queue_weight v (appended (if is then false else true) m bounces replies) ≡ queue_weight v requests + queue_weight v replies + v m bounces
-both_appended v m bounces requests replies true = omega (arith, sum_by_push (λ (q : Queued). v q.message q.bounces) requests (record { message = m; bounces = bounces }))
-both_appended v m bounces requests replies false = omega (arith, sum_by_push (λ (q : Queued). v q.message q.bounces) replies (record { message = m; bounces = bounces }))
+both_appended : (v : Weight) (m : Message) (bounces : ℕ) (requests replies : List Queued) (is : Bool) →
+    queue_weight v (appended is m bounces requests) + queue_weight v (appended (if is then false else true) m bounces replies) ≡ queue_weight v requests +
+    queue_weight v replies + v m bounces
+both_appended v m bounces requests replies true = omega (
+  arith,
+  sum_by_push (λ (q : Queued). v q.message q.bounces) requests (record {
+    message = m;
+    bounces = bounces;
+  }),
+)
+both_appended v m bounces requests replies false = omega (
+  arith,
+  sum_by_push (λ (q : Queued). v q.message q.bounces) replies (record {
+    message = m;
+    bounces = bounces;
+  }),
+)
 
 queued_weighs : (v : Weight) (m : Message) (bounces : ℕ) (b : Body) → aloft v (queued m bounces b) ≡ aloft v b + v m bounces
 queued_weighs v m bounces b = omega (arith, both_appended v m bounces b.requests b.replies (is_request m))
 
 called_moves : (s : State) (c : Call) (o : Outcome) → Moves s.body (called s c o).body None (newly (accepted_by c o))
-called_moves s (Calls.Request index handler words) (Out.Requested m) = record { rest = s.body; leaves = λ v. omega arith; comes = λ v. omega (arith, both_appended v m 0 s.body.requests s.body.replies (is_request m)) }
+called_moves s (Calls.Request index handler words) (Out.Requested m) = record {
+  rest = s.body;
+  leaves = λ v. omega arith;
+  comes = λ v. omega (arith, both_appended v m 0 s.body.requests s.body.replies (is_request m));
+}
 called_moves s Calls.Poll (Out.Zero serial why) = record { rest = s.body; leaves = λ v. omega arith; comes = λ v. omega arith }
 called_moves s Calls.Poll (Out.Ran m handler None) = record { rest = s.body; leaves = λ v. omega arith; comes = λ v. omega arith }
-called_moves s Calls.Poll (Out.Ran m handler (Some reply)) = record { rest = s.body; leaves = λ v. omega arith; comes = λ v. omega (arith, both_appended v reply 0 s.body.requests s.body.replies (is_request reply)) }
+called_moves s Calls.Poll (Out.Ran m handler (Some reply)) = record {
+  rest = s.body;
+  leaves = λ v. omega arith;
+  comes = λ v. omega (arith, both_appended v reply 0 s.body.requests s.body.replies (is_request reply));
+}
 called_moves s (Calls.SetTag tag) Out.Done = record { rest = s.body; leaves = λ v. omega arith; comes = λ v. omega arith }
 called_moves s (Calls.Map index name tag credits) Out.Done = record { rest = s.body; leaves = λ v. omega arith; comes = λ v. omega arith }
 called_moves s (Calls.Unmap index) Out.Done = record { rest = s.body; leaves = λ v. omega arith; comes = λ v. omega arith }
@@ -128,7 +151,8 @@ called_moves s (Calls.GiveUp serial) Out.Done = record { rest = s.body; leaves =
 called_moves s Calls.Close Out.Done = stays s.body
 called_moves s c o = stays s.body
 
-front_weighs : (v : Weight) (replies requests : List Queued) (q : Queued) → front_of replies requests ≡ Some q → queue_weight v (requests_left replies requests) + queue_weight v (drop 1 replies) + v q.message q.bounces ≡ queue_weight v requests + queue_weight v replies
+front_weighs : (v : Weight) (replies requests : List Queued) (q : Queued) → front_of replies requests ≡ Some q →
+    queue_weight v (requests_left replies requests) + queue_weight v (drop 1 replies) + v q.message q.bounces ≡ queue_weight v requests + queue_weight v replies
 front_weighs v (r ∷ replies) requests q e = let same : r ≡ q = cc in rw (← same) (omega (arith, sum_by-cons (λ (y : Queued). v y.message y.bounces) r replies))
 front_weighs v [] (r ∷ requests) q e = let same : r ≡ q = cc in rw (← same) (omega (arith, sum_by-cons (λ (y : Queued). v y.message y.bounces) r requests))
 front_weighs v [] [] q e = absurd (cc)
@@ -140,7 +164,12 @@ pub marked_weighs : (v : Weight) (about : Option Serial) (flying : List Flying) 
 marked_weighs v None flying = refl
 marked_weighs v (Some s) [] = refl
 marked_weighs v (Some s) (f ∷ flying) =
-    omega (arith, marked_weighs v (Some s) flying, sum_by-cons (λ (g : Flying). v g.message g.bounces) f flying, sum_by-cons (λ (g : Flying). v g.message g.bounces) (marked s f) (with_marked (Some s) flying))
+    omega (
+      arith,
+      marked_weighs v (Some s) flying,
+      sum_by-cons (λ (g : Flying). v g.message g.bounces) f flying,
+      sum_by-cons (λ (g : Flying). v g.message g.bounces) (marked s f) (with_marked (Some s) flying),
+    )
 
 put_weighs : (v : Weight) (m : Message) (s : State) → aloft v (put m s).body ≡ aloft v s.body
 put_weighs v m s = omega (arith, marked_weighs v m.about s.body.in_flight)
@@ -154,7 +183,8 @@ reached_weighs v e s (Out.Accepted m) = by_test (same_end e m.dest)
 reached_weighs v e s o = refl
 
 -- the front message of the source is judged
-judged_moves : (e : EndpointId) (s : State) (q : Queued) (limit bounces : ℕ) (verdict : Verdict) → front s ≡ Some q → let o = judged limit q.message bounces verdict in Moves s.body (reached e (left s o) o).body (carry_parts o (front s)) (carry_comes o)
+judged_moves : (e : EndpointId) (s : State) (q : Queued) (limit bounces : ℕ) (verdict : Verdict) → front s ≡ Some q →
+    let o = judged limit q.message bounces verdict in Moves s.body (reached e (left s o) o).body (carry_parts o (front s)) (carry_comes o)
 judged_moves e s q limit bounces Verdicts.Accepted at =
     record {
       rest = without_front s.body;
@@ -163,7 +193,8 @@ judged_moves e s q limit bounces Verdicts.Accepted at =
     }
 judged_moves e s q limit bounces (Verdicts.Refused cause) at = by_again (is_transient cause && nat_lt bounces limit)
   where
-    by_again : (b : Bool) → let o = if b then Out.Requeued q.message cause (bounces + 1) else Out.Returned q.message cause in Moves s.body (reached e (left s o) o).body (carry_parts o (front s)) (carry_comes o)
+    by_again : (b : Bool) → let o = if b then Out.Requeued q.message cause (bounces + 1) else Out.Returned q.message cause in
+        Moves s.body (reached e (left s o) o).body (carry_parts o (front s)) (carry_comes o)
     by_again true =
         record {
           rest = without_front s.body;
@@ -173,35 +204,61 @@ judged_moves e s q limit bounces (Verdicts.Refused cause) at = by_again (is_tran
     by_again false =
         record { rest = without_front s.body; leaves = λ v. omega (arith, front_leaves v s q at, ap (one_weight v) at); comes = λ v. omega arith }
 
-carried_moves : (e : EndpointId) (s : State) (o : Outcome) (at_source : Bool) → (at_source ≡ true → Judged s o) → Moves s.body (reached e (if at_source then left s o else s) o).body (if at_source then carry_parts o (front s) else None) (if at_source then carry_comes o else None)
+carried_moves : (e : EndpointId) (s : State) (o : Outcome) (at_source : Bool) → (at_source ≡ true → Judged s o) →
+    Moves s.body (reached e (if at_source then left s o else s) o).body (if at_source then carry_parts o (front s) else None)
+    (if at_source then carry_comes o else None)
 carried_moves e s o true fits =
     let j = fits refl in
     subst (λ (w : Outcome). Moves s.body (reached e (left s w) w).body (carry_parts w (front s)) (carry_comes w)) (sym j.is_judged)
     (judged_moves e s j.queued j.limit j.bounces j.verdict j.is_front)
 carried_moves e s o false fits = record { rest = s.body; leaves = λ v. omega arith; comes = λ v. omega (arith, reached_weighs v e s o) }
 
-pub landed_weighs : (v : Weight) (serial : Serial) (flying : List Flying) → flight_weight v (without_first (λ (f : Flying). has_serial serial f.message) flying) + one_weight v (as_queued (flying_of serial flying)) ≡ flight_weight v flying
+pub landed_weighs : (v : Weight) (serial : Serial) (flying : List Flying) →
+    flight_weight v (without_first (λ (f : Flying). has_serial serial f.message) flying) + one_weight v (as_queued (flying_of serial flying)) ≡ flight_weight v
+    flying
 landed_weighs v serial [] = refl
 landed_weighs v serial (f ∷ flying) = by_test (has_serial serial f.message) (landed_weighs v serial flying)
   where
-    by_test : (b : Bool) → flight_weight v (without_first (λ (g : Flying). has_serial serial g.message) flying) + one_weight v (as_queued (flying_of serial flying)) ≡ flight_weight v flying → flight_weight v (cond b flying (f ∷ without_first (λ (g : Flying). has_serial serial g.message) flying)) + one_weight v (as_queued (cond b (Some f) (flying_of serial flying))) ≡ flight_weight v (f ∷ flying)
+    by_test : (b : Bool) → flight_weight v (without_first (λ (g : Flying). has_serial serial g.message) flying) + one_weight v
+        (as_queued (flying_of serial flying)) ≡ flight_weight v flying →
+        flight_weight v (cond b flying (f ∷ without_first (λ (g : Flying). has_serial serial g.message) flying)) + one_weight v
+        (as_queued (cond b (Some f) (flying_of serial flying))) ≡ flight_weight v (f ∷ flying)
     by_test true more = omega (arith, sum_by-cons (λ (g : Flying). v g.message g.bounces) f flying)
-    by_test false more = omega (arith, more, sum_by-cons (λ (g : Flying). v g.message g.bounces) f flying, sum_by-cons (λ (g : Flying). v g.message g.bounces) f (without_first (λ (g : Flying). has_serial serial g.message) flying))
+    by_test false more = omega (
+      arith,
+      more,
+      sum_by-cons (λ (g : Flying). v g.message g.bounces) f flying,
+      sum_by-cons (λ (g : Flying). v g.message g.bounces) f (without_first (λ (g : Flying). has_serial serial g.message) flying),
+    )
 
-landed_leaves : (v : Weight) (serial : Serial) (b : Body) → aloft v (without_flight serial b) + one_weight v (as_queued (flying_of serial b.in_flight)) ≡ aloft v b
+landed_leaves : (v : Weight) (serial : Serial) (b : Body) → aloft v (without_flight serial b) + one_weight v (as_queued (flying_of serial b.in_flight)) ≡ aloft
+    v b
 landed_leaves v serial b = omega (arith, landed_weighs v serial b.in_flight)
 
-requeued_weighs : (v : Weight) (flight : Option Flying) (bounces : ℕ) (b : Body) → aloft v (requeued_flight flight bounces b) ≡ aloft v b + one_weight v (rebounced bounces flight)
+requeued_weighs : (v : Weight) (flight : Option Flying) (bounces : ℕ) (b : Body) →
+    aloft v (requeued_flight flight bounces b) ≡ aloft v b + one_weight v (rebounced bounces flight)
 requeued_weighs v None bounces b = omega arith
 requeued_weighs v (Some f) bounces b = omega (arith, both_appended v f.message bounces b.requests b.replies (is_request f.message))
 
 received_moves : (e : EndpointId) (s : State) (r : Received) → Moves s.body (received e s r).body (parts_by r s.body.in_flight) (comes_by r s.body.in_flight)
 received_moves e s (Got.Accepted m answer) = record { rest = s.body; leaves = λ v. omega arith; comes = λ v. omega (arith, put_weighs v m s) }
 received_moves e s (Got.Refused m NotResident answer) = stays s.body
-received_moves e s (Got.Delivered serial) = record { rest = without_flight serial s.body; leaves = λ v. landed_leaves v serial s.body; comes = λ v. omega arith }
+received_moves e s (Got.Delivered serial) = record {
+  rest = without_flight serial s.body;
+  leaves = λ v. landed_leaves v serial s.body;
+  comes = λ v. omega arith;
+}
 received_moves e s (Got.Requeued serial cause bounces) =
-    record { rest = without_flight serial s.body; leaves = λ v. landed_leaves v serial s.body; comes = λ v. requeued_weighs v (flying_of serial s.body.in_flight) bounces (without_flight serial s.body) }
-received_moves e s (Got.Returned serial cause) = record { rest = without_flight serial s.body; leaves = λ v. landed_leaves v serial s.body; comes = λ v. omega arith }
+    record {
+      rest = without_flight serial s.body;
+      leaves = λ v. landed_leaves v serial s.body;
+      comes = λ v. requeued_weighs v (flying_of serial s.body.in_flight) bounces (without_flight serial s.body);
+    }
+received_moves e s (Got.Returned serial cause) = record {
+  rest = without_flight serial s.body;
+  leaves = λ v. landed_leaves v serial s.body;
+  comes = λ v. omega arith;
+}
 received_moves e s r = stays s.body
 
 expired_moves : (s : State) (o : Outcome) → Moves s.body (expired s o).body (expiry_parts o s.body.in_flight) None
@@ -214,8 +271,18 @@ bound_weighs : (v : Weight) (s : State) (o : Outcome) → IsFront s o → aloft 
 bound_weighs v s (Out.Sent m peer channel seq attempt number) f =
     let is : Some m ≡ Some f.queued.message = f.is_sent in
     let same : m ≡ f.queued.message = cc in
-    let weight : v m (bounces_of s.body.replies s.body.requests) ≡ v f.queued.message f.queued.bounces = (λ i. v (same i) (front_bounces s.body.replies s.body.requests f.queued f.is_front i)) in
-    omega (arith, front_leaves v s f.queued f.is_front, weight, sum_by_push (λ (g : Flying). v g.message g.bounces) s.body.in_flight (record { message = m; bounces = bounces_of s.body.replies s.body.requests; answered = false }))
+    let weight : v m (bounces_of s.body.replies s.body.requests) ≡ v f.queued.message f.queued.bounces =
+    (λ i. v (same i) (front_bounces s.body.replies s.body.requests f.queued f.is_front i)) in
+    omega (
+      arith,
+      front_leaves v s f.queued f.is_front,
+      weight,
+      sum_by_push (λ (g : Flying). v g.message g.bounces) s.body.in_flight (record {
+        message = m;
+        bounces = bounces_of s.body.replies s.body.requests;
+        answered = false;
+      }),
+    )
 bound_weighs v s o f = refl
 
 out_weighs : (v : Weight) (s : State) (o : Outcome) → aloft v (paged_out s o).body ≡ aloft v s.body
@@ -230,7 +297,8 @@ same_weight : (old new : Body) → ((v : Weight) → aloft v new ≡ aloft v old
 same_weight old new h = record { rest = old; leaves = λ v. omega arith; comes = λ v. omega (arith, h v) }
 
 -- an entry that touches an endpoint
-pub entry_moves : (e : EndpointId) (s : State) (event : Event) (o : Outcome) → FitsSend e s event o → Moves s.body (changed e s event o).body (parts e s event o) (comes e s event o)
+pub entry_moves : (e : EndpointId) (s : State) (event : Event) (o : Outcome) → FitsSend e s event o →
+    Moves s.body (changed e s event o).body (parts e s event o) (comes e s event o)
 entry_moves e s (Events.Call actor end call) o fits = called_moves s call o
 entry_moves e s (Events.Want actor end) o fits = stays s.body
 entry_moves e s (Events.Carry end) o fits = carried_moves e s o (same_end e end) fits

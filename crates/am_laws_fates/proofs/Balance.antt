@@ -16,7 +16,8 @@ use Rattle.am_names.specs.Names.{same_serial, has_serial}
 use Rattle.am_model.specs.declared.Queued.{Queued}
 use Rattle.am_model.specs.declared.Flying.{Flying}
 use Rattle.am_model.specs.Endpoint.{Body}
-use Rattle.am_office.specs.Entries.{accepted_in, accepted_of, returned_in, returned_of, unknown_in, unknown_of, return_in, return_of, requeue_of, passes, is_serial}
+use Rattle.am_office.specs.Entries.{accepted_in, accepted_of, returned_in, returned_of, unknown_in, unknown_of, return_in, return_of, requeue_of, passes}
+use Rattle.am_office.specs.Entries.{is_serial}
 use Rattle.am_model.specs.Layout.{Layout, EndSetting, has_id, opening_by}
 use Rattle.am_model.specs.History.{state_of, MayFollow, IsHistory}
 use Rattle.am_model.specs.PostOffice.{times, times_serial, UnknownOnce, BouncesBounded, IsLastBounce}
@@ -36,7 +37,8 @@ serial_weight : (s : Serial) (t : Option Serial) → bit (is_serial s t) ≡ wei
 serial_weight s None = refl
 serial_weight s (Some t) = refl
 
-pub serial_push : (role : Entry → Option Serial) (s : Serial) (past : List Entry) (x : Entry) → times_serial role s (past ++ x ∷ []) ≡ times_serial role s past + weight_serial s (role x)
+pub serial_push : (role : Entry → Option Serial) (s : Serial) (past : List Entry) (x : Entry) →
+    times_serial role s (past ++ x ∷ []) ≡ times_serial role s past + weight_serial s (role x)
 serial_push role s past x = omega (arith, sum_by_push (λ (y : Entry). bit (is_serial s (role y))) past x, serial_weight s (role x))
 
 -- nothing of the serial bounced where nothing of it is there
@@ -47,21 +49,30 @@ cond-bit_zero false n h = refl
 pub queue_never : (s : Serial) (queue : List Queued) → queue_weight (one s) queue ≡ 0 → queue_weight (often s) queue ≡ 0
 queue_never s [] h = refl
 queue_never s (q ∷ queue) h =
-    let c : queue_weight (one s) (q ∷ queue) ≡ bit (has_serial s q.message) + queue_weight (one s) queue = sum_by-cons (λ (y : Queued). one s y.message y.bounces) q queue in
-    let d : queue_weight (often s) (q ∷ queue) ≡ cond (has_serial s q.message) q.bounces 0 + queue_weight (often s) queue = sum_by-cons (λ (y : Queued). often s y.message y.bounces) q queue in
+    let c : queue_weight (one s) (q ∷ queue) ≡ bit (has_serial s q.message) + queue_weight (one s) queue =
+    sum_by-cons (λ (y : Queued). one s y.message y.bounces) q queue in
+    let d : queue_weight (often s) (q ∷ queue) ≡ cond (has_serial s q.message) q.bounces 0 + queue_weight (often s) queue =
+    sum_by-cons (λ (y : Queued). often s y.message y.bounces) q queue in
     let e : cond (has_serial s q.message) q.bounces 0 ≡ 0 = cond-bit_zero (has_serial s q.message) q.bounces (omega (arith, h, c)) in
     omega (arith, d, e, queue_never s queue (omega (arith, h, c)))
 
 pub flights_never : (s : Serial) (flying : List Flying) → flight_weight (one s) flying ≡ 0 → flight_weight (often s) flying ≡ 0
 flights_never s [] h = refl
 flights_never s (f ∷ flying) h =
-    let c : flight_weight (one s) (f ∷ flying) ≡ bit (has_serial s f.message) + flight_weight (one s) flying = sum_by-cons (λ (y : Flying). one s y.message y.bounces) f flying in
-    let d : flight_weight (often s) (f ∷ flying) ≡ cond (has_serial s f.message) f.bounces 0 + flight_weight (often s) flying = sum_by-cons (λ (y : Flying). often s y.message y.bounces) f flying in
+    let c : flight_weight (one s) (f ∷ flying) ≡ bit (has_serial s f.message) + flight_weight (one s) flying =
+    sum_by-cons (λ (y : Flying). one s y.message y.bounces) f flying in
+    let d : flight_weight (often s) (f ∷ flying) ≡ cond (has_serial s f.message) f.bounces 0 + flight_weight (often s) flying =
+    sum_by-cons (λ (y : Flying). often s y.message y.bounces) f flying in
     let e : cond (has_serial s f.message) f.bounces 0 ≡ 0 = cond-bit_zero (has_serial s f.message) f.bounces (omega (arith, h, c)) in
     omega (arith, d, e, flights_never s flying (omega (arith, h, c)))
 
 pub never_aloft : (s : Serial) (b : Body) → aloft (one s) b ≡ 0 → aloft (often s) b ≡ 0
-never_aloft s b h = omega (arith, queue_never s b.requests (omega (arith, h)), queue_never s b.replies (omega (arith, h)), flights_never s b.in_flight (omega (arith, h)))
+never_aloft s b h = omega (
+  arith,
+  queue_never s b.requests (omega (arith, h)),
+  queue_never s b.replies (omega (arith, h)),
+  flights_never s b.in_flight (omega (arith, h)),
+)
 
 pub never_gone : (s : Serial) (g : Option Queued) → one_weight (one s) g ≡ 0 → one_weight (often s) g ≡ 0
 never_gone s None h = refl
@@ -90,17 +101,28 @@ pub record Balanced (layout : Layout) (past : List Entry) : Type 0 where
   pub none : (s : Serial) → times accepted_of (has_serial s) past ≡ 0 → times_serial requeue_of s past ≡ 0
   pub ends : (s : Serial) → times_serial returned_of s past + times_serial unknown_of s past ≤ times_serial end_of_entry s past
 
-ends_by : (s : Serial) (event : Event) (o : Outcome) → weight_serial s (returned_in event o) + weight_serial s (unknown_in event o) ≤ weight_serial s (end_in event o)
+ends_by : (s : Serial) (event : Event) (o : Outcome) → weight_serial s (returned_in event o) + weight_serial s (unknown_in event o) ≤ weight_serial s
+    (end_in event o)
 ends_by s (Events.Carry end) (Out.Returned m cause) = omega arith
 ends_by s (Events.Receive node peer number) (Out.Received channel seq attempt (Got.Returned t cause)) = omega arith
 ends_by s (Events.Expire node peer channel) (Out.Unknown t) = omega arith
 ends_by s event o = omega arith
 
-balanced_more : (layout : Layout) (past : List Entry) (x : Entry) → IsHistory layout past → Balanced layout past → MayFollow layout past x → Balanced layout (past ++ x ∷ [])
+balanced_more : (layout : Layout) (past : List Entry) (x : Entry) → IsHistory layout past → Balanced layout past → MayFollow layout past x →
+    Balanced layout (past ++ x ∷ [])
 balanced_more layout past x h b may =
     record {
       serials = now;
-      balance = λ s. let m = serial_moves layout past x h may s in omega (arith, b.balance s, counts s, ended s, m.moves.leaves (one s), m.moves.comes (one s), m.numbers.arrives, m.numbers.departs);
+      balance = λ s. let m = serial_moves layout past x h may s in omega (
+        arith,
+        b.balance s,
+        counts s,
+        ended s,
+        m.moves.leaves (one s),
+        m.moves.comes (one s),
+        m.numbers.arrives,
+        m.numbers.departs,
+      );
       bounces = λ s at. bounces s at (weight_serial s (requeue_of x)) refl (bit (passes (has_serial s) (accepted_of x))) refl;
       most = λ s. most s (weight_serial s (requeue_of x)) refl;
       none = λ s zero'. none s zero' (weight_serial s (requeue_of x)) refl;
@@ -110,7 +132,8 @@ balanced_more layout past x h b may =
     now : SerialsOnce layout (past ++ x ∷ [])
     now = accepted_once_more layout past x b.serials may
 
-    counts : (s : Serial) → times accepted_of (has_serial s) (past ++ x ∷ []) ≡ times accepted_of (has_serial s) past + bit (passes (has_serial s) (accepted_of x))
+    counts : (s : Serial) → times accepted_of (has_serial s) (past ++ x ∷ []) ≡ times accepted_of (has_serial s) past + bit
+        (passes (has_serial s) (accepted_of x))
     counts s = role_push accepted_in (has_serial s) past x
 
     ended : (s : Serial) → times_serial end_of_entry s (past ++ x ∷ []) ≡ times_serial end_of_entry s past + weight_serial s (end_of_entry x)
@@ -123,7 +146,8 @@ balanced_more layout past x h b may =
     rest : (s : Serial) (m : SerialMoves layout past x s) → 1 ≤ one_weight (one s) m.gone → aloft (often s) m.moves.rest ≡ 0
     rest s m goes = never_aloft s m.moves.rest (omega (arith, goes, m.moves.leaves (one s), b.balance s, b.serials.once s))
 
-    requeued : (s : Serial) (m : SerialMoves layout past x s) (r : ℕ) → weight_serial s (requeue_of x) ≡ suc r → (bounces_there layout (past ++ x ∷ []) s ≡ times_serial requeue_of s past + 1) × (bounces_there layout (past ++ x ∷ []) s ≤ layout.bounces)
+    requeued : (s : Serial) (m : SerialMoves layout past x s) (r : ℕ) → weight_serial s (requeue_of x) ≡ suc r →
+        (bounces_there layout (past ++ x ∷ []) s ≡ times_serial requeue_of s past + 1) × (bounces_there layout (past ++ x ∷ []) s ≤ layout.bounces)
     requeued s m r is =
         let goes : 1 ≤ one_weight (one s) m.gone = omega (arith, m.numbers.departs, is) in
         let none' = rest s m goes in
@@ -131,12 +155,24 @@ balanced_more layout past x h b may =
         let next' = m.numbers.again (omega (arith, is)) in
         (omega (arith, none', before, next'.0, m.moves.leaves (often s), m.moves.comes (often s)), omega (arith, none', next'.1, m.moves.comes (often s)))
 
-    bounces : (s : Serial) → 1 ≤ there layout (past ++ x ∷ []) s → (r : ℕ) → weight_serial s (requeue_of x) ≡ r → (a : ℕ) → bit (passes (has_serial s) (accepted_of x)) ≡ a → bounces_there layout (past ++ x ∷ []) s ≡ times_serial requeue_of s (past ++ x ∷ [])
+    bounces : (s : Serial) → 1 ≤ there layout (past ++ x ∷ []) s → (r : ℕ) → weight_serial s (requeue_of x) ≡ r → (a : ℕ) →
+        bit (passes (has_serial s) (accepted_of x)) ≡ a → bounces_there layout (past ++ x ∷ []) s ≡ times_serial requeue_of s (past ++ x ∷ [])
     bounces s at (suc r) is a ac = omega (arith, (requeued s (serial_moves layout past x h may s) r is).0, again s, is, weight_one s (requeue_of x))
     bounces s at zero is zero ac =
         let m = serial_moves layout past x h may s in
-        let none_gone : one_weight (one s) m.gone ≡ 0 = omega (arith, at, m.moves.leaves (one s), m.moves.comes (one s), m.numbers.arrives, is, ac, b.balance s, b.serials.once s) in
-        let before : bounces_there layout past s ≡ times_serial requeue_of s past = b.bounces s (omega (arith, at, m.moves.leaves (one s), m.moves.comes (one s), m.numbers.arrives, is, ac)) in
+        let none_gone : one_weight (one s) m.gone ≡ 0 = omega (
+          arith,
+          at,
+          m.moves.leaves (one s),
+          m.moves.comes (one s),
+          m.numbers.arrives,
+          is,
+          ac,
+          b.balance s,
+          b.serials.once s,
+        ) in
+        let before : bounces_there layout past s ≡ times_serial requeue_of s past =
+        b.bounces s (omega (arith, at, m.moves.leaves (one s), m.moves.comes (one s), m.numbers.arrives, is, ac)) in
         omega (arith, before, again s, is, never_gone s m.gone none_gone, m.numbers.fresh is, m.moves.leaves (often s), m.moves.comes (often s))
     bounces s at zero is (suc a) ac =
         let m = serial_moves layout past x h may s in
@@ -148,9 +184,11 @@ balanced_more layout past x h b may =
     most s zero is = omega (arith, b.most s, again s, is)
     most s (suc r) is = let q = requeued s (serial_moves layout past x h may s) r is in omega (arith, q.0, q.1, again s, weight_one s (requeue_of x))
 
-    none : (s : Serial) → times accepted_of (has_serial s) (past ++ x ∷ []) ≡ 0 → (r : ℕ) → weight_serial s (requeue_of x) ≡ r → times_serial requeue_of s (past ++ x ∷ []) ≡ 0
+    none : (s : Serial) → times accepted_of (has_serial s) (past ++ x ∷ []) ≡ 0 → (r : ℕ) → weight_serial s (requeue_of x) ≡ r →
+        times_serial requeue_of s (past ++ x ∷ []) ≡ 0
     none s zero' zero is = let before : times_serial requeue_of s past ≡ 0 = b.none s (omega (arith, zero', counts s)) in omega (arith, before, again s, is)
-    none s zero' (suc r) is = let m = serial_moves layout past x h may s in absurd (omega (arith, m.numbers.departs, is, m.moves.leaves (one s), b.balance s, zero', counts s))
+    none s zero' (suc r) is = let m = serial_moves layout past x h may s in
+        absurd (omega (arith, m.numbers.departs, is, m.moves.leaves (one s), b.balance s, zero', counts s))
 
 balanced_begin : (layout : Layout) → Balanced layout []
 balanced_begin layout =
@@ -178,7 +216,8 @@ balanced layout past h =
     [] past (record { history = tt; balanced = balanced_begin layout }) h).balanced
 
 -- a serial ends at most once
-pub ends_once : (layout : Layout) (past : List Entry) → IsHistory layout past → (s : Serial) → times_serial returned_of s past + times_serial unknown_of s past ≤ 1
+pub ends_once : (layout : Layout) (past : List Entry) → IsHistory layout past → (s : Serial) →
+    times_serial returned_of s past + times_serial unknown_of s past ≤ 1
 ends_once layout past h s = let b = balanced layout past h in omega (arith, b.ends s, b.balance s, b.serials.once s)
 
 pub unknown_once : (layout : Layout) (journal : List Entry) → IsHistory layout journal → UnknownOnce journal
@@ -186,12 +225,14 @@ unknown_once layout journal h = λ s. omega (arith, ends_once layout journal h s
 
 return_ends : (event : Event) (o : Outcome) (s : Serial) (cause : Cause) → return_in event o ≡ Some (s, cause) → weight_serial s (end_in event o) ≡ 1
 return_ends (Events.Carry end) (Out.Returned m why) s cause is =
-    let same : m.serial ≡ s = (some_pair s m.serial why cause is).0 in subst (λ (w : Serial). bit (same_serial s w) ≡ 1) (sym same) (ap bit (same_serial-refl s))
+    let same : m.serial ≡ s = (some_pair s m.serial why cause is).0 in
+    subst (λ (w : Serial). bit (same_serial s w) ≡ 1) (sym same) (ap bit (same_serial-refl s))
 return_ends (Events.Receive node peer number) (Out.Received channel seq attempt (Got.Returned t why)) s cause is =
     let same : t ≡ s = (some_pair s t why cause is).0 in subst (λ (w : Serial). bit (same_serial s w) ≡ 1) (sym same) (ap bit (same_serial-refl s))
 return_ends event o s cause is = absurd (cc)
 
-last_bounce : (layout : Layout) (past : List Entry) (x : Entry) → IsHistory layout past → MayFollow layout past x → (s : Serial) (cause : Cause) → return_of x ≡ Some (s, cause) → is_transient cause ≡ true → times_serial requeue_of s past ≡ layout.bounces
+last_bounce : (layout : Layout) (past : List Entry) (x : Entry) → IsHistory layout past → MayFollow layout past x → (s : Serial) (cause : Cause) →
+    return_of x ≡ Some (s, cause) → is_transient cause ≡ true → times_serial requeue_of s past ≡ layout.bounces
 last_bounce layout past x h may s cause is passing =
     let b = balanced layout past h in
     let m = serial_moves layout past x h may s in
@@ -204,5 +245,6 @@ pub bounces_bounded : (layout : Layout) (journal : List Entry) → IsHistory lay
 bounces_bounded layout journal h =
     record {
       most = (balanced layout journal h).most;
-      last = each_law layout (λ past x. MatchOption (return_of x) (Unit {0}) (IsLastBounce layout past)) (λ past x p may. match_option (return_of x) (IsLastBounce layout past) (λ r is. last_bounce layout past x p may r.0 r.1 is)) journal h;
+      last = each_law layout (λ past x. MatchOption (return_of x) (Unit {0}) (IsLastBounce layout past))
+          (λ past x p may. match_option (return_of x) (IsLastBounce layout past) (λ r is. last_bounce layout past x p may r.0 r.1 is)) journal h;
     }

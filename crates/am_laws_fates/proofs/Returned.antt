@@ -1,5 +1,6 @@
 -- What is returned is nowhere put, run or unknown.
-use Rattle.std.proofs.Common.{◌≡◌, ◌≢◌, ◌⊎◌, inl, inr, ⊎_elim, ◌+◌, ◌≤◌, Bool, true, false, List, [], ◌∷◌, ◌++◌, Option, Some, None, refl, sym, ap, ◌∙◌, subst, arith}
+use Rattle.std.proofs.Common.{◌≡◌, ◌≢◌, ◌⊎◌, inl, inr, ⊎_elim, ◌+◌, ◌≤◌, Bool, true, false, List, [], ◌∷◌, ◌++◌, Option, Some, None, refl, sym, ap, ◌∙◌, subst}
+use Rattle.std.proofs.Common.{arith}
 use Rattle.am_names.specs.declared.EndpointId.{EndpointId}
 use Rattle.am_names.specs.declared.Serial.{Serial}
 use Rattle.am_names.specs.declared.Message.{Message}
@@ -32,7 +33,8 @@ use Rattle.am_laws_fates.proofs.Numbers.{end_in, end_of_entry}
 use Rattle.am_laws_fates.proofs.Balance.{balanced, ends_once, serial_push}
 
 -- no channel has a message of a serial that was returned
-unbound_when_returned : (layout : Layout) → layout.direct ≡ false → (past : List Entry) → IsHistory layout past → (s : Serial) → 1 ≤ times_serial returned_of s past → IsUnbound s (sent_by past)
+unbound_when_returned : (layout : Layout) → layout.direct ≡ false → (past : List Entry) → IsHistory layout past → (s : Serial) →
+    1 ≤ times_serial returned_of s past → IsUnbound s (sent_by past)
 unbound_when_returned layout packet past h s back = λ c m is same.
     let k = kept_flights layout packet past h in
     let b = balanced layout past h in
@@ -43,16 +45,19 @@ unbound_when_returned layout packet past h s back = λ c m is same.
 abbrev pub NeverPut : List Entry → Serial → Type 0
 NeverPut past s = 1 ≤ times_serial returned_of s past → (puts s past ≡ 0) × NoneFresh s past
 
-return_lands : (event : Event) (o : Outcome) (s : Serial) → event ≢ event ⊎ (weight_serial s (returned_in event o) ≡ 0) ⊎ (((end : EndpointId) → event ≢ Events.Carry end) → (t : Serial) × (settled_in event o ≡ Some t) × (returned_in event o ≡ Some t) × (t ≡ s))
+return_lands : (event : Event) (o : Outcome) (s : Serial) → event ≢ event ⊎ (weight_serial s (returned_in event o) ≡ 0) ⊎ (((end : EndpointId) →
+    event ≢ Events.Carry end) → (t : Serial) × (settled_in event o ≡ Some t) × (returned_in event o ≡ Some t) × (t ≡ s))
 return_lands (Events.Carry end) (Out.Returned m cause) s = inr (inr (λ apart. absurd (apart end refl)))
 return_lands (Events.Receive node peer number) (Out.Received channel seq attempt (Got.Returned t cause)) s = inr (by_test (same_serial s t) refl)
   where
-    by_test : (b : Bool) → same_serial s t ≡ b → (bit (same_serial s t) ≡ 0) ⊎ (((end : EndpointId) → Events.Receive node peer number ≢ Events.Carry end) → (u : Serial) × (◌≡◌ {A = Option Serial} (Some t) (Some u)) × (◌≡◌ {A = Option Serial} (Some t) (Some u)) × (u ≡ s))
+    by_test : (b : Bool) → same_serial s t ≡ b → (bit (same_serial s t) ≡ 0) ⊎ (((end : EndpointId) → Events.Receive node peer number ≢ Events.Carry end) →
+        (u : Serial) × (◌≡◌ {A = Option Serial} (Some t) (Some u)) × (◌≡◌ {A = Option Serial} (Some t) (Some u)) × (u ≡ s))
     by_test false h = inl (ap bit h)
     by_test true h = inr (λ apart. (t, refl, refl, sym (same_serial-is s t h)))
 return_lands event o s = inr (inl refl)
 
-never_put_more : (layout : Layout) → layout.direct ≡ false → (past : List Entry) (x : Entry) → IsHistory layout past → ((s : Serial) → NeverPut past s) → MayFollow layout past x → (s : Serial) → NeverPut (past ++ x ∷ []) s
+never_put_more : (layout : Layout) → layout.direct ≡ false → (past : List Entry) (x : Entry) → IsHistory layout past → ((s : Serial) → NeverPut past s) →
+    MayFollow layout past x → (s : Serial) → NeverPut (past ++ x ∷ []) s
 never_put_more layout packet past x h never may s back =
     ⊎_elim (λ odd. absurd (odd refl))
     (⊎_elim
@@ -72,12 +77,14 @@ never_put_more layout packet past x h never may s back =
           ⊎_elim
               (λ (not : bit (passes (has_serial s) (put_of x)) ≡ 0). omega (arith, n.0, not, puts_push s past x))
               (λ (is : (m : Message) × (put_of x ≡ Some m) × (m.serial ≡ s) × (bit (passes (has_serial s) (put_of x)) ≡ 1)).
-              let p = put_is layout past x may (not_carry layout packet past x.event may.enabled) is.0 is.1 in absurd (n.1 p.by p.emitted (ap (λ (q : Message). q.serial) p.message ∙ is.2) p.fresh))
+              let p = put_is layout past x may (not_carry layout packet past x.event may.enabled) is.0 is.1 in
+              absurd (n.1 p.by p.emitted (ap (λ (q : Message). q.serial) p.message ∙ is.2) p.fresh))
               (put_or_not s (put_of x)),
           none_fresh_more layout past x may s n.1 unbound,
         )
 
-    by_effect : (t : Serial) × (settled_in x.event x.outcome ≡ Some t) × (returned_in x.event x.outcome ≡ Some t) × (t ≡ s) → Effect past x.event x.outcome (λ c. sender c (past ++ x ∷ [])) → (puts s (past ++ x ∷ []) ≡ 0) × NoneFresh s (past ++ x ∷ [])
+    by_effect : (t : Serial) × (settled_in x.event x.outcome ≡ Some t) × (returned_in x.event x.outcome ≡ Some t) × (t ≡ s) →
+        Effect past x.event x.outcome (λ c. sender c (past ++ x ∷ [])) → (puts s (past ++ x ∷ []) ≡ 0) × NoneFresh s (past ++ x ∷ [])
     by_effect now (Keeps same no' again lands) = let both : None ≡ Some now.0 = sym lands ∙ now.1 in absurd (cc)
     by_effect now (Binds at m is free binds still again lands) = let both : None ≡ Some now.0 = sym lands ∙ now.1 in absurd (cc)
     by_effect now (Refuses at m held frees a cause r still no' again lands) =
@@ -94,11 +101,15 @@ record Both (layout : Layout) (past : List Entry) : Type 0 where
 never_put_packets : (layout : Layout) → layout.direct ≡ false → (past : List Entry) → IsHistory layout past → (s : Serial) → NeverPut past s
 never_put_packets layout packet past h =
     (over_each (MayFollow layout) (λ xs. Both layout xs)
-    (λ xs x k may. record { history = each_push (MayFollow layout) [] xs x k.history may; never = λ s. never_put_more layout packet xs x k.history k.never may s })
+    (λ xs x k may. record {
+      history = each_push (MayFollow layout) [] xs x k.history may;
+      never = λ s. never_put_more layout packet xs x k.history k.never may s;
+    })
     [] past (record { history = tt; never = λ s back. absurd (omega (arith, back)) }) h).never
 
 -- on the direct network what is put is done with
-put_ends : (e : EndpointId) (st : Rattle.am_model.specs.Endpoint.State) (s : Serial) (event : Event) (o : Outcome) → FitsDirect e st event o → bit (passes (has_serial s) (put_in event o)) + weight_serial s (returned_in event o) ≤ weight_serial s (end_in event o)
+put_ends : (e : EndpointId) (st : Rattle.am_model.specs.Endpoint.State) (s : Serial) (event : Event) (o : Outcome) → FitsDirect e st event o →
+    bit (passes (has_serial s) (put_in event o)) + weight_serial s (returned_in event o) ≤ weight_serial s (end_in event o)
 put_ends e st s (Events.Carry end) (Out.Accepted m) fits = omega arith
 put_ends e st s (Events.Carry end) (Out.Returned m cause) fits = omega arith
 put_ends e st s (Events.Receive node peer number) o fits = absurd fits
@@ -110,10 +121,18 @@ PutEnds past = (s : Serial) → times put_of (has_serial s) past + times_serial 
 put_ends_all : (layout : Layout) → layout.direct ≡ true → (past : List Entry) → IsHistory layout past → PutEnds past
 put_ends_all layout direct past h =
     over_each (MayFollow layout) PutEnds
-    (λ xs x k may. λ s. omega (arith, k s, role_push put_in (has_serial s) xs x, serial_push returned_of s xs x, serial_push end_of_entry s xs x, put_ends s.source (state_of layout xs s.source) s x.event x.outcome (fits_direct layout direct xs s.source x may)))
+    (λ xs x k may. λ s. omega (
+      arith,
+      k s,
+      role_push put_in (has_serial s) xs x,
+      serial_push returned_of s xs x,
+      serial_push end_of_entry s xs x,
+      put_ends s.source (state_of layout xs s.source) s x.event x.outcome (fits_direct layout direct xs s.source x may),
+    ))
     [] past (λ s. omega arith) h
 
-never_put : (layout : Layout) (past : List Entry) → IsHistory layout past → (s : Serial) → 1 ≤ times_serial returned_of s past → times put_of (has_serial s) past ≡ 0
+never_put : (layout : Layout) (past : List Entry) → IsHistory layout past → (s : Serial) → 1 ≤ times_serial returned_of s past →
+    times put_of (has_serial s) past ≡ 0
 never_put layout past h s back = by_network layout.direct refl
   where
     by_network : (direct : Bool) → layout.direct ≡ direct → times put_of (has_serial s) past ≡ 0
@@ -125,6 +144,7 @@ returned_never_ran layout journal h = λ s.
     record {
       once = omega (arith, ends_once layout journal h s);
       put = λ back. never_put layout journal h s back;
-      run = λ back. let none : times put_of (has_serial s) journal ≡ 0 = never_put layout journal h s back in omega (arith, none, (each_once layout journal h).run s);
+      run = λ back. let none : times put_of (has_serial s) journal ≡ 0 = never_put layout journal h s back in
+          omega (arith, none, (each_once layout journal h).run s);
       unknown = λ back. omega (arith, back, ends_once layout journal h s);
     }

@@ -88,7 +88,8 @@ condition_holds c rest true is k = cc
 condition_holds c rest false is k = cc
 
 -- in the direct network no event that may happen changes a place
-direct_stays : (layout : Layout) (past : List Entry) (e : EndpointId) (s : State) (event : Event) (o : Outcome) → layout.direct ≡ true → failing layout past event ≡ None → at_direct (changed e s event o) ≡ at_direct s
+direct_stays : (layout : Layout) (past : List Entry) (e : EndpointId) (s : State) (event : Event) (o : Outcome) → layout.direct ≡ true →
+    failing layout past event ≡ None → at_direct (changed e s event o) ≡ at_direct s
 direct_stays layout past e s (Events.Call actor end call) o direct may = called_stays s call o
 direct_stays layout past e s (Events.Want actor end) o direct may = refl
 direct_stays layout past e s (Events.Carry end) o direct may = carried_stays e end s o

@@ -34,8 +34,11 @@ all_without P p (x ∷ xs) h = by_test P x xs (without_first p xs) (p x) h.0 h.1
     by_test P x xs ys false here all more = (here, more)
 
 pub gave_more : {A : Type 0} (given : Entry → Option A) (past : List Entry) (x : Entry) (a : A) → Gave given past a → Gave given (past ++ x ∷ []) a
-gave_more given past x a h =
-    (h.0, subst (λ ys. slice_get ys h.0 ≡ Some a) (sym (filter_map-append given past (x ∷ []))) (slice_get-append_left (filter_map given past) (filter_map given (x ∷ [])) h.0 a h.1))
+gave_more given past x a h = (
+  h.0,
+  subst (λ ys. slice_get ys h.0 ≡ Some a) (sym (filter_map-append given past (x ∷ [])))
+      (slice_get-append_left (filter_map given past) (filter_map given (x ∷ [])) h.0 a h.1),
+)
 
 pub gave_now : {A : Type 0} (given : Entry → Option A) (past : List Entry) (x : Entry) (a : A) → given x ≡ Some a → Gave given (past ++ x ∷ []) a
 gave_now given [] x a h = (zero, subst (λ w. slice_get (cons_option w []) 0 ≡ Some a) (sym h) refl)

@@ -44,10 +44,16 @@ knows_more layout past x k may =
 pub knows_begin : (layout : Layout) → KnowsCalls layout []
 knows_begin layout = record { serials = opening_counted layout; tag = λ e. refl; mapped = mapped_begin layout }
 
-next_is : (layout : Layout) (past : List Entry) → KnowsCalls layout past → (e : EndpointId) → ◌≡◌ {A = Serial} (record { source = e; count = (state_of layout past e).body.accepted + 1 }) (record { source = e; count = times accepted_of (is_from e) past + 1 })
+next_is : (layout : Layout) (past : List Entry) → KnowsCalls layout past → (e : EndpointId) →
+    ◌≡◌ {A = Serial} (record { source = e; count = (state_of layout past e).body.accepted + 1 }) (record {
+      source = e;
+      count = times accepted_of (is_from e) past + 1;
+    })
 next_is layout past k e = ap (λ (n : ℕ). record { source = e; count = n + 1 }) (k.serials.counted e)
 
-request_asked : (layout : Layout) (past : List Entry) → KnowsCalls layout past → (e : EndpointId) (index handler : ℕ) (words : Words) (r : Option Refusal) (mapping : Option Mapping) → mapping ≡ mapping_of past e index → IsAcceptedSo layout past e (Calls.Request index handler words) (unless r (new_request e (state_of layout past e) mapping handler words))
+request_asked : (layout : Layout) (past : List Entry) → KnowsCalls layout past →
+    (e : EndpointId) (index handler : ℕ) (words : Words) (r : Option Refusal) (mapping : Option Mapping) → mapping ≡ mapping_of past e index →
+    IsAcceptedSo layout past e (Calls.Request index handler words) (unless r (new_request e (state_of layout past e) mapping handler words))
 request_asked layout past k e index handler words (Some r) mapping is = tt
 request_asked layout past k e index handler words None None is = tt
 request_asked layout past k e index handler words None (Some mapping) is =
@@ -61,19 +67,45 @@ request_asked layout past k e index handler words None (Some mapping) is =
       words = words;
       about = None;
     })) is
-    (λ i. record { serial = next_is layout past k e i; kind = Kind.Request; dest = mapping.name; tag = mapping.tag; reply_tag = k.tag e i; handler = handler; words = words; about = None })
+    (λ i. record {
+      serial = next_is layout past k e i;
+      kind = Kind.Request;
+      dest = mapping.name;
+      tag = mapping.tag;
+      reply_tag = k.tag e i;
+      handler = handler;
+      words = words;
+      about = None;
+    })
 
-reply_asked : (layout : Layout) (past : List Entry) → KnowsCalls layout past → (e : EndpointId) (m : Message) (kind : Option HandlerKind) → IsReplyTo e past m (answer e (state_of layout past e) m kind)
-reply_asked layout past k e m (Some (Echo to)) = record { serial = next_is layout past k e; kind = refl; dest = refl; tag = refl; reply_tag = refl; about = refl }
-reply_asked layout past k e m (Some (Add to)) = record { serial = next_is layout past k e; kind = refl; dest = refl; tag = refl; reply_tag = refl; about = refl }
+reply_asked : (layout : Layout) (past : List Entry) → KnowsCalls layout past → (e : EndpointId) (m : Message) (kind : Option HandlerKind) →
+    IsReplyTo e past m (answer e (state_of layout past e) m kind)
+reply_asked layout past k e m (Some (Echo to)) = record {
+  serial = next_is layout past k e;
+  kind = refl;
+  dest = refl;
+  tag = refl;
+  reply_tag = refl;
+  about = refl;
+}
+reply_asked layout past k e m (Some (Add to)) = record {
+  serial = next_is layout past k e;
+  kind = refl;
+  dest = refl;
+  tag = refl;
+  reply_tag = refl;
+  about = refl;
+}
 reply_asked layout past k e m (Some Note) = record { serial = next_is layout past k e; kind = refl; dest = refl; tag = refl; reply_tag = refl; about = refl }
 reply_asked layout past k e m None = record { serial = next_is layout past k e; kind = refl; dest = refl; tag = refl; reply_tag = refl; about = refl }
 
-poll_asked : (layout : Layout) (past : List Entry) → KnowsCalls layout past → (e : EndpointId) (notices : List Notice) → IsAcceptedSo layout past e Calls.Poll (poll e (state_of layout past e) notices)
+poll_asked : (layout : Layout) (past : List Entry) → KnowsCalls layout past → (e : EndpointId) (notices : List Notice) →
+    IsAcceptedSo layout past e Calls.Poll (poll e (state_of layout past e) notices)
 poll_asked layout past k e (notice ∷ notices) = tt
 poll_asked layout past k e [] = by_found (find is_reply (state_of layout past e).body.received)
   where
-    by_full : (m : Message) (full : Bool) → IsAcceptedSo layout past e Calls.Poll (if full then Out.Blocked else Out.Ran m (Some m.handler) (Some (answer e (state_of layout past e) m (entry_at (state_of layout past e).body.handlers m.handler))))
+    by_full : (m : Message) (full : Bool) → IsAcceptedSo layout past e Calls.Poll (if full then Out.Blocked else Out.Ran m (Some m.handler)
+        (Some (answer e (state_of layout past e) m (entry_at (state_of layout past e).body.handlers m.handler))))
     by_full m true = tt
     by_full m false = reply_asked layout past k e m (entry_at (state_of layout past e).body.handlers m.handler)
 
@@ -85,9 +117,11 @@ poll_asked layout past k e [] = by_found (find is_reply (state_of layout past e)
     by_found (Some m) = tt
     by_found None = by_list (state_of layout past e).body.received
 
-call_asked : (layout : Layout) (past : List Entry) → KnowsCalls layout past → (e : EndpointId) (c : Call) → IsAcceptedSo layout past e c (outcome_of_call layout.pool e (state_of layout past e) c)
+call_asked : (layout : Layout) (past : List Entry) → KnowsCalls layout past → (e : EndpointId) (c : Call) →
+    IsAcceptedSo layout past e c (outcome_of_call layout.pool e (state_of layout past e) c)
 call_asked layout past k e (Calls.Request index handler words) =
-    request_asked layout past k e index handler words (request_refusal layout.pool (state_of layout past e) index) (entry_at (state_of layout past e).body.mapped index) (k.mapped.mapped e index)
+    request_asked layout past k e index handler words (request_refusal layout.pool (state_of layout past e) index)
+    (entry_at (state_of layout past e).body.mapped index) (k.mapped.mapped e index)
 call_asked layout past k e Calls.Poll = poll_asked layout past k e (state_of layout past e).body.notices
 call_asked layout past k e (Calls.SetTag tag) = tt
 call_asked layout past k e (Calls.Map index name tag credits) = tt
@@ -106,11 +140,13 @@ is_asked layout past x k may = subst (λ (o : Outcome). IsAcceptedBy layout past
 
 pub accepted_once : (layout : Layout) (journal : List Entry) → IsHistory layout journal → AcceptedOnce layout journal
 accepted_once layout journal h =
-    let k : KnowsCalls layout ([] ++ journal) = over_each (MayFollow layout) (λ past. KnowsCalls layout past) (λ past x k may. knows_more layout past x k may) [] journal (knows_begin layout) h in
+    let k : KnowsCalls layout ([] ++ journal) = over_each (MayFollow layout) (λ past. KnowsCalls layout past) (λ past x k may. knows_more layout past x k may)
+    [] journal (knows_begin layout) h in
     record {
       once = k.serials.once;
       in_order = next_counts layout journal h;
-      as_asked = each_has (MayFollow layout) (IsAcceptedAsAsked layout) (λ past. KnowsCalls layout past) (λ past x k may. knows_more layout past x k may) (λ past x k may. is_asked layout past x k may) [] journal (knows_begin layout) h;
+      as_asked = each_has (MayFollow layout) (IsAcceptedAsAsked layout) (λ past. KnowsCalls layout past) (λ past x k may. knows_more layout past x k may)
+          (λ past x k may. is_asked layout past x k may) [] journal (knows_begin layout) h;
     }
 
 pub knows : (layout : Layout) (past : List Entry) → IsHistory layout past → KnowsCalls layout past

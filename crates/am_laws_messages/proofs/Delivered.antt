@@ -1,6 +1,7 @@
 -- The laws of delivery and of tags.
 use Rattle.std.specs.Prelude.{MatchOption, slice_get, nat_lt}
-use Rattle.std.proofs.Common.{◌≡◌, ◌⊎◌, inl, inr, ⊎_elim, ℕ, ◌+◌, ◌-◌, Bool, true, false, ◌&&◌, ◌||◌, List, [], ◌∷◌, ◌++◌, Option, Some, None, refl, sym, true≢false, ap, ◌∙◌, subst, arith, if◌then◌else◌}
+use Rattle.std.proofs.Common.{◌≡◌, ◌⊎◌, inl, inr, ⊎_elim, ℕ, ◌+◌, ◌-◌, Bool, true, false, ◌&&◌, ◌||◌, List, [], ◌∷◌, ◌++◌, Option, Some, None, refl, sym}
+use Rattle.std.proofs.Common.{true≢false, ap, ◌∙◌, subst, arith, if◌then◌else◌}
 use Rattle.std.specs.List.{list_any, find}
 use Rattle.am_names.specs.Rules.{matches, is_transient}
 use Rattle.am_names.specs.declared.EndpointId.{EndpointId}
@@ -25,8 +26,10 @@ use Rattle.am_model.specs.Endpoint.{State, front, verdict}
 use Rattle.am_model.specs.Changes.{changed}
 use Rattle.am_office.specs.Entries.{accepted_of, put_in, put_of, run_in, run_of, ends_touched, touches, passes}
 use Rattle.am_model.specs.Layout.{Layout, EndSetting, AllAre, home, has_id, opening_by}
-use Rattle.am_model.specs.Channels.{Channel, Arrival, Stale, Again, Fresh, same_channel, bound_message, sent_message, binds, frees, frees_by, emitted, arrival, mark}
-use Rattle.am_model.specs.History.{state_of, MayFollow, IsHistory, EachAfter, outcome_of, bind, bind_to, carry, judged, receive, arrive, decided, channel_to, channel_for, next_number}
+use Rattle.am_model.specs.Channels.{Channel, Arrival, Stale, Again, Fresh, same_channel, bound_message, sent_message, binds, frees, frees_by, emitted, arrival}
+use Rattle.am_model.specs.Channels.{mark}
+use Rattle.am_model.specs.History.{state_of, MayFollow, IsHistory, EachAfter, outcome_of, bind, bind_to, carry, judged, receive, arrive, decided, channel_to}
+use Rattle.am_model.specs.History.{channel_for, next_number}
 use Rattle.am_model.specs.PostOffice.{WasAccepted, IsAt, IsFirstPut, IsFirstRun, IsPutAndRunFirst, PutAndRunOnce, IsTagged, TagMatches, TagsMatch, EachOnce}
 use Rattle.am_model.proofs.Each.{over_each, each_has, each_push, state_of_push}
 use Rattle.am_model.proofs.Names.{same_serial-refl, same_end-refl, same_end-is}
@@ -50,7 +53,8 @@ match_option None P h = tt
 match_option (Some a) P h = h a refl
 
 -- a law that holds of each entry that may follow a history
-pub each_law : (layout : Layout) (Law : List Entry → Entry → Type 0) → ((past : List Entry) (x : Entry) → IsHistory layout past → MayFollow layout past x → Law past x) → (journal : List Entry) → IsHistory layout journal → EachAfter Law [] journal
+pub each_law : (layout : Layout) (Law : List Entry → Entry → Type 0) → ((past : List Entry) (x : Entry) → IsHistory layout past → MayFollow layout past x →
+    Law past x) → (journal : List Entry) → IsHistory layout journal → EachAfter Law [] journal
 each_law layout Law law journal h =
     each_has (MayFollow layout) Law (λ past. IsHistory layout past) (λ past x p may. each_push (MayFollow layout) [] past x p may) law [] journal tt h
 
@@ -65,10 +69,14 @@ pub record IsNewlyBound (layout : Layout) (past : List Entry) (c : Channel) (m :
 abbrev pub bound_then : Channel → Event → Outcome → Option Message → Option Message
 bound_then c event o b = if binds c event o || frees c event o then sent_message o else b
 
-bind_binds : (layout : Layout) (past : List Entry) (c : Channel) (m : Message) (node : NodeId) (end : EndpointId) (q : Queued) → front (state_of layout past end) ≡ Some q → (peer : Option NodeId) (channel : Option ℕ) → home layout q.message.dest ≡ peer → bound_then c (Events.Bind node end) (bind_to node past q peer channel) (bound_message c past) ≡ Some m → (bound_message c past ≡ Some m) ⊎ IsNewlyBound layout past c m
+bind_binds : (layout : Layout) (past : List Entry) (c : Channel) (m : Message) (node : NodeId) (end : EndpointId) (q : Queued) →
+    front (state_of layout past end) ≡ Some q → (peer : Option NodeId) (channel : Option ℕ) → home layout q.message.dest ≡ peer →
+    bound_then c (Events.Bind node end) (bind_to node past q peer channel) (bound_message c past) ≡ Some m →
+    (bound_message c past ≡ Some m) ⊎ IsNewlyBound layout past c m
 bind_binds layout past c m node end q at (Some peer) (Some channel) to h = by_test (same_channel c node peer channel) refl h
   where
-    by_test : (t : Bool) → same_channel c node peer channel ≡ t → (if t || false then Some q.message else bound_message c past) ≡ Some m → (bound_message c past ≡ Some m) ⊎ IsNewlyBound layout past c m
+    by_test : (t : Bool) → same_channel c node peer channel ≡ t → (if t || false then Some q.message else bound_message c past) ≡ Some m →
+        (bound_message c past ≡ Some m) ⊎ IsNewlyBound layout past c m
     by_test true is e =
         let same : q.message ≡ m = cc in
         let on : c ≡ channel_to node peer channel = same_channel-is c node peer channel is in
@@ -83,30 +91,39 @@ bind_binds layout past c m node end q at (Some peer) (Some channel) to h = by_te
 bind_binds layout past c m node end q at (Some peer) None to h = inl h
 bind_binds layout past c m node end q at None channel to h = inl h
 
-bind_front_binds : (layout : Layout) (past : List Entry) (c : Channel) (m : Message) (node : NodeId) (end : EndpointId) (f : Option Queued) → front (state_of layout past end) ≡ f → bound_then c (Events.Bind node end) (bind layout node past f) (bound_message c past) ≡ Some m → (bound_message c past ≡ Some m) ⊎ IsNewlyBound layout past c m
+bind_front_binds : (layout : Layout) (past : List Entry) (c : Channel) (m : Message) (node : NodeId) (end : EndpointId) (f : Option Queued) →
+    front (state_of layout past end) ≡ f → bound_then c (Events.Bind node end) (bind layout node past f) (bound_message c past) ≡ Some m →
+    (bound_message c past ≡ Some m) ⊎ IsNewlyBound layout past c m
 bind_front_binds layout past c m node end None at h = inl h
-bind_front_binds layout past c m node end (Some q) at h = bind_binds layout past c m node end q at (home layout q.message.dest) (channel_for layout node past (Some q)) refl h
+bind_front_binds layout past c m node end (Some q) at h = bind_binds layout past c m node end q at (home layout q.message.dest)
+    (channel_for layout node past (Some q)) refl h
 
 pub none_if : (t : Bool) (b : Option Message) (m : Message) → (if t then None else b) ≡ Some m → b ≡ Some m
 none_if true b m h = absurd (cc)
 none_if false b m h = h
 
-pub expire_binds : (c : Channel) (node peer : NodeId) (channel : ℕ) (o : Outcome) (b : Option Message) (m : Message) → bound_then c (Events.Expire node peer channel) o b ≡ Some m → b ≡ Some m
+pub expire_binds : (c : Channel) (node peer : NodeId) (channel : ℕ) (o : Outcome) (b : Option Message) (m : Message) →
+    bound_then c (Events.Expire node peer channel) o b ≡ Some m → b ≡ Some m
 expire_binds c node peer channel (Out.Delivered serial) b m h = none_if (same_channel c node peer channel) b m h
 expire_binds c node peer channel (Out.Unknown serial) b m h = none_if (same_channel c node peer channel) b m h
 expire_binds c node peer channel o b m h = h
 
-pub receive_binds : (c : Channel) (node peer : NodeId) (number : ℕ) (o : Outcome) (b : Option Message) (m : Message) → bound_then c (Events.Receive node peer number) o b ≡ Some m → b ≡ Some m
+pub receive_binds : (c : Channel) (node peer : NodeId) (number : ℕ) (o : Outcome) (b : Option Message) (m : Message) →
+    bound_then c (Events.Receive node peer number) o b ≡ Some m → b ≡ Some m
 receive_binds c node peer number (Out.Received channel seq attempt r) b m h = none_if (frees_by r && same_channel c node peer channel) b m h
 receive_binds c node peer number o b m h = h
 
-event_binds : (layout : Layout) (past : List Entry) (c : Channel) (m : Message) (event : Event) → bound_then c event (outcome_of layout past event) (bound_message c past) ≡ Some m → (bound_message c past ≡ Some m) ⊎ IsNewlyBound layout past c m
+event_binds : (layout : Layout) (past : List Entry) (c : Channel) (m : Message) (event : Event) →
+    bound_then c event (outcome_of layout past event) (bound_message c past) ≡ Some m → (bound_message c past ≡ Some m) ⊎ IsNewlyBound layout past c m
 event_binds layout past c m (Events.Bind node end) h = bind_front_binds layout past c m node end (front (state_of layout past end)) refl h
-event_binds layout past c m (Events.Expire node peer channel) h = inl (expire_binds c node peer channel (outcome_of layout past (Events.Expire node peer channel)) (bound_message c past) m h)
-event_binds layout past c m (Events.Receive node peer number) h = inl (receive_binds c node peer number (outcome_of layout past (Events.Receive node peer number)) (bound_message c past) m h)
+event_binds layout past c m (Events.Expire node peer channel) h =
+    inl (expire_binds c node peer channel (outcome_of layout past (Events.Expire node peer channel)) (bound_message c past) m h)
+event_binds layout past c m (Events.Receive node peer number) h =
+    inl (receive_binds c node peer number (outcome_of layout past (Events.Receive node peer number)) (bound_message c past) m h)
 event_binds layout past c m event h = inl h
 
-pub bound_next : (layout : Layout) (past : List Entry) (x : Entry) → MayFollow layout past x → (c : Channel) (m : Message) → bound_message c (past ++ x ∷ []) ≡ Some m → (bound_message c past ≡ Some m) ⊎ IsNewlyBound layout past c m
+pub bound_next : (layout : Layout) (past : List Entry) (x : Entry) → MayFollow layout past x → (c : Channel) (m : Message) →
+    bound_message c (past ++ x ∷ []) ≡ Some m → (bound_message c past ≡ Some m) ⊎ IsNewlyBound layout past c m
 bound_next layout past x may c m h =
     event_binds layout past c m x.event
     (subst (λ (o : Outcome). bound_then c x.event o (bound_message c past) ≡ Some m) may.outcome (sym (bound_push c past x _ refl) ∙ h))
@@ -135,59 +152,86 @@ pub record IsPutAt (layout : Layout) (past : List Entry) (event : Event) (m : Me
   pub place : IsAt layout m.dest event
   pub welcome : IsWelcome (state_of layout past m.dest) m
 
-carry_put : (layout : Layout) (past : List Entry) → Delivers layout past → (end : EndpointId) (f : Option Queued) → front (state_of layout past end) ≡ f → (m : Message) → put_in (Events.Carry end) (carry layout past f) ≡ Some m → IsPutAt layout past (Events.Carry end) m
+carry_put : (layout : Layout) (past : List Entry) → Delivers layout past → (end : EndpointId) (f : Option Queued) → front (state_of layout past end) ≡ f →
+    (m : Message) → put_in (Events.Carry end) (carry layout past f) ≡ Some m → IsPutAt layout past (Events.Carry end) m
 carry_put layout past d end None at m h = absurd (cc)
 carry_put layout past d end (Some q) at m h = by_verdict (verdict (state_of layout past q.message.dest) q.message) refl h
   where
-    by_again : (b : Bool) (o p : Outcome) → put_in (Events.Carry end) o ≡ None → put_in (Events.Carry end) p ≡ None → put_in (Events.Carry end) (if b then o else p) ≡ None
+    by_again : (b : Bool) (o p : Outcome) → put_in (Events.Carry end) o ≡ None → put_in (Events.Carry end) p ≡ None →
+        put_in (Events.Carry end) (if b then o else p) ≡ None
     by_again true o p h k = h
     by_again false o p h k = k
 
-    by_verdict : (v : Verdict) → verdict (state_of layout past q.message.dest) q.message ≡ v → put_in (Events.Carry end) (judged layout.bounces q.message q.bounces v) ≡ Some m → IsPutAt layout past (Events.Carry end) m
+    by_verdict : (v : Verdict) → verdict (state_of layout past q.message.dest) q.message ≡ v →
+        put_in (Events.Carry end) (judged layout.bounces q.message q.bounces v) ≡ Some m → IsPutAt layout past (Events.Carry end) m
     by_verdict Verdicts.Accepted is e =
         let same : q.message ≡ m = cc in
         subst (λ (w : Message). IsPutAt layout past (Events.Carry end) w) same
-        (record { accepted = front_are (WasAccepted past) (state_of layout past end) q at (d.sent end); place = tt; welcome = welcome (state_of layout past q.message.dest) q.message is })
+        (record {
+          accepted = front_are (WasAccepted past) (state_of layout past end) q at (d.sent end);
+          place = tt;
+          welcome = welcome (state_of layout past q.message.dest) q.message is;
+        })
     by_verdict (Verdicts.Refused cause) is e =
-        let none = by_again (is_transient cause && nat_lt q.bounces layout.bounces) (Out.Requeued q.message cause (q.bounces + 1)) (Out.Returned q.message cause) refl refl in
+        let none = by_again (is_transient cause && nat_lt q.bounces layout.bounces) (Out.Requeued q.message cause (q.bounces + 1))
+        (Out.Returned q.message cause) refl refl in
         let both : None ≡ Some m = sym none ∙ e in absurd (cc)
 
-arrive_put : (layout : Layout) (past : List Entry) → Delivers layout past → (node peer : NodeId) (number : ℕ) (p : Parcel) (reply : ℕ) (a : Arrival) → EmittedIn (Packets.Parcel p) past → p.to ≡ node → (m : Message) → put_in (Events.Receive node peer number) (Out.Received p.channel p.seq p.attempt (arrive layout past p.message reply a)) ≡ Some m → IsPutAt layout past (Events.Receive node peer number) m
+arrive_put : (layout : Layout) (past : List Entry) → Delivers layout past → (node peer : NodeId) (number : ℕ) (p : Parcel) (reply : ℕ) (a : Arrival) →
+    EmittedIn (Packets.Parcel p) past → p.to ≡ node → (m : Message) →
+    put_in (Events.Receive node peer number) (Out.Received p.channel p.seq p.attempt (arrive layout past p.message reply a)) ≡ Some m →
+    IsPutAt layout past (Events.Receive node peer number) m
 arrive_put layout past d node peer number p reply Stale here to m h = absurd (cc)
 arrive_put layout past d node peer number p reply (Again v) here to m h = absurd (cc)
 arrive_put layout past d node peer number p reply Fresh here to m h = by_verdict (verdict (state_of layout past p.message.dest) p.message) refl h
   where
-    by_verdict : (v : Verdict) → verdict (state_of layout past p.message.dest) p.message ≡ v → put_in (Events.Receive node peer number) (Out.Received p.channel p.seq p.attempt (decided p.message reply v)) ≡ Some m → IsPutAt layout past (Events.Receive node peer number) m
+    by_verdict : (v : Verdict) → verdict (state_of layout past p.message.dest) p.message ≡ v →
+        put_in (Events.Receive node peer number) (Out.Received p.channel p.seq p.attempt (decided p.message reply v)) ≡ Some m →
+        IsPutAt layout past (Events.Receive node peer number) m
     by_verdict Verdicts.Accepted is e =
         let same : p.message ≡ m = cc in
         let routed = d.parcels p here in
         subst (λ (w : Message). IsPutAt layout past (Events.Receive node peer number) w) same
-        (record { accepted = routed.accepted; place = routed.home ∙ ap (λ (n : NodeId). Some n) to; welcome = welcome (state_of layout past p.message.dest) p.message is })
+        (record {
+          accepted = routed.accepted;
+          place = routed.home ∙ ap (λ (n : NodeId). Some n) to;
+          welcome = welcome (state_of layout past p.message.dest) p.message is;
+        })
     by_verdict (Verdicts.Refused cause) is e = absurd (cc)
 
-receive_put : (layout : Layout) (past : List Entry) → Delivers layout past → (node peer : NodeId) (number k : ℕ) (p : Option Packet) → slice_get (emitted peer node past) k ≡ p → (m : Message) → put_in (Events.Receive node peer number) (receive layout node peer past p) ≡ Some m → IsPutAt layout past (Events.Receive node peer number) m
+receive_put : (layout : Layout) (past : List Entry) → Delivers layout past → (node peer : NodeId) (number k : ℕ) (p : Option Packet) →
+    slice_get (emitted peer node past) k ≡ p → (m : Message) → put_in (Events.Receive node peer number) (receive layout node peer past p) ≡ Some m →
+    IsPutAt layout past (Events.Receive node peer number) m
 receive_put layout past d node peer number k None is m h = absurd (cc)
 receive_put layout past d node peer number k (Some (Packets.Parcel p)) is m h =
     let was = was_emitted peer node past k (Packets.Parcel p) is in
-    arrive_put layout past d node peer number p (next_number node peer past) (arrival (mark (channel_to node peer p.channel) past) p.seq p.attempt) was.0 (link_of peer node p was.1).1 m h
+    arrive_put layout past d node peer number p (next_number node peer past) (arrival (mark (channel_to node peer p.channel) past) p.seq p.attempt) was.0
+    (link_of peer node p was.1).1 m h
 receive_put layout past d node peer number k (Some (Packets.Answer a)) is m h =
-    let none : put_in (Events.Receive node peer number) (receive layout node peer past (Some (Packets.Answer a))) ≡ None = settle_puts layout past node peer number a (bound_message (channel_to node peer a.channel) past) in
+    let none : put_in (Events.Receive node peer number) (receive layout node peer past (Some (Packets.Answer a))) ≡ None =
+    settle_puts layout past node peer number a (bound_message (channel_to node peer a.channel) past) in
     let both : None ≡ Some m = sym none ∙ h in absurd (cc)
 
-event_put : (layout : Layout) (past : List Entry) → Delivers layout past → (event : Event) (m : Message) → put_in event (outcome_of layout past event) ≡ Some m → IsPutAt layout past event m
+event_put : (layout : Layout) (past : List Entry) → Delivers layout past → (event : Event) (m : Message) →
+    put_in event (outcome_of layout past event) ≡ Some m → IsPutAt layout past event m
 event_put layout past d (Events.Carry end) m h = carry_put layout past d end (front (state_of layout past end)) refl m h
-event_put layout past d (Events.Receive node peer number) m h = receive_put layout past d node peer number (number - 1) (slice_get (emitted peer node past) (number - 1)) refl m h
+event_put layout past d (Events.Receive node peer number) m h =
+    receive_put layout past d node peer number (number - 1) (slice_get (emitted peer node past) (number - 1)) refl m h
 event_put layout past d event m h = absurd (cc)
 
-pub put_facts : (layout : Layout) (past : List Entry) (x : Entry) → Delivers layout past → MayFollow layout past x → (m : Message) → put_of x ≡ Some m → IsPutAt layout past x.event m
+pub put_facts : (layout : Layout) (past : List Entry) (x : Entry) → Delivers layout past → MayFollow layout past x → (m : Message) → put_of x ≡ Some m →
+    IsPutAt layout past x.event m
 put_facts layout past x d may m h = event_put layout past d x.event m (ap (put_in x.event) (sym may.outcome) ∙ h)
 
 sent_later : (past : List Entry) (x : Entry) (s : State) → SentAre (WasAccepted past) s.body → SentAre (WasAccepted (past ++ x ∷ [])) s.body
 sent_later past x s h =
     record {
-      requests = all_map (λ (q : Queued). WasAccepted past q.message) (λ (q : Queued). WasAccepted (past ++ x ∷ []) q.message) s.body.requests (λ q. gave_more accepted_of past x q.message) h.requests;
-      replies = all_map (λ (q : Queued). WasAccepted past q.message) (λ (q : Queued). WasAccepted (past ++ x ∷ []) q.message) s.body.replies (λ q. gave_more accepted_of past x q.message) h.replies;
-      flights = all_map (λ (f : Flying). WasAccepted past f.message) (λ (f : Flying). WasAccepted (past ++ x ∷ []) f.message) s.body.in_flight (λ f. gave_more accepted_of past x f.message) h.flights;
+      requests = all_map (λ (q : Queued). WasAccepted past q.message) (λ (q : Queued). WasAccepted (past ++ x ∷ []) q.message) s.body.requests
+          (λ q. gave_more accepted_of past x q.message) h.requests;
+      replies = all_map (λ (q : Queued). WasAccepted past q.message) (λ (q : Queued). WasAccepted (past ++ x ∷ []) q.message) s.body.replies
+          (λ q. gave_more accepted_of past x q.message) h.replies;
+      flights = all_map (λ (f : Flying). WasAccepted past f.message) (λ (f : Flying). WasAccepted (past ++ x ∷ []) f.message) s.body.in_flight
+          (λ f. gave_more accepted_of past x f.message) h.flights;
     }
 
 delivers_more : (layout : Layout) (past : List Entry) (x : Entry) → Delivers layout past → MayFollow layout past x → Delivers layout (past ++ x ∷ [])
@@ -197,7 +241,8 @@ delivers_more layout past x d may =
     sent : (e : EndpointId) (t : Bool) → touches e x ≡ t → SentAre (WasAccepted (past ++ x ∷ [])) (state_of layout (past ++ x ∷ []) e).body
     sent e true at =
         rw (state_of_push layout past x e true at)
-        (sent_kept (WasAccepted (past ++ x ∷ [])) e (state_of layout past e) x.event x.outcome (fits_send layout past e x may at) (sent_later past x (state_of layout past e) (d.sent e)) (λ m is. gave_now accepted_of past x m is))
+        (sent_kept (WasAccepted (past ++ x ∷ [])) e (state_of layout past e) x.event x.outcome (fits_send layout past e x may at)
+        (sent_later past x (state_of layout past e) (d.sent e)) (λ m is. gave_now accepted_of past x m is))
     sent e false at = rw (state_of_push layout past x e false at) (sent_later past x (state_of layout past e) (d.sent e))
 
     routed_more : (m : Message) (peer : NodeId) → IsRouted layout past m peer → IsRouted layout (past ++ x ∷ []) m peer
@@ -209,7 +254,8 @@ delivers_more layout past x d may =
         (λ (before : bound_message c past ≡ Some m). routed_more m c.peer (d.bound c m before))
         (λ (n : IsNewlyBound layout past c m).
         record {
-          accepted = gave_more accepted_of past x m (subst (WasAccepted past) n.message (front_are (WasAccepted past) (state_of layout past n.end) n.queued n.is_front (d.sent n.end)));
+          accepted = gave_more accepted_of past x m (subst (WasAccepted past) n.message (front_are (WasAccepted past) (state_of layout past n.end) n.queued
+              n.is_front (d.sent n.end)));
           home = n.home;
         })
         (bound_next layout past x may c m h)
@@ -234,36 +280,46 @@ delivers_more layout past x d may =
           tag = subst (λ (w : EndpointId). matches (state_of layout past w).body.tag m.tag ≡ true) (sym there) p.welcome.tag;
         }
 
-    received : (e : EndpointId) (t : Bool) → touches e x ≡ t → AllAre (IsIn (past ++ x ∷ []) e (state_of layout (past ++ x ∷ []) e).body.tag) (state_of layout (past ++ x ∷ []) e).body.received
+    received : (e : EndpointId) (t : Bool) → touches e x ≡ t →
+        AllAre (IsIn (past ++ x ∷ []) e (state_of layout (past ++ x ∷ []) e).body.tag) (state_of layout (past ++ x ∷ []) e).body.received
     received e true at =
         rw (state_of_push layout past x e true at)
         (⊎_elim
         (λ (same : (changed e (state_of layout past e) x.event x.outcome).body.tag ≡ (state_of layout past e).body.tag).
         subst (λ (tag : Tag). AllAre (IsIn (past ++ x ∷ []) e tag) (changed e (state_of layout past e) x.event x.outcome).body.received) (sym same)
         (held_kept (IsIn (past ++ x ∷ []) e (state_of layout past e).body.tag) e (state_of layout past e) x.event x.outcome at
-        (all_map (IsIn past e (state_of layout past e).body.tag) (IsIn (past ++ x ∷ []) e (state_of layout past e).body.tag) (state_of layout past e).body.received (later e (state_of layout past e).body.tag) (d.received e))
+        (all_map (IsIn past e (state_of layout past e).body.tag) (IsIn (past ++ x ∷ []) e (state_of layout past e).body.tag)
+        (state_of layout past e).body.received (later e (state_of layout past e).body.tag) (d.received e))
         (put_in_it e)))
         (λ (none : (changed e (state_of layout past e) x.event x.outcome).body.received ≡ []).
         subst (AllAre (IsIn (past ++ x ∷ []) e (changed e (state_of layout past e) x.event x.outcome).body.tag)) (sym none) tt)
         (tag_steady layout.pool e (state_of layout past e) x.event x.outcome (fits_call layout past e x may at)))
     received e false at =
         rw (state_of_push layout past x e false at)
-        (all_map (IsIn past e (state_of layout past e).body.tag) (IsIn (past ++ x ∷ []) e (state_of layout past e).body.tag) (state_of layout past e).body.received (later e (state_of layout past e).body.tag) (d.received e))
+        (all_map (IsIn past e (state_of layout past e).body.tag) (IsIn (past ++ x ∷ []) e (state_of layout past e).body.tag)
+        (state_of layout past e).body.received (later e (state_of layout past e).body.tag) (d.received e))
 
 delivers_begin : (layout : Layout) → Delivers layout []
 delivers_begin layout =
-    record { sent = λ e. sent (find (has_id e) layout.ends); bound = λ c m h. absurd (cc); parcels = λ q h. absurd h; received = λ e. received e (find (has_id e) layout.ends) }
+    record {
+      sent = λ e. sent (find (has_id e) layout.ends);
+      bound = λ c m h. absurd (cc);
+      parcels = λ q h. absurd h;
+      received = λ e. received e (find (has_id e) layout.ends);
+    }
   where
     sent : (setting : Option EndSetting) → SentAre (WasAccepted []) (opening_by layout setting).body
     sent None = record { requests = tt; replies = tt; flights = tt }
     sent (Some setting) = record { requests = tt; replies = tt; flights = tt }
 
-    received : (e : EndpointId) (setting : Option EndSetting) → AllAre (IsIn [] e (opening_by layout setting).body.tag) (opening_by layout setting).body.received
+    received : (e : EndpointId) (setting : Option EndSetting) →
+        AllAre (IsIn [] e (opening_by layout setting).body.tag) (opening_by layout setting).body.received
     received e None = tt
     received e (Some setting) = tt
 
 pub delivers : (layout : Layout) (past : List Entry) → IsHistory layout past → Delivers layout past
-delivers layout past h = over_each (MayFollow layout) (λ xs. Delivers layout xs) (λ xs x d may. delivers_more layout xs x d may) [] past (delivers_begin layout) h
+delivers layout past h = over_each (MayFollow layout) (λ xs. Delivers layout xs) (λ xs x d may. delivers_more layout xs x d may) [] past (delivers_begin layout)
+    h
 
 pub tags_kept : (layout : Layout) (past : List Entry) → IsHistory layout past → TagKept layout past
 tags_kept layout past h = over_each (MayFollow layout) (λ xs. TagKept layout xs) (λ xs x k may. tag_more layout xs x k) [] past (λ e. refl) h
@@ -274,14 +330,17 @@ pub record IsRunAt (layout : Layout) (past : List Entry) (event : Event) (o : Ou
   pub held : IsRunOf (IsIn past end (state_of layout past end).body.tag) m o
   pub place : IsAt layout m.dest event
 
-event_run : (layout : Layout) (past : List Entry) → Delivers layout past → (event : Event) (m : Message) → run_in event (outcome_of layout past event) ≡ Some m → IsRunAt layout past event (outcome_of layout past event) m
+event_run : (layout : Layout) (past : List Entry) → Delivers layout past → (event : Event) (m : Message) →
+    run_in event (outcome_of layout past event) ≡ Some m → IsRunAt layout past event (outcome_of layout past event) m
 event_run layout past d (Events.Call actor end Calls.Poll) m h =
-    let r = polled_run (IsIn past end (state_of layout past end).body.tag) end (state_of layout past end) m (d.received end) (state_of layout past end).body.notices h in
+    let r = polled_run (IsIn past end (state_of layout past end).body.tag) end (state_of layout past end) m (d.received end)
+    (state_of layout past end).body.notices h in
     record { end = end; held = r; place = sym r.held.dest }
 event_run layout past d (Events.Call actor end call) m h = absurd (cc)
 event_run layout past d event m h = absurd (cc)
 
-pub run_facts : (layout : Layout) (past : List Entry) (x : Entry) → Delivers layout past → MayFollow layout past x → (m : Message) → run_of x ≡ Some m → IsRunAt layout past x.event x.outcome m
+pub run_facts : (layout : Layout) (past : List Entry) (x : Entry) → Delivers layout past → MayFollow layout past x → (m : Message) → run_of x ≡ Some m →
+    IsRunAt layout past x.event x.outcome m
 run_facts layout past x d may m h =
     subst (λ (o : Outcome). IsRunAt layout past x.event o m) (sym may.outcome)
     (event_run layout past d x.event m (ap (run_in x.event) (sym may.outcome) ∙ h))
@@ -297,7 +356,8 @@ run_puts_none event o m h = absurd (cc)
 -- an entry that puts a message touches its destination
 pub touches_dest : (event : Event) (o : Outcome) (m : Message) → put_in event o ≡ Some m → list_any (same_end m.dest) (ends_touched event o) ≡ true
 touches_dest (Events.Carry end) (Out.Accepted n) m is =
-    let same : n ≡ m = cc in subst (λ (w : Message). (same_end w.dest end || (same_end w.dest n.dest || false)) ≡ true) same (by_both (same_end n.dest end) (same_end n.dest n.dest) (same_end-refl n.dest))
+    let same : n ≡ m = cc in subst (λ (w : Message). (same_end w.dest end || (same_end w.dest n.dest || false)) ≡ true) same
+    (by_both (same_end n.dest end) (same_end n.dest n.dest) (same_end-refl n.dest))
   where
     by_both : (a b : Bool) → b ≡ true → (a || (b || false)) ≡ true
     by_both true b e = refl
@@ -308,8 +368,10 @@ touches_dest (Events.Receive node peer number) (Out.Received channel seq attempt
 touches_dest event o m is = absurd (cc)
 
 -- an entry that runs a message touches its destination
-run_touches : (layout : Layout) (event : Event) (o : Outcome) (m : Message) → run_in event o ≡ Some m → IsAt layout m.dest event → list_any (same_end m.dest) (ends_touched event o) ≡ true
-run_touches layout (Events.Call actor end call) o m h at = subst (λ (w : EndpointId). (same_end w end || false) ≡ true) at (ap (λ (b : Bool). b || false) (same_end-refl end))
+run_touches : (layout : Layout) (event : Event) (o : Outcome) (m : Message) → run_in event o ≡ Some m → IsAt layout m.dest event →
+    list_any (same_end m.dest) (ends_touched event o) ≡ true
+run_touches layout (Events.Call actor end call) o m h at = subst (λ (w : EndpointId). (same_end w end || false) ≡ true) at
+    (ap (λ (b : Bool). b || false) (same_end-refl end))
 run_touches layout event o m h at = absurd (cc)
 
 places : (layout : Layout) (past : List Entry) (x : Entry) → IsHistory layout past → MayFollow layout past x → IsPutAndRunFirst layout past x
@@ -337,11 +399,28 @@ places layout past x h may = (match_option (put_of x) (IsFirstPut layout past x)
     by_run : (m : Message) → run_of x ≡ Some m → IsFirstRun layout past x m
     by_run m is =
         let r = run_facts layout past x d may m is in
-        let none : bit (passes (has_serial m.serial) (put_of x)) ≡ 0 = ap (λ (w : Option Message). bit (passes (has_serial m.serial) w)) (run_puts_none x.event x.outcome m is) in
+        let none : bit (passes (has_serial m.serial) (put_of x)) ≡ 0 =
+        ap (λ (w : Option Message). bit (passes (has_serial m.serial) w)) (run_puts_none x.event x.outcome m is) in
         record {
           accepted = r.held.held.accepted;
-          put = omega (arith, now.run m.serial, now.put m.serial, now.accepted m.serial, role_push put_in (has_serial m.serial) past x, role_push run_in (has_serial m.serial) past x, one_more run_of m x is, none);
-          first = omega (arith, now.run m.serial, now.put m.serial, now.accepted m.serial, role_push run_in (has_serial m.serial) past x, one_more run_of m x is);
+          put = omega (
+            arith,
+            now.run m.serial,
+            now.put m.serial,
+            now.accepted m.serial,
+            role_push put_in (has_serial m.serial) past x,
+            role_push run_in (has_serial m.serial) past x,
+            one_more run_of m x is,
+            none,
+          );
+          first = omega (
+            arith,
+            now.run m.serial,
+            now.put m.serial,
+            now.accepted m.serial,
+            role_push run_in (has_serial m.serial) past x,
+            one_more run_of m x is,
+          );
           touched = run_touches layout x.event x.outcome m is r.place;
           place = r.place;
           handler = r.held.handler;

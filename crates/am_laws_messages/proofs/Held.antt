@@ -1,6 +1,7 @@
 -- What is received by an endpoint: what was put there, under the own tag.
 use Rattle.std.specs.Prelude.{is_some, is_none, not, nat_le, count_by}
-use Rattle.std.proofs.Common.{◌≡◌, ◌⊎◌, inl, inr, ◌==◌, ◌&&◌, ℕ, Bool, true, false, cond, List, [], ◌∷◌, length, Option, Some, None, refl, sym, ap, ◌∙◌, subst, eqb-true, if◌then◌else◌}
+use Rattle.std.proofs.Common.{◌≡◌, ◌⊎◌, inl, inr, ◌==◌, ◌&&◌, ℕ, Bool, true, false, cond, List, [], ◌∷◌, length, Option, Some, None, refl, sym, ap, ◌∙◌, subst}
+use Rattle.std.proofs.Common.{eqb-true, if◌then◌else◌}
 use Rattle.std.proofs.lemmas.Bool.{and_parts}
 use Rattle.std.specs.List.{list_any, find}
 use Rattle.std.proofs.lemmas.List.{nil_from_length}
@@ -42,9 +43,14 @@ pub record IsWelcome (s : State) (m : Message) : Type 0 where
   pub awaited : (is_reply m && not (is_waited_for s.body.awaited m.about)) ≡ false
 
 pub welcome : (s : State) (m : Message) → verdict s m ≡ Verdicts.Accepted → IsWelcome s m
-welcome s m h = by_tests s.head.closed (is_resident s.head.place) (matches s.body.tag m.tag) (is_request m && is_none (entry_at s.body.handlers m.handler)) (is_request m && nat_le 16 (count_by is_request s.body.received)) (is_reply m && not (is_waited_for s.body.awaited m.about)) refl refl refl refl refl refl h
+welcome s m h = by_tests s.head.closed (is_resident s.head.place) (matches s.body.tag m.tag) (is_request m && is_none (entry_at s.body.handlers m.handler))
+    (is_request m && nat_le 16 (count_by is_request s.body.received)) (is_reply m && not (is_waited_for s.body.awaited m.about)) refl refl refl refl refl refl h
   where
-    by_tests : (a b c d e f : Bool) → s.head.closed ≡ a → is_resident s.head.place ≡ b → matches s.body.tag m.tag ≡ c → (is_request m && is_none (entry_at s.body.handlers m.handler)) ≡ d → (is_request m && nat_le 16 (count_by is_request s.body.received)) ≡ e → (is_reply m && not (is_waited_for s.body.awaited m.about)) ≡ f → verdict_of (first_holding ((a, NoEndpoint) ∷ (not b, NotResident) ∷ (not c, BadTag) ∷ (d, BadHandler) ∷ (e, QueueFull) ∷ (f, NoRequest) ∷ [])) ≡ Verdicts.Accepted → IsWelcome s m
+    by_tests : (a b c d e f : Bool) → s.head.closed ≡ a → is_resident s.head.place ≡ b → matches s.body.tag m.tag ≡ c →
+        (is_request m && is_none (entry_at s.body.handlers m.handler)) ≡ d → (is_request m && nat_le 16 (count_by is_request s.body.received)) ≡ e →
+        (is_reply m && not (is_waited_for s.body.awaited m.about)) ≡ f →
+        verdict_of (first_holding ((a, NoEndpoint) ∷ (not b, NotResident) ∷ (not c, BadTag) ∷ (d, BadHandler) ∷ (e, QueueFull) ∷ (f, NoRequest) ∷ [])) ≡
+        Verdicts.Accepted → IsWelcome s m
     by_tests true b c d e f h1 h2 h3 h4 h5 h6 h = absurd (cc)
     by_tests false false c d e f h1 h2 h3 h4 h5 h6 h = absurd (cc)
     by_tests false true false d e f h1 h2 h3 h4 h5 h6 h = absurd (cc)
@@ -57,7 +63,8 @@ welcome s m h = by_tests s.head.closed (is_resident s.head.place) (matches s.bod
 pub record IsTagSteady (s t : State) : Type 0 where
   pub steady : (t.body.tag ≡ s.body.tag) ⊎ (t.body.received ≡ [])
 
-pub unless_busy : (s : State) (closed idle : Bool) → is_idle s.body ≡ idle → unless (first_holding ((closed, No.Closed) ∷ (not idle, still_held s.body) ∷ [])) Out.Done ≡ Out.Done → idle ≡ true
+pub unless_busy : (s : State) (closed idle : Bool) → is_idle s.body ≡ idle →
+    unless (first_holding ((closed, No.Closed) ∷ (not idle, still_held s.body) ∷ [])) Out.Done ≡ Out.Done → idle ≡ true
 unless_busy s true idle is h = absurd (cc)
 unless_busy s false true is h = refl
 unless_busy s false false is h = absurd (cc)
@@ -68,7 +75,8 @@ idle_received s h =
     let inner = and_parts (length s.body.received == 0) (messages_held s.body == 0) outer.0 in
     nil_from_length s.body.received (eqb-true (length s.body.received) 0 inner.0)
 
-called_steady : (pool : Option ℕ) (end : EndpointId) (s : State) (c : Call) (o : Outcome) → o ≡ outcome_of_call pool end s c → (called s c o).body.tag ≡ s.body.tag ⊎ ((called s c o).body.received ≡ [])
+called_steady : (pool : Option ℕ) (end : EndpointId) (s : State) (c : Call) (o : Outcome) → o ≡ outcome_of_call pool end s c →
+    (called s c o).body.tag ≡ s.body.tag ⊎ ((called s c o).body.received ≡ [])
 called_steady pool end s (Calls.Request at handler words) (Out.Requested m) fits = inl refl
 called_steady pool end s Calls.Poll (Out.Zero serial why) fits = inl refl
 called_steady pool end s Calls.Poll (Out.Ran m handler None) fits = inl refl
@@ -81,7 +89,8 @@ called_steady pool end s (Calls.GiveUp serial) Out.Done fits = inl refl
 called_steady pool end s Calls.Close Out.Done fits = inl refl
 called_steady pool end s c o fits = inl refl
 
-pub tag_steady : (pool : Option ℕ) (e : EndpointId) (s : State) (event : Event) (o : Outcome) → FitsCall pool s event o → ((changed e s event o).body.tag ≡ s.body.tag) ⊎ ((changed e s event o).body.received ≡ [])
+pub tag_steady : (pool : Option ℕ) (e : EndpointId) (s : State) (event : Event) (o : Outcome) → FitsCall pool s event o →
+    ((changed e s event o).body.tag ≡ s.body.tag) ⊎ ((changed e s event o).body.received ≡ [])
 tag_steady pool e s (Events.Call actor end call) o fits = called_steady pool end s call o fits
 tag_steady pool e s event o fits = inl (ap (λ (w : Own). w.tag) (own_kept e s event o refl))
 
@@ -109,7 +118,8 @@ left_held R s (Out.Returned m cause) true h = h
 left_held R s o true h = h
 left_held R s o false h = h
 
-reached_held : (R : Message → Type 0) (e : EndpointId) (s : State) (o : Outcome) → ReceivedAre R s → ((m : Message) → o ≡ Out.Accepted m → same_end e m.dest ≡ true → R m) → ReceivedAre R (reached e s o)
+reached_held : (R : Message → Type 0) (e : EndpointId) (s : State) (o : Outcome) → ReceivedAre R s →
+    ((m : Message) → o ≡ Out.Accepted m → same_end e m.dest ≡ true → R m) → ReceivedAre R (reached e s o)
 reached_held R e s (Out.Accepted m) h p = by_test (same_end e m.dest) refl
   where
     by_test : (t : Bool) → same_end e m.dest ≡ t → ReceivedAre R (if t then put m s else s)
@@ -117,7 +127,8 @@ reached_held R e s (Out.Accepted m) h p = by_test (same_end e m.dest) refl
     by_test false is = h
 reached_held R e s o h p = h
 
-result_held : (R : Message → Type 0) (e : EndpointId) (s : State) (r : Received) → ReceivedAre R s → ((m : Message) (answer : ℕ) → r ≡ Got.Accepted m answer → R m) → ReceivedAre R (received e s r)
+result_held : (R : Message → Type 0) (e : EndpointId) (s : State) (r : Received) → ReceivedAre R s →
+    ((m : Message) (answer : ℕ) → r ≡ Got.Accepted m answer → R m) → ReceivedAre R (received e s r)
 result_held R e s (Got.Accepted m answer) h p = all_push R s.body.received m h (p m answer refl)
 result_held R e s (Got.Refused m NotResident answer) h p = h
 result_held R e s (Got.Delivered serial) h p = h
@@ -143,7 +154,8 @@ in_held R s Out.Done h = h
 in_held R s o h = h
 
 -- an entry that touches an endpoint: it has received what it had, and what is put there
-pub held_kept : (R : Message → Type 0) (e : EndpointId) (s : State) (event : Event) (o : Outcome) → list_any (same_end e) (ends_touched event o) ≡ true → ReceivedAre R s → ((m : Message) → put_in event o ≡ Some m → same_end e m.dest ≡ true → R m) → ReceivedAre R (changed e s event o)
+pub held_kept : (R : Message → Type 0) (e : EndpointId) (s : State) (event : Event) (o : Outcome) → list_any (same_end e) (ends_touched event o) ≡ true →
+    ReceivedAre R s → ((m : Message) → put_in event o ≡ Some m → same_end e m.dest ≡ true → R m) → ReceivedAre R (changed e s event o)
 held_kept R e s (Events.Call actor end call) o t h p = called_held R s call o h
 held_kept R e s (Events.Want actor end) o t h p = h
 held_kept R e s (Events.Carry end) o t h p =
@@ -151,10 +163,12 @@ held_kept R e s (Events.Carry end) o t h p =
 held_kept R e s (Events.Bind node end) o t h p = bound_held R s o h
 held_kept R e s (Events.Expire node peer channel) o t h p = expired_held R s o h
 held_kept R e s (Events.Receive node peer number) (Out.Received channel seq attempt r) t h p =
-    result_held R e s r h (λ m answer is. p m (ap (λ (v : Received). put_in (Events.Receive node peer number) (Out.Received channel seq attempt v)) is) (at m answer is))
+    result_held R e s r h (λ m answer is. p m (ap (λ (v : Received). put_in (Events.Receive node peer number) (Out.Received channel seq attempt v)) is)
+    (at m answer is))
   where
     at : (m : Message) (answer : ℕ) → r ≡ Got.Accepted m answer → same_end e m.dest ≡ true
-    at m answer is = one_touched (same_end e m.dest) (subst (λ (v : Received). list_any (same_end e) (ends_touched (Events.Receive node peer number) (Out.Received channel seq attempt v)) ≡ true) is t)
+    at m answer is = one_touched (same_end e m.dest) (subst (λ (v : Received). list_any (same_end e)
+        (ends_touched (Events.Receive node peer number) (Out.Received channel seq attempt v)) ≡ true) is t)
 held_kept R e s (Events.Receive node peer number) o t h p = h
 held_kept R e s (Events.Drain node end) o t h p = h
 held_kept R e s (Events.Unload node end) o t h p = h
@@ -179,11 +193,14 @@ own_handler : (s : State) (m : Message) (b : Bool) → is_reply m ≡ true → R
 own_handler s m true is = refl
 own_handler s m false is = is
 
-pub polled_run : (R : Message → Type 0) (e : EndpointId) (s : State) (m : Message) → ReceivedAre R s → (notices : List Notice) → run_by Calls.Poll (poll e s notices) ≡ Some m → IsRunOf R m (poll e s notices)
+pub polled_run : (R : Message → Type 0) (e : EndpointId) (s : State) (m : Message) → ReceivedAre R s → (notices : List Notice) →
+    run_by Calls.Poll (poll e s notices) ≡ Some m → IsRunOf R m (poll e s notices)
 polled_run R e s m h (notice ∷ notices) is = absurd (cc)
 polled_run R e s m h [] is = by_found (find is_reply s.body.received) refl is
   where
-    by_full : (n : Message) (full : Bool) → R n → let o = if full then Out.Blocked else Out.Ran n (Some n.handler) (Some (answer e s n (entry_at s.body.handlers n.handler))) in run_by Calls.Poll o ≡ Some m → IsRunOf R m o
+    by_full : (n : Message) (full : Bool) → R n → let o = if full then Out.Blocked else Out.Ran n (Some n.handler)
+        (Some (answer e s n (entry_at s.body.handlers n.handler))) in run_by Calls.Poll o ≡ Some m →
+        IsRunOf R m o
     by_full n true r e = absurd (cc)
     by_full n false r e = let same : n ≡ m = cc in record { held = subst R same r; handler = refl }
 

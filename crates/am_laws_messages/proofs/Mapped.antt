@@ -1,6 +1,7 @@
 -- The mapped indexes of an endpoint are what its calls made them.
 use Rattle.std.specs.Prelude.{unwrap_or, nat_le, nat_lt, replicate, is_some, is_none, slice_set}
-use Rattle.std.proofs.Common.{◌≡◌, ◌==◌, ℕ, ◌<◌, Bool, true, false, cond, List, [], ◌∷◌, ◌++◌, length, Option, Some, None, refl, sym, ap, ◌∙◌, subst, arith, eqb-true, leb-false, ltb-false, ltb-true, true≢false, if◌then◌else◌}
+use Rattle.std.proofs.Common.{◌≡◌, ◌==◌, ℕ, ◌<◌, Bool, true, false, cond, List, [], ◌∷◌, ◌++◌, length, Option, Some, None, refl, sym, ap, ◌∙◌, subst, arith}
+use Rattle.std.proofs.Common.{eqb-true, leb-false, ltb-false, ltb-true, true≢false, if◌then◌else◌}
 use Rattle.std.proofs.lemmas.Bool.{eqb-false}
 use Rattle.std.proofs.lemmas.List.{get_or-set_same, get_or-set_other, length-set, get_or-replicate, get_or_past, length-replicate}
 use Rattle.std.specs.List.{list_any, find}
@@ -74,14 +75,17 @@ in_table pool end s (Calls.GiveUp serial) = tt
 in_table pool end s Calls.Close = tt
 in_table pool end s (Calls.Test mask) = tt
 
-pub set_entry : (xs : List (Option Mapping)) (at index : ℕ) (v : Option Mapping) → at < length xs → entry_at (slice_set xs at v) index ≡ unwrap_or (if index == at then Some v else None) (entry_at xs index)
+pub set_entry : (xs : List (Option Mapping)) (at index : ℕ) (v : Option Mapping) → at < length xs →
+    entry_at (slice_set xs at v) index ≡ unwrap_or (if index == at then Some v else None) (entry_at xs index)
 set_entry xs at index v low = by_test (index == at) refl
   where
     by_test : (t : Bool) → (index == at) ≡ t → entry_at (slice_set xs at v) index ≡ unwrap_or (if t then Some v else None) (entry_at xs index)
     by_test true h = let same : index ≡ at = eqb-true index at h in rw same (get_or-set_same xs at v None low)
     by_test false h = get_or-set_other xs at index v None (eqb-false index at h)
 
-called_mapped : (e : EndpointId) (s : State) (c : Call) (o : Outcome) (actor : Actor) (end : EndpointId) (index : ℕ) → same_end e end ≡ true → length s.body.mapped ≡ 16 → IsInTable c o → entry_at (called s c o).body.mapped index ≡ unwrap_or (mapping_set e index (Events.Call actor end c) o) (entry_at s.body.mapped index)
+called_mapped : (e : EndpointId) (s : State) (c : Call) (o : Outcome) (actor : Actor) (end : EndpointId) (index : ℕ) → same_end e end ≡ true →
+    length s.body.mapped ≡ 16 → IsInTable c o → entry_at (called s c o).body.mapped index ≡ unwrap_or (mapping_set e index (Events.Call actor end c) o)
+    (entry_at s.body.mapped index)
 called_mapped e s (Calls.Request at handler words) (Out.Requested m) actor end index on size low = refl
 called_mapped e s Calls.Poll (Out.Zero serial why) actor end index on size low = refl
 called_mapped e s Calls.Poll (Out.Ran m handler None) actor end index on size low = refl
@@ -112,17 +116,24 @@ mapping_only_call : (e : EndpointId) (index : ℕ) (event : Event) (o : Outcome)
 mapping_only_call e index (Events.Call actor end call) o h = absurd (true≢false h)
 mapping_only_call e index event o h = refl
 
-mapping_untouched : (e : EndpointId) (index : ℕ) (event : Event) (o : Outcome) → list_any (same_end e) (ends_touched event o) ≡ false → mapping_set e index event o ≡ None
-mapping_untouched e index (Events.Call actor end (Calls.Map at name tag credits)) Out.Done t = let off : same_end e end ≡ false = not_touched (same_end e end) t in rw off refl
+mapping_untouched : (e : EndpointId) (index : ℕ) (event : Event) (o : Outcome) → list_any (same_end e) (ends_touched event o) ≡ false →
+    mapping_set e index event o ≡ None
+mapping_untouched e index (Events.Call actor end (Calls.Map at name tag credits)) Out.Done t =
+    let off : same_end e end ≡ false = not_touched (same_end e end) t in rw off refl
 mapping_untouched e index (Events.Call actor end (Calls.Unmap at)) Out.Done t = let off : same_end e end ≡ false = not_touched (same_end e end) t in rw off refl
 mapping_untouched e index event o t = refl
 
-fits_table : (pool : Option ℕ) (s : State) (actor : Actor) (end : EndpointId) (c : Call) (o : Outcome) → FitsCall pool s (Events.Call actor end c) o → IsInTable c o
+fits_table : (pool : Option ℕ) (s : State) (actor : Actor) (end : EndpointId) (c : Call) (o : Outcome) → FitsCall pool s (Events.Call actor end c) o →
+    IsInTable c o
 fits_table pool s actor end c o fits = subst (λ (v : Outcome). IsInTable c v) (sym fits) (in_table pool end s c)
 
-touched_mapped : (pool : Option ℕ) (e : EndpointId) (s : State) (event : Event) (o : Outcome) (index : ℕ) → list_any (same_end e) (ends_touched event o) ≡ true → FitsCall pool s event o → length s.body.mapped ≡ 16 → entry_at (changed e s event o).body.mapped index ≡ unwrap_or (mapping_set e index event o) (entry_at s.body.mapped index)
-touched_mapped pool e s (Events.Call actor end call) o index t fits size = called_mapped e s call o actor end index (one_touched (same_end e end) t) size (fits_table pool s actor end call o fits)
-touched_mapped pool e s event o index t fits size = ap (λ (w : Own). entry_at w.mapped index) (own_kept e s event o refl) ∙ ap (λ (w : Option (Option Mapping)). unwrap_or w (entry_at s.body.mapped index)) (sym (mapping_only_call e index event o refl))
+touched_mapped : (pool : Option ℕ) (e : EndpointId) (s : State) (event : Event) (o : Outcome) (index : ℕ) →
+    list_any (same_end e) (ends_touched event o) ≡ true → FitsCall pool s event o → length s.body.mapped ≡ 16 →
+    entry_at (changed e s event o).body.mapped index ≡ unwrap_or (mapping_set e index event o) (entry_at s.body.mapped index)
+touched_mapped pool e s (Events.Call actor end call) o index t fits size =
+    called_mapped e s call o actor end index (one_touched (same_end e end) t) size (fits_table pool s actor end call o fits)
+touched_mapped pool e s event o index t fits size = ap (λ (w : Own). entry_at w.mapped index) (own_kept e s event o refl)
+    ∙ ap (λ (w : Option (Option Mapping)). unwrap_or w (entry_at s.body.mapped index)) (sym (mapping_only_call e index event o refl))
 
 touched_size : (e : EndpointId) (s : State) (event : Event) (o : Outcome) → length (changed e s event o).body.mapped ≡ length s.body.mapped
 touched_size e s (Events.Call actor end call) o = called_size s call o
@@ -140,7 +151,8 @@ mapped_more layout past x k may = record { size = λ e. size e (touches e x) ref
     size e true at = rw (state_of_push layout past x e true at) (touched_size e (state_of layout past e) x.event x.outcome ∙ k.size e)
     size e false at = rw (state_of_push layout past x e false at) (k.size e)
 
-    entry : (e : EndpointId) (index : ℕ) (t : Bool) → touches e x ≡ t → entry_at (state_of layout (past ++ x ∷ []) e).body.mapped index ≡ mapping_of (past ++ x ∷ []) e index
+    entry : (e : EndpointId) (index : ℕ) (t : Bool) → touches e x ≡ t →
+        entry_at (state_of layout (past ++ x ∷ []) e).body.mapped index ≡ mapping_of (past ++ x ∷ []) e index
     entry e index true at =
         rw (state_of_push layout past x e true at)
         (touched_mapped layout.pool e (state_of layout past e) x.event x.outcome index at (fits_call layout past e x may at) (k.size e)

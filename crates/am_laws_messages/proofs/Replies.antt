@@ -26,12 +26,14 @@ use Rattle.am_model.specs.PostOffice.{SendsOneReply, SendsOne}
 use Rattle.am_laws_messages.proofs.Held.{answers_is}
 use Rattle.am_laws_messages.proofs.Delivered.{each_law}
 
-request_one : (e : EndpointId) (st : State) (index handler : ℕ) (words : Words) (r : Option Refusal) (mapping : Option Mapping) → SendsOneReply (Calls.Request index handler words) (unless r (new_request e st mapping handler words))
+request_one : (e : EndpointId) (st : State) (index handler : ℕ) (words : Words) (r : Option Refusal) (mapping : Option Mapping) →
+    SendsOneReply (Calls.Request index handler words) (unless r (new_request e st mapping handler words))
 request_one e st index handler words (Some r) mapping = tt
 request_one e st index handler words None None = tt
 request_one e st index handler words None (Some mapping) = refl
 
-answer_one : (e : EndpointId) (st : State) (m : Message) (kind : Option HandlerKind) → (is_reply (answer e st m kind) ≡ true) × ((answer e st m kind).about ≡ Some m.serial)
+answer_one : (e : EndpointId) (st : State) (m : Message) (kind : Option HandlerKind) →
+    (is_reply (answer e st m kind) ≡ true) × ((answer e st m kind).about ≡ Some m.serial)
 answer_one e st m (Some (Echo to)) = (refl, refl)
 answer_one e st m (Some (Add to)) = (refl, refl)
 answer_one e st m (Some Note) = (refl, refl)
@@ -48,7 +50,8 @@ poll_one : (e : EndpointId) (st : State) (notices : List Notice) → SendsOneRep
 poll_one e st (notice ∷ notices) = tt
 poll_one e st [] = by_found (find is_reply st.body.received) refl
   where
-    by_full : (m : Message) (full : Bool) → is_request m ≡ true → SendsOneReply Calls.Poll (if full then Out.Blocked else Out.Ran m (Some m.handler) (Some (answer e st m (entry_at st.body.handlers m.handler))))
+    by_full : (m : Message) (full : Bool) → is_request m ≡ true →
+        SendsOneReply Calls.Poll (if full then Out.Blocked else Out.Ran m (Some m.handler) (Some (answer e st m (entry_at st.body.handlers m.handler))))
     by_full m true is = tt
     by_full m false is = let a = answer_one e st m (entry_at st.body.handlers m.handler) in (is, a.0, a.1)
 
@@ -77,4 +80,5 @@ event_one layout past event = tt
 
 pub sends_one : (layout : Layout) (journal : List Entry) → IsHistory layout journal → EachAfter (λ past x. SendsOne x.event x.outcome) [] journal
 sends_one layout journal h =
-    each_law layout (λ past x. SendsOne x.event x.outcome) (λ past x p may. subst (λ (o : Outcome). SendsOne x.event o) (sym may.outcome) (event_one layout past x.event)) journal h
+    each_law layout (λ past x. SendsOne x.event x.outcome) (λ past x p may. subst (λ (o : Outcome). SendsOne x.event o) (sym may.outcome)
+    (event_one layout past x.event)) journal h

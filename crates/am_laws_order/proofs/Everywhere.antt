@@ -21,10 +21,12 @@ record Runs (layout : Layout) (past : List Entry) : Type 0 where
   pub balance : ReceivedBalance layout past
   pub run : (s : Serial) → times run_of (has_serial s) past ≤ times put_of (has_serial s) past
 
-put_le : (layout : Layout) (past : List Entry) → KeptPackets layout past → (s : Serial) → times put_of (has_serial s) past ≤ times accepted_of (has_serial s) past
+put_le : (layout : Layout) (past : List Entry) → KeptPackets layout past → (s : Serial) →
+    times put_of (has_serial s) past ≤ times accepted_of (has_serial s) past
 put_le layout past k s = put_when_accepted s past (waiting layout past s) (accepted_times past s) (k.stands s)
 
-runs_more : (layout : Layout) → layout.direct ≡ false → (past : List Entry) (x : Entry) → Runs layout past → MayFollow layout past x → Runs layout (past ++ x ∷ [])
+runs_more : (layout : Layout) → layout.direct ≡ false → (past : List Entry) (x : Entry) → Runs layout past → MayFollow layout past x →
+    Runs layout (past ++ x ∷ [])
 runs_more layout packet past x r may =
     record {
       kept = packets_more layout packet past x r.kept may;
@@ -46,7 +48,8 @@ runs_begin layout = record { kept = packets_begin layout; balance = λ p e. none
 
 each_once_packets : (layout : Layout) (journal : List Entry) → layout.direct ≡ false → IsHistory layout journal → EachOnce journal
 each_once_packets layout journal packet h =
-    let r : Runs layout ([] ++ journal) = over_each (MayFollow layout) (λ past. Runs layout past) (λ past x r may. runs_more layout packet past x r may) [] journal (runs_begin layout) h in
+    let r : Runs layout ([] ++ journal) = over_each (MayFollow layout) (λ past. Runs layout past) (λ past x r may. runs_more layout packet past x r may) []
+    journal (runs_begin layout) h in
     record { accepted = r.kept.accepted.once; put = put_le layout journal r.kept; run = r.run }
 
 pub each_once : (layout : Layout) (journal : List Entry) → IsHistory layout journal → EachOnce journal

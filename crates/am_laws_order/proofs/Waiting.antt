@@ -57,7 +57,8 @@ FitsPacket s (Events.Carry end) o = ⊥
 FitsPacket s (Events.Bind node end) o = IsFront s o
 FitsPacket s event o = Unit {0}
 
-pub bound_sends : (p : Message → Bool) (s : State) (o : Outcome) (m : Option Message) → sent_message o ≡ m → IsFront s o → to_send p (bound s o).body + bit (passes p m) ≡ to_send p s.body
+pub bound_sends : (p : Message → Bool) (s : State) (o : Outcome) (m : Option Message) → sent_message o ≡ m → IsFront s o →
+    to_send p (bound s o).body + bit (passes p m) ≡ to_send p s.body
 bound_sends p s (Out.Sent m peer channel seq attempt number) n is f =
     let same : Some m ≡ Some f.queued.message = f.is_sent in
     let at : m ≡ f.queued.message = cc in
@@ -70,12 +71,17 @@ expired_sends p s (Out.Unknown serial) = refl
 expired_sends p s o = refl
 
 -- a message of this serial is to be sent once more where it is requeued
-received_sends : (t : Serial) (e : EndpointId) (s : State) (r : Received) → to_send (has_serial t) (received e s r).body ≤ to_send (has_serial t) s.body + weight_serial t (requeue_by r)
+received_sends : (t : Serial) (e : EndpointId) (s : State) (r : Received) →
+    to_send (has_serial t) (received e s r).body ≤ to_send (has_serial t) s.body + weight_serial t (requeue_by r)
 received_sends t e s (Got.Accepted m answer) = omega arith
 received_sends t e s (Got.Refused m NotResident answer) = omega arith
 received_sends t e s (Got.Delivered serial) = omega arith
 received_sends t e s (Got.Requeued serial cause used) =
-    omega (arith, flight_sends (has_serial t) used (without_flight serial s.body) (flying_of serial s.body.in_flight), by_flight (flying_of serial s.body.in_flight) refl)
+    omega (
+      arith,
+      flight_sends (has_serial t) used (without_flight serial s.body) (flying_of serial s.body.in_flight),
+      by_flight (flying_of serial s.body.in_flight) refl,
+    )
   where
     by_flight : (f : Option Flying) → flying_of serial s.body.in_flight ≡ f → flight_weight (has_serial t) f ≤ bit (same_serial t serial)
     by_flight None is = omega arith
@@ -86,7 +92,9 @@ received_sends t e s (Got.Returned serial cause) = omega arith
 received_sends t e s r = omega arith
 
 -- an entry that touches an endpoint of the packet network
-pub packet_sends : (t : Serial) (e : EndpointId) (s : State) (event : Event) (o : Outcome) → list_any (same_end e) (ends_touched event o) ≡ true → FitsPacket s event o → to_send (has_serial t) (changed e s event o).body + bit (passes (has_serial t) (bound_at event o)) ≤ to_send (has_serial t) s.body + bit (passes (has_serial t) (accepted_in event o)) + weight_serial t (requeued_in event o)
+pub packet_sends : (t : Serial) (e : EndpointId) (s : State) (event : Event) (o : Outcome) → list_any (same_end e) (ends_touched event o) ≡ true →
+    FitsPacket s event o → to_send (has_serial t) (changed e s event o).body + bit (passes (has_serial t) (bound_at event o)) ≤ to_send (has_serial t) s.body +
+    bit (passes (has_serial t) (accepted_in event o)) + weight_serial t (requeued_in event o)
 packet_sends t e s (Events.Call actor end call) o h fits = omega (arith, called_sends (has_serial t) s call o)
 packet_sends t e s (Events.Want actor end) o h fits = omega arith
 packet_sends t e s (Events.Carry end) o h fits = absurd fits

@@ -5,7 +5,7 @@ use Rattle.am_names.specs.declared.Parcel.{Parcel}
 use Rattle.am_names.specs.declared.Packet.{Packet}
 use Rattle.am_names.specs.declared.Packet.TheVariants as Packets
 use Rattle.am_office.specs.declared.Entry.{Entry}
-use Rattle.am_model.specs.Allowed.{is_well_formed}
+use Rattle.am_names.specs.Names.{is_well_formed}
 use Rattle.am_model.specs.Changes.{flying_of}
 use Rattle.am_model.specs.Layout.{Layout, declared}
 use Rattle.am_model.specs.History.{state_of}

@@ -39,11 +39,13 @@ front (a ∷ b ∷ c ∷ d ∷ e ∷ f ∷ g ∷ h ∷ rest) = refl
 
 -- eight bytes as a word, and back
 word_back : (bytes : List ℕ) → 8 ≤ length bytes → AreBytes bytes → to_be_bytes w64 (from_be_bytes w64 bytes) ≡ take 8 bytes
-word_back bytes enough small = be_bytes_8 (take 8 bytes) (from_be_bytes w64 bytes) (rw (length-take 8 bytes) (omega arith)) (bytes-take 8 bytes small) (front bytes)
+word_back bytes enough small = be_bytes_8 (take 8 bytes) (from_be_bytes w64 bytes) (rw (length-take 8 bytes) (omega arith)) (bytes-take 8 bytes small)
+    (front bytes)
 
 thirds : (bytes : List ℕ) → length bytes ≡ 24 → (take 8 bytes ++ take 8 (drop 8 bytes)) ++ take 8 (drop 16 bytes) ≡ bytes
 thirds bytes size =
-    let last : take 8 (drop 16 bytes) ≡ drop 8 (drop 8 bytes) = take_all 8 (drop 16 bytes) (rw (length-drop 16 bytes) (omega arith)) ∙ sym (drop-drop 8 8 bytes) in
+    let last : take 8 (drop 16 bytes) ≡ drop 8 (drop 8 bytes) = take_all 8 (drop 16 bytes) (rw (length-drop 16 bytes) (omega arith))
+    ∙ sym (drop-drop 8 8 bytes) in
     append_assoc (take 8 bytes) (take 8 (drop 8 bytes)) (take 8 (drop 16 bytes))
     ∙ ap (λ (rest : List ℕ). take 8 bytes ++ rest) (ap (λ (rest : List ℕ). take 8 (drop 8 bytes) ++ rest) last ∙ take-append-drop 8 (drop 8 bytes))
     ∙ take-append-drop 8 bytes
@@ -52,7 +54,9 @@ joined : (a a' b b' c c' : List ℕ) → a ≡ a' → b ≡ b' → c ≡ c' → 
 joined a a' b b' c c' p q r = cc
 
 -- 24 bytes as three words, and back
-pub three_words_back : (bytes : List ℕ) → length bytes ≡ 24 → AreBytes bytes → (to_be_bytes w64 (from_be_bytes w64 (drop 0 bytes)) ++ to_be_bytes w64 (from_be_bytes w64 (drop 8 bytes))) ++ to_be_bytes w64 (from_be_bytes w64 (drop 16 bytes)) ≡ bytes
+pub three_words_back : (bytes : List ℕ) → length bytes ≡ 24 → AreBytes bytes →
+    (to_be_bytes w64 (from_be_bytes w64 (drop 0 bytes)) ++ to_be_bytes w64 (from_be_bytes w64 (drop 8 bytes))) ++ to_be_bytes w64
+    (from_be_bytes w64 (drop 16 bytes)) ≡ bytes
 three_words_back bytes size small =
     joined _ _ _ _ _ _
     (word_back bytes (omega arith) small)

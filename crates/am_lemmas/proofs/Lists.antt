@@ -1,5 +1,6 @@
 -- Lists: their elements by place, what passes a test, and what follows of a list with no elements.
-use Rattle.std.proofs.Common.{◌≡◌, ℕ, zero, suc, ◌+◌, ◌-◌, ◌<◌, ◌≤◌, Bool, true, false, cond, ◌||◌, eqb, List, [], ◌∷◌, ◌++◌, length, take, drop, map, Some, None, refl, sym, ap, ◌∙◌, subst, arith, inl, inr, ⊎_elim, ◌⊎◌, length-drop, slice_get, slice_set, count_by, find, All, AllPairs}
+use Rattle.std.proofs.Common.{◌≡◌, ℕ, zero, suc, ◌+◌, ◌-◌, ◌<◌, ◌≤◌, Bool, true, false, cond, ◌||◌, eqb, List, [], ◌∷◌, ◌++◌, length, take, drop, map, Some}
+use Rattle.std.proofs.Common.{None, refl, sym, ap, ◌∙◌, subst, arith, inl, inr, ⊎_elim, ◌⊎◌, length-drop, slice_get, slice_set, count_by, find, All, AllPairs}
 use Rattle.std.specs.List.{AllByRecursion, list_any, range_with_len}
 use Rattle.std.proofs.lemmas.Bool.{or_parts, eqb-true}
 use Rattle.std.proofs.lemmas.List.{take_all}
@@ -27,13 +28,16 @@ slice_get-append_left [] ys k x h = absurd (cc)
 slice_get-append_left (z ∷ xs) ys zero x h = h
 slice_get-append_left (z ∷ xs) ys (suc k) x h = slice_get-append_left xs ys k x h
 
-pub slice_get-push_cases : {X : Type 0} (xs : List X) (y : X) (k : ℕ) (x : X) → slice_get (xs ++ y ∷ []) k ≡ Some x → (slice_get xs k ≡ Some x) ⊎ ((k ≡ length xs) × (x ≡ y))
+pub slice_get-push_cases : {X : Type 0} (xs : List X) (y : X) (k : ℕ) (x : X) → slice_get (xs ++ y ∷ []) k ≡ Some x →
+    (slice_get xs k ≡ Some x) ⊎ ((k ≡ length xs) × (x ≡ y))
 slice_get-push_cases [] y zero x h = inr (refl, cc)
 slice_get-push_cases [] y (suc k) x h = absurd (cc)
 slice_get-push_cases (z ∷ xs) y zero x h = inl h
-slice_get-push_cases (z ∷ xs) y (suc k) x h = ⊎_elim (λ here. inl here) (λ (last : (k ≡ length xs) × (x ≡ y)). inr (ap suc last.0, last.1)) (slice_get-push_cases xs y k x h)
+slice_get-push_cases (z ∷ xs) y (suc k) x h = ⊎_elim (λ here. inl here) (λ (last : (k ≡ length xs) × (x ≡ y)). inr (ap suc last.0, last.1))
+    (slice_get-push_cases xs y k x h)
 
-pub slice_get-set_cases : {X : Type 0} (xs : List X) (k j : ℕ) (v d : X) → slice_get (slice_set xs k v) j ≡ Some d → ((j ≡ k) × (d ≡ v)) ⊎ ((j ≡ k → ⊥) × (slice_get xs j ≡ Some d))
+pub slice_get-set_cases : {X : Type 0} (xs : List X) (k j : ℕ) (v d : X) → slice_get (slice_set xs k v) j ≡ Some d →
+    ((j ≡ k) × (d ≡ v)) ⊎ ((j ≡ k → ⊥) × (slice_get xs j ≡ Some d))
 slice_get-set_cases [] k j v d h = absurd (cc)
 slice_get-set_cases (c ∷ xs) zero zero v d h = inl (refl, cc)
 slice_get-set_cases (c ∷ xs) zero (suc j) v d h = inr ((λ q. omega (arith, q)), h)
@@ -70,7 +74,8 @@ slice_get-map_Some f [] k x h = absurd (cc)
 slice_get-map_Some f (y ∷ xs) zero x h = let same : y ≡ x = cc in ap (λ z. Some (f z)) same
 slice_get-map_Some f (y ∷ xs) (suc k) x h = slice_get-map_Some f xs k x h
 
-pub Some-slice_get_map : {X Y : Type 0} (f : X → Y) (xs : List X) (k : ℕ) (y : Y) → slice_get (map f xs) k ≡ Some y → (x : X) × (slice_get xs k ≡ Some x) × (f x ≡ y)
+pub Some-slice_get_map : {X Y : Type 0} (f : X → Y) (xs : List X) (k : ℕ) (y : Y) → slice_get (map f xs) k ≡ Some y →
+    (x : X) × (slice_get xs k ≡ Some x) × (f x ≡ y)
 Some-slice_get_map f [] k y h = absurd (cc)
 Some-slice_get_map f (x ∷ xs) zero y h = (x, refl, cc)
 Some-slice_get_map f (x ∷ xs) (suc k) y h = Some-slice_get_map f xs k y h
@@ -101,7 +106,8 @@ pub find_passes : {X : Type 0} (p : X → Bool) (xs : List X) (x : X) → find p
 find_passes p [] x e = absurd (cc)
 find_passes p (y ∷ xs) x e = by_test p x y xs (p y) refl e (find_passes p xs x)
   where
-    by_test : {X : Type 0} (p : X → Bool) (x y : X) (xs : List X) (b : Bool) → p y ≡ b → cond b (Some y) (find p xs) ≡ Some x → (find p xs ≡ Some x → p x ≡ true) → p x ≡ true
+    by_test : {X : Type 0} (p : X → Bool) (x y : X) (xs : List X) (b : Bool) → p y ≡ b → cond b (Some y) (find p xs) ≡ Some x →
+        (find p xs ≡ Some x → p x ≡ true) → p x ≡ true
     by_test p x y xs true is h more = let same : y ≡ x = cc in subst (λ w. p w ≡ true) same is
     by_test p x y xs false is h more = more h
 
@@ -109,7 +115,8 @@ pub list_any-counts : {X : Type 0} (p : X → Bool) (xs : List X) → list_any p
 list_any-counts p [] e = absurd (cc)
 list_any-counts p (y ∷ xs) e = by_test p y xs (p y) refl e (list_any-counts p xs)
   where
-    by_test : {X : Type 0} (p : X → Bool) (y : X) (xs : List X) (b : Bool) → p y ≡ b → (b || list_any p xs) ≡ true → (list_any p xs ≡ true → 1 ≤ count_by p xs) → 1 ≤ count_by p (y ∷ xs)
+    by_test : {X : Type 0} (p : X → Bool) (y : X) (xs : List X) (b : Bool) → p y ≡ b → (b || list_any p xs) ≡ true →
+        (list_any p xs ≡ true → 1 ≤ count_by p xs) → 1 ≤ count_by p (y ∷ xs)
     by_test p y xs true is h more = omega (arith, sum_by-cons (λ z. cond (p z) 1 0) y xs, ap {B = ℕ} (λ b. cond b 1 0) is)
     by_test p y xs false is h more = omega (arith, more h, sum_by-cons (λ z. cond (p z) 1 0) y xs)
 

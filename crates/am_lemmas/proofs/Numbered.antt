@@ -1,5 +1,6 @@
 -- Lines that numbers make, for the numbers below another: each line's key is its number, so the keys rise, and a key finds its line.
-use Rattle.std.proofs.Common.{◌≡◌, ℕ, zero, suc, ◌+◌, ◌<◌, ◌≤◌, ◌==◌, Bool, cond, List, [], ◌∷◌, ◌++◌, map, Option, Some, None, refl, sym, ap, ◌∙◌, subst, arith, ⊎_elim, find, All, AllPairs}
+use Rattle.std.proofs.Common.{◌≡◌, ℕ, zero, suc, ◌+◌, ◌<◌, ◌≤◌, ◌==◌, Bool, cond, List, [], ◌∷◌, ◌++◌, map, Option, Some, None, refl, sym, ap, ◌∙◌, subst}
+use Rattle.std.proofs.Common.{arith, ⊎_elim, find, All, AllPairs}
 use Rattle.std.specs.List.{range_with_len}
 use Rattle.std.specs.Option.{option_or}
 use Rattle.std.proofs.lemmas.Bool.{cases_lt, eq-eqb}
@@ -33,7 +34,8 @@ module _ {X : Type 0} (line : ℕ → X) where
         (all_pairs_grow (λ a b. key a < key b) (map line (range_with_len 0 n)) (line n) (keys_rise n)
         (All-weaker (λ x. key x < n) (λ x. key x < key (line n)) (λ x less. omega (arith, less, numbered n)) (map line (range_with_len 0 n)) (keys_below n)))
 
-    found_more : (n k : ℕ) → find (λ x. key x == k) (map line (range_with_len 0 (suc n))) ≡ option_or (find (λ x. key x == k) (map line (range_with_len 0 n))) (cond (n == k) (Some (line n)) None)
+    found_more : (n k : ℕ) → find (λ x. key x == k) (map line (range_with_len 0 (suc n))) ≡ option_or (find (λ x. key x == k) (map line (range_with_len 0 n)))
+        (cond (n == k) (Some (line n)) None)
     found_more n k =
         ap (λ (xs : List X). find (λ x. key x == k) xs) (lines_suc n)
         ∙ find-append (λ x. key x == k) (map line (range_with_len 0 n)) (line n ∷ [])

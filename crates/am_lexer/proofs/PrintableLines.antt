@@ -14,13 +14,15 @@ are_printable text = list_all (λ byte. (nat_le 0x20 byte && nat_le byte 0x7e) |
 pub all_taken : (text : List ℕ) (i : ℕ) → length text ≤ i → are_printable (take i text) ≡ are_printable text
 all_taken text i le = ap are_printable (take_all i text le)
 
-first_line : (printable : Bool) (byte : ℕ) (lines : List (List ℕ)) → is_printable byte ≡ printable → list_all is_text_line (onto_first byte lines) ≡ (printable && list_all is_text_line lines)
+first_line : (printable : Bool) (byte : ℕ) (lines : List (List ℕ)) → is_printable byte ≡ printable →
+    list_all is_text_line (onto_first byte lines) ≡ (printable && list_all is_text_line lines)
 first_line true byte [] e = rw e refl
 first_line false byte [] e = rw e refl
 first_line true byte (line ∷ lines) e = rw e refl
 first_line false byte (line ∷ lines) e = rw e refl
 
-one_byte : (byte : ℕ) (text : List ℕ) (printable newline : Bool) → is_printable byte ≡ printable → eqb byte 10 ≡ newline → are_printable text ≡ list_all is_text_line (lines_of text) → are_printable (byte ∷ text) ≡ list_all is_text_line (lines_of (byte ∷ text))
+one_byte : (byte : ℕ) (text : List ℕ) (printable newline : Bool) → is_printable byte ≡ printable → eqb byte 10 ≡ newline →
+    are_printable text ≡ list_all is_text_line (lines_of text) → are_printable (byte ∷ text) ≡ list_all is_text_line (lines_of (byte ∷ text))
 unfolding lines_of
 one_byte byte text true true p n others = absurd (grind (arith, p, n))
 one_byte byte text false true p n others = rw (p, n) others

@@ -1,5 +1,6 @@
 -- A short number at the head of a text, read digit by digit.
-use Rattle.std.proofs.Common.{◌≡◌, ℕ, zero, suc, ◌≤◌, ◌<◌, ◌+◌, ◌-◌, ◌*◌, ◌^◌, true, false, eqb, ltb, List, [], ◌∷◌, ◌++◌, length, get_or, take, drop, Some, Ok, refl, ◌∙◌, not, inl, inr, add-one, arith}
+use Rattle.std.proofs.Common.{◌≡◌, ℕ, zero, suc, ◌≤◌, ◌<◌, ◌+◌, ◌-◌, ◌*◌, ◌^◌, true, false, eqb, ltb, List, [], ◌∷◌, ◌++◌, length, get_or, take, drop, Some, Ok}
+use Rattle.std.proofs.Common.{refl, ◌∙◌, not, inl, inr, add-one, arith}
 use Rattle.std.specs.List.{list_all}
 use Rattle.std.proofs.Math.Seq.{take-suc}
 use Rattle.std.proofs.lemmas.Bool.{cases_eq, eq-eqb, lt-ltb}
@@ -26,10 +27,8 @@ only_space : (rest : List ℕ) (k : ℕ) → k < 1 → get_or rest 0 0 ≡ 32 �
 only_space rest zero lt space = rw space refl
 only_space rest (suc k) lt space = absurd (omega (arith, lt))
 
-pub none_spelled : (text : List ℕ) → Spells text 0 0
-none_spelled text = record { digits = refl; value = refl; apart = λ k lt. absurd (omega (arith, lt)) }
-
-pub one_digit_more : (text : List ℕ) (i number : ℕ) → i < length text → is_digit (get_or text i 0) ≡ true → Spells text i number → Spells text (i + 1) (number * 10 + (get_or text i 0 - 48))
+pub one_digit_more : (text : List ℕ) (i number : ℕ) → i < length text → is_digit (get_or text i 0) ≡ true → Spells text i number →
+    Spells text (i + 1) (number * 10 + (get_or text i 0 - 48))
 one_digit_more text i number lt digit so_far = record {
   digits = list_all_more is_digit text i 0 lt ∙ rw (so_far.digits, digit) refl;
   value = rw (add-one, take-suc text i 0 lt, value_after-push, so_far.value) refl;
@@ -39,7 +38,8 @@ one_digit_more text i number lt digit so_far = record {
   ];
 }
 
-spells_some : (word : List ℕ) (number : ℕ) → 0 < length word → list_all is_digit word ≡ true → value_after 0 word ≡ number → number < 2 ^ 64 → number_of word ≡ Some number
+spells_some : (word : List ℕ) (number : ℕ) → 0 < length word → list_all is_digit word ≡ true → value_after 0 word ≡ number → number < 2 ^ 64 →
+    number_of word ≡ Some number
 unfolding number_of
 spells_some [] number some digits value small = absurd (omega (arith, some))
 spells_some (b ∷ word) number some digits value small =
@@ -51,13 +51,16 @@ unfolding number_at word_at
 first_number word words number e = rw e refl
 
 -- at a space behind digits
-pub at_space : (text : List ℕ) (i number : ℕ) → 0 < i → i < length text → get_or text i 0 ≡ 32 → number < 2 ^ 64 → Spells text i number → number_at (words_of text) ≡ Ok (number, words_of (drop i text))
+pub at_space : (text : List ℕ) (i number : ℕ) → 0 < i → i < length text → get_or text i 0 ≡ 32 → number < 2 ^ 64 → Spells text i number →
+    number_at (words_of text) ≡ Ok (number, words_of (drop i text))
 at_space text i number some lt space small spelled =
     let long : 0 < length (take i text) = omega (arith, length-take-le i text (omega (arith, lt))) in
-    rw (word_found i text some lt (eq-eqb _ _ space) spelled.apart) (first_number _ _ _ (spells_some (take i text) number long spelled.digits spelled.value small))
+    rw (word_found i text some lt (eq-eqb _ _ space) spelled.apart)
+    (first_number _ _ _ (spells_some (take i text) number long spelled.digits spelled.value small))
 
 -- at the end of the text
-pub at_text_end : (text : List ℕ) (i number : ℕ) → 0 < length text → length text ≤ i → number < 2 ^ 64 → Spells text i number → number_at (words_of text) ≡ Ok (number, words_of [])
+pub at_text_end : (text : List ℕ) (i number : ℕ) → 0 < length text → length text ≤ i → number < 2 ^ 64 → Spells text i number →
+    number_at (words_of text) ≡ Ok (number, words_of [])
 unfolding words_of
 at_text_end text i number some le small spelled =
     let whole : take i text ≡ text = take_all i text le in

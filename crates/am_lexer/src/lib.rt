@@ -12,4 +12,4 @@ pub use fields::{take_byte, take_end, take_number, take_u32, take_word};
 pub use lines::{is_text, lines_are_text, next_line};
 pub use number::parse_number;
 pub use what::What;
-pub use words::next_word;
+pub use words::{first_dot, first_space, next_word};

@@ -1,7 +1,8 @@
 -- A cluster as it begins.
 use Rattle.std.specs.Prelude.{slice_get, IfSome, IsTrue}
 use Rattle.std.specs.List.{AllPairs, All, find}
-use Rattle.std.proofs.Common.{Option, None, ◌≤◌, ◌≡◌, ℕ, zero, suc, ◌<◌, Bool, true, false, cond, List, [], ◌∷◌, map, length, Some, refl, sym, ap, ◌∙◌, subst, arith, eqb-true}
+use Rattle.std.proofs.Common.{Option, None, ◌≤◌, ◌≡◌, ℕ, zero, suc, ◌<◌, Bool, true, false, cond, List, [], ◌∷◌, map, length, Some, refl, sym, ap, ◌∙◌, subst}
+use Rattle.std.proofs.Common.{arith, eqb-true}
 use Rattle.std.proofs.lemmas.Option.{slice_get_within, get_or_from_slice_get}
 use Rattle.am_names.specs.declared.EndpointId.{EndpointId}
 use Rattle.am_names.specs.Names.{same_end}
@@ -14,9 +15,9 @@ use Rattle.am_scenario_types.specs.declared.parts.FaultLine.{FaultLine}
 use Rattle.am_scenario_types.specs.declared.parts.Network.{Network}
 use Rattle.am_scenario_types.specs.declared.parts.Network.TheVariants as Networks
 use Rattle.am_scenario_types.specs.Lawful.{IsLawfulEnd}
-use Rattle.am_scripts.specs.Layout.{is_direct, setting_of}
+use Rattle.am_model_scripts.specs.Layout.{is_direct, setting_of}
 use Rattle.am_machine.specs.declared.settings.Settings.{Settings}
-use Rattle.am_moves.specs.Logs.{EndLog}
+use Rattle.am_driver_moves.specs.Logs.{EndLog}
 use Rattle.am_machine.specs.Ends.{setting_in}
 use Rattle.am_machine.specs.Kept.{IsOwn, IsShort, IsTied, layout_in}
 use Rattle.am_iface.specs.View.{InterfaceView}
@@ -46,11 +47,13 @@ apart_test a b lt = by_test (same_end a b) refl
     by_test false is = refl
 
 -- a line is found by its number
-pub found_line : (lines : List EndLine) (k : ℕ) (line : EndLine) → Rise lines → slice_get lines k ≡ Some line → find (has_id line.id) (map setting_of lines) ≡ Some (setting_of line)
+pub found_line : (lines : List EndLine) (k : ℕ) (line : EndLine) → Rise lines → slice_get lines k ≡ Some line →
+    find (has_id line.id) (map setting_of lines) ≡ Some (setting_of line)
 found_line [] k line h at = absurd (cc)
 found_line (x ∷ xs) zero line h at =
     let same : x ≡ line = cc in
-    ap (λ (b : Bool). cond b (Some (setting_of x)) (find (has_id line.id) (map setting_of xs))) (ap (λ (z : EndLine). same_end line.id z.id) same ∙ same_end-refl line.id)
+    ap (λ (b : Bool). cond b (Some (setting_of x)) (find (has_id line.id) (map setting_of xs))) (ap (λ (z : EndLine). same_end line.id z.id) same
+    ∙ same_end-refl line.id)
     ∙ ap (λ (z : EndLine). Some (setting_of z)) same
 found_line (x ∷ xs) (suc k) line h at =
     ap (λ (b : Bool). cond b (Some (setting_of x)) (find (has_id line.id) (map setting_of xs))) (apart_test line.id x.id (first_below x xs k line h at))
@@ -71,13 +74,15 @@ same_setting s line h = λ i. record { id = line.id; node = line.node; tag = lin
     by_network Networks.Direct false k = refl
     by_network Networks.Direct true k = let no' = k refl in absurd (cc)
 
-pub same_settings : (s : Settings) (nodes : ℕ) (lines : List EndLine) → All (IsLawfulEnd s.network nodes) lines → map setting_in (map (opened s) lines) ≡ map setting_of lines
+pub same_settings : (s : Settings) (nodes : ℕ) (lines : List EndLine) → All (IsLawfulEnd s.network nodes) lines →
+    map setting_in (map (opened s) lines) ≡ map setting_of lines
 same_settings s nodes [] h = refl
 same_settings s nodes (x ∷ xs) h =
     let first = h zero x (omega arith) in
     λ i. same_setting s x first.disk i ∷ same_settings s nodes xs (λ k d lt. h (suc k) d (omega (arith, lt))) i
 
-got_opened : (s : Settings) (lines : List EndLine) (j : ℕ) (d : EndLog) → slice_get (map (opened s) lines) j ≡ Some d → (line : EndLine) × ((slice_get lines j ≡ Some line) × (d ≡ opened s line))
+got_opened : (s : Settings) (lines : List EndLine) (j : ℕ) (d : EndLog) → slice_get (map (opened s) lines) j ≡ Some d →
+    (line : EndLine) × ((slice_get lines j ≡ Some line) × (d ≡ opened s line))
 got_opened s [] j d h = absurd (cc)
 got_opened s (x ∷ xs) zero d h = let same : opened s x ≡ d = cc in (x, (refl, sym same))
 got_opened s (x ∷ xs) (suc j) d h = got_opened s xs j d h
@@ -98,7 +103,8 @@ rise_apart (x ∷ xs) (suc j) zero a b h p q same =
 rise_apart (x ∷ xs) (suc j) (suc k) a b h p q same = ap suc (rise_apart xs j k a b (rise_rest x xs h) p q same)
 
 -- a cluster that begins so keeps what it is to keep
-pub begins : (s : Settings) (faults : List FaultLine) (nodes : ℕ) (lines : List EndLine) (es : List EndLog) → es ≡ map (opened s) lines → All (IsLawfulEnd s.network nodes) lines → Rise lines → IsLawful (layout_in s faults es) → IsTied (layout_in s faults es) es []
+pub begins : (s : Settings) (faults : List FaultLine) (nodes : ℕ) (lines : List EndLine) (es : List EndLog) → es ≡ map (opened s) lines →
+    All (IsLawfulEnd s.network nodes) lines → Rise lines → IsLawful (layout_in s faults es) → IsTied (layout_in s faults es) es []
 begins s faults nodes lines es is lawful rise whole =
     subst (λ (ns : List EndLog). IsTied (layout_in s faults ns) ns []) (sym is)
     (record {
@@ -124,7 +130,8 @@ begins s faults nodes lines es is lawful rise whole =
     own_at : (k : ℕ) (e : EndLog) → slice_get (map (opened s) lines) k ≡ Some e → IsOwn layout [] e
     own_at k e at =
         let r = got_opened s lines k e at in
-        let found : find (has_id r.0.id) (map setting_in (map (opened s) lines)) ≡ Some (setting_of r.0) = ap (find (has_id r.0.id)) (same_settings s nodes lines lawful) ∙ found_line lines k r.0 rise r.1.0 in
+        let found : find (has_id r.0.id) (map setting_in (map (opened s) lines)) ≡ Some (setting_of r.0) =
+        ap (find (has_id r.0.id)) (same_settings s nodes lines lawful) ∙ found_line lines k r.0 rise r.1.0 in
         let place : opening_place (is_direct s.network) r.0.disk ≡ (opened s r.0).settings.place = refl in
         subst (IsOwn layout []) (sym r.1.1)
         (record {
@@ -136,7 +143,8 @@ begins s faults nodes lines es is lawful rise whole =
         })
 
 -- and so do its interfaces
-pub fresh_interfaces : (s : Settings) (faults : List FaultLine) (lines : List EndLine) (es : List EndLog) (is : List InterfaceView) → All (IsLawfulEnd s.network s.nodes) lines → map setting_in es ≡ map setting_of lines → AreFresh s lines is → AreInterfaces (layout_in s faults es) [] is
+pub fresh_interfaces : (s : Settings) (faults : List FaultLine) (lines : List EndLine) (es : List EndLog) (is : List InterfaceView) →
+    All (IsLawfulEnd s.network s.nodes) lines → map setting_in es ≡ map setting_of lines → AreFresh s lines is → AreInterfaces (layout_in s faults es) [] is
 fresh_interfaces s faults lines es is lawful ends fresh' =
     record {
       each = λ k i at.
@@ -149,7 +157,8 @@ fresh_interfaces s faults lines es is lawful ends fresh' =
             tries = f.tries;
             bounces = f.bounces;
             limit = f.limit;
-            homes = λ e. home_told s.network s.nodes lines i.settings.homes e lawful f.homes ∙ ap (λ (ss : List EndSetting). home_by (find (has_id e) ss)) (sym ends);
+            homes = λ e. home_told s.network s.nodes lines i.settings.homes e lawful f.homes
+                ∙ ap (λ (ss : List EndSetting). home_by (find (has_id e) ss)) (sym ends);
             part = f.log;
             bounded = omega (arith, none);
           });

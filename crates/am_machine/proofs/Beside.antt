@@ -2,7 +2,9 @@
 use Rattle.std.specs.Prelude.{Result, Ok, Err, IfSome, IsSome, option_to_list, is_none, is_some, not, nat_le, slice_get, slice_index_or, slice_set}
 use Rattle.std.specs.List.{find, list_any, position}
 use Rattle.std.specs.Option.{option_map}
-use Rattle.std.proofs.Common.{◌≡◌, inl, inr, ℕ, ◌<◌, ◌≤◌, Bool, true, false, cond, ◌&&◌, ◌||◌, List, [], ◌∷◌, ◌++◌, map, length, Option, Some, None, refl, sym, ap, ◌∙◌, subst, arith, if◌then◌else◌}
+use Rattle.std.specs.Prelude.{◌≢◌}
+use Rattle.std.proofs.Common.{◌≡◌, inl, inr, ℕ, ◌<◌, ◌≤◌, Bool, true, false, cond, ◌&&◌, ◌||◌, List, [], ◌∷◌, ◌++◌, map, length, Option, Some, None, refl, sym}
+use Rattle.std.proofs.Common.{ap, ◌∙◌, subst, arith, if◌then◌else◌}
 use Rattle.std.proofs.lemmas.Bool.{le-leb, leb-true}
 use Rattle.am_names.specs.declared.EndpointId.{EndpointId}
 use Rattle.am_names.specs.declared.NodeId.{NodeId}
@@ -22,35 +24,38 @@ use Rattle.am_model.specs.Endpoint.{State, front, is_direct, is_on_disk, is_resi
 use Rattle.am_model.specs.Layout.{AllAre, EndSetting, IsSettingLawful, Layout, declared, has_id, home, home_by}
 use Rattle.am_model.specs.History.{outcome_of, state_of}
 use Rattle.am_model.specs.Steps.{LogFull, full_by, full_log, is_end_full, least_such, lesser, stop, stop_by}
+use Rattle.am_model.proofs.Alls.{all_at}
 use Rattle.am_model.proofs.PlaceKinds.{resident_not_on_disk}
-use Rattle.am_local.specs.declared.work.Work.{Work}
-use Rattle.am_local.specs.declared.work.Work.TheVariants as Works
-use Rattle.am_local.specs.Granted.{FitsEndpoint, IsInFlight}
-use Rattle.am_local.specs.Interface.{channel_in, channel_of_front, is_home_in, failing_at, has_try_left, home_in, home_of_front, needs, needs_bound, settles}
-use Rattle.am_local.proofs.Outcomes.{same_ends}
-use Rattle.am_local.proofs.Touched.{needs_touched}
+use Rattle.am_model_parts.specs.declared.work.Work.{Work}
+use Rattle.am_model_parts.specs.declared.work.Work.TheVariants as Works
+use Rattle.am_model_parts.specs.Granted.{FitsEndpoint, IsInFlight}
+use Rattle.am_model_parts.specs.Interface.{channel_in, channel_of_front, is_home_in, failing_at, has_try_left, home_in, home_of_front, needs, needs_bound}
+use Rattle.am_model_parts.specs.Interface.{settles}
+use Rattle.am_model_parts.proofs.Outcomes.{same_ends}
+use Rattle.am_model_parts.proofs.Touched.{needs_touched}
 use Rattle.am_laws_homes.proofs.Homes.{front_addressed}
 use Rattle.am_laws_homes.proofs.Places.{fits_network}
 use Rattle.am_laws_packets.proofs.Packets.{bound_aloft}
 use Rattle.am_endpoint.specs.View.{EndpointView, state_after}
-use Rattle.am_journal.specs.View.{IsIndexOf, Readings}
+use Rattle.am_machine_index.specs.View.{IsIndexOf, Readings}
 use Rattle.am_iface.specs.View.{FitsInterface, InterfaceView, own}
-use Rattle.am_iface.specs.With.{IsFullOf, IsHomeKnown, KnowsHome}
+use Rattle.am_iface.specs.With.{HasRoomWith, IsFullOf, IsHomeKnown, KnowsHome}
 use Rattle.am_model.specs.declared.EntryFault.{EntryFault}
 use Rattle.am_model.specs.declared.EntryFault.TheVariants as Faults
-use Rattle.am_moves.specs.Logs.{kept}
+use Rattle.am_driver_moves.specs.Logs.{kept}
 use Rattle.am_machine.specs.Ends.{is_of, setting_in}
-use Rattle.am_machine.specs.Kept.{IsKept, IsOwn, layout_in}
+use Rattle.am_machine.specs.Kept.{IsKept, IsOwn, IsShort, layout_in}
 use Rattle.am_machine.specs.Turned.{CanTurnWith, IsGrown, IsTurned, TurnsWith, entries_after}
 use Rattle.am_machine.specs.View.{Applies, ClusterView}
 use Rattle.am_machine.specs.Ways.{GoesTo, dest_node, node_of, way}
 use Rattle.am_machine.proofs.Applied.{IsHere, IsNext, found_here, full_here, last_here, own_here, seen, seen_next, seen_same, single_grows, state_here}
 use Rattle.am_machine.proofs.Fitting.{joint_can, joint_fits, joint_nodes, state_for}
 use Rattle.am_machine.proofs.Joint as joint
-use Rattle.am_machine.proofs.Joint.{Joint, alone_disabled, event_in, interface_in, joint_entry, joint_event, joint_failing, joint_kept, joint_outcome, joint_part, joint_still, node_full, not_full, work_touches}
+use Rattle.am_machine.proofs.Joint.{Joint, alone_disabled, event_in, interface_in, joint_entry, joint_event, joint_failing, joint_kept, joint_outcome}
+use Rattle.am_machine.proofs.Joint.{joint_part, joint_still, node_full, not_full, work_touches}
 use Rattle.am_machine.proofs.Moving.{setting_found}
 use Rattle.am_machine.proofs.Places.{position_at}
-use Rattle.am_machine.proofs.Tied.{kept_same, kept_set}
+use Rattle.am_machine.proofs.Tied.{kept_at, kept_same, kept_set}
 use Rattle.am_machine.proofs.Turning.{emits_within, less_than}
 
 -- the endpoint that a work touches, where it stands, and its state is what the interface reads
@@ -72,7 +77,13 @@ own_of j b = own_here (joint.layout_of j) j.ends j.journal b.end b.place b.endpo
 state_at : (j : Joint) (b : Beside j) → state_after b.endpoint ≡ state_of (joint.layout_of j) j.journal b.end
 state_at j b = state_here (joint.layout_of j) j.ends j.journal b.end b.place b.endpoint j.kept'.tied (here_of j b)
 
-abbrev pub beside_of : (j : Joint) (end : EndpointId) (place : ℕ) (endpoint : EndpointView) → j.state ≡ state_for (joint.layout_of j) j.journal (needs (own j.one) j.work) → needs (own j.one) j.work ≡ Some end → position (is_of end) j.ends ≡ Some place → endpoint ≡ slice_index_or j.ends place endpoint → Beside j
+-- its log has no more entries than it may
+short_there : (j : Joint) (b : Beside j) → length b.endpoint.log ≤ b.endpoint.settings.log
+short_there j b = all_at IsShort (map kept j.ends) b.place (kept b.endpoint) j.kept'.tied.short (kept_at j.ends b.place b.endpoint (here_of j b).at)
+
+abbrev pub beside_of : (j : Joint) (end : EndpointId) (place : ℕ) (endpoint : EndpointView) →
+    j.state ≡ state_for (joint.layout_of j) j.journal (needs (own j.one) j.work) → needs (own j.one) j.work ≡ Some end →
+    position (is_of end) j.ends ≡ Some place → endpoint ≡ slice_index_or j.ends place endpoint → Beside j
 beside_of j end place endpoint state needed found value =
     record {
       end = end;
@@ -94,7 +105,8 @@ declared_home : (ss : List EndSetting) (e : EndpointId) → list_any (has_id e) 
 declared_home [] e h = absurd (cc)
 declared_home (s ∷ ss) e h = by_test (has_id e s) h (declared_home ss e)
   where
-    by_test : (t : Bool) → (t || list_any (has_id e) ss) ≡ true → (list_any (has_id e) ss ≡ true → IsSome (home_by (find (has_id e) ss))) → IsSome (home_by (cond t (Some s) (find (has_id e) ss)))
+    by_test : (t : Bool) → (t || list_any (has_id e) ss) ≡ true → (list_any (has_id e) ss ≡ true → IsSome (home_by (find (has_id e) ss))) →
+        IsSome (home_by (cond t (Some s) (find (has_id e) ss)))
     by_test true k more = refl
     by_test false k more = more k
 
@@ -103,16 +115,20 @@ pub node_told : (vs : List EndpointView) (e : EndpointId) → home_by (find (has
 node_told [] e = refl
 node_told (v ∷ vs) e = by_test (is_of e v) (node_told vs e)
   where
-    by_test : (t : Bool) → home_by (find (has_id e) (map setting_in (map kept vs))) ≡ node_of e vs → home_by (cond t (Some (setting_in (kept v))) (find (has_id e) (map setting_in (map kept vs)))) ≡ option_map (λ (w : EndpointView). w.settings.node) (cond t (Some v) (find (is_of e) vs))
+    by_test : (t : Bool) → home_by (find (has_id e) (map setting_in (map kept vs))) ≡ node_of e vs →
+        home_by (cond t (Some (setting_in (kept v))) (find (has_id e) (map setting_in (map kept vs)))) ≡ option_map (λ (w : EndpointView). w.settings.node)
+        (cond t (Some v) (find (is_of e) vs))
     by_test true more = refl
     by_test false more = more
 
 -- and it is one of the nodes
-node_within : (layout : Layout) (vs : List EndpointView) (e : EndpointId) → AllAre (IsSettingLawful layout) (map setting_in (map kept vs)) → IfSome (node_of e vs) (λ (n : NodeId). n.0 < layout.nodes)
+node_within : (layout : Layout) (vs : List EndpointView) (e : EndpointId) → AllAre (IsSettingLawful layout) (map setting_in (map kept vs)) →
+    IfSome (node_of e vs) (λ (n : NodeId). n.0 < layout.nodes)
 node_within layout [] e all = tt
 node_within layout (v ∷ vs) e all = by_test (is_of e v) (node_within layout vs e all.1)
   where
-    by_test : (t : Bool) → IfSome (node_of e vs) (λ (n : NodeId). n.0 < layout.nodes) → IfSome (option_map (λ (w : EndpointView). w.settings.node) (cond t (Some v) (find (is_of e) vs))) (λ (n : NodeId). n.0 < layout.nodes)
+    by_test : (t : Bool) → IfSome (node_of e vs) (λ (n : NodeId). n.0 < layout.nodes) →
+        IfSome (option_map (λ (w : EndpointView). w.settings.node) (cond t (Some v) (find (is_of e) vs))) (λ (n : NodeId). n.0 < layout.nodes)
     by_test true more = all.0.node
     by_test false more = more
 
@@ -136,7 +152,8 @@ known_by j b (Works.Bind end) = by_front (front (state_after b.endpoint)) refl
         let goes = front_addressed (joint.layout_of j) j.journal j.kept'.tied.history b.end q (ap front (sym (state_at j b)) ∙ is) in
         subst (λ (o : Option NodeId). IsSome o) (sym ((interface_in j).homes q.message.dest)) (declared_home (joint.layout_of j).ends q.message.dest goes.dest)
 
-in_flight : (j : Joint) (b : Beside j) (peer : NodeId) (channel : ℕ) (m : Option Message) (ends : Bool) → bound_message (channel_in (own j.one) peer channel) j.one.log ≡ m → needs_bound m ends ≡ Some b.end → IsInFlight (state_after b.endpoint) m
+in_flight : (j : Joint) (b : Beside j) (peer : NodeId) (channel : ℕ) (m : Option Message) (ends : Bool) →
+    bound_message (channel_in (own j.one) peer channel) j.one.log ≡ m → needs_bound m ends ≡ Some b.end → IsInFlight (state_after b.endpoint) m
 in_flight j b peer channel None ends is needed = tt
 in_flight j b peer channel (Some m) false is needed = absurd (cc)
 in_flight j b peer channel (Some m) true is needed =
@@ -145,13 +162,16 @@ in_flight j b peer channel (Some m) true is needed =
     let aloft = bound_aloft (joint.layout_of j) j.journal j.packet j.kept'.tied.history (channel_in (own j.one) peer channel) m bound in
     ap (λ (s : State). is_some (flying_of m.serial s.body.in_flight)) (state_at j b ∙ ap (state_of (joint.layout_of j) j.journal) (sym source)) ∙ aloft.flight
 
-flies_by : (j : Joint) (b : Beside j) (w : Work) → FitsInterface j.one w → needs (own j.one) w ≡ Some b.end → FitsEndpoint (own j.one) (state_after b.endpoint) w
+flies_by : (j : Joint) (b : Beside j) (w : Work) → FitsInterface j.one w → needs (own j.one) w ≡ Some b.end →
+    FitsEndpoint (own j.one) (state_after b.endpoint) w
 flies_by j b (Works.Receive (Packets.Parcel p)) fits needed = fits.formed
 flies_by j b (Works.Receive (Packets.Answer p)) fits needed =
-    in_flight j b p.from p.channel (bound_message (channel_in (own j.one) p.from p.channel) j.one.log) (settles (own j.one) (channel_in (own j.one) p.from p.channel) p) refl needed
+    in_flight j b p.from p.channel (bound_message (channel_in (own j.one) p.from p.channel) j.one.log)
+    (settles (own j.one) (channel_in (own j.one) p.from p.channel) p) refl needed
 flies_by j b (Works.Bind end) fits needed = tt
 flies_by j b (Works.Expire peer channel) fits needed =
-    in_flight j b peer channel (bound_message (channel_in (own j.one) peer channel) j.one.log) (not (has_try_left (own j.one) (channel_in (own j.one) peer channel))) refl needed
+    in_flight j b peer channel (bound_message (channel_in (own j.one) peer channel) j.one.log)
+    (not (has_try_left (own j.one) (channel_in (own j.one) peer channel))) refl needed
 
 pub beside_can : (j : Joint) (b : Beside j) (r : Readings) → IsIndexOf j.journal r → CanTurnWith j.one (kept b.endpoint) r j.work
 beside_can j b r index =
@@ -169,11 +189,13 @@ beside_can j b r index =
       known = known_by j b j.work;
       flies = flies_by j b j.work can.fits b.needed;
       last = (let late = last_here layout j.ends j.journal b.end b.place b.endpoint j.kept'.tied (here_of j b) in omega (arith, late, index.greatest));
+      short = short_there j b;
     }
 
 -- ---- where its packet goes
 
-resident_by : (home' resident : Bool) (rest : List (Bool × Condition)) → first_holding ((not home', Needs.OtherNode) ∷ (not resident, Needs.NotResident) ∷ rest) ≡ None → resident ≡ true
+resident_by : (home' resident : Bool) (rest : List (Bool × Condition)) →
+    first_holding ((not home', Needs.OtherNode) ∷ (not resident, Needs.NotResident) ∷ rest) ≡ None → resident ≡ true
 resident_by false resident rest h = absurd (cc)
 resident_by true false rest h = absurd (cc)
 resident_by true true rest h = refl
@@ -225,16 +247,23 @@ way_within j b = by_work j.work (joint_fits j)
 
 -- ---- what stops it
 
+pub enabled_at : (j : Joint) (b : Beside j) (o : Option Condition) → failing_at (own j.one) (state_after b.endpoint) j.work ≡ o →
+    failing_at (own j.one) j.state j.work ≡ o
+enabled_at j b o is = ap (λ (s : State). failing_at (own j.one) s j.work) b.reads ∙ is
+
 touches_end : (j : Joint) (b : Beside j) → ends_touched (event_in j) (outcome_of (joint.layout_of j) j.journal (event_in j)) ≡ b.end ∷ []
 touches_end j b =
     (λ i. ends_touched (sym (joint_event j) i) (joint_outcome j i))
     ∙ needs_touched (own j.one) j.state j.work
     ∙ ap option_to_list b.needed
 
-beside_stop : (j : Joint) (b : Beside j) (t u : Bool) → failing_at (own j.one) j.state j.work ≡ None → nat_le j.settings.log (length b.endpoint.log) ≡ t → nat_le j.settings.log (length j.one.log) ≡ u → stop (joint.layout_of j) j.journal (event_in j) ≡ cond t (Some (LogFull (Parts.Endpoint b.end))) (cond u (Some (LogFull (Parts.Interface j.node))) None)
+beside_stop : (j : Joint) (b : Beside j) (t u : Bool) → failing_at (own j.one) j.state j.work ≡ None → nat_le j.settings.log (length b.endpoint.log) ≡ t →
+    nat_le j.settings.log (length j.one.log) ≡ u → stop (joint.layout_of j) j.journal (event_in j) ≡ cond t (Some (LogFull (Parts.Endpoint b.end)))
+    (cond u (Some (LogFull (Parts.Interface j.node))) None)
 beside_stop j b t u enabled there here =
     ap (λ (f : Option Condition). stop_by f (full_log (joint.layout_of j) j.journal (event_in j))) (joint_failing j ∙ enabled)
-    ∙ (λ i. stop_by None (full_by (joint.layout_of j) j.journal (least_such (is_end_full (joint.layout_of j) j.journal) (touches_end j b i)) (work_touches j.node j.work i)))
+    ∙ (λ i. stop_by None (full_by (joint.layout_of j) j.journal (least_such (is_end_full (joint.layout_of j) j.journal) (touches_end j b i))
+    (work_touches j.node j.work i)))
     ∙ ap (λ (f : Bool). stop_by None (full_by (joint.layout_of j) j.journal (if f then Some (lesser b.end None) else None) (Some j.node)))
     (full_here (joint.layout_of j) j.ends j.journal b.end b.place b.endpoint t j.kept'.tied (here_of j b) there)
     ∙ by_end t
@@ -243,9 +272,13 @@ beside_stop j b t u enabled there here =
     by_node true = refl
     by_node false = refl
 
-    by_end : (f : Bool) → stop_by None (full_by (joint.layout_of j) j.journal (if f then Some (lesser b.end None) else None) (Some j.node)) ≡ cond f (Some (LogFull (Parts.Endpoint b.end))) (cond u (Some (LogFull (Parts.Interface j.node))) None)
+    by_end : (f : Bool) → stop_by None (full_by (joint.layout_of j) j.journal (if f then Some (lesser b.end None) else None) (Some j.node)) ≡ cond f
+        (Some (LogFull (Parts.Endpoint b.end))) (cond u (Some (LogFull (Parts.Interface j.node))) None)
     by_end true = refl
     by_end false = ap (λ (f : Bool). stop_by None (if f then Some (Parts.Interface j.node) else None)) (node_full j u here) ∙ by_node u
+
+room_there : (j : Joint) (b : Beside j) → length b.endpoint.log ≢ b.endpoint.settings.log → length b.endpoint.log < b.endpoint.settings.log
+room_there j b room = less_than (length b.endpoint.log) b.endpoint.settings.log (short_there j b) room
 
 not_full_there : (j : Joint) (b : Beside j) → length b.endpoint.log < b.endpoint.settings.log → nat_le j.settings.log (length b.endpoint.log) ≡ false
 not_full_there j b room = by_test (nat_le j.settings.log (length b.endpoint.log)) refl
@@ -254,21 +287,29 @@ not_full_there j b room = by_test (nat_le j.settings.log (length b.endpoint.log)
     by_test false is = refl
     by_test true is = let le = leb-true j.settings.log (length b.endpoint.log) is in let limit = (own_of j b).limit in absurd (omega (arith, le, room, limit))
 
-beside_full : (j : Joint) (b : Beside j) (p : Part) → failing_at (own j.one) j.state j.work ≡ None → IsFullOf j.one b.endpoint p → length b.endpoint.log ≤ b.endpoint.settings.log → stop (joint.layout_of j) j.journal (event_in j) ≡ Some (LogFull p)
-beside_full j b p enabled (inl at) bounded =
+pub beside_full : (j : Joint) (b : Beside j) (p : Part) → failing_at (own j.one) j.state j.work ≡ None → IsFullOf j.one b.endpoint p →
+    stop (joint.layout_of j) j.journal (event_in j) ≡ Some (LogFull p)
+beside_full j b p enabled (inl at) =
     let limit = (own_of j b).limit in
     let full = at.1 in
     beside_stop j b true (nat_le j.settings.log (length j.one.log)) enabled (le-leb j.settings.log (length b.endpoint.log) (omega (arith, full, limit))) refl
     ∙ ap (λ (q : Part). Some (LogFull q)) (sym (at.0 ∙ ap (λ (e : EndpointId). Parts.Endpoint e) (here_of j b).id))
-beside_full j b p enabled (inr at) bounded =
+beside_full j b p enabled (inr at) =
     let limit = (interface_in j).limit in
     let full = at.1.1 in
-    beside_stop j b false true enabled (not_full_there j b (less_than (length b.endpoint.log) b.endpoint.settings.log bounded at.0)) (le-leb j.settings.log (length j.one.log) (omega (arith, full, limit)))
+    beside_stop j b false true enabled (not_full_there j b (room_there j b at.0))
+    (le-leb j.settings.log (length j.one.log) (omega (arith, full, limit)))
     ∙ ap (λ (q : Part). Some (LogFull q)) (sym (at.1.0 ∙ ap (λ (n : NodeId). Parts.Interface n) (interface_in j).is_node))
+
+-- nothing stops it where no condition fails and neither log is full
+pub beside_runs : (j : Joint) (b : Beside j) → HasRoomWith j.one b.endpoint j.work → stop (joint.layout_of j) j.journal (event_in j) ≡ None
+beside_runs j b room = beside_stop j b false false (enabled_at j b None room.enabled) (not_full_there j b (room_there j b room.there)) (not_full j room.here)
 
 -- ---- what it makes of a cluster
 
-beside_next : (j : Joint) (b : Beside j) (x : Entry) (new : InterfaceView) (f : EndpointView) → IsTurned j.one new j.journal j.state j.work x → IsGrown (kept b.endpoint) f x → IsNext j.settings j.faults (map kept j.ends) j.journal (event_in j) x (map kept (slice_set j.ends b.place f)) (j.journal ++ x ∷ [])
+beside_next : (j : Joint) (b : Beside j) (x : Entry) (new : InterfaceView) (f : EndpointView) → IsTurned j.one new j.journal j.state j.work x →
+    IsGrown (kept b.endpoint) f x → IsNext j.settings j.faults (map kept j.ends) j.journal (event_in j) x (map kept (slice_set j.ends b.place f))
+    (j.journal ++ x ∷ [])
 beside_next j b x new f t g =
     record {
       tied = j.kept'.tied;
@@ -286,20 +327,23 @@ ends_still : (j : Joint) (b : Beside j) (f : EndpointView) → kept f ≡ kept b
 ends_still j b f same = kept_same j.ends b.place b.endpoint f (here_of j b).at same
 
 -- the state that the interface reads is the endpoint's
-turned_at : (j : Joint) (b : Beside j) (new : InterfaceView) (x : Entry) → IsTurned j.one new j.journal (state_after b.endpoint) j.work x → IsTurned j.one new j.journal j.state j.work x
+turned_at : (j : Joint) (b : Beside j) (new : InterfaceView) (x : Entry) → IsTurned j.one new j.journal (state_after b.endpoint) j.work x →
+    IsTurned j.one new j.journal j.state j.work x
 turned_at j b new x t = subst (λ (s : State). IsTurned j.one new j.journal s j.work x) (sym b.reads) t
 
-enabled_at : (j : Joint) (b : Beside j) (o : Option Condition) → failing_at (own j.one) (state_after b.endpoint) j.work ≡ o → failing_at (own j.one) j.state j.work ≡ o
-enabled_at j b o is = ap (λ (s : State). failing_at (own j.one) s j.work) b.reads ∙ is
-
-pub beside_keeps : (j : Joint) (b : Beside j) (new : InterfaceView) (f : EndpointView) (result : Result Entry EntryFault) → TurnsWith j.one new b.endpoint f j.journal j.work result → IsKept (layout_in j.settings j.faults (map kept (slice_set j.ends b.place f))) (map kept (slice_set j.ends b.place f)) (entries_after j.journal result) (slice_set j.interfaces j.node.0 new) j.swaps
+pub beside_keeps : (j : Joint) (b : Beside j) (new : InterfaceView) (f : EndpointView) (result : Result Entry EntryFault) →
+    TurnsWith j.one new b.endpoint f j.journal j.work result →
+    IsKept (layout_in j.settings j.faults (map kept (slice_set j.ends b.place f))) (map kept (slice_set j.ends b.place f)) (entries_after j.journal result)
+    (slice_set j.interfaces j.node.0 new) j.swaps
 beside_keeps j b new f (Ok x) turns =
     let t = turned_at j b new x turns.0 in joint_kept j x new (map kept (slice_set j.ends b.place f)) (beside_next j b x new f t turns.1) t
 beside_keeps j b new f (Err (Faults.NotEnabled c)) turns = joint_still j new (map kept (slice_set j.ends b.place f)) turns.1 (ends_still j b f turns.2)
-beside_keeps j b new f (Err (Faults.LogFull p)) turns = joint_still j new (map kept (slice_set j.ends b.place f)) turns.3 (ends_still j b f turns.4)
-beside_keeps j b new f (Err Faults.NoMemory) turns = joint_still j new (map kept (slice_set j.ends b.place f)) turns.0 (ends_still j b f turns.1)
+beside_keeps j b new f (Err (Faults.LogFull p)) turns = joint_still j new (map kept (slice_set j.ends b.place f)) turns.2 (ends_still j b f turns.3)
+beside_keeps j b new f (Err Faults.NoMemory) turns = joint_still j new (map kept (slice_set j.ends b.place f)) turns.1 (ends_still j b f turns.2)
 
-pub beside_applies : (j : Joint) (b : Beside j) (v : ClusterView) (new : InterfaceView) (f : EndpointView) (result : Result Entry EntryFault) → seen j.settings j.faults (map kept j.ends) j.journal ≡ v → TurnsWith j.one new b.endpoint f j.journal j.work result → Applies v (seen j.settings j.faults (map kept (slice_set j.ends b.place f)) (entries_after j.journal result)) (event_in j) result
+pub beside_applies : (j : Joint) (b : Beside j) (v : ClusterView) (new : InterfaceView) (f : EndpointView) (result : Result Entry EntryFault) →
+    seen j.settings j.faults (map kept j.ends) j.journal ≡ v → TurnsWith j.one new b.endpoint f j.journal j.work result →
+    Applies v (seen j.settings j.faults (map kept (slice_set j.ends b.place f)) (entries_after j.journal result)) (event_in j) result
 beside_applies j b v new f (Ok x) is turns =
     seen_next j.settings j.faults (map kept j.ends) j.journal (event_in j) x (map kept (slice_set j.ends b.place f)) (j.journal ++ x ∷ []) v is
     (beside_next j b x new f (turned_at j b new x turns.0) turns.1)
@@ -308,8 +352,10 @@ beside_applies j b v new f (Err (Faults.NotEnabled c)) is turns = (
   seen_same j.settings j.faults (map kept j.ends) (map kept (slice_set j.ends b.place f)) j.journal j.journal v (ends_still j b f turns.2) refl is,
 )
 beside_applies j b v new f (Err (Faults.LogFull p)) is turns = (
-  ap (λ (w : ClusterView). stop w.layout w.journal (event_in j)) (sym is) ∙ beside_full j b p (enabled_at j b None turns.0) turns.1 turns.2,
-  seen_same j.settings j.faults (map kept j.ends) (map kept (slice_set j.ends b.place f)) j.journal j.journal v (ends_still j b f turns.4) refl is,
+  ap (λ (w : ClusterView). stop w.layout w.journal (event_in j)) (sym is) ∙ beside_full j b p (enabled_at j b None turns.0) turns.1,
+  seen_same j.settings j.faults (map kept j.ends) (map kept (slice_set j.ends b.place f)) j.journal j.journal v (ends_still j b f turns.3) refl is,
 )
-beside_applies j b v new f (Err Faults.NoMemory) is turns =
-    seen_same j.settings j.faults (map kept j.ends) (map kept (slice_set j.ends b.place f)) j.journal j.journal v (ends_still j b f turns.1) refl is
+beside_applies j b v new f (Err Faults.NoMemory) is turns = (
+  ap (λ (w : ClusterView). stop w.layout w.journal (event_in j)) (sym is) ∙ beside_runs j b turns.0,
+  seen_same j.settings j.faults (map kept j.ends) (map kept (slice_set j.ends b.place f)) j.journal j.journal v (ends_still j b f turns.2) refl is,
+)

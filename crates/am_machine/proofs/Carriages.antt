@@ -1,14 +1,15 @@
 -- A carry from one endpoint to another, or to itself.
 use Rattle.std.specs.Prelude.{slice_get, nat_le}
 use Rattle.std.specs.List.{list_any}
-use Rattle.std.proofs.Common.{◌≡◌, ℕ, ◌+◌, ◌<◌, Bool, true, false, ◌||◌, ◌&&◌, List, [], ◌∷◌, ◌++◌, map, length, Option, Some, None, refl, sym, ap, ◌∙◌, subst, arith, ltb, if◌then◌else◌}
+use Rattle.std.proofs.Common.{◌≡◌, ℕ, ◌+◌, ◌<◌, Bool, true, false, ◌||◌, ◌&&◌, List, [], ◌∷◌, ◌++◌, map, length, Option, Some, None, refl, sym, ap, ◌∙◌, subst}
+use Rattle.std.proofs.Common.{arith, ltb, if◌then◌else◌}
 use Rattle.std.proofs.lemmas.Bool.{leb-false}
 use mathlib.Core.Bool.{or-false}
 use Rattle.am_names.specs.declared.EndpointId.{EndpointId}
 use Rattle.am_names.specs.declared.Message.{Message}
 use Rattle.am_names.specs.declared.Verdict.{Verdict}
 use Rattle.am_names.specs.declared.Verdict.TheVariants as Verdicts
-use Rattle.am_names.specs.Names.{same_end}
+use Rattle.am_names.specs.Names.{same_end, is_well_formed}
 use Rattle.am_names.specs.Rules.{is_transient}
 use Rattle.am_office.specs.declared.Event.{Event}
 use Rattle.am_office.specs.declared.Event.TheVariants as Events
@@ -16,21 +17,21 @@ use Rattle.am_office.specs.declared.Outcome.TheVariants as Out
 use Rattle.am_office.specs.declared.Entry.{Entry}
 use Rattle.am_office.specs.Entries.{ends_touched, touches}
 use Rattle.am_model.specs.declared.Queued.{Queued}
-use Rattle.am_model.specs.Allowed.{arrival_verdict, arrived_message, is_carry_from, is_network_of, is_well_formed}
+use Rattle.am_model.specs.Allowed.{arrival_verdict, arrived_message, is_carry_from, is_network_of}
 use Rattle.am_model.specs.Endpoint.{State, front, is_direct, verdict}
 use Rattle.am_model.specs.Layout.{Layout, declared}
 use Rattle.am_laws_homes.proofs.Homes.{front_addressed}
 use Rattle.am_laws_homes.proofs.Places.{fits_network}
 use Rattle.am_model.specs.History.{is_in_range, carry, judged, outcome_of, state_of}
 use Rattle.am_model.specs.Steps.{stop}
-use Rattle.am_drain.specs.Made.{next_entry, next_stamp}
+use Rattle.am_model_drain.specs.Made.{next_entry, next_stamp}
 use Rattle.am_model.proofs.Names.{same_end-is, same_end-refl}
 use Rattle.am_scenario_types.specs.declared.parts.FaultLine.{FaultLine}
-use Rattle.am_body.specs.declared.settings.EndSettings.{EndSettings}
+use Rattle.am_endpoint_body.specs.declared.settings.EndSettings.{EndSettings}
 use Rattle.am_endpoint.specs.View.{EndpointView, state_after}
 use Rattle.am_machine.specs.declared.settings.Settings.{Settings}
 use Rattle.am_machine.specs.Carries.{At, IsReady, CarriesFrom, ArrivesAt, carried_at, is_place, least_full}
-use Rattle.am_moves.specs.Logs.{EndLog, kept, state_in}
+use Rattle.am_driver_moves.specs.Logs.{EndLog, kept, state_in}
 use Rattle.am_machine.specs.Ends.{grown, logged_at}
 use Rattle.am_machine.specs.Kept.{IsTied, layout_in}
 use Rattle.am_machine.proofs.Applied.{IsHere, IsNext, full_here, only_here, own_here, state_here}
@@ -71,11 +72,13 @@ pub record IsEntryOf (c : Carriage) (x : Entry) : Type 0 where
   pub event : x.event ≡ Events.Carry c.end
   pub outcome : x.outcome ≡ judged c.settings.bounces c.queued.message c.queued.bounces c.there
 
-judged_arrives : (end : EndpointId) (limit : ℕ) (m : Message) (bounces : ℕ) (v : Verdict) → (arrived_message (Events.Carry end) (judged limit m bounces v) ≡ Some m) × (arrival_verdict (Events.Carry end) (judged limit m bounces v) ≡ Some v)
+judged_arrives : (end : EndpointId) (limit : ℕ) (m : Message) (bounces : ℕ) (v : Verdict) →
+    (arrived_message (Events.Carry end) (judged limit m bounces v) ≡ Some m) × (arrival_verdict (Events.Carry end) (judged limit m bounces v) ≡ Some v)
 judged_arrives end limit m bounces Verdicts.Accepted = (refl, refl)
 judged_arrives end limit m bounces (Verdicts.Refused cause) = by_test (is_transient cause && ltb bounces limit)
   where
-    by_test : (b : Bool) → (arrived_message (Events.Carry end) (if b then Out.Requeued m cause (bounces + 1) else Out.Returned m cause) ≡ Some m) × (arrival_verdict (Events.Carry end) (if b then Out.Requeued m cause (bounces + 1) else Out.Returned m cause) ≡ Some (Verdicts.Refused cause))
+    by_test : (b : Bool) → (arrived_message (Events.Carry end) (if b then Out.Requeued m cause (bounces + 1) else Out.Returned m cause) ≡ Some m) ×
+        (arrival_verdict (Events.Carry end) (if b then Out.Requeued m cause (bounces + 1) else Out.Returned m cause) ≡ Some (Verdicts.Refused cause))
     by_test true = (refl, refl)
     by_test false = (refl, refl)
 
@@ -83,7 +86,8 @@ front_there : (c : Carriage) → front (state_of (layout_of c) c.journal c.end) 
 front_there c = ap front (sym (state_here (layout_of c) c.ends c.journal c.end c.from c.one c.tied c.source)) ∙ c.is_front
 
 verdict_there : (c : Carriage) → c.there ≡ verdict (state_of (layout_of c) c.journal c.queued.message.dest) c.queued.message
-verdict_there c = c.judged_there ∙ ap (λ (s : State). verdict s c.queued.message) (state_here (layout_of c) c.ends c.journal c.queued.message.dest c.to c.two c.tied c.dest)
+verdict_there c = c.judged_there ∙ ap (λ (s : State). verdict s c.queued.message) (state_here (layout_of c) c.ends c.journal c.queued.message.dest c.to c.two
+    c.tied c.dest)
 
 pub carriage_entry : (c : Carriage) (x : Entry) → IsEntryOf c x → x ≡ next_entry (layout_of c) c.journal (Events.Carry c.end)
 carriage_entry c x is =
@@ -111,7 +115,8 @@ or_same true = refl
 or_same false = refl
 
 -- where each endpoint stands among those that the carry touches
-places : (c : Carriage) (x : Entry) → IsEntryOf c x → (j : ℕ) (d : EndLog) → slice_get (map kept c.ends) j ≡ Some d → touches d.settings.id x ≡ (is_place c.from j || is_place c.to j)
+places : (c : Carriage) (x : Entry) → IsEntryOf c x → (j : ℕ) (d : EndLog) → slice_get (map kept c.ends) j ≡ Some d →
+    touches d.settings.id x ≡ (is_place c.from j || is_place c.to j)
 places c x is j d at =
     touched c x is d.settings.id
     ∙ (λ i. only_here (layout_of c) c.ends c.journal c.end c.from c.one c.tied c.source j d at i
@@ -125,16 +130,19 @@ or_twice false = refl
 pub carriage_grows : (c : Carriage) (x : Entry) → IsEntryOf c x → carried_at c.from c.to x (map kept c.ends) ≡ map (grown x) (map kept c.ends)
 carriage_grows c x is = by_place (is_place c.from c.to) refl
   where
-    by_place : (b : Bool) → is_place c.from c.to ≡ b → (if b then logged_at c.from x (map kept c.ends) else logged_at c.to x (logged_at c.from x (map kept c.ends))) ≡ map (grown x) (map kept c.ends)
+    by_place : (b : Bool) → is_place c.from c.to ≡ b → (if b then logged_at c.from x (map kept c.ends) else logged_at c.to x
+        (logged_at c.from x (map kept c.ends))) ≡ map (grown x) (map kept c.ends)
     by_place true one' =
         let same : c.from ≡ c.to = place_is c.from c.to one' in
-        sym (one_grown x (map kept c.ends) c.from (λ j d at. places c x is j d at ∙ ap (λ (k : ℕ). is_place c.from j || is_place k j) (sym same) ∙ or_twice (is_place c.from j)))
+        sym (one_grown x (map kept c.ends) c.from (λ j d at. places c x is j d at ∙ ap (λ (k : ℕ). is_place c.from j || is_place k j) (sym same)
+        ∙ or_twice (is_place c.from j)))
     by_place false two' =
         sym (two_grown x (map kept c.ends) c.from c.to
         (λ same. let yes' : is_place c.from c.to ≡ true = subst (λ (k : ℕ). is_place c.from k ≡ true) same (place_same c.from) in absurd (cc))
         (λ j d at. places c x is j d at))
 
-pub carriage_next : (c : Carriage) (x : Entry) → IsEntryOf c x → (new : List EndLog) (longer : List Entry) → new ≡ carried_at c.from c.to x (map kept c.ends) → longer ≡ c.journal ++ x ∷ [] → IsNext c.settings c.faults (map kept c.ends) c.journal (Events.Carry c.end) x new longer
+pub carriage_next : (c : Carriage) (x : Entry) → IsEntryOf c x → (new : List EndLog) (longer : List Entry) → new ≡ carried_at c.from c.to x (map kept c.ends) →
+    longer ≡ c.journal ++ x ∷ [] → IsNext c.settings c.faults (map kept c.ends) c.journal (Events.Carry c.end) x new longer
 carriage_next c x is new longer ends more =
     record {
       tied = c.tied;
@@ -148,7 +156,8 @@ carriage_next c x is new longer ends more =
 -- ---- what the two endpoints are handed
 
 -- a declared endpoint lies in the direct network
-lies_direct : (c : Carriage) (e : EndpointId) (s : State) → s ≡ state_of (layout_of c) c.journal e → declared (layout_of c) e ≡ true → is_direct s.head.place ≡ true
+lies_direct : (c : Carriage) (e : EndpointId) (s : State) → s ≡ state_of (layout_of c) c.journal e → declared (layout_of c) e ≡ true →
+    is_direct s.head.place ≡ true
 lies_direct c e s is known =
     ap (λ (st : State). is_direct st.head.place) is
     ∙ fits_network (layout_of c) c.journal c.tied.history e
@@ -159,12 +168,14 @@ less_of : (a b : ℕ) → nat_le a b ≡ false → b < a
 less_of a b h = leb-false a b h
 
 -- an endpoint that stands at a place after room was made is the one that stood there
-same_kept : (vs us : List EndpointView) (k : ℕ) (one w : EndpointView) → map kept us ≡ map kept vs → slice_get vs k ≡ Some one → slice_get us k ≡ Some w → kept w ≡ kept one
+same_kept : (vs us : List EndpointView) (k : ℕ) (one w : EndpointView) → map kept us ≡ map kept vs → slice_get vs k ≡ Some one → slice_get us k ≡ Some w →
+    kept w ≡ kept one
 same_kept vs us k one w same at now =
     let both : Some (kept w) ≡ Some (kept one) = sym (kept_at us k w now) ∙ ap (λ (es : List EndLog). slice_get es k) same ∙ kept_at vs k one at in
     cc
 
-pub carriage_carries : (c : Carriage) (x : Entry) → IsEntryOf c x → (us : List EndpointView) → map kept us ≡ map kept c.ends → At us c.from IsReady → At us c.from (CarriesFrom x)
+pub carriage_carries : (c : Carriage) (x : Entry) → IsEntryOf c x → (us : List EndpointView) → map kept us ≡ map kept c.ends → At us c.from IsReady →
+    At us c.from (CarriesFrom x)
 carriage_carries c x is us same ready w now =
     let as' = same_kept c.ends us c.from c.one w same c.source.at now in
     let own = own_here (layout_of c) c.ends c.journal c.end c.from c.one c.tied c.source in
@@ -182,17 +193,20 @@ carriage_carries c x is us same ready w now =
             event = is.event ∙ ap (λ (e : EndpointId). Events.Carry e) (sym (ap (λ (z : EndSettings). z.id) set ∙ c.source.id));
             direct = lies_direct c c.end (state_after w) (state ∙ state_here (layout_of c) c.ends c.journal c.end c.from c.one c.tied c.source) c.in_range;
             is_front = ap front state ∙ c.is_front;
-            outcome = is.outcome ∙ ap (λ (b : ℕ). judged b c.queued.message c.queued.bounces c.there) (sym (ap (λ (e : EndLog). e.settings.bounces) as' ∙ own.bounces));
+            outcome = is.outcome ∙ ap (λ (b : ℕ). judged b c.queued.message c.queued.bounces c.there) (sym (ap (λ (e : EndLog). e.settings.bounces) as'
+                ∙ own.bounces));
             here = λ at_home.
                 (let dest : w.settings.id ≡ c.queued.message.dest = same_end-is w.settings.id c.queued.message.dest at_home in
                 let both : c.end ≡ c.queued.message.dest = sym (ap (λ (e : EndLog). e.settings.id) as' ∙ c.source.id) ∙ dest in
                 verdict_there c
                 ∙ ap (λ (e : EndpointId). verdict (state_of (layout_of c) c.journal e) c.queued.message) (sym both)
-                ∙ ap (λ (st : State). verdict st c.queued.message) (sym (state ∙ state_here (layout_of c) c.ends c.journal c.end c.from c.one c.tied c.source)));
+                ∙ ap (λ (st : State). verdict st c.queued.message) (sym (state
+                ∙ state_here (layout_of c) c.ends c.journal c.end c.from c.one c.tied c.source)));
           };
     }
 
-pub carriage_arrives : (c : Carriage) (x : Entry) → IsEntryOf c x → (us : List EndpointView) → map kept us ≡ map kept c.ends → At us c.to IsReady → is_place c.from c.to ≡ false → At us c.to (ArrivesAt x)
+pub carriage_arrives : (c : Carriage) (x : Entry) → IsEntryOf c x → (us : List EndpointView) → map kept us ≡ map kept c.ends → At us c.to IsReady →
+    is_place c.from c.to ≡ false → At us c.to (ArrivesAt x)
 carriage_arrives c x is us same ready apart w now =
     let as' = same_kept c.ends us c.to c.two w same c.dest.at now in
     let own = own_here (layout_of c) c.ends c.journal c.queued.message.dest c.to c.two c.tied c.dest in
@@ -208,11 +222,13 @@ carriage_arrives c x is us same ready apart w now =
           record {
             message = c.queued.message;
             is_message = (λ i. arrived_message (is.event i) (is.outcome i)) ∙ came.0;
-            judged = (λ i. arrival_verdict (is.event i) (is.outcome i)) ∙ came.1 ∙ ap (λ (v : Verdict). Some v) (c.judged_there ∙ ap (λ (st : State). verdict st c.queued.message) (sym state));
+            judged = (λ i. arrival_verdict (is.event i) (is.outcome i)) ∙ came.1 ∙ ap (λ (v : Verdict). Some v) (c.judged_there
+                ∙ ap (λ (st : State). verdict st c.queued.message) (sym state));
             here = ap (λ (e : EndpointId). same_end e c.queued.message.dest) (id ∙ c.dest.id) ∙ same_end-refl c.queued.message.dest;
             network =
                 ap (λ (e : Event). is_network_of e (state_after w).head.place) is.event
-                ∙ lies_direct c c.queued.message.dest (state_after w) (state ∙ state_here (layout_of c) c.ends c.journal c.queued.message.dest c.to c.two c.tied c.dest)
+                ∙ lies_direct c c.queued.message.dest (state_after w) (state
+                ∙ state_here (layout_of c) c.ends c.journal c.queued.message.dest c.to c.two c.tied c.dest)
                 (front_addressed (layout_of c) c.journal c.tied.history c.end c.queued (front_there c)).dest;
             formed = c.formed;
             elsewhere =
@@ -230,19 +246,12 @@ least_none a b true r h = absurd (cc)
 least_none a b false true h = absurd (cc)
 least_none a b false false h = (refl, refl)
 
--- ---- what was read twice
+-- ---- what was read
 
-front_of_same : (vs : List EndpointView) (e : EndpointId) (k : ℕ) (one two : EndpointView) → IsHere vs e k one → IsHere vs e k two → two ≡ one
-front_of_same vs e k one two a b = let both : Some two ≡ Some one = sym b.at ∙ a.at in cc
-
-pub front_same : (vs : List EndpointView) (e : EndpointId) (k : ℕ) (one two : EndpointView) → IsHere vs e k one → IsHere vs e k two → front (state_after two) ≡ front (state_after one)
-front_same vs e k one two a b = ap (λ (v : EndpointView). front (state_after v)) (front_of_same vs e k one two a b)
-
-pub verdict_same : (vs : List EndpointView) (e : EndpointId) (k : ℕ) (one two : EndpointView) (m : Message) → IsHere vs e k one → IsHere vs e k two → verdict (state_after one) m ≡ verdict (state_after two) m
-verdict_same vs e k one two m a b = ap (λ (v : EndpointView). verdict (state_after v) m) (sym (front_of_same vs e k one two a b))
-
-pub front_at : (layout : Layout) (vs : List EndpointView) (journal : List Entry) (e : EndpointId) (k : ℕ) (one : EndpointView) (f : Option Queued) → IsTied layout (map kept vs) journal → IsHere vs e k one → front (state_after one) ≡ f → front (state_of layout journal e) ≡ f
+pub front_at : (layout : Layout) (vs : List EndpointView) (journal : List Entry) (e : EndpointId) (k : ℕ) (one : EndpointView) (f : Option Queued) →
+    IsTied layout (map kept vs) journal → IsHere vs e k one → front (state_after one) ≡ f → front (state_of layout journal e) ≡ f
 front_at layout vs journal e k one f tied here at = ap front (sym (state_here layout vs journal e k one tied here)) ∙ at
 
-pub dest_declared : (layout : Layout) (journal : List Entry) (end : EndpointId) (q : Queued) {es : List EndLog} → IsTied layout es journal → front (state_of layout journal end) ≡ Some q → declared layout q.message.dest ≡ true
+pub dest_declared : (layout : Layout) (journal : List Entry) (end : EndpointId) (q : Queued) {es : List EndLog} → IsTied layout es journal →
+    front (state_of layout journal end) ≡ Some q → declared layout q.message.dest ≡ true
 dest_declared layout journal end q tied at = (front_addressed layout journal tied.history end q at).dest

@@ -48,10 +48,12 @@ reached_stays : (e : EndpointId) (s : State) (o : Outcome) → on_disk s ≡ fal
 reached_stays e s (Out.Accepted m) h = if_stays (same_end e m.dest) s (put m s) h h
 reached_stays e s o h = h
 
-changed_stays : (layout : Layout) (past : List Entry) (e : EndpointId) (s : State) (event : Event) (o : Outcome) → layout.direct ≡ true → failing layout past event ≡ None → on_disk s ≡ false → on_disk (changed e s event o) ≡ false
+changed_stays : (layout : Layout) (past : List Entry) (e : EndpointId) (s : State) (event : Event) (o : Outcome) → layout.direct ≡ true →
+    failing layout past event ≡ None → on_disk s ≡ false → on_disk (changed e s event o) ≡ false
 changed_stays layout past e s (Events.Call actor end call) o direct may h = called_stays s call o h
 changed_stays layout past e s (Events.Want actor end) o direct may h = h
-changed_stays layout past e s (Events.Carry end) o direct may h = reached_stays e (if same_end e end then left s o else s) o (if_stays (same_end e end) s (left s o) h (left_stays s o h))
+changed_stays layout past e s (Events.Carry end) o direct may h =
+    reached_stays e (if same_end e end then left s o else s) o (if_stays (same_end e end) s (left s o) h (left_stays s o h))
 changed_stays layout past e s (Events.Bind node end) o direct may h = absurd (condition_holds _ _ layout.direct direct may)
 changed_stays layout past e s (Events.Expire node peer channel) o direct may h = absurd (condition_holds _ _ layout.direct direct may)
 changed_stays layout past e s (Events.Receive node peer number) o direct may h = absurd (condition_holds _ _ layout.direct direct may)
@@ -65,11 +67,13 @@ changed_stays layout past e s (Events.PageIn node end) o direct may h = absurd (
 abbrev pub NoneOnDisk : Layout → List Entry → Type 0
 NoneOnDisk layout past = (e : EndpointId) → on_disk (state_of layout past e) ≡ false
 
-off_disk_more : (layout : Layout) → layout.direct ≡ true → (past : List Entry) (x : Entry) → NoneOnDisk layout past → MayFollow layout past x → NoneOnDisk layout (past ++ x ∷ [])
+off_disk_more : (layout : Layout) → layout.direct ≡ true → (past : List Entry) (x : Entry) → NoneOnDisk layout past → MayFollow layout past x →
+    NoneOnDisk layout (past ++ x ∷ [])
 off_disk_more layout direct past x off may e = by_test (touches e x) refl
   where
     by_test : (t : Bool) → touches e x ≡ t → on_disk (state_of layout (past ++ x ∷ []) e) ≡ false
-    by_test true at = ap on_disk (state_of_push layout past x e true at) ∙ changed_stays layout past e (state_of layout past e) x.event x.outcome direct may.enabled (off e)
+    by_test true at = ap on_disk (state_of_push layout past x e true at)
+        ∙ changed_stays layout past e (state_of layout past e) x.event x.outcome direct may.enabled (off e)
     by_test false at = ap on_disk (state_of_push layout past x e false at) ∙ off e
 
 opening_off_disk : (layout : Layout) → layout.direct ≡ true → NoneOnDisk layout []
@@ -84,4 +88,5 @@ opening_off_disk layout direct e = by_setting (find (has_id e) layout.ends)
     by_setting (Some setting) = by_place layout.direct setting.disk direct
 
 pub off_disk : (layout : Layout) → layout.direct ≡ true → (past : List Entry) → IsHistory layout past → NoneOnDisk layout past
-off_disk layout direct past h = over_each (MayFollow layout) (NoneOnDisk layout) (λ xs x off may. off_disk_more layout direct xs x off may) [] past (opening_off_disk layout direct) h
+off_disk layout direct past h = over_each (MayFollow layout) (NoneOnDisk layout) (λ xs x off may. off_disk_more layout direct xs x off may) [] past
+    (opening_off_disk layout direct) h

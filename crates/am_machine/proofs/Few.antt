@@ -1,6 +1,7 @@
 -- How many entries the journal of a cluster can have, and so what its index can count and stamp.
 use Rattle.std.specs.Prelude.{count_by}
-use Rattle.std.proofs.Common.{◌≡◌, ℕ, zero, suc, ◌+◌, ◌*◌, ◌<◌, ◌≤◌, ◌^◌, ◌==◌, Bool, true, false, List, [], ◌∷◌, length, map, refl, sym, ap, ◌∙◌, arith, length-append, eq-eqb, true≢false, if◌then◌else◌}
+use Rattle.std.proofs.Common.{◌≡◌, ℕ, zero, suc, ◌+◌, ◌*◌, ◌<◌, ◌≤◌, ◌^◌, ◌==◌, Bool, true, false, List, [], ◌∷◌, length, map, refl, sym, ap, ◌∙◌, arith}
+use Rattle.std.proofs.Common.{length-append, eq-eqb, true≢false, if◌then◌else◌}
 use Rattle.std.proofs.lemmas.List.{length-map}
 use Rattle.std.proofs.lemmas.List.Sums.{sum_by-cons}
 use Rattle.am_names.specs.declared.NodeId.{NodeId}
@@ -10,12 +11,12 @@ use Rattle.am_model.specs.Layout.{AllAre, EndSetting, IsLawful, IsSettingLawful,
 use Rattle.am_model.specs.Merge.{is_before}
 use Rattle.am_model.proofs.Received.{bit}
 use Rattle.am_model.proofs.Alls.{all_by_place, all_append}
-use Rattle.am_merge.specs.Merged.{entries_of, inserted, is_same, sorted}
+use Rattle.am_model_merge.specs.Merged.{entries_of, inserted, is_same, sorted}
 use Rattle.am_iface.specs.View.{InterfaceView}
-use Rattle.am_device.specs.Memory.{Store}
-use Rattle.am_journal.specs.View.{CanCount, IsIndexOf, Readings}
-use Rattle.am_journal.proofs.Growing.{can_count}
-use Rattle.am_moves.specs.Logs.{EndLog}
+use Rattle.am_swap_device.specs.Memory.{Store}
+use Rattle.am_machine_index.specs.View.{CanCount, IsIndexOf, Readings}
+use Rattle.am_machine_index.proofs.Growing.{can_count}
+use Rattle.am_driver_moves.specs.Logs.{EndLog}
 use Rattle.am_machine.specs.Ends.{setting_in}
 use Rattle.am_machine.specs.Kept.{IsKept, IsOwn, IsShort, end_logs, interface_logs, logs_in}
 use Rattle.am_machine.proofs.Merging.{kept_merges}
@@ -75,7 +76,8 @@ inserted_length : (x : Entry) (ys : List Entry) → length (inserted x ys) ≤ l
 inserted_length x [] = omega arith
 inserted_length x (y ∷ ys) = by_tests (is_same x y) (is_before x y) (inserted_length x ys)
   where
-    by_tests : (s b : Bool) → length (inserted x ys) ≤ length ys + 1 → length (if s then y ∷ ys else (if b then x ∷ y ∷ ys else y ∷ inserted x ys)) ≤ length (y ∷ ys) + 1
+    by_tests : (s b : Bool) → length (inserted x ys) ≤ length ys + 1 →
+        length (if s then y ∷ ys else (if b then x ∷ y ∷ ys else y ∷ inserted x ys)) ≤ length (y ∷ ys) + 1
     by_tests true b more = omega arith
     by_tests false true more = omega arith
     by_tests false false more = omega (arith, more)
@@ -95,21 +97,25 @@ entries_few (log ∷ logs) all =
     let longer = length-append log (entries_of logs) in
     omega (arith, more, here, longer)
 
-end_bounded : (layout : Layout) (journal : List Entry) (es : List EndLog) → layout.log ≤ 65536 → AllAre (IsOwn layout journal) es → AllAre IsShort es → AllAre IsBounded (end_logs es)
+end_bounded : (layout : Layout) (journal : List Entry) (es : List EndLog) → layout.log ≤ 65536 → AllAre (IsOwn layout journal) es → AllAre IsShort es →
+    AllAre IsBounded (end_logs es)
 end_bounded layout journal [] most own short = tt
 end_bounded layout journal (e ∷ es) most own short =
     (let limit = own.0.limit in let few = short.0 in omega (arith, limit, few, most), end_bounded layout journal es most own.1 short.1)
 
-interface_bounded : (layout : Layout) (journal : List Entry) (is : List InterfaceView) → layout.log ≤ 65536 → AllAre (λ (i : InterfaceView). length i.log ≤ layout.log) is → AllAre IsBounded (interface_logs is)
+interface_bounded : (layout : Layout) (journal : List Entry) (is : List InterfaceView) → layout.log ≤ 65536 →
+    AllAre (λ (i : InterfaceView). length i.log ≤ layout.log) is → AllAre IsBounded (interface_logs is)
 interface_bounded layout journal [] most all = tt
 interface_bounded layout journal (i ∷ is) most all = (let here = all.0 in omega (arith, here, most), interface_bounded layout journal is most all.1)
 
-pub journal_few : (layout : Layout) (es : List EndLog) (journal : List Entry) (is : List InterfaceView) (ss : List Store) → layout.ends ≡ map setting_in es → IsKept layout es journal is ss → length journal + 1 < 2 ^ 63
+pub journal_few : (layout : Layout) (es : List EndLog) (journal : List Entry) (is : List InterfaceView) (ss : List Store) → layout.ends ≡ map setting_in es →
+    IsKept layout es journal is ss → length journal + 1 < 2 ^ 63
 journal_few layout es journal is ss ends k =
     let merges = ap (λ (l : List Entry). length l) (kept_merges layout es journal is ss ends k) in
     let most = k.tied.lawful.log.1 in
     let bounded = all_append IsBounded (end_logs es) (interface_logs is) (end_bounded layout journal es most k.tied.own k.tied.short)
-    (interface_bounded layout journal is most (all_by_place (λ (i : InterfaceView). length i.log ≤ layout.log) is (λ n i at. (k.interfaces'.each n i at).bounded))) in
+    (interface_bounded layout journal is most (all_by_place (λ (i : InterfaceView). length i.log ≤ layout.log) is
+    (λ n i at. (k.interfaces'.each n i at).bounded))) in
     let sorted' = sorted_length (entries_of (logs_in es is)) in
     let entries = entries_few (logs_in es is) bounded in
     let both = length-append (end_logs es) (interface_logs is) in
@@ -126,12 +132,14 @@ journal_few layout es journal is ss ends k =
 
 -- ---- what its index can count and stamp
 
-pub stamp_fits : (layout : Layout) (es : List EndLog) (journal : List Entry) (is : List InterfaceView) (ss : List Store) (r : Readings) → layout.ends ≡ map setting_in es → IsKept layout es journal is ss → IsIndexOf journal r → r.greatest + 1 < 2 ^ 64
+pub stamp_fits : (layout : Layout) (es : List EndLog) (journal : List Entry) (is : List InterfaceView) (ss : List Store) (r : Readings) →
+    layout.ends ≡ map setting_in es → IsKept layout es journal is ss → IsIndexOf journal r → r.greatest + 1 < 2 ^ 64
 stamp_fits layout es journal is ss r ends k index =
     let few = journal_few layout es journal is ss ends k in
     omega (arith, few, index.greatest, k.tied.early)
 
-pub counts_fit : (layout : Layout) (es : List EndLog) (journal : List Entry) (is : List InterfaceView) (ss : List Store) (r : Readings) → layout.ends ≡ map setting_in es → IsKept layout es journal is ss → IsIndexOf journal r → CanCount r
+pub counts_fit : (layout : Layout) (es : List EndLog) (journal : List Entry) (is : List InterfaceView) (ss : List Store) (r : Readings) →
+    layout.ends ≡ map setting_in es → IsKept layout es journal is ss → IsIndexOf journal r → CanCount r
 counts_fit layout es journal is ss r ends k index =
     let few = journal_few layout es journal is ss ends k in
     can_count journal r index (omega (arith, few))

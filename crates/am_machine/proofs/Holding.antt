@@ -1,7 +1,8 @@
 -- The swaps of a cluster, one entry more.
 use Rattle.std.specs.Prelude.{slice_get, slice_set}
 use Rattle.std.specs.List.{list_any}
-use Rattle.std.proofs.Common.{◌≡◌, ⊎_elim, ℕ, zero, suc, ◌+◌, ◌<◌, ◌^◌, Bool, true, false, ◌||◌, List, [], ◌∷◌, ◌++◌, length, Option, Some, refl, sym, ap, ◌∙◌, subst, arith, true≢false, eqb-true, eq-eqb, if◌then◌else◌}
+use Rattle.std.proofs.Common.{◌≡◌, ⊎_elim, ℕ, zero, suc, ◌+◌, ◌<◌, ◌^◌, Bool, true, false, ◌||◌, List, [], ◌∷◌, ◌++◌, length, Option, Some, refl, sym, ap, ◌∙◌}
+use Rattle.std.proofs.Common.{subst, arith, true≢false, eqb-true, eq-eqb, if◌then◌else◌}
 use Rattle.std.proofs.lemmas.Bool.{and_from, or_left}
 use Rattle.std.proofs.lemmas.List.{length-set}
 use Rattle.am_lemmas.proofs.Lists.{slice_get-set_cases}
@@ -21,19 +22,19 @@ use Rattle.am_model.proofs.Each.{state_of_push}
 use Rattle.am_model.proofs.Names.{same_end-is, same_end-refl}
 use Rattle.am_model.proofs.Unchanged.{paged_out_body}
 use Rattle.am_model.proofs.PlaceKinds.{on_host_not_on_disk}
-use Rattle.am_local.proofs.Growing.{calls_push}
-use Rattle.am_local.proofs.Homes.{one_home}
+use Rattle.am_model_parts.proofs.Growing.{calls_push}
+use Rattle.am_model_parts.proofs.Homes.{one_home}
 use Rattle.am_laws_disk.specs.Disk.{StaysOnDisk, pages_out}
 use Rattle.am_laws_disk.proofs.Still.{stays}
-use Rattle.am_device.specs.Causes.{fails_after, one_more}
-use Rattle.am_device.specs.Memory.{Store, counted, faulted, held_for, with_held}
-use Rattle.am_device.proofs.Held.{holds_instead}
-use Rattle.am_image.specs.Image.{image}
-use Rattle.am_image.specs.Valid.{IsValid}
-use Rattle.am_moves.specs.Logs.{EndLog, state_in}
-use Rattle.am_moves.specs.Pages.{CanPage, CanPageOut, HoldsBody, IsBodyValid, after_call, after_page, is_page, page_outcome}
+use Rattle.am_swap_device.specs.Causes.{fails_after, one_more}
+use Rattle.am_swap_device.specs.Memory.{Store, counted, faulted, held_for, with_held}
+use Rattle.am_swap_device.proofs.Held.{holds_instead}
+use Rattle.am_swap_image.specs.Image.{image}
+use Rattle.am_swap_image.specs.Valid.{IsValid}
+use Rattle.am_driver_moves.specs.Logs.{EndLog, state_in}
+use Rattle.am_driver_moves.specs.Pages.{CanPage, CanPageOut, HoldsBody, IsBodyValid, after_call, after_page, is_page, page_outcome}
 use Rattle.am_machine.specs.Swaps.{AreSwaps, IsSwap}
-use Rattle.am_moves.proofs.Stores.{call_fails, one_more_is, call_calls, held_other, held_still}
+use Rattle.am_driver_moves.proofs.Stores.{call_fails, one_more_is, call_calls, held_other, held_still}
 
 -- ---- an entry that is no call of the swap
 
@@ -47,7 +48,8 @@ unpaged_out e (Events.PageOut at end) h = absurd (true≢false h)
 unpaged_out e event h = refl
 
 -- what is held for another body that is the same
-holds_same : (s t : Store) (pool : Option ℕ) (e : EndpointId) (a b : Body) → held_for t.held e ≡ held_for s.held e → b ≡ a → HoldsBody s pool e a → HoldsBody t pool e b
+holds_same : (s t : Store) (pool : Option ℕ) (e : EndpointId) (a b : Body) → held_for t.held e ≡ held_for s.held e → b ≡ a → HoldsBody s pool e a →
+    HoldsBody t pool e b
 holds_same s t pool e a b held same h =
     record { held = held ∙ h.held ∙ ap (λ (c : Body). Some (image c)) (sym same); valid = subst (IsValid e pool) (sym same) h.valid }
 
@@ -55,7 +57,8 @@ holds_same s t pool e a b held same h =
 abbrev LeavesEnds : Layout → NodeId → Event → Type 0
 LeavesEnds layout node event = (k : ℕ) (end : EndSetting) → slice_get layout.ends k ≡ Some end → end.node ≡ node → pages_out end.id event ≡ false
 
-swap_same : (layout : Layout) (journal : List Entry) (x : Entry) (node : NodeId) (s : Store) → StaysOnDisk layout journal x → is_page_call node x.event ≡ false → LeavesEnds layout node x.event → IsSwap layout journal node s → IsSwap layout (journal ++ x ∷ []) node s
+swap_same : (layout : Layout) (journal : List Entry) (x : Entry) (node : NodeId) (s : Store) → StaysOnDisk layout journal x →
+    is_page_call node x.event ≡ false → LeavesEnds layout node x.event → IsSwap layout journal node s → IsSwap layout (journal ++ x ∷ []) node s
 swap_same layout journal x node s still uncalled leaves is =
     record {
       fails = is.fails;
@@ -63,14 +66,16 @@ swap_same layout journal x node s still uncalled leaves is =
       bodies =
           λ k end at here on.
           (let there = still end.id (leaves k end at here) on in
-          holds_same s s layout.pool end.id (state_of layout journal end.id).body (state_of layout (journal ++ x ∷ []) end.id).body refl there.body (is.bodies k end at here there.there));
+          holds_same s s layout.pool end.id (state_of layout journal end.id).body (state_of layout (journal ++ x ∷ []) end.id).body refl there.body
+          (is.bodies k end at here there.there));
     }
 
 none_got : {X : Type 0} (xs : List X) (k : ℕ) (x : X) → length xs ≡ 0 → slice_get xs k ≡ Some x → ⊥
 none_got [] k x none at = absurd (cc)
 none_got (y ∷ xs) k x none at = absurd (omega (arith, none))
 
-pub swaps_same : (layout : Layout) (journal : List Entry) (x : Entry) (ss : List Store) → IsLawful layout → IsHistory layout journal → MayFollow layout journal x → is_page x.event ≡ false → AreSwaps layout journal ss → AreSwaps layout (journal ++ x ∷ []) ss
+pub swaps_same : (layout : Layout) (journal : List Entry) (x : Entry) (ss : List Store) → IsLawful layout → IsHistory layout journal →
+    MayFollow layout journal x → is_page x.event ≡ false → AreSwaps layout journal ss → AreSwaps layout (journal ++ x ∷ []) ss
 swaps_same layout journal x ss lawful history may unpaged are = record { each = λ k s at. by_network k s at layout.direct refl; all = are.all }
   where
     by_network : (k : ℕ) (s : Store) → slice_get ss k ≡ Some s → (direct : Bool) → layout.direct ≡ direct → IsSwap layout (journal ++ x ∷ []) (node_at k) s
@@ -89,7 +94,8 @@ page_calls_more : (s : Store) (e : EndLog) (event : Event) → (after_page s e e
 page_calls_more s e (Events.PageOut node end) = call_calls s (with_held s e.settings.id (image (state_in e).body)) refl
 page_calls_more s e event = call_calls s s refl
 
-page_held : (s : Store) (e : EndLog) (event : Event) (f : EndpointId) → CanPage s e event → pages_out f event ≡ false → held_for (after_page s e event).held f ≡ held_for s.held f
+page_held : (s : Store) (e : EndLog) (event : Event) (f : EndpointId) → CanPage s e event → pages_out f event ≡ false →
+    held_for (after_page s e event).held f ≡ held_for s.held f
 page_held s e (Events.PageOut node end) f can out =
     held_other s e.settings.id (image (state_in e).body) f (ap (same_end f) (sym can.is_end) ∙ out)
 page_held s e (Events.PageIn node end) f can out = held_still s f
@@ -131,7 +137,9 @@ was_swap : (p : Paging) → IsSwap p.layout p.journal p.node p.s
 was_swap p = p.are.each p.node.0 p.s p.at
 
 -- the body that was paged out is held
-out_held : (p : Paging) (f : EndpointId) (node : NodeId) (end : EndpointId) → p.x.event ≡ Events.PageOut node end → same_end f end ≡ true → is_on_disk (state_of p.layout (p.journal ++ p.x ∷ []) f).head.place ≡ true → HoldsBody p.t p.layout.pool f (state_of p.layout (p.journal ++ p.x ∷ []) f).body
+out_held : (p : Paging) (f : EndpointId) (node : NodeId) (end : EndpointId) → p.x.event ≡ Events.PageOut node end → same_end f end ≡ true →
+    is_on_disk (state_of p.layout (p.journal ++ p.x ∷ []) f).head.place ≡ true →
+    HoldsBody p.t p.layout.pool f (state_of p.layout (p.journal ++ p.x ∷ []) f).body
 out_held p f node end ev same on = by_fails (fails_after p.s.fails p.s.calls) refl
   where
     can : CanPageOut node end p.e
@@ -167,7 +175,8 @@ out_held p f node end ev same on = by_fails (fails_after p.s.fails p.s.calls) re
         let stayed : state_of p.layout (p.journal ++ p.x ∷ []) f ≡ state_in p.e = now ∙ ap (paged_out (state_of p.layout p.journal f)) failed ∙ before in
         absurd (on_host_not_on_disk (state_in p.e).head.place can.on_host (ap (λ (s : State). is_on_disk s.head.place) (sym stayed) ∙ on))
     by_fails false is =
-        let holds : p.t ≡ counted (with_held p.s p.e.settings.id image') = told ∙ ap (λ (b : Bool). if b then faulted p.s else counted (with_held p.s p.e.settings.id image')) is in
+        let holds : p.t ≡ counted (with_held p.s p.e.settings.id image') = told
+        ∙ ap (λ (b : Bool). if b then faulted p.s else counted (with_held p.s p.e.settings.id image')) is in
         record {
           held =
               ap (λ (s : Store). held_for s.held f) holds
@@ -177,7 +186,9 @@ out_held p f node end ev same on = by_fails (fails_after p.s.fails p.s.calls) re
           valid = coe 0 1 (k. IsValid (sym id k) (p.pool k) (sym body k)) valid;
         }
 
-out_found : (p : Paging) (f : EndpointId) (event : Event) → p.x.event ≡ event → pages_out f event ≡ true → is_on_disk (state_of p.layout (p.journal ++ p.x ∷ []) f).head.place ≡ true → HoldsBody p.t p.layout.pool f (state_of p.layout (p.journal ++ p.x ∷ []) f).body
+out_found : (p : Paging) (f : EndpointId) (event : Event) → p.x.event ≡ event → pages_out f event ≡ true →
+    is_on_disk (state_of p.layout (p.journal ++ p.x ∷ []) f).head.place ≡ true →
+    HoldsBody p.t p.layout.pool f (state_of p.layout (p.journal ++ p.x ∷ []) f).body
 out_found p f (Events.PageOut node end) ev out on = out_held p f node end ev out on
 out_found p f event ev out on = absurd (true≢false (sym out))
 
@@ -196,7 +207,9 @@ swap_called p =
     was : IsSwap p.layout p.journal p.node p.s
     was = was_swap p
 
-    by_out : (k : ℕ) (end : EndSetting) → slice_get p.layout.ends k ≡ Some end → end.node ≡ p.node → is_on_disk (state_of p.layout (p.journal ++ p.x ∷ []) end.id).head.place ≡ true → (b : Bool) → pages_out end.id p.x.event ≡ b → HoldsBody p.t p.layout.pool end.id (state_of p.layout (p.journal ++ p.x ∷ []) end.id).body
+    by_out : (k : ℕ) (end : EndSetting) → slice_get p.layout.ends k ≡ Some end → end.node ≡ p.node →
+        is_on_disk (state_of p.layout (p.journal ++ p.x ∷ []) end.id).head.place ≡ true → (b : Bool) → pages_out end.id p.x.event ≡ b →
+        HoldsBody p.t p.layout.pool end.id (state_of p.layout (p.journal ++ p.x ∷ []) end.id).body
     by_out k end at here on true is = out_found p end.id p.x.event refl is on
     by_out k end at here on false is =
         let there = still_of p end.id is on in
@@ -208,7 +221,8 @@ declared_there : (ss : List EndSetting) (k : ℕ) (end : EndSetting) → slice_g
 declared_there [] k end at = absurd (cc)
 declared_there (s ∷ ss) zero end at =
     let same : s ≡ end = cc in
-    let here : is_home_by end.id end.node s ≡ true = subst (λ (w : EndSetting). is_home_by end.id end.node w ≡ true) (sym same) (and_from (same_end end.id end.id) (same_node end.node end.node) (same_end-refl end.id) (eq-eqb end.node.0 end.node.0 refl)) in
+    let here : is_home_by end.id end.node s ≡ true = subst (λ (w : EndSetting). is_home_by end.id end.node w ≡ true) (sym same)
+    (and_from (same_end end.id end.id) (same_node end.node end.node) (same_end-refl end.id) (eq-eqb end.node.0 end.node.0 refl)) in
     ap (λ (b : Bool). b || list_any (is_home_by end.id end.node) ss) here
 declared_there (s ∷ ss) (suc k) end at = or_more (is_home_by end.id end.node s) (list_any (is_home_by end.id end.node) ss) (declared_there ss k end at)
   where
@@ -235,7 +249,8 @@ swap_beside p k s apart at =
         by_out false is = refl
         by_out true is =
             let home : is_home p.layout end.id (node_at k) ≡ true = ap (is_home p.layout end.id) (sym here) ∙ declared_there p.layout.ends j end there in
-            let same : node_at k ≡ p.node = one_home p.layout p.lawful.ids end.id (node_at k) p.node home (ap (λ (f : EndpointId). is_home p.layout f p.node) (p.moved end.id is) ∙ p.home) in
+            let same : node_at k ≡ p.node = one_home p.layout p.lawful.ids end.id (node_at k) p.node home
+            (ap (λ (f : EndpointId). is_home p.layout f p.node) (p.moved end.id is) ∙ p.home) in
             absurd (apart (ap (λ (n : NodeId). n.0) same))
 
 pub swaps_paged : (p : Paging) → AreSwaps p.layout (p.journal ++ p.x ∷ []) (slice_set p.swaps p.node.0 p.t)

@@ -1,7 +1,8 @@
 -- A work of an interface, in the whole cluster.
 use Rattle.std.specs.Prelude.{slice_index_or, Result, Ok, Err, option_to_list, slice_get, slice_set, nat_le}
 use Rattle.std.specs.List.{filter, list_any}
-use Rattle.std.proofs.Common.{◌≡◌, ◌≢◌, ℕ, zero, suc, ◌<◌, Bool, true, false, cond, List, [], ◌∷◌, ◌++◌, map, length, Option, Some, None, refl, sym, ap, ◌∙◌, subst, arith, if◌then◌else◌}
+use Rattle.std.proofs.Common.{◌≡◌, ◌≢◌, ℕ, zero, suc, ◌<◌, Bool, true, false, cond, List, [], ◌∷◌, ◌++◌, map, length, Option, Some, None, refl, sym, ap, ◌∙◌}
+use Rattle.std.proofs.Common.{subst, arith, if◌then◌else◌}
 use Rattle.std.proofs.lemmas.Bool.{le-leb, leb-true, leb-false}
 use Rattle.std.proofs.lemmas.Option.{slice_get-get_or}
 use Rattle.am_names.specs.declared.EndpointId.{EndpointId}
@@ -18,29 +19,29 @@ use Rattle.am_model.specs.Endpoint.{State}
 use Rattle.am_model.specs.Layout.{Layout}
 use Rattle.am_model.specs.History.{failing, is_in_range, outcome_of}
 use Rattle.am_model.specs.Steps.{LogFull, NotEnabled, full_by, full_log, is_end_full, is_node_full, least_such, stop, stop_by}
-use Rattle.am_drain.specs.Made.{next_entry, next_stamp}
-use Rattle.am_local.specs.declared.work.Work.{Work}
-use Rattle.am_local.specs.declared.work.Work.TheVariants as Works
-use Rattle.am_local.specs.Interface.{event_of, failing_at, needs, outcome_at}
-use Rattle.am_local.specs.Together.{IsPacketOf, IsPart, IsState, SaysTheSame}
-use Rattle.am_local.proofs.Outcomes.{work_local}
-use Rattle.am_local.proofs.Touched.{needs_touched}
+use Rattle.am_model_drain.specs.Made.{next_entry, next_stamp}
+use Rattle.am_model_parts.specs.declared.work.Work.{Work}
+use Rattle.am_model_parts.specs.declared.work.Work.TheVariants as Works
+use Rattle.am_model_parts.specs.Interface.{event_of, failing_at, needs, outcome_at}
+use Rattle.am_model_parts.specs.Together.{IsPacketOf, IsPart, IsState, SaysTheSame}
+use Rattle.am_model_parts.proofs.Outcomes.{work_local}
+use Rattle.am_model_parts.proofs.Touched.{needs_touched}
 use Rattle.am_model.specs.declared.EntryFault.{EntryFault}
 use Rattle.am_model.specs.declared.EntryFault.TheVariants as Faults
 use Rattle.am_scenario_types.specs.declared.parts.FaultLine.{FaultLine}
 use Rattle.am_endpoint.specs.View.{EndpointView}
 use Rattle.am_iface.specs.View.{InterfaceView, own}
-use Rattle.am_iface.specs.Turns.{IsFull}
+use Rattle.am_iface.specs.Turns.{HasRoom, IsFull}
 use Rattle.am_machine.specs.declared.settings.Settings.{Settings}
-use Rattle.am_moves.specs.Logs.{EndLog, kept}
+use Rattle.am_driver_moves.specs.Logs.{EndLog, kept}
 use Rattle.am_machine.specs.Interfaces.{AreInterfaces, IsInterface}
 use Rattle.am_machine.specs.Kept.{IsKept, layout_in}
 use Rattle.am_machine.specs.Turned.{IsTaken, IsTurned, TurnsAlone, entries_after, entry_of_work}
 use Rattle.am_machine.specs.View.{Applies, ClusterView}
 use Rattle.am_machine.proofs.Applied.{IsNext, kept_still, seen, seen_next, tied_next, swaps_kept}
 use Rattle.am_machine.proofs.InterfaceLogs.{interfaces_more, interfaces_moved}
-use Rattle.am_device.specs.Memory.{Store}
-use Rattle.am_moves.specs.Pages.{is_page}
+use Rattle.am_swap_device.specs.Memory.{Store}
+use Rattle.am_driver_moves.specs.Pages.{is_page}
 use Rattle.am_machine.proofs.Tied.{layout_kept, none_grown}
 
 -- a work of the node's interface, where what it reads beside its log is the journal's
@@ -64,16 +65,22 @@ pub record Joint : Type 0 where
 
 -- what stands at a place, read twice
 pub read_twice : {X : Type 0} (xs : List X) (k : ℕ) (x y : X) → k < length xs → x ≡ slice_index_or xs k x → y ≡ slice_index_or xs k y → y ≡ x
-read_twice xs k x y lt a b = let both : Some (slice_index_or xs k y) ≡ Some (slice_index_or xs k x) = sym (slice_get-get_or xs k y lt) ∙ slice_get-get_or xs k x lt in let same : slice_index_or xs k y ≡ slice_index_or xs k x = cc in b ∙ same ∙ sym a
+read_twice xs k x y lt a b = let both : Some (slice_index_or xs k y) ≡ Some (slice_index_or xs k x) = sym (slice_get-get_or xs k y lt)
+    ∙ slice_get-get_or xs k x lt in let same : slice_index_or xs k y ≡ slice_index_or xs k x = cc in b ∙ same ∙ sym a
 
 -- there is an interface for each node
-pub interface_there : (layout : Layout) (journal : List Entry) (is : List InterfaceView) (node : NodeId) → AreInterfaces layout journal is → layout.direct ≡ false → node.0 < layout.nodes → node.0 < length is
+pub interface_there : (layout : Layout) (journal : List Entry) (is : List InterfaceView) (node : NodeId) → AreInterfaces layout journal is →
+    layout.direct ≡ false → node.0 < layout.nodes → node.0 < length is
 interface_there layout journal is node are packet lt =
     let all : length is ≡ layout.nodes = are.all ∙ ap (λ (b : Bool). if b then 0 else layout.nodes) packet in
     omega (arith, all, lt)
 
 -- a work in a cluster that is seen so
-abbrev pub joint_in : (s : Settings) (faults : List FaultLine) (ends : List EndpointView) (journal : List Entry) (interfaces : List InterfaceView) (swaps : List Store) (v : ClusterView) (node : NodeId) (one : InterfaceView) (state : State) (work : Work) → IsKept (layout_in s faults (map kept ends)) (map kept ends) journal interfaces swaps → seen s faults (map kept ends) journal ≡ v → v.layout.direct ≡ false → is_in_range v.layout (event_of node work) ≡ true → slice_get interfaces node.0 ≡ Some one → IsTaken v.journal node work → IsState (layout_in s faults (map kept ends)) journal state (needs (own one) work) → Joint
+abbrev pub joint_in : (s : Settings) (faults : List FaultLine) (ends : List EndpointView) (journal : List Entry) (interfaces : List InterfaceView)
+    (swaps : List Store) (v : ClusterView) (node : NodeId) (one : InterfaceView) (state : State) (work : Work) →
+    IsKept (layout_in s faults (map kept ends)) (map kept ends) journal interfaces swaps → seen s faults (map kept ends) journal ≡ v → v.layout.direct ≡ false →
+    is_in_range v.layout (event_of node work) ≡ true → slice_get interfaces node.0 ≡ Some one → IsTaken v.journal node work →
+    IsState (layout_in s faults (map kept ends)) journal state (needs (own one) work) → Joint
 joint_in s faults ends journal interfaces swaps v node one state work kept' is packet range at taken reads =
     record {
       settings = s;
@@ -169,10 +176,12 @@ pub record IsAlone (j : Joint) : Type 0 where
 alone_touches : (j : Joint) → IsAlone j → ends_touched (event_in j) (outcome_of (layout_of j) j.journal (event_in j)) ≡ []
 alone_touches j alone = (λ i. ends_touched (sym (joint_event j) i) (joint_outcome j i)) ∙ alone.none
 
-pub alone_stop : (j : Joint) (t : Bool) → IsAlone j → failing_at (own j.one) j.state j.work ≡ None → nat_le j.settings.log (length j.one.log) ≡ t → stop (layout_of j) j.journal (event_in j) ≡ cond t (Some (LogFull (Parts.Interface j.node))) None
+pub alone_stop : (j : Joint) (t : Bool) → IsAlone j → failing_at (own j.one) j.state j.work ≡ None → nat_le j.settings.log (length j.one.log) ≡ t →
+    stop (layout_of j) j.journal (event_in j) ≡ cond t (Some (LogFull (Parts.Interface j.node))) None
 alone_stop j t alone enabled full =
     ap (λ (f : Option Condition). stop_by f (full_log (layout_of j) j.journal (event_in j))) (joint_failing j ∙ enabled)
-    ∙ (λ i. stop_by None (full_by (layout_of j) j.journal (least_such (is_end_full (layout_of j) j.journal) (alone_touches j alone i)) (work_touches j.node j.work i)))
+    ∙ (λ i. stop_by None (full_by (layout_of j) j.journal (least_such (is_end_full (layout_of j) j.journal) (alone_touches j alone i))
+    (work_touches j.node j.work i)))
     ∙ ap (λ (b : Bool). stop_by None (if b then Some (Parts.Interface j.node) else None)) (node_full j t full)
     ∙ by_test t
   where
@@ -180,31 +189,41 @@ alone_stop j t alone enabled full =
     by_test true = refl
     by_test false = refl
 
-pub alone_disabled : (j : Joint) (c : Condition) → failing_at (own j.one) j.state j.work ≡ Some c → stop (layout_of j) j.journal (event_in j) ≡ Some (NotEnabled c)
+pub alone_disabled : (j : Joint) (c : Condition) → failing_at (own j.one) j.state j.work ≡ Some c →
+    stop (layout_of j) j.journal (event_in j) ≡ Some (NotEnabled c)
 alone_disabled j c is = ap (λ (f : Option Condition). stop_by f (full_log (layout_of j) j.journal (event_in j))) (joint_failing j ∙ is)
 
-pub alone_full : (j : Joint) (p : Part) → IsAlone j → failing_at (own j.one) j.state j.work ≡ None → IsFull j.one p → stop (layout_of j) j.journal (event_in j) ≡ Some (LogFull p)
+pub alone_full : (j : Joint) (p : Part) → IsAlone j → failing_at (own j.one) j.state j.work ≡ None → IsFull j.one p →
+    stop (layout_of j) j.journal (event_in j) ≡ Some (LogFull p)
 alone_full j p alone enabled full =
     alone_stop j true alone enabled (is_full j full.1)
     ∙ ap (λ (q : Part). Some (LogFull q)) (sym (full.0 ∙ ap (λ (n : NodeId). Parts.Interface n) (interface_in j).is_node))
 
+-- nothing stops it where no condition fails and the log isn't full
+pub alone_runs : (j : Joint) → IsAlone j → HasRoom j.one j.state j.work → stop (layout_of j) j.journal (event_in j) ≡ None
+alone_runs j alone room = alone_stop j false alone room.enabled (not_full j room.here)
+
 -- what it makes of a cluster
-pub alone_next : (j : Joint) (x : Entry) (new : InterfaceView) → IsAlone j → IsTurned j.one new j.journal j.state j.work x → IsNext j.settings j.faults (map kept j.ends) j.journal (event_in j) x (map kept j.ends) (j.journal ++ x ∷ [])
+pub alone_next : (j : Joint) (x : Entry) (new : InterfaceView) → IsAlone j → IsTurned j.one new j.journal j.state j.work x →
+    IsNext j.settings j.faults (map kept j.ends) j.journal (event_in j) x (map kept j.ends) (j.journal ++ x ∷ [])
 alone_next j x new alone t =
     record {
       tied = j.kept'.tied;
       in_range = j.in_range;
       runs = alone_stop j false alone t.enabled (not_full j t.room);
       entry = joint_entry j x t.entry;
-      ends = sym (none_grown x (map kept j.ends) (λ k d got. ap (λ (es : List EndpointId). list_any (same_end d.settings.id) es) (ap (λ (y : Entry). ends_touched y.event y.outcome) t.entry ∙ alone.none)));
+      ends = sym (none_grown x (map kept j.ends) (λ k d got. ap (λ (es : List EndpointId). list_any (same_end d.settings.id) es)
+          (ap (λ (y : Entry). ends_touched y.event y.outcome) t.entry ∙ alone.none)));
       journal' = refl;
     }
 
 -- the interface's log grows
-pub joint_interfaces : (j : Joint) (x : Entry) (new : InterfaceView) → IsTurned j.one new j.journal j.state j.work x → AreInterfaces (layout_of j) (j.journal ++ x ∷ []) (slice_set j.interfaces j.node.0 new)
+pub joint_interfaces : (j : Joint) (x : Entry) (new : InterfaceView) → IsTurned j.one new j.journal j.state j.work x →
+    AreInterfaces (layout_of j) (j.journal ++ x ∷ []) (slice_set j.interfaces j.node.0 new)
 joint_interfaces j x new t =
     let is = interface_in j in
-    let touched : node_touched x.event ≡ Some j.node = ap (λ (y : Entry). node_touched y.event) t.entry ∙ work_touches j.one.settings.node j.work ∙ ap (λ (n : NodeId). Some n) is.is_node in
+    let touched : node_touched x.event ≡ Some j.node = ap (λ (y : Entry). node_touched y.event) t.entry ∙ work_touches j.one.settings.node j.work
+    ∙ ap (λ (n : NodeId). Some n) is.is_node in
     let less = not_full j t.room in
     let room : length j.one.log < j.settings.log = leb-false j.settings.log (length j.one.log) less in
     interfaces_more (layout_of j) j.journal x j.interfaces j.node j.one new touched j.at room t.interface j.kept'.interfaces'
@@ -218,9 +237,11 @@ set_got (x ∷ xs) zero v w at is = let same : w ≡ x = cc in ap (λ y. y ∷ x
 set_got (x ∷ xs) (suc k) v w at is = ap (λ ys. x ∷ ys) (set_got xs k v w at is)
 
 -- where the interface and the endpoints' settings and logs are as they were
-pub joint_still : (j : Joint) (new : InterfaceView) (es : List EndLog) → new ≡ j.one → es ≡ map kept j.ends → IsKept (layout_in j.settings j.faults es) es j.journal (slice_set j.interfaces j.node.0 new) j.swaps
+pub joint_still : (j : Joint) (new : InterfaceView) (es : List EndLog) → new ≡ j.one → es ≡ map kept j.ends →
+    IsKept (layout_in j.settings j.faults es) es j.journal (slice_set j.interfaces j.node.0 new) j.swaps
 joint_still j new es same ends =
-    subst (λ (is : List InterfaceView). IsKept (layout_in j.settings j.faults es) es j.journal is j.swaps) (sym (set_got j.interfaces j.node.0 j.one new j.at same))
+    subst (λ (is : List InterfaceView). IsKept (layout_in j.settings j.faults es) es j.journal is j.swaps)
+    (sym (set_got j.interfaces j.node.0 j.one new j.at same))
     (kept_still j.settings j.faults (map kept j.ends) es j.journal j.journal j.interfaces j.swaps ends refl j.kept')
 
 work_unpaged : (node : NodeId) (w : Work) → is_page (event_of node w) ≡ false
@@ -229,7 +250,9 @@ work_unpaged node (Works.Receive (Packets.Answer p)) = refl
 work_unpaged node (Works.Bind end) = refl
 work_unpaged node (Works.Expire peer channel) = refl
 
-pub joint_kept : (j : Joint) (x : Entry) (new : InterfaceView) (es : List EndLog) → IsNext j.settings j.faults (map kept j.ends) j.journal (event_in j) x es (j.journal ++ x ∷ []) → IsTurned j.one new j.journal j.state j.work x → IsKept (layout_in j.settings j.faults es) es (j.journal ++ x ∷ []) (slice_set j.interfaces j.node.0 new) j.swaps
+pub joint_kept : (j : Joint) (x : Entry) (new : InterfaceView) (es : List EndLog) →
+    IsNext j.settings j.faults (map kept j.ends) j.journal (event_in j) x es (j.journal ++ x ∷ []) → IsTurned j.one new j.journal j.state j.work x →
+    IsKept (layout_in j.settings j.faults es) es (j.journal ++ x ∷ []) (slice_set j.interfaces j.node.0 new) j.swaps
 joint_kept j x new es next turned =
     let longer = j.journal ++ x ∷ [] in
     record {
@@ -243,18 +266,34 @@ joint_kept j x new es next turned =
 
 -- ---- a work that touches no endpoint, whole
 
-alone_of : (j : Joint) → needs (own j.one) j.work ≡ None → IsAlone j
+pub alone_of : (j : Joint) → needs (own j.one) j.work ≡ None → IsAlone j
 alone_of j none = record { none = needs_touched (own j.one) j.state j.work ∙ ap option_to_list none }
 
-pub alone_keeps : (j : Joint) (new : InterfaceView) (result : Result Entry EntryFault) → needs (own j.one) j.work ≡ None → TurnsAlone j.one new j.journal j.state j.work result → IsKept (layout_of j) (map kept j.ends) (entries_after j.journal result) (slice_set j.interfaces j.node.0 new) j.swaps
+pub alone_keeps : (j : Joint) (new : InterfaceView) (result : Result Entry EntryFault) → needs (own j.one) j.work ≡ None →
+    TurnsAlone j.one new j.journal j.state j.work result → IsKept (layout_of j) (map kept j.ends) (entries_after j.journal result)
+    (slice_set j.interfaces j.node.0 new) j.swaps
 alone_keeps j new (Ok x) none turns = joint_kept j x new (map kept j.ends) (alone_next j x new (alone_of j none) turns) turns
 alone_keeps j new (Err (Faults.NotEnabled c)) none turns = joint_still j new (map kept j.ends) turns.1 refl
 alone_keeps j new (Err (Faults.LogFull p)) none turns = joint_still j new (map kept j.ends) turns.2 refl
-alone_keeps j new (Err Faults.NoMemory) none turns = joint_still j new (map kept j.ends) turns refl
+alone_keeps j new (Err Faults.NoMemory) none turns = joint_still j new (map kept j.ends) turns.1 refl
 
-pub alone_applies : (j : Joint) (v : ClusterView) (new : InterfaceView) (result : Result Entry EntryFault) → seen j.settings j.faults (map kept j.ends) j.journal ≡ v → needs (own j.one) j.work ≡ None → TurnsAlone j.one new j.journal j.state j.work result → Applies v (seen j.settings j.faults (map kept j.ends) (entries_after j.journal result)) (event_in j) result
+pub alone_applies : (j : Joint) (v : ClusterView) (new : InterfaceView) (result : Result Entry EntryFault) →
+    seen j.settings j.faults (map kept j.ends) j.journal ≡ v → needs (own j.one) j.work ≡ None → TurnsAlone j.one new j.journal j.state j.work result →
+    Applies v (seen j.settings j.faults (map kept j.ends) (entries_after j.journal result)) (event_in j) result
 alone_applies j v new (Ok x) is none turns =
-    seen_next j.settings j.faults (map kept j.ends) j.journal (event_in j) x (map kept j.ends) (j.journal ++ x ∷ []) v is (alone_next j x new (alone_of j none) turns)
-alone_applies j v new (Err (Faults.NotEnabled c)) is none turns = (ap (λ (w : ClusterView). stop w.layout w.journal (event_in j)) (sym is) ∙ alone_disabled j c turns.0, is)
-alone_applies j v new (Err (Faults.LogFull p)) is none turns = (ap (λ (w : ClusterView). stop w.layout w.journal (event_in j)) (sym is) ∙ alone_full j p (alone_of j none) turns.0 turns.1, is)
-alone_applies j v new (Err Faults.NoMemory) is none turns = is
+    seen_next j.settings j.faults (map kept j.ends) j.journal (event_in j) x (map kept j.ends) (j.journal ++ x ∷ []) v is
+    (alone_next j x new (alone_of j none) turns)
+alone_applies j v new (Err (Faults.NotEnabled c)) is none turns = (
+  ap (λ (w : ClusterView). stop w.layout w.journal (event_in j)) (sym is)
+      ∙ alone_disabled j c turns.0,
+  is,
+)
+alone_applies j v new (Err (Faults.LogFull p)) is none turns = (
+  ap (λ (w : ClusterView). stop w.layout w.journal (event_in j)) (sym is)
+      ∙ alone_full j p (alone_of j none) turns.0 turns.1,
+  is,
+)
+alone_applies j v new (Err Faults.NoMemory) is none turns = (
+  ap (λ (w : ClusterView). stop w.layout w.journal (event_in j)) (sym is) ∙ alone_runs j (alone_of j none) turns.0,
+  is,
+)

@@ -2,7 +2,8 @@
 use Rattle.std.specs.Prelude.{nat_lt, slice_get, slice_index_or}
 use Rattle.std.specs.List.{filter, list_any}
 use Rattle.std.specs.Option.{option_copied}
-use Rattle.std.proofs.Common.{◌≡◌, ◌-◌, ◌<◌, ℕ, Bool, true, false, cond, Bor, List, [], ◌∷◌, ◌++◌, length, Option, Some, None, if◌then◌else◌, refl, sym, ap, ◌∙◌, subst, arith}
+use Rattle.std.proofs.Common.{◌≡◌, ◌-◌, ◌<◌, ℕ, Bool, true, false, cond, Bor, List, [], ◌∷◌, ◌++◌, length, Option, Some, None, if◌then◌else◌, refl, sym, ap}
+use Rattle.std.proofs.Common.{◌∙◌, subst, arith}
 use Rattle.std.proofs.lemmas.List.{length_push}
 use Rattle.std.proofs.lemmas.List.Elements.{filter-append}
 use Rattle.std.proofs.lemmas.Option.{slice_get-get_or}
@@ -22,7 +23,7 @@ use Rattle.am_model.specs.Tables.{bind_table, expire_table}
 use Rattle.am_model.specs.Layout.{Layout, declared}
 use Rattle.am_model.proofs.Each.{each_at}
 use Rattle.am_model.proofs.Names.{same_end-first, same_node-refl}
-use Rattle.am_local.proofs.Frames.{none_holds}
+use Rattle.am_model_parts.proofs.Frames.{none_holds}
 use Rattle.am_iface.specs.View.{InterfaceView}
 use Rattle.am_machine.specs.Interfaces.{AreInterfaces}
 use Rattle.am_machine.specs.Lasts.{end_named}
@@ -51,15 +52,19 @@ last_is log past x is =
     subst (λ (xs : List Entry). slice_get xs (length xs - 1) ≡ Some x) (sym is) (ap (slice_get (past ++ x ∷ [])) (before_end past x) ∙ at_end past x)
 
 -- the part of a journal ends with its last entry, where that is of the part
-pub part_ends : (q : Entry → Bool) (log journal past : List Entry) (x : Entry) → log ≡ filter q journal → journal ≡ past ++ x ∷ [] → q x ≡ true → log ≡ filter q past ++ x ∷ []
+pub part_ends : (q : Entry → Bool) (log journal past : List Entry) (x : Entry) → log ≡ filter q journal → journal ≡ past ++ x ∷ [] → q x ≡ true →
+    log ≡ filter q past ++ x ∷ []
 part_ends q log journal past x part is of =
     part ∙ ap (filter q) is ∙ filter-append q past (x ∷ []) ∙ ap (λ (b : Bool). filter q past ++ cond b (x ∷ []) []) of
 
 -- ---- endpoints
 
-named_declared : (layout : Layout) (event : Event) (end : EndpointId) → is_in_range layout event ≡ true → end_named event ≡ Some end → declared layout end ≡ true
-named_declared layout (Events.Call actor e call) end range is = let same : e ≡ end = cc in subst (λ (d : EndpointId). declared layout d ≡ true) same (applied.end_declared layout actor e call range)
-named_declared layout (Events.Want actor e) end range is = let same : e ≡ end = cc in subst (λ (d : EndpointId). declared layout d ≡ true) same (applied.want_declared layout actor e range)
+named_declared : (layout : Layout) (event : Event) (end : EndpointId) → is_in_range layout event ≡ true → end_named event ≡ Some end →
+    declared layout end ≡ true
+named_declared layout (Events.Call actor e call) end range is = let same : e ≡ end = cc in
+    subst (λ (d : EndpointId). declared layout d ≡ true) same (applied.end_declared layout actor e call range)
+named_declared layout (Events.Want actor e) end range is = let same : e ≡ end = cc in
+    subst (λ (d : EndpointId). declared layout d ≡ true) same (applied.want_declared layout actor e range)
 named_declared layout (Events.Carry e) end range is = let same : e ≡ end = cc in subst (λ (d : EndpointId). declared layout d ≡ true) same range
 named_declared layout (Events.Drain node e) end range is = end_known layout (Events.Drain node e) end range is
 named_declared layout (Events.Unload node e) end range is = end_known layout (Events.Unload node e) end range is
@@ -70,7 +75,8 @@ named_declared layout (Events.Bind node e) end range is = absurd (cc)
 named_declared layout (Events.Expire node peer channel) end range is = absurd (cc)
 named_declared layout (Events.Receive node peer number) end range is = absurd (cc)
 
-named_first : (event : Event) (outcome : Outcome) (end : EndpointId) → end_named event ≡ Some end → (rest : List EndpointId) × (ends_touched event outcome ≡ end ∷ rest)
+named_first : (event : Event) (outcome : Outcome) (end : EndpointId) → end_named event ≡ Some end →
+    (rest : List EndpointId) × (ends_touched event outcome ≡ end ∷ rest)
 named_first (Events.Call actor e call) outcome end is = let same : e ≡ end = cc in ([], ap (λ (d : EndpointId). d ∷ []) same)
 named_first (Events.Want actor e) outcome end is = let same : e ≡ end = cc in ([], ap (λ (d : EndpointId). d ∷ []) same)
 named_first (Events.Carry e) outcome end is = let same : e ≡ end = cc in (reached_by outcome, ap (λ (d : EndpointId). d ∷ reached_by outcome) same)
@@ -91,24 +97,37 @@ follows : (layout : Layout) (journal past : List Entry) (x : Entry) → IsHistor
 follows layout journal past x history is = each_at (MayFollow layout) [] past x [] (subst (λ (xs : List Entry). IsHistory layout xs) is history)
 
 -- the endpoint is declared
-pub there_declared : (layout : Layout) (journal past : List Entry) (x : Entry) (end : EndpointId) → IsHistory layout journal → journal ≡ past ++ x ∷ [] → end_named x.event ≡ Some end → declared layout end ≡ true
+pub there_declared : (layout : Layout) (journal past : List Entry) (x : Entry) (end : EndpointId) → IsHistory layout journal → journal ≡ past ++ x ∷ [] →
+    end_named x.event ≡ Some end → declared layout end ≡ true
 there_declared layout journal past x end history is named = named_declared layout x.event end (follows layout journal past x history is).in_range named
 
 -- what is read in its log
-pub there_last : (log seen journal past : List Entry) (x : Entry) (end : EndpointId) (r : Option Entry) → seen ≡ log → log ≡ filter (touches end) journal → journal ≡ past ++ x ∷ [] → end_named x.event ≡ Some end → r ≡ slice_get seen (length seen - 1) → r ≡ Some x
+pub there_last : (log seen journal past : List Entry) (x : Entry) (end : EndpointId) (r : Option Entry) → seen ≡ log → log ≡ filter (touches end) journal →
+    journal ≡ past ++ x ∷ [] → end_named x.event ≡ Some end → r ≡ slice_get seen (length seen - 1) → r ≡ Some x
 there_last log seen journal past x end r same part is named reads =
     reads ∙ last_is seen (filter (touches end) past) x (same ∙ part_ends (touches end) log journal past x part is (named_touched x end named))
 
 -- ---- interfaces
 
 -- the network is packet, and the node one of it
-on_packet : (layout : Layout) (past : List Entry) (event : Event) (node : NodeId) → is_in_range layout event ≡ true → failing layout past event ≡ None → node_touched event ≡ Some node → (layout.direct ≡ false) × (node.0 < layout.nodes)
+on_packet : (layout : Layout) (past : List Entry) (event : Event) (node : NodeId) → is_in_range layout event ≡ true → failing layout past event ≡ None →
+    node_touched event ≡ Some node → (layout.direct ≡ false) × (node.0 < layout.nodes)
 on_packet layout past (Events.Bind n end) node range on is =
-    let same : n ≡ node = cc in ((none_holds layout.direct Needs.NotPacket (bind_table (is_home layout end n) (state_of layout past end) (channel_for layout n past (front (state_of layout past end)))) on).0, subst (λ (m : NodeId). m.0 < layout.nodes) same (range_bind layout n end range).1)
+    let same : n ≡ node = cc in (
+      (none_holds layout.direct Needs.NotPacket (bind_table (is_home layout end n) (state_of layout past end)
+          (channel_for layout n past (front (state_of layout past end)))) on).0,
+      subst (λ (m : NodeId). m.0 < layout.nodes) same (range_bind layout n end range).1,
+    )
 on_packet layout past (Events.Expire n peer channel) node range on is =
-    let same : n ≡ node = cc in ((none_holds layout.direct Needs.NotPacket (expire_table (is_bound (channel_to n peer channel) past)) on).0, subst (λ (m : NodeId). m.0 < layout.nodes) same (range_expire layout n peer channel range).0)
+    let same : n ≡ node = cc in (
+      (none_holds layout.direct Needs.NotPacket (expire_table (is_bound (channel_to n peer channel) past)) on).0,
+      subst (λ (m : NodeId). m.0 < layout.nodes) same (range_expire layout n peer channel range).0,
+    )
 on_packet layout past (Events.Receive n peer number) node range on is =
-    let same : n ≡ node = cc in ((none_holds layout.direct Needs.NotPacket ((nat_lt (length (emitted peer n past)) number, Needs.NoPacket) ∷ []) on).0, subst (λ (m : NodeId). m.0 < layout.nodes) same (range_receive layout n peer number range).0)
+    let same : n ≡ node = cc in (
+      (none_holds layout.direct Needs.NotPacket ((nat_lt (length (emitted peer n past)) number, Needs.NoPacket) ∷ []) on).0,
+      subst (λ (m : NodeId). m.0 < layout.nodes) same (range_receive layout n peer number range).0,
+    )
 on_packet layout past (Events.Call actor end call) node range on is = absurd (cc)
 on_packet layout past (Events.Want actor end) node range on is = absurd (cc)
 on_packet layout past (Events.Carry end) node range on is = absurd (cc)
@@ -119,7 +138,8 @@ on_packet layout past (Events.PageOut n end) node range on is = absurd (cc)
 on_packet layout past (Events.PageIn n end) node range on is = absurd (cc)
 
 -- its interface is there
-pub here_found : (layout : Layout) (journal past : List Entry) (is : List InterfaceView) (x : Entry) (node : NodeId) → IsHistory layout journal → AreInterfaces layout journal is → journal ≡ past ++ x ∷ [] → node_touched x.event ≡ Some node → node.0 < length is
+pub here_found : (layout : Layout) (journal past : List Entry) (is : List InterfaceView) (x : Entry) (node : NodeId) → IsHistory layout journal →
+    AreInterfaces layout journal is → journal ≡ past ++ x ∷ [] → node_touched x.event ≡ Some node → node.0 < length is
 here_found layout journal past is x node history are ends touched =
     let may = follows layout journal past x history ends in
     let on = on_packet layout past x.event node may.in_range may.enabled touched in
@@ -127,12 +147,15 @@ here_found layout journal past is x node history are ends touched =
     let below = on.1 in
     omega (arith, all, below)
 
-pub here_read : (is seen : List InterfaceView) (k : ℕ) (one : InterfaceView) → seen ≡ is → k < length is → one ≡ slice_index_or seen k one → slice_get is k ≡ Some one
+pub here_read : (is seen : List InterfaceView) (k : ℕ) (one : InterfaceView) → seen ≡ is → k < length is → one ≡ slice_index_or seen k one →
+    slice_get is k ≡ Some one
 here_read is seen k one same lt value =
     slice_get-get_or is k one lt ∙ ap (λ (i : InterfaceView). Some i) (sym (value ∙ ap (λ (xs : List InterfaceView). slice_index_or xs k one) same))
 
 -- and its log ends with the entry
-pub here_ends : (layout : Layout) (journal past : List Entry) (is : List InterfaceView) (i : InterfaceView) (x : Entry) (node : NodeId) → AreInterfaces layout journal is → slice_get is node.0 ≡ Some i → journal ≡ past ++ x ∷ [] → node_touched x.event ≡ Some node → i.log ≡ filter (touches_node node) past ++ x ∷ []
+pub here_ends : (layout : Layout) (journal past : List Entry) (is : List InterfaceView) (i : InterfaceView) (x : Entry) (node : NodeId) →
+    AreInterfaces layout journal is → slice_get is node.0 ≡ Some i → journal ≡ past ++ x ∷ [] → node_touched x.event ≡ Some node →
+    i.log ≡ filter (touches_node node) past ++ x ∷ []
 here_ends layout journal past is i x node are at ends touched =
     part_ends (touches_node node) i.log journal past x (are.each node.0 i at).part ends
     (ap (λ (o : Option NodeId). is_node node o) touched ∙ same_node-refl node)

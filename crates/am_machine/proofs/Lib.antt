@@ -28,3 +28,4 @@ pub mod Indexed
 pub mod Apart
 pub mod LastMade
 pub mod Making
+pub mod Refusing

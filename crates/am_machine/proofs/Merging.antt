@@ -1,7 +1,8 @@
 -- The journal that a cluster keeps is the one that its logs merge into.
 use Rattle.std.specs.Prelude.{slice_get, Some, None}
 use Rattle.std.specs.List.{list_any}
-use Rattle.std.proofs.Common.{◌≡◌, ⊎_elim, ℕ, zero, suc, ◌<◌, Bool, true, false, List, [], ◌∷◌, ◌++◌, length, map, refl, sym, ap, ◌∙◌, subst, true≢false, arith, if◌then◌else◌}
+use Rattle.std.proofs.Common.{◌≡◌, ⊎_elim, ℕ, zero, suc, ◌<◌, Bool, true, false, List, [], ◌∷◌, ◌++◌, length, map, refl, sym, ap, ◌∙◌, subst, true≢false, arith}
+use Rattle.std.proofs.Common.{if◌then◌else◌}
 use Rattle.am_lemmas.proofs.Lists.{slice_get-Some}
 use Rattle.am_names.specs.declared.EndpointId.{EndpointId}
 use Rattle.am_names.specs.declared.NodeId.{NodeId}
@@ -16,16 +17,16 @@ use Rattle.am_model.specs.Layout.{AllAre, EndSetting, Layout, declared, node_at}
 use Rattle.am_model.proofs.Alls.{all_by_place, all_append}
 use Rattle.am_model.proofs.Names.{same_end-is}
 use Rattle.am_iface.specs.View.{InterfaceView}
-use Rattle.am_device.specs.Memory.{Store}
-use Rattle.am_merge.specs.Logs.{IsRising}
-use Rattle.am_merge.specs.Merged.{entries_of}
-use Rattle.am_merge.proofs.Sorted.{Has, contains_has, filter_has, has_contains, has_first, has_last}
+use Rattle.am_swap_device.specs.Memory.{Store}
+use Rattle.am_model_merge.specs.Logs.{IsRising}
+use Rattle.am_model_merge.specs.Merged.{entries_of}
+use Rattle.am_model_merge.proofs.Sorted.{Has, contains_has, filter_has, has_contains, has_first, has_last}
 use Rattle.am_laws_homes.proofs.Places.{condition_holds}
-use Rattle.am_join.specs.Joined.{AreOne, HaveJust}
-use Rattle.am_join.proofs.OneJournal.{are_one, merged_is}
+use Rattle.am_machine_join.specs.Joined.{AreOne, HaveJust}
+use Rattle.am_machine_join.proofs.OneJournal.{are_one, merged_is}
 use Rattle.am_endpoint.specs.View.{EndpointView}
-use Rattle.am_node.specs.Parts.{log_of}
-use Rattle.am_moves.specs.Logs.{EndLog, kept}
+use Rattle.am_machine_node.specs.Parts.{log_of}
+use Rattle.am_driver_moves.specs.Logs.{EndLog, kept}
 use Rattle.am_machine.specs.Ends.{setting_in}
 use Rattle.am_machine.specs.Interfaces.{IsInterface}
 use Rattle.am_machine.specs.Kept.{IsKept, IsOwn, end_logs, interface_logs, journal_by, logs_in}
@@ -38,25 +39,30 @@ end_parts : (layout : Layout) (journal : List Entry) (es : List EndLog) → AllA
 end_parts layout journal [] h = tt
 end_parts layout journal (e ∷ es) h = (OfEnd e.settings.id h.0.log, end_parts layout journal es h.1)
 
-interface_parts : (layout : Layout) (journal : List Entry) (is : List InterfaceView) → AllAre (λ (i : InterfaceView). (node : NodeId) × IsInterface layout journal node i) is → AllAre (IsPartOf journal) (interface_logs is)
+interface_parts : (layout : Layout) (journal : List Entry) (is : List InterfaceView) →
+    AllAre (λ (i : InterfaceView). (node : NodeId) × IsInterface layout journal node i) is → AllAre (IsPartOf journal) (interface_logs is)
 interface_parts layout journal [] h = tt
 interface_parts layout journal (i ∷ is) h = (OfNode h.0.0 h.0.1.part, interface_parts layout journal is h.1)
 
-parts : (layout : Layout) (es : List EndLog) (journal : List Entry) (is : List InterfaceView) (ss : List Store) → IsKept layout es journal is ss → AllAre (IsPartOf journal) (logs_in es is)
+parts : (layout : Layout) (es : List EndLog) (journal : List Entry) (is : List InterfaceView) (ss : List Store) → IsKept layout es journal is ss →
+    AllAre (IsPartOf journal) (logs_in es is)
 parts layout es journal is ss k =
     all_append (IsPartOf journal) (end_logs es) (interface_logs is) (end_parts layout journal es k.tied.own)
-    (interface_parts layout journal is (all_by_place (λ (i : InterfaceView). (node : NodeId) × IsInterface layout journal node i) is (λ n i at. (node_at n, k.interfaces'.each n i at))))
+    (interface_parts layout journal is (all_by_place (λ (i : InterfaceView). (node : NodeId) × IsInterface layout journal node i) is
+    (λ n i at. (node_at n, k.interfaces'.each n i at))))
 
 -- ---- each entry stands in a log
 
 -- after which entries one of a history came
-follows : (layout : Layout) (past xs : List Entry) (x : Entry) → EachAfter (MayFollow layout) past xs → Has xs x → (before : List Entry) × MayFollow layout before x
+follows : (layout : Layout) (past xs : List Entry) (x : Entry) → EachAfter (MayFollow layout) past xs → Has xs x →
+    (before : List Entry) × MayFollow layout before x
 follows layout past [] x each h = absurd h
 follows layout past (y ∷ xs) x each h =
     ⊎_elim (λ (here : y ≡ x). (past, subst (MayFollow layout past) here each.0)) (λ (there : Has xs x). follows layout (past ++ y ∷ []) xs x each.1 there) h
 
 -- in the direct network no interface is touched
-no_interface : (layout : Layout) (past : List Entry) (event : Event) (n : NodeId) → layout.direct ≡ true → failing layout past event ≡ None → is_node n (node_touched event) ≡ true → ⊥
+no_interface : (layout : Layout) (past : List Entry) (event : Event) (n : NodeId) → layout.direct ≡ true → failing layout past event ≡ None →
+    is_node n (node_touched event) ≡ true → ⊥
 no_interface layout past (Events.Bind node end) n direct may h = condition_holds _ _ layout.direct direct may
 no_interface layout past (Events.Expire node peer channel) n direct may h = condition_holds _ _ layout.direct direct may
 no_interface layout past (Events.Receive node peer number) n direct may h = condition_holds _ _ layout.direct direct may
@@ -67,12 +73,15 @@ end_there [] k e x at h = absurd (cc)
 end_there (d ∷ es) zero e x at h = let same : d ≡ e = cc in has_first d.log (entries_of (end_logs es)) x (subst (λ (f : EndLog). Has f.log x) (sym same) h)
 end_there (d ∷ es) (suc k) e x at h = has_last d.log (entries_of (end_logs es)) x (end_there es k e x at h)
 
-interface_there : (is : List InterfaceView) (k : ℕ) (i : InterfaceView) (x : Entry) → slice_get is k ≡ Some i → Has i.log x → Has (entries_of (interface_logs is)) x
+interface_there : (is : List InterfaceView) (k : ℕ) (i : InterfaceView) (x : Entry) → slice_get is k ≡ Some i → Has i.log x →
+    Has (entries_of (interface_logs is)) x
 interface_there [] k i x at h = absurd (cc)
-interface_there (j ∷ is) zero i x at h = let same : j ≡ i = cc in has_first j.log (entries_of (interface_logs is)) x (subst (λ (f : InterfaceView). Has f.log x) (sym same) h)
+interface_there (j ∷ is) zero i x at h = let same : j ≡ i = cc in
+    has_first j.log (entries_of (interface_logs is)) x (subst (λ (f : InterfaceView). Has f.log x) (sym same) h)
 interface_there (j ∷ is) (suc k) i x at h = has_last j.log (entries_of (interface_logs is)) x (interface_there is k i x at h)
 
-module _ (layout : Layout) (es : List EndLog) (journal : List Entry) (is : List InterfaceView) (ss : List Store) (ends : layout.ends ≡ map setting_in es) (k : IsKept layout es journal is ss) where
+module _ (layout : Layout) (es : List EndLog) (journal : List Entry) (is : List InterfaceView) (ss : List Store) (ends : layout.ends ≡ map setting_in es)
+    (k : IsKept layout es journal is ss) where
   in_end : (x : Entry) (e : EndpointId) → Has journal x → declared layout e ≡ true → touches e x ≡ true → Has (entries_of (logs_in es is)) x
   in_end x e h known on =
       let s = setting_there e layout.ends known in
@@ -95,11 +104,14 @@ module _ (layout : Layout) (es : List EndLog) (journal : List Entry) (is : List 
   stands x h =
       let f = follows layout [] journal x k.tied.history h in
       ⊎_elim
-      (λ (t : (e : EndpointId) × ((declared layout e ≡ true) × ((o : Outcome) → list_any (same_end e) (ends_touched x.event o) ≡ true))). in_end x t.0 h t.1.0 (t.1.1 x.outcome))
-      (λ (t : (n : NodeId) × ((n.0 < layout.nodes) × (is_node n (node_touched x.event) ≡ true))). by_network f.0 t.0 h f.1.enabled t.1.0 t.1.1 layout.direct refl)
+      (λ (t : (e : EndpointId) × ((declared layout e ≡ true) × ((o : Outcome) → list_any (same_end e) (ends_touched x.event o) ≡ true))). in_end x t.0 h t.1.0
+      (t.1.1 x.outcome))
+      (λ (t : (n : NodeId) × ((n.0 < layout.nodes) × (is_node n (node_touched x.event) ≡ true))). by_network f.0 t.0 h f.1.enabled t.1.0 t.1.1 layout.direct
+      refl)
       (touched layout x.event f.1.in_range)
     where
-      by_network : (before : List Entry) (n : NodeId) → Has journal x → failing layout before x.event ≡ None → n.0 < layout.nodes → is_node n (node_touched x.event) ≡ true → (t : Bool) → layout.direct ≡ t → Has (entries_of (logs_in es is)) x
+      by_network : (before : List Entry) (n : NodeId) → Has journal x → failing layout before x.event ≡ None → n.0 < layout.nodes →
+          is_node n (node_touched x.event) ≡ true → (t : Bool) → layout.direct ≡ t → Has (entries_of (logs_in es is)) x
       by_network before n has may lt on true direct = absurd (no_interface layout before x.event n direct may on)
       by_network before n has may lt on false packet = in_node x n has packet lt on
 

@@ -2,7 +2,8 @@
 use Rattle.std.specs.Prelude.{fold, max, nat_lt, slice_get, Contains}
 use Rattle.std.specs.List.{All, AllPairs}
 use Rattle.std.specs.Global.{Vec}
-use Rattle.std.proofs.Common.{◌≡◌, ℕ, zero, suc, ◌<◌, ◌≤◌, ◌^◌, Bool, true, false, cond, Option, Some, None, List, [], ◌∷◌, ◌++◌, length, map, reverse, refl, sym, ap, ◌∙◌, subst, arith, ltb-true}
+use Rattle.std.proofs.Common.{◌≡◌, ℕ, zero, suc, ◌<◌, ◌≤◌, ◌^◌, Bool, true, false, cond, Option, Some, None, List, [], ◌∷◌, ◌++◌, length, map, reverse, refl}
+use Rattle.std.proofs.Common.{sym, ap, ◌∙◌, subst, arith, ltb-true}
 use Rattle.std.proofs.lemmas.List.{length-map, reverse-reverse}
 use Rattle.std.proofs.lemmas.Bool.{and_parts}
 use Rattle.std.proofs.lemmas.Option.{slice_get-get_or}
@@ -17,29 +18,29 @@ use Rattle.am_model.specs.History.{EachAfter, MayFollow, is_in_range}
 use Rattle.am_model.specs.Layout.{AllAre, EndSetting, IsLawful, IsSettingLawful, Layout, declared, node_at}
 use Rattle.am_model.specs.Merge.{is_ordered}
 use Rattle.am_model.proofs.Alls.{all_at, all_by_place}
-use Rattle.am_drain.specs.Made.{later_stamp}
+use Rattle.am_model_drain.specs.Made.{later_stamp}
 use Rattle.am_endpoint.specs.View.{EndpointView}
 use Rattle.am_iface.specs.View.{InterfaceView}
-use Rattle.am_device.specs.Memory.{Store}
-use Rattle.am_scripts.specs.Layout.{fault_of, layout_of, setting_of}
-use Rattle.am_journal.specs.View.{AreNodes, IsEarly, IsBetweenNodes}
+use Rattle.am_swap_device.specs.Memory.{Store}
+use Rattle.am_model_scripts.specs.Layout.{fault_of, layout_of, setting_of}
+use Rattle.am_machine_index.specs.View.{AreNodes, IsEarly, IsBetweenNodes}
 use Rattle.am_lemmas.proofs.Lists.{All-slice_get as all_got}
-use Rattle.am_join.proofs.Standing.{behind}
-use Rattle.am_merge.specs.Logs.{IsRising}
-use Rattle.am_merge.specs.Merged.{entries_of}
-use Rattle.am_merge.proofs.Inserting.{sorted_ordered}
-use Rattle.am_join.specs.Joined.{AreOne}
-use Rattle.am_join.proofs.OneJournal.{are_one}
-use Rattle.am_node.specs.declared.NodePart.{NodePart}
-use Rattle.am_node.specs.Gathered.{AreDeclared, AreOfGroups}
-use Rattle.am_node.specs.Gathered as gathered
-use Rattle.am_node.specs.Packets.{GoesWithin}
-use Rattle.am_node.specs.Parts.{all_logs, journal_of}
-use Rattle.am_node.specs.Taken.{ends_of, iface_of, swap_of, turned}
+use Rattle.am_machine_join.proofs.Standing.{behind}
+use Rattle.am_model_merge.specs.Logs.{IsRising}
+use Rattle.am_model_merge.specs.Merged.{entries_of}
+use Rattle.am_model_merge.proofs.Inserting.{sorted_ordered}
+use Rattle.am_machine_join.specs.Joined.{AreOne}
+use Rattle.am_machine_join.proofs.OneJournal.{are_one}
+use Rattle.am_machine_node.specs.declared.NodePart.{NodePart}
+use Rattle.am_machine_node.specs.Gathered.{AreDeclared, AreOfGroups}
+use Rattle.am_machine_node.specs.Gathered as gathered
+use Rattle.am_machine_node.specs.Packets.{GoesWithin}
+use Rattle.am_machine_node.specs.Parts.{all_logs, journal_of}
+use Rattle.am_machine_node.specs.Taken.{ends_of, iface_of, swap_of, turned}
 use Rattle.am_scenario_types.specs.declared.parts.EndLine.{EndLine}
 use Rattle.am_scenario_types.specs.declared.parts.FaultLine.{FaultLine}
 use Rattle.am_scenario_types.specs.Lists.{ScenarioLists}
-use Rattle.am_moves.specs.Logs.{EndLog, kept}
+use Rattle.am_driver_moves.specs.Logs.{EndLog, kept}
 use Rattle.am_machine.specs.Ends.{setting_in}
 use Rattle.am_machine.specs.Interfaces.{AreInterfaces, IsInterface}
 use Rattle.am_machine.specs.Kept.{IsKept, IsOwn, IsShort, IsTied, layout_in}
@@ -59,7 +60,8 @@ pub rising : (s : ScenarioLists) (parts : List NodePart) → CanUnite s parts �
 rising s parts can = all_rise (layout_of s) (journal_of parts) (all_logs parts) can.history (all_parts (layout_of s) (journal_of parts) parts can.apart)
 
 pub one_each : (s : ScenarioLists) (parts : List NodePart) → CanUnite s parts → AreOne (entries_of (all_logs parts))
-one_each s parts can = are_one (journal_of parts) (entries_of (all_logs parts)) (ordered parts) (are_among (journal_of parts) (all_logs parts) (all_parts (layout_of s) (journal_of parts) parts can.apart))
+one_each s parts can = are_one (journal_of parts) (entries_of (all_logs parts)) (ordered parts)
+    (are_among (journal_of parts) (all_logs parts) (all_parts (layout_of s) (journal_of parts) parts can.apart))
 
 -- ---- the entries are those of a cluster of at most 16 nodes
 
@@ -95,7 +97,8 @@ all_within layout past (x ∷ xs) lawful each = (entry_within layout past x lawf
 
 -- ---- the endpoints of each node are those that are declared there
 
-groups_at : (groups : List (Vec EndpointView)) (parts : List NodePart) (k : ℕ) (g : Vec EndpointView) → map ends_of groups ≡ map turned parts → slice_get groups k ≡ Some g → (p : NodePart) × ((slice_get parts k ≡ Some p) × (g.items ≡ reverse p.ends.items))
+groups_at : (groups : List (Vec EndpointView)) (parts : List NodePart) (k : ℕ) (g : Vec EndpointView) → map ends_of groups ≡ map turned parts →
+    slice_get groups k ≡ Some g → (p : NodePart) × ((slice_get parts k ≡ Some p) × (g.items ≡ reverse p.ends.items))
 groups_at groups parts k g same at =
     let r = got_mapped turned parts k g.items (ap (λ (l : List (List EndpointView)). slice_get l k) (sym same) ∙ mapped groups k at) in
     (r.0, (r.1.0, sym r.1.1))
@@ -105,11 +108,13 @@ groups_at groups parts k g same at =
     mapped (h ∷ gs) zero e = let same' : h ≡ g = cc in ap (λ (v : Vec EndpointView). Some v.items) same'
     mapped (h ∷ gs) (suc j) e = mapped gs j e
 
-lines_below : (n : ℕ) (layout : Layout) (lines : List EndLine) → layout.nodes ≡ n → AllAre (IsSettingLawful layout) (map setting_of lines) → AllAre (λ (line : EndLine). line.node.0 < n) lines
+lines_below : (n : ℕ) (layout : Layout) (lines : List EndLine) → layout.nodes ≡ n → AllAre (IsSettingLawful layout) (map setting_of lines) →
+    AllAre (λ (line : EndLine). line.node.0 < n) lines
 lines_below n layout [] is h = tt
 lines_below n layout (line ∷ lines) is h = (let lt = h.0.node in omega (arith, lt, is), lines_below n layout lines is h.1)
 
-pub are_declared : (s : ScenarioLists) (journal : List Entry) (parts : List NodePart) (groups : List (Vec EndpointView)) → IsLawful (layout_of s) → AreNodeParts (layout_of s) journal parts → map ends_of groups ≡ map turned parts → AreDeclared s.ends groups
+pub are_declared : (s : ScenarioLists) (journal : List Entry) (parts : List NodePart) (groups : List (Vec EndpointView)) → IsLawful (layout_of s) →
+    AreNodeParts (layout_of s) journal parts → map ends_of groups ≡ map turned parts → AreDeclared s.ends groups
 are_declared s journal parts groups lawful a same =
     record {
       nodes =
@@ -120,7 +125,8 @@ are_declared s journal parts groups lawful a same =
           lines_below (length groups) (layout_of s) s.ends (omega (arith, g, p, e, all)) lawful.ends);
       each = λ k g at.
           (let r = groups_at groups parts k g same at in
-          ap (λ (l : List EndpointView). map gathered.setting_in (reverse l)) r.1.1 ∙ ap (map gathered.setting_in) (reverse-reverse r.0.ends.items) ∙ (a.each k r.0 r.1.0).ends');
+          ap (λ (l : List EndpointView). map gathered.setting_in (reverse l)) r.1.1 ∙ ap (map gathered.setting_in) (reverse-reverse r.0.ends.items)
+          ∙ (a.each k r.0 r.1.0).ends');
     }
 
 -- ---- what the cluster keeps
@@ -147,7 +153,8 @@ kept_all : (P : EndLog → Type 0) (vs : List EndpointView) → AllAre (λ (v : 
 kept_all P [] h = tt
 kept_all P (v ∷ vs) h = (h.0, kept_all P vs h.1)
 
-module _ (s : ScenarioLists) (faults : List FaultLine) (parts : List NodePart) (groups : List (Vec EndpointView)) (vs : List EndpointView) (is : List InterfaceView) (ws : List Store) where
+module _ (s : ScenarioLists) (faults : List FaultLine) (parts : List NodePart) (groups : List (Vec EndpointView)) (vs : List EndpointView)
+    (is : List InterfaceView) (ws : List Store) where
   -- what the parts are put together from
   pub record IsUnited : Type 0 where
     pub lawful : IsLawful (layout_of s)
@@ -182,7 +189,8 @@ module _ (s : ScenarioLists) (faults : List FaultLine) (parts : List NodePart) (
         all_at (λ (w : EndpointView). IsOwn (layout_of s) (journal_of parts) (kept w)) p.0.ends.items at.0 v (u.can.apart.each r.0 p.0 p.1.0).own at.1
 
     all_own : AllAre (IsOwn (layout_of s) (journal_of parts)) (map kept vs)
-    all_own = kept_all (IsOwn (layout_of s) (journal_of parts)) vs (all_by_place (λ (v : EndpointView). IsOwn (layout_of s) (journal_of parts) (kept v)) vs (λ k v at. own_end v (contains_got vs k v at)))
+    all_own = kept_all (IsOwn (layout_of s) (journal_of parts)) vs (all_by_place (λ (v : EndpointView). IsOwn (layout_of s) (journal_of parts) (kept v)) vs
+        (λ k v at. own_end v (contains_got vs k v at)))
 
     -- the line of an endpoint
     line_of : (k : ℕ) (e : EndLog) → slice_get (map kept vs) k ≡ Some e → (line : EndLine) × ((slice_get s.ends k ≡ Some line) × (line.id ≡ e.settings.id))
@@ -204,7 +212,8 @@ module _ (s : ScenarioLists) (faults : List FaultLine) (parts : List NodePart) (
           early = early (journal_of parts) u.can.low;
           ordered = ordered parts;
           own = all_own;
-          short = kept_all IsShort vs (all_by_place (λ (v : EndpointView). IsShort (kept v)) vs (λ k v at. all_got (λ (w : EndpointView). IsShort (kept w)) vs k v u.short at));
+          short = kept_all IsShort vs (all_by_place (λ (v : EndpointView). IsShort (kept v)) vs
+              (λ k v at. all_got (λ (w : EndpointView). IsShort (kept w)) vs k v u.short at));
           apart = λ j k d e at_d at_e same.
               (let a = line_of j d at_d in
               let b = line_of k e at_e in
@@ -233,4 +242,8 @@ module _ (s : ScenarioLists) (faults : List FaultLine) (parts : List NodePart) (
         }
 
     pub is_kept : IsKept (layout_in (settings_from s) faults (map kept vs)) (map kept vs) (journal_of parts) is ws
-    is_kept = subst (λ (l : Layout). IsKept l (map kept vs) (journal_of parts) is ws) (sym same_layout) (record { tied = tied; interfaces' = interfaces; swaps' = swaps })
+    is_kept = subst (λ (l : Layout). IsKept l (map kept vs) (journal_of parts) is ws) (sym same_layout) (record {
+      tied = tied;
+      interfaces' = interfaces;
+      swaps' = swaps;
+    })

@@ -8,7 +8,7 @@ use Rattle.am_office.specs.declared.Entry.{Entry}
 use Rattle.am_model.specs.History.{state_of}
 use Rattle.am_model.specs.Layout.{EndSetting, Layout}
 use Rattle.am_endpoint.specs.View.{EndpointView, state_after}
-use Rattle.am_moves.specs.Logs.{kept}
+use Rattle.am_driver_moves.specs.Logs.{kept}
 use Rattle.am_machine.specs.Ends.{setting_in}
 use Rattle.am_machine.specs.Kept.{IsTied}
 use Rattle.am_machine.proofs.Applied.{IsHere, state_here}
@@ -17,12 +17,14 @@ pub record IsPlaced (layout : Layout) (journal : List Entry) (k : ℕ) (one : En
   pub setting : slice_get layout.ends k ≡ Some (setting_in (kept one))
   pub state : state_after one ≡ state_of layout journal one.settings.id
 
-pub end_placed : (layout : Layout) (vs : List EndpointView) (journal : List Entry) (k : ℕ) (one : EndpointView) → layout.ends ≡ map setting_in (map kept vs) → IsTied layout (map kept vs) journal → k < length vs → one ≡ slice_index_or vs k one → IsPlaced layout journal k one
+pub end_placed : (layout : Layout) (vs : List EndpointView) (journal : List Entry) (k : ℕ) (one : EndpointView) → layout.ends ≡ map setting_in (map kept vs) →
+    IsTied layout (map kept vs) journal → k < length vs → one ≡ slice_index_or vs k one → IsPlaced layout journal k one
 end_placed layout vs journal k one ends tied within value =
     let got : slice_get vs k ≡ Some one = slice_get-get_or vs k one within ∙ ap Some (sym value) in
     let here : IsHere vs one.settings.id k one = record { at = got; id = refl; within = within } in
     record {
-      setting = ap (λ (ss : List EndSetting). slice_get ss k) ends ∙ slice_get-map_Some setting_in (map kept vs) k (kept one) (slice_get-map_Some kept vs k one got);
+      setting = ap (λ (ss : List EndSetting). slice_get ss k) ends
+          ∙ slice_get-map_Some setting_in (map kept vs) k (kept one) (slice_get-map_Some kept vs k one got);
       state = state_here layout vs journal one.settings.id k one tied here;
     }
 

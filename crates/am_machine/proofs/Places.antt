@@ -2,14 +2,15 @@
 use Rattle.std.specs.Prelude.{slice_get, slice_set, slice_index_or, not, OnOk, Result, Ok, Err}
 use Rattle.std.specs.List.{list_any, position, position_or_len}
 use Rattle.std.proofs.lemmas.List.{take_at}
-use Rattle.std.proofs.Common.{take, drop, ◌≡◌, ℕ, zero, suc, ◌+◌, ◌<◌, Bool, true, false, cond, ◌||◌, List, [], ◌∷◌, ◌++◌, map, length, Some, None, refl, sym, ap, ◌∙◌, subst, arith, eqb-true, ltb-true, ltb, lt-ltb, if◌then◌else◌}
+use Rattle.std.proofs.Common.{take, drop, ◌≡◌, ℕ, zero, suc, ◌+◌, ◌<◌, Bool, true, false, cond, ◌||◌, List, [], ◌∷◌, ◌++◌, map, length, Some, None, refl, sym}
+use Rattle.std.proofs.Common.{ap, ◌∙◌, subst, arith, eqb-true, ltb-true, ltb, lt-ltb, if◌then◌else◌}
 use Rattle.std.proofs.lemmas.Option.{slice_get_within, slice_get-get_or}
 use Rattle.am_lemmas.proofs.Lists.{slice_get-set_here}
 use Rattle.am_names.specs.declared.EndpointId.{EndpointId}
 use Rattle.am_office.specs.declared.Entry.{Entry}
 use Rattle.am_model.specs.Layout.{has_id}
 use Rattle.am_endpoint.specs.View.{EndpointView}
-use Rattle.am_moves.specs.Logs.{kept}
+use Rattle.am_driver_moves.specs.Logs.{kept}
 use Rattle.am_machine.specs.Ends.{setting_in, is_of, logged_at}
 use Rattle.am_machine.specs.Carries.{At, is_place, carried_at}
 use Rattle.am_machine.proofs.Tied.{kept_set}
@@ -42,13 +43,16 @@ place_is (suc k) (suc j) h = ap suc (place_is k j h)
 
 -- ---- a carry's two writes
 
-pub carried_one : (vs : List EndpointView) (source dest : ℕ) (v w : EndpointView) (x : Entry) → source ≡ dest → slice_get vs source ≡ Some v → w.settings ≡ v.settings → w.log ≡ v.log ++ x ∷ [] → map kept (slice_set vs source w) ≡ carried_at source dest x (map kept vs)
+pub carried_one : (vs : List EndpointView) (source dest : ℕ) (v w : EndpointView) (x : Entry) → source ≡ dest → slice_get vs source ≡ Some v →
+    w.settings ≡ v.settings → w.log ≡ v.log ++ x ∷ [] → map kept (slice_set vs source w) ≡ carried_at source dest x (map kept vs)
 carried_one vs source dest v w x same at settings log =
     kept_set vs source v w x at settings log
     ∙ ap (λ (b : Bool). if b then logged_at source x (map kept vs) else logged_at dest x (logged_at source x (map kept vs)))
     (sym (subst (λ (j : ℕ). is_place source j ≡ true) same (place_same source)))
 
-pub carried_two : (vs : List EndpointView) (source dest : ℕ) (v w d e : EndpointView) (x : Entry) → is_place source dest ≡ false → slice_get vs source ≡ Some v → w.settings ≡ v.settings → w.log ≡ v.log ++ x ∷ [] → slice_get (slice_set vs source w) dest ≡ Some d → e.settings ≡ d.settings → e.log ≡ d.log ++ x ∷ [] → map kept (slice_set (slice_set vs source w) dest e) ≡ carried_at source dest x (map kept vs)
+pub carried_two : (vs : List EndpointView) (source dest : ℕ) (v w d e : EndpointView) (x : Entry) → is_place source dest ≡ false →
+    slice_get vs source ≡ Some v → w.settings ≡ v.settings → w.log ≡ v.log ++ x ∷ [] → slice_get (slice_set vs source w) dest ≡ Some d →
+    e.settings ≡ d.settings → e.log ≡ d.log ++ x ∷ [] → map kept (slice_set (slice_set vs source w) dest e) ≡ carried_at source dest x (map kept vs)
 carried_two vs source dest v w d e x apart at settings log at2 settings2 log2 =
     kept_set (slice_set vs source w) dest d e x at2 settings2 log2
     ∙ ap (logged_at dest x) (kept_set vs source v w x at settings log)
@@ -56,11 +60,14 @@ carried_two vs source dest v w d e x apart at settings log at2 settings2 log2 =
 
 -- ---- finding an endpoint
 
-at_place : (vs : List EndpointView) (e : EndpointId) → position_or_len (is_of e) vs < length vs → (v : EndpointView) × ((slice_get vs (position_or_len (is_of e) vs) ≡ Some v) × (v.settings.id ≡ e))
+at_place : (vs : List EndpointView) (e : EndpointId) → position_or_len (is_of e) vs < length vs →
+    (v : EndpointView) × ((slice_get vs (position_or_len (is_of e) vs) ≡ Some v) × (v.settings.id ≡ e))
 at_place [] e h = absurd (omega (arith, h))
 at_place (x ∷ vs) e h = by_test (is_of e x) refl h (at_place vs e)
   where
-    by_test : (b : Bool) → is_of e x ≡ b → cond (not b) (1 + position_or_len (is_of e) vs) 0 < suc (length vs) → (position_or_len (is_of e) vs < length vs → (v : EndpointView) × ((slice_get vs (position_or_len (is_of e) vs) ≡ Some v) × (v.settings.id ≡ e))) → (v : EndpointView) × ((slice_get (x ∷ vs) (cond (not b) (1 + position_or_len (is_of e) vs) 0) ≡ Some v) × (v.settings.id ≡ e))
+    by_test : (b : Bool) → is_of e x ≡ b → cond (not b) (1 + position_or_len (is_of e) vs) 0 < suc (length vs) →
+        (position_or_len (is_of e) vs < length vs → (v : EndpointView) × ((slice_get vs (position_or_len (is_of e) vs) ≡ Some v) × (v.settings.id ≡ e))) →
+        (v : EndpointView) × ((slice_get (x ∷ vs) (cond (not b) (1 + position_or_len (is_of e) vs) 0) ≡ Some v) × (v.settings.id ≡ e))
     by_test true is l more = let same : e.0 ≡ x.settings.id.0 = eqb-true e.0 x.settings.id.0 is in (x, (refl, λ i. record { 0 = sym same i }))
     by_test false is l more =
         let r = more (omega (arith, l)) in
@@ -92,13 +99,16 @@ below_of_any : (vs : List EndpointView) (e : EndpointId) → list_any (has_id e)
 below_of_any [] e h = absurd (cc)
 below_of_any (x ∷ vs) e h = by_test (is_of e x) h (below_of_any vs e)
   where
-    by_test : (b : Bool) → (b || list_any (has_id e) (map setting_in (map kept vs))) ≡ true → (list_any (has_id e) (map setting_in (map kept vs)) ≡ true → position_or_len (is_of e) vs < length vs) → cond (not b) (1 + position_or_len (is_of e) vs) 0 < suc (length vs)
+    by_test : (b : Bool) → (b || list_any (has_id e) (map setting_in (map kept vs))) ≡ true →
+        (list_any (has_id e) (map setting_in (map kept vs)) ≡ true → position_or_len (is_of e) vs < length vs) →
+        cond (not b) (1 + position_or_len (is_of e) vs) 0 < suc (length vs)
     by_test true k more = omega arith
     by_test false k more = let r = more k in omega (arith, r)
 
 -- one that isn't found isn't declared
 pub not_found : (vs : List EndpointView) (e : EndpointId) → position (is_of e) vs ≡ None → list_any (has_id e) (map setting_in (map kept vs)) ≡ true → ⊥
-not_found vs e h declared = by_test (ltb (position_or_len (is_of e) vs) (length vs)) (lt-ltb (position_or_len (is_of e) vs) (length vs) (below_of_any vs e declared)) h
+not_found vs e h declared = by_test (ltb (position_or_len (is_of e) vs) (length vs)) (lt-ltb (position_or_len (is_of e) vs) (length vs)
+    (below_of_any vs e declared)) h
   where
     by_test : (b : Bool) → b ≡ true → cond b (Some (position_or_len (is_of e) vs)) None ≡ None → ⊥
     by_test true is k = cc

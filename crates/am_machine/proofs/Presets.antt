@@ -1,7 +1,8 @@
 -- The swaps of a cluster, as they begin.
 use Rattle.std.specs.Prelude.{OnOk, Result, Ok, Err, slice_get, slice_index_or, take}
 use Rattle.std.specs.List.{filter, find}
-use Rattle.std.proofs.Common.{◌≡◌, ⊎_elim, ℕ, zero, suc, ◌+◌, ◌<◌, ◌^◌, Bool, true, false, cond, List, [], ◌∷◌, ◌++◌, map, length, Option, Some, refl, sym, ap, ◌∙◌, subst, arith, true≢false, eqb-true, eq-eqb, if◌then◌else◌}
+use Rattle.std.proofs.Common.{◌≡◌, ⊎_elim, ℕ, zero, suc, ◌+◌, ◌<◌, ◌^◌, Bool, true, false, cond, List, [], ◌∷◌, ◌++◌, map, length, Option, Some, refl, sym, ap}
+use Rattle.std.proofs.Common.{◌∙◌, subst, arith, true≢false, eqb-true, eq-eqb, if◌then◌else◌}
 use Rattle.std.proofs.lemmas.Bool.{and_from}
 use Rattle.std.proofs.lemmas.List.{length_push}
 use Rattle.am_lemmas.proofs.Lists.{slice_get-push_cases}
@@ -12,40 +13,44 @@ use Rattle.am_names.specs.Names.{same_end, same_node}
 use Rattle.am_office.specs.declared.Place.TheVariants.{Disk}
 use Rattle.am_model.specs.Endpoint.{Body, State, is_on_disk}
 use Rattle.am_model.specs.History.{state_of}
-use Rattle.am_model.specs.Layout.{AllAre, EndSetting, Fault, IsLawful, IsPoolLawful, IsSettingLawful, Layout, has_id, opening, opening_by, opening_place, node_at}
+use Rattle.am_model.specs.Layout.{AllAre, EndSetting, Fault, IsLawful, IsPoolLawful, IsSettingLawful, Layout, has_id, opening, opening_by, opening_place}
+use Rattle.am_model.specs.Layout.{node_at}
 use Rattle.am_model.proofs.Names.{same_end-refl}
 use Rattle.am_model.proofs.Order.{order_fresh}
 use Rattle.am_model.proofs.Alls.{all_at, all_by_place}
 use Rattle.am_scenario_types.specs.declared.parts.EndLine.{EndLine}
 use Rattle.am_scenario_types.specs.declared.parts.FaultLine.{FaultLine}
-use Rattle.am_scripts.specs.Layout.{fault_of, setting_of}
-use Rattle.am_device.specs.Memory.{Store, held_for, with_held}
-use Rattle.am_device.proofs.Held.{holds_instead}
-use Rattle.am_image.specs.Image.{image}
-use Rattle.am_image.specs.Valid.{IsValid}
+use Rattle.am_model_scripts.specs.Layout.{fault_of, setting_of}
+use Rattle.am_swap_device.specs.Memory.{Store, held_for, with_held}
+use Rattle.am_swap_device.proofs.Held.{holds_instead}
+use Rattle.am_swap_image.specs.Image.{image}
+use Rattle.am_swap_image.specs.Valid.{IsValid}
 use Rattle.am_machine.specs.declared.settings.Settings.{Settings}
-use Rattle.am_moves.specs.Logs.{EndLog}
+use Rattle.am_driver_moves.specs.Logs.{EndLog}
 use Rattle.am_machine.specs.Ends.{setting_in}
 use Rattle.am_machine.specs.Kept.{layout_in}
 use Rattle.am_machine.specs.Presets.{AreOpened, AreOpenedUpTo, begins_on, fails_of, is_of_node, opened_swap, opening_body, preset_all, preset_if}
-use Rattle.am_moves.specs.Pages.{HoldsBody}
+use Rattle.am_driver_moves.specs.Pages.{HoldsBody}
 use Rattle.am_machine.specs.Swaps.{AreSwaps, IsSwap}
 use Rattle.am_machine.proofs.Beginnings.{Rise, first_below, found_line, rise_rest}
 
 -- ---- one line more
 
 -- what is held, where there is memory for it
-pub preset_told : (r : Result (Unit {0}) NoMemory) (new old : Store) (id : EndpointId) (bytes : List ℕ) (b : Body) → OnOk r (new ≡ with_held old id bytes) → bytes ≡ image b → OnOk r (new ≡ with_held old id (image b))
+pub preset_told : (r : Result (Unit {0}) NoMemory) (new old : Store) (id : EndpointId) (bytes : List ℕ) (b : Body) → OnOk r (new ≡ with_held old id bytes) →
+    bytes ≡ image b → OnOk r (new ≡ with_held old id (image b))
 preset_told (Ok done) new old id bytes b told is = told ∙ ap (with_held old id) is
 preset_told (Err fault) new old id bytes b told is = tt
 
-presets_take : (node : NodeId) (lines : List EndLine) (k : ℕ) (d : EndLine) (s : Store) → k < length lines → preset_all node (take (suc k) lines) s ≡ preset_if (begins_on node (slice_index_or lines k d)) (slice_index_or lines k d) (preset_all node (take k lines) s)
+presets_take : (node : NodeId) (lines : List EndLine) (k : ℕ) (d : EndLine) (s : Store) → k < length lines →
+    preset_all node (take (suc k) lines) s ≡ preset_if (begins_on node (slice_index_or lines k d)) (slice_index_or lines k d) (preset_all node (take k lines) s)
 presets_take node [] k d s lt = absurd (omega (arith, lt))
 presets_take node (x ∷ xs) zero d s lt = refl
 presets_take node (x ∷ xs) (suc k) d s lt = presets_take node xs k d (preset_if (begins_on node x) x s) (omega (arith, lt))
 
 -- a swap with the images of some lines, and one more
-pub presets_more : (node : NodeId) (lines : List EndLine) (k : ℕ) (d : EndLine) (s t u : Store) → k < length lines → t ≡ preset_all node (take k lines) s → u ≡ preset_if (begins_on node (slice_index_or lines k d)) (slice_index_or lines k d) t → u ≡ preset_all node (take (k + 1) lines) s
+pub presets_more : (node : NodeId) (lines : List EndLine) (k : ℕ) (d : EndLine) (s t u : Store) → k < length lines → t ≡ preset_all node (take k lines) s →
+    u ≡ preset_if (begins_on node (slice_index_or lines k d)) (slice_index_or lines k d) t → u ≡ preset_all node (take (k + 1) lines) s
 presets_more node lines k d s t u lt was is =
     let next : k + 1 ≡ suc k = omega arith in
     is
@@ -53,7 +58,8 @@ presets_more node lines k d s t u lt was is =
     ∙ sym (presets_take node lines k d s lt)
     ∙ ap (λ (n : ℕ). preset_all node (take n lines) s) (sym next)
 
-fails_push : (node : NodeId) (xs : List FaultLine) (x : FaultLine) (t : Bool) → is_of_node node x ≡ t → fails_of node (xs ++ x ∷ []) ≡ (if t then fails_of node xs ++ x.number ∷ [] else fails_of node xs)
+fails_push : (node : NodeId) (xs : List FaultLine) (x : FaultLine) (t : Bool) → is_of_node node x ≡ t →
+    fails_of node (xs ++ x ∷ []) ≡ (if t then fails_of node xs ++ x.number ∷ [] else fails_of node xs)
 fails_push node [] x t is = ap (λ (b : Bool). map (λ (f : FaultLine). f.number) (cond b (x ∷ []) [])) is ∙ by_test t
   where
     by_test : (b : Bool) → map (λ (f : FaultLine). f.number) (cond b (x ∷ []) []) ≡ (if b then x.number ∷ [] else [])
@@ -61,13 +67,17 @@ fails_push node [] x t is = ap (λ (b : Bool). map (λ (f : FaultLine). f.number
     by_test false = refl
 fails_push node (y ∷ xs) x t is = by_test (is_of_node node y) t (fails_push node xs x t is)
   where
-    by_test : (a b : Bool) → fails_of node (xs ++ x ∷ []) ≡ (if b then fails_of node xs ++ x.number ∷ [] else fails_of node xs) → map (λ (f : FaultLine). f.number) (cond a (y ∷ filter (is_of_node node) (xs ++ x ∷ [])) (filter (is_of_node node) (xs ++ x ∷ []))) ≡ (if b then map (λ (f : FaultLine). f.number) (cond a (y ∷ filter (is_of_node node) xs) (filter (is_of_node node) xs)) ++ x.number ∷ [] else map (λ (f : FaultLine). f.number) (cond a (y ∷ filter (is_of_node node) xs) (filter (is_of_node node) xs)))
+    by_test : (a b : Bool) → fails_of node (xs ++ x ∷ []) ≡ (if b then fails_of node xs ++ x.number ∷ [] else fails_of node xs) →
+        map (λ (f : FaultLine). f.number) (cond a (y ∷ filter (is_of_node node) (xs ++ x ∷ [])) (filter (is_of_node node) (xs ++ x ∷ []))) ≡
+        (if b then map (λ (f : FaultLine). f.number) (cond a (y ∷ filter (is_of_node node) xs) (filter (is_of_node node) xs)) ++ x.number ∷ [] else map
+        (λ (f : FaultLine). f.number) (cond a (y ∷ filter (is_of_node node) xs) (filter (is_of_node node) xs)))
     by_test true true more = ap (λ (ns : List ℕ). y.number ∷ ns) more
     by_test true false more = ap (λ (ns : List ℕ). y.number ∷ ns) more
     by_test false true more = more
     by_test false false more = more
 
-pub fails_in : (node : NodeId) (xs : List FaultLine) (x : FaultLine) → is_of_node node x ≡ true → fails_of node (xs ++ x ∷ []) ≡ fails_of node xs ++ x.number ∷ []
+pub fails_in : (node : NodeId) (xs : List FaultLine) (x : FaultLine) → is_of_node node x ≡ true →
+    fails_of node (xs ++ x ∷ []) ≡ fails_of node xs ++ x.number ∷ []
 fails_in node xs x is = fails_push node xs x true is
 
 pub fails_out : (node : NodeId) (xs : List FaultLine) (x : FaultLine) → is_of_node node x ≡ false → fails_of node (xs ++ x ∷ []) ≡ fails_of node xs
@@ -76,7 +86,8 @@ fails_out node xs x is = fails_push node xs x false is
 pub opened_begin : (faults : List FaultLine) (lines : List EndLine) → AreOpenedUpTo faults lines 0 []
 opened_begin faults lines = record { all = refl; each = λ k s h. absurd (cc) }
 
-pub opened_more : (faults : List FaultLine) (lines : List EndLine) (count : ℕ) (ss : List Store) (s : Store) → AreOpenedUpTo faults lines count ss → s ≡ opened_swap faults lines (node_at count) → AreOpenedUpTo faults lines (count + 1) (ss ++ s ∷ [])
+pub opened_more : (faults : List FaultLine) (lines : List EndLine) (count : ℕ) (ss : List Store) (s : Store) → AreOpenedUpTo faults lines count ss →
+    s ≡ opened_swap faults lines (node_at count) → AreOpenedUpTo faults lines (count + 1) (ss ++ s ∷ [])
 opened_more faults lines count ss s are is =
     record {
       all = length_push ss s ∙ ap (λ (n : ℕ). n + 1) are.all;
@@ -107,12 +118,14 @@ preset_calls node (x ∷ xs) s = preset_calls node xs (preset_if (begins_on node
 abbrev IsOther : EndpointId → EndLine → Type 0
 IsOther e line = same_end e line.id ≡ false
 
-preset_other : (node : NodeId) (lines : List EndLine) (s : Store) (e : EndpointId) → AllAre (IsOther e) lines → held_for (preset_all node lines s).held e ≡ held_for s.held e
+preset_other : (node : NodeId) (lines : List EndLine) (s : Store) (e : EndpointId) → AllAre (IsOther e) lines →
+    held_for (preset_all node lines s).held e ≡ held_for s.held e
 preset_other node [] s e others = refl
 preset_other node (x ∷ xs) s e others = preset_other node xs (preset_if (begins_on node x) x s) e others.1 ∙ by_test (begins_on node x)
   where
     by_test : (b : Bool) → held_for (preset_if b x s).held e ≡ held_for s.held e
-    by_test true = holds_instead x.id (image (opening_body x)) s.held e ∙ ap (λ (b : Bool). if b then Some (image (opening_body x)) else held_for s.held e) others.0
+    by_test true = holds_instead x.id (image (opening_body x)) s.held e
+        ∙ ap (λ (b : Bool). if b then Some (image (opening_body x)) else held_for s.held e) others.0
     by_test false = refl
 
 below_apart : (a b : EndpointId) → a.0 < b.0 → same_end a b ≡ false
@@ -122,7 +135,8 @@ below_apart a b lt = by_test (same_end a b) refl
     by_test true is = let same = eqb-true a.0 b.0 is in absurd (omega (arith, lt, same))
     by_test false is = refl
 
-preset_held : (node : NodeId) (lines : List EndLine) (s : Store) (k : ℕ) (line : EndLine) → Rise lines → slice_get lines k ≡ Some line → begins_on node line ≡ true → held_for (preset_all node lines s).held line.id ≡ Some (image (opening_body line))
+preset_held : (node : NodeId) (lines : List EndLine) (s : Store) (k : ℕ) (line : EndLine) → Rise lines → slice_get lines k ≡ Some line →
+    begins_on node line ≡ true → held_for (preset_all node lines s).held line.id ≡ Some (image (opening_body line))
 preset_held node [] s k line rise at on = absurd (cc)
 preset_held node (x ∷ xs) s zero line rise at on =
     let same : x ≡ line = cc in
@@ -138,15 +152,20 @@ preset_held node (x ∷ xs) s (suc k) line rise at on = preset_held node xs (pre
 
 -- ---- the whole cluster
 
-faults_told : (node : NodeId) (faults : List FaultLine) → fails_of node faults ≡ map (λ (f : Fault). f.number) (filter (λ (f : Fault). same_node node f.node) (map fault_of faults))
+faults_told : (node : NodeId) (faults : List FaultLine) → fails_of node faults ≡ map (λ (f : Fault). f.number)
+    (filter (λ (f : Fault). same_node node f.node) (map fault_of faults))
 faults_told node [] = refl
 faults_told node (x ∷ xs) = by_test (same_node node x.node) (faults_told node xs)
   where
-    by_test : (b : Bool) → fails_of node xs ≡ map (λ (f : Fault). f.number) (filter (λ (f : Fault). same_node node f.node) (map fault_of xs)) → map (λ (f : FaultLine). f.number) (cond b (x ∷ filter (is_of_node node) xs) (filter (is_of_node node) xs)) ≡ map (λ (f : Fault). f.number) (cond b (fault_of x ∷ filter (λ (f : Fault). same_node node f.node) (map fault_of xs)) (filter (λ (f : Fault). same_node node f.node) (map fault_of xs)))
+    by_test : (b : Bool) → fails_of node xs ≡ map (λ (f : Fault). f.number) (filter (λ (f : Fault). same_node node f.node) (map fault_of xs)) →
+        map (λ (f : FaultLine). f.number) (cond b (x ∷ filter (is_of_node node) xs) (filter (is_of_node node) xs)) ≡ map (λ (f : Fault). f.number)
+        (cond b (fault_of x ∷ filter (λ (f : Fault). same_node node f.node) (map fault_of xs))
+        (filter (λ (f : Fault). same_node node f.node) (map fault_of xs)))
     by_test true more = ap (λ (ns : List ℕ). x.number ∷ ns) more
     by_test false more = more
 
-got_mapped : (lines : List EndLine) (k : ℕ) (end : EndSetting) → slice_get (map setting_of lines) k ≡ Some end → (line : EndLine) × ((slice_get lines k ≡ Some line) × (end ≡ setting_of line))
+got_mapped : (lines : List EndLine) (k : ℕ) (end : EndSetting) → slice_get (map setting_of lines) k ≡ Some end →
+    (line : EndLine) × ((slice_get lines k ≡ Some line) × (end ≡ setting_of line))
 got_mapped [] k end h = absurd (cc)
 got_mapped (x ∷ xs) zero end h = let same : setting_of x ≡ end = cc in (x, (refl, sym same))
 got_mapped (x ∷ xs) (suc k) end h = got_mapped xs k end h
@@ -179,7 +198,8 @@ disk_declared true disk h = absurd (true≢false (sym h))
 disk_declared false true h = refl
 disk_declared false false h = absurd (true≢false (sym h))
 
-pub fresh_swaps : (s : Settings) (faults : List FaultLine) (lines : List EndLine) (es : List EndLog) (ss : List Store) → IsLawful (layout_in s faults es) → map setting_in es ≡ map setting_of lines → Rise lines → AreOpened s faults lines ss → AreSwaps (layout_in s faults es) [] ss
+pub fresh_swaps : (s : Settings) (faults : List FaultLine) (lines : List EndLine) (es : List EndLog) (ss : List Store) → IsLawful (layout_in s faults es) →
+    map setting_in es ≡ map setting_of lines → Rise lines → AreOpened s faults lines ss → AreSwaps (layout_in s faults es) [] ss
 fresh_swaps s faults lines es ss lawful ends rise opened =
     record {
       each = λ k d at. subst (IsSwap (layout_in s faults es) [] (node_at k)) (sym (opened.each k d at)) (fresh_swap (node_at k));
@@ -192,9 +212,12 @@ fresh_swaps s faults lines es ss lawful ends rise opened =
     start : NodeId → Store
     start node = record { held = []; fails = fails_of node faults; calls = 0; faults = 0 }
 
-    holds : (node : NodeId) (k : ℕ) (line : EndLine) → slice_get lines k ≡ Some line → line.node ≡ node → line.tag.0 < 2 ^ 64 → is_on_disk (opening layout line.id).head.place ≡ true → HoldsBody (opened_swap faults lines node) layout.pool line.id (opening layout line.id).body
+    holds : (node : NodeId) (k : ℕ) (line : EndLine) → slice_get lines k ≡ Some line → line.node ≡ node → line.tag.0 < 2 ^ 64 →
+        is_on_disk (opening layout line.id).head.place ≡ true → HoldsBody (opened_swap faults lines node) layout.pool line.id (opening layout line.id).body
     holds node k line at here tag on =
-        let found : opening layout line.id ≡ opening_by layout (Some (setting_of line)) = ap (λ (settings : List EndSetting). opening_by layout (find (has_id line.id) settings)) ends ∙ ap (opening_by layout) (found_line lines k line rise at) in
+        let found : opening layout line.id ≡ opening_by layout (Some (setting_of line)) =
+        ap (λ (settings : List EndSetting). opening_by layout (find (has_id line.id) settings)) ends
+        ∙ ap (opening_by layout) (found_line lines k line rise at) in
         let disk : line.disk ≡ true = disk_declared layout.direct line.disk (ap (λ (t : State). is_on_disk t.head.place) (sym found) ∙ on) in
         let begins : begins_on node line ≡ true = and_from line.disk (same_node node line.node) disk (ap (same_node node) here ∙ eq-eqb node.0 node.0 refl) in
         let body : (opening layout line.id).body ≡ opening_body line = ap (λ (t : State). t.body) found in

@@ -11,7 +11,7 @@ use Rattle.am_model.specs.Layout.{Layout, declared}
 use Rattle.am_model.proofs.Alls.{all_at}
 use Rattle.am_endpoint.specs.View.{EndpointView}
 use Rattle.am_iface.specs.View.{InterfaceView}
-use Rattle.am_moves.specs.Logs.{kept}
+use Rattle.am_driver_moves.specs.Logs.{kept}
 use Rattle.am_machine.specs.Ends.{is_of, setting_in}
 use Rattle.am_machine.specs.Interfaces.{AreInterfaces}
 use Rattle.am_machine.specs.Kept.{IsShort, IsTied}
@@ -22,7 +22,8 @@ use Rattle.am_machine.proofs.Places.{found}
 use Rattle.am_machine.proofs.Tied.{kept_at}
 
 -- no log of an endpoint is longer than its settings have it
-pub end_short : (layout : Layout) (vs : List EndpointView) (journal : List Entry) (e : EndpointId) → layout.ends ≡ map setting_in (map kept vs) → IsTied layout (map kept vs) journal → declared layout e ≡ true → length (filter (touches e) journal) ≤ layout.log
+pub end_short : (layout : Layout) (vs : List EndpointView) (journal : List Entry) (e : EndpointId) → layout.ends ≡ map setting_in (map kept vs) →
+    IsTied layout (map kept vs) journal → declared layout e ≡ true → length (filter (touches e) journal) ≤ layout.log
 end_short layout vs journal e ends tied known = by_place (position (is_of e) vs) refl
   where
     by_place : (o : Option ℕ) → position (is_of e) vs ≡ o → length (filter (touches e) journal) ≤ layout.log
@@ -36,7 +37,8 @@ end_short layout vs journal e ends tied known = by_place (position (is_of e) vs)
         omega (arith, few, own.limit, ap (λ (xs : List Entry). length xs) (own.log ∙ ap (λ (d : EndpointId). filter (touches d) journal) f.id))
 
 -- so is that of the interface of each node
-pub node_short : (layout : Layout) (journal : List Entry) (is : List InterfaceView) (node : NodeId) → AreInterfaces layout journal is → layout.direct ≡ false → node.0 < layout.nodes → length (filter (touches_node node) journal) ≤ layout.log
+pub node_short : (layout : Layout) (journal : List Entry) (is : List InterfaceView) (node : NodeId) → AreInterfaces layout journal is → layout.direct ≡ false →
+    node.0 < layout.nodes → length (filter (touches_node node) journal) ≤ layout.log
 node_short layout journal is node are packet lt =
     let there = interface_there layout journal is node are packet lt in
     by_interface (slice_get is node.0) refl there

@@ -1,6 +1,7 @@
 -- One entry more in the logs that it touches is one entry more of the journal.
 use Rattle.std.specs.Prelude.{fold, max, slice_get, slice_set}
-use Rattle.std.proofs.Common.{◌≡◌, inl, ⊎_elim, ℕ, zero, suc, ◌≤◌, Bool, true, false, cond, ◌||◌, List, [], ◌∷◌, ◌++◌, map, Some, None, refl, sym, ap, ◌∙◌, subst, length-append, arith}
+use Rattle.std.proofs.Common.{◌≡◌, inl, ⊎_elim, ℕ, zero, suc, ◌≤◌, Bool, true, false, cond, ◌||◌, List, [], ◌∷◌, ◌++◌, map, Some, None, refl, sym, ap, ◌∙◌}
+use Rattle.std.proofs.Common.{subst, length-append, arith}
 use Rattle.std.specs.List.{filter}
 use Rattle.std.proofs.lemmas.List.{append-nil}
 use Rattle.std.proofs.lemmas.List.Elements.{filter-append}
@@ -10,19 +11,19 @@ use Rattle.am_office.specs.Entries.{touches}
 use Rattle.am_model.specs.Changes.{replay}
 use Rattle.am_model.specs.Layout.{Layout, EndSetting, AllAre}
 use Rattle.am_model.specs.History.{MayFollow, state_of, is_in_range, failing}
-use Rattle.am_drain.specs.Made.{later_stamp, next_entry, next_stamp}
+use Rattle.am_model_drain.specs.Made.{later_stamp, next_entry, next_stamp}
 use Rattle.am_model.specs.Merge.{is_ordered}
-use Rattle.am_merge.proofs.Sorted.{Has, before_from}
-use Rattle.am_join.proofs.Standing.{ordered_push}
+use Rattle.am_model_merge.proofs.Sorted.{Has, before_from}
+use Rattle.am_machine_join.proofs.Standing.{ordered_push}
 use Rattle.am_scenario_types.specs.declared.parts.FaultLine.{FaultLine}
 use Rattle.am_endpoint.specs.View.{EndpointView}
-use Rattle.am_drain.proofs.Entries.{entry_may_follow}
-use Rattle.am_journal.specs.View.{IsEarly}
-use Rattle.am_journal.proofs.Growing.{greatest_push}
+use Rattle.am_model_drain.proofs.Entries.{entry_may_follow}
+use Rattle.am_machine_index.specs.View.{IsEarly}
+use Rattle.am_machine_index.proofs.Growing.{greatest_push}
 use Rattle.am_model.proofs.Each.{each_push}
 use Rattle.am_machine.specs.declared.settings.Settings.{Settings}
-use Rattle.am_local.specs.Readings.{with_entry}
-use Rattle.am_moves.specs.Logs.{EndLog, kept, state_in}
+use Rattle.am_model_parts.specs.Readings.{with_entry}
+use Rattle.am_driver_moves.specs.Logs.{EndLog, kept, state_in}
 use Rattle.am_machine.specs.Ends.{setting_in, grown, logged_at}
 use Rattle.am_machine.specs.Carries.{is_place}
 use Rattle.am_machine.specs.Kept.{IsOwn, IsShort, IsTied, layout_in}
@@ -48,7 +49,8 @@ own_push layout journal x e own =
       pool = own.pool;
     }
 
-all_own : (layout : Layout) (journal : List Entry) (x : Entry) (es : List EndLog) → AllAre (IsOwn layout journal) es → AllAre (IsOwn layout (journal ++ x ∷ [])) (map (grown x) es)
+all_own : (layout : Layout) (journal : List Entry) (x : Entry) (es : List EndLog) → AllAre (IsOwn layout journal) es →
+    AllAre (IsOwn layout (journal ++ x ∷ [])) (map (grown x) es)
 all_own layout journal x [] h = tt
 all_own layout journal x (e ∷ es) h = (own_push layout journal x e h.0, all_own layout journal x es h.1)
 
@@ -56,7 +58,8 @@ pub settings_kept : (x : Entry) (es : List EndLog) → map setting_in (map (grow
 settings_kept x [] = refl
 settings_kept x (e ∷ es) = ap (λ (ss : List EndSetting). setting_in e ∷ ss) (settings_kept x es)
 
-got_grown : (x : Entry) (es : List EndLog) (j : ℕ) (d : EndLog) → slice_get (map (grown x) es) j ≡ Some d → (e : EndLog) × ((slice_get es j ≡ Some e) × (e.settings ≡ d.settings))
+got_grown : (x : Entry) (es : List EndLog) (j : ℕ) (d : EndLog) → slice_get (map (grown x) es) j ≡ Some d →
+    (e : EndLog) × ((slice_get es j ≡ Some e) × (e.settings ≡ d.settings))
 got_grown x [] j d h = absurd (cc)
 got_grown x (e ∷ es) zero d h = let same : grown x e ≡ d = cc in (e, (refl, ap (λ (w : EndLog). w.settings) same))
 got_grown x (e ∷ es) (suc j) d h = got_grown x es j d h
@@ -83,9 +86,12 @@ none_above a (x ∷ xs) z h =
 
 -- and an entry with the next stamp comes last
 ordered_next : (journal : List Entry) (x : Entry) → x.stamp ≡ next_stamp journal → is_ordered journal ≡ true → is_ordered (journal ++ x ∷ []) ≡ true
-ordered_next journal x is ordered = ordered_push journal x ordered (λ z h. before_from z x (inl (let most = none_above 0 journal z h in omega (arith, most, is))))
+ordered_next journal x is ordered = ordered_push journal x ordered (λ z h. before_from z x
+    (inl (let most = none_above 0 journal z h in omega (arith, most, is))))
 
-pub tied_push : (layout : Layout) (es : List EndLog) (journal : List Entry) (event : Event) → IsTied layout es journal → is_in_range layout event ≡ true → failing layout journal event ≡ None → AllAre IsShort (map (grown (next_entry layout journal event)) es) → IsTied layout (map (grown (next_entry layout journal event)) es) (journal ++ next_entry layout journal event ∷ [])
+pub tied_push : (layout : Layout) (es : List EndLog) (journal : List Entry) (event : Event) → IsTied layout es journal → is_in_range layout event ≡ true →
+    failing layout journal event ≡ None → AllAre IsShort (map (grown (next_entry layout journal event)) es) →
+    IsTied layout (map (grown (next_entry layout journal event)) es) (journal ++ next_entry layout journal event ∷ [])
 tied_push layout es journal event tied range enabled short =
     let x = next_entry layout journal event in
     record {
@@ -109,7 +115,8 @@ layout_kept s faults es x = ap (λ (ends : List EndSetting). record (layout_in s
 -- ---- which logs grow
 
 -- what stands at a place
-pub own_at : (layout : Layout) (es : List EndLog) (journal : List Entry) (k : ℕ) (e : EndLog) → AllAre (IsOwn layout journal) es → slice_get es k ≡ Some e → IsOwn layout journal e
+pub own_at : (layout : Layout) (es : List EndLog) (journal : List Entry) (k : ℕ) (e : EndLog) → AllAre (IsOwn layout journal) es → slice_get es k ≡ Some e →
+    IsOwn layout journal e
 own_at layout [] journal k e h at = absurd (cc)
 own_at layout (d ∷ es) journal zero e h at = let same : d ≡ e = cc in subst (IsOwn layout journal) same h.0
 own_at layout (d ∷ es) journal (suc k) e h at = own_at layout es journal k e h.1 at
@@ -132,7 +139,8 @@ one_grown x (e ∷ es) zero h = λ i. grown_at x e true (h zero e refl) i ∷ no
 one_grown x (e ∷ es) (suc k) h = λ i. grown_at x e false (h zero e refl) i ∷ one_grown x es k (λ j d at. h (suc j) d at) i
 
 -- one that touches two of them stands in both logs
-pub two_grown : (x : Entry) (es : List EndLog) (k l : ℕ) → (k ≡ l → ⊥) → TouchesAt x es (λ j. is_place k j || is_place l j) → map (grown x) es ≡ logged_at l x (logged_at k x es)
+pub two_grown : (x : Entry) (es : List EndLog) (k l : ℕ) → (k ≡ l → ⊥) → TouchesAt x es (λ j. is_place k j || is_place l j) →
+    map (grown x) es ≡ logged_at l x (logged_at k x es)
 two_grown x [] k l apart h = refl
 two_grown x (e ∷ es) zero zero apart h = absurd (apart refl)
 two_grown x (e ∷ es) zero (suc l) apart h = λ i. grown_at x e true (h zero e refl) i ∷ one_grown x es l (λ j d at. h (suc j) d at) i
@@ -141,14 +149,20 @@ two_grown x (e ∷ es) (suc k) zero apart h = λ i. grown_at x e true (h zero e 
     or_false : (b : Bool) → (b || false) ≡ b
     or_false true = refl
     or_false false = refl
-two_grown x (e ∷ es) (suc k) (suc l) apart h = λ i. grown_at x e false (h zero e refl) i ∷ two_grown x es k l (λ same. apart (ap suc same)) (λ j d at. h (suc j) d at) i
+two_grown x (e ∷ es) (suc k) (suc l) apart h = λ i. grown_at x e false (h zero e refl) i ∷ two_grown x es k l (λ same. apart (ap suc same))
+    (λ j d at. h (suc j) d at) i
 
 -- a write of one endpoint with one entry more in its log
-pub kept_set : (vs : List EndpointView) (k : ℕ) (v w : EndpointView) (x : Entry) → slice_get vs k ≡ Some v → w.settings ≡ v.settings → w.log ≡ v.log ++ x ∷ [] → map kept (slice_set vs k w) ≡ logged_at k x (map kept vs)
+pub kept_set : (vs : List EndpointView) (k : ℕ) (v w : EndpointView) (x : Entry) → slice_get vs k ≡ Some v → w.settings ≡ v.settings → w.log ≡ v.log ++ x ∷ [] →
+    map kept (slice_set vs k w) ≡ logged_at k x (map kept vs)
 kept_set [] k v w x at same more = absurd (cc)
 kept_set (u ∷ vs) zero v w x at same more =
     let is : u ≡ v = cc in
-    λ i. record { settings = (same ∙ ap (λ (z : EndpointView). z.settings) (sym is)) i; log = (more ∙ ap (λ (z : EndpointView). z.log ++ x ∷ []) (sym is)) i } ∷ map kept vs
+    λ i. record {
+      settings = (same ∙ ap (λ (z : EndpointView). z.settings) (sym is)) i;
+      log = (more
+          ∙ ap (λ (z : EndpointView). z.log ++ x ∷ []) (sym is)) i;
+    } ∷ map kept vs
 kept_set (u ∷ vs) (suc k) v w x at same more = ap (λ (es : List EndLog). kept u ∷ es) (kept_set vs k v w x at same more)
 
 -- a write that leaves settings and log

@@ -2,7 +2,7 @@
 use Rattle.std.specs.Prelude.{◌≡◌, ℕ, Bool, false, Option, Some, None, List, slice_get}
 use Rattle.am_names.specs.declared.EndpointId.{EndpointId}
 use Rattle.am_endpoint.specs.View.{EndpointView}
-use Rattle.am_moves.specs.Logs.{EndLog}
+use Rattle.am_driver_moves.specs.Logs.{EndLog}
 use Rattle.am_machine.specs.Ends.{is_of}
 
 -- whether what stands at a place, if anything does, is the endpoint with this number

@@ -2,9 +2,9 @@
 use Rattle.std.specs.Prelude.{◌≤◌, []}
 use Rattle.am_model.specs.Layout.{IsPoolLawful, opening_place}
 use Rattle.am_scenario_types.specs.declared.parts.EndLine.{EndLine}
-use Rattle.am_scripts.specs.Layout.{is_direct}
+use Rattle.am_model_scripts.specs.Layout.{is_direct}
 use Rattle.am_machine.specs.declared.settings.Settings.{Settings}
-use Rattle.am_moves.specs.Logs.{EndLog}
+use Rattle.am_driver_moves.specs.Logs.{EndLog}
 
 -- a fresh endpoint, as it is declared
 abbrev pub opened : Settings → EndLine → EndLog

@@ -5,7 +5,7 @@ use Rattle.am_office.specs.declared.Entry.{Entry}
 use Rattle.am_model.specs.Allowed.{MayArrive, MayCarry}
 use Rattle.am_model.specs.Steps.{lesser}
 use Rattle.am_endpoint.specs.View.{EndpointView, state_after}
-use Rattle.am_moves.specs.Logs.{EndLog}
+use Rattle.am_driver_moves.specs.Logs.{EndLog}
 use Rattle.am_machine.specs.Ends.{logged_at}
 
 -- whether two places are the same

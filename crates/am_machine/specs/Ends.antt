@@ -6,10 +6,10 @@ use Rattle.am_office.specs.declared.Entry.{Entry}
 use Rattle.am_office.specs.Entries.{touches}
 use Rattle.am_model.specs.Endpoint.{is_on_disk}
 use Rattle.am_model.specs.Layout.{EndSetting, Layout, opening_place}
-use Rattle.am_local.specs.Readings.{with_entry}
-use Rattle.am_body.specs.declared.settings.EndSettings.{EndSettings}
+use Rattle.am_model_parts.specs.Readings.{with_entry}
+use Rattle.am_endpoint_body.specs.declared.settings.EndSettings.{EndSettings}
 use Rattle.am_endpoint.specs.View.{EndpointView}
-use Rattle.am_moves.specs.Logs.{EndLog}
+use Rattle.am_driver_moves.specs.Logs.{EndLog}
 
 -- whether it is the endpoint with this number
 abbrev pub is_of : EndpointId → EndpointView → Bool

@@ -6,7 +6,7 @@ use Rattle.am_names.specs.declared.NodeId.{NodeId}
 use Rattle.am_scenario_types.specs.declared.parts.EndLine.{EndLine}
 use Rattle.am_scenario_types.specs.Lawful.{IsLawfulEnd}
 use Rattle.am_iface.specs.View.{InterfaceView}
-use Rattle.am_scripts.specs.Layout.{is_direct}
+use Rattle.am_model_scripts.specs.Layout.{is_direct}
 use Rattle.am_machine.specs.declared.settings.Settings.{Settings}
 use Rattle.am_machine.specs.Beginnings.{CanOpen}
 

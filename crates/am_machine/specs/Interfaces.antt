@@ -6,7 +6,7 @@ use Rattle.am_names.specs.declared.NodeId.{NodeId}
 use Rattle.am_office.specs.declared.Entry.{Entry}
 use Rattle.am_office.specs.Entries.{touches_node}
 use Rattle.am_model.specs.Layout.{Layout, home, node_at}
-use Rattle.am_local.specs.Interface.{home_in}
+use Rattle.am_model_parts.specs.Interface.{home_in}
 use Rattle.am_iface.specs.View.{InterfaceView, own}
 
 -- the interface of the node, with its part of the journal

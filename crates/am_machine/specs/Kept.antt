@@ -8,15 +8,15 @@ use Rattle.am_model.specs.History.{IsHistory}
 use Rattle.am_model.specs.Layout.{Layout, AllAre, IsLawful, opening}
 use Rattle.am_model.specs.Merge.{is_ordered}
 use Rattle.am_scenario_types.specs.declared.parts.FaultLine.{FaultLine}
-use Rattle.am_scripts.specs.Layout.{is_direct, fault_of}
-use Rattle.am_journal.specs.View.{IsEarly, IsIndexOf, Readings}
-use Rattle.am_merge.specs.Merged.{merged}
+use Rattle.am_model_scripts.specs.Layout.{is_direct, fault_of}
+use Rattle.am_machine_index.specs.View.{IsEarly, IsIndexOf, Readings}
+use Rattle.am_model_merge.specs.Merged.{merged}
 use Rattle.am_iface.specs.View.{InterfaceView}
-use Rattle.am_device.specs.Memory.{Store}
+use Rattle.am_swap_device.specs.Memory.{Store}
 use Rattle.am_machine.specs.Interfaces.{AreInterfaces}
 use Rattle.am_machine.specs.Swaps.{AreSwaps}
 use Rattle.am_machine.specs.View.{ClusterView}
-use Rattle.am_moves.specs.Logs.{EndLog, kept}
+use Rattle.am_driver_moves.specs.Logs.{EndLog, kept}
 use Rattle.am_machine.specs.Ends.{setting_in}
 use Rattle.am_machine.specs.declared.settings.Settings.{Settings}
 use Rattle.am_machine.specs.declared.Cluster.TheInside.{Inside}

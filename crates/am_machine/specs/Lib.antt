@@ -9,6 +9,7 @@ pub mod Kept
 pub mod Beginnings
 pub mod Moves
 pub mod View
+pub mod Refusals
 pub mod Turned
 pub mod Ways
 pub mod Parts

@@ -6,11 +6,11 @@ use Rattle.am_names.specs.Names.{same_node}
 use Rattle.am_office.specs.declared.Place.TheVariants.{Disk}
 use Rattle.am_model.specs.Endpoint.{Body, fresh}
 use Rattle.am_model.specs.Layout.{node_at}
-use Rattle.am_device.specs.Memory.{Store, with_held}
-use Rattle.am_image.specs.Image.{image}
+use Rattle.am_swap_device.specs.Memory.{Store, with_held}
+use Rattle.am_swap_image.specs.Image.{image}
 use Rattle.am_scenario_types.specs.declared.parts.EndLine.{EndLine}
 use Rattle.am_scenario_types.specs.declared.parts.FaultLine.{FaultLine}
-use Rattle.am_scripts.specs.Layout.{is_direct}
+use Rattle.am_model_scripts.specs.Layout.{is_direct}
 use Rattle.am_machine.specs.declared.settings.Settings.{Settings}
 
 abbrev pub is_of_node : NodeId → FaultLine → Bool

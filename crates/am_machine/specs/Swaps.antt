@@ -5,9 +5,9 @@ use Rattle.am_office.specs.declared.Entry.{Entry}
 use Rattle.am_model.specs.Endpoint.{is_on_disk}
 use Rattle.am_model.specs.History.{state_of, page_calls}
 use Rattle.am_model.specs.Layout.{EndSetting, Layout, node_at}
-use Rattle.am_local.specs.Together.{faults_of}
-use Rattle.am_device.specs.Memory.{Store}
-use Rattle.am_moves.specs.Pages.{HoldsBody}
+use Rattle.am_model_parts.specs.Together.{faults_of}
+use Rattle.am_swap_device.specs.Memory.{Store}
+use Rattle.am_driver_moves.specs.Pages.{HoldsBody}
 
 -- the swap of the node: its calls were the node's page calls, those fail that are to fail, and it holds the body of each
 -- endpoint of the node that is on disk

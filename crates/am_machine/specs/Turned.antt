@@ -6,19 +6,19 @@ use Rattle.am_model.specs.Channels.{emitted}
 use Rattle.am_model.specs.Endpoint.{State, is_direct}
 use Rattle.am_model.specs.declared.EntryFault.{EntryFault}
 use Rattle.am_model.specs.declared.EntryFault.TheVariants as Faults
-use Rattle.am_local.specs.declared.work.Work.{Work}
-use Rattle.am_local.specs.declared.work.Work.TheVariants as Works
-use Rattle.am_local.specs.Granted.{FitsEndpoint}
-use Rattle.am_local.specs.Interface.{event_of, failing_at, home_in, needs, outcome_at}
+use Rattle.am_model_parts.specs.declared.work.Work.{Work}
+use Rattle.am_model_parts.specs.declared.work.Work.TheVariants as Works
+use Rattle.am_model_parts.specs.Granted.{FitsEndpoint}
+use Rattle.am_model_parts.specs.Interface.{event_of, failing_at, home_in, needs, outcome_at, stamp_in}
 use Rattle.am_model.specs.Packets.{from_of, number_of}
-use Rattle.am_drain.specs.Made.{next_stamp}
-use Rattle.am_journal.specs.View.{CanCount, Readings}
+use Rattle.am_model_drain.specs.Made.{next_stamp}
+use Rattle.am_machine_index.specs.View.{CanCount, Readings}
 use Rattle.am_endpoint.specs.View.{EndpointView, state_after}
 use Rattle.am_iface.specs.View.{FitsInterface, InterfaceView, own}
 use Rattle.am_model.specs.Parts.{last_stamp}
-use Rattle.am_iface.specs.Turns.{IsFull, stamp_in}
-use Rattle.am_iface.specs.With.{IsFullOf, KnowsHome}
-use Rattle.am_moves.specs.Logs.{EndLog, kept, state_in}
+use Rattle.am_iface.specs.Turns.{HasRoom, IsFull}
+use Rattle.am_iface.specs.With.{HasRoomWith, IsFullOf, KnowsHome}
+use Rattle.am_driver_moves.specs.Logs.{EndLog, kept, state_in}
 
 -- the entry of a work, with the next stamp
 abbrev pub entry_of_work : InterfaceView → List Entry → State → Work → Entry
@@ -45,7 +45,7 @@ abbrev pub TurnsAlone : InterfaceView → InterfaceView → List Entry → State
 TurnsAlone i j past s w (Ok x) = IsTurned i j past s w x
 TurnsAlone i j past s w (Err (Faults.NotEnabled condition)) = (failing_at (own i) s w ≡ Some condition) × (j ≡ i)
 TurnsAlone i j past s w (Err (Faults.LogFull part)) = (failing_at (own i) s w ≡ None) × IsFull i part × (j ≡ i)
-TurnsAlone i j past s w (Err Faults.NoMemory) = j ≡ i
+TurnsAlone i j past s w (Err Faults.NoMemory) = HasRoom i s w × (j ≡ i)
 
 -- an endpoint had room in its log, and has the entry at the end of it
 pub record IsGrown (d : EndLog) (f : EndpointView) (x : Entry) : Type 0 where
@@ -57,9 +57,8 @@ pub record IsGrown (d : EndLog) (f : EndpointView) (x : Entry) : Type 0 where
 abbrev pub TurnsWith : InterfaceView → InterfaceView → EndpointView → EndpointView → List Entry → Work → Result Entry EntryFault → Type 0
 TurnsWith i j e f past w (Ok x) = IsTurned i j past (state_after e) w x × IsGrown (kept e) f x
 TurnsWith i j e f past w (Err (Faults.NotEnabled condition)) = (failing_at (own i) (state_after e) w ≡ Some condition) × (j ≡ i) × (kept f ≡ kept e)
-TurnsWith i j e f past w (Err (Faults.LogFull part)) =
-    (failing_at (own i) (state_after e) w ≡ None) × IsFullOf i e part × (length e.log ≤ e.settings.log) × (j ≡ i) × (kept f ≡ kept e)
-TurnsWith i j e f past w (Err Faults.NoMemory) = (j ≡ i) × (kept f ≡ kept e)
+TurnsWith i j e f past w (Err (Faults.LogFull part)) = (failing_at (own i) (state_after e) w ≡ None) × IsFullOf i e part × (j ≡ i) × (kept f ≡ kept e)
+TurnsWith i j e f past w (Err Faults.NoMemory) = HasRoomWith i e w × (j ≡ i) × (kept f ≡ kept e)
 
 -- the interface is of a cluster of at most 16 nodes
 abbrev pub IsOfCluster : InterfaceView → Type 0
@@ -90,3 +89,4 @@ pub record CanTurnWith (i : InterfaceView) (d : EndLog) (r : Readings) (w : Work
   pub known : KnowsHome (own i) (state_in d) w
   pub flies : FitsEndpoint (own i) (state_in d) w
   pub last : last_stamp d.log ≤ r.greatest
+  pub short : length d.log ≤ d.settings.log

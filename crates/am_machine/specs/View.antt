@@ -4,7 +4,7 @@ use Rattle.am_office.specs.declared.Event.{Event}
 use Rattle.am_office.specs.declared.Entry.{Entry}
 use Rattle.am_model.specs.Layout.{Layout}
 use Rattle.am_model.specs.Steps.{NotEnabled, LogFull, stop}
-use Rattle.am_drain.specs.Made.{next_entry}
+use Rattle.am_model_drain.specs.Made.{next_entry}
 use Rattle.am_model.specs.declared.EntryFault.{EntryFault}
 use Rattle.am_model.specs.declared.EntryFault.TheVariants as Faults
 
@@ -13,13 +13,14 @@ pub record ClusterView : Type 0 where
   pub journal : List Entry
 
 -- What an application of an event answers and leaves. Ok is the entry that the definitions give, with a stamp above the
--- greatest so far, and just that is new in the journal. A refusal names what keeps the event from happening. Want of memory is free. A refusal changes nothing.
+-- greatest so far, and just that is new in the journal. A refusal names what keeps the event from happening, and want of
+-- memory comes only where nothing else does. A refusal changes nothing.
 abbrev pub Applies : ClusterView → ClusterView → Event → Result Entry EntryFault → Type 0
 Applies old new event (Ok x) =
     (stop old.layout old.journal event ≡ None) × (x ≡ next_entry old.layout old.journal event) × (new ≡ record old { journal = old.journal ++ x ∷ [] })
 Applies old new event (Err (Faults.NotEnabled condition)) = (stop old.layout old.journal event ≡ Some (NotEnabled condition)) × (new ≡ old)
 Applies old new event (Err (Faults.LogFull part)) = (stop old.layout old.journal event ≡ Some (LogFull part)) × (new ≡ old)
-Applies old new event (Err Faults.NoMemory) = new ≡ old
+Applies old new event (Err Faults.NoMemory) = (stop old.layout old.journal event ≡ None) × (new ≡ old)
 
 -- What an event answers and leaves that is made, where the entry is not answered: as an application, and Ok where it would
 -- answer the entry.

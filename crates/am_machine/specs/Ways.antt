@@ -5,9 +5,9 @@ use Rattle.am_names.specs.declared.EndpointId.{EndpointId}
 use Rattle.am_names.specs.declared.NodeId.{NodeId}
 use Rattle.am_model.specs.declared.Queued.{Queued}
 use Rattle.am_model.specs.Endpoint.{State, front, is_on_disk}
-use Rattle.am_local.specs.declared.work.Work.{Work}
-use Rattle.am_local.specs.declared.work.Work.TheVariants as Works
-use Rattle.am_local.specs.Interface.{InterfaceLog, emits_to, failing_at, home_of_front}
+use Rattle.am_model_parts.specs.declared.work.Work.{Work}
+use Rattle.am_model_parts.specs.declared.work.Work.TheVariants as Works
+use Rattle.am_model_parts.specs.Interface.{InterfaceLog, emits_to, failing_at, home_of_front}
 use Rattle.am_endpoint.specs.View.{EndpointView, state_after}
 use Rattle.am_iface.specs.View.{InterfaceView, own}
 use Rattle.am_machine.specs.Ends.{is_of}

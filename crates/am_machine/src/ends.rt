@@ -1,5 +1,5 @@
 // What a cluster does with its endpoints, each found by its place among them.
-ghost use Rattle.am_moves.specs.Logs.{kept};
+ghost use Rattle.am_driver_moves.specs.Logs.{kept};
 ghost use Rattle.am_machine.specs.Apart.{AreApart, is_at};
 ghost use Rattle.am_machine.specs.Ends.{is_of};
 ghost use Rattle.am_machine.specs.Carries.{At, ArrivesAt, CarriesFrom, IsReady, carried_at, is_place, least_full};

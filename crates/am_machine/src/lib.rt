@@ -1,7 +1,7 @@
 //! The cluster: endpoints and interfaces whose logs are the parts of one journal, and the events that may happen to them.
 #![tactic(auto)]
 
-ghost use Rattle.am_scripts.specs.Layout.{layout_of};
+ghost use Rattle.am_model_scripts.specs.Layout.{layout_of};
 ghost use Rattle.am_machine.specs.View.{Applies, Makes};
 ghost use Rattle.am_model.specs.Cluster.{ClusterInvariant};
 ghost use Rattle.am_model.specs.History.{IsHistory, is_in_range};
@@ -22,6 +22,7 @@ mod moves;
 mod opening;
 mod parting;
 mod parts;
+mod refusals;
 mod settings;
 mod swaps;
 mod turned;
@@ -35,14 +36,15 @@ use crate::settings::Settings;
 use crate::swaps::open_swaps;
 use am_endpoint::Endpoint;
 use am_iface::Interface;
-use am_join::join;
-use am_journal::JournalIndex;
 use am_laws::post_office;
 use am_laws_cluster::cluster_holds;
+use am_machine_index::JournalIndex;
+use am_machine_join::join;
+pub use am_machine_node::NodePart;
 pub use am_model::EntryFault as ApplyFault;
-pub use am_node::NodePart;
 pub use am_office::NoMemory;
-use am_office::{Entry, Event, Journal};
+use am_office::{Entry, Event};
+use am_office_journal::LoggedJournal;
 use am_scenario_types::{FaultLine, Scenario};
 use am_swap::MemorySwap;
 use std::alloc::Global;
@@ -150,8 +152,9 @@ impl Cluster {
     }
 
     /// The entries in the order of stamp and then part, which are a history of a lawful layout, obey the laws of the post office and
-    /// keep the invariant of the cluster. They are merged from the logs of endpoints and interfaces: `NoMemory` comes where there is none for that.
-    pub fn journal(&self, alloc: Global) -> Result<Journal, NoMemory>
+    /// keep the invariant of the cluster. The logs of endpoints and interfaces are merged, and the entries stay in them: `NoMemory`
+    /// comes where there is none for references to them.
+    pub fn journal<'a>(&'a self, alloc: Global) -> Result<LoggedJournal<'a>, NoMemory>
         ensures journal { IfOk result (λ journal. journal ≡ self.now.journal) }
         ensures order { IfOk result (λ journal. is_ordered journal ≡ true) }
         ensures lawful { layouts.IsLawful self.now.layout }

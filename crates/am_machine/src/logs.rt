@@ -1,8 +1,8 @@
 // The logs of the endpoints and interfaces of a cluster.
-ghost use Rattle.am_join.specs.Joined.{lists_of};
-ghost use Rattle.am_moves.specs.Logs.{kept};
+ghost use Rattle.am_machine_join.specs.Joined.{lists_of};
+ghost use Rattle.am_driver_moves.specs.Logs.{kept};
 ghost use Rattle.am_machine.specs.Kept.{interface_logs, logs_in};
-ghost use Rattle.am_node.specs.Parts.{log_of};
+ghost use Rattle.am_machine_node.specs.Parts.{log_of};
 ghost use Rattle.std.specs.Prelude.{◌≡◌, ◌++◌, IfOk, OnOk, map};
 
 use am_endpoint::Endpoint;

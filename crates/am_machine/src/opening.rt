@@ -1,8 +1,8 @@
 // How the endpoints of a cluster begin.
-ghost use Rattle.am_moves.specs.Logs.{kept};
+ghost use Rattle.am_driver_moves.specs.Logs.{kept};
 ghost use Rattle.am_machine.specs.Beginnings.{CanOpen, opened};
 ghost use Rattle.am_model.specs.Layout.{opening_place};
-ghost use Rattle.am_scripts.specs.Layout.{is_direct};
+ghost use Rattle.am_model_scripts.specs.Layout.{is_direct};
 ghost use Rattle.std.specs.Prelude.{◌≡◌, IfOk, map};
 
 use crate::settings::Settings;

@@ -1,15 +1,15 @@
 // A cluster of the packet network taken apart into its nodes, and put together again.
-ghost use Rattle.am_scripts.specs.Layout.{layout_of};
-ghost use Rattle.am_join.specs.Joined.{AreOne};
-ghost use Rattle.am_journal.specs.View.{IsIndexOf};
+ghost use Rattle.am_model_scripts.specs.Layout.{layout_of};
+ghost use Rattle.am_machine_join.specs.Joined.{AreOne};
+ghost use Rattle.am_machine_index.specs.View.{IsIndexOf};
 ghost use Rattle.am_machine.specs.Parting.{settings_from};
 ghost use Rattle.am_machine.specs.Parts.{AreNodeParts, CanUnite};
-ghost use Rattle.am_merge.specs.Logs.{IsRising};
-ghost use Rattle.am_merge.specs.Merged.{entries_of};
+ghost use Rattle.am_model_merge.specs.Logs.{IsRising};
+ghost use Rattle.am_model_merge.specs.Merged.{entries_of};
 ghost use Rattle.am_model.specs.Layout.{AllAre};
-ghost use Rattle.am_node.specs.Packets.{GoesWithin};
-ghost use Rattle.am_node.specs.Parts.{all_logs, journal_of};
-ghost use Rattle.am_node.specs.Taken.{HasRoomFor, IsEmpty};
+ghost use Rattle.am_machine_node.specs.Packets.{GoesWithin};
+ghost use Rattle.am_machine_node.specs.Parts.{all_logs, journal_of};
+ghost use Rattle.am_machine_node.specs.Taken.{HasRoomFor, IsEmpty};
 ghost use Rattle.am_scenario_types.specs.Lawful.{IsLawful};
 ghost use Rattle.am_scenario_types.specs.declared.parts.Network.TheVariants as Networks;
 ghost use Rattle.std.specs.Prelude.{◌≡◌, ◌≤◌, [], false, length, vec_capacity, IfErr, IfOk};
@@ -18,8 +18,8 @@ use crate::Cluster;
 use crate::parts::short_logs;
 use crate::settings::Settings;
 use am_endpoint::Endpoint;
-use am_journal::JournalIndex;
-use am_node::{
+use am_machine_index::JournalIndex;
+use am_machine_node::{
     NodePart, Taken, assemble, deal, gather, index_of, journal_of, open_shells, room_for,
     take_apart,
 };
@@ -67,7 +67,7 @@ fn open_frame(alloc: Global, scenario: &Scenario, parts: &[NodePart]) -> Result<
     let merged = journal_of(alloc, parts)?;
     Ok(Frame {
         faults: Vec::from_slice(alloc, &scenario.faults)?,
-        index: index_of(alloc, &merged.entries)?,
+        index: index_of(alloc, merged.entries())?,
         taken: room_for(alloc, parts.len())?,
         ends: Vec::with_capacity(alloc, scenario.ends.len())?,
     })

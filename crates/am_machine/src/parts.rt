@@ -1,12 +1,13 @@
 // The parts of a cluster, as its callers may look at them.
 ghost use Rattle.am_endpoint.specs.View.{state_after};
-ghost use Rattle.am_journal.specs.View.{receipts};
-ghost use Rattle.am_moves.specs.Logs.{kept};
+ghost use Rattle.am_machine_index.specs.View.{receipts};
+ghost use Rattle.am_driver_moves.specs.Logs.{kept};
 ghost use Rattle.am_machine.specs.Ends.{setting_in, settings_by};
 ghost use Rattle.am_machine.specs.Interfaces.{IsInterface};
 ghost use Rattle.am_model.specs.Channels.{emitted};
 ghost use Rattle.am_model.specs.History.{IsHistory, state_of};
 ghost use Rattle.am_model.specs.Layout.{IsLawful, declared, has_id, home};
+ghost use Rattle.am_model.specs.Merge.{is_ordered};
 ghost use Rattle.am_model.specs.PostOffice.{PostOffice};
 ghost use Rattle.am_names.specs.declared.EndpointId.{EndpointId};
 ghost use Rattle.am_names.specs.declared.NodeId.{NodeId};
@@ -49,10 +50,12 @@ impl Cluster {
         &self.ends[index]
     }
 
-    /// Its journal is a history of the lawful layout in which it began, and obeys the laws of the post office.
+    /// Its journal is a history of the lawful layout in which it began, stands in the order of stamp and then part, and obeys the laws
+    /// of the post office.
     pub fn laws(&self)
         ensures lawful { IsLawful self.now.layout }
         ensures history { IsHistory self.now.layout self.now.journal }
+        ensures order { is_ordered self.now.journal ≡ true }
         ensures laws { PostOffice self.now.layout self.now.journal }
     {
         post_office();

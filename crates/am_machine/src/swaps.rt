@@ -1,6 +1,6 @@
 // The disks of a cluster, as they begin.
-ghost use Rattle.am_device.specs.Memory.{with_held};
-ghost use Rattle.am_image.specs.Image.{image};
+ghost use Rattle.am_swap_device.specs.Memory.{with_held};
+ghost use Rattle.am_swap_image.specs.Image.{image};
 ghost use Rattle.am_machine.specs.Presets.{AreOpened, begins_on, fails_of, is_of_node, opened_swap, opening_body, preset_if};
 ghost use Rattle.std.specs.Prelude.{◌≡◌, IfOk, OnOk};
 

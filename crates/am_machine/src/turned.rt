@@ -1,21 +1,20 @@
 // A work of an interface, on its parts: the interface, the endpoint that it touches, and the index.
 ghost use Rattle.am_endpoint.specs.View.{state_after};
 ghost use Rattle.am_iface.specs.View.{own};
-ghost use Rattle.am_journal.specs.View.{IsIndexOf};
-ghost use Rattle.am_local.specs.Interface.{needs};
-ghost use Rattle.am_moves.specs.Logs.{kept};
+ghost use Rattle.am_machine_index.specs.View.{IsIndexOf};
+ghost use Rattle.am_model_parts.specs.Interface.{needs};
+ghost use Rattle.am_driver_moves.specs.Logs.{kept};
 ghost use Rattle.am_machine.specs.Turned.{CanTurn, CanTurnWith, TurnsAlone, TurnsWith, entries_after, entry_of_work, told};
 ghost use Rattle.am_machine.specs.Ways.{GoesTo};
 ghost use Rattle.am_model.specs.Endpoint.{State};
 ghost use Rattle.am_office.specs.declared.Entry.{Entry};
-ghost use Rattle.std.specs.Prelude.{◌≡◌, ◌<◌, ◌≤◌, None, IfSome, List, OnOk, length};
+ghost use Rattle.std.specs.Prelude.{◌≡◌, ◌<◌, None, IfSome, List};
 
-use am_endpoint::{EndFault, Endpoint};
+use am_endpoint::Endpoint;
 use am_iface::{Interface, Work, emitted_of};
-use am_journal::JournalIndex;
+use am_machine_index::JournalIndex;
 use am_model::EntryFault;
 use am_names::NodeId;
-use am_office::NoMemory;
 
 /// Does a work that touches no endpoint.
 pub(crate) fn turn_alone(
@@ -30,7 +29,11 @@ pub(crate) fn turn_alone(
 {
     let to = interface.emits_to(work);
     if index.room_to(interface.node(), to).is_err() {
-        return Err(EntryFault::NoMemory);
+        return Err(
+            interface
+                .refusal_alone(work)
+                .unwrap_or(EntryFault::NoMemory),
+        );
     }
     match interface.make_alone(index.greatest_stamp(), work) {
         Ok(()) => {
@@ -41,17 +44,6 @@ pub(crate) fn turn_alone(
             Ok(())
         }
         Err(fault) => Err(fault),
-    }
-}
-
-/// Makes room for one more entry in an endpoint's log, unless it has as many as it may.
-fn make_room(endpoint: &mut Endpoint) -> Result<(), NoMemory>
-    ensures same { kept endpoint.new ≡ kept endpoint.old }
-    ensures bounded { OnOk result (length endpoint.new.log ≤ endpoint.new.settings.log) }
-{
-    match endpoint.room() {
-        Ok(()) | Err(EndFault::LogFull) => Ok(()),
-        Err(EndFault::NoMemory) => Err(NoMemory),
     }
 }
 
@@ -69,11 +61,12 @@ pub(crate) fn turn_with(
     ensures turns { (past : List Entry) → IsIndexOf past index.old.read → TurnsWith interface.old interface.new endpoint.old endpoint.new past work.now (told (entry_of_work interface.old past (state_after endpoint.old) work.now) result) }
     ensures index { (past : List Entry) → IsIndexOf past index.old.read → IsIndexOf (entries_after past (told (entry_of_work interface.old past (state_after endpoint.old) work.now) result)) index.new.read }
 {
-    if make_room(endpoint).is_err() {
-        return Err(EntryFault::NoMemory);
-    }
     if index.room_to(interface.node(), to).is_err() {
-        return Err(EntryFault::NoMemory);
+        return Err(
+            interface
+                .refusal_with(work, endpoint)
+                .unwrap_or(EntryFault::NoMemory),
+        );
     }
     match interface.make_with(index.greatest_stamp(), work, endpoint) {
         Ok(()) => {

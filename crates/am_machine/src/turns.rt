@@ -1,5 +1,6 @@
 // Works of interfaces: binds, time-outs and receipts.
-ghost use Rattle.am_local.specs.Interface.{event_of};
+ghost use Rattle.am_model_parts.specs.Interface.{event_of};
+ghost use Rattle.am_machine.specs.Refusals.{refusal};
 ghost use Rattle.am_machine.specs.Turned.{IsTaken};
 ghost use Rattle.am_machine.specs.View.{Makes};
 ghost use Rattle.am_model.specs.Channels.{emitted};
@@ -18,6 +19,69 @@ use am_office::Condition;
 use am_scenario_types::Network;
 
 impl Cluster {
+    /// What a bind is refused for, want of memory aside.
+    pub(crate) fn refusal_of_bind(&self, node: NodeId, end: EndpointId) -> Option<EntryFault>
+        requires { is_in_range self.now.layout (Events.Bind node end) ≡ true }
+        ensures { result ≡ refusal self.now (Events.Bind node end) }
+    {
+        match self.settings.network {
+            Network::Direct => Some(EntryFault::NotEnabled(Condition::NotPacket)),
+            Network::Packet => self.refusal_of_work(node, &Work::Bind(end)),
+        }
+    }
+
+    /// What a time-out is refused for, want of memory aside.
+    pub(crate) fn refusal_of_expiry(
+        &self,
+        node: NodeId,
+        peer: NodeId,
+        channel: u8,
+    ) -> Option<EntryFault>
+        requires { is_in_range self.now.layout (Events.Expire node peer channel) ≡ true }
+        ensures { result ≡ refusal self.now (Events.Expire node peer channel) }
+    {
+        match self.settings.network {
+            Network::Direct => Some(EntryFault::NotEnabled(Condition::NotPacket)),
+            Network::Packet => self.refusal_of_work(node, &Work::Expire { peer, channel }),
+        }
+    }
+
+    /// What a receipt is refused for, want of memory aside.
+    pub(crate) fn refusal_of_receipt(
+        &self,
+        node: NodeId,
+        peer: NodeId,
+        number: u32,
+    ) -> Option<EntryFault>
+        requires { is_in_range self.now.layout (Events.Receive node peer number) ≡ true }
+        ensures { result ≡ refusal self.now (Events.Receive node peer number) }
+    {
+        match self.settings.network {
+            Network::Direct => Some(EntryFault::NotEnabled(Condition::NotPacket)),
+            Network::Packet => match self.packet(peer, node, number) {
+                Some(packet) => self.refusal_of_work(node, &Work::Receive(packet)),
+                None => Some(EntryFault::NotEnabled(Condition::NoPacket)),
+            },
+        }
+    }
+
+    /// What a work of a node's interface is refused for on the packet network, want of memory aside.
+    fn refusal_of_work(&self, node: NodeId, work: &Work) -> Option<EntryFault>
+        requires packet { self.now.layout.direct ≡ false }
+        requires in_range { is_in_range self.now.layout (event_of node work.now) ≡ true }
+        requires taken { IsTaken self.now.journal node work.now }
+        ensures { result ≡ refusal self.now (event_of node work.now) }
+    {
+        let interface = &self.interfaces[node.0 as usize];
+        let Some(end) = interface.needs(work) else {
+            return interface.refusal_alone(work);
+        };
+        let Some(place) = place_of(&self.ends, end) else {
+            unreachable!()
+        };
+        interface.refusal_with(work, &self.ends[place])
+    }
+
     /// Binds the front message of an endpoint to a channel of a node, where the network is packet.
     pub(crate) fn bind(&mut self, node: NodeId, end: EndpointId) -> Result<(), EntryFault>
         requires { is_in_range self.old.layout (Events.Bind node end) ≡ true }

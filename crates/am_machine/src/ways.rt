@@ -2,7 +2,7 @@
 ghost use Rattle.am_iface.specs.View.{FitsInterface};
 ghost use Rattle.am_machine.specs.Apart.{AreApart};
 ghost use Rattle.am_machine.specs.Ways.{front_node, node_of, way};
-ghost use Rattle.am_moves.specs.Logs.{kept};
+ghost use Rattle.am_driver_moves.specs.Logs.{kept};
 ghost use Rattle.std.specs.Prelude.{◌≡◌, map};
 
 use crate::ends::{is_on_disk, place_of};

@@ -4,15 +4,19 @@ use Rattle.std.specs.Io.KnownBytes.{Appends}
 use Rattle.std.proofs.Common.{◌≡◌, ◌≢◌, ◌⊎◌, inl, inr, ℕ, ◌<◌, ◌≤◌, List, [], ◌∷◌, length, Option, Some, None, refl, sym, ap, ◌∙◌, subst, arith}
 use Rattle.am_io.specs.Causes.{Rose, Stands, Counter}
 use Rattle.am_io.specs.Whole.{IsLonger}
-use Rattle.am_main.specs.Answers.{AnswersTo, IsAnswered, IsDue, IsDueToText, IsOffered, IsOfCommand, IsOneOf, IsTaken, IsWhole, LacksMemory, no_memory, own_statuses, read_fault, statuses, too_long, usage}
+use Rattle.am_main.specs.Answers.{AnswersTo, IsAnswered, IsDue, IsDueToText, IsOfCommand, IsOneOf, IsTaken, LacksMemory}
+use Rattle.am_main_lines.specs.Offers.{IsOffered, IsWhole, no_memory, read_fault, too_long}
+use Rattle.am_main.specs.Answers.{own_statuses, statuses, usage}
 use Rattle.am_main.specs.declared.commands.Command.{Command}
 use Rattle.am_main.specs.declared.commands.Command.TheVariants as Commands
-use Rattle.am_main_check.specs.Checks.{CheckMeans}
+use Rattle.am_check.specs.declared.faults.CheckStop.{CheckStop}
+use Rattle.am_check.specs.declared.faults.CheckStop.TheVariants as Stops
+use Rattle.am_main_check.specs.Checks.{Tells}
 use Rattle.am_main_count.specs.Counts.{CountAnswers}
 use Rattle.am_main_lines.specs.Lines.{Answer}
 use Rattle.am_main_run.specs.Runs.{MakeAnswers, RunAnswers}
 use Rattle.am_main_segments.specs.Segments.{SegmentsAnswers}
-use Rattle.am_main_step.specs.Meaning.{StepMeans}
+use Rattle.am_main_step.specs.Meaning.{StepAnswers}
 use Rattle.am_scenario.specs.Grammar.{grammar}
 use Rattle.am_scenario_types.specs.declared.faults.ScenarioFault.{ScenarioFault}
 use Rattle.am_scenario_types.specs.declared.parts.Form.{Form}
@@ -30,7 +34,7 @@ use Rattle.am_session.specs.Scripts.{Script}
 status_of : (answer other : Answer) → answer ≡ other → answer.status ≡ other.status
 status_of answer other same = ap (λ (a : Answer). a.status) same
 
-step_own : (read : Result ScenarioLists ScenarioFault) (answer : Answer) → StepMeans read answer → IsOneOf (0 ∷ 3 ∷ 6 ∷ []) answer.status
+step_own : (read : Result ScenarioLists ScenarioFault) (answer : Answer) → StepAnswers read answer → IsOneOf (0 ∷ 3 ∷ 6 ∷ []) answer.status
 step_own (Ok s) answer (inl means) = inl means.0
 step_own (Ok s) answer (inr (inl means)) = inr (inl means.0)
 step_own (Ok s) answer (inr (inr means)) = inr (inr (inl means.0))
@@ -60,20 +64,21 @@ count_own nodes turns bytes answer (inl means) = inr (inr (inl (ap (λ (a : Answ
 count_own nodes turns bytes answer (inr (few, inl means)) = inl means.0
 count_own nodes turns bytes answer (inr (few, inr means)) = inr (inl means.0)
 
-check_own : (form : Form) (bytes : List ℕ) (answer : Answer) → CheckMeans form bytes answer → IsOneOf (0 ∷ 3 ∷ 6 ∷ 10 ∷ []) answer.status
-check_own form bytes answer (inl means) = inl (ap (λ (a : Answer). a.status) means.0)
-check_own form bytes answer (inr (inl means)) = inr (inr (inr (inl (ap (λ (a : Answer). a.status) means.answer'))))
-check_own form bytes answer (inr (inr (inl means))) = inr (inl (ap (λ (a : Answer). a.status) means.answer'))
-check_own form bytes answer (inr (inr (inr means))) = inr (inr (inl (ap (λ (a : Answer). a.status) means.answer')))
+check_own : (says : Result (Unit {0}) CheckStop) (answer : Answer) → Tells says answer → IsOneOf (0 ∷ 3 ∷ 6 ∷ 10 ∷ []) answer.status
+check_own (Ok x) answer tells = inl (ap (λ (a : Answer). a.status) tells)
+check_own (Err (Stops.Scenario fault)) answer tells = inr (inl (ap (λ (a : Answer). a.status) tells))
+check_own (Err (Stops.LogFull part)) answer tells = inr (inr (inl (ap (λ (a : Answer). a.status) tells)))
+check_own (Err (Stops.Fault number what)) answer tells = inr (inr (inr (inl (ap (λ (a : Answer). a.status) tells))))
+check_own (Err Stops.NoMemory) answer tells = absurd tells
 
 own_status : (command : Command) (bytes : List ℕ) (answer : Answer) → AnswersTo command bytes answer → IsOneOf (own_statuses command) answer.status
-own_status Commands.Step bytes answer answers = step_own (grammar Forms.Step bytes) answer answers.means
+own_status Commands.Step bytes answer answers = step_own (grammar Forms.Step bytes) answer answers
 own_status Commands.Run bytes answer answers = run_own (grammar Forms.Run bytes) answer answers
 own_status (Commands.Make n) bytes answer answers = make_own n answer answers
 own_status Commands.Segments bytes answer answers = segments_own (segment_grammar bytes) answer answers
-own_status Commands.Session bytes answer answers = session_own (Sessions.grammar bytes) answer answers.means
+own_status Commands.Session bytes answer answers = session_own (Sessions.grammar bytes) answer answers
 own_status (Commands.Count nodes turns) bytes answer answers = count_own nodes turns bytes answer answers
-own_status (Commands.Check form) bytes answer answers = check_own form bytes answer answers.means
+own_status (Commands.Check form) bytes answer answers = check_own answers.says answer answers.tells
 
 -- a status in a list of those that follow stands in a longer one too
 three_six : (status : ℕ) → IsOneOf (0 ∷ 3 ∷ 6 ∷ []) status → IsOfCommand status
@@ -131,13 +136,15 @@ Kind asked left before now answer =
     ⊎ ((answer ≡ no_memory)
     ⊎ IsOfCommand answer.status)))
 
-text_kind : (command : Command) (left : Option (List ℕ)) (before now : Counter) (answer : Answer) → IsDueToText command left before now answer → Kind (Some command) left before now answer
+text_kind : (command : Command) (left : Option (List ℕ)) (before now : Counter) (answer : Answer) → IsDueToText command left before now answer →
+    Kind (Some command) left before now answer
 text_kind command left before now answer (inl due) = inr (inl due)
 text_kind command left before now answer (inr (stands, inl due)) = inr (inr (inl due))
 text_kind command left before now answer (inr (stands, inr (inl due))) = inr (inr (inr (inl due)))
 text_kind command left before now answer (inr (stands, inr (inr found))) = inr (inr (inr (inr (answer_status command found.bytes answer found.holds))))
 
-kind_of : (asked : Option Command) (left : Option (List ℕ)) (before now : Counter) (answer : Answer) → IsDue asked left before now answer → Kind asked left before now answer
+kind_of : (asked : Option Command) (left : Option (List ℕ)) (before now : Counter) (answer : Answer) → IsDue asked left before now answer →
+    Kind asked left before now answer
 kind_of None left before now answer due = inl (refl, due)
 kind_of (Some (Commands.Make n)) left before now answer (inl due) = inr (inr (inr (inl due)))
 kind_of (Some (Commands.Make n)) left before now answer (inr due) = inr (inr (inr (inr (answer_status (Commands.Make n) [] answer due))))
@@ -152,14 +159,16 @@ kind_of (Some (Commands.Check form)) left before now answer due = text_kind (Com
 other_status : (answer known : Answer) (n : ℕ) → answer ≡ known → answer.status ≡ n → known.status ≢ n → ⊥
 other_status answer known n same is other = other (sym (status_of answer known same) ∙ is)
 
-never_five : (asked : Option Command) (left : Option (List ℕ)) (before now : Counter) (answer : Answer) → Kind asked left before now answer → answer.status ≡ 5 → ⊥
+never_five : (asked : Option Command) (left : Option (List ℕ)) (before now : Counter) (answer : Answer) → Kind asked left before now answer →
+    answer.status ≡ 5 → ⊥
 never_five asked left before now answer (inl k) is = other_status answer usage 5 k.1 is (omega arith)
 never_five asked left before now answer (inr (inl k)) is = other_status answer read_fault 5 k.1 is (omega arith)
 never_five asked left before now answer (inr (inr (inl k))) is = other_status answer too_long 5 k.1 is (omega arith)
 never_five asked left before now answer (inr (inr (inr (inl k)))) is = other_status answer no_memory 5 k is (omega arith)
 never_five asked left before now answer (inr (inr (inr (inr k)))) is = not_write_fault answer.status k is
 
-pub not_five : (asked : Option Command) (left : Option (List ℕ)) (before now : Counter) (answer : Answer) → IsDue asked left before now answer → answer.status ≢ 5
+pub not_five : (asked : Option Command) (left : Option (List ℕ)) (before now : Counter) (answer : Answer) → IsDue asked left before now answer →
+    answer.status ≢ 5
 not_five asked left before now answer due = λ (is : answer.status ≡ 5). never_five asked left before now answer (kind_of asked left before now answer due) is
 
 -- ---- what the sink took
@@ -168,53 +177,68 @@ cut_is : (status : ℕ) → status ≢ 5 → status ≢ 8 → (status ≡ 5) ⊎
 cut_is status write memory (inl five) = write five
 cut_is status write memory (inr eight) = memory eight
 
-whole_of : (answer : Answer) (status : ℕ) (old new : Option (List ℕ)) → status ≢ 5 → status ≢ 8 → IsOffered answer status old new → IsWhole answer status old new
+whole_of : (answer : Answer) (status : ℕ) (old new : Option (List ℕ)) → status ≢ 5 → status ≢ 8 → IsOffered answer status old new →
+    IsWhole answer status old new
 whole_of answer status old new write memory (inl whole) = whole
 whole_of answer status old new write memory (inr cut) = absurd (cut_is status write memory cut.status')
 
-pub taken_of : (asked : Option Command) (left : Option (List ℕ)) (before now : Counter) (status : ℕ) (old new : Option (List ℕ)) → IsAnswered asked left before now status old new → status ≢ 5 → status ≢ 8 → IsTaken asked left before now status old new
-taken_of asked left before now status old new a write memory = record { answer = a.answer; due = a.due; whole = whole_of a.answer status old new write memory a.offered }
+pub taken_of : (asked : Option Command) (left : Option (List ℕ)) (before now : Counter) (status : ℕ) (old new : Option (List ℕ)) →
+    IsAnswered asked left before now status old new → status ≢ 5 → status ≢ 8 → IsTaken asked left before now status old new
+taken_of asked left before now status old new a write memory = record {
+  answer = a.answer;
+  due = a.due;
+  whole = whole_of a.answer status old new write memory a.offered;
+}
 
 -- the text of an answer that is known
 text_given : (answer known : Answer) (old new : Option (List ℕ)) → answer ≡ known → Appends old new answer.text → Appends old new known.text
 text_given answer known old new same given = subst (λ (a : Answer). Appends old new a.text) same given
 
-usage_by : (asked : Option Command) (left : Option (List ℕ)) (before now : Counter) (answer : Answer) (old new : Option (List ℕ)) → Kind asked left before now answer → answer.status ≡ 2 → Appends old new answer.text → (asked ≡ None) × Appends old new usage.text
+usage_by : (asked : Option Command) (left : Option (List ℕ)) (before now : Counter) (answer : Answer) (old new : Option (List ℕ)) →
+    Kind asked left before now answer → answer.status ≡ 2 → Appends old new answer.text → (asked ≡ None) × Appends old new usage.text
 usage_by asked left before now answer old new (inl k) is given = (k.0, text_given answer usage old new k.1 given)
 usage_by asked left before now answer old new (inr (inl k)) is given = absurd (other_status answer read_fault 2 k.1 is (omega arith))
 usage_by asked left before now answer old new (inr (inr (inl k))) is given = absurd (other_status answer too_long 2 k.1 is (omega arith))
 usage_by asked left before now answer old new (inr (inr (inr (inl k)))) is given = absurd (other_status answer no_memory 2 k is (omega arith))
-usage_by asked left before now answer old new (inr (inr (inr (inr k)))) is given = absurd (never answer.status 2 k is (omega arith) (omega arith) (omega arith) (omega arith) (omega arith))
+usage_by asked left before now answer old new (inr (inr (inr (inr k)))) is given =
+    absurd (never answer.status 2 k is (omega arith) (omega arith) (omega arith) (omega arith) (omega arith))
 
-read_fault_by : (asked : Option Command) (left : Option (List ℕ)) (before now : Counter) (answer : Answer) (old new : Option (List ℕ)) → Kind asked left before now answer → answer.status ≡ 4 → Appends old new answer.text → Rose before now × Appends old new (codes "read fault\n")
+read_fault_by : (asked : Option Command) (left : Option (List ℕ)) (before now : Counter) (answer : Answer) (old new : Option (List ℕ)) →
+    Kind asked left before now answer → answer.status ≡ 4 → Appends old new answer.text → Rose before now × Appends old new (codes "read fault\n")
 read_fault_by asked left before now answer old new (inl k) is given = absurd (other_status answer usage 4 k.1 is (omega arith))
 read_fault_by asked left before now answer old new (inr (inl k)) is given = (k.0, text_given answer read_fault old new k.1 given)
 read_fault_by asked left before now answer old new (inr (inr (inl k))) is given = absurd (other_status answer too_long 4 k.1 is (omega arith))
 read_fault_by asked left before now answer old new (inr (inr (inr (inl k)))) is given = absurd (other_status answer no_memory 4 k is (omega arith))
-read_fault_by asked left before now answer old new (inr (inr (inr (inr k)))) is given = absurd (never answer.status 4 k is (omega arith) (omega arith) (omega arith) (omega arith) (omega arith))
+read_fault_by asked left before now answer old new (inr (inr (inr (inr k)))) is given =
+    absurd (never answer.status 4 k is (omega arith) (omega arith) (omega arith) (omega arith) (omega arith))
 
-too_long_by : (asked : Option Command) (left : Option (List ℕ)) (before now : Counter) (answer : Answer) (old new : Option (List ℕ)) → Kind asked left before now answer → answer.status ≡ 7 → Appends old new answer.text → IsLonger left 16_777_216 × Appends old new (codes "input too long\n")
+too_long_by : (asked : Option Command) (left : Option (List ℕ)) (before now : Counter) (answer : Answer) (old new : Option (List ℕ)) →
+    Kind asked left before now answer → answer.status ≡ 7 → Appends old new answer.text → IsLonger left 16_777_216 × Appends old new (codes "input too long\n")
 too_long_by asked left before now answer old new (inl k) is given = absurd (other_status answer usage 7 k.1 is (omega arith))
 too_long_by asked left before now answer old new (inr (inl k)) is given = absurd (other_status answer read_fault 7 k.1 is (omega arith))
 too_long_by asked left before now answer old new (inr (inr (inl k))) is given = (k.0, text_given answer too_long old new k.1 given)
 too_long_by asked left before now answer old new (inr (inr (inr (inl k)))) is given = absurd (other_status answer no_memory 7 k is (omega arith))
-too_long_by asked left before now answer old new (inr (inr (inr (inr k)))) is given = absurd (never answer.status 7 k is (omega arith) (omega arith) (omega arith) (omega arith) (omega arith))
+too_long_by asked left before now answer old new (inr (inr (inr (inr k)))) is given =
+    absurd (never answer.status 7 k is (omega arith) (omega arith) (omega arith) (omega arith) (omega arith))
 
 -- the status is another than these
 differs : (status n other : ℕ) → status ≡ n → n ≢ other → status ≢ other
 differs status n other is apart = λ (same : status ≡ other). apart (sym is ∙ same)
 
-pub usage_of : (asked : Option Command) (left : Option (List ℕ)) (before now : Counter) (status : ℕ) (old new : Option (List ℕ)) → IsAnswered asked left before now status old new → status ≡ 2 → (asked ≡ None) × Appends old new usage.text
+pub usage_of : (asked : Option Command) (left : Option (List ℕ)) (before now : Counter) (status : ℕ) (old new : Option (List ℕ)) →
+    IsAnswered asked left before now status old new → status ≡ 2 → (asked ≡ None) × Appends old new usage.text
 usage_of asked left before now status old new a is =
     let whole = whole_of a.answer status old new (differs status 2 5 is (omega arith)) (differs status 2 8 is (omega arith)) a.offered in
     usage_by asked left before now a.answer old new (kind_of asked left before now a.answer a.due) (sym whole.status' ∙ is) whole.given
 
-pub read_fault_of : (asked : Option Command) (left : Option (List ℕ)) (before now : Counter) (status : ℕ) (old new : Option (List ℕ)) → IsAnswered asked left before now status old new → status ≡ 4 → Rose before now × Appends old new (codes "read fault\n")
+pub read_fault_of : (asked : Option Command) (left : Option (List ℕ)) (before now : Counter) (status : ℕ) (old new : Option (List ℕ)) →
+    IsAnswered asked left before now status old new → status ≡ 4 → Rose before now × Appends old new (codes "read fault\n")
 read_fault_of asked left before now status old new a is =
     let whole = whole_of a.answer status old new (differs status 4 5 is (omega arith)) (differs status 4 8 is (omega arith)) a.offered in
     read_fault_by asked left before now a.answer old new (kind_of asked left before now a.answer a.due) (sym whole.status' ∙ is) whole.given
 
-pub too_long_of : (asked : Option Command) (left : Option (List ℕ)) (before now : Counter) (status : ℕ) (old new : Option (List ℕ)) → IsAnswered asked left before now status old new → status ≡ 7 → IsLonger left 16_777_216 × Appends old new (codes "input too long\n")
+pub too_long_of : (asked : Option Command) (left : Option (List ℕ)) (before now : Counter) (status : ℕ) (old new : Option (List ℕ)) →
+    IsAnswered asked left before now status old new → status ≡ 7 → IsLonger left 16_777_216 × Appends old new (codes "input too long\n")
 too_long_of asked left before now status old new a is =
     let whole = whole_of a.answer status old new (differs status 7 5 is (omega arith)) (differs status 7 8 is (omega arith)) a.offered in
     too_long_by asked left before now a.answer old new (kind_of asked left before now a.answer a.due) (sym whole.status' ∙ is) whole.given
@@ -224,7 +248,8 @@ too_long_of asked left before now status old new a is =
 apart_from_eight : (answer known : Answer) → answer ≡ known → known.status ≢ 8 → answer.status ≢ 8
 apart_from_eight answer known same other = λ (is : answer.status ≡ 8). other_status answer known 8 same is other
 
-lacks_by : (asked : Option Command) (left : Option (List ℕ)) (before now : Counter) (answer : Answer) (old new : Option (List ℕ)) (few many : Counter) → Kind asked left before now answer → (answer.status ≢ 8 → Rose few many) → Appends old new answer.text ⊎ Rose few many → LacksMemory old new few many
+lacks_by : (asked : Option Command) (left : Option (List ℕ)) (before now : Counter) (answer : Answer) (old new : Option (List ℕ)) (few many : Counter) →
+    Kind asked left before now answer → (answer.status ≢ 8 → Rose few many) → Appends old new answer.text ⊎ Rose few many → LacksMemory old new few many
 lacks_by asked left before now answer old new few many k short (inr rose) = inr rose
 lacks_by asked left before now answer old new few many (inl k) short (inl given) = inr (short (apart_from_eight answer usage k.1 (omega arith)))
 lacks_by asked left before now answer old new few many (inr (inl k)) short (inl given) = inr (short (apart_from_eight answer read_fault k.1 (omega arith)))
@@ -232,9 +257,12 @@ lacks_by asked left before now answer old new few many (inr (inr (inl k))) short
 lacks_by asked left before now answer old new few many (inr (inr (inr (inl k)))) short (inl given) = inl (text_given answer no_memory old new k given)
 lacks_by asked left before now answer old new few many (inr (inr (inr (inr k)))) short (inl given) = inr (short (not_no_memory answer.status k))
 
-pub lacks_of : (asked : Option Command) (left : Option (List ℕ)) (before now : Counter) (answer : Answer) (status : ℕ) (old new : Option (List ℕ)) (few many : Counter) → IsDue asked left before now answer → (answer.status ≢ 8 → status ≡ 8 → Rose few many) → (status ≡ 8 → Appends old new answer.text ⊎ Rose few many) → status ≡ 8 → LacksMemory old new few many
+pub lacks_of : (asked : Option Command) (left : Option (List ℕ)) (before now : Counter) (answer : Answer) (status : ℕ) (old new : Option (List ℕ))
+    (few many : Counter) → IsDue asked left before now answer → (answer.status ≢ 8 → status ≡ 8 → Rose few many) →
+    (status ≡ 8 → Appends old new answer.text ⊎ Rose few many) → status ≡ 8 → LacksMemory old new few many
 lacks_of asked left before now answer status old new few many due short given eight =
-    lacks_by asked left before now answer old new few many (kind_of asked left before now answer due) (λ (other : answer.status ≢ 8). short other eight) (given eight)
+    lacks_by asked left before now answer old new few many (kind_of asked left before now answer due) (λ (other : answer.status ≢ 8). short other eight)
+    (given eight)
 
 -- ---- which statuses there are
 
@@ -243,13 +271,15 @@ fault_in : (others : List ℕ) (status : ℕ) → (status ≡ 5) ⊎ (status ≡
 fault_in others status (inl five) = inl five
 fault_in others status (inr eight) = inr (inl eight)
 
-text_status : (command : Command) (left : Option (List ℕ)) (before now : Counter) (answer : Answer) → IsDueToText command left before now answer → IsOneOf (5 ∷ 8 ∷ 4 ∷ 7 ∷ own_statuses command) answer.status
+text_status : (command : Command) (left : Option (List ℕ)) (before now : Counter) (answer : Answer) → IsDueToText command left before now answer →
+    IsOneOf (5 ∷ 8 ∷ 4 ∷ 7 ∷ own_statuses command) answer.status
 text_status command left before now answer (inl due) = inr (inr (inl (status_of answer read_fault due.1)))
 text_status command left before now answer (inr (stands, inl due)) = inr (inr (inr (inl (status_of answer too_long due.1))))
 text_status command left before now answer (inr (stands, inr (inl due))) = inr (inl (status_of answer no_memory due))
 text_status command left before now answer (inr (stands, inr (inr found))) = inr (inr (inr (inr (own_status command found.bytes answer found.holds))))
 
-due_status : (asked : Option Command) (left : Option (List ℕ)) (before now : Counter) (answer : Answer) → IsDue asked left before now answer → IsOneOf (statuses asked) answer.status
+due_status : (asked : Option Command) (left : Option (List ℕ)) (before now : Counter) (answer : Answer) → IsDue asked left before now answer →
+    IsOneOf (statuses asked) answer.status
 due_status None left before now answer due = inr (inr (inl (status_of answer usage due)))
 due_status (Some (Commands.Make n)) left before now answer (inl due) = inr (inl (status_of answer no_memory due))
 due_status (Some (Commands.Make n)) left before now answer (inr due) = inr (inr (own_status (Commands.Make n) [] answer due))
@@ -270,16 +300,19 @@ cut_status (Some Commands.Session) status is = fault_in (4 ∷ 7 ∷ own_statuse
 cut_status (Some (Commands.Count nodes turns)) status is = fault_in (4 ∷ 7 ∷ own_statuses (Commands.Count nodes turns)) status is
 cut_status (Some (Commands.Check form)) status is = fault_in (4 ∷ 7 ∷ own_statuses (Commands.Check form)) status is
 
-ends_by : (asked : Option Command) (answer : Answer) (status : ℕ) (old new : Option (List ℕ)) → IsOneOf (statuses asked) answer.status → IsOffered answer status old new → IsOneOf (statuses asked) status
+ends_by : (asked : Option Command) (answer : Answer) (status : ℕ) (old new : Option (List ℕ)) → IsOneOf (statuses asked) answer.status →
+    IsOffered answer status old new → IsOneOf (statuses asked) status
 ends_by asked answer status old new own (inl whole) = subst (λ (n : ℕ). IsOneOf (statuses asked) n) (sym whole.status') own
 ends_by asked answer status old new own (inr cut) = cut_status asked status cut.status'
 
-pub ends_of : (asked : Option Command) (left : Option (List ℕ)) (before now : Counter) (status : ℕ) (old new : Option (List ℕ)) → IsAnswered asked left before now status old new → IsOneOf (statuses asked) status
+pub ends_of : (asked : Option Command) (left : Option (List ℕ)) (before now : Counter) (status : ℕ) (old new : Option (List ℕ)) →
+    IsAnswered asked left before now status old new → IsOneOf (statuses asked) status
 ends_of asked left before now status old new a = ends_by asked a.answer status old new (due_status asked left before now a.answer a.due) a.offered
 
 -- ---- the end of the source
 
-pub ended_of : (answer : Answer) (status : ℕ) (old new : Option (List ℕ)) (ended : Bool) → IsOffered answer status old new → (IsOfCommand answer.status → ended ≡ true) → IsOfCommand status → ended ≡ true
+pub ended_of : (answer : Answer) (status : ℕ) (old new : Option (List ℕ)) (ended : Bool) → IsOffered answer status old new →
+    (IsOfCommand answer.status → ended ≡ true) → IsOfCommand status → ended ≡ true
 ended_of answer status old new ended offered own is =
     let whole = whole_of answer status old new (not_write_fault status is) (not_no_memory status is) offered in
     own (subst (λ (n : ℕ). IsOfCommand n) whole.status' is)

@@ -1,6 +1,6 @@
 -- What the program answers: to what was asked for, and to the bytes that were read for it.
-use Rattle.std.specs.Prelude.{◌≡◌, ◌≢◌, ◌⊎◌, ℕ, ◌≤◌, ◌<◌, List, [], ◌∷◌, codes, length, take, Option, Some, None}
 use Rattle.std.specs.Io.KnownBytes.{Appends}
+use Rattle.std.specs.Prelude.{◌≡◌, ◌⊎◌, ℕ, ◌≤◌, List, [], ◌∷◌, codes, length, Option, Some, None}
 use Rattle.am_io.specs.Causes.{Rose, Stands, Counter}
 use Rattle.am_io.specs.Whole.{IsAll, IsLonger}
 use Rattle.am_main.specs.declared.commands.Command.{Command}
@@ -8,22 +8,17 @@ use Rattle.am_main.specs.declared.commands.Command.TheVariants as Commands
 use Rattle.am_main_check.specs.Checks.{CheckAnswers}
 use Rattle.am_main_count.specs.Counts.{CountAnswers}
 use Rattle.am_main_lines.specs.Lines.{Answer}
+use Rattle.am_main_lines.specs.Offers.{IsOffered, IsWhole, no_memory, read_fault, too_long}
 use Rattle.am_main_run.specs.Runs.{MakeAnswers, RunAnswers}
 use Rattle.am_main_segments.specs.Segments.{SegmentsAnswers}
 use Rattle.am_main_step.specs.Meaning.{StepAnswers}
 use Rattle.am_scenario.specs.Grammar.{grammar}
 use Rattle.am_scenario_types.specs.declared.parts.Form.TheVariants as Forms
 use Rattle.am_segment.specs.Spelling.{segment_grammar}
-use Rattle.am_session.specs.Answer.{session_answer}
-use Rattle.am_session.specs.Grammar as Sessions
+use Rattle.am_session.specs.Grammar.{grammar as session_grammar}
 use Rattle.am_session.specs.Meaning.{SessionMeans}
 
 -- ---- what each command answers
-
--- the answer of `session` to a text; there is one
-pub record SessionAnswers (bytes : List ℕ) (answer : Answer) : Type 0 where
-  pub only : answer ≡ session_answer bytes
-  pub means : SessionMeans (Sessions.grammar bytes) answer
 
 -- THE HEADLINE: a status and a text are an answer of the command to the bytes. `make` has no bytes to look at.
 abbrev pub AnswersTo : Command → List ℕ → Answer → Type 0
@@ -31,34 +26,22 @@ AnswersTo Commands.Step bytes answer = StepAnswers (grammar Forms.Step bytes) an
 AnswersTo Commands.Run bytes answer = RunAnswers (grammar Forms.Run bytes) answer
 AnswersTo (Commands.Make n) bytes answer = MakeAnswers n answer
 AnswersTo Commands.Segments bytes answer = SegmentsAnswers (segment_grammar bytes) answer
-AnswersTo Commands.Session bytes answer = SessionAnswers bytes answer
+AnswersTo Commands.Session bytes answer = SessionMeans (session_grammar bytes) answer
 AnswersTo (Commands.Count nodes turns) bytes answer = CountAnswers nodes turns bytes answer
 AnswersTo (Commands.Check form) bytes answer = CheckAnswers form bytes answer
 
 -- the statuses of these answers: 0 the report, the summary, the counts or a yes; 3 a text that spells no scenario, or a step that can't
 -- happen; 6 a full log; 10 a fault of a report; 11 a text that is too long to be counted
 abbrev pub own_statuses : Command → List ℕ
-own_statuses Commands.Step = 0 ∷ 3 ∷ 6 ∷ []
-own_statuses Commands.Run = 0 ∷ 3 ∷ 6 ∷ []
 own_statuses (Commands.Make n) = 0 ∷ 6 ∷ []
-own_statuses Commands.Segments = 0 ∷ 3 ∷ 6 ∷ []
 own_statuses Commands.Session = 0 ∷ 3 ∷ []
 own_statuses (Commands.Count nodes turns) = 0 ∷ 6 ∷ 11 ∷ []
 own_statuses (Commands.Check form) = 0 ∷ 3 ∷ 6 ∷ 10 ∷ []
+own_statuses command = 0 ∷ 3 ∷ 6 ∷ []
 
--- ---- the other answers, which don't look at the bytes
-
+-- the answer to words that ask for nothing that there is
 abbrev pub usage : Answer
 usage = record { status = 2; text = codes "usage: am2 step | am2 run | am2 make N | am2 segments | am2 session | am2 count W U | am2 check step | am2 check run\n" }
-
-abbrev pub read_fault : Answer
-read_fault = record { status = 4; text = codes "read fault\n" }
-
-abbrev pub too_long : Answer
-too_long = record { status = 7; text = codes "input too long\n" }
-
-abbrev pub no_memory : Answer
-no_memory = record { status = 8; text = codes "no memory\n" }
 
 -- ---- which answer is due
 
@@ -83,25 +66,6 @@ abbrev pub IsDue : Option Command → (left : Option (List ℕ)) (before now : C
 IsDue None left before now answer = answer ≡ usage
 IsDue (Some (Commands.Make n)) left before now answer = (answer ≡ no_memory) ⊎ MakeAnswers n answer
 IsDue (Some command) left before now answer = IsDueToText command left before now answer
-
--- ---- what the sink takes of it
-
--- the status and the whole text are those of the answer
-pub record IsWhole (answer : Answer) (status : ℕ) (old new : Option (List ℕ)) : Type 0 where
-  pub status' : status ≡ answer.status
-  pub given : Appends old new answer.text
-
--- a front of the text was appended, and not all of it: the status is that of a fault of the sink or of want of memory
-pub record IsCutShort (text : List ℕ) (status : ℕ) (old new : Option (List ℕ)) : Type 0 where
-  pub status' : (status ≡ 5) ⊎ (status ≡ 8)
-  pub count : ℕ
-  pub shorter : count < length text
-  pub given : Appends old new (take count text)
-
--- The answer was offered to the sink. It took the text whole, under the answer's status; or a shorter front of it, with
--- status 5 where the sink failed, or with status 8 where the sink found no memory.
-abbrev pub IsOffered : Answer → ℕ → Option (List ℕ) → Option (List ℕ) → Type 0
-IsOffered answer status old new = IsWhole answer status old new ⊎ IsCutShort answer.text status old new
 
 -- THE PROGRAM: an answer that is due was offered
 pub record IsAnswered (asked : Option Command) (left : Option (List ℕ)) (before now : Counter) (status : ℕ) (old new : Option (List ℕ)) : Type 0 where

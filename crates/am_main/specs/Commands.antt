@@ -1,22 +1,13 @@
--- What the words after the program's name ask for.
-use Rattle.std.specs.Prelude.{◌≡◌, ℕ, ◌<◌, ◌≤◌, ◌==◌, ◌&&◌, nat_le, Bool, true, false, List, [], ◌∷◌, codes, if◌then◌else◌, Option, Some, None}
+-- What the words after the program's name ask for. Their numbers are spelled as numbers are printed: one or more digits without a leading
+-- zero, with a value below 2 ^ 64.
+use Rattle.std.specs.Prelude.{◌≡◌, ℕ, ◌<◌, ◌≤◌, ◌&&◌, nat_le, Bool, true, false, List, [], ◌∷◌, codes, if◌then◌else◌, Option, Some, None}
 use Rattle.std.specs.Str.{bytes_eq}
 use Rattle.std.specs.Option.{option_and_then, option_map}
-use Rattle.am_lexer.specs.Text.{number_of}
+use Rattle.am_check_lines.specs.Reading.{printed_number}
 use Rattle.am_scenario_types.specs.declared.parts.Form.{Form}
 use Rattle.am_scenario_types.specs.declared.parts.Form.TheVariants as Forms
 use Rattle.am_main.specs.declared.commands.Command.{Command}
 use Rattle.am_main.specs.declared.commands.Command.TheVariants as Commands
-
--- whether a word of more than one byte begins with the digit 0
-abbrev pub has_leading_zero : List ℕ → Bool
-has_leading_zero [] = false
-has_leading_zero (byte ∷ []) = false
-has_leading_zero (byte ∷ next ∷ bytes) = byte == 48
-
--- A number of a command is spelled as numbers are printed: one or more digits without a leading zero, with a value below 2 ^ 64.
-unfoldable pub exact_number : List ℕ → Option ℕ
-exact_number word = if has_leading_zero word then None else number_of word
 
 unfoldable pub of_one_word : List ℕ → Option Command
 of_one_word word =
@@ -33,7 +24,7 @@ form_of word =
 
 unfoldable pub of_two_words : List ℕ → List ℕ → Option Command
 of_two_words word other =
-    if bytes_eq word (codes "make") then option_map Commands.Make (exact_number other) else
+    if bytes_eq word (codes "make") then option_map Commands.Make (printed_number other) else
     if bytes_eq word (codes "check") then option_map Commands.Check (form_of other) else None
 
 -- `count` is asked for with 1 to 8 nodes and 0 to 10,000 turns
@@ -42,16 +33,15 @@ count_of nodes turns = if nat_le 1 nodes && nat_le nodes 8 && nat_le turns 10_00
 
 unfoldable pub of_three_words : List ℕ → List ℕ → List ℕ → Option Command
 of_three_words word nodes turns =
-    if bytes_eq word (codes "count") then option_and_then (λ (n : ℕ). option_and_then (count_of n) (exact_number turns)) (exact_number nodes) else None
+    if bytes_eq word (codes "count") then option_and_then (λ (n : ℕ). option_and_then (count_of n) (printed_number turns)) (printed_number nodes) else None
 
 -- what the words ask for, if they have one of the forms: `step`, `run`, `make` and a number, `segments`, `session`, `count` and two
 -- numbers, or `check` and the name of a form
 unfoldable pub command_of : List (List ℕ) → Option Command
-command_of [] = None
 command_of (word ∷ []) = of_one_word word
 command_of (word ∷ other ∷ []) = of_two_words word other
 command_of (word ∷ nodes ∷ turns ∷ []) = of_three_words word nodes turns
-command_of (word ∷ nodes ∷ turns ∷ other ∷ words) = None
+command_of words = None
 
 -- the numbers of a command are ones that it takes
 abbrev pub IsInRange : Command → Type 0
@@ -62,22 +52,8 @@ IsInRange command = Unit {0}
 abbrev pub Asks : List (List ℕ) → Command → Type 0
 Asks words command = command_of words ≡ Some command
 
-abbrev pub HasNoForm : List (List ℕ) → Type 0
-HasNoForm words = command_of words ≡ None
-
 -- whether what the words ask for needs a text from the source
 abbrev pub reads_text : Option Command → Bool
 reads_text None = false
-reads_text (Some Commands.Step) = true
-reads_text (Some Commands.Run) = true
 reads_text (Some (Commands.Make n)) = false
-reads_text (Some Commands.Segments) = true
-reads_text (Some Commands.Session) = true
-reads_text (Some (Commands.Count nodes turns)) = true
-reads_text (Some (Commands.Check form)) = true
-
-abbrev pub NeedsText : List (List ℕ) → Type 0
-NeedsText words = reads_text (command_of words) ≡ true
-
-abbrev pub NeedsNoText : List (List ℕ) → Type 0
-NeedsNoText words = reads_text (command_of words) ≡ false
+reads_text (Some command) = true

@@ -2,7 +2,8 @@
 use Rattle.std.specs.Prelude.{◌≡◌, ◌≢◌, ◌⊎◌, ℕ, ◌≤◌, true, List, [], codes, length, Option, Some, Result, Ok}
 use Rattle.am_check_laws.specs.Laws.{IsTrueReport}
 use Rattle.am_io.specs.Causes.{Rose, Counter}
-use Rattle.am_main.specs.Answers.{AnswersTo, Finds, IsAnswered, IsOfCommand, IsOneOf, IsTaken, IsWhole, statuses}
+use Rattle.am_main.specs.Answers.{AnswersTo, Finds, IsAnswered, IsOfCommand, IsOneOf, IsTaken, statuses}
+use Rattle.am_main_lines.specs.Offers.{IsWhole}
 use Rattle.am_main.specs.Commands.{reads_text}
 use Rattle.am_main.specs.declared.commands.Command.{Command}
 use Rattle.am_main.specs.declared.commands.Command.TheVariants as Commands

@@ -1,9 +1,11 @@
 //! What each command gives to print.
 
 ghost use Rattle.std.specs.Prelude.{◌≡◌, IfOk};
-ghost use Rattle.am_main.specs.Answers.{AnswersTo, SessionAnswers};
+ghost use Rattle.am_main.specs.Answers.{AnswersTo};
 ghost use Rattle.am_main.specs.Commands.{IsInRange};
 ghost use Rattle.am_main_lines.specs.Lines.{answer_in};
+ghost use Rattle.am_session.specs.Grammar as sessions;
+ghost use Rattle.am_session.specs.Meaning.{SessionMeans};
 
 use crate::commands::Command;
 use am_main_check::check_output;
@@ -18,7 +20,7 @@ use std::thread::Threads;
 
 // What `session` prints of a text.
 fn played_output(alloc: Global, bytes: &[u8]) -> Result<Output, AllocError>
-    ensures { IfOk result (λ output. SessionAnswers bytes.now (answer_in output)) }
+    ensures { IfOk result (λ output. SessionMeans (sessions.grammar bytes.now) (answer_in output)) }
 {
     match session_output(alloc, bytes) {
         Ok(SessionOutput { status, text }) => Ok(Output { status, text }),

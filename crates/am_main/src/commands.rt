@@ -1,9 +1,9 @@
 //! The forms of the words after the program's name.
 
 ghost use Rattle.std.specs.Prelude.{◌≡◌, IfSome, Some, map, string_bytes};
-ghost use Rattle.am_main.specs.Commands.{IsInRange, command_of, count_of, exact_number, form_of, of_one_word, of_three_words, of_two_words, reads_text};
+ghost use Rattle.am_main.specs.Commands.{IsInRange, command_of, count_of, form_of, of_one_word, of_three_words, of_two_words, reads_text};
 
-use am_lexer::parse_number;
+use am_check_lines::printed_number;
 use am_scenario::Form;
 
 /// What the words ask for.
@@ -60,17 +60,6 @@ fn form_of(word: &str) -> Option<Form>
     }
 }
 
-// The number that a word spells as numbers are printed.
-#[tactic(auto, unfolding(crate::specs::Commands::exact_number))]
-fn exact_number(word: &[u8]) -> Option<u64>
-    ensures { result ≡ exact_number word.now }
-{
-    match word {
-        [b'0', _, ..] => None,
-        _ => parse_number(word),
-    }
-}
-
 #[tactic(auto, unfolding(crate::specs::Commands::of_one_word))]
 fn of_one_word(word: &str) -> Option<Command>
     ensures exact { result ≡ of_one_word word.now }
@@ -91,7 +80,7 @@ fn of_two_words(word: &str, other: &str) -> Option<Command>
     ensures in_range { IfSome result IsInRange }
 {
     if word == "make" {
-        Some(Command::Make(exact_number(other.as_bytes())?))
+        Some(Command::Make(printed_number(other.as_bytes())?))
     } else if word == "check" {
         Some(Command::Check(form_of(other)?))
     } else {
@@ -122,8 +111,8 @@ fn of_three_words(word: &str, nodes: &str, turns: &str) -> Option<Command>
 {
     if word == "count" {
         count_of(
-            exact_number(nodes.as_bytes())?,
-            exact_number(turns.as_bytes())?,
+            printed_number(nodes.as_bytes())?,
+            printed_number(turns.as_bytes())?,
         )
     } else {
         None

@@ -13,4 +13,4 @@ pub use crate::laws::answers_say;
 pub use crate::offers::Status;
 pub use crate::top::{am2, answer_no_memory};
 pub use am_main_run::have_one_answer;
-pub use am_main_step::{StepFault, step_text};
+pub use am_main_step::{StepFault, step_has_one_answer, step_text};

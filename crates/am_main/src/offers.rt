@@ -3,7 +3,7 @@
 ghost use Rattle.std.specs.Prelude.{◌≡◌, ◌≢◌, ◌⊎◌};
 ghost use Rattle.std.specs.Io.KnownBytes.{Appends};
 ghost use Rattle.am_io.specs.Causes.{Rose, Stands};
-ghost use Rattle.am_main.specs.Answers.{IsOffered};
+ghost use Rattle.am_main_lines.specs.Offers.{IsOffered};
 ghost use Rattle.am_main.specs.Replies.{answer_of};
 
 use crate::replies::Reply;

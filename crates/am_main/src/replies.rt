@@ -2,7 +2,8 @@
 
 ghost use Rattle.std.specs.Prelude.{◌≡◌, ◌⊎◌, IfSome, true, false};
 ghost use Rattle.am_io.specs.Whole.{TakesAtMost};
-ghost use Rattle.am_main.specs.Answers.{AnswersTo, IsDue, IsDueToText, IsOfCommand, no_memory};
+ghost use Rattle.am_main.specs.Answers.{AnswersTo, IsDue, IsDueToText, IsOfCommand};
+ghost use Rattle.am_main_lines.specs.Offers.{no_memory};
 ghost use Rattle.am_main.specs.Commands.{IsInRange, reads_text};
 ghost use Rattle.am_main.specs.Replies.{answer_of};
 

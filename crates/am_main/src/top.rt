@@ -1,11 +1,12 @@
 //! The top call.
 
-ghost use Rattle.std.specs.Prelude.{codes, ◌≡◌, ◌≢◌, map, string_bytes, true, false};
+ghost use Rattle.std.specs.Prelude.{codes, ◌≡◌, ◌≢◌, None, map, string_bytes, true, false};
 ghost use Rattle.std.specs.Io.KnownBytes.{Appends};
 ghost use Rattle.am_io.specs.Causes.{Rose, Stands};
 ghost use Rattle.am_io.specs.Whole.{IsLonger, TakesAtMost};
-ghost use Rattle.am_main.specs.Answers.{IsAnswered, IsOfCommand, IsOffered, IsOneOf, IsTaken, LacksMemory, no_memory, statuses, usage};
-ghost use Rattle.am_main.specs.Commands.{HasNoForm, NeedsNoText, NeedsText, command_of};
+ghost use Rattle.am_main.specs.Answers.{IsAnswered, IsOfCommand, IsOneOf, IsTaken, LacksMemory, statuses, usage};
+ghost use Rattle.am_main_lines.specs.Offers.{IsOffered, no_memory};
+ghost use Rattle.am_main.specs.Commands.{command_of, reads_text};
 
 use crate::commands::command_of;
 use crate::offers::{Status, offer};
@@ -54,7 +55,7 @@ pub fn am2<R: Threads + Sync, S: Source, K: Sink>(
     ensures taken { result.number ≢ 5 → result.number ≢ 8 → IsTaken (command_of (map string_bytes words.now)) (S.left source.old) (S.count source.old) (S.count source.new) result.number (K.held sink.old) (K.held sink.new) }
     // Which statuses there are, and the cause of each that is none of a command's own answers.
     ensures ends { IsOneOf (statuses (command_of (map string_bytes words.now))) result.number }
-    ensures usage { result.number ≡ 2 → HasNoForm (map string_bytes words.now) × Appends (K.held sink.old) (K.held sink.new) usage.text }
+    ensures usage { result.number ≡ 2 → (command_of (map string_bytes words.now) ≡ None) × Appends (K.held sink.old) (K.held sink.new) usage.text }
     ensures read_fault { result.number ≡ 4 → Rose (S.count source.old) (S.count source.new) × Appends (K.held sink.old) (K.held sink.new) (codes "read fault\n") }
     ensures write_fault { result.number ≡ 5 → Rose (K.count sink.old) (K.count sink.new) }
     ensures too_long { result.number ≡ 7 → IsLonger (S.left source.old) 16777216 × Appends (K.held sink.old) (K.held sink.new) (codes "input too long\n") }
@@ -63,8 +64,8 @@ pub fn am2<R: Threads + Sync, S: Source, K: Sink>(
     ensures no_write_fault { result.number ≢ 5 → Stands (K.count sink.old) (K.count sink.new) }
     ensures no_shortage { result.number ≢ 8 → Stands (K.shortages sink.old) (K.shortages sink.new) }
     // A text is read to its end where it is answered; words of no form and `make` leave the source as it was.
-    ensures ended { NeedsText (map string_bytes words.now) → IsOfCommand result.number → S.has_ended source.new ≡ true }
-    ensures unread { NeedsNoText (map string_bytes words.now) → source.new ≡ source.old }
+    ensures ended { reads_text (command_of (map string_bytes words.now)) ≡ true → IsOfCommand result.number → S.has_ended source.new ≡ true }
+    ensures unread { reads_text (command_of (map string_bytes words.now)) ≡ false → source.new ≡ source.old }
     ensures took { TakesAtMost 16777217 (S.left source.old) (S.left source.new) }
 {
     let reply = reply_to(rt, alloc, command_of(words), source);

@@ -1,5 +1,5 @@
 -- What the command `check` answers to a scenario and its report.
-use Rattle.std.specs.Prelude.{◌≡◌, ◌↔◌, ◌⊎◌, ℕ, List, [], ◌∷◌, codes, Result, Ok, Err}
+use Rattle.std.specs.Prelude.{◌≡◌, ◌↔◌, ℕ, List, [], ◌∷◌, codes, Result, Ok, Err}
 use Rattle.std.specs.Fmt.{decimal}
 use Rattle.am_check.specs.declared.faults.CheckStop.{CheckStop}
 use Rattle.am_check.specs.declared.faults.CheckStop.TheVariants as Stops
@@ -11,10 +11,8 @@ use Rattle.am_check_laws.specs.Laws.{IsTrueReport}
 use Rattle.am_main_lines.specs.Lines.{Answer, full_line, refusal}
 use Rattle.am_main_lines.specs.Words.{condition_word}
 use Rattle.am_office.specs.declared.Condition.{Condition}
-use Rattle.am_office.specs.declared.Part.{Part}
-use Rattle.am_scenario_types.specs.declared.faults.ScenarioFault.{ScenarioFault}
 use Rattle.am_scenario_types.specs.declared.parts.Form.{Form}
-use Rattle.am_text.specs.Words.{line}
+use Rattle.am_office_text.specs.Words.{line}
 
 -- `check line N` and one word
 unfoldable pub told_line : ℕ → List ℕ → List ℕ
@@ -47,35 +45,19 @@ pub record IsVerdict (form : Form) (bytes : List ℕ) (says : Result (Unit {0}) 
   pub told : IsTold form bytes says
   pub only : IsOnly form bytes says
 
--- a line of the report is the first one with a fault
-pub record TellsLine (form : Form) (bytes : List ℕ) (answer : Answer) : Type 0 where
-  pub number : ℕ
-  pub what : CheckWhat
-  pub verdict : IsVerdict form bytes (Err (Stops.Fault number what))
-  pub answer' : answer ≡ record { status = 10; text = check_line number what }
-
--- the text in front of the report has a fault, and this is the first
-pub record TellsScenario (form : Form) (bytes : List ℕ) (answer : Answer) : Type 0 where
-  pub fault : ScenarioFault
-  pub verdict : IsVerdict form bytes (Err (Stops.Scenario fault))
-  pub answer' : answer ≡ refusal fault
-
--- an event of the report finds this log full
-pub record TellsPart (form : Form) (bytes : List ℕ) (answer : Answer) : Type 0 where
-  pub part : Part
-  pub verdict : IsVerdict form bytes (Err (Stops.LogFull part))
-  pub answer' : answer ≡ record { status = 6; text = full_line part }
-
--- what an answer says: the bytes are a scenario and the report of a history of it, or what keeps them from it
-abbrev pub CheckMeans : Form → List ℕ → Answer → Type 0
-CheckMeans form bytes answer =
-    ((answer ≡ yes) × IsVerdict form bytes (Ok tt))
-    ⊎ (TellsLine form bytes answer
-    ⊎ (TellsScenario form bytes answer
-    ⊎ TellsPart form bytes answer))
+-- An answer tells what the checker says: yes; the first line of the report with a fault; the first fault of the text in front of the
+-- report; or the log that an event of the report finds full. Want of memory is none of these.
+abbrev pub Tells : Result (Unit {0}) CheckStop → Answer → Type 0
+Tells (Ok x) answer = answer ≡ yes
+Tells (Err (Stops.Fault number what)) answer = answer ≡ record { status = 10; text = check_line number what }
+Tells (Err (Stops.Scenario fault)) answer = answer ≡ refusal fault
+Tells (Err (Stops.LogFull part)) answer = answer ≡ record { status = 6; text = full_line part }
+Tells (Err Stops.NoMemory) answer = ⊥
 
 -- THE HEADLINE, for the command `check`: the status is 0, with `check ok`, exactly where the bytes are a scenario and the report of a
 -- history that follows it and obeys the laws; else the answer tells the first fault.
 pub record CheckAnswers (form : Form) (bytes : List ℕ) (answer : Answer) : Type 0 where
-  pub means : CheckMeans form bytes answer
+  pub says : Result (Unit {0}) CheckStop
+  pub verdict : IsVerdict form bytes says
+  pub tells : Tells says answer
   pub exactly : (answer.status ≡ 0) ↔ IsTrueReport form bytes

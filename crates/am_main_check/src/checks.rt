@@ -8,9 +8,9 @@ use am_check::{CheckStop, CheckWhat, check};
 use am_check_laws::yes_is_true;
 use am_main_lines::{Output, condition_word, fault_output, full_output};
 use am_office::Condition;
+use am_office_text::Piece::Text;
+use am_office_text::{count, put_line};
 use am_scenario::Form;
-use am_text::Piece::Text;
-use am_text::{count, put_line};
 use std::alloc::{AllocError, Global};
 
 // The line that tells a fault by one word.

@@ -1,12 +1,13 @@
 -- What the command `count` answers, and what its answers say of the cluster.
-use Rattle.std.specs.Prelude.{◌≡◌, ◌⊎◌, ℕ, ◌<◌, ◌≤◌, List, codes, length}
+use Rattle.std.specs.Prelude.{◌≡◌, ◌⊎◌, ℕ, ◌<◌, ◌≤◌, List, length}
 use Rattle.am_office.specs.declared.Part.{Part}
 use Rattle.am_scenario_types.specs.Lists.{ScenarioLists}
-use Rattle.am_words.specs.Codes.{sent_words}
-use Rattle.am_count.specs.Counting.{PrintsCount}
-use Rattle.am_count.specs.Stops.{IsRoundOf}
-use Rattle.am_counting.specs.Rounds.{IsRoundRun}
+use Rattle.am_job_words.specs.Codes.{sent_words}
+use Rattle.am_job_count.specs.Counting.{PrintsCount}
+use Rattle.am_job_count.specs.Stops.{IsRoundOf}
+use Rattle.am_job_cluster.specs.Rounds.{IsRoundRun}
 use Rattle.am_main_lines.specs.Lines.{Answer}
+use Rattle.am_main_lines.specs.Offers.{text_too_long}
 use Rattle.am_main_run.specs.Runs.{PrintsCutRun}
 
 -- THE HEADLINE, for the command `count`: each round of the text's words was run over the cluster, and the text that is printed tells the
@@ -27,9 +28,6 @@ pub record CutsCount (nodes turns : ℕ) (bytes text : List ℕ) : Type 0 where
 abbrev pub IsCountAnswer : (nodes turns : ℕ) → List ℕ → Answer → Type 0
 IsCountAnswer nodes turns bytes answer =
     ((answer.status ≡ 0) × CountsWords nodes turns bytes answer.text) ⊎ ((answer.status ≡ 6) × CutsCount nodes turns bytes answer.text)
-
-abbrev pub text_too_long : Answer
-text_too_long = record { status = 11; text = codes "text too long\n" }
 
 -- the answer to a text: one of more than 1,048,576 bytes is not counted
 abbrev pub CountAnswers : (nodes turns : ℕ) → List ℕ → Answer → Type 0

@@ -1,16 +1,35 @@
 //! What `count` prints of a text.
 
-ghost use Rattle.std.specs.Prelude.{◌≡◌, ◌<◌, ◌≤◌, IfOk, length};
+ghost use Rattle.std.specs.Prelude.{◌≡◌, ◌<◌, ◌≤◌, ◌++◌, IfOk, length};
 ghost use Rattle.am_main_count.specs.Counts.{CountAnswers, IsCountAnswer};
-ghost use Rattle.am_main_lines.specs.Lines.{answer_in};
+ghost use Rattle.am_main_lines.specs.Lines.{answer_in, full_line, ids_of};
+ghost use Rattle.am_office_report.specs.Report.{report};
 
-use am_counting::{CountStop, count_over_cluster};
+use am_job_cluster::{CountStop, count_over_cluster};
 use am_main_lines::{Output, cut_text};
+use am_office::{Journal, Part};
+use am_office_journal::LoggedJournal;
+use am_scenario_types::Scenario;
 use std::alloc::{AllocError, Global};
 use std::thread::Threads;
 
 // How many bytes a text that is counted has at most.
 const MOST_COUNTED: usize = 1_048_576;
+
+// The line that tells the full log which a round met, and behind it the report of what its run made before.
+fn cut_count_text(
+    alloc: Global,
+    scenario: &Scenario,
+    part: Part,
+    journal: &Journal,
+) -> Result<Vec<u8>, AllocError>
+    ensures { IfOk result (λ text. text.items ≡ full_line part ++ report (ids_of scenario.now.ends) journal.now) }
+{
+    match LoggedJournal::of(alloc, &journal.entries) {
+        Ok(journal) => cut_text(alloc, scenario, part, &journal),
+        Err(_) => Err(AllocError),
+    }
+}
 
 // What is printed of the words of a text that is not too long: their counts; or the full log that the run of a round met, and the
 // report of what that run made before.
@@ -37,7 +56,7 @@ fn counts_output<R: Threads + Sync>(
                 journal,
             },
         ) => {
-            let text = cut_text(alloc, &scenario, part, &journal)?;
+            let text = cut_count_text(alloc, &scenario, part, &journal)?;
             Ok(Output { status: 6, text })
         }
         Err(CountStop::NoMemory) => Err(AllocError),

@@ -5,9 +5,10 @@ use Rattle.am_names.specs.declared.EndpointId.{EndpointId}
 use Rattle.am_office.specs.declared.Part.{Part}
 use Rattle.am_scenario_types.specs.declared.parts.EndLine.{EndLine}
 use Rattle.am_scenario_types.specs.declared.faults.ScenarioFault.{ScenarioFault}
-use Rattle.am_text.specs.Words.{line}
+use Rattle.am_office_text.specs.Words.{line}
 use Rattle.am_main_lines.specs.declared.outputs.Output.{Output}
-use Rattle.am_main_lines.specs.Words.{part_word, what_word}
+use Rattle.am_main_lines.specs.Words.{part_word}
+use Rattle.am_session.specs.Answer.{what_word}
 pub use Rattle.am_session.specs.Answer.{Answer}
 
 -- what the code gives to print: a status and a text

@@ -1,12 +1,13 @@
 // The report of a journal.
 ghost use Rattle.std.specs.Prelude.{◌≡◌, ◌++◌, IfOk};
 ghost use Rattle.am_main_lines.specs.Lines.{full_line, ids_of};
-ghost use Rattle.am_report.specs.Report.{report};
+ghost use Rattle.am_office_report.specs.Report.{report};
 
 use crate::words::full_line;
 use am_names::EndpointId;
-use am_office::{Journal, Part};
-use am_report::report;
+use am_office::Part;
+use am_office_journal::LoggedJournal;
+use am_office_report::report;
 use am_scenario_types::{EndLine, Scenario};
 use std::alloc::{AllocError, Global};
 
@@ -25,7 +26,7 @@ pub fn ids_of(alloc: Global, ends: &[EndLine]) -> Result<Vec<EndpointId>, AllocE
 pub fn report_of(
     alloc: Global,
     scenario: &Scenario,
-    journal: &Journal,
+    journal: &LoggedJournal,
 ) -> Result<Vec<u8>, AllocError>
     ensures { IfOk result (λ text. text.items ≡ report (ids_of scenario.now.ends) journal.now) }
 {
@@ -41,7 +42,7 @@ pub fn cut_text(
     alloc: Global,
     scenario: &Scenario,
     part: Part,
-    journal: &Journal,
+    journal: &LoggedJournal,
 ) -> Result<Vec<u8>, AllocError>
     ensures { IfOk result (λ text. text.items ≡ full_line part ++ report (ids_of scenario.now.ends) journal.now) }
 {

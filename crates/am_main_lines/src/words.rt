@@ -1,17 +1,17 @@
 // The one-line texts.
 ghost use Rattle.std.specs.Prelude.{◌≡◌, ◌++◌, IfOk, OnOk, codes};
-ghost use Rattle.std.specs.Fmt.{decimal};
 ghost use Rattle.am_main_lines.specs.Lines.{full_line, refused_line};
-ghost use Rattle.am_main_lines.specs.Words.{condition_word, letter_of, number_of, what_word};
+ghost use Rattle.am_main_lines.specs.Words.{condition_word, part_word};
+ghost use Rattle.am_session.specs.Answer.{what_word};
 
 use am_lexer::What;
 use am_office::{Condition, Part};
+use am_office_text::Piece::Text;
+use am_office_text::{count, put_end, put_line, put_numbered};
 use am_scenario_types::ScenarioFault;
-use am_text::Piece::Text;
-use am_text::{count, put_end, put_line, put_numbered};
 use std::alloc::{AllocError, Global};
 
-#[tactic(auto, unfolding(crate::specs::Words::what_word))]
+#[tactic(auto, unfolding(am_session::specs::Answer::what_word))]
 fn what_word(what: What) -> &'static str
     ensures { result.now ≡ what_word what }
 {
@@ -53,24 +53,6 @@ pub fn condition_word(condition: Condition) -> &'static str
     }
 }
 
-fn letter_of(part: Part) -> &'static str
-    ensures { result.now ≡ letter_of part }
-{
-    match part {
-        Part::Endpoint(_) => "e",
-        Part::Interface(_) => "i",
-    }
-}
-
-fn number_of(part: Part) -> u8
-    ensures { result ≡ number_of part }
-{
-    match part {
-        Part::Endpoint(end) => end.0,
-        Part::Interface(node) => node.0,
-    }
-}
-
 /// The line that tells the first fault of a text.
 #[tactic(auto, unfolding(crate::specs::Lines::refused_line))]
 pub fn refused_line(alloc: Global, fault: ScenarioFault) -> Result<Vec<u8>, AllocError>
@@ -82,21 +64,23 @@ pub fn refused_line(alloc: Global, fault: ScenarioFault) -> Result<Vec<u8>, Allo
     Ok(text)
 }
 
-// Appends a part of the machine, and the end of the line.
-#[tactic(auto, using(std::proofs::Common::append_assoc))]
+// Appends a part of the machine.
 fn put_part(text: &mut Vec<u8>, part: Part) -> Result<(), AllocError>
-    ensures { OnOk result (text.new.items ≡ text.old.items ++ letter_of part ++ decimal (number_of part) ++ codes "\n") }
+    ensures { OnOk result (text.new.items ≡ text.old.items ++ part_word part) }
 {
-    put_numbered(text, letter_of(part), number_of(part))?;
-    put_end(text)
+    match part {
+        Part::Endpoint(end) => put_numbered(text, "e", end.0),
+        Part::Interface(node) => put_numbered(text, "i", node.0),
+    }
 }
 
 /// The line that tells a full log.
-#[tactic(auto, using(std::proofs::Common::append_assoc), unfolding(crate::specs::Lines::full_line, crate::specs::Words::part_word))]
+#[tactic(auto, using(std::proofs::Common::append_assoc), unfolding(crate::specs::Lines::full_line))]
 pub fn full_line(alloc: Global, part: Part) -> Result<Vec<u8>, AllocError>
     ensures { IfOk result (λ text. text.items ≡ full_line part) }
 {
     let mut text = Vec::from_slice(alloc, b"log full ")?;
     put_part(&mut text, part)?;
+    put_end(&mut text)?;
     Ok(text)
 }

@@ -3,14 +3,16 @@ use Rattle.std.specs.Prelude.{Result, Ok, Err}
 use Rattle.std.proofs.Common.{◌≡◌, inl, inr, ℕ, List, [], ◌++◌, sym, ap, ◌∙◌, subst}
 use Rattle.am_office.specs.declared.Entry.{Entry}
 use Rattle.am_office.specs.declared.Part.{Part}
-use Rattle.am_report.specs.Report.{report}
+use Rattle.am_office_report.specs.Report.{report}
 use Rattle.am_scenario_types.specs.declared.faults.ScenarioFault.{ScenarioFault}
 use Rattle.am_scenario_types.specs.Lists.{ScenarioLists}
-use Rattle.am_drain.specs.Cut.{IsDrainCutOff}
-use Rattle.am_drain.proofs.CutOff.{cut_is_determined}
+use Rattle.am_model_drain.specs.Cut.{IsDrainCutOff}
+use Rattle.am_model_drain.proofs.CutOff.{cut_is_determined}
 use Rattle.am_cluster.specs.Runs.{IsRunCutOff}
 use Rattle.am_main_lines.specs.Lines.{Answer, full_line, ids_of}
-use Rattle.am_main_run.specs.Runs.{HasNoTurns, HaveOneAnswer, IsDrainedAlone, IsRunAnswer, MakeAnswers, PrintsCutRun, PrintsRun, RunAnswers, Summarizes, TellsCutRun, make_text, scenario_of}
+use Rattle.am_main_run.specs.Runs.{HasNoTurns, HaveOneAnswer, IsDrainedAlone, IsRunAnswer, MakeAnswers, PrintsCutRun, PrintsRun, RunAnswers, Summarizes}
+use Rattle.am_main_run.specs.Runs.{TellsCutRun, make_text}
+use Rattle.am_scenario_generator.specs.Scenarios.{generated}
 
 same_answer : (a b : Answer) (n : ℕ) → a.status ≡ n → b.status ≡ n → a.text ≡ b.text → a ≡ b
 same_answer a b n one other text =
@@ -47,7 +49,8 @@ one_of_scenario : (s : ScenarioLists) (a b : Answer) → s.turns ≡ 0 → IsRun
 one_of_scenario s a b none (inl (one, prints)) (inl (other, tells)) = same_answer a b 0 one other (one_report s a.text b.text none prints tells)
 one_of_scenario s a b none (inl (one, prints)) (inr (other, (here, cut))) = report_or_cut s here a.text b.text none prints cut
 one_of_scenario s a b none (inr (one, (part, cut))) (inl (other, tells)) = report_or_cut s part b.text a.text none tells cut
-one_of_scenario s a b none (inr (one, (part, cut))) (inr (other, (here, ends))) = same_answer a b 6 one other (one_cut_report s part here a.text b.text none cut ends)
+one_of_scenario s a b none (inr (one, (part, cut))) (inr (other, (here, ends))) =
+    same_answer a b 6 one other (one_cut_report s part here a.text b.text none cut ends)
 
 one_of_run : (read : Result ScenarioLists ScenarioFault) (a b : Answer) → HasNoTurns read → RunAnswers read a → RunAnswers read b → a ≡ b
 one_of_run (Ok s) a b none one other = one_of_scenario s a b none one other
@@ -56,17 +59,18 @@ one_of_run (Err fault) a b none one other = one ∙ sym other
 -- ---- make
 
 one_summary : (n : ℕ) (one other : List ℕ) → Summarizes n one → Summarizes n other → one ≡ other
-one_summary n one other a b = a.text' ∙ ap (λ (j : List Entry). make_text n 1744 j) (one_journal (scenario_of n) a.journal b.journal a.alone b.alone) ∙ sym b.text'
+one_summary n one other a b = a.text' ∙ ap (λ (j : List Entry). make_text n 1744 j) (one_journal (generated n) a.journal b.journal a.alone b.alone)
+    ∙ sym b.text'
 
 one_cut : (n : ℕ) (part here : Part) (one other : List ℕ) → TellsCutRun n part one → TellsCutRun n here other → one ≡ other
 one_cut n part here one other a b =
-    let same = cut_is_determined.one (scenario_of n) [] a.journal b.journal part here a.cut.cut b.cut.cut in
+    let same = cut_is_determined.one (generated n) [] a.journal b.journal part here a.cut.cut b.cut.cut in
     a.text' ∙ ap full_line same.0 ∙ sym b.text'
 
 one_of_make : (n : ℕ) (a b : Answer) → MakeAnswers n a → MakeAnswers n b → a ≡ b
 one_of_make n a b (inl (one, made)) (inl (other, tells)) = same_answer a b 0 one other (one_summary n a.text b.text made tells)
-one_of_make n a b (inl (one, made)) (inr (other, (here, cut))) = never_both (scenario_of n) made.journal cut.journal here made.alone cut.cut.cut
-one_of_make n a b (inr (one, (part, cut))) (inl (other, tells)) = never_both (scenario_of n) tells.journal cut.journal part tells.alone cut.cut.cut
+one_of_make n a b (inl (one, made)) (inr (other, (here, cut))) = never_both (generated n) made.journal cut.journal here made.alone cut.cut.cut
+one_of_make n a b (inr (one, (part, cut))) (inl (other, tells)) = never_both (generated n) tells.journal cut.journal part tells.alone cut.cut.cut
 one_of_make n a b (inr (one, (part, cut))) (inr (other, (here, ends))) = same_answer a b 6 one other (one_cut n part here a.text b.text cut ends)
 
 pub have_one_answer : HaveOneAnswer

@@ -6,15 +6,15 @@ use Rattle.am_office.specs.declared.Entry.{Entry}
 use Rattle.am_office.specs.declared.Part.{Part}
 use Rattle.am_office.specs.declared.endings.Fate.TheVariants as Fates
 use Rattle.am_office.specs.Fates.{fate}
-use Rattle.am_report.specs.Report.{report, summary}
-use Rattle.am_text.specs.Words.{line}
+use Rattle.am_office_report.specs.Report.{report, summary}
+use Rattle.am_office_text.specs.Words.{line}
 use Rattle.am_scenario_types.specs.declared.faults.ScenarioFault.{ScenarioFault}
 use Rattle.am_scenario_types.specs.Lists.{ScenarioLists}
-use Rattle.am_generator.specs.Scenarios.{generated}
+use Rattle.am_scenario_generator.specs.Scenarios.{generated}
 use Rattle.am_model.specs.PostOffice.{WasAccepted}
-use Rattle.am_drain.specs.Cut.{IsDrainedWithRoom}
-use Rattle.am_drain.specs.Drain.{IsDrained}
-use Rattle.am_drain.specs.Follows.{FollowsScripts}
+use Rattle.am_model_drain.specs.Cut.{IsDrainedWithRoom}
+use Rattle.am_model_drain.specs.Drain.{IsDrained}
+use Rattle.am_model_drain.specs.Follows.{FollowsScripts}
 use Rattle.am_cluster.specs.Runs.{IsAloneCutOff, IsRunCutOff, IsRunDone, ObeysRunLaws}
 use Rattle.am_main_lines.specs.Lines.{Answer, full_line, ids_of, refusal}
 
@@ -61,23 +61,19 @@ unfoldable pub make_text : ℕ → ℕ → List Entry → List ℕ
 make_text n calls journal =
     line (codes "am2") (codes "make" ∷ decimal n ∷ []) ++ line (codes "calls") (decimal calls ∷ []) ++ summary journal
 
--- the scenario of a number
-unfoldable pub scenario_of : ℕ → ScenarioLists
-scenario_of n = generated n
-
 -- THE HEADLINE, for the command `make`: the text is the summary of the run without threads of the scenario that is generated from the
 -- number, whose scripts have 1744 calls.
 pub record Summarizes (n : ℕ) (text : List ℕ) : Type 0 where
   pub journal : List Entry
-  pub run : IsRunOf (scenario_of n) journal
-  pub alone : IsDrainedAlone (scenario_of n) journal
-  pub calls : length (scenario_of n).script ≡ 1744
+  pub run : IsRunOf (generated n) journal
+  pub alone : IsDrainedAlone (generated n) journal
+  pub calls : length (generated n).script ≡ 1744
   pub text' : text ≡ make_text n 1744 journal
 
 -- the text is the line that tells a full log, which that run met
 pub record TellsCutRun (n : ℕ) (part : Part) (text : List ℕ) : Type 0 where
   pub journal : List Entry
-  pub cut : IsAloneCutOff (scenario_of n) part journal
+  pub cut : IsAloneCutOff (generated n) part journal
   pub text' : text ≡ full_line part
 
 -- the answer of `make` to a number

@@ -7,4 +7,4 @@ mod runs;
 
 pub use crate::laws::have_one_answer;
 pub use crate::makes::make_output;
-pub use crate::runs::{ended_output, run_output};
+pub use crate::runs::{cut_run_text, ended_output, run_output, run_text};

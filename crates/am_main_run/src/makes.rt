@@ -3,23 +3,33 @@ ghost use Rattle.std.specs.Prelude.{◌≡◌, IfOk, length};
 ghost use Rattle.am_scenario_types.specs.Lawful.{IsLawful};
 ghost use Rattle.am_scenario_types.specs.declared.parts.Network.TheVariants as Networks;
 ghost use Rattle.am_main_lines.specs.Lines.{answer_in};
-ghost use Rattle.am_main_run.specs.Runs.{MakeAnswers, make_text, scenario_of};
+ghost use Rattle.am_main_run.specs.Runs.{MakeAnswers, make_text};
+ghost use Rattle.am_scenario_generator.specs.Scenarios.{generated};
+ghost use Rattle.am_office_report.specs.Report.{summary};
 
-use am_cluster::{RunFault, alone};
+use am_cluster::{RunFault, RunJournal, alone};
 use am_main_lines::{Output, full_output};
-use am_office::{Journal, NoMemory};
-use am_report::summary;
+use am_office::NoMemory;
+use am_office_report::summary;
+use am_office_text::Piece::{Number, Text};
+use am_office_text::put_line;
 use am_scenario::{Scenario, generate};
-use am_text::Piece::{Number, Text};
-use am_text::put_line;
 use std::alloc::{AllocError, Global};
+
+// The two lines of the summary of a run.
+fn run_summary(alloc: Global, journal: &RunJournal) -> Result<Vec<u8>, NoMemory>
+    ensures { IfOk result (λ lines. lines.items ≡ summary journal.now) }
+{
+    let logged = journal.logged(alloc)?;
+    summary(alloc, &logged)
+}
 
 // The four lines.
 #[tactic(auto, using(std::proofs::Common::append_assoc), unfolding(crate::specs::Runs::make_text))]
-fn make_text(alloc: Global, n: u64, calls: u64, journal: &Journal) -> Result<Vec<u8>, AllocError>
+fn make_text(alloc: Global, n: u64, calls: u64, journal: &RunJournal) -> Result<Vec<u8>, AllocError>
     ensures { IfOk result (λ text. text.items ≡ make_text n calls journal.now) }
 {
-    let Ok(lines) = summary(alloc, journal) else {
+    let Ok(lines) = run_summary(alloc, journal) else {
         return Err(AllocError);
     };
     let mut text = Vec::new(alloc);
@@ -27,17 +37,6 @@ fn make_text(alloc: Global, n: u64, calls: u64, journal: &Journal) -> Result<Vec
     put_line(&mut text, "calls", &[Number(calls)])?;
     text.extend_from_slice(&lines)?;
     Ok(text)
-}
-
-// The scenario of a number.
-#[tactic(auto, unfolding(crate::specs::Runs::scenario_of))]
-fn scenario_of(alloc: Global, n: u64) -> Result<Scenario, NoMemory>
-    ensures made { IfOk result (λ scenario. scenario ≡ scenario_of n) }
-    ensures lawful { IfOk result IsLawful }
-    ensures packet { IfOk result (λ scenario. scenario.network ≡ Networks.Packet) }
-    ensures calls { IfOk result (λ scenario. length scenario.script ≡ 1744) }
-{
-    generate(alloc, n)
 }
 
 // How many calls the scripts of a scenario have.
@@ -50,7 +49,7 @@ fn call_count(scenario: &Scenario) -> u64
 // What is printed of the run of the scenario of a number.
 #[tactic(auto, using(crate::proofs::RunMeaning::make_reported, crate::proofs::RunMeaning::make_cut))]
 fn scenario_summary(alloc: Global, n: u64, scenario: &Scenario) -> Result<Output, AllocError>
-    requires made { scenario.now ≡ scenario_of n }
+    requires made { scenario.now ≡ generated n }
     requires lawful { IsLawful scenario.now }
     requires packet { scenario.now.network ≡ Networks.Packet }
     requires calls { length scenario.now.script ≡ 1744 }
@@ -71,7 +70,7 @@ fn scenario_summary(alloc: Global, n: u64, scenario: &Scenario) -> Result<Output
 pub fn make_output(alloc: Global, n: u64) -> Result<Output, AllocError>
     ensures { IfOk result (λ output. MakeAnswers n (answer_in output)) }
 {
-    match scenario_of(alloc, n) {
+    match generate(alloc, n) {
         Ok(scenario) => scenario_summary(alloc, n, &scenario),
         Err(_) => Err(AllocError),
     }

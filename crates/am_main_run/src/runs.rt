@@ -1,19 +1,50 @@
 // The run of a scenario.
-ghost use Rattle.std.specs.Prelude.{◌≡◌, IfErr, IfOk};
+ghost use Rattle.std.specs.Prelude.{◌≡◌, ◌++◌, IfErr, IfOk};
 ghost use Rattle.am_cluster.specs.Runs.{IsRunDone, IsRunStopped, ObeysRunLaws};
-ghost use Rattle.am_drain_steps.specs.Runs.{IsWholeRun};
-ghost use Rattle.am_main_lines.specs.Lines.{answer_in};
+ghost use Rattle.am_laws_drain_steps.specs.Runs.{IsWholeRun};
+ghost use Rattle.am_main_lines.specs.Lines.{answer_in, full_line, ids_of};
 ghost use Rattle.am_main_run.specs.Runs.{IsRunAnswer, RunAnswers};
+ghost use Rattle.am_office_report.specs.Report.{report};
 ghost use Rattle.am_scenario.specs.Grammar.{grammar};
 ghost use Rattle.am_scenario_types.specs.Lawful.{IsLawful};
 ghost use Rattle.am_scenario_types.specs.declared.parts.Form.TheVariants as Forms;
 ghost use Rattle.am_scenario_types.specs.declared.parts.Network.TheVariants as Networks;
 
-use am_cluster::{Finished, OpenGate, RunFault, run};
+use am_cluster::{Finished, OpenGate, RunFault, RunJournal, run};
 use am_main_lines::{Output, cut_text, fault_output, report_of};
+use am_office::Part;
 use am_scenario::{Form, ReadFault, Scenario, read};
 use std::alloc::{AllocError, Global};
 use std::thread::Threads;
+
+/// The report of the journal of a run with the endpoints of its scenario.
+pub fn run_text(
+    alloc: Global,
+    scenario: &Scenario,
+    journal: &RunJournal,
+) -> Result<Vec<u8>, AllocError>
+    ensures { IfOk result (λ text. text.items ≡ report (ids_of scenario.now.ends) journal.now) }
+{
+    match journal.logged(alloc) {
+        Ok(journal) => report_of(alloc, scenario, &journal),
+        Err(_) => Err(AllocError),
+    }
+}
+
+/// The line that tells the full log which a run met, and behind it the report of what was made before.
+pub fn cut_run_text(
+    alloc: Global,
+    scenario: &Scenario,
+    part: Part,
+    journal: &RunJournal,
+) -> Result<Vec<u8>, AllocError>
+    ensures { IfOk result (λ text. text.items ≡ full_line part ++ report (ids_of scenario.now.ends) journal.now) }
+{
+    match journal.logged(alloc) {
+        Ok(journal) => cut_text(alloc, scenario, part, &journal),
+        Err(_) => Err(AllocError),
+    }
+}
 
 /// What is printed of a scenario's run that ended so: the report of its journal; or the full log that it met, and the report of what
 /// was made before.
@@ -31,11 +62,11 @@ pub fn ended_output(
 {
     match ended {
         Ok(finished) => {
-            let text = report_of(alloc, scenario, &finished.journal)?;
+            let text = run_text(alloc, scenario, &finished.journal)?;
             Ok(Output { status: 0, text })
         }
         Err(RunFault::LogFull { part, journal }) => {
-            let text = cut_text(alloc, scenario, part, &journal)?;
+            let text = cut_run_text(alloc, scenario, part, &journal)?;
             Ok(Output { status: 6, text })
         }
         Err(RunFault::NoMemory) => Err(AllocError),

@@ -7,14 +7,14 @@ use Rattle.am_office.specs.declared.Entry.{Entry}
 use Rattle.am_office.specs.declared.Part.{Part}
 use Rattle.am_office.specs.declared.endings.Fate.TheVariants as Fates
 use Rattle.am_office.specs.Fates.{fate}
-use Rattle.am_report.specs.Report.{report}
+use Rattle.am_office_report.specs.Report.{report}
 use Rattle.am_scenario_types.specs.declared.faults.ScenarioFault.{ScenarioFault}
 use Rattle.am_model.specs.PostOffice.{WasAccepted}
-use Rattle.am_drain_steps.specs.Endings.{WithholdsNothing}
-use Rattle.am_pieces.specs.declared.segment.SegmentLine.{SegmentLine}
-use Rattle.am_pieces.specs.Lists.{TransferLists}
-use Rattle.am_pieces.specs.Blocks.{piece_count}
-use Rattle.am_pieces.specs.Segments.{ran_count, segment_bytes, segment_of}
+use Rattle.am_laws_drain_steps.specs.Endings.{WithholdsNothing}
+use Rattle.am_segment_pieces.specs.declared.segment.SegmentLine.{SegmentLine}
+use Rattle.am_segment_pieces.specs.Lists.{TransferLists}
+use Rattle.am_segment_pieces.specs.Blocks.{piece_count}
+use Rattle.am_segment_pieces.specs.Segments.{ran_count, segment_bytes, segment_of}
 use Rattle.am_segment.specs.declared.scenario.SegmentScenario.{SegmentScenario}
 use Rattle.am_segment.specs.Lists.{ExpandedLists}
 use Rattle.am_segment.specs.Printed.{segments_text}

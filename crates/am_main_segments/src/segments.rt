@@ -3,32 +3,46 @@ ghost use Rattle.std.specs.Prelude.{◌≡◌, ◌≤◌, ◌++◌, IfOk, length
 ghost use Rattle.std.specs.List.{All};
 ghost use Rattle.am_main_lines.specs.Lines.{answer_in, ids_of};
 ghost use Rattle.am_main_segments.specs.Segments.{IsSegmentsAnswer, SegmentsAnswers};
-ghost use Rattle.am_report.specs.Report.{report};
+ghost use Rattle.am_office_report.specs.Report.{report};
 ghost use Rattle.am_scenario_types.specs.Lawful.{IsLawful};
 ghost use Rattle.am_scenario_types.specs.declared.parts.Network.TheVariants as Networks;
 ghost use Rattle.am_segment.specs.Printed.{segments_text};
 ghost use Rattle.am_segment.specs.Spelling.{segment_grammar};
 ghost use Rattle.am_segment.specs.Lawful.{HasSegment};
 
-use am_cluster::{OpenGate, RunFault, run};
-use am_main_lines::{Output, cut_text, fault_output, report_of};
-use am_office::Journal;
+use am_cluster::{OpenGate, RunFault, RunJournal, run};
+use am_main_lines::{Output, fault_output};
+use am_main_run::{cut_run_text, run_text};
+use am_office::NoMemory;
 use am_scenario::ReadFault;
 use am_segment::{SegmentScenario, read_segments, segments_text};
 use std::alloc::{AllocError, Global};
 use std::thread::Threads;
 
+// The bytes of the segments after a run, and what ran of the transfers.
+fn segments_lines(
+    alloc: Global,
+    read: &SegmentScenario,
+    journal: &RunJournal,
+) -> Result<Vec<u8>, NoMemory>
+    requires { length read.now.expanded.transfers ≤ 16384 }
+    ensures { IfOk result (λ lines. lines.items ≡ segments_text read.now.expanded journal.now) }
+{
+    let copied = journal.copied(alloc)?;
+    segments_text(alloc, &read.expanded, &copied)
+}
+
 // The report of a run, and behind it the segments and the transfers.
 fn segments_report(
     alloc: Global,
     read: &SegmentScenario,
-    journal: &Journal,
+    journal: &RunJournal,
 ) -> Result<Vec<u8>, AllocError>
     requires { length read.now.expanded.transfers ≤ 16384 }
     ensures { IfOk result (λ text. text.items ≡ report (ids_of read.now.scenario.ends) journal.now ++ segments_text read.now.expanded journal.now) }
 {
-    let mut text = report_of(alloc, &read.scenario, journal)?;
-    let Ok(lines) = segments_text(alloc, &read.expanded, journal) else {
+    let mut text = run_text(alloc, &read.scenario, journal)?;
+    let Ok(lines) = segments_lines(alloc, read, journal) else {
         return Err(AllocError);
     };
     text.extend_from_slice(&lines)?;
@@ -54,7 +68,7 @@ fn segments_run<R: Threads + Sync>(
             Ok(Output { status: 0, text })
         }
         Err(RunFault::LogFull { part, journal }) => {
-            let text = cut_text(alloc, &read.scenario, part, &journal)?;
+            let text = cut_run_text(alloc, &read.scenario, part, &journal)?;
             Ok(Output { status: 6, text })
         }
         Err(RunFault::NoMemory) => Err(AllocError),

@@ -1,21 +1,22 @@
 -- What the steps make, one after the other, and what their answers mean.
 use Rattle.std.specs.Prelude.{slice_get, slice_index_or, Result, Ok, Err}
-use Rattle.std.proofs.Common.{◌≡◌, ℕ, zero, suc, ◌+◌, ◌<◌, ◌≤◌, true, List, [], ◌∷◌, ◌++◌, length, take, drop, Option, Some, None, refl, sym, ap, ◌∙◌, subst, arith, length-append}
+use Rattle.std.proofs.Common.{◌≡◌, ℕ, zero, suc, ◌+◌, ◌<◌, ◌≤◌, true, List, [], ◌∷◌, ◌++◌, length, take, drop, Option, Some, None, refl, sym, ap, ◌∙◌, subst}
+use Rattle.std.proofs.Common.{arith, length-append}
 use Rattle.am_office.specs.declared.Condition.{Condition}
 use Rattle.am_office.specs.declared.Event.{Event}
 use Rattle.am_office.specs.declared.Entry.{Entry}
-use Rattle.am_report.specs.Report.{report}
+use Rattle.am_office_report.specs.Report.{report}
 use Rattle.am_scenario_types.specs.declared.parts.StepLine.{StepLine}
 use Rattle.am_scenario_types.specs.Lawful.{IsLawful}
 use Rattle.am_scenario_types.specs.Lists.{ScenarioLists}
-use Rattle.am_scripts.specs.Layout.{layout_of, events_of}
-use Rattle.am_scripts.proofs.Lawful.{lawful_layout, steps_in_range}
+use Rattle.am_model_scripts.specs.Layout.{layout_of, events_of}
+use Rattle.am_model_scripts.proofs.Lawful.{lawful_layout, steps_in_range}
 use Rattle.am_laws.proofs.Laws.{post_office}
 use Rattle.am_laws.proofs.OneFate.{one_fate}
-use Rattle.am_laws_steps.specs.Laws.{AreInRange, IsMade, Walked}
-use Rattle.am_laws_steps.proofs.Steps.{is_made, histories_agree, walked_more}
-use Rattle.am_drain.specs.Made.{next_entry}
-use Rattle.am_drain.proofs.Entries.{entry_is_step}
+use Rattle.am_model_steps.specs.Laws.{AreInRange, IsMade, Walked}
+use Rattle.am_model_steps.proofs.Steps.{is_made, histories_agree, walked_more}
+use Rattle.am_model_drain.specs.Made.{next_entry}
+use Rattle.am_model_drain.proofs.Entries.{entry_is_step}
 use Rattle.am_model.specs.History.{is_in_range}
 use Rattle.am_model.specs.Layout.{Layout}
 use Rattle.am_model.specs.Steps.{FollowsSteps, Made, Stop, NotEnabled, LogFull, stop, step_entry, made, made_by, made_from}
@@ -32,11 +33,15 @@ use Rattle.am_main_lines.specs.Lines.{Answer, ids_of}
 use Rattle.am_main_step.specs.Answer.{GivesText, Makes, TellsText, answer_of, answer_of_made, answer_of_stop, fault_of, line_at, not_enabled_line}
 use Rattle.am_main_step.specs.Meaning.{PrintsHistory, IsStepStopped, IsNotEnabled, TextMeans}
 
-pub step_made : (layout : Layout) (past : List Entry) (step : StepLine) (steps : List StepLine) → stop layout past step.event ≡ None → made_from layout past (events_of (step ∷ steps)) ≡ made_from layout (past ++ step_entry layout past step.event ∷ []) (events_of steps)
-step_made layout past step steps runs = ap (λ (s : Option Stop). made_by s past (made_from layout (past ++ step_entry layout past step.event ∷ []) (events_of steps))) runs
+pub step_made : (layout : Layout) (past : List Entry) (step : StepLine) (steps : List StepLine) → stop layout past step.event ≡ None →
+    made_from layout past (events_of (step ∷ steps)) ≡ made_from layout (past ++ step_entry layout past step.event ∷ []) (events_of steps)
+step_made layout past step steps runs = ap (λ (s : Option Stop). made_by s past (made_from layout (past ++ step_entry layout past step.event ∷ [])
+    (events_of steps))) runs
 
-pub step_stopped : (layout : Layout) (past : List Entry) (step : StepLine) (steps : List StepLine) (why : Stop) → stop layout past step.event ≡ Some why → made_from layout past (events_of (step ∷ steps)) ≡ record { journal = past; stopped = Some why }
-step_stopped layout past step steps why is = ap (λ (s : Option Stop). made_by s past (made_from layout (past ++ step_entry layout past step.event ∷ []) (events_of steps))) is
+pub step_stopped : (layout : Layout) (past : List Entry) (step : StepLine) (steps : List StepLine) (why : Stop) → stop layout past step.event ≡ Some why →
+    made_from layout past (events_of (step ∷ steps)) ≡ record { journal = past; stopped = Some why }
+step_stopped layout past step steps why is = ap (λ (s : Option Stop). made_by s past (made_from layout (past ++ step_entry layout past step.event ∷ [])
+    (events_of steps))) is
 
 -- the steps from one on
 pub from_step : (steps : List StepLine) (i : ℕ) (step : StepLine) → slice_get steps i ≡ Some step → drop i steps ≡ step ∷ drop (i + 1) steps
@@ -52,7 +57,8 @@ line_here [] i step h = absurd (cc)
 line_here (s ∷ steps) zero step h = let same : s ≡ step = cc in ap (λ (x : StepLine). x.line) (sym same)
 line_here (s ∷ steps) (suc i) step h = line_here steps i step h
 
-pub event_in_range : (layout : Layout) (steps : List StepLine) (i : ℕ) (step : StepLine) → AreInRange layout (events_of steps) → slice_get steps i ≡ Some step → is_in_range layout step.event ≡ true
+pub event_in_range : (layout : Layout) (steps : List StepLine) (i : ℕ) (step : StepLine) → AreInRange layout (events_of steps) → slice_get steps i ≡ Some step →
+    is_in_range layout step.event ≡ true
 event_in_range layout [] i step h at = absurd (cc)
 event_in_range layout (s ∷ steps) zero step h at = let same : s ≡ step = cc in ap (λ (x : StepLine). is_in_range layout x.event) (sym same) ∙ h.0
 event_in_range layout (s ∷ steps) (suc i) step h at = event_in_range layout steps i step h.1 at
@@ -76,9 +82,16 @@ pub record Walks (layout now : Layout) (steps : List StepLine) (i : ℕ) (journa
   pub rest : made layout (events_of steps) ≡ made_from layout journal (events_of (drop i steps))
 
 pub walks_begin : (layout : Layout) (steps : List StepLine) (journal : List Entry) → journal ≡ [] → Walks layout layout steps 0 journal
-walks_begin layout steps journal none = record { same = refl; count = ap length none; walked = subst (Walked layout) (sym none) (record { history = tt; stamped = refl; below = tt }); rest = ap (λ (j : List Entry). made_from layout j (events_of steps)) (sym none) }
+walks_begin layout steps journal none = record {
+  same = refl;
+  count = ap length none;
+  walked = subst (Walked layout) (sym none) (record { history = tt; stamped = refl; below = tt });
+  rest = ap (λ (j : List Entry). made_from layout j (events_of steps)) (sym none);
+}
 
-pub walks_on : (layout now next : Layout) (steps : List StepLine) (i : ℕ) (journal new : List Entry) (step : StepLine) (x : Entry) → Walks layout now steps i journal → slice_get steps i ≡ Some step → is_in_range now step.event ≡ true → stop now journal step.event ≡ None → x ≡ next_entry now journal step.event → new ≡ journal ++ x ∷ [] → next ≡ now → Walks layout next steps (i + 1) new
+pub walks_on : (layout now next : Layout) (steps : List StepLine) (i : ℕ) (journal new : List Entry) (step : StepLine) (x : Entry) →
+    Walks layout now steps i journal → slice_get steps i ≡ Some step → is_in_range now step.event ≡ true → stop now journal step.event ≡ None →
+    x ≡ next_entry now journal step.event → new ≡ journal ++ x ∷ [] → next ≡ now → Walks layout next steps (i + 1) new
 walks_on layout now next steps i journal new step x w at range runs entry more still =
     let runs' : stop layout journal step.event ≡ None = ap (λ (l : Layout). stop l journal step.event) (sym w.same) ∙ runs in
     let range' : is_in_range layout step.event ≡ true = ap (λ (l : Layout). is_in_range l step.event) (sym w.same) ∙ range in
@@ -98,13 +111,16 @@ walks_on layout now next steps i journal new step x w at range runs entry more s
           ∙ ap (λ (j : List Entry). made_from layout j (events_of (drop (i + 1) steps))) (ap (λ (y : Entry). journal ++ y ∷ []) (sym entry') ∙ sym more);
     }
 
-pub walks_stop : (layout now : Layout) (steps : List StepLine) (i : ℕ) (journal : List Entry) (step : StepLine) (why : Stop) → Walks layout now steps i journal → slice_get steps i ≡ Some step → stop now journal step.event ≡ Some why → made layout (events_of steps) ≡ record { journal = journal; stopped = Some why }
+pub walks_stop : (layout now : Layout) (steps : List StepLine) (i : ℕ) (journal : List Entry) (step : StepLine) (why : Stop) →
+    Walks layout now steps i journal → slice_get steps i ≡ Some step → stop now journal step.event ≡ Some why →
+    made layout (events_of steps) ≡ record { journal = journal; stopped = Some why }
 walks_stop layout now steps i journal step why w at is =
     w.rest
     ∙ ap (λ (l : List StepLine). made_from layout journal (events_of l)) (from_step steps i step at)
     ∙ step_stopped layout journal step (drop (i + 1) steps) why (ap (λ (l : Layout). stop l journal step.event) (sym w.same) ∙ is)
 
-pub walks_end : (layout now : Layout) (steps : List StepLine) (i : ℕ) (journal : List Entry) → Walks layout now steps i journal → length steps ≤ i → made layout (events_of steps) ≡ record { journal = journal; stopped = None }
+pub walks_end : (layout now : Layout) (steps : List StepLine) (i : ℕ) (journal : List Entry) → Walks layout now steps i journal → length steps ≤ i →
+    made layout (events_of steps) ≡ record { journal = journal; stopped = None }
 walks_end layout now steps i journal w h = w.rest ∙ ap (λ (l : List StepLine). made_from layout journal (events_of l)) (drop_all i steps h)
 
 -- ---- what the answers mean
@@ -118,7 +134,8 @@ take_whole [] (suc n) h = absurd (omega (arith, h))
 take_whole (x ∷ xs) zero h = absurd (omega (arith, h))
 take_whole (x ∷ xs) (suc n) h = ap (λ l. x ∷ l) (take_whole xs n (omega (arith, h)))
 
-pub prints_history : (s : ScenarioLists) (journal : List Entry) (text : List ℕ) → IsLawful s → made (layout_of s) (events_of s.steps) ≡ record { journal = journal; stopped = None } → text ≡ report (ids_of s.ends) journal → PrintsHistory s text
+pub prints_history : (s : ScenarioLists) (journal : List Entry) (text : List ℕ) → IsLawful s →
+    made (layout_of s) (events_of s.steps) ≡ record { journal = journal; stopped = None } → text ≡ report (ids_of s.ends) journal → PrintsHistory s text
 prints_history s journal text lawful is printed =
     let m = subst (λ (w : Made). IsMade (layout_of s) (events_of s.steps) w) is (made_of s lawful) in
     let follows = subst (λ (es : List Event). FollowsSteps es journal) (take_whole (events_of s.steps) (length journal) (m.whole refl)) m.follows in
@@ -127,6 +144,7 @@ prints_history s journal text lawful is printed =
       history = m.history;
       follows = follows;
       only = λ other h f. histories_agree (layout_of s) (events_of s.steps) other journal h f m.history follows;
+      unstopped = m.unstopped;
       laws = post_office (layout_of s) journal (lawful_layout s lawful) m.history;
       fates = one_fate (layout_of s) journal m.history;
       text' = printed;
@@ -135,17 +153,28 @@ prints_history s journal text lawful is printed =
 abbrev pub is_stopped : (s : ScenarioLists) (why : Stop) → IsLawful s → (made (layout_of s) (events_of s.steps)).stopped ≡ Some why → IsStepStopped s why
 is_stopped s why lawful is =
     let m = made_of s lawful in
-    record { journal = (made (layout_of s) (events_of s.steps)).journal; history = m.history; follows = m.follows; unstopped = m.unstopped; stops = m.stopped why is }
+    record {
+      journal = (made (layout_of s) (events_of s.steps)).journal;
+      history = m.history;
+      follows = m.follows;
+      unstopped = m.unstopped;
+      stops = m.stopped why is;
+    }
 
-pub is_not_enabled : (s : ScenarioLists) (line : ℕ) (condition : Condition) → IsLawful s → (made (layout_of s) (events_of s.steps)).stopped ≡ Some (NotEnabled condition) → line ≡ line_at s.steps (length (made (layout_of s) (events_of s.steps)).journal) → IsNotEnabled s line condition
+pub is_not_enabled : (s : ScenarioLists) (line : ℕ) (condition : Condition) → IsLawful s →
+    (made (layout_of s) (events_of s.steps)).stopped ≡ Some (NotEnabled condition) →
+    line ≡ line_at s.steps (length (made (layout_of s) (events_of s.steps)).journal) → IsNotEnabled s line condition
 is_not_enabled s line condition lawful is at = record { stopped = is_stopped s (NotEnabled condition) lawful is; line' = at }
 
 -- the line of the step that is stopped
-pub stopped_line : (steps : List StepLine) (i : ℕ) (step : StepLine) (m : Made) (journal : List Entry) (why : Option Stop) → slice_get steps i ≡ Some step → length journal ≡ i → m ≡ record { journal = journal; stopped = why } → step.line ≡ line_at steps (length m.journal)
+pub stopped_line : (steps : List StepLine) (i : ℕ) (step : StepLine) (m : Made) (journal : List Entry) (why : Option Stop) → slice_get steps i ≡ Some step →
+    length journal ≡ i → m ≡ record { journal = journal; stopped = why } → step.line ≡ line_at steps (length m.journal)
 stopped_line steps i step m journal why at count is = line_here steps i step at ∙ ap (line_at steps) (sym (ap (λ (w : Made). length w.journal) is ∙ count))
 
 -- a step that was refused stops the steps
-pub stops_make : (layout now : Layout) (steps : List StepLine) (i : ℕ) (journal other : List Entry) (step : StepLine) (old new : ClusterView) (fault : EntryFault) → Walks layout now steps i journal → slice_get steps i ≡ Some step → old.layout ≡ now → old.journal ≡ journal → Applies old new step.event (Err fault) → Makes steps other (made layout (events_of steps)) (Err (fault_of step.line fault))
+pub stops_make : (layout now : Layout) (steps : List StepLine) (i : ℕ) (journal other : List Entry) (step : StepLine) (old new : ClusterView)
+    (fault : EntryFault) → Walks layout now steps i journal → slice_get steps i ≡ Some step → old.layout ≡ now → old.journal ≡ journal →
+    Applies old new step.event (Err fault) → Makes steps other (made layout (events_of steps)) (Err (fault_of step.line fault))
 stops_make layout now steps i journal other step old new (EntryFaults.NotEnabled condition) w at same before h =
     let stops : stop now journal step.event ≡ Some (NotEnabled condition) = (λ k. stop (sym same k) (sym before k) step.event) ∙ h.0 in
     let is = walks_stop layout now steps i journal step (NotEnabled condition) w at stops in
@@ -156,21 +185,24 @@ stops_make layout now steps i journal other step old new (EntryFaults.LogFull pa
 stops_make layout now steps i journal other step old new EntryFaults.NoMemory w at same before h = tt
 
 -- what the answers of a lawful scenario mean
-pub tells_means : (s : ScenarioLists) (read : Result ScenarioLists ScenarioFault) (answer : Result (Vec ℕ) StepFault) → IsLawful s → read ≡ Ok s → TellsText s (made (layout_of s) (events_of s.steps)) answer → TextMeans answer read
+pub tells_means : (s : ScenarioLists) (read : Result ScenarioLists ScenarioFault) (answer : Result (Vec ℕ) StepFault) → IsLawful s → read ≡ Ok s →
+    TellsText s (made (layout_of s) (events_of s.steps)) answer → TextMeans answer read
 tells_means s read answer lawful is tells = subst (λ (r : Result ScenarioLists ScenarioFault). TextMeans answer r) (sym is) (by_answer answer tells)
   where
     whole : (m : Made) → m.stopped ≡ None → m ≡ record { journal = m.journal; stopped = None }
     whole m none = λ i. record { journal = m.journal; stopped = none i }
 
     by_answer : (a : Result (Vec ℕ) StepFault) → TellsText s (made (layout_of s) (events_of s.steps)) a → TextMeans a (Ok s)
-    by_answer (Ok text) t = prints_history s (made (layout_of s) (events_of s.steps)).journal text.items lawful (whole (made (layout_of s) (events_of s.steps)) t.0) t.1
+    by_answer (Ok text) t = prints_history s (made (layout_of s) (events_of s.steps)).journal text.items lawful
+        (whole (made (layout_of s) (events_of s.steps)) t.0) t.1
     by_answer (Err (Faults.Scenario fault)) t = absurd t
     by_answer (Err (Faults.NotEnabled line condition)) t = is_not_enabled s line condition lawful t.0 t.1
     by_answer (Err (Faults.LogFull part)) t = is_stopped s (LogFull part) lawful t
     by_answer (Err Faults.NoMemory) t = tt
 
 -- and the status and the text that they stand for
-pub tells_gives : (s : ScenarioLists) (read : Result ScenarioLists ScenarioFault) (answer : Result (Vec ℕ) StepFault) → read ≡ Ok s → TellsText s (made (layout_of s) (events_of s.steps)) answer → GivesText answer (answer_of read)
+pub tells_gives : (s : ScenarioLists) (read : Result ScenarioLists ScenarioFault) (answer : Result (Vec ℕ) StepFault) → read ≡ Ok s →
+    TellsText s (made (layout_of s) (events_of s.steps)) answer → GivesText answer (answer_of read)
 tells_gives s read answer is tells = subst (λ (r : Answer). GivesText answer r) (sym (ap answer_of is)) (by_answer answer tells)
   where
     m : Made
@@ -182,6 +214,7 @@ tells_gives s read answer is tells = subst (λ (r : Answer). GivesText answer r)
     by_answer : (a : Result (Vec ℕ) StepFault) → TellsText s m a → GivesText a (answer_of_made s m)
     by_answer (Ok text) t = at None t.0 ∙ ap (λ (l : List ℕ). record { status = 0; text = l }) (sym t.1)
     by_answer (Err (Faults.Scenario fault)) t = absurd t
-    by_answer (Err (Faults.NotEnabled line condition)) t = at (Some (NotEnabled condition)) t.0 ∙ ap (λ (n : ℕ). record { status = 3; text = not_enabled_line n condition }) (sym t.1)
+    by_answer (Err (Faults.NotEnabled line condition)) t = at (Some (NotEnabled condition)) t.0
+        ∙ ap (λ (n : ℕ). record { status = 3; text = not_enabled_line n condition }) (sym t.1)
     by_answer (Err (Faults.LogFull part)) t = at (Some (LogFull part)) t
     by_answer (Err Faults.NoMemory) t = tt

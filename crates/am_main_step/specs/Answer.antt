@@ -5,11 +5,11 @@ use Rattle.std.specs.Global.{Vec}
 use Rattle.am_office.specs.declared.Condition.{Condition}
 use Rattle.am_office.specs.declared.Entry.{Entry}
 use Rattle.am_office.specs.declared.Part.{Part}
-use Rattle.am_report.specs.Report.{report}
+use Rattle.am_office_report.specs.Report.{report}
 use Rattle.am_scenario_types.specs.declared.parts.StepLine.{StepLine}
 use Rattle.am_scenario_types.specs.declared.faults.ScenarioFault.{ScenarioFault}
 use Rattle.am_scenario_types.specs.Lists.{ScenarioLists}
-use Rattle.am_scripts.specs.Layout.{layout_of, events_of}
+use Rattle.am_model_scripts.specs.Layout.{layout_of, events_of}
 use Rattle.am_model.specs.Steps.{Made, Stop, NotEnabled, LogFull, made}
 use Rattle.am_model.specs.declared.EntryFault.{EntryFault}
 use Rattle.am_model.specs.declared.EntryFault.TheVariants as EntryFaults
@@ -17,7 +17,7 @@ use Rattle.am_main_step.specs.declared.faults.StepFault.{StepFault}
 use Rattle.am_main_step.specs.declared.faults.StepFault.TheVariants as Faults
 use Rattle.am_main_lines.specs.Lines.{Answer, full_line, ids_of, refusal}
 use Rattle.am_main_lines.specs.Words.{condition_word}
-use Rattle.am_text.specs.Words.{line}
+use Rattle.am_office_text.specs.Words.{line}
 
 -- `refused line N not-enabled` and the condition that doesn't hold
 unfoldable pub not_enabled_line : ℕ → Condition → List ℕ

@@ -6,5 +6,5 @@ mod outputs;
 mod steps;
 
 pub use crate::faults::StepFault;
-pub use crate::outputs::step_output;
+pub use crate::outputs::{step_has_one_answer, step_output};
 pub use crate::steps::step_text;

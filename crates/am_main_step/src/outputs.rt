@@ -2,7 +2,7 @@
 ghost use Rattle.std.specs.Prelude.{◌≡◌, IfOk};
 ghost use Rattle.am_main_lines.specs.Lines.{answer_in};
 ghost use Rattle.am_main_step.specs.Answer.{not_enabled_line};
-ghost use Rattle.am_main_step.specs.Meaning.{StepAnswers};
+ghost use Rattle.am_main_step.specs.Meaning.{StepAnswers, StepHasOneAnswer};
 ghost use Rattle.am_scenario.specs.Grammar.{grammar};
 ghost use Rattle.am_scenario_types.specs.declared.parts.Form.TheVariants as Forms;
 
@@ -10,8 +10,8 @@ use crate::faults::StepFault;
 use crate::steps::step_text;
 use am_main_lines::{Output, condition_word, fault_output, full_output};
 use am_office::Condition;
-use am_text::Piece::Text;
-use am_text::{count, put_line};
+use am_office_text::Piece::Text;
+use am_office_text::{count, put_line};
 use std::alloc::{AllocError, Global};
 
 // The line that tells the first step that can't happen.
@@ -53,3 +53,8 @@ pub fn step_output(alloc: Global, bytes: &[u8]) -> Result<Output, AllocError>
         Err(StepFault::NoMemory) => Err(AllocError),
     }
 }
+
+/// There is one answer of `step` to a text, and it is the one that the definition of answering computes.
+pub fn step_has_one_answer()
+    ensures { StepHasOneAnswer }
+{}

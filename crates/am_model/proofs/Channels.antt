@@ -16,7 +16,8 @@ pub free_below : (node peer : NodeId) (past : List Entry) (number more k : ℕ) 
 free_below node peer past number zero k h = absurd (cc)
 free_below node peer past number (suc more) k h = by_test (is_bound (channel_to node peer number) past) h (λ g. free_below node peer past (number + 1) more k g)
   where
-    by_test : (b : Bool) → (if b then free_from node peer past (number + 1) more else Some number) ≡ Some k → (free_from node peer past (number + 1) more ≡ Some k → k < number + 1 + more) → k < number + suc more
+    by_test : (b : Bool) → (if b then free_from node peer past (number + 1) more else Some number) ≡ Some k →
+        (free_from node peer past (number + 1) more ≡ Some k → k < number + 1 + more) → k < number + suc more
     by_test true g rest = let less = rest g in omega (arith, less)
     by_test false g rest = let same : number ≡ k = cc in omega (arith, same)
 

@@ -1,6 +1,7 @@
 -- The counts of each source are one, two, three and so on.
 use Rattle.std.specs.Prelude.{nat_le, MatchOption}
-use Rattle.std.proofs.Common.{◌≡◌, ℕ, ◌+◌, ◌≤◌, Bool, true, false, cond, List, [], ◌∷◌, ◌++◌, Option, Some, None, refl, sym, ap, ◌∙◌, subst, arith, if◌then◌else◌}
+use Rattle.std.proofs.Common.{◌≡◌, ℕ, ◌+◌, ◌≤◌, Bool, true, false, cond, List, [], ◌∷◌, ◌++◌, Option, Some, None, refl, sym, ap, ◌∙◌, subst, arith}
+use Rattle.std.proofs.Common.{if◌then◌else◌}
 use Rattle.std.specs.List.{find, list_any}
 use Rattle.am_names.specs.declared.EndpointId.{EndpointId}
 use Rattle.am_names.specs.declared.Serial.{Serial}
@@ -44,16 +45,20 @@ answer_serial e s m (Some (Add to)) = refl
 answer_serial e s m (Some Note) = refl
 answer_serial e s m None = refl
 
-request_serial : (e : EndpointId) (s : State) (index handler : ℕ) (words : Words) (refusal : Option Refusal) (mapping : Option Mapping) → HasSerial (new_serial e s) (accepted_by (Calls.Request index handler words) (unless refusal (new_request e s mapping handler words)))
+request_serial : (e : EndpointId) (s : State) (index handler : ℕ) (words : Words) (refusal : Option Refusal) (mapping : Option Mapping) →
+    HasSerial (new_serial e s) (accepted_by (Calls.Request index handler words) (unless refusal (new_request e s mapping handler words)))
 request_serial e s index handler words (Some refusal) mapping = tt
 request_serial e s index handler words None None = tt
 request_serial e s index handler words None (Some mapping) = refl
 
-front_serial : (e : EndpointId) (s : State) (m : Message) (full : Bool) → HasSerial (new_serial e s) (accepted_by Calls.Poll (if full then Out.Blocked else Out.Ran m (Some m.handler) (Some (answer e s m (entry_at s.body.handlers m.handler)))))
+front_serial : (e : EndpointId) (s : State) (m : Message) (full : Bool) →
+    HasSerial (new_serial e s) (accepted_by Calls.Poll (if full then Out.Blocked else Out.Ran m (Some m.handler)
+    (Some (answer e s m (entry_at s.body.handlers m.handler)))))
 front_serial e s m true = tt
 front_serial e s m false = answer_serial e s m (entry_at s.body.handlers m.handler)
 
-poll_serial : (e : EndpointId) (s : State) (notices : List Notice) (found : Option Message) (ms : List Message) → found ≡ find is_reply s.body.received → ms ≡ s.body.received → HasSerial (new_serial e s) (accepted_by Calls.Poll (poll e s notices))
+poll_serial : (e : EndpointId) (s : State) (notices : List Notice) (found : Option Message) (ms : List Message) → found ≡ find is_reply s.body.received →
+    ms ≡ s.body.received → HasSerial (new_serial e s) (accepted_by Calls.Poll (poll e s notices))
 poll_serial e s (notice ∷ notices) found ms is at = tt
 poll_serial e s [] found ms is at = rw (← is) (by_found found)
   where
@@ -103,7 +108,9 @@ call_counts_one s c o = omega (arith, called_counts s c o, at_most_one (passes a
     at_most_one false = omega arith
 
 -- an entry that is no call accepts nothing and keeps the count
-carried_counts : (s : State) (m : Message) (at_source at_dest : Bool) → (if at_dest then put m (if at_source then left s (Out.Accepted m) else s) else (if at_source then left s (Out.Accepted m) else s)).body.accepted ≡ s.body.accepted
+carried_counts : (s : State) (m : Message) (at_source at_dest : Bool) →
+    (if at_dest then put m (if at_source then left s (Out.Accepted m) else s) else (if at_source then left s (Out.Accepted m) else s)).body.accepted ≡
+    s.body.accepted
 carried_counts s m true true = refl
 carried_counts s m true false = refl
 carried_counts s m false true = refl
@@ -149,7 +156,8 @@ paged_in_counts s o = refl
 abbrev pub from_source : EndpointId → Event → Outcome → ℕ
 from_source e event o = weight (is_from e) (accepted_in event o)
 
-weight_own : (e end : EndpointId) (count : ℕ) (m : Option Message) → HasSerial (record { source = end; count = count }) m → weight (is_from e) m ≡ cond (same_end e end) (weight any m) 0
+weight_own : (e end : EndpointId) (count : ℕ) (m : Option Message) → HasSerial (record { source = end; count = count }) m →
+    weight (is_from e) m ≡ cond (same_end e end) (weight any m) 0
 weight_own e end count None h = by_test (same_end e end)
   where
     by_test : (b : Bool) → ◌≡◌ {A = ℕ} 0 (cond b 0 0)
@@ -157,10 +165,13 @@ weight_own e end count None h = by_test (same_end e end)
     by_test false = refl
 weight_own e end count (Some m) h = ap (λ (s : Serial). cond (same_end e s.source) 1 0) h
 
-touched_counts : (pool : Option ℕ) (e : EndpointId) (s : State) (event : Event) (o : Outcome) (own : (end : EndpointId) (c : Call) → same_end e end ≡ true → HasSerial (new_serial end s) (accepted_by c (outcome_of_call pool end s c))) (fits : FitsCall pool s event o) → list_any (same_end e) (ends_touched event o) ≡ true → (changed e s event o).body.accepted ≡ s.body.accepted + from_source e event o
+touched_counts : (pool : Option ℕ) (e : EndpointId) (s : State) (event : Event) (o : Outcome) (own : (end : EndpointId) (c : Call) → same_end e end ≡ true →
+    HasSerial (new_serial end s) (accepted_by c (outcome_of_call pool end s c))) (fits : FitsCall pool s event o) →
+    list_any (same_end e) (ends_touched event o) ≡ true → (changed e s event o).body.accepted ≡ s.body.accepted + from_source e event o
 touched_counts pool e s (Events.Call actor end call) o own fits t =
     let at : same_end e end ≡ true = one_touched (same_end e end) t in
-    let w : weight (is_from e) (accepted_by call (outcome_of_call pool end s call)) ≡ cond (same_end e end) (weight any (accepted_by call (outcome_of_call pool end s call))) 0 = weight_own e end (s.body.accepted + 1) _ (own end call at) in
+    let w : weight (is_from e) (accepted_by call (outcome_of_call pool end s call)) ≡ cond (same_end e end)
+    (weight any (accepted_by call (outcome_of_call pool end s call))) 0 = weight_own e end (s.body.accepted + 1) _ (own end call at) in
     subst (λ (v : Outcome). (called s call v).body.accepted ≡ s.body.accepted + weight (is_from e) (accepted_by call v)) (sym fits)
     (rw w (rw at (called_counts s call (outcome_of_call pool end s call))))
 touched_counts pool e s (Events.Want actor end) o own fits t = omega arith
@@ -182,20 +193,24 @@ Accepts layout past event o = Unit {0}
 
 pub accepts_next : (layout : Layout) (past : List Entry) (event : Event) (o : Outcome) → o ≡ outcome_of layout past event → Accepts layout past event o
 accepts_next layout past (Events.Call actor end call) o is =
-    subst (λ (v : Outcome). HasSerial (new_serial end (state_of layout past end)) (accepted_by call v)) (sym is) (call_serial layout.pool end (state_of layout past end) call)
+    subst (λ (v : Outcome). HasSerial (new_serial end (state_of layout past end)) (accepted_by call v)) (sym is)
+    (call_serial layout.pool end (state_of layout past end) call)
 accepts_next layout past event o is = tt
 
-untouched_counts : (layout : Layout) (past : List Entry) (e : EndpointId) (event : Event) (o : Outcome) → Accepts layout past event o → list_any (same_end e) (ends_touched event o) ≡ false → from_source e event o ≡ 0
+untouched_counts : (layout : Layout) (past : List Entry) (e : EndpointId) (event : Event) (o : Outcome) → Accepts layout past event o →
+    list_any (same_end e) (ends_touched event o) ≡ false → from_source e event o ≡ 0
 untouched_counts layout past e (Events.Call actor end call) o next t =
     let off : same_end e end ≡ false = not_touched (same_end e end) t in
     weight_own e end ((state_of layout past end).body.accepted + 1) (accepted_by call o) next ∙ rw off refl
 untouched_counts layout past e event o next t = refl
 
 -- one entry more: the count of a source rises where it accepts a message
-pub count_more : (layout : Layout) (past : List Entry) (x : Entry) (e : EndpointId) (t : Bool) → MayFollow layout past x → touches e x ≡ t → (state_of layout (past ++ x ∷ []) e).body.accepted ≡ (state_of layout past e).body.accepted + from_source e x.event x.outcome
+pub count_more : (layout : Layout) (past : List Entry) (x : Entry) (e : EndpointId) (t : Bool) → MayFollow layout past x → touches e x ≡ t →
+    (state_of layout (past ++ x ∷ []) e).body.accepted ≡ (state_of layout past e).body.accepted + from_source e x.event x.outcome
 count_more layout past x e true may at =
     rw (state_of_push layout past x e true at)
-    (touched_counts layout.pool e (state_of layout past e) x.event x.outcome (λ end c same. call_serial layout.pool end (state_of layout past e) c) (fits_call layout past e x may at) at)
+    (touched_counts layout.pool e (state_of layout past e) x.event x.outcome (λ end c same. call_serial layout.pool end (state_of layout past e) c)
+    (fits_call layout past e x may at) at)
 count_more layout past x e false may at =
     rw (state_of_push layout past x e false at)
     (omega (arith, untouched_counts layout past e x.event x.outcome (accepts_next layout past x.event x.outcome may.outcome) at))
@@ -208,10 +223,12 @@ pub counted_more : (layout : Layout) (past : List Entry) (x : Entry) → Counted
 counted_more layout past x counted may = λ e.
     omega (arith, count_more layout past x e (touches e x) may refl, counted e, role_push accepted_in (is_from e) past x)
 
-next_count : (layout : Layout) (past : List Entry) (event : Event) (o : Outcome) → Counted layout past → Accepts layout past event o → MatchOption (accepted_in event o) (Unit {0}) (λ m. m.serial.count ≡ times accepted_of (is_from m.serial.source) past + 1)
+next_count : (layout : Layout) (past : List Entry) (event : Event) (o : Outcome) → Counted layout past → Accepts layout past event o →
+    MatchOption (accepted_in event o) (Unit {0}) (λ m. m.serial.count ≡ times accepted_of (is_from m.serial.source) past + 1)
 next_count layout past (Events.Call actor end call) o counted next = by_message (accepted_by call o) next
   where
-    by_message : (m : Option Message) → HasSerial (new_serial end (state_of layout past end)) m → MatchOption m (Unit {0}) (λ n. n.serial.count ≡ times accepted_of (is_from n.serial.source) past + 1)
+    by_message : (m : Option Message) → HasSerial (new_serial end (state_of layout past end)) m →
+        MatchOption m (Unit {0}) (λ n. n.serial.count ≡ times accepted_of (is_from n.serial.source) past + 1)
     by_message None h = tt
     by_message (Some m) h = rw h (rw (← counted end) refl)
 next_count layout past event o counted next = tt

@@ -48,7 +48,8 @@ pub excess_one : (index : ℕ) (a b : Body) (i : ℕ) (xs : List (Option Mapping
 excess_one index a b i [] more = omega arith
 excess_one index a b i (x ∷ xs) more = by_test index a b i x xs (index == i) refl more (excess_one index a b (i + 1) xs more)
   where
-    by_test : (index : ℕ) (a b : Body) (i : ℕ) (x : Option Mapping) (xs : List (Option Mapping)) (t : Bool) → (index == i) ≡ t → IsOneMore index a b → excess_from a (i + 1) xs ≤ excess_from b (i + 1) xs + 1 → excess_at a i x + excess_from a (i + 1) xs ≤ excess_at b i x + excess_from b (i + 1) xs + 1
+    by_test : (index : ℕ) (a b : Body) (i : ℕ) (x : Option Mapping) (xs : List (Option Mapping)) (t : Bool) → (index == i) ≡ t → IsOneMore index a b →
+        excess_from a (i + 1) xs ≤ excess_from b (i + 1) xs + 1 → excess_at a i x + excess_from a (i + 1) xs ≤ excess_at b i x + excess_from b (i + 1) xs + 1
     by_test index a b i x xs true is more rest =
         omega (arith, excess_at_more index a b i x more, ap bit is, excess_past index a b (i + 1) xs more (omega (arith, eqb-true index i is)))
     by_test index a b i x xs false is more rest = omega (arith, excess_at_more index a b i x more, ap bit is, rest)
@@ -61,7 +62,8 @@ excess_at_spare index a b m more lt = omega (arith, more index, at_most_one (ind
     at_most_one true = omega arith
     at_most_one false = omega arith
 
-pub excess_spare : (index : ℕ) (a b : Body) (m : Mapping) (i k : ℕ) (xs : List (Option Mapping)) → index ≡ i + k → entry_at xs k ≡ Some m → IsOneMore index a b → records_at b index < m.credits → excess_from a i xs ≤ excess_from b i xs
+pub excess_spare : (index : ℕ) (a b : Body) (m : Mapping) (i k : ℕ) (xs : List (Option Mapping)) → index ≡ i + k → entry_at xs k ≡ Some m →
+    IsOneMore index a b → records_at b index < m.credits → excess_from a i xs ≤ excess_from b i xs
 excess_spare index a b m i k [] at is more lt = absurd (cc)
 excess_spare index a b m i zero (x ∷ xs) at is more lt =
     let here : index ≡ i = omega (arith, at) in
@@ -85,7 +87,8 @@ excess_spare index a b m i (suc k) (x ∷ xs) at is more lt =
     not_here = later index at
 
 -- an entry of the table is changed where its index has no more above its share than before
-pub excess_set : (b : Body) (i j k : ℕ) (xs : List (Option Mapping)) (x : Option Mapping) → j ≡ i + k → excess_at b j x ≡ 0 → excess_from b i (slice_set xs k x) ≤ excess_from b i xs
+pub excess_set : (b : Body) (i j k : ℕ) (xs : List (Option Mapping)) (x : Option Mapping) → j ≡ i + k → excess_at b j x ≡ 0 →
+    excess_from b i (slice_set xs k x) ≤ excess_from b i xs
 excess_set b i j k [] x at none = omega arith
 excess_set b i j zero (y ∷ xs) x at none =
     let here : j ≡ i = omega (arith, at) in

@@ -1,6 +1,7 @@
 -- What the mark of a receiving end tells of a packet: a fresh one is past it, one that is answered again is at it; and an answer makes no answer.
 use Rattle.std.specs.Prelude.{nat_lt}
-use Rattle.std.proofs.Common.{◌≡◌, ◌≢◌, ◌⊎◌, inl, inr, ◌==◌, ℕ, ◌+◌, ◌≤◌, ◌<◌, Bool, true, false, ◌&&◌, List, Option, Some, None, refl, sym, ◌∙◌, arith, eqb-true, ltb-false, if◌then◌else◌}
+use Rattle.std.proofs.Common.{◌≡◌, ◌≢◌, ◌⊎◌, inl, inr, ◌==◌, ℕ, ◌+◌, ◌≤◌, ◌<◌, Bool, true, false, ◌&&◌, List, Option, Some, None, refl, sym, ◌∙◌, arith}
+use Rattle.std.proofs.Common.{eqb-true, ltb-false, if◌then◌else◌}
 use Rattle.std.proofs.lemmas.Bool.{eqb-false}
 use Rattle.am_names.specs.Rules.{is_transient}
 use Rattle.am_names.specs.declared.Message.{Message}
@@ -23,13 +24,17 @@ IsPast m seq attempt = (m.seq < seq) ⊎ ((seq ≡ m.seq) × (m.attempt < attemp
 fresh_at : (m : Mark) (seq attempt : ℕ) (v : Verdict) → m.verdict ≡ v → arrival_at m v seq attempt ≡ Fresh → IsPast m seq attempt
 fresh_at m seq attempt Verdicts.Accepted is e = by_tests (nat_lt seq m.seq) (seq == m.seq) refl refl e
   where
-    by_tests : (a b : Bool) → nat_lt seq m.seq ≡ a → (seq == m.seq) ≡ b → (if a then Stale else (if b then Again Verdicts.Accepted else Fresh)) ≡ Fresh → IsPast m seq attempt
+    by_tests : (a b : Bool) → nat_lt seq m.seq ≡ a → (seq == m.seq) ≡ b → (if a then Stale else (if b then Again Verdicts.Accepted else Fresh)) ≡ Fresh →
+        IsPast m seq attempt
     by_tests true b lt eq f = absurd (cc)
     by_tests false true lt eq f = absurd (cc)
     by_tests false false lt eq f = let h : m.seq ≤ seq = ltb-false seq m.seq lt in let n : seq ≡ m.seq → ⊥ = eqb-false seq m.seq eq in inl (omega (arith, h, n))
-fresh_at m seq attempt (Verdicts.Refused cause) is e = by_tests (nat_lt seq m.seq) (seq == m.seq) (nat_lt attempt m.attempt) (attempt == m.attempt) refl refl refl refl e
+fresh_at m seq attempt (Verdicts.Refused cause) is e = by_tests (nat_lt seq m.seq) (seq == m.seq) (nat_lt attempt m.attempt) (attempt ==
+    m.attempt) refl refl refl refl e
   where
-    by_tests : (a b c d : Bool) → nat_lt seq m.seq ≡ a → (seq == m.seq) ≡ b → nat_lt attempt m.attempt ≡ c → (attempt == m.attempt) ≡ d → (if a then Stale else (if b then (if c then Stale else (if d then Again (Verdicts.Refused cause) else Fresh)) else Fresh)) ≡ Fresh → IsPast m seq attempt
+    by_tests : (a b c d : Bool) → nat_lt seq m.seq ≡ a → (seq == m.seq) ≡ b → nat_lt attempt m.attempt ≡ c → (attempt == m.attempt) ≡ d →
+        (if a then Stale else (if b then (if c then Stale else (if d then Again (Verdicts.Refused cause) else Fresh)) else Fresh)) ≡ Fresh →
+        IsPast m seq attempt
     by_tests true b c d lt eq lta eqa f = absurd (cc)
     by_tests false true true d lt eq lta eqa f = absurd (cc)
     by_tests false true false true lt eq lta eqa f = absurd (cc)
@@ -37,7 +42,8 @@ fresh_at m seq attempt (Verdicts.Refused cause) is e = by_tests (nat_lt seq m.se
         let h : m.attempt ≤ attempt = ltb-false attempt m.attempt lta in
         let n : attempt ≡ m.attempt → ⊥ = eqb-false attempt m.attempt eqa in
         inr (eqb-true seq m.seq eq, omega (arith, h, n), λ accepted. let both : Verdicts.Refused cause ≡ Verdicts.Accepted = sym is ∙ accepted in cc)
-    by_tests false false c d lt eq lta eqa f = let h : m.seq ≤ seq = ltb-false seq m.seq lt in let n : seq ≡ m.seq → ⊥ = eqb-false seq m.seq eq in inl (omega (arith, h, n))
+    by_tests false false c d lt eq lta eqa f = let h : m.seq ≤ seq = ltb-false seq m.seq lt in let n : seq ≡ m.seq → ⊥ = eqb-false seq m.seq eq in
+        inl (omega (arith, h, n))
 
 pub fresh_means : (m : Mark) (seq attempt : ℕ) → arrival m seq attempt ≡ Fresh → IsPast m seq attempt
 fresh_means m seq attempt e = fresh_at m seq attempt m.verdict refl e
@@ -54,6 +60,7 @@ settle_answers layout c past a (Some m) = by_test ((a.seq == sequence c past) &&
     by_verdict Verdicts.Accepted used = refl
     by_verdict (Verdicts.Refused cause) used = by_again cause (used + 1) (is_transient cause && nat_lt used layout.bounces)
 
-    by_test : (t : Bool) → answer_by (if t then settle_by layout.bounces m (bounced (flying_of m.serial (state_of layout past m.serial.source).body.in_flight)) a.verdict else Got.Nothing) ≡ None
+    by_test : (t : Bool) → answer_by (if t then settle_by layout.bounces m (bounced (flying_of m.serial (state_of layout past m.serial.source).body.in_flight))
+        a.verdict else Got.Nothing) ≡ None
     by_test true = by_verdict a.verdict (bounced (flying_of m.serial (state_of layout past m.serial.source).body.in_flight))
     by_test false = refl

@@ -1,11 +1,12 @@
 -- Each record whose reply has arrived has one received reply.
 use Rattle.std.specs.Prelude.{not, is_none, is_some}
-use Rattle.std.proofs.Common.{◌≡◌, ℕ, ◌+◌, ◌≤◌, Bool, true, false, cond, ◌&&◌, ◌==◌, List, [], ◌∷◌, ◌++◌, drop, map, Option, Some, None, refl, sym, ap, ◌∙◌, subst, arith, true≢false, if◌then◌else◌}
+use Rattle.std.proofs.Common.{◌≡◌, ℕ, ◌+◌, ◌≤◌, Bool, true, false, cond, ◌&&◌, ◌==◌, List, [], ◌∷◌, ◌++◌, drop, map, Option, Some, None, refl, sym, ap, ◌∙◌}
+use Rattle.std.proofs.Common.{subst, arith, true≢false, if◌then◌else◌}
 use Rattle.std.specs.List.{count_by, find, list_any}
 use Rattle.std.proofs.lemmas.Bool.{and_parts, and_from}
 use Rattle.std.proofs.lemmas.List.Sums.{sum_by_push, sum_by-cons}
 use Rattle.am_lemmas.proofs.Lists.{find_passes, list_any-counts}
-use Rattle.am_names.specs.Names.{same_serial, is_reply, is_request, is_request_kind}
+use Rattle.am_names.specs.Names.{same_serial, is_reply, is_request, is_request_kind, are_zero, is_formed_as, is_well_formed}
 use Rattle.am_names.specs.declared.Message.{Message}
 use Rattle.am_names.specs.declared.MsgKind.{MsgKind}
 use Rattle.am_names.specs.declared.MsgKind.TheVariants as Kind
@@ -14,7 +15,6 @@ use Rattle.am_model.specs.declared.Awaited.{Awaited}
 use Rattle.am_model.specs.Choice.{without_first}
 use Rattle.am_model.specs.Endpoint.{is_arrived, is_waited_for, waits_for}
 use Rattle.am_model.specs.Changes.{arrived, is_of, without_waiting, without_record, with_arrived}
-use Rattle.am_model.specs.Allowed.{are_zero, is_formed_as, is_well_formed}
 use Rattle.am_office.specs.Entries.{is_serial}
 use Rattle.am_model.specs.Valid.{answers, has_arrived, rise}
 use Rattle.am_model.proofs.Names.{same_serial-is, same_serial-refl}
@@ -54,14 +54,17 @@ has_arrived_waits r q a waits = by_test (same_serial r a.serial) a.arrived refl
 pub each_waiting : (r q : Serial) (xs : List Awaited) → count_by (has_arrived r) (without_waiting q xs) ≡ count_by (has_arrived r) xs
 each_waiting r q xs = by_found (find (waits_for q) xs) refl (without_counts (has_arrived r) (waits_for q) xs)
   where
-    by_found : (f : Option Awaited) → find (waits_for q) xs ≡ f → count_by (has_arrived r) (without_waiting q xs) + passing (has_arrived r) (find (waits_for q) xs) ≡ count_by (has_arrived r) xs → count_by (has_arrived r) (without_waiting q xs) ≡ count_by (has_arrived r) xs
+    by_found : (f : Option Awaited) → find (waits_for q) xs ≡ f →
+        count_by (has_arrived r) (without_waiting q xs) + passing (has_arrived r) (find (waits_for q) xs) ≡ count_by (has_arrived r) xs →
+        count_by (has_arrived r) (without_waiting q xs) ≡ count_by (has_arrived r) xs
     by_found None is counts = omega (arith, counts, ap (passing (has_arrived r)) is)
     by_found (Some a) is counts = omega (arith, counts, ap (passing (has_arrived r)) is, has_arrived_waits r q a (find_passes (waits_for q) xs a is))
 
 pub matched_waiting : (q : Serial) (received : List Message) (xs : List Awaited) → AreMatched received xs → AreMatched received (without_waiting q xs)
 matched_waiting q received xs matched = record { each = λ r. matched.each r ∙ sym (each_waiting r q xs); all = matched.all ∙ sym (waiting_kept q xs) }
 
-pub matched_more : (index : ℕ) (q : Serial) (received : List Message) (xs : List Awaited) → AreMatched received xs → AreMatched received (xs ++ record { index = index; serial = q; arrived = false } ∷ [])
+pub matched_more : (index : ℕ) (q : Serial) (received : List Message) (xs : List Awaited) → AreMatched received xs →
+    AreMatched received (xs ++ record { index = index; serial = q; arrived = false } ∷ [])
 matched_more index q received xs matched =
     let a : Awaited = record { index = index; serial = q; arrived = false } in
     record {
@@ -74,21 +77,35 @@ matched_more index q received xs matched =
     unarrived false = refl
 
 -- a request arrives
-matched_request : (m : Message) (received : List Message) (xs : List Awaited) → is_request m ≡ true → m.about ≡ None → AreMatched received xs → AreMatched (received ++ m ∷ []) (with_arrived m.about xs)
+matched_request : (m : Message) (received : List Message) (xs : List Awaited) → is_request m ≡ true → m.about ≡ None → AreMatched received xs →
+    AreMatched (received ++ m ∷ []) (with_arrived m.about xs)
 matched_request m received xs kind about matched =
     subst (λ (w : Option Serial). AreMatched (received ++ m ∷ []) (with_arrived w xs)) (sym about)
     (record {
-      each = λ r. omega (arith, matched.each r, sum_by_push (λ (n : Message). cond (answers r n) 1 0) received m, ap (λ b. bit ((if b then false else true) && is_serial r m.about)) kind);
+      each = λ r. omega (
+        arith,
+        matched.each r,
+        sum_by_push (λ (n : Message). cond (answers r n) 1 0) received m,
+        ap (λ b. bit ((if b then false else true) && is_serial r m.about)) kind,
+      );
       all = omega (arith, matched.all, sum_by_push (λ (n : Message). cond (is_reply n) 1 0) received m, ap (λ b. bit (if b then false else true)) kind);
     })
 
 -- the reply to a request of which a record waits arrives
-matched_answer : (last : ℕ) (q : Serial) (m : Message) (received : List Message) (xs : List Awaited) → is_request m ≡ false → m.about ≡ Some q → rise 0 last xs ≡ true → list_any (waits_for q) xs ≡ true → AreMatched received xs → AreMatched (received ++ m ∷ []) (with_arrived m.about xs)
+matched_answer : (last : ℕ) (q : Serial) (m : Message) (received : List Message) (xs : List Awaited) → is_request m ≡ false → m.about ≡ Some q →
+    rise 0 last xs ≡ true → list_any (waits_for q) xs ≡ true → AreMatched received xs → AreMatched (received ++ m ∷ []) (with_arrived m.about xs)
 matched_answer last q m received xs kind about rising waits matched =
     subst (λ (w : Option Serial). AreMatched (received ++ m ∷ []) (with_arrived w xs)) (sym about)
     (record {
       each = λ r. by_request r (same_serial r q) refl;
-      all = omega (arith, matched.all, sum_by_push (λ (n : Message). cond (is_reply n) 1 0) received m, ap (λ b. bit (if b then false else true)) kind, arrived_counts q xs, one_waits);
+      all = omega (
+        arith,
+        matched.all,
+        sum_by_push (λ (n : Message). cond (is_reply n) 1 0) received m,
+        ap (λ b. bit (if b then false else true)) kind,
+        arrived_counts q xs,
+        one_waits,
+      );
     })
   where
     one_waits : count_by (waits_for q) xs ≡ 1
@@ -101,28 +118,42 @@ matched_answer last q m received xs kind about rising waits matched =
     by_request r true is =
         let same : r ≡ q = same_serial-is r q is in
         let at : count_by (answers q) (received ++ m ∷ []) ≡ count_by (has_arrived q) (map (arrived q) xs) =
-        omega (arith, matched.each q, sum_by_push (λ (n : Message). cond (answers q n) 1 0) received m, said q, ap bit (same_serial-refl q), arrives_all q xs, arrives_or_waits q xs, one_waits) in
+        omega (
+          arith,
+          matched.each q,
+          sum_by_push (λ (n : Message). cond (answers q n) 1 0) received m,
+          said q,
+          ap bit (same_serial-refl q),
+          arrives_all q xs,
+          arrives_or_waits q xs,
+          one_waits,
+        ) in
         subst (λ (w : Serial). count_by (answers w) (received ++ m ∷ []) ≡ count_by (has_arrived w) (map (arrived q) xs)) (sym same) at
     by_request r false is =
         omega (arith, matched.each r, sum_by_push (λ (n : Message). cond (answers r n) 1 0) received m, said r, ap bit is, arrives_only q r xs is)
 
 -- a message that is accepted arrives
-pub matched_put : (last : ℕ) (m : Message) (received : List Message) (xs : List Awaited) → is_well_formed m ≡ true → (is_reply m && not (is_waited_for xs m.about)) ≡ false → rise 0 last xs ≡ true → AreMatched received xs → AreMatched (received ++ m ∷ []) (with_arrived m.about xs)
+pub matched_put : (last : ℕ) (m : Message) (received : List Message) (xs : List Awaited) → is_well_formed m ≡ true →
+    (is_reply m && not (is_waited_for xs m.about)) ≡ false → rise 0 last xs ≡ true → AreMatched received xs →
+    AreMatched (received ++ m ∷ []) (with_arrived m.about xs)
 matched_put last m received xs formed accepts rising matched = by_kind (is_request m) refl m.about refl
   where
     awaited_is : (b t : Bool) → is_request m ≡ b → b ≡ false → is_waited_for xs m.about ≡ t → t ≡ true
     awaited_is b true is at about = refl
-    awaited_is b false is at about = absurd (true≢false (sym (ap (λ w. (if w then false else true) && not (is_waited_for xs m.about)) (is ∙ at) ∙ ap not about) ∙ accepts))
+    awaited_is b false is at about = absurd (true≢false (sym (ap (λ w. (if w then false else true) && not (is_waited_for xs m.about)) (is ∙ at) ∙ ap not about)
+        ∙ accepts))
 
     by_kind : (b : Bool) → is_request m ≡ b → (about : Option Serial) → m.about ≡ about → AreMatched (received ++ m ∷ []) (with_arrived m.about xs)
     by_kind true is None about = matched_request m received xs is about matched
     by_kind true is (Some q) about = absurd (true≢false (sym (formed_request m.kind m is formed) ∙ ap is_none about))
     by_kind false is None about = absurd (true≢false (sym (formed_answer m.kind m is formed) ∙ ap is_some about))
     by_kind false is (Some q) about =
-        matched_answer last q m received xs is about rising (sym (ap (is_waited_for xs) about) ∙ awaited_is (is_request m) (is_waited_for xs m.about) refl is refl) matched
+        matched_answer last q m received xs is about rising (sym (ap (is_waited_for xs) about)
+        ∙ awaited_is (is_request m) (is_waited_for xs m.about) refl is refl) matched
 
 -- the reply to a request runs
-matched_settled : (last : ℕ) (q : Serial) (m : Message) (received : List Message) (xs : List Awaited) → find is_reply received ≡ Some m → is_reply m ≡ true → m.about ≡ Some q → rise 0 last xs ≡ true → AreMatched received xs → AreMatched (without_first is_reply received) (without_first (is_of q) xs)
+matched_settled : (last : ℕ) (q : Serial) (m : Message) (received : List Message) (xs : List Awaited) → find is_reply received ≡ Some m → is_reply m ≡ true →
+    m.about ≡ Some q → rise 0 last xs ≡ true → AreMatched received xs → AreMatched (without_first is_reply received) (without_first (is_of q) xs)
 matched_settled last q m received xs found kind about rising matched = by_record (find (is_of q) xs) refl
   where
     said : (r : Serial) → bit (answers r m) ≡ bit (same_serial r q)
@@ -134,7 +165,15 @@ matched_settled last q m received xs found kind about rising matched = by_record
     has_come : (a : Awaited) → find (is_of q) xs ≡ Some a → (b : Bool) → a.arrived ≡ b → b ≡ true
     has_come a is true come = refl
     has_come a is false come =
-        absurd (never (omega (arith, without_counts (waits_for q) (is_of q) xs, ap (passing (waits_for q)) is, ap bit (and_from (same_serial q a.serial) (not a.arrived) (find_passes (is_of q) xs a is) (ap not come)), one_arrived, arrives_or_waits q xs, one_record 0 last q xs rising)))
+        absurd (never (omega (
+          arith,
+          without_counts (waits_for q) (is_of q) xs,
+          ap (passing (waits_for q)) is,
+          ap bit (and_from (same_serial q a.serial) (not a.arrived) (find_passes (is_of q) xs a is) (ap not come)),
+          one_arrived,
+          arrives_or_waits q xs,
+          one_record 0 last q xs rising,
+        )))
       where
         never : 1 ≤ 0 → ⊥
         never h = omega (arith, h)
@@ -149,15 +188,34 @@ matched_settled last q m received xs found kind about rising matched = by_record
         let its : q ≡ a.serial = same_serial-is q a.serial (find_passes (is_of q) xs a is) in
         record {
           each = λ r.
-              omega (arith, matched.each r, find_counts (answers r) is_reply received m found, said r, without_counts (has_arrived r) (is_of q) xs, ap (passing (has_arrived r)) is, ap (λ b. bit (same_serial r a.serial && b)) come, and_true (same_serial r a.serial), ap (λ (w : Serial). bit (same_serial r w)) its);
-          all = omega (arith, matched.all, find_counts is_reply is_reply received m found, ap bit kind, without_counts is_arrived (is_of q) xs, ap (passing is_arrived) is, ap bit come);
+              omega (
+                arith,
+                matched.each r,
+                find_counts (answers r) is_reply received m found,
+                said r,
+                without_counts (has_arrived r) (is_of q) xs,
+                ap (passing (has_arrived r)) is,
+                ap (λ b. bit (same_serial r a.serial && b)) come,
+                and_true (same_serial r a.serial),
+                ap (λ (w : Serial). bit (same_serial r w)) its,
+              );
+          all = omega (
+            arith,
+            matched.all,
+            find_counts is_reply is_reply received m found,
+            ap bit kind,
+            without_counts is_arrived (is_of q) xs,
+            ap (passing is_arrived) is,
+            ap bit come,
+          );
         }
       where
         and_true : (b : Bool) → bit (b && true) ≡ bit b
         and_true true = refl
         and_true false = refl
 
-pub matched_ran : (last : ℕ) (m : Message) (received : List Message) (xs : List Awaited) → find is_reply received ≡ Some m → is_well_formed m ≡ true → rise 0 last xs ≡ true → AreMatched received xs → AreMatched (without_first is_reply received) (without_record m.about xs)
+pub matched_ran : (last : ℕ) (m : Message) (received : List Message) (xs : List Awaited) → find is_reply received ≡ Some m → is_well_formed m ≡ true →
+    rise 0 last xs ≡ true → AreMatched received xs → AreMatched (without_first is_reply received) (without_record m.about xs)
 matched_ran last m received xs found formed rising matched = by_about m.about refl
   where
     kind : is_reply m ≡ true
@@ -172,12 +230,19 @@ matched_ran last m received xs found formed rising matched = by_about m.about re
     by_about (Some q) about = rw about (matched_settled last q m received xs found kind about rising matched)
 
 -- a request at the front runs
-pub matched_front : (m : Message) (ms received : List Message) (xs : List Awaited) → received ≡ m ∷ ms → find is_reply received ≡ None → AreMatched received xs → AreMatched (drop 1 received) xs
+pub matched_front : (m : Message) (ms received : List Message) (xs : List Awaited) → received ≡ m ∷ ms → find is_reply received ≡ None →
+    AreMatched received xs → AreMatched (drop 1 received) xs
 matched_front m ms received xs at none matched =
     rw at
     (record {
       each = λ r.
-          omega (arith, matched.each r, ap (count_by (answers r)) at, sum_by-cons (λ (n : Message). cond (answers r n) 1 0) m ms, no_answer r (is_reply m) refl (ap bit kind));
+          omega (
+            arith,
+            matched.each r,
+            ap (count_by (answers r)) at,
+            sum_by-cons (λ (n : Message). cond (answers r n) 1 0) m ms,
+            no_answer r (is_reply m) refl (ap bit kind),
+          );
       all = omega (arith, matched.all, ap (count_by is_reply) at, sum_by-cons (λ (n : Message). cond (is_reply n) 1 0) m ms, ap bit kind);
     })
   where
@@ -189,7 +254,12 @@ matched_front m ms received xs at none matched =
     by_bit false h = refl
 
     kind : is_reply m ≡ false
-    kind = by_bit (is_reply m) (omega (arith, none_found is_reply received none, ap (count_by is_reply) at, sum_by-cons (λ (n : Message). cond (is_reply n) 1 0) m ms))
+    kind = by_bit (is_reply m) (omega (
+      arith,
+      none_found is_reply received none,
+      ap (count_by is_reply) at,
+      sum_by-cons (λ (n : Message). cond (is_reply n) 1 0) m ms,
+    ))
 
     no_answer : (r : Serial) (b : Bool) → is_reply m ≡ b → bit b ≡ 0 → bit (answers r m) ≡ 0
     no_answer r true is h = absurd (cc)

@@ -2,7 +2,7 @@
 use Rattle.std.proofs.lemmas.Bool.{and_parts, and_from}
 use Rattle.std.proofs.Common.{◌≡◌, ℕ, Bool, true, false, List, [], Option, Some, None, ◌⊎◌, refl, sym, ap, ◌∙◌, subst, true≢false, if◌then◌else◌}
 use Rattle.std.proofs.lemmas.List.{nil_from_length}
-use Rattle.am_names.specs.Names.{is_reply, is_request, same_end}
+use Rattle.am_names.specs.Names.{is_reply, is_request, same_end, is_well_formed}
 use Rattle.am_names.specs.declared.Cause.TheVariants as Causes
 use Rattle.am_names.specs.declared.EndpointId.{EndpointId}
 use Rattle.am_names.specs.declared.Message.{Message}
@@ -24,13 +24,15 @@ use Rattle.am_model.specs.declared.Queued.{Queued}
 use Rattle.am_model.specs.Endpoint.{State, fresh, front, is_in_a_frame}
 use Rattle.am_model.specs.Calls.{outcome_of_call}
 use Rattle.am_model.specs.Changes.{after, bound, called, carried, changed, expired, left, paged_in, paged_out, put, reached, received, with_marked}
-use Rattle.am_model.specs.Allowed.{EndsFlight, MayArrive, MayBind, MayCarry, MayDrain, MayLoad, MayPageIn, MayPageOut, MaySettle, MayUnload, are_numbers_in_range, arrived_message, is_well_formed}
+use Rattle.am_model.specs.Allowed.{EndsFlight, MayArrive, MayBind, MayCarry, MayDrain, MayLoad, MayPageIn, MayPageOut, MaySettle, MayUnload}
+use Rattle.am_model.specs.Allowed.{are_numbers_in_range, arrived_message}
 use Rattle.am_model.specs.Layout.{IsPoolLawful}
 use Rattle.am_model.specs.Order.{IsInOrder, KeepsOrder}
 use Rattle.am_model.specs.Valid.{is_own, is_own_answer, is_own_flight, is_own_request}
 use Rattle.am_model.proofs.Valid.{Parts, arrived_parts, bound_parts, called_parts, carried_parts, flight_parts, fresh_parts}
 use Rattle.am_model.proofs.Validity.{all_weaker, own_formed, own_front}
-use Rattle.am_model.proofs.Sound.{IsSound, is_flight_formed, is_queued_answer, is_queued_request, flight_sound, sound_arrived, sound_bound, sound_called, sound_carried, sound_fresh}
+use Rattle.am_model.proofs.Sound.{IsSound, is_flight_formed, is_queued_answer, is_queued_request, flight_sound, sound_arrived, sound_bound, sound_called}
+use Rattle.am_model.proofs.Sound.{sound_carried, sound_fresh}
 use Rattle.am_model.proofs.PlaceKinds.{on_disk_unframed, on_host_unframed}
 
 -- a change where the endpoint stays put and nothing takes off
@@ -59,7 +61,8 @@ sound_of pool e s order =
           let parts = and_parts (is_reply q.message) (is_own e b.accepted q.message q.bounces) h in
           and_from (is_reply q.message) (is_well_formed q.message) parts.0 (own_formed e b.accepted q.message q.bounces parts.1))
           v.replies;
-      in_flight = all_weaker (is_own_flight e b.accepted) is_flight_formed b.in_flight (λ (f : Flying) h. own_formed e b.accepted f.message f.bounces h) v.in_flight;
+      in_flight = all_weaker (is_own_flight e b.accepted) is_flight_formed b.in_flight (λ (f : Flying) h. own_formed e b.accepted f.message f.bounces h)
+          v.in_flight;
     }
 
 parts_of : (pool : Option ℕ) (e : EndpointId) (s : State) → IsInOrder pool e s → Parts e pool s.body
@@ -73,7 +76,8 @@ parts_of pool e s order =
       matched = record { each = v.each_answer; all = v.all_answers };
     }
 
-in_order : (pool : Option ℕ) (e : EndpointId) (s : State) → IsSound pool s.body → Parts e pool s.body → (is_in_a_frame s.head.place ≡ false → s.body.in_flight ≡ []) → IsInOrder pool e s
+in_order : (pool : Option ℕ) (e : EndpointId) (s : State) → IsSound pool s.body → Parts e pool s.body →
+    (is_in_a_frame s.head.place ≡ false → s.body.in_flight ≡ []) → IsInOrder pool e s
 in_order pool e s sound p grounded =
     record {
       within = sound.within;
@@ -98,7 +102,8 @@ in_order pool e s sound p grounded =
       grounded = grounded;
     }
 
-order_put : (pool : Option ℕ) (e : EndpointId) (s t : State) → StaysPut s t → IsSound pool t.body → Parts e pool t.body → IsInOrder pool e s → IsInOrder pool e t
+order_put : (pool : Option ℕ) (e : EndpointId) (s t : State) → StaysPut s t → IsSound pool t.body → Parts e pool t.body → IsInOrder pool e s →
+    IsInOrder pool e t
 order_put pool e s t stays sound p order =
     in_order pool e t sound p (λ there. stays.flights (order.grounded (sym (ap is_in_a_frame stays.place) ∙ there)))
 
@@ -173,21 +178,27 @@ arrives_put e s m event o is = absurd (cc)
 pub order_fresh : (pool : Option ℕ) (e : EndpointId) (tag : Tag) (place : Place) → IsPoolLawful pool → IsInOrder pool e (fresh tag place)
 order_fresh pool e tag place lawful = in_order pool e (fresh tag place) (sound_fresh pool tag place) (fresh_parts pool e tag place lawful) (λ there. refl)
 
-pub order_called : (pool : Option ℕ) (e : EndpointId) (s : State) (c : Call) → are_numbers_in_range pool c ≡ true → IsInOrder pool e s → IsInOrder pool e (called s c (outcome_of_call pool e s c))
+pub order_called : (pool : Option ℕ) (e : EndpointId) (s : State) (c : Call) → are_numbers_in_range pool c ≡ true → IsInOrder pool e s →
+    IsInOrder pool e (called s c (outcome_of_call pool e s c))
 order_called pool e s c range order =
-    order_put pool e s (called s c (outcome_of_call pool e s c)) (called_put s c (outcome_of_call pool e s c)) (sound_called pool e s c range (sound_of pool e s order)) (called_parts pool e s c range order.valid.indexes (parts_of pool e s order)) order
+    order_put pool e s (called s c (outcome_of_call pool e s c)) (called_put s c (outcome_of_call pool e s c))
+    (sound_called pool e s c range (sound_of pool e s order)) (called_parts pool e s c range order.valid.indexes (parts_of pool e s order)) order
 
 pub order_arrived : (limit : ℕ) (pool : Option ℕ) (e : EndpointId) (s : State) (x : Entry) → MayArrive e s x → KeepsOrder limit pool e s x
 order_arrived limit pool e s x may le order =
-    order_put pool e s (after e s x) (arrives_put e s may.message x.event x.outcome may.is_message) (sound_arrived pool e s x may (sound_of pool e s order)) (arrived_parts pool e s x may (parts_of pool e s order)) order
+    order_put pool e s (after e s x) (arrives_put e s may.message x.event x.outcome may.is_message) (sound_arrived pool e s x may (sound_of pool e s order))
+    (arrived_parts pool e s x may (parts_of pool e s order)) order
 
 pub order_carried : (limit : ℕ) (pool : Option ℕ) (e : EndpointId) (s : State) (x : Entry) → MayCarry limit e s x → KeepsOrder limit pool e s x
 order_carried limit pool e s x may le order =
-    order_put pool e s (after e s x) (subst (λ (event : Event). StaysPut s (changed e s event x.outcome)) (sym may.event) (carried_put e e s x.outcome)) (sound_carried pool limit e s x may (sound_of pool e s order)) (carried_parts pool limit e s x le may (parts_of pool e s order)) order
+    order_put pool e s (after e s x) (subst (λ (event : Event). StaysPut s (changed e s event x.outcome)) (sym may.event) (carried_put e e s x.outcome))
+    (sound_carried pool limit e s x may (sound_of pool e s order)) (carried_parts pool limit e s x le may (parts_of pool e s order)) order
 
 pub order_settled : (limit : ℕ) (pool : Option ℕ) (e : EndpointId) (s : State) (x : Entry) → MaySettle limit e s x → KeepsOrder limit pool e s x
 order_settled limit pool e s x may le order =
-    order_put pool e s (after e s x) (ends_put limit e s may.flight x.event x.outcome may.ends) (flight_sound pool limit e s may.flight x.event x.outcome may.ends (sound_of pool e s order)) (flight_parts pool limit e s may.flight x.event x.outcome le may.in_flight may.ends (parts_of pool e s order)) order
+    order_put pool e s (after e s x) (ends_put limit e s may.flight x.event x.outcome may.ends)
+    (flight_sound pool limit e s may.flight x.event x.outcome may.ends (sound_of pool e s order))
+    (flight_parts pool limit e s may.flight x.event x.outcome le may.in_flight may.ends (parts_of pool e s order)) order
 
 resident_only : (b : Bool) → b ≡ true → b ≡ false → ⊥
 resident_only b is not_so = true≢false (sym is ∙ not_so)
@@ -195,7 +206,10 @@ resident_only b is not_so = true≢false (sym is ∙ not_so)
 pub order_bound : (limit : ℕ) (pool : Option ℕ) (node : NodeId) (e : EndpointId) (s : State) (x : Entry) → MayBind node e s x → KeepsOrder limit pool e s x
 order_bound limit pool node e s x may le order =
     rw (may.event, may.outcome)
-    (in_order pool e (bound s (Out.Sent may.queued.message may.peer may.channel may.seq 0 may.number)) (sound_bound pool s may.queued may.peer may.channel may.seq 0 may.number may.is_front (sound_of pool e s order)) (bound_parts pool e s may.queued may.peer may.channel may.seq 0 may.number may.is_front (parts_of pool e s order)) (λ there. absurd (resident_only (is_in_a_frame s.head.place) may.framed there)))
+    (in_order pool e (bound s (Out.Sent may.queued.message may.peer may.channel may.seq 0 may.number))
+    (sound_bound pool s may.queued may.peer may.channel may.seq 0 may.number may.is_front (sound_of pool e s order))
+    (bound_parts pool e s may.queued may.peer may.channel may.seq 0 may.number may.is_front (parts_of pool e s order))
+    (λ there. absurd (resident_only (is_in_a_frame s.head.place) may.framed there)))
 
 pub order_wanted : (pool : Option ℕ) (e : EndpointId) (s : State) → IsInOrder pool e s → IsInOrder pool e (record s { head = record s.head { wanted = true } })
 order_wanted pool e s order = record { within = order.within; valid = order.valid; grounded = order.grounded }
@@ -204,19 +218,33 @@ pub order_drained : (limit : ℕ) (pool : Option ℕ) (node : NodeId) (e : Endpo
 order_drained limit pool node e s x may le order = rw may.event (record { within = order.within; valid = order.valid; grounded = order.grounded })
 
 pub order_unloaded : (limit : ℕ) (pool : Option ℕ) (node : NodeId) (e : EndpointId) (s : State) (x : Entry) → MayUnload node e s x → KeepsOrder limit pool e s x
-order_unloaded limit pool node e s x may le order = rw may.event (record { within = order.within; valid = order.valid; grounded = λ there. nil_from_length s.body.in_flight may.none_in_flight })
+order_unloaded limit pool node e s x may le order = rw may.event (record {
+  within = order.within;
+  valid = order.valid;
+  grounded = λ there. nil_from_length s.body.in_flight may.none_in_flight;
+})
 
 pub order_loaded : (limit : ℕ) (pool : Option ℕ) (node : NodeId) (e : EndpointId) (s : State) (x : Entry) → MayLoad node e s x → KeepsOrder limit pool e s x
-order_loaded limit pool node e s x may le order = rw may.event (record { within = order.within; valid = order.valid; grounded = λ there. absurd (resident_only true refl there) })
+order_loaded limit pool node e s x may le order = rw may.event (record {
+  within = order.within;
+  valid = order.valid;
+  grounded = λ there. absurd (resident_only true refl there);
+})
 
-pub order_paged_out : (limit : ℕ) (pool : Option ℕ) (node : NodeId) (e : EndpointId) (s : State) (x : Entry) → MayPageOut node e s x → KeepsOrder limit pool e s x
+pub order_paged_out : (limit : ℕ) (pool : Option ℕ) (node : NodeId) (e : EndpointId) (s : State) (x : Entry) → MayPageOut node e s x →
+    KeepsOrder limit pool e s x
 order_paged_out limit pool node e s x may le order = rw may.event (by_outcome x.outcome may.outcome)
   where
     by_outcome : (o : Outcome) → (o ≡ Out.Done) ⊎ (o ≡ Out.Failed) → IsInOrder pool e (paged_out s o)
-    by_outcome Out.Done either = record { within = order.within; valid = order.valid; grounded = λ there. order.grounded (on_host_unframed s.head.place may.on_host) }
+    by_outcome Out.Done either = record {
+      within = order.within;
+      valid = order.valid;
+      grounded = λ there. order.grounded (on_host_unframed s.head.place may.on_host);
+    }
     by_outcome o either = order
 
-pub order_paged_in : (limit : ℕ) (pool : Option ℕ) (outcome : Outcome) (node : NodeId) (e : EndpointId) (s : State) (x : Entry) → MayPageIn outcome node e s x → KeepsOrder limit pool e s x
+pub order_paged_in : (limit : ℕ) (pool : Option ℕ) (outcome : Outcome) (node : NodeId) (e : EndpointId) (s : State) (x : Entry) → MayPageIn outcome node e s x →
+    KeepsOrder limit pool e s x
 order_paged_in limit pool outcome node e s x may le order = rw may.event (by_outcome x.outcome)
   where
     by_outcome : (o : Outcome) → IsInOrder pool e (paged_in s o)

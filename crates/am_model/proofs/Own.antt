@@ -29,7 +29,8 @@ use Rattle.std.specs.Prelude.{unwrap_or}
 use Rattle.am_names.specs.declared.Tag.{Tag}
 use Rattle.am_model.specs.PostOffice.{last_given, tag_set, own_tag}
 
-pub last_given_push : {A : Type 0} (a : A) (given : Entry → Option A) (xs : List Entry) (x : Entry) → last_given a given (xs ++ x ∷ []) ≡ unwrap_or (given x) (last_given a given xs)
+pub last_given_push : {A : Type 0} (a : A) (given : Entry → Option A) (xs : List Entry) (x : Entry) →
+    last_given a given (xs ++ x ∷ []) ≡ unwrap_or (given x) (last_given a given xs)
 last_given_push a given [] x = refl
 last_given_push a given (y ∷ xs) x = last_given_push (unwrap_or (given y) a) given xs x
 
@@ -56,7 +57,8 @@ if_own false s t u h k = k
 
 carried_own : (e from : EndpointId) (s : State) (o : Outcome) → own (carried e from s o) ≡ own s
 carried_own e from s (Out.Accepted n) =
-    let l : own (if same_end e from then left s (Out.Accepted n) else s) ≡ own s = if_own (same_end e from) s (left s (Out.Accepted n)) s (left_own s (Out.Accepted n)) refl in
+    let l : own (if same_end e from then left s (Out.Accepted n) else s) ≡ own s =
+    if_own (same_end e from) s (left s (Out.Accepted n)) s (left_own s (Out.Accepted n)) refl in
     if_own (same_end e n.dest) s (put n (if same_end e from then left s (Out.Accepted n) else s)) (if same_end e from then left s (Out.Accepted n) else s) l l
 carried_own e from s o = if_own (same_end e from) s (left s o) s (left_own s o) refl
 
@@ -104,7 +106,8 @@ own_kept e s (Events.Load node end frame) o h = refl
 own_kept e s (Events.PageOut node end) o h = paged_out_own s o
 own_kept e s (Events.PageIn node end) o h = paged_in_own s o
 
-called_tag : (e : EndpointId) (s : State) (c : Call) (o : Outcome) (actor : Actor) (end : EndpointId) → same_end e end ≡ true → (called s c o).body.tag ≡ unwrap_or (tag_set e (Events.Call actor end c) o) s.body.tag
+called_tag : (e : EndpointId) (s : State) (c : Call) (o : Outcome) (actor : Actor) (end : EndpointId) → same_end e end ≡ true →
+    (called s c o).body.tag ≡ unwrap_or (tag_set e (Events.Call actor end c) o) s.body.tag
 called_tag e s (Calls.Request index handler words) (Out.Requested m) actor end at = refl
 called_tag e s Calls.Poll (Out.Zero serial why) actor end at = refl
 called_tag e s Calls.Poll (Out.Ran m handler None) actor end at = refl
@@ -125,9 +128,11 @@ tag_untouched : (e : EndpointId) (event : Event) (o : Outcome) → list_any (sam
 tag_untouched e (Events.Call actor end (Calls.SetTag tag)) Out.Done t = let off : same_end e end ≡ false = not_touched (same_end e end) t in rw off refl
 tag_untouched e event o t = refl
 
-touched_tag : (e : EndpointId) (s : State) (event : Event) (o : Outcome) → list_any (same_end e) (ends_touched event o) ≡ true → (changed e s event o).body.tag ≡ unwrap_or (tag_set e event o) s.body.tag
+touched_tag : (e : EndpointId) (s : State) (event : Event) (o : Outcome) → list_any (same_end e) (ends_touched event o) ≡ true →
+    (changed e s event o).body.tag ≡ unwrap_or (tag_set e event o) s.body.tag
 touched_tag e s (Events.Call actor end call) o t = called_tag e s call o actor end (one_touched (same_end e end) t)
-touched_tag e s event o t = ap (λ (w : Own). w.tag) (own_kept e s event o refl) ∙ ap (λ (w : Option Tag). unwrap_or w s.body.tag) (sym (tag_only_call e event o refl))
+touched_tag e s event o t = ap (λ (w : Own). w.tag) (own_kept e s event o refl)
+    ∙ ap (λ (w : Option Tag). unwrap_or w s.body.tag) (sym (tag_only_call e event o refl))
 
 -- the own tag is the last that was set
 abbrev pub TagKept : Layout → List Entry → Type 0

@@ -36,7 +36,9 @@ list_cons p q queue = sum_by-cons (λ (y : Queued). cond (p y.message) 1 0) q qu
 list_push : (p : Message → Bool) (q : Queued) (queue : List Queued) → in_list p (queue ++ q ∷ []) ≡ in_list p queue + cond (p q.message) 1 0
 list_push p q queue = sum_by_push (λ (y : Queued). cond (p y.message) 1 0) queue q
 
-pub both_appended : (p : Message → Bool) (m : Message) (used : ℕ) (requests replies : List Queued) (is : Bool) → in_list p (appended is m used requests) + in_list p (appended (if is then false else true) m used replies) ≡ in_list p requests + in_list p replies + cond (p m) 1 0
+pub both_appended : (p : Message → Bool) (m : Message) (used : ℕ) (requests replies : List Queued) (is : Bool) →
+    in_list p (appended is m used requests) + in_list p (appended (if is then false else true) m used replies) ≡ in_list p requests + in_list p replies + cond
+    (p m) 1 0
 both_appended p m used requests replies true = omega (arith, list_push p (record { message = m; bounces = used }) requests)
 both_appended p m used requests replies false = omega (arith, list_push p (record { message = m; bounces = used }) replies)
 
@@ -57,12 +59,14 @@ called_sends p s (Calls.GiveUp serial) Out.Done = omega arith
 called_sends p s Calls.Close Out.Done = omega arith
 called_sends p s c o = omega arith
 
-front_leaves_lists : (p : Message → Bool) (replies requests : List Queued) (q : Queued) → front_of replies requests ≡ Some q → in_list p (requests_left replies requests) + in_list p (drop 1 replies) + cond (p q.message) 1 0 ≡ in_list p requests + in_list p replies
+front_leaves_lists : (p : Message → Bool) (replies requests : List Queued) (q : Queued) → front_of replies requests ≡ Some q →
+    in_list p (requests_left replies requests) + in_list p (drop 1 replies) + cond (p q.message) 1 0 ≡ in_list p requests + in_list p replies
 front_leaves_lists p (r ∷ replies) requests q e = let same : r ≡ q = cc in rw (← same) (omega (arith, list_cons p r replies))
 front_leaves_lists p [] (r ∷ requests) q e = let same : r ≡ q = cc in rw (← same) (omega (arith, list_cons p r requests))
 front_leaves_lists p [] [] q e = absurd (cc)
 
-pub front_leaves : (p : Message → Bool) (s : State) (q : Queued) → front s ≡ Some q → to_send p (without_front s.body) + cond (p q.message) 1 0 ≡ to_send p s.body
+pub front_leaves : (p : Message → Bool) (s : State) (q : Queued) → front s ≡ Some q →
+    to_send p (without_front s.body) + cond (p q.message) 1 0 ≡ to_send p s.body
 front_leaves p s q e = front_leaves_lists p s.body.replies s.body.requests q e
 
 -- the message that leaves its source by a carry
@@ -71,12 +75,15 @@ gone (Out.Accepted m) = Some m
 gone (Out.Returned m cause) = Some m
 gone o = None
 
-refused_sends : (p : Message → Bool) (s : State) (q : Queued) (used : ℕ) (cause : Cause) (again : Bool) → front s ≡ Some q → let o = if again then Out.Requeued q.message cause used else Out.Returned q.message cause in to_send p (left s o).body + weight p (gone o) ≡ to_send p s.body
+refused_sends : (p : Message → Bool) (s : State) (q : Queued) (used : ℕ) (cause : Cause) (again : Bool) → front s ≡ Some q →
+    let o = if again then Out.Requeued q.message cause used else Out.Returned q.message cause in
+    to_send p (left s o).body + weight p (gone o) ≡ to_send p s.body
 refused_sends p s q used cause true e = omega (arith, front_leaves p s q e, queued_sends p q.message used (without_front s.body))
 refused_sends p s q used cause false e = front_leaves p s q e
 
 -- the front message is judged
-pub judged_sends : (p : Message → Bool) (s : State) (q : Queued) (tries used : ℕ) (v : Verdict) → front s ≡ Some q → to_send p (left s (judged tries q.message used v)).body + weight p (gone (judged tries q.message used v)) ≡ to_send p s.body
+pub judged_sends : (p : Message → Bool) (s : State) (q : Queued) (tries used : ℕ) (v : Verdict) → front s ≡ Some q →
+    to_send p (left s (judged tries q.message used v)).body + weight p (gone (judged tries q.message used v)) ≡ to_send p s.body
 judged_sends p s q tries used Verdicts.Accepted e = front_leaves p s q e
 judged_sends p s q tries used (Verdicts.Refused cause) e = refused_sends p s q (used + 1) cause (is_transient cause && nat_lt used tries) e
 
@@ -115,11 +122,16 @@ FitsDirect e s (Events.Expire node peer channel) o = ⊥
 FitsDirect e s (Events.Receive node peer number) o = ⊥
 FitsDirect e s event o = Unit {0}
 
-pub carried_sends : (p : Message → Bool) (e : EndpointId) (s : State) (o : Outcome) (at_source : Bool) → (at_source ≡ true → Judged s o) → to_send p (reached e (if at_source then left s o else s) o).body + weight p (if at_source then gone o else None) ≡ to_send p s.body
+pub carried_sends : (p : Message → Bool) (e : EndpointId) (s : State) (o : Outcome) (at_source : Bool) → (at_source ≡ true → Judged s o) →
+    to_send p (reached e (if at_source then left s o else s) o).body + weight p (if at_source then gone o else None) ≡ to_send p s.body
 carried_sends p e s o true fits =
     let j = fits refl in
     rw j.is_judged
-    (omega (arith, reached_sends p e (left s (judged j.limit j.queued.message j.bounces j.verdict)) (judged j.limit j.queued.message j.bounces j.verdict), judged_sends p s j.queued j.limit j.bounces j.verdict j.is_front))
+    (omega (
+      arith,
+      reached_sends p e (left s (judged j.limit j.queued.message j.bounces j.verdict)) (judged j.limit j.queued.message j.bounces j.verdict),
+      judged_sends p s j.queued j.limit j.bounces j.verdict j.is_front,
+    ))
 carried_sends p e s o false fits = omega (arith, reached_sends p e s o)
 
 pub paged_out_sends : (p : Message → Bool) (s : State) (o : Outcome) → to_send p (paged_out s o).body ≡ to_send p s.body
@@ -131,7 +143,8 @@ paged_in_sends p s Out.Done = refl
 paged_in_sends p s o = refl
 
 -- an entry that touches an endpoint: what it had to send and what it accepts is what it has to send and what left
-pub changed_sends : (p : Message → Bool) (e : EndpointId) (s : State) (event : Event) (o : Outcome) → list_any (same_end e) (ends_touched event o) ≡ true → FitsDirect e s event o → to_send p (changed e s event o).body + weight p (left_at e event o) ≡ to_send p s.body + weight p (accepted_at e event o)
+pub changed_sends : (p : Message → Bool) (e : EndpointId) (s : State) (event : Event) (o : Outcome) → list_any (same_end e) (ends_touched event o) ≡ true →
+    FitsDirect e s event o → to_send p (changed e s event o).body + weight p (left_at e event o) ≡ to_send p s.body + weight p (accepted_at e event o)
 changed_sends p e s (Events.Call actor end call) o h fits =
     let at : same_end e end ≡ true = one_touched (same_end e end) h in rw at (omega (arith, called_sends p s call o))
 changed_sends p e s (Events.Want actor end) o h fits = omega arith

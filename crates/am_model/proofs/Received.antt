@@ -42,11 +42,14 @@ held p s = count_by p s.body.received
 count_cons : {X : Type 0} (p : X → Bool) (x : X) (xs : List X) → count_by p (x ∷ xs) ≡ cond (p x) 1 0 + count_by p xs
 count_cons p x xs = sum_by-cons (λ y. cond (p y) 1 0) x xs
 
-find_counts_at : (p test : Message → Bool) (x : Message) (xs : List Message) (m : Message) (b : Bool) → (find test xs ≡ Some m → count_by p (without_first test xs) + cond (p m) 1 0 ≡ count_by p xs) → cond b (Some x) (find test xs) ≡ Some m → count_by p (cond b xs (x ∷ without_first test xs)) + cond (p m) 1 0 ≡ count_by p (x ∷ xs)
+find_counts_at : (p test : Message → Bool) (x : Message) (xs : List Message) (m : Message) (b : Bool) →
+    (find test xs ≡ Some m → count_by p (without_first test xs) + cond (p m) 1 0 ≡ count_by p xs) → cond b (Some x) (find test xs) ≡ Some m →
+    count_by p (cond b xs (x ∷ without_first test xs)) + cond (p m) 1 0 ≡ count_by p (x ∷ xs)
 find_counts_at p test x xs m true more f = let same : x ≡ m = cc in rw (← same) (omega (arith, count_cons p x xs))
 find_counts_at p test x xs m false more f = omega (arith, more f, count_cons p x xs, count_cons p x (without_first test xs))
 
-pub find_counts : (p test : Message → Bool) (xs : List Message) (m : Message) → find test xs ≡ Some m → count_by p (without_first test xs) + cond (p m) 1 0 ≡ count_by p xs
+pub find_counts : (p test : Message → Bool) (xs : List Message) (m : Message) → find test xs ≡ Some m →
+    count_by p (without_first test xs) + cond (p m) 1 0 ≡ count_by p xs
 find_counts p test [] m e = absurd (cc)
 find_counts p test (x ∷ xs) m e = find_counts_at p test x xs m (test x) (λ f. find_counts p test xs m f) e
 
@@ -64,32 +67,46 @@ received_not_poll p s (Calls.GiveUp serial) Out.Done e = refl
 received_not_poll p s Calls.Close Out.Done e = refl
 received_not_poll p s c o e = refl
 
-polled_front : (p : Message → Bool) (s : State) (m : Message) (ms : List Message) (handler : Option ℕ) (reply : Message) (full : Bool) → s.body.received ≡ m ∷ ms → held p (called s Calls.Poll (if full then Out.Blocked else Out.Ran m handler (Some reply))) + weight p (run_by Calls.Poll (if full then Out.Blocked else Out.Ran m handler (Some reply))) ≡ held p s
+polled_front : (p : Message → Bool) (s : State) (m : Message) (ms : List Message) (handler : Option ℕ) (reply : Message) (full : Bool) →
+    s.body.received ≡ m ∷ ms → held p (called s Calls.Poll (if full then Out.Blocked else Out.Ran m handler (Some reply))) + weight p
+    (run_by Calls.Poll (if full then Out.Blocked else Out.Ran m handler (Some reply))) ≡ held p s
 polled_front p s m ms handler reply true is = omega arith
 polled_front p s m ms handler reply false is = rw is (omega (arith, count_cons p m ms))
 
 -- where no notice and no answer is there
-polled_request : (p : Message → Bool) (e : EndpointId) (s : State) (ms : List Message) → s.body.received ≡ ms → held p (called s Calls.Poll (poll_requests e s ms)) + weight p (run_by Calls.Poll (poll_requests e s ms)) ≡ held p s
+polled_request : (p : Message → Bool) (e : EndpointId) (s : State) (ms : List Message) → s.body.received ≡ ms →
+    held p (called s Calls.Poll (poll_requests e s ms)) + weight p (run_by Calls.Poll (poll_requests e s ms)) ≡ held p s
 polled_request p e s [] is = omega arith
 polled_request p e s (m ∷ ms) is = polled_front p s m ms (Some m.handler) _ (nat_le 16 (replies_held s.body)) is
 
-polled_received : (p : Message → Bool) (e : EndpointId) (s : State) (found : Option Message) → find is_reply s.body.received ≡ found → held p (called s Calls.Poll (poll_received e s found)) + weight p (run_by Calls.Poll (poll_received e s found)) ≡ held p s
+polled_received : (p : Message → Bool) (e : EndpointId) (s : State) (found : Option Message) → find is_reply s.body.received ≡ found →
+    held p (called s Calls.Poll (poll_received e s found)) + weight p (run_by Calls.Poll (poll_received e s found)) ≡ held p s
 polled_received p e s (Some m) is = find_counts p is_reply s.body.received m is
 polled_received p e s None is = polled_request p e s s.body.received refl
 
-polled : (p : Message → Bool) (e : EndpointId) (s : State) (notices : List Notice) → held p (called s Calls.Poll (poll e s notices)) + weight p (run_by Calls.Poll (poll e s notices)) ≡ held p s
+polled : (p : Message → Bool) (e : EndpointId) (s : State) (notices : List Notice) →
+    held p (called s Calls.Poll (poll e s notices)) + weight p (run_by Calls.Poll (poll e s notices)) ≡ held p s
 polled p e s (notice ∷ notices) = omega arith
 polled p e s [] = polled_received p e s (find is_reply s.body.received) refl
 
 -- what comes of a call that is made at the endpoint
-pub called_received : (pool : Option ℕ) (p : Message → Bool) (e : EndpointId) (s : State) (c : Call) → held p (called s c (outcome_of_call pool e s c)) + weight p (run_by c (outcome_of_call pool e s c)) ≡ held p s
+pub called_received : (pool : Option ℕ) (p : Message → Bool) (e : EndpointId) (s : State) (c : Call) →
+    held p (called s c (outcome_of_call pool e s c)) + weight p (run_by c (outcome_of_call pool e s c)) ≡ held p s
 called_received pool p e s Calls.Poll = polled p e s s.body.notices
-called_received pool p e s (Calls.Request index handler words) = omega (arith, received_not_poll p s (Calls.Request index handler words) (outcome_of_call pool e s (Calls.Request index handler words)) refl)
+called_received pool p e s (Calls.Request index handler words) =
+    omega (arith, received_not_poll p s (Calls.Request index handler words) (outcome_of_call pool e s (Calls.Request index handler words)) refl)
 called_received pool p e s (Calls.SetTag tag) = omega (arith, received_not_poll p s (Calls.SetTag tag) (outcome_of_call pool e s (Calls.SetTag tag)) refl)
-called_received pool p e s (Calls.Map index name tag credits) = omega (arith, received_not_poll p s (Calls.Map index name tag credits) (outcome_of_call pool e s (Calls.Map index name tag credits)) refl)
+called_received pool p e s (Calls.Map index name tag credits) =
+    omega (arith, received_not_poll p s (Calls.Map index name tag credits) (outcome_of_call pool e s (Calls.Map index name tag credits)) refl)
 called_received pool p e s (Calls.Unmap index) = omega (arith, received_not_poll p s (Calls.Unmap index) (outcome_of_call pool e s (Calls.Unmap index)) refl)
-called_received pool p e s (Calls.SetHandler index kind) = omega (arith, received_not_poll p s (Calls.SetHandler index kind) (outcome_of_call pool e s (Calls.SetHandler index kind)) refl)
-called_received pool p e s (Calls.GiveUp serial) = omega (arith, received_not_poll p s (Calls.GiveUp serial) (outcome_of_call pool e s (Calls.GiveUp serial)) refl)
+called_received pool p e s (Calls.SetHandler index kind) = omega (
+  arith,
+  received_not_poll p s (Calls.SetHandler index kind) (outcome_of_call pool e s (Calls.SetHandler index kind)) refl,
+)
+called_received pool p e s (Calls.GiveUp serial) = omega (
+  arith,
+  received_not_poll p s (Calls.GiveUp serial) (outcome_of_call pool e s (Calls.GiveUp serial)) refl,
+)
 called_received pool p e s Calls.Close = omega (arith, received_not_poll p s Calls.Close (outcome_of_call pool e s Calls.Close) refl)
 called_received pool p e s (Calls.Test mask) = omega (arith, received_not_poll p s (Calls.Test mask) (outcome_of_call pool e s (Calls.Test mask)) refl)
 
@@ -114,7 +131,9 @@ one_touched false h = h
 held_put : (p : Message → Bool) (s : State) (m : Message) → held p (put m s) ≡ held p s + cond (p m) 1 0
 held_put p s m = sum_by_push (λ y. cond (p y) 1 0) s.body.received m
 
-carry_accepted : (p : Message → Bool) (s : State) (m : Message) (at_source at_dest : Bool) → held p (if at_dest then put m (if at_source then left s (Out.Accepted m) else s) else (if at_source then left s (Out.Accepted m) else s)) ≡ held p s + weight p (if at_dest then Some m else None)
+carry_accepted : (p : Message → Bool) (s : State) (m : Message) (at_source at_dest : Bool) →
+    held p (if at_dest then put m (if at_source then left s (Out.Accepted m) else s) else (if at_source then left s (Out.Accepted m) else s)) ≡ held p s +
+    weight p (if at_dest then Some m else None)
 carry_accepted p s m true true = held_put p (left s (Out.Accepted m)) m
 carry_accepted p s m false true = held_put p s m
 carry_accepted p s m true false = omega arith
@@ -127,11 +146,14 @@ carry_left p s (Out.Returned m cause) true = refl
 carry_left p s o true = refl
 carry_left p s o false = refl
 
-carried_received : (p : Message → Bool) (e from : EndpointId) (s : State) (o : Outcome) → held p (carried e from s o) + 0 ≡ held p s + weight p (put_at e (Events.Carry from) o)
+carried_received : (p : Message → Bool) (e from : EndpointId) (s : State) (o : Outcome) →
+    held p (carried e from s o) + 0 ≡ held p s + weight p (put_at e (Events.Carry from) o)
 carried_received p e from s (Out.Accepted m) = omega (arith, carry_accepted p s m (same_end e from) (same_end e m.dest))
 carried_received p e from s o = omega (arith, carry_left p s o (same_end e from))
 
-result_received : (p : Message → Bool) (e : EndpointId) (s : State) (node peer : NodeId) (number channel seq attempt : ℕ) (r : Received) → list_any (same_end e) (touched_by_result r) ≡ true → held p (received e s r) + 0 ≡ held p s + weight p (put_at e (Events.Receive node peer number) (Out.Received channel seq attempt r))
+result_received : (p : Message → Bool) (e : EndpointId) (s : State) (node peer : NodeId) (number channel seq attempt : ℕ) (r : Received) →
+    list_any (same_end e) (touched_by_result r) ≡ true → held p (received e s r) + 0 ≡ held p s + weight p
+    (put_at e (Events.Receive node peer number) (Out.Received channel seq attempt r))
 result_received p e s node peer number channel seq attempt (Got.Accepted m answer) h =
     let at : same_end e m.dest ≡ true = one_touched (same_end e m.dest) h in rw at (omega (arith, held_put p s m))
 result_received p e s node peer number channel seq attempt (Got.Refused m NotResident answer) h = omega arith
@@ -158,15 +180,19 @@ paged_in_received p s Out.Done = refl
 paged_in_received p s o = refl
 
 -- an entry that touches an endpoint: what it held and what is put there is what it holds and what it runs
-pub changed_received : (pool : Option ℕ) (p : Message → Bool) (e : EndpointId) (s : State) (event : Event) (o : Outcome) → list_any (same_end e) (ends_touched event o) ≡ true → FitsCall pool s event o → held p (changed e s event o) + weight p (run_at e event o) ≡ held p s + weight p (put_at e event o)
+pub changed_received : (pool : Option ℕ) (p : Message → Bool) (e : EndpointId) (s : State) (event : Event) (o : Outcome) →
+    list_any (same_end e) (ends_touched event o) ≡ true → FitsCall pool s event o →
+    held p (changed e s event o) + weight p (run_at e event o) ≡ held p s + weight p (put_at e event o)
 changed_received pool p e s (Events.Call actor end call) o h fits =
     let at : same_end e end ≡ true = one_touched (same_end e end) h in
-    rw at (subst (λ (v : Outcome). held p (called s call v) + weight p (run_by call v) ≡ held p s + 0) (sym fits) (omega (arith, called_received pool p end s call)))
+    rw at (subst (λ (v : Outcome). held p (called s call v) + weight p (run_by call v) ≡ held p s + 0) (sym fits)
+    (omega (arith, called_received pool p end s call)))
 changed_received pool p e s (Events.Want actor end) o h fits = omega arith
 changed_received pool p e s (Events.Carry end) o h fits = carried_received p e end s o
 changed_received pool p e s (Events.Bind node end) o h fits = omega (arith, bound_received p s o)
 changed_received pool p e s (Events.Expire node peer channel) o h fits = omega (arith, expired_received p s o)
-changed_received pool p e s (Events.Receive node peer number) (Out.Received channel seq attempt result) h fits = result_received p e s node peer number channel seq attempt result h
+changed_received pool p e s (Events.Receive node peer number) (Out.Received channel seq attempt result) h fits =
+    result_received p e s node peer number channel seq attempt result h
 changed_received pool p e s (Events.Receive node peer number) o h fits = absurd (cc)
 changed_received pool p e s (Events.Drain node end) o h fits = omega arith
 changed_received pool p e s (Events.Unload node end) o h fits = omega arith

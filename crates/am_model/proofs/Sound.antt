@@ -1,13 +1,14 @@
 -- The body of an endpoint stays sound.
 use Rattle.std.specs.Prelude.{nat_le, nat_lt, not, is_none, ◌||◌}
-use Rattle.std.proofs.Common.{◌≡◌, ℕ, zero, suc, ◌+◌, ◌≤◌, Bool, true, false, cond, ◌&&◌, List, [], ◌∷◌, ◌++◌, length, drop, map, Option, Some, None, refl, sym, ap, ◌∙◌, subst, arith, leb-false, if◌then◌else◌}
+use Rattle.std.proofs.Common.{◌≡◌, ℕ, zero, suc, ◌+◌, ◌≤◌, Bool, true, false, cond, ◌&&◌, List, [], ◌∷◌, ◌++◌, length, drop, map, Option, Some, None, refl, sym}
+use Rattle.std.proofs.Common.{ap, ◌∙◌, subst, arith, leb-false, if◌then◌else◌}
 use Rattle.std.specs.List.{count_by, find, list_all, list_any}
 use Rattle.std.specs.Prelude.{slice_set}
 use Rattle.std.proofs.lemmas.Bool.{and_parts, and_from}
 use Rattle.std.proofs.lemmas.List.{append-nil, length-set}
 use Rattle.std.proofs.lemmas.List.Folds.{list_all-append, list_all-map}
 use Rattle.std.proofs.lemmas.List.Sums.{sum_by_push, sum_by-cons}
-use Rattle.am_names.specs.Names.{has_serial, same_serial, same_end, is_reply, is_request}
+use Rattle.am_names.specs.Names.{has_serial, same_serial, same_end, is_reply, is_request, is_well_formed}
 use Rattle.am_names.specs.Rules.{matches, is_transient}
 use Rattle.am_names.specs.declared.EndpointId.{EndpointId}
 use Rattle.am_names.specs.declared.Cause.TheVariants as Causes
@@ -39,11 +40,13 @@ use Rattle.am_model.specs.declared.Mapping.{Mapping}
 use Rattle.am_model.specs.declared.Notice.{Notice}
 use Rattle.am_model.specs.declared.Queued.{Queued}
 use Rattle.am_model.specs.Choice.{first_holding, without_first}
-use Rattle.am_model.specs.Endpoint.{State, Body, IsWithinBounds, fresh, front, front_of, is_arrived, is_waited_for, is_resident, entry_at, requests_held, replies_held, verdict, verdict_of, waits_for}
+use Rattle.am_model.specs.Endpoint.{State, Body, IsWithinBounds, fresh, front, front_of, is_arrived, is_waited_for, is_resident, entry_at}
+use Rattle.am_model.specs.Endpoint.{replies_held, verdict, verdict_of, waits_for}
 use Rattle.am_model.specs.Calls.{outcome_of_call, answer, poll, poll_received, poll_requests, request_refusal, unless, new_request, request_message, sum_after}
-use Rattle.am_model.specs.Changes.{appended, kind_run, arrived, called, left, marked, put, queued, reached, with_arrived, with_marked, without_front, noticed, bounces_of, flying_of, without_flight, requeued_flight, returned_flight, received, expired, bound, changed, after}
+use Rattle.am_model.specs.Changes.{appended, kind_run, arrived, called, left, marked, put, queued, reached, with_arrived, with_marked, without_front, noticed}
+use Rattle.am_model.specs.Changes.{bounces_of, flying_of, without_flight, requeued_flight, returned_flight, received, expired, bound, changed, after}
 use Rattle.am_model.specs.History.{judged, settle_by}
-use Rattle.am_model.specs.Allowed.{EndsFlight, MayArrive, MayCarry, are_numbers_in_range, arrival_verdict, arrived_message, tries_used_up, is_carry_from, is_well_formed}
+use Rattle.am_model.specs.Allowed.{EndsFlight, MayArrive, MayCarry, are_numbers_in_range, arrival_verdict, arrived_message, tries_used_up, is_carry_from}
 use Rattle.am_model.specs.Valid.{is_mapping_in_range}
 use Rattle.am_model.proofs.Counts.{call_counts_one}
 use Rattle.am_model.proofs.Names.{same_end-refl}
@@ -88,7 +91,8 @@ pub all_without : {X : Type 0} (p t : X → Bool) (xs : List X) → list_all p x
 all_without p t [] all = refl
 all_without p t (x ∷ xs) all = by_test p t x xs (t x) all (all_without p t xs (and_parts (p x) (list_all p xs) all).1)
   where
-    by_test : {X : Type 0} (p t : X → Bool) (x : X) (xs : List X) (b : Bool) → list_all p (x ∷ xs) ≡ true → list_all p (without_first t xs) ≡ true → list_all p (if b then xs else x ∷ without_first t xs) ≡ true
+    by_test : {X : Type 0} (p t : X → Bool) (x : X) (xs : List X) (b : Bool) → list_all p (x ∷ xs) ≡ true → list_all p (without_first t xs) ≡ true →
+        list_all p (if b then xs else x ∷ without_first t xs) ≡ true
     by_test p t x xs true all more = (and_parts (p x) (list_all p xs) all).1
     by_test p t x xs false all more = and_from (p x) (list_all p (without_first t xs)) (and_parts (p x) (list_all p xs) all).0 more
 
@@ -96,11 +100,13 @@ pub all_found : {X : Type 0} (p t : X → Bool) (xs : List X) (x : X) → list_a
 all_found p t [] x all e = absurd (cc)
 all_found p t (y ∷ xs) x all e = by_test p t x y xs (t y) all e (all_found p t xs x (and_parts (p y) (list_all p xs) all).1)
   where
-    by_test : {X : Type 0} (p t : X → Bool) (x y : X) (xs : List X) (b : Bool) → list_all p (y ∷ xs) ≡ true → (if b then Some y else find t xs) ≡ Some x → (find t xs ≡ Some x → p x ≡ true) → p x ≡ true
+    by_test : {X : Type 0} (p t : X → Bool) (x y : X) (xs : List X) (b : Bool) → list_all p (y ∷ xs) ≡ true → (if b then Some y else find t xs) ≡ Some x →
+        (find t xs ≡ Some x → p x ≡ true) → p x ≡ true
     by_test p t x y xs true all h more = let same : y ≡ x = cc in subst (λ w. p w ≡ true) same (and_parts (p y) (list_all p xs) all).0
     by_test p t x y xs false all h more = more h
 
-pub all_appended : (p : Queued → Bool) (b : Bool) (m : Message) (n : ℕ) (xs : List Queued) → (b ≡ true → p (record { message = m; bounces = n }) ≡ true) → list_all p xs ≡ true → list_all p (appended b m n xs) ≡ true
+pub all_appended : (p : Queued → Bool) (b : Bool) (m : Message) (n : ℕ) (xs : List Queued) → (b ≡ true → p (record { message = m; bounces = n }) ≡ true) →
+    list_all p xs ≡ true → list_all p (appended b m n xs) ≡ true
 all_appended p true m n xs one all = all_push p xs (record { message = m; bounces = n }) all (one refl)
 all_appended p false m n xs one all = all
 
@@ -128,20 +134,31 @@ queues_of : (pool : Option ℕ) (b : Body) → IsSound pool b → QueuesKept b
 queues_of pool b sound = record { requests = sound.requests; replies = sound.replies }
 
 -- the queues after a call
-queues_requested : (pool : Option ℕ) (e : EndpointId) (s : State) (index handler : ℕ) (words : Words) (r : Option Refusal) (mapping : Option Mapping) → QueuesKept s.body → QueuesKept (called s (Calls.Request index handler words) (unless r (new_request e s mapping handler words))).body
+queues_requested : (pool : Option ℕ) (e : EndpointId) (s : State) (index handler : ℕ) (words : Words) (r : Option Refusal) (mapping : Option Mapping) →
+    QueuesKept s.body → QueuesKept (called s (Calls.Request index handler words) (unless r (new_request e s mapping handler words))).body
 queues_requested pool e s index handler words (Some refusal) mapping kept = kept
 queues_requested pool e s index handler words None None kept = kept
 queues_requested pool e s index handler words None (Some mapping) kept =
-    queues_queued (request_message e s mapping handler words) 0 (record s.body { accepted = s.body.accepted + 1; awaited = s.body.awaited ++ record { index = index; serial = (request_message e s mapping handler words).serial; arrived = false } ∷ [] }) refl (record { requests = kept.requests; replies = kept.replies })
+    queues_queued (request_message e s mapping handler words) 0 (record s.body {
+      accepted = s.body.accepted + 1;
+      awaited = s.body.awaited ++ record { index = index; serial = (request_message e s mapping handler words).serial; arrived = false } ∷ [];
+    }) refl
+    (record { requests = kept.requests; replies = kept.replies })
 
 queues_polled : (e : EndpointId) (s : State) → QueuesKept s.body → (notices : List Notice) → QueuesKept (called s Calls.Poll (poll e s notices)).body
 queues_polled e s kept (notice ∷ notices) = record { requests = kept.requests; replies = kept.replies }
 queues_polled e s kept [] = by_found (find is_reply s.body.received)
   where
-    by_full : (m : Message) (full : Bool) → QueuesKept (called s Calls.Poll (if full then Out.Blocked else Out.Ran m (Some m.handler) (Some (answer e s m (entry_at s.body.handlers m.handler))))).body
+    by_full : (m : Message) (full : Bool) → QueuesKept (called s Calls.Poll (if full then Out.Blocked else Out.Ran m (Some m.handler)
+        (Some (answer e s m (entry_at s.body.handlers m.handler))))).body
     by_full m true = kept
     by_full m false =
-        queues_queued (answer e s m (entry_at s.body.handlers m.handler)) 0 (record s.body { accepted = s.body.accepted + 1; received = drop 1 s.body.received; sum = sum_after (kind_run s.body.handlers (Some m.handler)) m.words s.body.sum }) (answer_formed e s m (entry_at s.body.handlers m.handler)) (record { requests = kept.requests; replies = kept.replies })
+        queues_queued (answer e s m (entry_at s.body.handlers m.handler)) 0 (record s.body {
+          accepted = s.body.accepted + 1;
+          received = drop 1 s.body.received;
+          sum = sum_after (kind_run s.body.handlers (Some m.handler)) m.words s.body.sum;
+        }) (answer_formed e s m (entry_at s.body.handlers m.handler))
+        (record { requests = kept.requests; replies = kept.replies })
 
     by_list : (xs : List Message) → QueuesKept (called s Calls.Poll (poll_requests e s xs)).body
     by_list [] = kept
@@ -169,7 +186,8 @@ queues_other s Calls.Close Out.Done is kept = kept
 queues_other s c o is kept = kept
 
 queues_called : (pool : Option ℕ) (e : EndpointId) (s : State) (c : Call) → QueuesKept s.body → QueuesKept (called s c (outcome_of_call pool e s c)).body
-queues_called pool e s (Calls.Request index handler words) kept = queues_requested pool e s index handler words (request_refusal pool s index) (entry_at s.body.mapped index) kept
+queues_called pool e s (Calls.Request index handler words) kept =
+    queues_requested pool e s index handler words (request_refusal pool s index) (entry_at s.body.mapped index) kept
 queues_called pool e s Calls.Poll kept = queues_polled e s kept s.body.notices
 queues_called pool e s c kept = queues_other s c (outcome_of_call pool e s c) refl kept
 
@@ -182,11 +200,20 @@ pub record TablesKept (pool : Option ℕ) (b : Body) : Type 0 where
 tables_of : (pool : Option ℕ) (b : Body) → IsSound pool b → TablesKept pool b
 tables_of pool b sound = record { indexes = sound.indexes; credits = sound.credits; in_flight = sound.in_flight }
 
-tables_called : (pool : Option ℕ) (s : State) (c : Call) (o : Outcome) → are_numbers_in_range pool c ≡ true → TablesKept pool s.body → TablesKept pool (called s c o).body
-tables_called pool s (Calls.Request index handler words) (Out.Requested m) range kept = record { indexes = kept.indexes; credits = kept.credits; in_flight = kept.in_flight }
+tables_called : (pool : Option ℕ) (s : State) (c : Call) (o : Outcome) → are_numbers_in_range pool c ≡ true → TablesKept pool s.body →
+    TablesKept pool (called s c o).body
+tables_called pool s (Calls.Request index handler words) (Out.Requested m) range kept = record {
+  indexes = kept.indexes;
+  credits = kept.credits;
+  in_flight = kept.in_flight;
+}
 tables_called pool s Calls.Poll (Out.Zero serial why) range kept = record { indexes = kept.indexes; credits = kept.credits; in_flight = kept.in_flight }
 tables_called pool s Calls.Poll (Out.Ran m handler None) range kept = record { indexes = kept.indexes; credits = kept.credits; in_flight = kept.in_flight }
-tables_called pool s Calls.Poll (Out.Ran m handler (Some reply)) range kept = record { indexes = kept.indexes; credits = kept.credits; in_flight = kept.in_flight }
+tables_called pool s Calls.Poll (Out.Ran m handler (Some reply)) range kept = record {
+  indexes = kept.indexes;
+  credits = kept.credits;
+  in_flight = kept.in_flight;
+}
 tables_called pool s (Calls.SetTag tag) Out.Done range kept = record { indexes = kept.indexes; credits = kept.credits; in_flight = kept.in_flight }
 tables_called pool s (Calls.Map index name tag credits) Out.Done range kept =
     record {
@@ -217,9 +244,11 @@ sound_by pool b within queues tables =
     }
 
 -- a call keeps the body sound
-pub sound_called : (pool : Option ℕ) (e : EndpointId) (s : State) (c : Call) → are_numbers_in_range pool c ≡ true → IsSound pool s.body → IsSound pool (called s c (outcome_of_call pool e s c)).body
+pub sound_called : (pool : Option ℕ) (e : EndpointId) (s : State) (c : Call) → are_numbers_in_range pool c ≡ true → IsSound pool s.body →
+    IsSound pool (called s c (outcome_of_call pool e s c)).body
 sound_called pool e s c range sound =
-    sound_by pool (called s c (outcome_of_call pool e s c)).body (within_called pool e s c sound.within) (queues_called pool e s c (queues_of pool s.body sound)) (tables_called pool s c (outcome_of_call pool e s c) range (tables_of pool s.body sound))
+    sound_by pool (called s c (outcome_of_call pool e s c)).body (within_called pool e s c sound.within)
+    (queues_called pool e s c (queues_of pool s.body sound)) (tables_called pool s c (outcome_of_call pool e s c) range (tables_of pool s.body sound))
 
 -- a fresh body is sound
 pub sound_fresh : (pool : Option ℕ) (tag : Tag) (place : Place) → IsSound pool (fresh tag place).body
@@ -235,11 +264,16 @@ sound_fresh pool tag place =
 
 -- arrivals
 
-pub verdict_accepts : (s : State) (m : Message) → verdict s m ≡ Verdicts.Accepted → ((is_request m && nat_le 16 (count_by is_request s.body.received)) ≡ false) × ((is_reply m && not (is_waited_for s.body.awaited m.about)) ≡ false)
+pub verdict_accepts : (s : State) (m : Message) → verdict s m ≡ Verdicts.Accepted →
+    ((is_request m && nat_le 16 (count_by is_request s.body.received)) ≡ false) × ((is_reply m && not (is_waited_for s.body.awaited m.about)) ≡ false)
 verdict_accepts s m h =
-    by_tests s.head.closed (not (is_resident s.head.place)) (not (matches s.body.tag m.tag)) (is_request m && is_none (entry_at s.body.handlers m.handler)) (is_request m && nat_le 16 (count_by is_request s.body.received)) (is_reply m && not (is_waited_for s.body.awaited m.about)) h
+    by_tests s.head.closed (not (is_resident s.head.place)) (not (matches s.body.tag m.tag)) (is_request m && is_none (entry_at s.body.handlers m.handler))
+    (is_request m && nat_le 16 (count_by is_request s.body.received)) (is_reply m && not (is_waited_for s.body.awaited m.about)) h
   where
-    by_tests : (a b c d f g : Bool) → verdict_of (first_holding ((a, Causes.NoEndpoint) ∷ (b, Causes.NotResident) ∷ (c, Causes.BadTag) ∷ (d, Causes.BadHandler) ∷ (f, Causes.QueueFull) ∷ (g, Causes.NoRequest) ∷ [])) ≡ Verdicts.Accepted → (f ≡ false) × (g ≡ false)
+    by_tests : (a b c d f g : Bool) → verdict_of (first_holding ((a, Causes.NoEndpoint) ∷ (b, Causes.NotResident) ∷ (c, Causes.BadTag) ∷ (
+      d,
+      Causes.BadHandler,
+    ) ∷ (f, Causes.QueueFull) ∷ (g, Causes.NoRequest) ∷ [])) ≡ Verdicts.Accepted → (f ≡ false) × (g ≡ false)
     by_tests true b c d f g h = absurd (cc)
     by_tests false true c d f g h = absurd (cc)
     by_tests false false true d f g h = absurd (cc)
@@ -249,11 +283,17 @@ verdict_accepts s m h =
     by_tests false false false false false false h = (refl, refl)
 
 -- marking a request that is answered changes no message
-marked_counts : (p : Message → Bool) (about : Option Serial) (fs : List Flying) → count_by (λ (f : Flying). p f.message) (with_marked about fs) ≡ count_by (λ (f : Flying). p f.message) fs
+marked_counts : (p : Message → Bool) (about : Option Serial) (fs : List Flying) →
+    count_by (λ (f : Flying). p f.message) (with_marked about fs) ≡ count_by (λ (f : Flying). p f.message) fs
 marked_counts p None fs = refl
 marked_counts p (Some r) [] = refl
 marked_counts p (Some r) (f ∷ fs) =
-    omega (arith, marked_counts p (Some r) fs, sum_by-cons (λ (g : Flying). cond (p g.message) 1 0) f fs, sum_by-cons (λ (g : Flying). cond (p g.message) 1 0) (marked r f) (with_marked (Some r) fs))
+    omega (
+      arith,
+      marked_counts p (Some r) fs,
+      sum_by-cons (λ (g : Flying). cond (p g.message) 1 0) f fs,
+      sum_by-cons (λ (g : Flying). cond (p g.message) 1 0) (marked r f) (with_marked (Some r) fs),
+    )
 
 marked_formed : (about : Option Serial) (fs : List Flying) → list_all is_flight_formed fs ≡ true → list_all is_flight_formed (with_marked about fs) ≡ true
 marked_formed None fs all = all
@@ -263,7 +303,13 @@ marked_formed (Some r) fs all = list_all-map is_flight_formed (marked r) fs ∙ 
 arrived_le : (r : Serial) (xs : List Awaited) → count_by is_arrived xs ≤ count_by is_arrived (map (arrived r) xs)
 arrived_le r [] = omega arith
 arrived_le r (a ∷ xs) =
-    omega (arith, arrived_le r xs, sum_by-cons (λ (y : Awaited). cond y.arrived 1 0) a xs, sum_by-cons (λ (y : Awaited). cond y.arrived 1 0) (arrived r a) (map (arrived r) xs), one a.arrived (same_serial r a.serial))
+    omega (
+      arith,
+      arrived_le r xs,
+      sum_by-cons (λ (y : Awaited). cond y.arrived 1 0) a xs,
+      sum_by-cons (λ (y : Awaited). cond y.arrived 1 0) (arrived r a) (map (arrived r) xs),
+      one a.arrived (same_serial r a.serial),
+    )
   where
     one : (b c : Bool) → bit b ≤ bit (b || c)
     one true c = omega arith
@@ -275,11 +321,28 @@ arrived_more : (r : Serial) (xs : List Awaited) → list_any (waits_for r) xs �
 arrived_more r [] h = absurd (cc)
 arrived_more r (a ∷ xs) h = by_test r a xs a.arrived (same_serial r a.serial) refl refl h (arrived_more r xs)
   where
-    by_test : (r : Serial) (a : Awaited) (xs : List Awaited) (b c : Bool) → a.arrived ≡ b → same_serial r a.serial ≡ c → ((c && not b) || list_any (waits_for r) xs) ≡ true → (list_any (waits_for r) xs ≡ true → count_by is_arrived xs + 1 ≤ count_by is_arrived (map (arrived r) xs)) → count_by is_arrived (a ∷ xs) + 1 ≤ count_by is_arrived (arrived r a ∷ map (arrived r) xs)
+    by_test : (r : Serial) (a : Awaited) (xs : List Awaited) (b c : Bool) → a.arrived ≡ b → same_serial r a.serial ≡ c →
+        ((c && not b) || list_any (waits_for r) xs) ≡ true → (list_any (waits_for r) xs ≡ true →
+        count_by is_arrived xs + 1 ≤ count_by is_arrived (map (arrived r) xs)) →
+        count_by is_arrived (a ∷ xs) + 1 ≤ count_by is_arrived (arrived r a ∷ map (arrived r) xs)
     by_test r a xs false true is same h more =
-        omega (arith, arrived_le r xs, sum_by-cons (λ (y : Awaited). cond y.arrived 1 0) a xs, sum_by-cons (λ (y : Awaited). cond y.arrived 1 0) (arrived r a) (map (arrived r) xs), ap bit is, ap (λ b. bit (b || same_serial r a.serial)) is ∙ ap bit same)
+        omega (
+          arith,
+          arrived_le r xs,
+          sum_by-cons (λ (y : Awaited). cond y.arrived 1 0) a xs,
+          sum_by-cons (λ (y : Awaited). cond y.arrived 1 0) (arrived r a) (map (arrived r) xs),
+          ap bit is,
+          ap (λ b. bit (b || same_serial r a.serial)) is
+              ∙ ap bit same,
+        )
     by_test r a xs b false is same h more =
-        omega (arith, more (rest b h), sum_by-cons (λ (y : Awaited). cond y.arrived 1 0) a xs, sum_by-cons (λ (y : Awaited). cond y.arrived 1 0) (arrived r a) (map (arrived r) xs), one a.arrived (same_serial r a.serial))
+        omega (
+          arith,
+          more (rest b h),
+          sum_by-cons (λ (y : Awaited). cond y.arrived 1 0) a xs,
+          sum_by-cons (λ (y : Awaited). cond y.arrived 1 0) (arrived r a) (map (arrived r) xs),
+          one a.arrived (same_serial r a.serial),
+        )
       where
         rest : (b : Bool) → ((false && not b) || list_any (waits_for r) xs) ≡ true → list_any (waits_for r) xs ≡ true
         rest b h = h
@@ -289,9 +352,17 @@ arrived_more r (a ∷ xs) h = by_test r a xs a.arrived (same_serial r a.serial) 
         one false true = omega arith
         one false false = omega arith
     by_test r a xs true true is same h more =
-        omega (arith, more h, sum_by-cons (λ (y : Awaited). cond y.arrived 1 0) a xs, sum_by-cons (λ (y : Awaited). cond y.arrived 1 0) (arrived r a) (map (arrived r) xs), ap bit is, ap (λ b. bit (b || same_serial r a.serial)) is)
+        omega (
+          arith,
+          more h,
+          sum_by-cons (λ (y : Awaited). cond y.arrived 1 0) a xs,
+          sum_by-cons (λ (y : Awaited). cond y.arrived 1 0) (arrived r a) (map (arrived r) xs),
+          ap bit is,
+          ap (λ b. bit (b || same_serial r a.serial)) is,
+        )
 
-arrived_about : (about : Option Serial) (xs : List Awaited) (b : Bool) → is_waited_for xs about ≡ b → count_by is_arrived xs + bit b ≤ count_by is_arrived (with_arrived about xs)
+arrived_about : (about : Option Serial) (xs : List Awaited) (b : Bool) → is_waited_for xs about ≡ b →
+    count_by is_arrived xs + bit b ≤ count_by is_arrived (with_arrived about xs)
 arrived_about None xs true h = absurd (cc)
 arrived_about None xs false h = omega arith
 arrived_about (Some r) xs true h = arrived_more r xs h
@@ -305,14 +376,27 @@ arrived_length (Some r) (a ∷ xs) = ap suc (arrived_length (Some r) xs)
 within_put : (m : Message) (s : State) → verdict s m ≡ Verdicts.Accepted → IsWithinBounds s.body → IsWithinBounds (put m s).body
 within_put m s accepts w = by_kind (is_request m) (is_waited_for s.body.awaited m.about) refl refl (verdict_accepts s m accepts)
   where
-    by_kind : (request awaited : Bool) → is_request m ≡ request → is_waited_for s.body.awaited m.about ≡ awaited → ((is_request m && nat_le 16 (count_by is_request s.body.received)) ≡ false) × ((is_reply m && not (is_waited_for s.body.awaited m.about)) ≡ false) → IsWithinBounds (put m s).body
+    by_kind : (request awaited : Bool) → is_request m ≡ request → is_waited_for s.body.awaited m.about ≡ awaited →
+        ((is_request m && nat_le 16 (count_by is_request s.body.received)) ≡ false) × ((is_reply m && not (is_waited_for s.body.awaited m.about)) ≡ false) →
+        IsWithinBounds (put m s).body
     by_kind true awaited is about h =
         record {
           requests = omega (arith, w.requests, marked_counts is_request m.about s.body.in_flight);
           replies = omega (arith, w.replies, marked_counts is_reply m.about s.body.in_flight);
           awaited = omega (arith, w.awaited, arrived_length m.about s.body.awaited);
-          received = omega (arith, sum_by_push (λ (n : Message). cond (is_request n) 1 0) s.body.received m, ap bit is, leb-false 16 (count_by is_request s.body.received) (sym (ap (λ b. b && nat_le 16 (count_by is_request s.body.received)) is) ∙ h.0));
-          answers = omega (arith, w.answers, sum_by_push (λ (n : Message). cond (is_reply n) 1 0) s.body.received m, ap (λ b. bit (if b then false else true)) is, arrived_about m.about s.body.awaited awaited about);
+          received = omega (
+            arith,
+            sum_by_push (λ (n : Message). cond (is_request n) 1 0) s.body.received m,
+            ap bit is,
+            leb-false 16 (count_by is_request s.body.received) (sym (ap (λ b. b && nat_le 16 (count_by is_request s.body.received)) is) ∙ h.0),
+          );
+          answers = omega (
+            arith,
+            w.answers,
+            sum_by_push (λ (n : Message). cond (is_reply n) 1 0) s.body.received m,
+            ap (λ b. bit (if b then false else true)) is,
+            arrived_about m.about s.body.awaited awaited about,
+          );
         }
     by_kind false true is about h =
         record {
@@ -320,16 +404,30 @@ within_put m s accepts w = by_kind (is_request m) (is_waited_for s.body.awaited 
           replies = omega (arith, w.replies, marked_counts is_reply m.about s.body.in_flight);
           awaited = omega (arith, w.awaited, arrived_length m.about s.body.awaited);
           received = omega (arith, w.received, sum_by_push (λ (n : Message). cond (is_request n) 1 0) s.body.received m, ap bit is);
-          answers = omega (arith, w.answers, sum_by_push (λ (n : Message). cond (is_reply n) 1 0) s.body.received m, ap (λ b. bit (if b then false else true)) is, arrived_about m.about s.body.awaited true about);
+          answers = omega (
+            arith,
+            w.answers,
+            sum_by_push (λ (n : Message). cond (is_reply n) 1 0) s.body.received m,
+            ap (λ b. bit (if b then false else true)) is,
+            arrived_about m.about s.body.awaited true about,
+          );
         }
-    by_kind false false is about h = absurd (true_not (sym (ap (λ b. (if b then false else true) && not (is_waited_for s.body.awaited m.about)) is ∙ ap not about) ∙ h.1))
+    by_kind false false is about h = absurd (true_not (sym (ap (λ b. (if b then false else true) && not (is_waited_for s.body.awaited m.about)) is
+        ∙ ap not about) ∙ h.1))
       where
         true_not : true ≡ false → ⊥
         true_not e = cc
 
 sound_put : (pool : Option ℕ) (m : Message) (s : State) → verdict s m ≡ Verdicts.Accepted → IsSound pool s.body → IsSound pool (put m s).body
 sound_put pool m s accepts sound =
-    sound_by pool (put m s).body (within_put m s accepts sound.within) (record { requests = sound.requests; replies = sound.replies }) (record { indexes = sound.indexes; credits = sound.credits; in_flight = marked_formed m.about s.body.in_flight sound.in_flight })
+    sound_by pool (put m s).body (within_put m s accepts sound.within) (record {
+      requests = sound.requests;
+      replies = sound.replies;
+    }) (record {
+      indexes = sound.indexes;
+      credits = sound.credits;
+      in_flight = marked_formed m.about s.body.in_flight sound.in_flight;
+    })
 
 -- the front message leaves
 
@@ -347,7 +445,8 @@ front_leaves b q is kept = by_lists b.replies b.requests is kept.replies kept.re
     no_request true h = absurd (cc)
     no_request false h = refl
 
-    by_lists : (replies requests : List Queued) → front_of replies requests ≡ Some q → list_all is_queued_answer replies ≡ true → list_all is_queued_request requests ≡ true → FrontLeaves (record b { replies = replies; requests = requests }) q
+    by_lists : (replies requests : List Queued) → front_of replies requests ≡ Some q → list_all is_queued_answer replies ≡ true →
+        list_all is_queued_request requests ≡ true → FrontLeaves (record b { replies = replies; requests = requests }) q
     by_lists (r ∷ replies) requests e answers asked =
         let same : r ≡ q = cc in
         let parts = and_parts (is_queued_answer r) (list_all is_queued_answer replies) answers in
@@ -372,9 +471,6 @@ front_leaves b q is kept = by_lists b.replies b.requests is kept.replies kept.re
         })
     by_lists [] [] e answers asked = absurd (cc)
 
-held_requests : (b : Body) → requests_held b ≡ length b.requests + (count_by (λ (f : Flying). is_request f.message) b.in_flight + count_by (λ (n : Notice). is_request n.message) b.notices)
-held_requests b = omega arith
-
 -- the front message is accepted elsewhere
 sound_gone : (pool : Option ℕ) (b : Body) (q : Queued) → front_of b.replies b.requests ≡ Some q → IsSound pool b → IsSound pool (without_front b)
 sound_gone pool b q is sound =
@@ -392,7 +488,8 @@ sound_gone pool b q is sound =
     (record { indexes = sound.indexes; credits = sound.credits; in_flight = sound.in_flight })
 
 -- the front message goes back to the tail of its queue
-sound_requeued : (pool : Option ℕ) (b : Body) (q : Queued) (n : ℕ) → front_of b.replies b.requests ≡ Some q → IsSound pool b → IsSound pool (queued q.message n (without_front b))
+sound_requeued : (pool : Option ℕ) (b : Body) (q : Queued) (n : ℕ) → front_of b.replies b.requests ≡ Some q → IsSound pool b →
+    IsSound pool (queued q.message n (without_front b))
 sound_requeued pool b q n is sound =
     let leaves = front_leaves b q is (queues_of pool b sound) in
     let w = sound.within in
@@ -408,7 +505,8 @@ sound_requeued pool b q n is sound =
     (record { indexes = sound.indexes; credits = sound.credits; in_flight = sound.in_flight })
 
 -- the front message comes back
-sound_returned : (pool : Option ℕ) (b : Body) (q : Queued) (n : ℕ) (why : Why) → front_of b.replies b.requests ≡ Some q → IsSound pool b → IsSound pool (noticed q.message n why (without_front b))
+sound_returned : (pool : Option ℕ) (b : Body) (q : Queued) (n : ℕ) (why : Why) → front_of b.replies b.requests ≡ Some q → IsSound pool b →
+    IsSound pool (noticed q.message n why (without_front b))
 sound_returned pool b q n why is sound =
     let leaves = front_leaves b q is (queues_of pool b sound) in
     let w = sound.within in
@@ -425,25 +523,32 @@ sound_returned pool b q n why is sound =
     (record { indexes = sound.indexes; credits = sound.credits; in_flight = sound.in_flight })
 
 -- the front message is carried
-sound_judged : (pool : Option ℕ) (e : EndpointId) (s : State) (q : Queued) (limit : ℕ) (v : Verdict) → front s ≡ Some q → (same_end e q.message.dest ≡ true → v ≡ verdict s q.message) → IsSound pool s.body → IsSound pool (reached e (left s (judged limit q.message q.bounces v)) (judged limit q.message q.bounces v)).body
+sound_judged : (pool : Option ℕ) (e : EndpointId) (s : State) (q : Queued) (limit : ℕ) (v : Verdict) → front s ≡ Some q →
+    (same_end e q.message.dest ≡ true → v ≡ verdict s q.message) → IsSound pool s.body →
+    IsSound pool (reached e (left s (judged limit q.message q.bounces v)) (judged limit q.message q.bounces v)).body
 sound_judged pool e s q limit Verdicts.Accepted is here sound = by_end (same_end e q.message.dest) refl
   where
-    by_end : (b : Bool) → same_end e q.message.dest ≡ b → IsSound pool (if b then put q.message (left s (Out.Accepted q.message)) else left s (Out.Accepted q.message)).body
+    by_end : (b : Bool) → same_end e q.message.dest ≡ b → IsSound pool (if b then put q.message (left s (Out.Accepted q.message)) else left s
+        (Out.Accepted q.message)).body
     by_end true same = sound_put pool q.message (left s (Out.Accepted q.message)) (sym (here same)) (sound_gone pool s.body q is sound)
     by_end false same = sound_gone pool s.body q is sound
 sound_judged pool e s q limit (Verdicts.Refused cause) is here sound = by_again (is_transient cause && nat_lt q.bounces limit)
   where
-    by_again : (b : Bool) → let o = if b then Out.Requeued q.message cause (q.bounces + 1) else Out.Returned q.message cause in IsSound pool (reached e (left s o) o).body
+    by_again : (b : Bool) → let o = if b then Out.Requeued q.message cause (q.bounces + 1) else Out.Returned q.message cause in
+        IsSound pool (reached e (left s o) o).body
     by_again true = sound_requeued pool s.body q (q.bounces + 1) is sound
     by_again false = sound_returned pool s.body q (bounces_of s.body.replies s.body.requests) (Whys.Refused cause) is sound
 
 -- a carry from here keeps the body sound
-pub sound_carried : (pool : Option ℕ) (limit : ℕ) (e : EndpointId) (s : State) (x : Entry) → MayCarry limit e s x → IsSound pool s.body → IsSound pool (after e s x).body
+pub sound_carried : (pool : Option ℕ) (limit : ℕ) (e : EndpointId) (s : State) (x : Entry) → MayCarry limit e s x → IsSound pool s.body →
+    IsSound pool (after e s x).body
 sound_carried pool limit e s x may sound =
     rw (may.event, may.outcome, same_end-refl e) (sound_judged pool e s may.queued limit may.verdict_there may.is_front may.here sound)
 
 -- what an arrival makes of a state
-arrival_sound : (pool : Option ℕ) (e : EndpointId) (s : State) (m : Message) (event : Event) (o : Outcome) → arrived_message event o ≡ Some m → arrival_verdict event o ≡ Some (verdict s m) → same_end e m.dest ≡ true → is_carry_from e event ≡ false → IsSound pool s.body → IsSound pool (changed e s event o).body
+arrival_sound : (pool : Option ℕ) (e : EndpointId) (s : State) (m : Message) (event : Event) (o : Outcome) → arrived_message event o ≡ Some m →
+    arrival_verdict event o ≡ Some (verdict s m) → same_end e m.dest ≡ true → is_carry_from e event ≡ false → IsSound pool s.body →
+    IsSound pool (changed e s event o).body
 arrival_sound pool e s m (Events.Carry from) (Out.Accepted n) is judged here other sound =
     let same : n ≡ m = cc in
     let accepts : verdict s m ≡ Verdicts.Accepted = cc in
@@ -455,7 +560,8 @@ arrival_sound pool e s m (Events.Receive node peer number) (Out.Received channel
     let same : n ≡ m = cc in
     let accepts : verdict s m ≡ Verdicts.Accepted = cc in
     sound_put pool n s (ap (verdict s) same ∙ accepts) sound
-arrival_sound pool e s m (Events.Receive node peer number) (Out.Received channel seq attempt (Got.Refused n Causes.NotResident answer)) is judged here other sound = sound
+arrival_sound pool e s m (Events.Receive node peer number) (Out.Received channel seq attempt (Got.Refused n Causes.NotResident answer)) is judged here other
+    sound = sound
 arrival_sound pool e s m (Events.Receive node peer number) (Out.Received channel seq attempt (Got.Refused n cause answer)) is judged here other sound = sound
 arrival_sound pool e s m event o is judged here other sound = absurd (cc)
 
@@ -484,17 +590,33 @@ sound_landed pool serial b sound =
     })
 
 -- what lands leaves a slot of its kind
-landed_counts : (p : Message → Bool) (serial : Serial) (fs : List Flying) (f : Flying) → flying_of serial fs ≡ Some f → count_by (λ (g : Flying). p g.message) (without_first (λ (g : Flying). has_serial serial g.message) fs) + bit (p f.message) ≡ count_by (λ (g : Flying). p g.message) fs
+landed_counts : (p : Message → Bool) (serial : Serial) (fs : List Flying) (f : Flying) → flying_of serial fs ≡ Some f →
+    count_by (λ (g : Flying). p g.message) (without_first (λ (g : Flying). has_serial serial g.message) fs) + bit (p f.message) ≡ count_by
+    (λ (g : Flying). p g.message) fs
 landed_counts p serial [] f e = absurd (cc)
 landed_counts p serial (g ∷ fs) f e = by_test p serial g fs f (has_serial serial g.message) e (landed_counts p serial fs f)
   where
-    by_test : (p : Message → Bool) (serial : Serial) (g : Flying) (fs : List Flying) (f : Flying) (b : Bool) → (if b then Some g else flying_of serial fs) ≡ Some f → (flying_of serial fs ≡ Some f → count_by (λ (h : Flying). p h.message) (without_first (λ (h : Flying). has_serial serial h.message) fs) + bit (p f.message) ≡ count_by (λ (h : Flying). p h.message) fs) → count_by (λ (h : Flying). p h.message) (if b then fs else g ∷ without_first (λ (h : Flying). has_serial serial h.message) fs) + bit (p f.message) ≡ count_by (λ (h : Flying). p h.message) (g ∷ fs)
-    by_test p serial g fs f true is more = let same : g ≡ f = cc in omega (arith, sum_by-cons (λ (h : Flying). cond (p h.message) 1 0) g fs, ap (λ (h : Flying). bit (p h.message)) same)
+    by_test : (p : Message → Bool) (serial : Serial) (g : Flying) (fs : List Flying) (f : Flying) (b : Bool) →
+        (if b then Some g else flying_of serial fs) ≡ Some f → (flying_of serial fs ≡ Some f →
+        count_by (λ (h : Flying). p h.message) (without_first (λ (h : Flying). has_serial serial h.message) fs) + bit (p f.message) ≡ count_by
+        (λ (h : Flying). p h.message) fs) → count_by (λ (h : Flying). p h.message) (if b then fs else g ∷ without_first
+        (λ (h : Flying). has_serial serial h.message) fs) + bit (p f.message) ≡ count_by (λ (h : Flying). p h.message) (g ∷ fs)
+    by_test p serial g fs f true is more = let same : g ≡ f = cc in omega (
+      arith,
+      sum_by-cons (λ (h : Flying). cond (p h.message) 1 0) g fs,
+      ap (λ (h : Flying). bit (p h.message)) same,
+    )
     by_test p serial g fs f false is more =
-        omega (arith, more is, sum_by-cons (λ (h : Flying). cond (p h.message) 1 0) g fs, sum_by-cons (λ (h : Flying). cond (p h.message) 1 0) g (without_first (λ (h : Flying). has_serial serial h.message) fs))
+        omega (
+          arith,
+          more is,
+          sum_by-cons (λ (h : Flying). cond (p h.message) 1 0) g fs,
+          sum_by-cons (λ (h : Flying). cond (p h.message) 1 0) g (without_first (λ (h : Flying). has_serial serial h.message) fs),
+        )
 
 -- a flight goes back to its queue
-sound_flight_requeued : (pool : Option ℕ) (serial : Serial) (n : ℕ) (b : Body) (flight : Option Flying) → flying_of serial b.in_flight ≡ flight → IsSound pool b → IsSound pool (requeued_flight flight n (without_flight serial b))
+sound_flight_requeued : (pool : Option ℕ) (serial : Serial) (n : ℕ) (b : Body) (flight : Option Flying) → flying_of serial b.in_flight ≡ flight →
+    IsSound pool b → IsSound pool (requeued_flight flight n (without_flight serial b))
 sound_flight_requeued pool serial n b None is sound = sound_landed pool serial b sound
 sound_flight_requeued pool serial n b (Some f) is sound =
     let w = sound.within in
@@ -507,11 +629,13 @@ sound_flight_requeued pool serial n b (Some f) is sound =
       received = w.received;
       answers = w.answers;
     })
-    (queues_queued f.message n (without_flight serial b) (all_found is_flight_formed (λ (g : Flying). has_serial serial g.message) b.in_flight f sound.in_flight is) (queues_of pool (without_flight serial b) lands))
+    (queues_queued f.message n (without_flight serial b) (all_found is_flight_formed (λ (g : Flying). has_serial serial g.message) b.in_flight f sound.in_flight
+    is) (queues_of pool (without_flight serial b) lands))
     (record { indexes = lands.indexes; credits = lands.credits; in_flight = lands.in_flight })
 
 -- a flight comes back
-sound_flight_returned : (pool : Option ℕ) (serial : Serial) (why : Why) (b : Body) (flight : Option Flying) → flying_of serial b.in_flight ≡ flight → IsSound pool b → IsSound pool (returned_flight serial flight why (without_flight serial b))
+sound_flight_returned : (pool : Option ℕ) (serial : Serial) (why : Why) (b : Body) (flight : Option Flying) → flying_of serial b.in_flight ≡ flight →
+    IsSound pool b → IsSound pool (returned_flight serial flight why (without_flight serial b))
 sound_flight_returned pool serial why b None is sound =
     let lands = sound_landed pool serial b sound in
     let w = lands.within in
@@ -532,8 +656,18 @@ sound_flight_returned pool serial why b (Some f) is sound =
     let back : Notice = record { message = f.message; bounces = f.bounces; why = why } in
     sound_by pool (returned_flight serial (Some f) why (without_flight serial b))
     (record {
-      requests = omega (arith, w.requests, landed_counts is_request serial b.in_flight f is, sum_by_push (λ (x : Notice). cond (is_request x.message) 1 0) b.notices back);
-      replies = omega (arith, w.replies, landed_counts is_reply serial b.in_flight f is, sum_by_push (λ (x : Notice). cond (is_reply x.message) 1 0) b.notices back);
+      requests = omega (
+        arith,
+        w.requests,
+        landed_counts is_request serial b.in_flight f is,
+        sum_by_push (λ (x : Notice). cond (is_request x.message) 1 0) b.notices back,
+      );
+      replies = omega (
+        arith,
+        w.replies,
+        landed_counts is_reply serial b.in_flight f is,
+        sum_by_push (λ (x : Notice). cond (is_reply x.message) 1 0) b.notices back,
+      );
       awaited = omega (arith, w.awaited, (count_le is_arrived (waits_for serial) b.awaited).2);
       received = w.received;
       answers = omega (arith, w.answers, waiting_kept serial b.awaited);
@@ -542,7 +676,8 @@ sound_flight_returned pool serial why b (Some f) is sound =
     (record { indexes = lands.indexes; credits = lands.credits; in_flight = lands.in_flight })
 
 -- an answer that counts keeps the body sound
-sound_settled : (pool : Option ℕ) (limit : ℕ) (e : EndpointId) (s : State) (m : Message) (bounces : ℕ) (v : Verdict) → IsSound pool s.body → IsSound pool (received e s (settle_by limit m bounces v)).body
+sound_settled : (pool : Option ℕ) (limit : ℕ) (e : EndpointId) (s : State) (m : Message) (bounces : ℕ) (v : Verdict) → IsSound pool s.body →
+    IsSound pool (received e s (settle_by limit m bounces v)).body
 sound_settled pool limit e s m bounces Verdicts.Accepted sound = sound_landed pool m.serial s.body sound
 sound_settled pool limit e s m bounces (Verdicts.Refused cause) sound = by_again (is_transient cause && nat_lt bounces limit)
   where
@@ -558,14 +693,17 @@ sound_given_up pool s f sound = by_test f.answered
     by_test false = sound_flight_returned pool f.message.serial Whys.Unknown s.body (flying_of f.message.serial s.body.in_flight) refl sound
 
 -- what ends a flight keeps the body sound
-pub flight_sound : (pool : Option ℕ) (limit : ℕ) (e : EndpointId) (s : State) (f : Flying) (event : Event) (o : Outcome) → EndsFlight limit f event o → IsSound pool s.body → IsSound pool (changed e s event o).body
+pub flight_sound : (pool : Option ℕ) (limit : ℕ) (e : EndpointId) (s : State) (f : Flying) (event : Event) (o : Outcome) → EndsFlight limit f event o →
+    IsSound pool s.body → IsSound pool (changed e s event o).body
 flight_sound pool limit e s f (Events.Receive node peer number) (Out.Received channel seq attempt result) ends sound =
     subst (λ (r : Received). IsSound pool (received e s r).body) (sym ends.1) (sound_settled pool limit e s f.message f.bounces ends.0 sound)
-flight_sound pool limit e s f (Events.Expire node peer channel) o ends sound = subst (λ (w : Outcome). IsSound pool (expired s w).body) (sym ends) (sound_given_up pool s f sound)
+flight_sound pool limit e s f (Events.Expire node peer channel) o ends sound =
+    subst (λ (w : Outcome). IsSound pool (expired s w).body) (sym ends) (sound_given_up pool s f sound)
 flight_sound pool limit e s f event o ends sound = absurd ends
 
 -- the front message is bound to a channel
-pub sound_bound : (pool : Option ℕ) (s : State) (q : Queued) (peer : NodeId) (channel seq attempt number : ℕ) → front s ≡ Some q → IsSound pool s.body → IsSound pool (bound s (Out.Sent q.message peer channel seq attempt number)).body
+pub sound_bound : (pool : Option ℕ) (s : State) (q : Queued) (peer : NodeId) (channel seq attempt number : ℕ) → front s ≡ Some q → IsSound pool s.body →
+    IsSound pool (bound s (Out.Sent q.message peer channel seq attempt number)).body
 sound_bound pool s q peer channel seq attempt number is sound =
     let b = s.body in
     let leaves = front_leaves b q is (queues_of pool b sound) in

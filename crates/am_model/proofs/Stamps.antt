@@ -56,7 +56,8 @@ taken_below t past (Events.Receive node peer number) h = by_packet (slice_get (e
     by_packet (Some p) at = lt-ltb (stamp_of p) t (packet_below t past p h (was_emitted peer node past (number - 1) p at).0)
 taken_below t past event h = refl
 
-above_shared : (x : Entry) (ys : List Entry) → AllAre (λ (y : Entry). y.stamp < x.stamp) ys → list_all (λ (y : Entry). not (share_part x y) || nat_lt y.stamp x.stamp) ys ≡ true
+above_shared : (x : Entry) (ys : List Entry) → AllAre (λ (y : Entry). y.stamp < x.stamp) ys →
+    list_all (λ (y : Entry). not (share_part x y) || nat_lt y.stamp x.stamp) ys ≡ true
 above_shared x [] h = refl
 above_shared x (y ∷ ys) h = λ i. one (share_part x y) i && above_shared x ys h.1 i
   where

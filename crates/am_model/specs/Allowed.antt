@@ -2,13 +2,10 @@
 use Rattle.std.specs.Prelude.{◌≡◌, ℕ, Bool, true, false, ◌==◌, ◌&&◌, not, Option, Some, None, is_none, is_some, length, ◌⊎◌}
 use Rattle.am_names.specs.declared.EndpointId.{EndpointId}
 use Rattle.am_names.specs.declared.NodeId.{NodeId}
-use Rattle.am_names.specs.declared.Words.{Words}
-use Rattle.am_names.specs.declared.MsgKind.{MsgKind}
-use Rattle.am_names.specs.declared.MsgKind.TheVariants as Kind
 use Rattle.am_names.specs.declared.Verdict.{Verdict}
 use Rattle.am_names.specs.declared.Verdict.TheVariants as Verdicts
 use Rattle.am_names.specs.declared.Message.{Message}
-use Rattle.am_names.specs.Names.{same_end}
+use Rattle.am_names.specs.Names.{is_well_formed, same_end}
 use Rattle.am_office.specs.declared.Call.{Call}
 use Rattle.am_office.specs.declared.Call.TheVariants as Calls
 use Rattle.am_office.specs.declared.Event.{Event}
@@ -25,20 +22,6 @@ use Rattle.am_model.specs.Endpoint.{State, front, is_direct, is_in_a_frame, is_o
 use Rattle.am_model.specs.Changes.{flying_of}
 use Rattle.am_model.specs.Tables.{tries_ended}
 use Rattle.am_model.specs.History.{are_credits_in_range, is_kind_in_range, judged, settle_by}
-
-abbrev pub are_zero : Words → Bool
-are_zero w = (w.a == 0) && (w.b == 0) && (w.c == 0) && (w.d == 0)
-
--- a request names no request; a reply or an empty reply names one and has no reply tag;
--- an empty reply has handler 0 and words 0
-abbrev pub is_formed_as : MsgKind → Message → Bool
-is_formed_as Kind.Request m = is_none m.about
-is_formed_as Kind.Reply m = is_some m.about && (m.reply_tag.0 == 0)
-is_formed_as Kind.Empty m = is_some m.about && (m.reply_tag.0 == 0) && (m.handler == 0) && are_zero m.words
-
--- whether the message has the form of its kind
-abbrev pub is_well_formed : Message → Bool
-is_well_formed m = is_formed_as m.kind m
 
 -- whether the credits of a map and the numbers of a handler's kind are in range
 abbrev pub are_numbers_in_range : Option ℕ → Call → Bool

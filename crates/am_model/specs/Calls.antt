@@ -1,5 +1,6 @@
 -- What comes of an application's call.
-use Rattle.std.specs.Prelude.{ℕ, ◌+◌, ◌-◌, ◌%◌, ◌^◌, Bool, true, false, ◌==◌, ◌&&◌, not, nat_le, Option, Some, None, is_none, is_some, List, [], ◌∷◌, length, count_by, sum_by, find, nat_lt, if◌then◌else◌}
+use Rattle.std.specs.Prelude.{ℕ, ◌+◌, ◌-◌, ◌%◌, ◌^◌, Bool, true, false, ◌==◌, ◌&&◌, not, nat_le, Option, Some, None, is_none, is_some, List, [], ◌∷◌, length}
+use Rattle.std.specs.Prelude.{count_by, sum_by, find, nat_lt, if◌then◌else◌}
 use Rattle.std.specs.List.{list_any}
 use Rattle.am_names.specs.declared.EndpointId.{EndpointId}
 use Rattle.am_names.specs.declared.Serial.{Serial}

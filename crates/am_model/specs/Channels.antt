@@ -1,5 +1,6 @@
 -- The ends of a channel and the packets of a link, by counting entries.
-use Rattle.std.specs.Prelude.{ℕ, Bool, true, false, ◌==◌, ◌&&◌, ◌||◌, nat_lt, Option, Some, None, List, reverse, find, filter, filter_map, count_by, if◌then◌else◌}
+use Rattle.std.specs.Prelude.{ℕ, Bool, true, false, ◌==◌, ◌&&◌, ◌||◌, nat_lt, Option, Some, None, List, reverse, find, filter, filter_map, count_by}
+use Rattle.std.specs.Prelude.{if◌then◌else◌}
 use Rattle.am_names.specs.declared.NodeId.{NodeId}
 use Rattle.am_names.specs.declared.Cause.TheVariants.{NoRequest}
 use Rattle.am_names.specs.declared.Verdict.{Verdict}

@@ -1,5 +1,6 @@
 -- The state of an endpoint, and its verdict on a message.
-use Rattle.std.specs.Prelude.{ℕ, ◌+◌, ◌≤◌, Bool, true, false, ◌&&◌, not, nat_le, Option, Some, None, is_none, List, [], ◌∷◌, length, replicate, slice_index_or, count_by}
+use Rattle.std.specs.Prelude.{ℕ, ◌+◌, ◌≤◌, Bool, true, false, ◌&&◌, not, nat_le, Option, Some, None, is_none, List, [], ◌∷◌, length, replicate, slice_index_or}
+use Rattle.std.specs.Prelude.{count_by}
 use Rattle.std.specs.List.{list_any}
 use Rattle.am_names.specs.Rules.{matches}
 use Rattle.am_names.specs.declared.Tag.{Tag}

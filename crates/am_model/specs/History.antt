@@ -1,5 +1,6 @@
 -- What a machine may do next, and its histories.
-use Rattle.std.specs.Prelude.{◌≡◌, ℕ, zero, suc, ◌+◌, ◌-◌, ◌^◌, Bool, true, false, ◌==◌, ◌&&◌, ◌||◌, not, nat_le, nat_lt, Option, Some, None, is_some, List, [], ◌∷◌, ◌++◌, length, filter, count_by, slice_get, if◌then◌else◌}
+use Rattle.std.specs.Prelude.{◌≡◌, ℕ, zero, suc, ◌+◌, ◌-◌, ◌^◌, Bool, true, false, ◌==◌, ◌&&◌, ◌||◌, not, nat_le, nat_lt, Option, Some, None, is_some, List, []}
+use Rattle.std.specs.Prelude.{◌∷◌, ◌++◌, length, filter, count_by, slice_get, if◌then◌else◌}
 use Rattle.std.specs.List.{list_any, list_all}
 use Rattle.am_names.specs.declared.EndpointId.{EndpointId}
 use Rattle.am_names.specs.declared.NodeId.{NodeId}
@@ -37,7 +38,8 @@ use Rattle.am_model.specs.Changes.{replay, flying_of}
 use Rattle.am_office.specs.Entries.{touches, share_part}
 use Rattle.am_model.specs.Layout.{Layout, EndSetting, Fault, declared, home, opening}
 use Rattle.am_model.specs.Packets.{stamp_of}
-use Rattle.am_model.specs.Tables.{bind_table, call_table, carry_table, drain_table, expire_table, load_table, may_bounce, may_try, page_in_table, page_out_table, page_ended, tries_ended, unload_table, want_table}
+use Rattle.am_model.specs.Tables.{bind_table, call_table, carry_table, drain_table, expire_table, load_table, may_bounce, may_try, page_in_table}
+use Rattle.am_model.specs.Tables.{page_out_table, page_ended, tries_ended, unload_table, want_table}
 use Rattle.am_model.specs.Channels.{Channel, Arrival, Stale, Again, Fresh, sequence, bound_message, attempt, mark, arrival, emitted}
 
 -- the state of an endpoint after these entries

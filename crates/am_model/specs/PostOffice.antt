@@ -1,5 +1,6 @@
 -- The laws of the post office, which speak of positions in a journal.
-use Rattle.std.specs.Prelude.{◌≡◌, ℕ, zero, suc, ◌+◌, ◌-◌, ◌≤◌, ◌==◌, Bool, true, false, ◌&&◌, ◌||◌, not, Option, Some, None, MatchOption, unwrap_or, List, [], ◌∷◌, ◌++◌, count_by, filter_map, slice_get, if◌then◌else◌}
+use Rattle.std.specs.Prelude.{◌≡◌, ℕ, zero, suc, ◌+◌, ◌-◌, ◌≤◌, ◌==◌, Bool, true, false, ◌&&◌, ◌||◌, not, Option, Some, None, MatchOption, unwrap_or, List, []}
+use Rattle.std.specs.Prelude.{◌∷◌, ◌++◌, count_by, filter_map, slice_get, if◌then◌else◌}
 use Rattle.std.specs.List.{list_any}
 use Rattle.am_names.specs.declared.EndpointId.{EndpointId}
 use Rattle.am_names.specs.declared.Serial.{Serial}
@@ -25,7 +26,8 @@ use Rattle.am_model.specs.Layout.{Layout, home, opening}
 use Rattle.am_model.specs.Calls.{share_of}
 use Rattle.am_model.specs.History.{EachAfter}
 use Rattle.am_names.specs.Names.{same_end, has_serial, is_request, is_reply}
-use Rattle.am_office.specs.Entries.{passes, is_serial, touches, accepted_of, put_of, run_of, returned_of, unknown_of, return_of, requeue_of, refusal_of, zero_of, given_up_of}
+use Rattle.am_office.specs.Entries.{passes, is_serial, touches, accepted_of, put_of, run_of, returned_of, unknown_of, return_of, requeue_of, refusal_of}
+use Rattle.am_office.specs.Entries.{zero_of, given_up_of}
 
 -- how many entries have, in this role, a message that passes
 abbrev pub times : (Entry → Option Message) → (Message → Bool) → List Entry → ℕ

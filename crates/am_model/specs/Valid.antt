@@ -4,7 +4,7 @@ use Rattle.std.specs.List.{list_all}
 use Rattle.am_names.specs.declared.EndpointId.{EndpointId}
 use Rattle.am_names.specs.declared.Serial.{Serial}
 use Rattle.am_names.specs.declared.Message.{Message}
-use Rattle.am_names.specs.Names.{same_end, same_serial, is_request, is_reply}
+use Rattle.am_names.specs.Names.{same_end, same_serial, is_request, is_reply, is_well_formed}
 use Rattle.am_office.specs.declared.HandlerKind.{HandlerKind}
 use Rattle.am_office.specs.Entries.{is_serial}
 use Rattle.am_model.specs.declared.Awaited.{Awaited}
@@ -15,7 +15,6 @@ use Rattle.am_model.specs.declared.Queued.{Queued}
 use Rattle.am_model.specs.Endpoint.{Body, entry_at, is_arrived}
 use Rattle.am_model.specs.Calls.{excess, shares}
 use Rattle.am_model.specs.History.{are_credits_in_range, is_kind_in_range}
-use Rattle.am_model.specs.Allowed.{is_well_formed}
 
 -- whether the credits of an index are in range, where it is mapped
 abbrev pub is_mapping_in_range : Option ℕ → Option Mapping → Bool

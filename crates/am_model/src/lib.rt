@@ -15,9 +15,11 @@ use am_office::{Condition, Fate, Part, Place};
 
 mod limits;
 mod places;
+mod ranges;
 
 pub use limits::{judged, may_bounce};
 pub use places::{is_in_a_frame, is_in_frame, is_on_disk, is_on_host, is_resident};
+pub use ranges::{are_credits_in_range, is_kind_in_range, sum_of_shares};
 
 /// Where the requests of an index go, under which tag, and how many may be out: its credits, or
 /// its least share where the endpoint has a pool.

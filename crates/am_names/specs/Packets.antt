@@ -3,6 +3,7 @@ use Rattle.std.specs.Prelude.{ℕ}
 use Rattle.am_names.specs.declared.NodeId.{NodeId}
 use Rattle.am_names.specs.declared.Packet.{Packet}
 use Rattle.am_names.specs.declared.Packet.TheVariants as Packets
+use Rattle.am_names.specs.declared.Way.{Way}
 
 -- the node that it comes from
 abbrev pub from_of : Packet → NodeId
@@ -18,6 +19,10 @@ receiver_of (Packets.Answer p) = p.to
 abbrev pub number_of : Packet → ℕ
 number_of (Packets.Parcel p) = p.number
 number_of (Packets.Answer p) = p.number
+
+-- its link, and its number there
+abbrev pub way_of : Packet → Way
+way_of p = record { from = from_of p; to = receiver_of p; number = number_of p }
 
 -- the stamp of the entry that emitted it
 abbrev pub stamp_of : Packet → ℕ

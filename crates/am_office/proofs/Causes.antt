@@ -4,7 +4,6 @@ use Rattle.std.specs.List.{cons_option}
 use Rattle.std.specs.List.{slice_get}
 use Rattle.am_names.specs.declared.Serial.{Serial}
 use Rattle.am_names.specs.declared.Cause.{Cause}
-use Rattle.am_names.specs.Names.{same_serial}
 use Rattle.am_office.specs.declared.Event.{Event}
 use Rattle.am_office.specs.declared.Event.TheVariants as Events
 use Rattle.am_office.specs.declared.Outcome.{Outcome}
@@ -12,12 +11,7 @@ use Rattle.am_office.specs.declared.Outcome.TheVariants as Out
 use Rattle.am_office.specs.declared.Received.{Received}
 use Rattle.am_office.specs.declared.Received.TheVariants as Got
 use Rattle.am_office.specs.Entries.{return_in, return_by}
-use Rattle.am_office.specs.Fates.{cause_of, cause_by, cause_if, fate_by}
-
--- the cause, if the serial that was returned is this one
-abbrev pub cause_for : Serial → Option (Serial × Cause) → Option Cause
-cause_for s None = None
-cause_for s (Some returned) = cause_if (same_serial s returned.0) returned.1
+use Rattle.am_office.specs.Fates.{cause_of, cause_by, cause_for, fate_by}
 
 cause_by_return : (s : Serial) (r : Received) → cause_by s r ≡ cause_for s (return_by r)
 cause_by_return s (Got.Returned serial cause) = refl
@@ -41,7 +35,8 @@ none_behind None ys e = e
 none_behind (Some y) ys e = absurd cc
 
 -- nothing was found, and the next item gives nothing
-pub none_so_far : {X Y : Type 0} (h : X → Option Y) (xs : List X) (i : ℕ) (d : X) → i < length xs → filter_map h (take i xs) ≡ [] → h (get_or xs i d) ≡ None → filter_map h (take (suc i) xs) ≡ []
+pub none_so_far : {X Y : Type 0} (h : X → Option Y) (xs : List X) (i : ℕ) (d : X) → i < length xs → filter_map h (take i xs) ≡ [] → h (get_or xs i d) ≡ None →
+    filter_map h (take (suc i) xs) ≡ []
 none_so_far h [] i d below before here = absurd (omega arith)
 none_so_far h (x ∷ xs) zero d below before here = rw here refl
 none_so_far h (x ∷ xs) (suc i) d below before here =
@@ -49,7 +44,8 @@ none_so_far h (x ∷ xs) (suc i) d below before here =
     rw first (none_so_far h xs i d (omega arith) (none_behind _ _ before) here)
 
 -- nothing was found, and the next item gives the first
-pub first_found : {X Y : Type 0} (h : X → Option Y) (xs : List X) (i : ℕ) (d : X) (y : Y) → i < length xs → filter_map h (take i xs) ≡ [] → h (get_or xs i d) ≡ Some y → slice_get (filter_map h xs) 0 ≡ Some y
+pub first_found : {X Y : Type 0} (h : X → Option Y) (xs : List X) (i : ℕ) (d : X) (y : Y) → i < length xs → filter_map h (take i xs) ≡ [] →
+    h (get_or xs i d) ≡ Some y → slice_get (filter_map h xs) 0 ≡ Some y
 first_found h [] i d y below before here = absurd (omega arith)
 first_found h (x ∷ xs) zero d y below before here = rw here refl
 first_found h (x ∷ xs) (suc i) d y below before here =

@@ -138,6 +138,17 @@ given_up_in event outcome = None
 abbrev pub given_up_of : Entry → Option Serial
 given_up_of x = given_up_in x.event x.outcome
 
+-- the message that a receipt puts, refuses, judges again, settles, puts back or returns
+abbrev pub received_about : Received → Option Serial
+received_about (Got.Accepted m answer) = Some m.serial
+received_about (Got.Refused m cause answer) = Some m.serial
+received_about (Got.Again serial verdict answer) = Some serial
+received_about Got.Stale = None
+received_about (Got.Delivered serial) = Some serial
+received_about (Got.Requeued serial cause used) = Some serial
+received_about (Got.Returned serial cause) = Some serial
+received_about Got.Nothing = None
+
 -- the endpoint that a carry reaches
 abbrev pub reached_by : Outcome → List EndpointId
 reached_by (Out.Accepted m) = m.dest ∷ []

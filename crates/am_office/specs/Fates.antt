@@ -23,6 +23,11 @@ abbrev pub cause_by : Serial → Received → Option Cause
 cause_by s (Got.Returned serial cause) = cause_if (same_serial s serial) cause
 cause_by s result = None
 
+-- the cause of a return, if it is of this serial
+abbrev pub cause_for : Serial → Option (Serial × Cause) → Option Cause
+cause_for s None = None
+cause_for s (Some returned) = cause_if (same_serial s returned.0) returned.1
+
 -- the cause for which an entry returns the serial
 abbrev pub cause_of : Serial → Event → Outcome → Option Cause
 cause_of s (Events.Carry end) (Out.Returned m cause) = cause_if (same_serial s m.serial) cause

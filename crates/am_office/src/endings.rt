@@ -1,3 +1,8 @@
+//! What may become of a message.
+
+ghost use Rattle.am_office.specs.Fates.{fate_by};
+ghost use Rattle.std.specs.Prelude.{◌≡◌, option_to_list};
+
 use am_names::Cause;
 
 /// What became of an accepted message.
@@ -13,4 +18,20 @@ pub enum Fate {
     UnknownButRan,
     /// None of these.
     Pending,
+}
+
+impl Fate {
+    /// The fate of an accepted message by what is known of it: the cause of its first return, whether its tries were used
+    /// up without an answer, and whether a poll ran it.
+    pub fn of(cause: Option<Cause>, unknown: bool, ran: bool) -> Fate
+        ensures { result ≡ fate_by (option_to_list cause) unknown ran }
+    {
+        match (cause, unknown, ran) {
+            (Some(cause), _, _) => Fate::Returned(cause),
+            (None, true, true) => Fate::UnknownButRan,
+            (None, true, false) => Fate::Unknown,
+            (None, false, true) => Fate::Ran,
+            (None, false, false) => Fate::Pending,
+        }
+    }
 }

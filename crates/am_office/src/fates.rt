@@ -1,6 +1,6 @@
 //! What became of a message.
 
-ghost use Rattle.std.specs.Prelude.{◌≡◌, ◌↔◌, false, None, option_to_list, slice_get};
+ghost use Rattle.std.specs.Prelude.{◌≡◌, ◌↔◌, false, None, slice_get};
 ghost use Rattle.am_names.specs.Names.{has_serial};
 ghost use Rattle.am_office.specs.Entries as does;
 ghost use Rattle.am_office.specs.Entries.{passes, is_serial};
@@ -59,19 +59,6 @@ fn first_cause(entries: &[Entry], serial: Serial) -> Option<Cause>
     None
 }
 
-// What became of an accepted message, by what its entries were.
-fn fate_by(cause: Option<Cause>, unknown: bool, ran: bool) -> Fate
-    ensures { result ≡ fates.fate_by (option_to_list cause) unknown ran }
-{
-    match (cause, unknown, ran) {
-        (Some(cause), _, _) => Fate::Returned(cause),
-        (None, true, true) => Fate::UnknownButRan,
-        (None, true, false) => Fate::Unknown,
-        (None, false, true) => Fate::Ran,
-        (None, false, false) => Fate::Pending,
-    }
-}
-
 fn is_accepted(entries: &[Entry], serial: Serial) -> bool
     ensures { result ≡ fates.is_accepted entries.now serial }
 {
@@ -106,5 +93,5 @@ pub fn fate(journal: &Journal, serial: Serial) -> Option<Fate>
     let cause = first_cause(entries, serial);
     let unknown = is_unknown(entries, serial);
     let ran = is_run(entries, serial);
-    Some(fate_by(cause, unknown, ran))
+    Some(Fate::of(cause, unknown, ran))
 }

@@ -12,7 +12,7 @@ use am_names::{Cause, EndpointId, Message, NodeId, Serial, Tag, Verdict, Why, Wo
 pub use endings::Fate;
 pub use fates::fate;
 pub use growing::growth;
-pub use roles::{accepted_of, return_of, run_of, unknown_of};
+pub use roles::{accepted_of, given_up_of, return_of, run_of, unknown_of};
 use std::marker::Model;
 pub use touched::node_touched;
 
@@ -251,6 +251,27 @@ pub enum Received {
     },
     /// An answer that counts for nothing.
     Nothing,
+}
+
+impl Received {
+    ghost use Rattle.std.specs.Prelude.{◌≡◌};
+    ghost use Rattle.am_office.specs.Entries.{received_about};
+
+    /// The message that it is about: the one that was put, refused, judged again, settled, queued again or returned.
+    pub fn about(self) -> Option<Serial>
+        ensures { result ≡ received_about self }
+    {
+        match self {
+            Received::Accepted { message, .. } | Received::Refused { message, .. } => {
+                Some(message.serial)
+            }
+            Received::Again { serial, .. }
+            | Received::Delivered(serial)
+            | Received::Requeued { serial, .. }
+            | Received::Returned { serial, .. } => Some(serial),
+            Received::Stale | Received::Nothing => None,
+        }
+    }
 }
 
 /// What came of an event. It carries the whole message where one is accepted, put, refused, sent or run, and how often

@@ -77,3 +77,19 @@ pub fn return_of(entry: &Entry) -> Option<(Serial, Cause)>
         _ => None,
     }
 }
+
+/// The serial whose waiting record an entry drops.
+pub fn given_up_of(entry: &Entry) -> Option<Serial>
+    ensures { result ≡ does.given_up_of entry.now }
+{
+    match (entry.event, entry.outcome) {
+        (
+            Event::Call {
+                call: Call::GiveUp(serial),
+                ..
+            },
+            Outcome::Done,
+        ) => Some(serial),
+        _ => None,
+    }
+}

@@ -13,7 +13,8 @@ same : (e x : EndpointId) → same_end e x ≡ true → x ≡ e
 same e x h = let n : e.0 ≡ x.0 = eqb-true e.0 x.0 h in λ i. record { 0 = sym n i }
 
 pub stands_there : (e : EndpointId) (ids : List EndpointId) (k : ℕ) → position (same_end e) ids ≡ Some k → slice_get ids k ≡ Some e
-stands_there e ids k is = let t = position-Some (same_end e) ids k e is in slice_get-get_or ids k e t.0 ∙ ap (λ (z : EndpointId). Some z) (same e (get_or ids k e) t.1)
+stands_there e ids k is = let t = position-Some (same_end e) ids k e is in slice_get-get_or ids k e t.0
+    ∙ ap (λ (z : EndpointId). Some z) (same e (get_or ids k e) t.1)
 
 past_all : (e : EndpointId) (ids : List EndpointId) → position (same_end e) ids ≡ None → length ids ≤ position_or_len (same_end e) ids
 past_all e ids none_is = grind (arith, common_steps)

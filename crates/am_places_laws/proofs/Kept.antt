@@ -10,10 +10,12 @@ use Rattle.am_places_laws.specs.Own.{EntersSeeTheirOwn, GathersSeeTheirOwn, Leav
 abbrev Own : {I : Type 0} → ℕ → Known I → Type 0
 Own m x = of m x.seen ≡ of m x.made
 
-both_own : {I : Type 0} (m k : ℕ) (xs ys : List (Known I)) → Own m (get_or xs k nothing) → of m (get_or ys k nothing).made ≡ [] → Own m (get_or (both_known xs ys) k nothing)
+both_own : {I : Type 0} (m k : ℕ) (xs ys : List (Known I)) → Own m (get_or xs k nothing) →
+    of m (get_or ys k nothing).made ≡ [] → Own m (get_or (both_known xs ys) k nothing)
 both_own {I} m k [] ys h none = refl
 both_own {I} m k (x ∷ xs) [] h none = h
-both_own {I} m zero (x ∷ xs) (y ∷ ys) h none = h ∙ sym (of-append m x.made y.made ∙ ap (λ (l : List (List I)). of m x.made ++ l) none ∙ append-nil (of m x.made))
+both_own {I} m zero (x ∷ xs) (y ∷ ys) h none = h ∙ sym (of-append m x.made y.made ∙ ap (λ (l : List (List I)). of m x.made ++ l) none
+    ∙ append-nil (of m x.made))
 both_own {I} m (suc k) (x ∷ xs) (y ∷ ys) h none = both_own m k xs ys h none
 
 module _ {B I T : Type 0} (items : B → List I) (birth : B → T) (stands : B → ℕ) (moves : I → Bool) where

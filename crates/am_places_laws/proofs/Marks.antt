@@ -34,7 +34,8 @@ module _ {B I T : Type 0} (items : B → List I) (birth : B → T) (stands : B �
       (λ (yes : has m u.keeps ≡ true). absurd (let most = t.kept.fresh p x m v u at makes here yes in omega (arith, most, later)))
       (λ no. no)
       (which (has m u.keeps)) in
-      let none : of m r.log ≡ [] = r.unmade m (omega (arith, later)) (λ x c here. let u = at_map_back (line k) t.state.views x c here in ap (λ (l : Line I). has m l.keeps) (sym u.2) ∙ nobody x u.0 u.1) in
+      let none : of m r.log ≡ [] = r.unmade m (omega (arith, later)) (λ x c here. let u = at_map_back (line k) t.state.views x c here in
+      ap (λ (l : Line I). has m l.keeps) (sym u.2) ∙ nobody x u.0 u.1) in
       let b = r.seen q (line k w) (at_map (line k) t.state.views q w there) in
       (nobody q w there, begins_nothing (of m (known_at k w).seen) (of m b.0) (sym (of-append m (known_at k w).seen b.0) ∙ ap (of m) (sym b.1) ∙ none))
 

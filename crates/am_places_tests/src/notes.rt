@@ -4,7 +4,7 @@ ghost use Rattle.std.specs.Prelude.{◌≡◌, ◌<◌, ◌^◌, [], false, leng
 
 use am_office::Place;
 use am_places::Book;
-use am_stays::Grow;
+use am_places_stays::Grow;
 use std::alloc::Global;
 
 /// Lines, each a number, in the order in which they were added.

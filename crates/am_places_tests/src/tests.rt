@@ -4,13 +4,13 @@ ghost use mathlib.Core.Option.{some};
 ghost use lib.ListN.{get_elem?};
 ghost use Rattle.am_places.specs.Rule.{HasGathered};
 ghost use Rattle.am_places_tests.specs.Ids.{nine};
-ghost use Rattle.am_stays.specs.Stays.{IsInside, IsWaiting};
+ghost use Rattle.am_places_stays.specs.Stays.{IsInside, IsWaiting};
 
 use crate::notes::Notes;
 use am_names::{EndpointId, NoMemory};
 use am_office::Place;
 use am_places::{Book, Entered, Places, Seat, may_cross_threads};
-use am_stays::{enter, leave, open, write};
+use am_places_stays::{enter, leave, open, write};
 use std::alloc::{AllocError, Global};
 use std::test::Fail;
 use std::thread::join;

@@ -28,7 +28,8 @@ use Rattle.am_restart.specs.declared.packets.ReceiverPacket.{ReceiverPacket}
 use Rattle.am_restart.specs.declared.packets.ReceiverPacket.TheVariants as FromReceiver
 use Rattle.am_restart.specs.Bounds.{IsBounded, IsNumbered}
 use Rattle.am_restart.specs.Ends.{met, new_receiver, answer_of, number_of, verdict_of}
-use Rattle.am_restart.specs.Moves.{move_of, still, next_of_sender, next_of_receiver, bind_of, expire_by, expire_of, welcomed, answered, refused, settle_by, sender_receives, welcomes, answer_to, decided, keeps, arrives, receiver_receives, unbound}
+use Rattle.am_restart.specs.Moves.{move_of, still, next_of_sender, next_of_receiver, bind_of, expire_by, expire_of, welcomed, answered, refused, settle_by}
+use Rattle.am_restart.specs.Moves.{sender_receives, welcomes, answer_to, decided, keeps, arrives, receiver_receives, unbound}
 use Rattle.am_restart.specs.State.{SessionState, changed, moved, packet_at}
 use Rattle.am_restart.specs.Traffics.{Traffic}
 
@@ -51,9 +52,19 @@ traffic_within Changes.Nothing t n is e = record { offered = omega arith; from_s
 traffic_within Changes.Offers t n is e = record { offered = omega arith; from_sender = omega arith; from_receiver = omega arith; numbered = is.numbered }
 traffic_within (Changes.Requeues m) t n is e = record { offered = omega arith; from_sender = omega arith; from_receiver = omega arith; numbered = is.numbered }
 traffic_within (Changes.Binds p) t n is e =
-    record { offered = omega arith; from_sender = longer t.from_sender p n is.from_sender; from_receiver = omega arith; numbered = All-push IsNumbered t.from_sender p is.numbered e }
+    record {
+      offered = omega arith;
+      from_sender = longer t.from_sender p n is.from_sender;
+      from_receiver = omega arith;
+      numbered = All-push IsNumbered t.from_sender p is.numbered e;
+    }
 traffic_within (Changes.Sends p) t n is e =
-    record { offered = omega arith; from_sender = longer t.from_sender p n is.from_sender; from_receiver = omega arith; numbered = All-push IsNumbered t.from_sender p is.numbered e }
+    record {
+      offered = omega arith;
+      from_sender = longer t.from_sender p n is.from_sender;
+      from_receiver = omega arith;
+      numbered = All-push IsNumbered t.from_sender p is.numbered e;
+    }
 traffic_within (Changes.Answers p) t n is e =
     record { offered = omega arith; from_sender = omega arith; from_receiver = longer t.from_receiver p n is.from_receiver; numbered = is.numbered }
 
@@ -67,7 +78,12 @@ record IsBoundedMove (n : ℕ) (m : Move) : Type 0 where
 
 moves_within : (s : SessionState) (m : Move) → IsBounded s → IsBoundedMove s.events m → IsBounded (moved m s)
 moves_within s m is at =
-    let t : IsCounted (changed m.change s.traffic) (s.events + 1) = traffic_within m.change s.traffic s.events (record { offered = is.offered; from_sender = is.from_sender; from_receiver = is.from_receiver; numbered = is.numbered }) at.numbered in
+    let t : IsCounted (changed m.change s.traffic) (s.events + 1) = traffic_within m.change s.traffic s.events (record {
+      offered = is.offered;
+      from_sender = is.from_sender;
+      from_receiver = is.from_receiver;
+      numbered = is.numbered;
+    }) at.numbered in
     record {
       offered = t.offered;
       sender = omega (arith, at.sender);
@@ -80,23 +96,45 @@ moves_within s m is at =
     }
 
 -- a move that leaves the sender as it was and the receiver's incarnation
-alike : (s : SessionState) (outcome : SessionOutcome) (r : Receiver) (c : Change) → IsBounded s → r.incarnation ≤ s.events + 2 → EmitsNumbered c → IsBoundedMove s.events (record { outcome = outcome; sender = s.sender; receiver = r; change = c })
+alike : (s : SessionState) (outcome : SessionOutcome) (r : Receiver) (c : Change) → IsBounded s → r.incarnation ≤ s.events + 2 → EmitsNumbered c →
+    IsBoundedMove s.events (record { outcome = outcome; sender = s.sender; receiver = r; change = c })
 alike s outcome r c is h e = record { sender = omega (arith, is.sender); receiver = h; seq = omega (arith, is.seq); begun = is.begun; numbered = e }
 
-same : (s : SessionState) (outcome : SessionOutcome) (c : Change) → IsBounded s → EmitsNumbered c → IsBoundedMove s.events (record { outcome = outcome; sender = s.sender; receiver = s.receiver; change = c })
+same : (s : SessionState) (outcome : SessionOutcome) (c : Change) → IsBounded s → EmitsNumbered c →
+    IsBoundedMove s.events (record { outcome = outcome; sender = s.sender; receiver = s.receiver; change = c })
 same s outcome c is e = alike s outcome s.receiver c is (omega (arith, is.receiver)) e
 
 -- a move after which the sender has nothing bound
-freed : (s : SessionState) (outcome : SessionOutcome) (c : Change) → IsBounded s → EmitsNumbered c → IsBoundedMove s.events (record { outcome = outcome; sender = unbound s.sender; receiver = s.receiver; change = c })
-freed s outcome c is e = record { sender = omega (arith, is.sender); receiver = omega (arith, is.receiver); seq = omega (arith, is.seq); begun = tt; numbered = e }
+freed : (s : SessionState) (outcome : SessionOutcome) (c : Change) → IsBounded s → EmitsNumbered c →
+    IsBoundedMove s.events (record { outcome = outcome; sender = unbound s.sender; receiver = s.receiver; change = c })
+freed s outcome c is e = record {
+  sender = omega (arith, is.sender);
+  receiver = omega (arith, is.receiver);
+  seq = omega (arith, is.seq);
+  begun = tt;
+  numbered = e;
+}
 
 binds : (s : SessionState) (front : Option ℕ) → IsBounded s → IsBoundedMove s.events (bind_of s front)
 binds s None is = same s Out.Done Changes.Nothing is tt
 binds s (Some message) is =
-    record { sender = omega (arith, is.sender); receiver = omega (arith, is.receiver); seq = omega (arith, is.seq); begun = omega arith; numbered = omega arith }
+    record {
+      sender = omega (arith, is.sender);
+      receiver = omega (arith, is.receiver);
+      seq = omega (arith, is.seq);
+      begun = omega arith;
+      numbered = omega arith;
+    }
 
-expires_by : (s : SessionState) (b : Bound) (seq attempt : ℕ) (t : Bool) → IsBounded s → 1 ≤ s.sender.end.seq → IsBoundedMove s.events (expire_by s (if t then Times.Resend (record { seq = s.sender.end.seq; attempt = attempt }) else Times.GaveUp b) b)
-expires_by s b seq attempt true is h = record { sender = omega (arith, is.sender); receiver = omega (arith, is.receiver); seq = omega (arith, is.seq); begun = h; numbered = h }
+expires_by : (s : SessionState) (b : Bound) (seq attempt : ℕ) (t : Bool) → IsBounded s → 1 ≤ s.sender.end.seq →
+    IsBoundedMove s.events (expire_by s (if t then Times.Resend (record { seq = s.sender.end.seq; attempt = attempt }) else Times.GaveUp b) b)
+expires_by s b seq attempt true is h = record {
+  sender = omega (arith, is.sender);
+  receiver = omega (arith, is.receiver);
+  seq = omega (arith, is.seq);
+  begun = h;
+  numbered = h;
+}
 expires_by s b seq attempt false is h = freed s (Out.Unknown (number_of b)) Changes.Nothing is tt
 
 expires : (s : SessionState) (bound : Option Bound) → IsBounded s → IfSome bound (λ _. 1 ≤ s.sender.end.seq) → IsBoundedMove s.events (expire_of s bound)
@@ -105,7 +143,13 @@ expires s (Some b) is h = expires_by s b s.sender.end.seq (b.attempt + 1) (nat_l
 
 is_welcomed : (s : SessionState) (receiver : ℕ) (counts : Bool) → IsBounded s → IsBoundedMove s.events (welcomed s receiver counts)
 is_welcomed s receiver false is = same s Out.Nothing Changes.Nothing is tt
-is_welcomed s receiver true is = record { sender = omega (arith, is.sender); receiver = omega (arith, is.receiver); seq = omega arith; begun = tt; numbered = tt }
+is_welcomed s receiver true is = record {
+  sender = omega (arith, is.sender);
+  receiver = omega (arith, is.receiver);
+  seq = omega arith;
+  begun = tt;
+  numbered = tt;
+}
 
 is_refused : (s : SessionState) (message : ℕ) (passes : Bool) → IsBounded s → IsBoundedMove s.events (refused s (unbound s.sender) message passes)
 is_refused s message true is = freed s (Out.Requeued message) (Changes.Requeues message) is tt
@@ -133,16 +177,22 @@ met_by n sender r false h = h
 meets : (s : SessionState) (sender : ℕ) → IsBounded s → (met sender s.receiver).incarnation ≤ s.events + 2
 meets s sender is = met_by (s.events + 2) sender s.receiver (nat_lt s.receiver.newest sender) (omega (arith, is.receiver))
 
-hello_by : (s : SessionState) (sender : ℕ) (stale : Bool) → IsBounded s → IsBoundedMove s.events (if stale then still s Out.Stale else welcomes s (met sender s.receiver) sender)
+hello_by : (s : SessionState) (sender : ℕ) (stale : Bool) → IsBounded s →
+    IsBoundedMove s.events (if stale then still s Out.Stale else welcomes s (met sender s.receiver) sender)
 hello_by s sender true is = same s Out.Stale Changes.Nothing is tt
-hello_by s sender false is = alike s (Out.Welcome (next_of_receiver s)) (met sender s.receiver) (Changes.Answers (FromReceiver.Welcome sender (met sender s.receiver).incarnation)) is (meets s sender is) tt
+hello_by s sender false is = alike s (Out.Welcome (next_of_receiver s)) (met sender s.receiver)
+    (Changes.Answers (FromReceiver.Welcome sender (met sender s.receiver).incarnation)) is (meets s sender is) tt
 
-arrived : (s : SessionState) (r : Receiver) (say : Say) (p : SessionParcel) (what : Arrival) → IsBounded s → r.incarnation ≤ s.events + 2 → IsBoundedMove s.events (arrives s r say p what)
+arrived : (s : SessionState) (r : Receiver) (say : Say) (p : SessionParcel) (what : Arrival) → IsBounded s → r.incarnation ≤ s.events + 2 →
+    IsBoundedMove s.events (arrives s r say p what)
 arrived s r say p Arrivals.Stale is h = alike s Out.Stale r Changes.Nothing is h tt
 arrived s r say p (Arrivals.Again verdict) is h = alike s (Out.Again p.message (next_of_receiver s)) r (answer_to p verdict) is h tt
-arrived s r say p Arrivals.Fresh is h = alike s (decided p (next_of_receiver s) (verdict_of say)) (keeps r p (verdict_of say)) (answer_to p (verdict_of say)) is h tt
+arrived s r say p Arrivals.Fresh is h = alike s (decided p (next_of_receiver s) (verdict_of say)) (keeps r p (verdict_of say)) (answer_to p (verdict_of say)) is
+    h tt
 
-parcel_by : (s : SessionState) (say : Say) (p : SessionParcel) (own stale : Bool) → IsBounded s → IsBoundedMove s.events (if own then (if stale then still s Out.Stale else arrives s (met p.sender s.receiver) say p (arrival (met p.sender s.receiver).end p.seq p.attempt)) else welcomes s s.receiver p.sender)
+parcel_by : (s : SessionState) (say : Say) (p : SessionParcel) (own stale : Bool) → IsBounded s →
+    IsBoundedMove s.events (if own then (if stale then still s Out.Stale else arrives s (met p.sender s.receiver) say p
+    (arrival (met p.sender s.receiver).end p.seq p.attempt)) else welcomes s s.receiver p.sender)
 parcel_by s say p true true is = same s Out.Stale Changes.Nothing is tt
 parcel_by s say p true false is = arrived s (met p.sender s.receiver) say p (arrival (met p.sender s.receiver).end p.seq p.attempt) is (meets s p.sender is)
 parcel_by s say p false stale is = same s (Out.Welcome (next_of_receiver s)) (Changes.Answers (FromReceiver.Welcome p.sender s.receiver.incarnation)) is tt
@@ -158,7 +208,13 @@ each s Events.Hello is = same s (Out.Hello (next_of_sender s)) (Changes.Sends (F
 each s Events.Bind is = binds s (slice_get s.traffic.queue 0) is
 each s Events.Expire is = expires s s.sender.end.bound is is.begun
 each s (Events.SenderReceive number) is = sender_got s (packet_at s.traffic.from_receiver number) is
-each s Events.SenderRestart is = record { sender = omega (arith, is.sender); receiver = omega (arith, is.receiver); seq = omega arith; begun = tt; numbered = tt }
+each s Events.SenderRestart is = record {
+  sender = omega (arith, is.sender);
+  receiver = omega (arith, is.receiver);
+  seq = omega arith;
+  begun = tt;
+  numbered = tt;
+}
 each s (Events.ReceiverReceive number say) is = receiver_got s say (packet_at s.traffic.from_sender number) is
 each s Events.ReceiverRestart is = alike s Out.Done (new_receiver (s.receiver.incarnation + 1) 0) Changes.Nothing is (omega (arith, is.receiver)) tt
 

@@ -1,5 +1,6 @@
 -- What an event that may happen finds.
-use Rattle.std.proofs.Common.{◌≡◌, ℕ, ◌≤◌, Bool, true, false, ◌==◌, Option, Some, None, List, [], ◌∷◌, if◌then◌else◌, length, get_or, ◌<◌, ◌-◌, ◌⊎◌, ⊎_elim, subst, sym, refl}
+use Rattle.std.proofs.Common.{◌≡◌, ℕ, ◌≤◌, Bool, true, false, ◌==◌, Option, Some, None, List, [], ◌∷◌, if◌then◌else◌, length, get_or, ◌<◌, ◌-◌, ◌⊎◌, ⊎_elim}
+use Rattle.std.proofs.Common.{subst, sym, refl}
 use Rattle.std.specs.Prelude.{IfSome, IsNone, is_none, is_some, slice_get, All}
 use Rattle.std.proofs.lemmas.List.Elements.{All-get_or}
 use Rattle.std.proofs.lemmas.Option.{slice_get_cases}
@@ -12,7 +13,8 @@ use Rattle.am_restart.specs.Bounds.{IsNumbered}
 use Rattle.am_restart.specs.Moves.{failing}
 use Rattle.am_restart.specs.State.{SessionState, packet_at}
 
-idle_by : (bound : Option Bound) (a c : Bool) → first_holding ((a, Needs.UnknownPeer) ∷ (is_some bound, Needs.Bound) ∷ (c, Needs.NoMessage) ∷ []) ≡ None → IsNone bound
+idle_by : (bound : Option Bound) (a c : Bool) → first_holding ((a, Needs.UnknownPeer) ∷ (is_some bound, Needs.Bound) ∷ (c, Needs.NoMessage) ∷ []) ≡ None →
+    IsNone bound
 idle_by None a c h = refl
 idle_by (Some b) true c h = cc
 idle_by (Some b) false c h = cc

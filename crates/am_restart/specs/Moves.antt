@@ -67,10 +67,8 @@ parcel_from sender seq attempt message =
 abbrev pub bind_of : SessionState → Option ℕ → Move
 bind_of s None = still s Out.Done
 bind_of s (Some message) =
-    record {
-      outcome = Out.Sent message (s.sender.end.seq + 1) 0 (next_of_sender s);
+    record (still s (Out.Sent message (s.sender.end.seq + 1) 0 (next_of_sender s))) {
       sender = record s.sender { end = bound_to s.sender.end (message_of message) slot_of };
-      receiver = s.receiver;
       change = Changes.Binds (parcel_from s.sender (s.sender.end.seq + 1) 0 message);
     }
 
@@ -81,13 +79,11 @@ unbound sender = record sender { end = record sender.end { bound = None } }
 -- the next try goes out, or the message is given up
 abbrev pub expire_by : SessionState → TimedOut → Bound → Move
 expire_by s (Times.Resend sent) b =
-    record {
-      outcome = Out.Sent (number_of b) sent.seq sent.attempt (next_of_sender s);
+    record (still s (Out.Sent (number_of b) sent.seq sent.attempt (next_of_sender s))) {
       sender = record s.sender { end = record s.sender.end { bound = Some (record b { attempt = sent.attempt }) } };
-      receiver = s.receiver;
       change = Changes.Sends (parcel_from s.sender sent.seq sent.attempt (number_of b));
     }
-expire_by s (Times.GaveUp gone) b = record { outcome = Out.Unknown (number_of b); sender = unbound s.sender; receiver = s.receiver; change = Changes.Nothing }
+expire_by s (Times.GaveUp gone) b = record (still s (Out.Unknown (number_of b))) { sender = unbound s.sender }
 
 abbrev pub expire_of : SessionState → Option Bound → Move
 expire_of s None = still s Out.Done
@@ -102,21 +98,15 @@ forgotten (Some b) = Out.Unknown (number_of b)
 -- new; a bound message is unknown then. Any other is nothing.
 abbrev pub welcomed : SessionState → ℕ → Bool → Move
 welcomed s receiver false = still s Out.Nothing
-welcomed s receiver true =
-    record {
-      outcome = Out.Peer receiver (option_map number_of s.sender.end.bound);
-      sender = new_sender s.sender.incarnation receiver;
-      receiver = s.receiver;
-      change = Changes.Nothing;
-    }
+welcomed s receiver true = record (still s (Out.Peer receiver (option_map number_of s.sender.end.bound))) { sender = new_sender s.sender.incarnation receiver }
 
 -- a message that was refused for a passing cause goes to the queue's tail, and else it is returned
 abbrev pub refused : SessionState → Sender → ℕ → Bool → Move
-refused s sender message true = record { outcome = Out.Requeued message; sender = sender; receiver = s.receiver; change = Changes.Requeues message }
-refused s sender message false = record { outcome = Out.Returned message; sender = sender; receiver = s.receiver; change = Changes.Nothing }
+refused s sender message true = record (still s (Out.Requeued message)) { sender = sender; change = Changes.Requeues message }
+refused s sender message false = record (still s (Out.Returned message)) { sender = sender }
 
 abbrev pub settled_by : SessionState → Sender → ℕ → Verdict → Move
-settled_by s sender message Verdicts.Accepted = record { outcome = Out.Delivered message; sender = sender; receiver = s.receiver; change = Changes.Nothing }
+settled_by s sender message Verdicts.Accepted = record (still s (Out.Delivered message)) { sender = sender }
 settled_by s sender message (Verdicts.Refused cause) = refused s sender message (is_transient cause)
 
 abbrev pub settle_by : SessionState → Settled → Move
@@ -139,12 +129,7 @@ sender_receives s (Some (FromReceiver.Answer a)) =
 -- the receiver emits a welcome for a sender of this incarnation
 abbrev pub welcomes : SessionState → Receiver → ℕ → Move
 welcomes s receiver sender =
-    record {
-      outcome = Out.Welcome (next_of_receiver s);
-      sender = s.sender;
-      receiver = receiver;
-      change = Changes.Answers (FromReceiver.Welcome sender receiver.incarnation);
-    }
+    record (still s (Out.Welcome (next_of_receiver s))) { receiver = receiver; change = Changes.Answers (FromReceiver.Welcome sender receiver.incarnation) }
 
 -- THE RECEIVER RECEIVES A HELLO: one of an earlier incarnation than it has seen is stale; any other is welcomed, and a greater
 -- one makes the end new.
@@ -167,13 +152,10 @@ keeps r p verdict = record r { end = record { seq = p.seq; attempt = p.attempt; 
 
 -- what a parcel is to the receiving end: stale, answered again by the verdict that stands, or fresh
 abbrev pub arrives : SessionState → Receiver → Say → SessionParcel → Arrival → Move
-arrives s receiver say p Arrivals.Stale = record { outcome = Out.Stale; sender = s.sender; receiver = receiver; change = Changes.Nothing }
-arrives s receiver say p (Arrivals.Again verdict) =
-    record { outcome = Out.Again p.message (next_of_receiver s); sender = s.sender; receiver = receiver; change = answer_to p verdict }
+arrives s receiver say p Arrivals.Stale = record (still s Out.Stale) { receiver = receiver }
+arrives s receiver say p (Arrivals.Again verdict) = record (still s (Out.Again p.message (next_of_receiver s))) { receiver = receiver; change = answer_to p verdict }
 arrives s receiver say p Arrivals.Fresh =
-    record {
-      outcome = decided p (next_of_receiver s) (verdict_of say);
-      sender = s.sender;
+    record (still s (decided p (next_of_receiver s) (verdict_of say))) {
       receiver = keeps receiver p (verdict_of say);
       change = answer_to p (verdict_of say);
     }
@@ -196,14 +178,11 @@ receiver_receives s say (Some (FromSender.Parcel p)) = parcel_arrives s say p
 
 -- what an event does
 abbrev pub move_of : SessionState → SessionEvent → Move
-move_of s Events.Offer = record { outcome = Out.Offered (s.traffic.offered + 1); sender = s.sender; receiver = s.receiver; change = Changes.Offers }
-move_of s Events.Hello =
-    record { outcome = Out.Hello (next_of_sender s); sender = s.sender; receiver = s.receiver; change = Changes.Sends (FromSender.Hello s.sender.incarnation) }
+move_of s Events.Offer = record (still s (Out.Offered (s.traffic.offered + 1))) { change = Changes.Offers }
+move_of s Events.Hello = record (still s (Out.Hello (next_of_sender s))) { change = Changes.Sends (FromSender.Hello s.sender.incarnation) }
 move_of s Events.Bind = bind_of s (slice_get s.traffic.queue 0)
 move_of s Events.Expire = expire_of s s.sender.end.bound
 move_of s (Events.SenderReceive number) = sender_receives s (packet_at s.traffic.from_receiver number)
-move_of s Events.SenderRestart =
-    record { outcome = forgotten s.sender.end.bound; sender = new_sender (s.sender.incarnation + 1) 0; receiver = s.receiver; change = Changes.Nothing }
+move_of s Events.SenderRestart = record (still s (forgotten s.sender.end.bound)) { sender = new_sender (s.sender.incarnation + 1) 0 }
 move_of s (Events.ReceiverReceive number say) = receiver_receives s say (packet_at s.traffic.from_sender number)
-move_of s Events.ReceiverRestart =
-    record { outcome = Out.Done; sender = s.sender; receiver = new_receiver (s.receiver.incarnation + 1) 0; change = Changes.Nothing }
+move_of s Events.ReceiverRestart = record (still s Out.Done) { receiver = new_receiver (s.receiver.incarnation + 1) 0 }

@@ -28,7 +28,8 @@ use Rattle.am_restart.specs.declared.packets.ReceiverPacket.TheVariants as FromR
 use Rattle.am_restart.specs.Ends.{met, number_of, answer_of}
 use Rattle.am_restart.specs.Fates.{unknown_in}
 use Rattle.am_restart.specs.History.{MayFollow}
-use Rattle.am_restart.specs.Moves.{move_of, still, bind_of, expire_by, expire_of, forgotten, welcomed, answered, refused, settle_by, sender_receives, welcomes, arrives, receiver_receives, unbound}
+use Rattle.am_restart.specs.Moves.{move_of, still, bind_of, expire_by, expire_of, forgotten, welcomed, answered, refused, settle_by, sender_receives, welcomes}
+use Rattle.am_restart.specs.Moves.{arrives, receiver_receives, unbound}
 use Rattle.am_restart.specs.State.{SessionState, packet_at}
 use Rattle.std.specs.Prelude.{slice_get}
 use Rattle.am_restart_laws.specs.Laws.{IsBound, IsLastTry, MeetsNewer, LeavesUnknown, HasItsCause}
@@ -51,7 +52,9 @@ expires : (s : SessionState) (bound : Option Bound) → s.sender.end.bound ≡ b
 expires s None is m e = absurd (quiet m e)
 expires s (Some b) is m e = by_test (nat_lt (b.attempt + 1) s.tries) refl e
   where
-    by_test : (t : Bool) → nat_lt (b.attempt + 1) s.tries ≡ t → unknown_in (expire_by s (if t then Times.Resend (record { seq = s.sender.end.seq; attempt = b.attempt + 1 }) else Times.GaveUp b) b).outcome ≡ Some m → IsLastTry s m
+    by_test : (t : Bool) → nat_lt (b.attempt + 1) s.tries ≡ t →
+        unknown_in (expire_by s (if t then Times.Resend (record { seq = s.sender.end.seq; attempt = b.attempt + 1 }) else Times.GaveUp b) b).outcome ≡ Some m →
+        IsLastTry s m
     by_test true lt e = absurd (quiet m e)
     by_test false lt e = record { at = (record { bound = b; is = is; number = number_is b m e }); last = ltb-false (b.attempt + 1) s.tries lt }
 
@@ -76,15 +79,18 @@ answers_none : (s : SessionState) (a : SessionAnswer) (t : Bool) → Tells (unkn
 answers_none s a false = quiet
 answers_none s a true = settles_none s (settled s.sender.end (answer_of a))
 
-sender_gets : (s : SessionState) (number : ℕ) (packet : Option ReceiverPacket) → packet_at s.traffic.from_receiver number ≡ packet → (m : ℕ) → unknown_in (sender_receives s packet).outcome ≡ Some m → MeetsNewer s m number
+sender_gets : (s : SessionState) (number : ℕ) (packet : Option ReceiverPacket) → packet_at s.traffic.from_receiver number ≡ packet → (m : ℕ) →
+    unknown_in (sender_receives s packet).outcome ≡ Some m → MeetsNewer s m number
 sender_gets s number None at m e = absurd (quiet m e)
 sender_gets s number (Some (FromReceiver.Answer a)) at m e = absurd (answers_none s a (a.sender == s.sender.incarnation && (a.receiver == s.sender.peer)) m e)
 sender_gets s number (Some (FromReceiver.Welcome sender receiver)) at m e = by_test (sender == s.sender.incarnation && nat_lt s.sender.peer receiver) refl e
   where
-    by_test : (t : Bool) → (sender == s.sender.incarnation && nat_lt s.sender.peer receiver) ≡ t → unknown_in (welcomed s receiver t).outcome ≡ Some m → MeetsNewer s m number
+    by_test : (t : Bool) → (sender == s.sender.incarnation && nat_lt s.sender.peer receiver) ≡ t → unknown_in (welcomed s receiver t).outcome ≡ Some m →
+        MeetsNewer s m number
     by_test false counts e = absurd (quiet m e)
     by_test true counts e =
-        let parts : ((sender == s.sender.incarnation) ≡ true) × (nat_lt s.sender.peer receiver ≡ true) = and_parts (sender == s.sender.incarnation) (nat_lt s.sender.peer receiver) counts in
+        let parts : ((sender == s.sender.incarnation) ≡ true) × (nat_lt s.sender.peer receiver ≡ true) =
+        and_parts (sender == s.sender.incarnation) (nat_lt s.sender.peer receiver) counts in
         let own : sender ≡ s.sender.incarnation = eqb-true sender s.sender.incarnation parts.0 in
         record {
           at = bound_of s s.sender.end.bound refl m e;
@@ -100,11 +106,14 @@ arrives_none s r Accept p Arrivals.Fresh = quiet
 arrives_none s r Full p Arrivals.Fresh = quiet
 arrives_none s r Bad p Arrivals.Fresh = quiet
 
-hello_none : (s : SessionState) (sender : ℕ) (t : Bool) → Tells (unknown_in (if t then still s Out.Stale else welcomes s (met sender s.receiver) sender).outcome)
+hello_none : (s : SessionState) (sender : ℕ) (t : Bool) → Tells
+    (unknown_in (if t then still s Out.Stale else welcomes s (met sender s.receiver) sender).outcome)
 hello_none s sender true = quiet
 hello_none s sender false = quiet
 
-parcel_none : (s : SessionState) (say : Say) (p : SessionParcel) (t u : Bool) → Tells (unknown_in (if t then (if u then still s Out.Stale else arrives s (met p.sender s.receiver) say p (arrival (met p.sender s.receiver).end p.seq p.attempt)) else welcomes s s.receiver p.sender).outcome)
+parcel_none : (s : SessionState) (say : Say) (p : SessionParcel) (t u : Bool) →
+    Tells (unknown_in (if t then (if u then still s Out.Stale else arrives s (met p.sender s.receiver) say p
+    (arrival (met p.sender s.receiver).end p.seq p.attempt)) else welcomes s s.receiver p.sender).outcome)
 parcel_none s say p true true = quiet
 parcel_none s say p true false = arrives_none s (met p.sender s.receiver) say p (arrival (met p.sender s.receiver).end p.seq p.attempt)
 parcel_none s say p false u = quiet

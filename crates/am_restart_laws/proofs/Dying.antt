@@ -26,7 +26,9 @@ pub record IsNew (out : List SenderPacket) (o : Point) (d : SessionParcel) : Typ
   pub emitted : Emitted out d
   pub open' : IsClosed o (numbers d) → ⊥
 
-dead_stays : (out : List SenderPacket) (o later : Point) (taken more : List SessionParcel) (p : SessionParcel) → Stays o later → ((d : SessionParcel) → Among d more → Among d taken ⊎ IsNew out o d) → Dead o taken p → ((q : SessionParcel) → Emitted out q → IsSame (numbers q) (numbers p) → Dead o taken q) → Dead later more p
+dead_stays : (out : List SenderPacket) (o later : Point) (taken more : List SessionParcel) (p : SessionParcel) → Stays o later →
+    ((d : SessionParcel) → Among d more → Among d taken ⊎ IsNew out o d) → Dead o taken p →
+    ((q : SessionParcel) → Emitted out q → IsSame (numbers q) (numbers p) → Dead o taken q) → Dead later more p
 dead_stays out o later taken more p stays grows dead family =
     record { closed = stays.closed (numbers p) dead.closed; untaken = λ d there same. over d same (grows d there) }
   where
@@ -35,7 +37,10 @@ dead_stays out o later taken more p stays grows dead family =
     over d same (inr new) = new.open' (family d new.emitted same).closed
 
 -- the receiver goes on, and takes what wasn't closed
-pub dead_receives : (σ : Sender) (life offered : ℕ) (out : List SenderPacket) (queue : List ℕ) (past next : List SessionEntry) (o later : Point) (taken more : List SessionParcel) → SenderPart σ life offered out → DeadPart σ out queue past o taken → Stays o later → ((d : SessionParcel) → Among d more → Among d taken ⊎ IsNew out o d) → ((m : ℕ) → count_by (returns m) next ≡ count_by (returns m) past) → DeadPart σ out queue next later more
+pub dead_receives : (σ : Sender) (life offered : ℕ) (out : List SenderPacket) (queue : List ℕ) (past next : List SessionEntry) (o later : Point)
+    (taken more : List SessionParcel) → SenderPart σ life offered out → DeadPart σ out queue past o taken → Stays o later →
+    ((d : SessionParcel) → Among d more → Among d taken ⊎ IsNew out o d) → ((m : ℕ) → count_by (returns m) next ≡ count_by (returns m) past) →
+    DeadPart σ out queue next later more
 dead_receives σ life offered out queue past next o later taken more sender dead stays grows same_returns =
     record {
       later = λ p q e g same before.
@@ -54,7 +59,10 @@ dead_receives σ life offered out queue past next o later taken more sender dead
     }
 
 -- a parcel of a message that is refused now is dead
-pub refused_dead : (s : SessionState) (past : List SessionEntry) (o : Point) (taken : List SessionParcel) (b : Bound) → SenderPart s.sender s.receiver.incarnation s.traffic.offered s.traffic.from_sender → DeadPart s.sender s.traffic.from_sender s.traffic.queue past o taken → ReceiverPart s.traffic.from_sender s.traffic.from_receiver o taken → s.sender.end.bound ≡ Some b → Refusal s b → (p : SessionParcel) → Emitted s.traffic.from_sender p → p.message ≡ number_of b → Dead o taken p
+pub refused_dead : (s : SessionState) (past : List SessionEntry) (o : Point) (taken : List SessionParcel) (b : Bound) →
+    SenderPart s.sender s.receiver.incarnation s.traffic.offered s.traffic.from_sender → DeadPart s.sender s.traffic.from_sender s.traffic.queue past o taken →
+    ReceiverPart s.traffic.from_sender s.traffic.from_receiver o taken → s.sender.end.bound ≡ Some b → Refusal s b → (p : SessionParcel) →
+    Emitted s.traffic.from_sender p → p.message ≡ number_of b → Dead o taken p
 refused_dead s past o taken b sender dead receiver is refusal p e same =
     by_place (place (key s.sender) (numbers p) (sender.fits p e).upto)
   where
@@ -69,24 +77,30 @@ refused_dead s past o taken b sender dead receiver is refusal p e same =
 
     attempt_le : (q : SessionParcel) → Emitted s.traffic.from_sender q → IsSame (numbers q) (key s.sender) → q.attempt ≤ refusal.answer.attempt
     attempt_le q g here =
-        let at : IfSome (Some b) (λ b. (q.message ≡ number_of b) × (q.attempt ≤ b.attempt)) = subst (λ (o : Option Bound). IfSome o (λ b. (q.message ≡ number_of b) × (q.attempt ≤ b.attempt))) is ((sender.fits q g).bound here) in
+        let at : IfSome (Some b) (λ b. (q.message ≡ number_of b) × (q.attempt ≤ b.attempt)) =
+        subst (λ (o : Option Bound). IfSome o (λ b. (q.message ≡ number_of b) × (q.attempt ≤ b.attempt))) is ((sender.fits q g).bound here) in
         omega (arith, at.1, refusal.attempt')
 
     by_place : Before (key s.sender) (numbers p) ⊎ IsSame (numbers p) (key s.sender) → Dead o taken p
     by_place (inl before) = dead.bound p b e is same before
     by_place (inr here) =
-        let alike : IsSame (answer_numbers refusal.answer) (numbers p) = same_then (answer_numbers refusal.answer) (key s.sender) (numbers p) at_key (turned (numbers p) (key s.sender) here) in
+        let alike : IsSame (answer_numbers refusal.answer) (numbers p) =
+        same_then (answer_numbers refusal.answer) (key s.sender) (numbers p) at_key (turned (numbers p) (key s.sender) here) in
         record {
           closed = earlier_closed o (answer_numbers refusal.answer) (numbers p) truth.closed alike (attempt_le p e here);
           untaken = λ d there also.
-              let d_at : IsSame (numbers d) (answer_numbers refusal.answer) = same_then (numbers d) (numbers p) (answer_numbers refusal.answer) also (turned (answer_numbers refusal.answer) (numbers p) alike) in
+              let d_at : IsSame (numbers d) (answer_numbers refusal.answer) =
+              same_then (numbers d) (numbers p) (answer_numbers refusal.answer) also (turned (answer_numbers refusal.answer) (numbers p) alike) in
               let lt : refusal.answer.attempt < d.attempt = truth.untaken d there d_at in
-              let le : d.attempt ≤ refusal.answer.attempt = attempt_le d (receiver.emitted d there) (same_then (numbers d) (answer_numbers refusal.answer) (key s.sender) d_at at_key) in
+              let le : d.attempt ≤ refusal.answer.attempt = attempt_le d (receiver.emitted d there)
+              (same_then (numbers d) (answer_numbers refusal.answer) (key s.sender) d_at at_key) in
               omega (arith, lt, le);
         }
 
 -- nothing is bound any more, and no message is returned or queued
-pub dead_on : (σ τ : Sender) (out : List SenderPacket) (queue : List ℕ) (past next : List SessionEntry) (o : Point) (taken : List SessionParcel) → DeadPart σ out queue past o taken → τ.end.bound ≡ None → ((m : ℕ) → count_by (returns m) next ≡ count_by (returns m) past) → DeadPart τ out queue next o taken
+pub dead_on : (σ τ : Sender) (out : List SenderPacket) (queue : List ℕ) (past next : List SessionEntry) (o : Point) (taken : List SessionParcel) →
+    DeadPart σ out queue past o taken → τ.end.bound ≡ None → ((m : ℕ) → count_by (returns m) next ≡ count_by (returns m) past) →
+    DeadPart τ out queue next o taken
 dead_on σ τ out queue past next o taken dead idle same_returns =
     record {
       later = dead.later;
@@ -104,7 +118,9 @@ grew m n count h = over (eqb_tells m n)
     over (inr other) = inl (let none : ◌≡◌ {A = ℕ} (bit (m == n)) 0 = ap bit other.0 in omega (arith, h, none))
 
 -- what was bound is returned
-pub dead_returns : (σ τ : Sender) (out : List SenderPacket) (queue : List ℕ) (past next : List SessionEntry) (o : Point) (taken : List SessionParcel) (n : ℕ) → DeadPart σ out queue past o taken → τ.end.bound ≡ None → ((m : ℕ) → count_by (returns m) next ≡ count_by (returns m) past + bit (m == n)) → ((p : SessionParcel) → Emitted out p → p.message ≡ n → Dead o taken p) → DeadPart τ out queue next o taken
+pub dead_returns : (σ τ : Sender) (out : List SenderPacket) (queue : List ℕ) (past next : List SessionEntry) (o : Point) (taken : List SessionParcel) (n : ℕ) →
+    DeadPart σ out queue past o taken → τ.end.bound ≡ None → ((m : ℕ) → count_by (returns m) next ≡ count_by (returns m) past + bit (m == n)) →
+    ((p : SessionParcel) → Emitted out p → p.message ≡ n → Dead o taken p) → DeadPart τ out queue next o taken
 dead_returns σ τ out queue past next o taken n dead idle more all =
     record {
       later = dead.later;
@@ -118,7 +134,9 @@ dead_returns σ τ out queue past next o taken n dead idle more all =
     over p e (inr same) = all p e same
 
 -- what was bound is queued again
-pub dead_requeues : (σ τ : Sender) (out : List SenderPacket) (queue : List ℕ) (past next : List SessionEntry) (o : Point) (taken : List SessionParcel) (n : ℕ) → DeadPart σ out queue past o taken → τ.end.bound ≡ None → ((m : ℕ) → count_by (returns m) next ≡ count_by (returns m) past) → ((p : SessionParcel) → Emitted out p → p.message ≡ n → Dead o taken p) → DeadPart τ out (queue ++ n ∷ []) next o taken
+pub dead_requeues : (σ τ : Sender) (out : List SenderPacket) (queue : List ℕ) (past next : List SessionEntry) (o : Point) (taken : List SessionParcel) (n : ℕ) →
+    DeadPart σ out queue past o taken → τ.end.bound ≡ None → ((m : ℕ) → count_by (returns m) next ≡ count_by (returns m) past) →
+    ((p : SessionParcel) → Emitted out p → p.message ≡ n → Dead o taken p) → DeadPart τ out (queue ++ n ∷ []) next o taken
 dead_requeues σ τ out queue past next o taken n dead idle same_returns all =
     record {
       later = dead.later;
@@ -132,12 +150,15 @@ dead_requeues σ τ out queue past next o taken n dead idle same_returns all =
     over p e (inr same) = all p e same
 
 -- a message that no parcel carries is queued
-pub dead_offers : (σ : Sender) (life offered : ℕ) (out : List SenderPacket) (queue : List ℕ) (past next : List SessionEntry) (o : Point) (taken : List SessionParcel) → SenderPart σ life offered out → DeadPart σ out queue past o taken → ((m : ℕ) → count_by (returns m) next ≡ count_by (returns m) past) → DeadPart σ out (queue ++ (offered + 1) ∷ []) next o taken
+pub dead_offers : (σ : Sender) (life offered : ℕ) (out : List SenderPacket) (queue : List ℕ) (past next : List SessionEntry) (o : Point)
+    (taken : List SessionParcel) → SenderPart σ life offered out → DeadPart σ out queue past o taken →
+    ((m : ℕ) → count_by (returns m) next ≡ count_by (returns m) past) → DeadPart σ out (queue ++ (offered + 1) ∷ []) next o taken
 dead_offers σ life offered out queue past next o taken sender dead same_returns =
     record {
       later = dead.later;
       bound = dead.bound;
-      queued = λ p e one. over p e (grew p.message (offered + 1) (waiting p.message queue) (subst (λ (k : ℕ). 1 ≤ k) (count_more (λ (k : ℕ). p.message == k) queue (offered + 1)) one));
+      queued = λ p e one. over p e (grew p.message (offered + 1) (waiting p.message queue)
+          (subst (λ (k : ℕ). 1 ≤ k) (count_more (λ (k : ℕ). p.message == k) queue (offered + 1)) one));
       returned = λ p e one. dead.returned p e (subst (λ (k : ℕ). 1 ≤ k) (same_returns p.message) one);
     }
   where
@@ -145,7 +166,9 @@ dead_offers σ life offered out queue past next o taken sender dead same_returns
     over p e (inl one) = dead.queued p e one
     over p e (inr same) = absurd (omega (arith, (sender.fits p e).offered', same))
 
-pub dead_hello : (σ : Sender) (n : ℕ) (out : List SenderPacket) (queue : List ℕ) (past next : List SessionEntry) (o : Point) (taken : List SessionParcel) → DeadPart σ out queue past o taken → ((m : ℕ) → count_by (returns m) next ≡ count_by (returns m) past) → DeadPart σ (out ++ FromSender.Hello n ∷ []) queue next o taken
+pub dead_hello : (σ : Sender) (n : ℕ) (out : List SenderPacket) (queue : List ℕ) (past next : List SessionEntry) (o : Point) (taken : List SessionParcel) →
+    DeadPart σ out queue past o taken → ((m : ℕ) → count_by (returns m) next ≡ count_by (returns m) past) →
+    DeadPart σ (out ++ FromSender.Hello n ∷ []) queue next o taken
 dead_hello σ n out queue past next o taken dead same_returns =
     record {
       later = λ p q e g. dead.later p q (not_hello out n p e) (not_hello out n q g);
@@ -155,7 +178,13 @@ dead_hello σ n out queue past next o taken dead same_returns =
     }
 
 -- a parcel goes out, of a message of which the parcels of earlier bindings are dead, and that neither waits nor is returned
-pub dead_sends : (τ : Sender) (b : Bound) (life offered : ℕ) (out : List SenderPacket) (f : SessionParcel) (queue rest : List ℕ) (past next : List SessionEntry) (o : Point) (taken : List SessionParcel) → ((p q : SessionParcel) → Emitted out p → Emitted out q → p.message ≡ q.message → Before (numbers q) (numbers p) → Dead o taken p) → ((p : SessionParcel) → Emitted out p → 1 ≤ waiting p.message rest → Dead o taken p) → ((p : SessionParcel) → Emitted out p → 1 ≤ count_by (returns p.message) past → Dead o taken p) → SenderPart τ life offered out → IsSent τ b f → ((p : SessionParcel) → Emitted out p → p.message ≡ number_of b → Before (key τ) (numbers p) → Dead o taken p) → waiting (number_of b) rest ≡ 0 → count_by (returns (number_of b)) past ≡ 0 → ((m : ℕ) → count_by (returns m) next ≡ count_by (returns m) past) → DeadPart τ (out ++ FromSender.Parcel f ∷ []) rest next o taken
+pub dead_sends : (τ : Sender) (b : Bound) (life offered : ℕ) (out : List SenderPacket) (f : SessionParcel) (queue rest : List ℕ) (past next : List SessionEntry)
+    (o : Point) (taken : List SessionParcel) → ((p q : SessionParcel) → Emitted out p → Emitted out q → p.message ≡ q.message → Before (numbers q) (numbers p) →
+    Dead o taken p) → ((p : SessionParcel) → Emitted out p → 1 ≤ waiting p.message rest → Dead o taken p) →
+    ((p : SessionParcel) → Emitted out p → 1 ≤ count_by (returns p.message) past → Dead o taken p) → SenderPart τ life offered out → IsSent τ b f →
+    ((p : SessionParcel) → Emitted out p → p.message ≡ number_of b → Before (key τ) (numbers p) → Dead o taken p) → waiting (number_of b) rest ≡ 0 →
+    count_by (returns (number_of b)) past ≡ 0 → ((m : ℕ) → count_by (returns m) next ≡ count_by (returns m) past) →
+    DeadPart τ (out ++ FromSender.Parcel f ∷ []) rest next o taken
 dead_sends τ b life offered out f queue rest past next o taken dead_later dead_queued dead_returned sender is earlier waits returned same_returns =
     record {
       later = λ p q e g same before. over_later p q (parcel_cases out f p e) (parcel_cases out f q g) same before;
@@ -165,13 +194,18 @@ dead_sends τ b life offered out f queue rest past next o taken dead_later dead_
     }
   where
     last_up : UpTo (key τ) (numbers f)
-    last_up = record { sender' = omega (arith, is.numbers'.sender'); receiver' = λ e. omega (arith, is.numbers'.receiver); seq' = λ e g. omega (arith, is.numbers'.seq) }
+    last_up = record {
+      sender' = omega (arith, is.numbers'.sender');
+      receiver' = λ e. omega (arith, is.numbers'.receiver);
+      seq' = λ e g. omega (arith, is.numbers'.seq);
+    }
 
     up : (q : SessionParcel) → Emitted out q ⊎ (q ≡ f) → UpTo (key τ) (numbers q)
     up q (inl g) = (sender.fits q g).upto
     up q (inr g) = subst (λ (r : SessionParcel). UpTo (key τ) (numbers r)) (sym g) last_up
 
-    over_later : (p q : SessionParcel) → Emitted out p ⊎ (p ≡ f) → Emitted out q ⊎ (q ≡ f) → p.message ≡ q.message → Before (numbers q) (numbers p) → Dead o taken p
+    over_later : (p q : SessionParcel) → Emitted out p ⊎ (p ≡ f) → Emitted out q ⊎ (q ≡ f) → p.message ≡ q.message → Before (numbers q) (numbers p) →
+        Dead o taken p
     over_later p q (inl e) (inl g) same before = dead_later p q e g same before
     over_later p q (inl e) (inr g) same before =
         let at : IsSame (numbers q) (key τ) = subst (λ (r : SessionParcel). IsSame (numbers r) (key τ)) (sym g) is.numbers' in
@@ -180,7 +214,8 @@ dead_sends τ b life offered out f queue rest past next o taken dead_later dead_
         let at : IsSame (numbers p) (key τ) = subst (λ (r : SessionParcel). IsSame (numbers r) (key τ)) (sym e) is.numbers' in
         absurd (not_before (key τ) (numbers q) (numbers p) (up q g) at before)
 
-    over_bound : (p : SessionParcel) (c : Bound) → Emitted out p ⊎ (p ≡ f) → τ.end.bound ≡ Some c → p.message ≡ number_of c → Before (key τ) (numbers p) → Dead o taken p
+    over_bound : (p : SessionParcel) (c : Bound) → Emitted out p ⊎ (p ≡ f) → τ.end.bound ≡ Some c → p.message ≡ number_of c → Before (key τ) (numbers p) →
+        Dead o taken p
     over_bound p c (inl e) at same before =
         let also : c ≡ b = let both : Some c ≡ Some b = sym at ∙ is.bound in cc in
         earlier p e (same ∙ ap number_of also) before
@@ -193,8 +228,10 @@ dead_sends τ b life offered out f queue rest past next o taken dead_later dead_
 
     over_queued : (p : SessionParcel) → Emitted out p ⊎ (p ≡ f) → 1 ≤ waiting p.message rest → Dead o taken p
     over_queued p (inl e) one = dead_queued p e one
-    over_queued p (inr e) one = absurd (let some : 1 ≤ waiting (number_of b) rest = subst (λ (m : ℕ). 1 ≤ waiting m rest) (number p e) one in omega (arith, some, waits))
+    over_queued p (inr e) one = absurd (let some : 1 ≤ waiting (number_of b) rest = subst (λ (m : ℕ). 1 ≤ waiting m rest) (number p e) one in
+        omega (arith, some, waits))
 
     over_returned : (p : SessionParcel) → Emitted out p ⊎ (p ≡ f) → 1 ≤ count_by (returns p.message) past → Dead o taken p
     over_returned p (inl e) one = dead_returned p e one
-    over_returned p (inr e) one = absurd (let some : 1 ≤ count_by (returns (number_of b)) past = subst (λ (m : ℕ). 1 ≤ count_by (returns m) past) (number p e) one in omega (arith, some, returned))
+    over_returned p (inr e) one = absurd (let some : 1 ≤ count_by (returns (number_of b)) past =
+        subst (λ (m : ℕ). 1 ≤ count_by (returns m) past) (number p e) one in omega (arith, some, returned))

@@ -1,5 +1,6 @@
 -- What stands in a list, and how much of it passes a test.
-use Rattle.std.proofs.Common.{◌≡◌, ℕ, zero, suc, ◌+◌, ◌-◌, Bool, true, false, ◌==◌, ◌⊎◌, inl, inr, Option, Some, None, List, [], ◌∷◌, ◌++◌, refl, sym, ap, subst, arith, if◌then◌else◌}
+use Rattle.std.proofs.Common.{◌≡◌, ℕ, zero, suc, ◌+◌, ◌-◌, Bool, true, false, ◌==◌, ◌⊎◌, inl, inr, Option, Some, None, List, [], ◌∷◌, ◌++◌, refl, sym, ap}
+use Rattle.std.proofs.Common.{subst, arith, if◌then◌else◌}
 use Rattle.std.specs.Prelude.{count_by, slice_get, drop}
 use Rattle.std.proofs.lemmas.List.Sums.{sum_by_push, sum_by-cons}
 use Rattle.am_restart.specs.State.{packet_at}
@@ -14,10 +15,6 @@ pub among_more : {X : Type 0} (x : X) (xs : List X) (y : X) → Among x xs → A
 among_more x [] y h = absurd h
 among_more x (z ∷ xs) y (inl e) = inl e
 among_more x (z ∷ xs) y (inr h) = inr (among_more x xs y h)
-
-pub among_last : {X : Type 0} (xs : List X) (y : X) → Among y (xs ++ y ∷ [])
-among_last [] y = inl refl
-among_last (z ∷ xs) y = inr (among_last xs y)
 
 pub among_cases : {X : Type 0} (x : X) (xs : List X) (y : X) → Among x (xs ++ y ∷ []) → Among x xs ⊎ (x ≡ y)
 among_cases x [] y (inl e) = inr e

@@ -49,20 +49,41 @@ not_before k q f up same h =
 pub place : (k p : Numbers) → UpTo k p → Before k p ⊎ IsSame p k
 place k p up = by_tests (eqb_tells p.sender k.sender) (eqb_tells p.receiver k.receiver) (eqb_tells p.seq k.seq)
   where
-    by_tests : ((((p.sender == k.sender) ≡ true) × (p.sender ≡ k.sender)) ⊎ (((p.sender == k.sender) ≡ false) × (p.sender ≢ k.sender))) → ((((p.receiver == k.receiver) ≡ true) × (p.receiver ≡ k.receiver)) ⊎ (((p.receiver == k.receiver) ≡ false) × (p.receiver ≢ k.receiver))) → ((((p.seq == k.seq) ≡ true) × (p.seq ≡ k.seq)) ⊎ (((p.seq == k.seq) ≡ false) × (p.seq ≢ k.seq))) → Before k p ⊎ IsSame p k
+    by_tests : ((((p.sender == k.sender) ≡ true) × (p.sender ≡ k.sender)) ⊎ (((p.sender == k.sender) ≡ false) × (p.sender ≢ k.sender))) →
+        ((((p.receiver == k.receiver) ≡ true) × (p.receiver ≡ k.receiver)) ⊎ (((p.receiver == k.receiver) ≡ false) × (p.receiver ≢ k.receiver))) →
+        ((((p.seq == k.seq) ≡ true) × (p.seq ≡ k.seq)) ⊎ (((p.seq == k.seq) ≡ false) × (p.seq ≢ k.seq))) → Before k p ⊎ IsSame p k
     by_tests (inr s) r q = inl (record { sender' = up.sender'; receiver' = up.receiver'; seq' = λ e f. absurd (s.1 e) })
     by_tests (inl s) (inr r) q = inl (record { sender' = up.sender'; receiver' = up.receiver'; seq' = λ e f. absurd (r.1 f) })
-    by_tests (inl s) (inl r) (inr q) = inl (record { sender' = up.sender'; receiver' = up.receiver'; seq' = λ e f. let le : p.seq ≤ k.seq = up.seq' e f in let ne : p.seq ≢ k.seq = q.1 in omega (arith, le, ne) })
+    by_tests (inl s) (inl r) (inr q) = inl (record {
+      sender' = up.sender';
+      receiver' = up.receiver';
+      seq' = λ e f. let le : p.seq ≤ k.seq = up.seq' e f in let ne : p.seq ≢ k.seq = q.1 in omega (arith, le, ne);
+    })
     by_tests (inl s) (inl r) (inl q) = inr (record { receiver = r.1; sender' = s.1; seq = q.1 })
 
 -- of two bindings one is earlier, or they are the same
 pub ordered : (p q : Numbers) → UpTo q p ⊎ Before p q
-ordered p q = by_sender (cases_lt p.sender q.sender) (cases_lt q.sender p.sender) (cases_lt p.receiver q.receiver) (cases_lt q.receiver p.receiver) (cases_lt q.seq p.seq)
+ordered p q = by_sender (cases_lt p.sender q.sender) (cases_lt q.sender p.sender) (cases_lt p.receiver q.receiver) (cases_lt q.receiver p.receiver)
+    (cases_lt q.seq p.seq)
   where
-    by_sender : (p.sender < q.sender) ⊎ (q.sender ≤ p.sender) → (q.sender < p.sender) ⊎ (p.sender ≤ q.sender) → (p.receiver < q.receiver) ⊎ (q.receiver ≤ p.receiver) → (q.receiver < p.receiver) ⊎ (p.receiver ≤ q.receiver) → (q.seq < p.seq) ⊎ (p.seq ≤ q.seq) → UpTo q p ⊎ Before p q
+    by_sender : (p.sender < q.sender) ⊎ (q.sender ≤ p.sender) → (q.sender < p.sender) ⊎ (p.sender ≤ q.sender) →
+        (p.receiver < q.receiver) ⊎ (q.receiver ≤ p.receiver) → (q.receiver < p.receiver) ⊎ (p.receiver ≤ q.receiver) → (q.seq < p.seq) ⊎ (p.seq ≤ q.seq) →
+        UpTo q p ⊎ Before p q
     by_sender (inl lt) b c d e = inl (record { sender' = omega arith; receiver' = λ same. absurd (omega arith); seq' = λ same r. absurd (omega arith) })
     by_sender (inr ge) (inl gt) c d e = inr (record { sender' = omega arith; receiver' = λ same. absurd (omega arith); seq' = λ same r. absurd (omega arith) })
     by_sender (inr ge) (inr le) (inl lt) d e = inl (record { sender' = omega arith; receiver' = λ same. omega arith; seq' = λ same r. absurd (omega arith) })
-    by_sender (inr ge) (inr le) (inr rge) (inl gt) e = inr (record { sender' = omega arith; receiver' = λ same. omega arith; seq' = λ same r. absurd (omega arith) })
-    by_sender (inr ge) (inr le) (inr rge) (inr rle) (inl lt) = inr (record { sender' = omega arith; receiver' = λ same. omega arith; seq' = λ same r. omega arith })
-    by_sender (inr ge) (inr le) (inr rge) (inr rle) (inr sle) = inl (record { sender' = omega arith; receiver' = λ same. omega arith; seq' = λ same r. omega arith })
+    by_sender (inr ge) (inr le) (inr rge) (inl gt) e = inr (record {
+      sender' = omega arith;
+      receiver' = λ same. omega arith;
+      seq' = λ same r. absurd (omega arith);
+    })
+    by_sender (inr ge) (inr le) (inr rge) (inr rle) (inl lt) = inr (record {
+      sender' = omega arith;
+      receiver' = λ same. omega arith;
+      seq' = λ same r. omega arith;
+    })
+    by_sender (inr ge) (inr le) (inr rge) (inr rle) (inr sle) = inl (record {
+      sender' = omega arith;
+      receiver' = λ same. omega arith;
+      seq' = λ same r. omega arith;
+    })

@@ -38,7 +38,8 @@ is_taken m d = m == d.message
 
 -- each offered message is in one place: it waits, is bound, or is returned, unknown or delivered
 pub record Places (bound : Option Bound) (offered : ℕ) (queue : List ℕ) (past : List SessionEntry) : Type 0 where
-  pub sum : (m : ℕ) → waiting m queue + bound_bit m bound + count_by (returns m) past + count_by (leaves_unknown m) past + count_by (delivers m) past ≡ count_by (offers m) past
+  pub sum : (m : ℕ) → waiting m queue + bound_bit m bound + count_by (returns m) past + count_by (leaves_unknown m) past + count_by (delivers m) past ≡ count_by
+      (offers m) past
   pub once : (m : ℕ) → count_by (offers m) past ≤ 1
   pub later : (m : ℕ) → offered < m → count_by (offers m) past ≡ 0
 

@@ -35,7 +35,8 @@ pub none_more : (n count : ℕ) → n ≡ count + 0 → n ≡ count
 none_more n count h = omega (arith, h)
 
 -- no message goes anywhere, or what is bound stays the same message
-pub places_same : (bound after : Option Bound) (offered : ℕ) (queue : List ℕ) (past next : List SessionEntry) (p : Option ℕ) → Places bound offered queue past → Pushed past next None p None None None → ((m : ℕ) → bound_bit m after ≡ bound_bit m bound) → Places after offered queue next
+pub places_same : (bound after : Option Bound) (offered : ℕ) (queue : List ℕ) (past next : List SessionEntry) (p : Option ℕ) → Places bound offered queue past →
+    Pushed past next None p None None None → ((m : ℕ) → bound_bit m after ≡ bound_bit m bound) → Places after offered queue next
 places_same bound after offered queue past next p h more same =
     record {
       sum = λ m. omega (arith, h.sum m, more.offers' m, more.returns' m, more.unknown' m, more.delivers' m, same m);
@@ -44,34 +45,43 @@ places_same bound after offered queue past next p h more same =
     }
 
 -- what was bound is returned, unknown or delivered
-pub places_free : (bound after : Option Bound) (offered : ℕ) (queue : List ℕ) (past next : List SessionEntry) (r u d : Option ℕ) → Places bound offered queue past → Pushed past next None None r u d → ((m : ℕ) → bound_bit m bound ≡ bit (is_of m r) + bit (is_of m u) + bit (is_of m d)) → after ≡ None → Places after offered queue next
+pub places_free : (bound after : Option Bound) (offered : ℕ) (queue : List ℕ) (past next : List SessionEntry) (r u d : Option ℕ) →
+    Places bound offered queue past → Pushed past next None None r u d → ((m : ℕ) → bound_bit m bound ≡ bit (is_of m r) + bit (is_of m u) + bit (is_of m d)) →
+    after ≡ None → Places after offered queue next
 places_free bound after offered queue past next r u d h more is idle =
     record {
-      sum = λ m. let free : ◌≡◌ {A = ℕ} (bound_bit m after) 0 = ap (bound_bit m) idle in omega (arith, h.sum m, more.offers' m, more.returns' m, more.unknown' m, more.delivers' m, is m, free);
+      sum = λ m. let free : ◌≡◌ {A = ℕ} (bound_bit m after) 0 = ap (bound_bit m) idle in
+          omega (arith, h.sum m, more.offers' m, more.returns' m, more.unknown' m, more.delivers' m, is m, free);
       once = λ m. omega (arith, h.once m, more.offers' m);
       later = λ m lt. omega (arith, h.later m lt, more.offers' m);
     }
 
 -- what was bound waits again
-pub places_requeue : (bound after : Option Bound) (offered : ℕ) (queue : List ℕ) (past next : List SessionEntry) (n : ℕ) → Places bound offered queue past → Pushed past next None None None None None → ((m : ℕ) → bound_bit m bound ≡ bit (m == n)) → after ≡ None → Places after offered (queue ++ n ∷ []) next
+pub places_requeue : (bound after : Option Bound) (offered : ℕ) (queue : List ℕ) (past next : List SessionEntry) (n : ℕ) → Places bound offered queue past →
+    Pushed past next None None None None None → ((m : ℕ) → bound_bit m bound ≡ bit (m == n)) → after ≡ None → Places after offered (queue ++ n ∷ []) next
 places_requeue bound after offered queue past next n h more is idle =
     record {
-      sum = λ m. let free : ◌≡◌ {A = ℕ} (bound_bit m after) 0 = ap (bound_bit m) idle in omega (arith, h.sum m, more.offers' m, more.returns' m, more.unknown' m, more.delivers' m, is m, free, count_more (λ (k : ℕ). m == k) queue n);
+      sum = λ m. let free : ◌≡◌ {A = ℕ} (bound_bit m after) 0 = ap (bound_bit m) idle in
+          omega (arith, h.sum m, more.offers' m, more.returns' m, more.unknown' m, more.delivers' m, is m, free, count_more (λ (k : ℕ). m == k) queue n);
       once = λ m. omega (arith, h.once m, more.offers' m);
       later = λ m lt. omega (arith, h.later m lt, more.offers' m);
     }
 
 -- the queue's front is bound
-pub places_bind : (bound after : Option Bound) (offered : ℕ) (queue : List ℕ) (past next : List SessionEntry) (n : ℕ) → Places bound offered queue past → Pushed past next None None None None None → bound ≡ None → ((m : ℕ) → bound_bit m after ≡ bit (m == n)) → slice_get queue 0 ≡ Some n → Places after offered (drop 1 queue) next
+pub places_bind : (bound after : Option Bound) (offered : ℕ) (queue : List ℕ) (past next : List SessionEntry) (n : ℕ) → Places bound offered queue past →
+    Pushed past next None None None None None → bound ≡ None → ((m : ℕ) → bound_bit m after ≡ bit (m == n)) → slice_get queue 0 ≡ Some n →
+    Places after offered (drop 1 queue) next
 places_bind bound after offered queue past next n h more idle is front =
     record {
-      sum = λ m. let free : ◌≡◌ {A = ℕ} (bound_bit m bound) 0 = ap (bound_bit m) idle in omega (arith, h.sum m, more.offers' m, more.returns' m, more.unknown' m, more.delivers' m, is m, free, count_front (λ (k : ℕ). m == k) n queue front);
+      sum = λ m. let free : ◌≡◌ {A = ℕ} (bound_bit m bound) 0 = ap (bound_bit m) idle in
+          omega (arith, h.sum m, more.offers' m, more.returns' m, more.unknown' m, more.delivers' m, is m, free, count_front (λ (k : ℕ). m == k) n queue front);
       once = λ m. omega (arith, h.once m, more.offers' m);
       later = λ m lt. omega (arith, h.later m lt, more.offers' m);
     }
 
 -- the next message waits
-pub places_offer : (bound : Option Bound) (offered : ℕ) (queue : List ℕ) (past next : List SessionEntry) → Places bound offered queue past → Pushed past next (Some (offered + 1)) None None None None → Places bound (offered + 1) (queue ++ (offered + 1) ∷ []) next
+pub places_offer : (bound : Option Bound) (offered : ℕ) (queue : List ℕ) (past next : List SessionEntry) → Places bound offered queue past →
+    Pushed past next (Some (offered + 1)) None None None None → Places bound (offered + 1) (queue ++ (offered + 1) ∷ []) next
 places_offer bound offered queue past next h more =
     record {
       sum = λ m. omega (arith, h.sum m, more.offers' m, more.returns' m, more.unknown' m, more.delivers' m, count_more (λ (k : ℕ). m == k) queue (offered + 1));
@@ -82,16 +92,19 @@ places_offer bound offered queue past next h more =
           omega (arith, h.later m (omega arith), more.offers' m, none);
     }
   where
-    over : (m : ℕ) → (((m == (offered + 1)) ≡ true) × (m ≡ offered + 1)) ⊎ (((m == (offered + 1)) ≡ false) × (m ≡ offered + 1 → ⊥)) → count_by (offers m) next ≤ 1
+    over : (m : ℕ) → (((m == (offered + 1)) ≡ true) × (m ≡ offered + 1)) ⊎ (((m == (offered + 1)) ≡ false) × (m ≡ offered + 1 → ⊥)) →
+        count_by (offers m) next ≤ 1
     over m (inl same) = omega (arith, h.later m (let e : m ≡ offered + 1 = same.1 in omega (arith, e)), more.offers' m, bit_at_most (m == (offered + 1)))
     over m (inr other) = let none : ◌≡◌ {A = ℕ} (bit (m == (offered + 1))) 0 = ap bit other.0 in omega (arith, h.once m, more.offers' m, none)
 
 -- nothing more is put
-pub tally_same : (past next : List SessionEntry) (taken : List SessionParcel) (o r u d : Option ℕ) → Tally past taken → Pushed past next o None r u d → Tally next taken
+pub tally_same : (past next : List SessionEntry) (taken : List SessionParcel) (o r u d : Option ℕ) → Tally past taken → Pushed past next o None r u d →
+    Tally next taken
 tally_same past next taken o r u d h more = record { put = λ m. omega (arith, h.put m, more.puts' m); once = h.once }
 
 -- a parcel is put, of a message of which none was
-pub tally_put : (past next : List SessionEntry) (taken : List SessionParcel) (f : SessionParcel) → Tally past taken → Pushed past next None (Some f.message) None None None → count_by (is_taken f.message) taken ≡ 0 → Tally next (f ∷ taken)
+pub tally_put : (past next : List SessionEntry) (taken : List SessionParcel) (f : SessionParcel) → Tally past taken →
+    Pushed past next None (Some f.message) None None None → count_by (is_taken f.message) taken ≡ 0 → Tally next (f ∷ taken)
 tally_put past next taken f h more none =
     record {
       put = λ m. omega (arith, h.put m, more.puts' m, count_first (is_taken m) f taken);

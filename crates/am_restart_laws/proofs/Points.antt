@@ -10,7 +10,8 @@ use Rattle.am_restart.specs.declared.ends.Receiver.{Receiver}
 use Rattle.am_restart.specs.declared.packets.SessionParcel.{SessionParcel}
 use Rattle.am_restart.specs.Ends as Ends
 use Rattle.am_restart.specs.Ends.{new_receiver}
-use Rattle.am_restart_laws.proofs.Keys.{Point, Numbers, IsClosed, IsSettled, IsFresh, kept, restarted, closed_met, settled_met, closed_kept, settled_kept, closed_restarted, settled_restarted}
+use Rattle.am_restart_laws.proofs.Keys.{Point, Numbers, IsClosed, IsSettled, IsFresh, kept, restarted, closed_met, settled_met, closed_kept, settled_kept}
+use Rattle.am_restart_laws.proofs.Keys.{closed_restarted, settled_restarted}
 
 abbrev pub weight : Verdict → ℕ
 weight Verdicts.Accepted = 1
@@ -32,7 +33,11 @@ pub stays_same : (o : Point) → Stays o o
 stays_same o = record { life = omega arith; closed = λ p h. h; settled = λ p h. h }
 
 pub stays_then : (a b c : Point) → Stays a b → Stays b c → Stays a c
-stays_then a b c h k = record { life = omega (arith, h.life, k.life); closed = λ p is. k.closed p (h.closed p is); settled = λ p is. k.settled p (h.settled p is) }
+stays_then a b c h k = record {
+  life = omega (arith, h.life, k.life);
+  closed = λ p is. k.closed p (h.closed p is);
+  settled = λ p is. k.settled p (h.settled p is);
+}
 
 pub stays_restarted : (o : Point) → Stays o (restarted o)
 stays_restarted o = record { life = omega arith; closed = λ p is. closed_restarted o p is.life; settled = λ p is. settled_restarted o p is.life }
@@ -54,7 +59,11 @@ has_met r sender = by_test (nat_lt r.newest sender) refl
         let h : r.newest < sender = ltb-true r.newest sender lt in
         let is : Ends.met sender r ≡ new_receiver r.incarnation sender = ap (λ (b : Bool). if b then new_receiver r.incarnation sender else r) lt in
         record {
-          stays = subst (λ (q : Receiver). Stays (point r) (point q)) (sym is) (record { life = omega arith; closed = λ p c. closed_met (point r) p sender c h; settled = λ p c. settled_met (point r) p sender c h });
+          stays = subst (λ (q : Receiver). Stays (point r) (point q)) (sym is) (record {
+            life = omega arith;
+            closed = λ p c. closed_met (point r) p sender c h;
+            settled = λ p c. settled_met (point r) p sender c h;
+          });
           incarnation = ap (λ (q : Receiver). q.incarnation) is;
           newest = λ le. ap (λ (q : Receiver). q.newest) is;
         }
@@ -93,11 +102,18 @@ again_at m seq attempt Verdicts.Accepted w is e = by_tests (nat_lt seq m.seq) (s
     by_tests true b eq f = absurd (cc)
     by_tests false true eq f =
         let v : w ≡ Verdicts.Accepted = cc in
-        record { verdict = v ∙ sym is; seq' = eqb-true seq m.seq eq; attempt' = λ light. absurd (let one : ◌≡◌ {A = ℕ} (weight w) 1 = ap weight v in omega (arith, one, light)) }
+        record {
+          verdict = v ∙ sym is;
+          seq' = eqb-true seq m.seq eq;
+          attempt' = λ light. absurd (let one : ◌≡◌ {A = ℕ} (weight w) 1 = ap weight v in omega (arith, one, light));
+        }
     by_tests false false eq f = absurd (cc)
-again_at m seq attempt (Verdicts.Refused cause) w is e = by_tests (nat_lt seq m.seq) (seq == m.seq) (nat_lt attempt m.attempt) (attempt == m.attempt) refl refl e
+again_at m seq attempt (Verdicts.Refused cause) w is e = by_tests (nat_lt seq m.seq) (seq == m.seq) (nat_lt attempt m.attempt) (attempt ==
+    m.attempt) refl refl e
   where
-    by_tests : (a b c d : Bool) → (seq == m.seq) ≡ b → (attempt == m.attempt) ≡ d → (if a then Stale else (if b then (if c then Stale else (if d then Again (Verdicts.Refused cause) else Fresh)) else Fresh)) ≡ Again w → IsAt m w seq attempt
+    by_tests : (a b c d : Bool) → (seq == m.seq) ≡ b → (attempt == m.attempt) ≡ d →
+        (if a then Stale else (if b then (if c then Stale else (if d then Again (Verdicts.Refused cause) else Fresh)) else Fresh)) ≡ Again w →
+        IsAt m w seq attempt
     by_tests true b c d eq eqa f = absurd (cc)
     by_tests false true true d eq eqa f = absurd (cc)
     by_tests false true false true eq eqa f =
@@ -107,11 +123,13 @@ again_at m seq attempt (Verdicts.Refused cause) w is e = by_tests (nat_lt seq m.
     by_tests false false c d eq eqa f = absurd (cc)
 
 -- a parcel to this receiver, of a sender that isn't older than the newest it met, is fresh in numbers
-pub fresh_of : (r : Receiver) (p : SessionParcel) → p.receiver ≡ r.incarnation → r.newest ≤ p.sender → arrival (Ends.met p.sender r).end p.seq p.attempt ≡ Fresh → IsFresh (point (Ends.met p.sender r)) (numbers p)
+pub fresh_of : (r : Receiver) (p : SessionParcel) → p.receiver ≡ r.incarnation → r.newest ≤ p.sender →
+    arrival (Ends.met p.sender r).end p.seq p.attempt ≡ Fresh → IsFresh (point (Ends.met p.sender r)) (numbers p)
 fresh_of r p own le e =
     let m : HasMet r p.sender = has_met r p.sender in
     let past = past_in_numbers (Ends.met p.sender r).end p.seq p.attempt (fresh_means (Ends.met p.sender r).end p.seq p.attempt e) in
     record { own = own ∙ sym m.incarnation; met = sym (m.newest le); later = past.later; again = past.again }
 
-pub again_of : (r : Receiver) (p : SessionParcel) (v : Verdict) → arrival (Ends.met p.sender r).end p.seq p.attempt ≡ Again v → IsAt (Ends.met p.sender r).end v p.seq p.attempt
+pub again_of : (r : Receiver) (p : SessionParcel) (v : Verdict) → arrival (Ends.met p.sender r).end p.seq p.attempt ≡ Again v →
+    IsAt (Ends.met p.sender r).end v p.seq p.attempt
 again_of r p v e = again_at (Ends.met p.sender r).end p.seq p.attempt (Ends.met p.sender r).end.verdict v refl e

@@ -14,19 +14,31 @@ use Rattle.am_restart_laws.proofs.Parts.{Emitted, Fits, SenderPart, key}
 use Rattle.am_restart_laws.proofs.Points.{numbers}
 
 -- the sender as it was
-pub sender_same : (σ : Sender) (life later offered more : ℕ) (out : List SenderPacket) → SenderPart σ life offered out → life ≤ later → offered ≤ more → SenderPart σ later more out
+pub sender_same : (σ : Sender) (life later offered more : ℕ) (out : List SenderPacket) → SenderPart σ life offered out → life ≤ later → offered ≤ more →
+    SenderPart σ later more out
 sender_same σ life later offered more out h le up =
     record {
-      fits = λ p e. let f : Fits σ life offered p = h.fits p e in record { known = omega (arith, f.known); offered' = omega (arith, f.offered'); upto = f.upto; bound = f.bound };
+      fits = λ p e. let f : Fits σ life offered p = h.fits p e in record {
+        known = omega (arith, f.known);
+        offered' = omega (arith, f.offered');
+        upto = f.upto;
+        bound = f.bound;
+      };
       one = h.one;
       peer = omega (arith, h.peer);
     }
 
 -- a sender that goes on, with nothing bound
-pub sender_on : (σ τ : Sender) (life offered : ℕ) (out : List SenderPacket) → SenderPart σ life offered out → τ.end.bound ≡ None → τ.peer ≤ life → ((p : Numbers) → UpTo (key σ) p → UpTo (key τ) p) → SenderPart τ life offered out
+pub sender_on : (σ τ : Sender) (life offered : ℕ) (out : List SenderPacket) → SenderPart σ life offered out → τ.end.bound ≡ None → τ.peer ≤ life →
+    ((p : Numbers) → UpTo (key σ) p → UpTo (key τ) p) → SenderPart τ life offered out
 sender_on σ τ life offered out h idle peer on =
     record {
-      fits = λ p e. let f : Fits σ life offered p = h.fits p e in record { known = f.known; offered' = f.offered'; upto = on (numbers p) f.upto; bound = λ same. subst (λ (b : Option Bound). IfSome b (λ b. (p.message ≡ number_of b) × (p.attempt ≤ b.attempt))) (sym idle) tt };
+      fits = λ p e. let f : Fits σ life offered p = h.fits p e in record {
+        known = f.known;
+        offered' = f.offered';
+        upto = on (numbers p) f.upto;
+        bound = λ same. subst (λ (b : Option Bound). IfSome b (λ b. (p.message ≡ number_of b) × (p.attempt ≤ b.attempt))) (sym idle) tt;
+      };
       one = h.one;
       peer = peer;
     }
@@ -47,7 +59,8 @@ parcel_cases out f p e = over (among_cases (FromSender.Parcel p) out (FromSender
     over (inl there) = inl there
     over (inr same) = inr (cc)
 
-pub sender_hello : (σ : Sender) (life offered n : ℕ) (out : List SenderPacket) → SenderPart σ life offered out → SenderPart σ life offered (out ++ FromSender.Hello n ∷ [])
+pub sender_hello : (σ : Sender) (life offered n : ℕ) (out : List SenderPacket) → SenderPart σ life offered out →
+    SenderPart σ life offered (out ++ FromSender.Hello n ∷ [])
 sender_hello σ life offered n out h =
     record { fits = λ p e. h.fits p (not_hello out n p e); one = λ p q e g. h.one p q (not_hello out n p e) (not_hello out n q g); peer = h.peer }
 
@@ -59,7 +72,8 @@ pub record IsSent (τ : Sender) (b : Bound) (f : SessionParcel) : Type 0 where
   pub attempt' : f.attempt ≡ b.attempt
 
 -- the sender after a parcel goes out: what was emitted before fits it, and so does the parcel
-pub sender_sends : (τ : Sender) (b : Bound) (life offered : ℕ) (out : List SenderPacket) (f : SessionParcel) → SenderPart τ life offered out → IsSent τ b f → f.message ≤ offered → SenderPart τ life offered (out ++ FromSender.Parcel f ∷ [])
+pub sender_sends : (τ : Sender) (b : Bound) (life offered : ℕ) (out : List SenderPacket) (f : SessionParcel) → SenderPart τ life offered out → IsSent τ b f →
+    f.message ≤ offered → SenderPart τ life offered (out ++ FromSender.Parcel f ∷ [])
 sender_sends τ b life offered out f h is le =
     record {
       fits = λ p e. by_case p (parcel_cases out f p e);
@@ -72,8 +86,15 @@ sender_sends τ b life offered out f h is le =
         record {
           known = omega (arith, h.peer, is.numbers'.receiver);
           offered' = le;
-          upto = record { sender' = omega (arith, is.numbers'.sender'); receiver' = λ e. omega (arith, is.numbers'.receiver); seq' = λ e g. omega (arith, is.numbers'.seq) };
-          bound = λ same. subst (λ (o : Option Bound). IfSome o (λ b. (f.message ≡ number_of b) × (f.attempt ≤ b.attempt))) (sym is.bound) (is.message', omega (arith, is.attempt'));
+          upto = record {
+            sender' = omega (arith, is.numbers'.sender');
+            receiver' = λ e. omega (arith, is.numbers'.receiver);
+            seq' = λ e g. omega (arith, is.numbers'.seq);
+          };
+          bound = λ same. subst (λ (o : Option Bound). IfSome o (λ b. (f.message ≡ number_of b) × (f.attempt ≤ b.attempt))) (sym is.bound) (
+            is.message',
+            omega (arith, is.attempt'),
+          );
         }
 
     by_case : (p : SessionParcel) → Emitted out p ⊎ (p ≡ f) → Fits τ life offered p
@@ -82,7 +103,8 @@ sender_sends τ b life offered out f h is le =
 
     message_at : (p : SessionParcel) → Emitted out p → IsSame (numbers p) (key τ) → p.message ≡ number_of b
     message_at p e same =
-        let at : IfSome (Some b) (λ b. (p.message ≡ number_of b) × (p.attempt ≤ b.attempt)) = subst (λ (o : Option Bound). IfSome o (λ b. (p.message ≡ number_of b) × (p.attempt ≤ b.attempt))) is.bound ((h.fits p e).bound same) in
+        let at : IfSome (Some b) (λ b. (p.message ≡ number_of b) × (p.attempt ≤ b.attempt)) =
+        subst (λ (o : Option Bound). IfSome o (λ b. (p.message ≡ number_of b) × (p.attempt ≤ b.attempt))) is.bound ((h.fits p e).bound same) in
         at.0
 
     by_cases : (p q : SessionParcel) → Emitted out p ⊎ (p ≡ f) → Emitted out q ⊎ (q ≡ f) → IsSame (numbers p) (numbers q) → p.message ≡ q.message
@@ -96,7 +118,8 @@ sender_sends τ b life offered out f h is le =
     by_cases p q (inr e) (inr g) same = ap (λ (r : SessionParcel). r.message) (e ∙ sym g)
 
 -- the sender with the next message bound, before its parcel goes out
-pub sender_binds : (σ τ : Sender) (life offered : ℕ) (out : List SenderPacket) → SenderPart σ life offered out → τ.incarnation ≡ σ.incarnation → τ.peer ≡ σ.peer → τ.end.seq ≡ σ.end.seq + 1 → SenderPart τ life offered out
+pub sender_binds : (σ τ : Sender) (life offered : ℕ) (out : List SenderPacket) → SenderPart σ life offered out → τ.incarnation ≡ σ.incarnation →
+    τ.peer ≡ σ.peer → τ.end.seq ≡ σ.end.seq + 1 → SenderPart τ life offered out
 sender_binds σ τ life offered out h own peer seq =
     record { fits = λ p e. fits_next p (h.fits p e); one = h.one; peer = omega (arith, h.peer, peer) }
   where
@@ -105,12 +128,18 @@ sender_binds σ τ life offered out h own peer seq =
         record {
           known = f.known;
           offered' = f.offered';
-          upto = record { sender' = omega (arith, f.upto.sender', own); receiver' = λ e. omega (arith, f.upto.receiver' (e ∙ own), peer); seq' = λ e g. omega (arith, f.upto.seq' (e ∙ own) (g ∙ peer), seq) };
+          upto = record {
+            sender' = omega (arith, f.upto.sender', own);
+            receiver' = λ e. omega (arith, f.upto.receiver' (e ∙ own), peer);
+            seq' = λ e g. omega (arith, f.upto.seq' (e ∙ own) (g ∙ peer), seq);
+          };
           bound = λ same. absurd (omega (arith, f.upto.seq' (same.sender' ∙ own) (same.receiver ∙ peer), same.seq, seq));
         }
 
 -- the sender with one more try, before its parcel goes out
-pub sender_tries : (σ τ : Sender) (b c : Bound) (life offered : ℕ) (out : List SenderPacket) → SenderPart σ life offered out → σ.end.bound ≡ Some b → τ.end.bound ≡ Some c → number_of c ≡ number_of b → c.attempt ≡ b.attempt + 1 → τ.incarnation ≡ σ.incarnation → τ.peer ≡ σ.peer → τ.end.seq ≡ σ.end.seq → SenderPart τ life offered out
+pub sender_tries : (σ τ : Sender) (b c : Bound) (life offered : ℕ) (out : List SenderPacket) → SenderPart σ life offered out → σ.end.bound ≡ Some b →
+    τ.end.bound ≡ Some c → number_of c ≡ number_of b → c.attempt ≡ b.attempt + 1 → τ.incarnation ≡ σ.incarnation → τ.peer ≡ σ.peer → τ.end.seq ≡ σ.end.seq →
+    SenderPart τ life offered out
 sender_tries σ τ b c life offered out h was is number attempt own peer seq =
     record { fits = λ p e. fits_next p (h.fits p e); one = h.one; peer = omega (arith, h.peer, peer) }
   where
@@ -119,8 +148,18 @@ sender_tries σ τ b c life offered out h was is number attempt own peer seq =
         record {
           known = f.known;
           offered' = f.offered';
-          upto = record { sender' = omega (arith, f.upto.sender', own); receiver' = λ e. omega (arith, f.upto.receiver' (e ∙ own), peer); seq' = λ e g. omega (arith, f.upto.seq' (e ∙ own) (g ∙ peer), seq) };
+          upto = record {
+            sender' = omega (arith, f.upto.sender', own);
+            receiver' = λ e. omega (arith, f.upto.receiver' (e ∙ own), peer);
+            seq' = λ e g. omega (arith, f.upto.seq' (e ∙ own) (g ∙ peer), seq);
+          };
           bound = λ same.
-              let at : IfSome (Some b) (λ b. (p.message ≡ number_of b) × (p.attempt ≤ b.attempt)) = subst (λ (o : Option Bound). IfSome o (λ b. (p.message ≡ number_of b) × (p.attempt ≤ b.attempt))) was (f.bound (record { receiver = same.receiver ∙ peer; sender' = same.sender' ∙ own; seq = same.seq ∙ seq })) in
-              subst (λ (o : Option Bound). IfSome o (λ b. (p.message ≡ number_of b) × (p.attempt ≤ b.attempt))) (sym is) (at.0 ∙ sym number, omega (arith, at.1, attempt));
+              let at : IfSome (Some b) (λ b. (p.message ≡ number_of b) × (p.attempt ≤ b.attempt)) =
+              subst (λ (o : Option Bound). IfSome o (λ b. (p.message ≡ number_of b) × (p.attempt ≤ b.attempt))) was
+              (f.bound (record { receiver = same.receiver ∙ peer; sender' = same.sender' ∙ own; seq = same.seq ∙ seq })) in
+              subst (λ (o : Option Bound). IfSome o (λ b. (p.message ≡ number_of b) × (p.attempt ≤ b.attempt))) (sym is) (
+                at.0
+                    ∙ sym number,
+                omega (arith, at.1, attempt),
+              );
         }

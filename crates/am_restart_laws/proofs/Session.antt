@@ -41,15 +41,22 @@ opened tries =
 
 keeps : (tries : ℕ) (past : List SessionEntry) (x : SessionEntry) → Kept tries past → MayFollow (state_of tries past) x → Kept tries (past ++ x ∷ [])
 keeps tries past x h may =
-    let there : After (state_of tries past) (move_of (state_of tries past) x.event) (past ++ x ∷ []) = step (state_of tries past) h.taken past x (move_of (state_of tries past) x.event) h.holds (kind_of (state_of tries past) x.event may.enabled) may.outcome' in
-    record { taken = there.taken; holds = subst (λ (s : SessionState). Holds s there.taken (past ++ x ∷ [])) (sym (replayed_push (opening tries) past x)) there.holds }
+    let there : After (state_of tries past) (move_of (state_of tries past) x.event) (past ++ x ∷ []) =
+    step (state_of tries past) h.taken past x (move_of (state_of tries past) x.event) h.holds (kind_of (state_of tries past) x.event may.enabled)
+    may.outcome' in
+    record {
+      taken = there.taken;
+      holds = subst (λ (s : SessionState). Holds s there.taken (past ++ x ∷ [])) (sym (replayed_push (opening tries) past x))
+          there.holds;
+    }
 
 kept : (tries : ℕ) (past xs : List SessionEntry) → Kept tries past → EachAfter (λ past x. MayFollow (state_of tries past) x) past xs → Kept tries (past ++ xs)
 kept tries past [] h each = subst (Kept tries) (sym (append-nil past)) h
 kept tries past (x ∷ xs) h each =
     subst (Kept tries) (append_assoc past (x ∷ []) xs) (kept tries (past ++ x ∷ []) xs (keeps tries past x h each.0) each.1)
 
-with_causes : (tries : ℕ) (past xs : List SessionEntry) → EachAfter (λ past x. MayFollow (state_of tries past) x) past xs → EachAfter (λ past x. HasItsCause (state_of tries past) x) past xs
+with_causes : (tries : ℕ) (past xs : List SessionEntry) → EachAfter (λ past x. MayFollow (state_of tries past) x) past xs →
+    EachAfter (λ past x. HasItsCause (state_of tries past) x) past xs
 with_causes tries past [] each = tt
 with_causes tries past (x ∷ xs) each = (has_its_cause (state_of tries past) x each.0, with_causes tries (past ++ x ∷ []) xs each.1)
 
@@ -59,7 +66,8 @@ none_put tries entries h m one = none_pass (is_taken m) h.taken (λ d there. ne_
   where
     other : (d : SessionParcel) → Among d h.taken → m ≡ d.message → ⊥
     other d there same =
-        let dead : Dead _ h.taken d = h.holds.dead.returned d (h.holds.receiver'.emitted d there) (subst (λ (n : ℕ). 1 ≤ count_by (returns n) entries) same one) in
+        let dead : Dead _ h.taken d = h.holds.dead.returned d (h.holds.receiver'.emitted d there) (subst (λ (n : ℕ). 1 ≤ count_by (returns n) entries) same one)
+        in
         dead.untaken d there (record { receiver = refl; sender' = refl; seq = refl })
 
 final : (tries : ℕ) (entries : List SessionEntry) → Kept tries entries → (m : ℕ) → 1 ≤ count_by (returns m) entries → IsFinal entries m

@@ -1,5 +1,6 @@
 -- The elements of a list whose keys are below a number, in ascending order of their keys.
-use Rattle.std.proofs.Common.{◌≡◌, ◌≢◌, ℕ, zero, suc, ◌+◌, ◌<◌, ◌≤◌, Bool, true, false, List, [], ◌∷◌, ◌++◌, Option, Some, None, refl, sym, ap, ◌∙◌, subst, arith}
+use Rattle.std.proofs.Common.{◌≡◌, ◌≢◌, ℕ, zero, suc, ◌+◌, ◌<◌, ◌≤◌, Bool, true, false, List, [], ◌∷◌, ◌++◌, Option, Some, None, refl, sym, ap, ◌∙◌, subst}
+use Rattle.std.proofs.Common.{arith}
 use Rattle.std.specs.Prelude.{◌==◌, find, count_by, if◌then◌else◌}
 use Rattle.std.specs.List.{All, AllPairs}
 use Rattle.std.specs.Option.{option_to_list, option_or}
@@ -10,7 +11,7 @@ use Rattle.std.proofs.lemmas.List.Sums.{sum_by-append, sum_by-cons}
 use Rattle.std.proofs.lemmas.Bool.{eqb-true, eq-eqb}
 use Rattle.am_lemmas.proofs.Lists.{all_pairs_grow, find_passes}
 use Rattle.am_lemmas.proofs.Options.{option_or-None}
-use Rattle.am_lines_laws.proofs.Growing.{apart}
+use Rattle.am_scenario_laws.proofs.Growing.{apart}
 
 abbrev pub has_key : {A : Type 0} → (A → ℕ) → ℕ → A → Bool
 has_key key n a = key a == n
@@ -25,7 +26,8 @@ pub found_holds : {A : Type 0} (P : A → Type 0) (p : A → Bool) (xs : List A)
 found_holds P p [] x all e = absurd (cc)
 found_holds P p (y ∷ ys) x all e = found_holds_at P p y ys x (p y) (All-head P y ys all) (found_holds P p ys x (All-tail P y ys all)) e
   where
-    found_holds_at : {A : Type 0} (P : A → Type 0) (p : A → Bool) (y : A) (ys : List A) (x : A) (b : Bool) → P y → (find p ys ≡ Some x → P x) → (if b then Some y else find p ys) ≡ Some x → P x
+    found_holds_at : {A : Type 0} (P : A → Type 0) (p : A → Bool) (y : A) (ys : List A) (x : A) (b : Bool) → P y → (find p ys ≡ Some x → P x) →
+        (if b then Some y else find p ys) ≡ Some x → P x
     found_holds_at P p y ys x true here rest e = let same : y ≡ x = cc in subst P same here
     found_holds_at P p y ys x false here rest e = rest e
 
@@ -51,7 +53,8 @@ keys_below key xs (suc n) =
     (All-weaker (λ a. key a < n) (λ a. key a < suc n) (λ a less. omega arith) (below key xs n) (keys_below key xs n))
     (optional (λ a. key a < suc n) (find (has_key key n) xs) (λ x e. omega (arith, key_of_found key xs n x e)))
 
-rising_more : {A : Type 0} (key : A → ℕ) (n : ℕ) (xs : List A) (o : Option A) → AllPairs (λ a b. key a < key b) xs → All (λ a. key a < n) xs → ((x : A) → o ≡ Some x → key x ≡ n)
+rising_more : {A : Type 0} (key : A → ℕ) (n : ℕ) (xs : List A) (o : Option A) → AllPairs (λ a b. key a < key b) xs → All (λ a. key a < n) xs →
+    ((x : A) → o ≡ Some x → key x ≡ n)
     → AllPairs (λ a b. key a < key b) (xs ++ option_to_list o)
 rising_more key n xs None rise less at = subst (λ l. AllPairs (λ a b. key a < key b) l) (sym (append-nil xs)) rise
 rising_more key n xs (Some x) rise less at =
@@ -83,7 +86,8 @@ not_below key xs k (suc n) le =
     ∙ (ap (λ (o : Option _). option_or o (find (has_key key k) (option_to_list (find (has_key key n) xs)))) (not_below key xs k n (omega arith))
     ∙ find_other key k n (find (has_key key n) xs) (λ x e. key_of_found key xs n x e) apart_k)
 
-found_here : {A : Type 0} (key : A → ℕ) (xs : List A) (k n : ℕ) → k ≡ n → find (has_key key k) (below key xs n ++ option_to_list (find (has_key key n) xs)) ≡ find (has_key key k) xs
+found_here : {A : Type 0} (key : A → ℕ) (xs : List A) (k n : ℕ) → k ≡ n →
+    find (has_key key k) (below key xs n ++ option_to_list (find (has_key key n) xs)) ≡ find (has_key key k) xs
 found_here key xs k n e =
     let at_n : find (has_key key n) (below key xs n ++ option_to_list (find (has_key key n) xs)) ≡ find (has_key key n) xs =
     find-append (has_key key n) (below key xs n) (option_to_list (find (has_key key n) xs))
@@ -95,10 +99,12 @@ found_before : {A : Type 0} (key : A → ℕ) (xs : List A) (k n : ℕ) → k �
     → find (has_key key k) (below key xs n ++ option_to_list (find (has_key key n) xs)) ≡ find (has_key key k) xs
 found_before key xs k n differ before =
     find-append (has_key key k) (below key xs n) (option_to_list (find (has_key key n) xs))
-    ∙ (ap (λ (o : Option _). option_or (find (has_key key k) (below key xs n)) o) (find_other key k n (find (has_key key n) xs) (λ x e. key_of_found key xs n x e) differ)
+    ∙ (ap (λ (o : Option _). option_or (find (has_key key k) (below key xs n)) o) (find_other key k n (find (has_key key n) xs)
+    (λ x e. key_of_found key xs n x e) differ)
     ∙ (option_or-None (find (has_key key k) (below key xs n)) ∙ before))
 
-found_by : {A : Type 0} (key : A → ℕ) (xs : List A) (k n : ℕ) (b : Bool) → (k == n) ≡ b → k < suc n → (k < n → find (has_key key k) (below key xs n) ≡ find (has_key key k) xs)
+found_by : {A : Type 0} (key : A → ℕ) (xs : List A) (k n : ℕ) (b : Bool) → (k == n) ≡ b → k < suc n →
+    (k < n → find (has_key key k) (below key xs n) ≡ find (has_key key k) xs)
     → find (has_key key k) (below key xs n ++ option_to_list (find (has_key key n) xs)) ≡ find (has_key key k) xs
 found_by key xs k n true e less before = found_here key xs k n (eqb-true k n e)
 found_by key xs k n false e less before = found_before key xs k n (apart k n e) (before (let differ : k ≢ n = apart k n e in omega arith))
@@ -130,7 +136,8 @@ count_one p x = sum_by-cons (λ a. if p a then 1 else 0) x [] ∙ omega arith
 
 count_step_at : {A : Type 0} (p : A → Bool) (key : A → ℕ) (x : A) (xs : List A) (n : ℕ) (b : Bool) → (key x == n) ≡ b
     → count_by p (below key (x ∷ xs) n) ≤ count_by p (below key xs n) + (if p x then 1 else 0)
-    → count_by p (below key (x ∷ xs) n ++ option_to_list (if b then Some x else find (has_key key n) xs)) ≤ count_by p (below key xs n ++ option_to_list (find (has_key key n) xs)) + (if p x then 1 else 0)
+    → count_by p (below key (x ∷ xs) n ++ option_to_list (if b then Some x else find (has_key key n) xs)) ≤ count_by p
+    (below key xs n ++ option_to_list (find (has_key key n) xs)) + (if p x then 1 else 0)
 count_step_at p key x xs n true e before =
     let same : key x ≡ n = eqb-true (key x) n e in
     let skipped : count_by p (below key (x ∷ xs) n) ≡ count_by p (below key xs n) = ap (λ (l : List _). count_by p l) (skips key x xs n (omega arith)) in
@@ -138,7 +145,8 @@ count_step_at p key x xs n true e before =
 count_step_at p key x xs n false e before =
     omega (arith, before, count_optional p (below key (x ∷ xs) n) (find (has_key key n) xs), count_optional p (below key xs n) (find (has_key key n) xs))
 
-count_step : {A : Type 0} (p : A → Bool) (key : A → ℕ) (x : A) (xs : List A) (n : ℕ) → count_by p (below key (x ∷ xs) n) ≤ count_by p (below key xs n) + (if p x then 1 else 0)
+count_step : {A : Type 0} (p : A → Bool) (key : A → ℕ) (x : A) (xs : List A) (n : ℕ) →
+    count_by p (below key (x ∷ xs) n) ≤ count_by p (below key xs n) + (if p x then 1 else 0)
 count_step p key x xs zero = omega arith
 count_step p key x xs (suc n) = count_step_at p key x xs n (key x == n) refl (count_step p key x xs n)
 

@@ -1,5 +1,6 @@
 -- A spelled scenario is lawful.
-use Rattle.std.proofs.Common.{◌≡◌, ℕ, zero, suc, ◌-◌, ◌<◌, ◌≤◌, true, List, [], ◌∷◌, ◌++◌, length, Option, Some, None, Result, Ok, Err, refl, sym, ap, ◌∙◌, subst, inl, inr, ◌⊎◌, arith}
+use Rattle.std.proofs.Common.{◌≡◌, ℕ, zero, suc, ◌-◌, ◌<◌, ◌≤◌, true, List, [], ◌∷◌, ◌++◌, length, Option, Some, None, Result, Ok, Err, refl, sym, ap, ◌∙◌}
+use Rattle.std.proofs.Common.{subst, inl, inr, ◌⊎◌, arith}
 use Rattle.std.specs.Prelude.{◌==◌, ◌&&◌, ◌||◌, not, nat_lt, find, count_by, IfSome, IsSome, is_some}
 use Rattle.std.specs.List.{All, AllPairs, slice_index}
 use Rattle.std.specs.Option.{option_to_list, option_map, unwrap_or}
@@ -27,21 +28,23 @@ use Rattle.am_scenario_types.specs.declared.parts.ThreadLine.{ThreadLine}
 use Rattle.am_scenario_types.specs.declared.parts.ScriptCall.{ScriptCall}
 use Rattle.am_scenario_types.specs.declared.faults.ScenarioFault.{ScenarioFault}
 use Rattle.am_scenario_types.specs.Lists.{ScenarioLists}
-use Rattle.am_scenario_types.specs.Lawful.{IsWithin, node_of, thread_node, IsDeclared, IsOn, HasLawfulSettings, IsLawfulEnd, IsLawfulBundle, IsLawfulThread, IsLawfulPlanLine, IsLawfulFaultLine, IsLawfulCall, IsLawfulScriptCall, IsLawfulEvent, least_credits, IsLawful, IsOfForm}
-use Rattle.am_draft.specs.declared.settings.Version.{Version}
-use Rattle.am_draft.specs.declared.settings.Version.TheVariants.{One, Two}
-use Rattle.am_draft.specs.declared.settings.Settings.{Settings}
-use Rattle.am_draft.specs.Said.{Said, with_line, nothing, node_count, frame_count, channel_count, end_of, thread_of}
-use Rattle.am_lines.specs.declared.head.Head.{Head}
-use Rattle.am_lines.specs.Heads.{head_of, section_of, is_of_form}
-use Rattle.am_lines.specs.Calls.{least_share}
-use Rattle.am_lines.specs.Lines.{words_say}
-use Rattle.am_lines_laws.specs.LineLaws.{network_of, section_said, fits_form, IsNetworkOf, IsLawfulLine}
-use Rattle.am_lines_laws.specs.Sound.{SettingsAreSound, EndsAreSound, ThreadsAreSound, IsSound, HasForm}
-use Rattle.am_lines_laws.proofs.Meets.{Meets, refuses, gives, bind, test, anything, found}
-use Rattle.am_lines_laws.proofs.Calling.{lines_are_lawful}
-use Rattle.am_lines_laws.proofs.Words.{on_is_declared}
-use Rattle.am_lines_laws.proofs.Growing.{stays_sound, begins_sound}
+use Rattle.am_scenario_types.specs.Lawful.{IsWithin, node_of, thread_node, IsDeclared, IsOn, HasLawfulSettings, IsLawfulEnd, IsLawfulBundle, IsLawfulThread}
+use Rattle.am_scenario_types.specs.Lawful.{IsLawfulPlanLine, IsLawfulFaultLine, IsLawfulCall, IsLawfulScriptCall, IsLawfulEvent, least_credits, IsLawful}
+use Rattle.am_scenario_types.specs.Lawful.{IsOfForm}
+use Rattle.am_scenario_draft.specs.declared.settings.Version.{Version}
+use Rattle.am_scenario_draft.specs.declared.settings.Version.TheVariants.{One, Two}
+use Rattle.am_scenario_draft.specs.declared.settings.Settings.{Settings}
+use Rattle.am_scenario_draft.specs.Said.{Said, with_line, nothing, node_count, frame_count, channel_count, end_of, thread_of}
+use Rattle.am_scenario_lines.specs.declared.head.Head.{Head}
+use Rattle.am_scenario_lines.specs.Heads.{head_of, section_of, is_of_form}
+use Rattle.am_scenario_lines.specs.Calls.{least_share}
+use Rattle.am_scenario_lines.specs.Lines.{words_say}
+use Rattle.am_scenario_laws.specs.LineLaws.{network_of, section_said, fits_form, IsNetworkOf, IsLawfulLine}
+use Rattle.am_scenario_laws.specs.Sound.{SettingsAreSound, EndsAreSound, ThreadsAreSound, IsSound, HasForm}
+use Rattle.am_scenario_laws.proofs.Meets.{Meets, refuses, gives, bind, test, anything, found}
+use Rattle.am_scenario_laws.proofs.Calling.{lines_are_lawful}
+use Rattle.am_scenario_laws.proofs.Words.{on_is_declared}
+use Rattle.am_scenario_laws.proofs.Growing.{stays_sound, begins_sound}
 use Rattle.am_scenario.specs.Order.{placed, after_words, after_line}
 use Rattle.am_scenario.specs.Grammar.{ends_below, threads_below, tries_of, bounces_of, pool_of, whole, on_line, read_from, grammar}
 use Rattle.am_scenario.specs.Laws.{SpellsLawful, ExactlyOne}
@@ -59,11 +62,13 @@ is_placed form said first =
     test (said.section == 0 && not (section_of first == 1)) _ _ (λ e. refuses (IsPlaced form said) Missing) (λ e1.
     test (nat_lt (section_of first) said.section || not (is_of_form form first)) _ _ (λ e. refuses (IsPlaced form said) OutOfPlace) (λ in_place.
     let parts = or_parts (nat_lt (section_of first) said.section) (not (is_of_form form first)) in_place in
-    test (nat_lt 2 (section_of first) && not (is_some said.settings.network && is_some said.settings.nodes)) _ _ (λ e. refuses (IsPlaced form said) Missing) (λ e3.
+    test (nat_lt 2 (section_of first) && not (is_some said.settings.network && is_some said.settings.nodes)) _ _ (λ e. refuses (IsPlaced form said) Missing)
+    (λ e3.
     gives (IsPlaced form said) first (ltb-false (section_of first) said.section parts.0, not-false (is_of_form form first) parts.1))))
 
 says_lawful : (form : Form) (said : Said) (first : Head) (words : List (List ℕ))
-    → Meets (λ says. (section_said says ≡ section_of first) × (fits_form form says ≡ is_of_form form first) × IsLawfulLine form said says) (words_say form said first words)
+    → Meets (λ says. (section_said says ≡ section_of first) × (fits_form form says ≡ is_of_form form first) × IsLawfulLine form said says)
+    (words_say form said first words)
 says_lawful form said first words = record { holds = λ says e. lines_are_lawful form said first words says e }
 
 words_sound : (form : Form) (number : ℕ) (said : Said) (words : List (List ℕ)) → IsSound form said → Meets (IsSound form) (after_words form number said words)
@@ -95,7 +100,8 @@ threads_are_below said zero = refl
 threads_are_below said (suc n) = ap (λ (l : List ThreadLine). l ++ option_to_list (thread_of said n)) (threads_are_below said n)
 
 -- where something is declared on a node, its number is at most 255
-found_small : (network : Network) (nodes : ℕ) (ends : List EndLine) (node : NodeId) (id : EndpointId) (o : Option EndLine) → All (IsLawfulEnd network nodes) ends
+found_small : (network : Network) (nodes : ℕ) (ends : List EndLine) (node : NodeId) (id : EndpointId) (o : Option EndLine) →
+    All (IsLawfulEnd network nodes) ends
     → find (λ end. end.id.0 == id.0) ends ≡ o → option_map (λ end. end.node) o ≡ Some node → id.0 < 256
 found_small network nodes ends node id None all e h = absurd (cc)
 found_small network nodes ends node id (Some end) all e h =
@@ -104,7 +110,8 @@ found_small network nodes ends node id (Some end) all e h =
     omega (arith, small.id)
 
 -- what is declared stays declared in ascending order
-on_below : (network : Network) (nodes : ℕ) (ends sorted : List EndLine) (node : NodeId) (id : EndpointId) → sorted ≡ below (λ end. end.id.0) ends 256 → All (IsLawfulEnd network nodes) ends
+on_below : (network : Network) (nodes : ℕ) (ends sorted : List EndLine) (node : NodeId) (id : EndpointId) → sorted ≡ below (λ end. end.id.0) ends 256 →
+    All (IsLawfulEnd network nodes) ends
     → IsOn ends node id → IsOn sorted node id
 on_below network nodes ends sorted node id is all h =
     let small : id.0 < 256 = found_small network nodes ends node id (find (λ end. end.id.0 == id.0) ends) all refl h in
@@ -115,22 +122,29 @@ node_found : (o : Option NodeId) → IsSome o → (node : NodeId) × (o ≡ Some
 node_found (Some node) h = (node, refl)
 node_found None h = absurd (cc)
 
-declared_below : (network : Network) (nodes : ℕ) (ends sorted : List EndLine) (id : EndpointId) → sorted ≡ below (λ end. end.id.0) ends 256 → All (IsLawfulEnd network nodes) ends
+declared_below : (network : Network) (nodes : ℕ) (ends sorted : List EndLine) (id : EndpointId) → sorted ≡ below (λ end. end.id.0) ends 256 →
+    All (IsLawfulEnd network nodes) ends
     → IsDeclared ends id → IsDeclared sorted id
 declared_below network nodes ends sorted id is all h =
     let at = node_found (node_of ends id) h in
     on_is_declared sorted at.0 id (on_below network nodes ends sorted at.0 id is all at.1)
 
-bundle_below : (network : Network) (nodes : ℕ) (ends sorted : List EndLine) (bundle : BundleLists) → sorted ≡ below (λ end. end.id.0) ends 256 → All (IsLawfulEnd network nodes) ends
+bundle_below : (network : Network) (nodes : ℕ) (ends sorted : List EndLine) (bundle : BundleLists) → sorted ≡ below (λ end. end.id.0) ends 256 →
+    All (IsLawfulEnd network nodes) ends
     → IsLawfulBundle ends bundle → IsLawfulBundle sorted bundle
 bundle_below network nodes ends sorted bundle is all h = record {
   id = h.id;
-  members = (h.members.0, All-weaker (IsOn ends h.members.0) (IsOn sorted h.members.0) (λ id on. on_below network nodes ends sorted h.members.0 id is all on) bundle.members h.members.1);
+  members = (
+    h.members.0,
+    All-weaker (IsOn ends h.members.0) (IsOn sorted h.members.0) (λ id on. on_below network nodes ends sorted h.members.0 id is all on)
+        bundle.members h.members.1,
+  );
   some_member = h.some_member;
   once = h.once;
 }
 
-call_below : (network : Network) (nodes : ℕ) (ends sorted : List EndLine) (least : ℕ) (call : Call) → sorted ≡ below (λ end. end.id.0) ends 256 → All (IsLawfulEnd network nodes) ends
+call_below : (network : Network) (nodes : ℕ) (ends sorted : List EndLine) (least : ℕ) (call : Call) → sorted ≡ below (λ end. end.id.0) ends 256 →
+    All (IsLawfulEnd network nodes) ends
     → IsLawfulCall ends least call → IsLawfulCall sorted least call
 call_below network nodes ends sorted least (Request index handler words) is all h = h
 call_below network nodes ends sorted least Poll is all h = h
@@ -150,7 +164,8 @@ thread_small nodes threads node id (Some thread) all e h =
     let small : IsLawfulThread nodes thread = found_holds (IsLawfulThread nodes) (λ thread. thread.id == id) threads thread all e in
     omega (arith, small.id)
 
-thread_there : (nodes : ℕ) (threads sorted : List ThreadLine) (node : NodeId) (id : ℕ) → sorted ≡ below (λ thread. thread.id) threads 64 → All (IsLawfulThread nodes) threads
+thread_there : (nodes : ℕ) (threads sorted : List ThreadLine) (node : NodeId) (id : ℕ) → sorted ≡ below (λ thread. thread.id) threads 64 →
+    All (IsLawfulThread nodes) threads
     → thread_node threads id ≡ Some node → thread_node sorted id ≡ Some node
 thread_there nodes threads sorted node id is all h =
     let small : id < 64 = thread_small nodes threads node id (find (λ thread. thread.id == id) threads) all refl h in
@@ -158,10 +173,17 @@ thread_there nodes threads sorted node id is all h =
     ∙ (ap (λ (o : Option ThreadLine). option_map (λ thread. thread.node) o) (found_below (λ thread. thread.id) threads id 64 small) ∙ h)
 
 script_below : (network : Network) (nodes : ℕ) (ends sorted : List EndLine) (threads ranked : List ThreadLine) (least : ℕ) (made : ScriptCall)
-    → sorted ≡ below (λ end. end.id.0) ends 256 → All (IsLawfulEnd network nodes) ends → ranked ≡ below (λ thread. thread.id) threads 64 → All (IsLawfulThread nodes) threads
+    → sorted ≡ below (λ end. end.id.0) ends 256 → All (IsLawfulEnd network nodes) ends → ranked ≡ below (λ thread. thread.id) threads 64 →
+    All (IsLawfulThread nodes) threads
     → IsLawfulScriptCall ends threads least made → IsLawfulScriptCall sorted ranked least made
 script_below network nodes ends sorted threads ranked least made is all so every h = record {
-  placed = (h.placed.0, (thread_there nodes threads ranked h.placed.0 made.thread so every h.placed.1.0, on_below network nodes ends sorted h.placed.0 made.endpoint is all h.placed.1.1));
+  placed = (
+    h.placed.0,
+    (
+      thread_there nodes threads ranked h.placed.0 made.thread so every h.placed.1.0,
+      on_below network nodes ends sorted h.placed.0 made.endpoint is all h.placed.1.1,
+    ),
+  );
   call = call_below network nodes ends sorted least made.call is all h.call;
 }
 
@@ -202,10 +224,13 @@ least_is (Some Two) settings = refl
 least_is (Some One) settings = refl
 least_is None settings = refl
 
-network_is : (form : Form) (settings : Settings) (network : Network) (plan script steps : ℕ) → settings.network ≡ Some network → IfSome settings.network (IsNetworkOf form) → IsNetworkOf form network
-network_is form settings network plan script steps e h = let some : IfSome (Some network) (IsNetworkOf form) = subst (λ (o : Option Network). IfSome o (IsNetworkOf form)) e h in some
+network_is : (form : Form) (settings : Settings) (network : Network) (plan script steps : ℕ) → settings.network ≡ Some network →
+    IfSome settings.network (IsNetworkOf form) → IsNetworkOf form network
+network_is form settings network plan script steps e h = let some : IfSome (Some network) (IsNetworkOf form) =
+    subst (λ (o : Option Network). IfSome o (IsNetworkOf form)) e h in some
 
-form_is : (form : Form) (said : Said) (s : ScenarioLists) → s.plan ≡ said.plan → s.script ≡ said.script → s.steps ≡ said.steps → IsNetworkOf form s.network → HasForm form said → IsOfForm form s
+form_is : (form : Form) (said : Said) (s : ScenarioLists) → s.plan ≡ said.plan → s.script ≡ said.script → s.steps ≡ said.steps → IsNetworkOf form s.network →
+    HasForm form said → IsOfForm form s
 form_is Step said s plan script steps network h = (ap (λ (l : List _). length l) (plan ∙ h.0), ap (λ (l : List _). length l) (script ∙ h.1))
 form_is Run said s plan script steps network h = (network, ap (λ (l : List _). length l) (steps ∙ h))
 
@@ -235,7 +260,8 @@ finished said network nodes = record {
   steps = said.steps;
 }
 
-settings_lawful : (form : Form) (said : Said) (network : Network) (nodes : ℕ) → SettingsAreSound form said.settings → said.settings.nodes ≡ Some nodes → HasLawfulSettings (finished said network nodes)
+settings_lawful : (form : Form) (said : Said) (network : Network) (nodes : ℕ) → SettingsAreSound form said.settings → said.settings.nodes ≡ Some nodes →
+    HasLawfulSettings (finished said network nodes)
 settings_lawful form said network nodes h at =
     let tries : IsWithin 2 16 (tries_of said.settings) = or_default (IsWithin 2 16) said.settings.tries 4 h.tries (omega arith, omega arith) in
     record {
@@ -256,7 +282,8 @@ ends_lawful said network nodes net at h =
     subst (λ (n : Network). All (IsLawfulEnd n nodes) said.ends) net
     (subst (λ (k : ℕ). All (IsLawfulEnd (network_of said.settings) k) said.ends) at h.each)
 
-few_ends : (said : Said) (network : Network) (nodes node : ℕ) → EndsAreSound network nodes said.ends → count_by (λ end. end.node.0 == node) (ends_below said 256) ≤ 64
+few_ends : (said : Said) (network : Network) (nodes node : ℕ) → EndsAreSound network nodes said.ends →
+    count_by (λ end. end.node.0 == node) (ends_below said 256) ≤ 64
 few_ends said network nodes node h =
     let is : count_by (λ end. end.node.0 == node) (ends_below said 256) ≡ count_by (λ end. end.node.0 == node) (below (λ end. end.id.0) said.ends 256) =
     ap (λ (l : List EndLine). count_by (λ end. end.node.0 == node) l) (ends_are_below said 256) in
@@ -264,11 +291,13 @@ few_ends said network nodes node h =
 
 few_threads : (said : Said) (nodes node : ℕ) → ThreadsAreSound nodes said.threads → count_by (λ thread. thread.node.0 == node) (threads_below said 64) ≤ 4
 few_threads said nodes node h =
-    let is : count_by (λ thread. thread.node.0 == node) (threads_below said 64) ≡ count_by (λ thread. thread.node.0 == node) (below (λ thread. thread.id) said.threads 64) =
+    let is : count_by (λ thread. thread.node.0 == node) (threads_below said 64) ≡ count_by (λ thread. thread.node.0 ==
+    node) (below (λ thread. thread.id) said.threads 64) =
     ap (λ (l : List ThreadLine). count_by (λ thread. thread.node.0 == node) l) (threads_are_below said 64) in
     omega (arith, is, count_below (λ thread. thread.node.0 == node) (λ thread. thread.id) said.threads 64, h.of_a_node node)
 
-finished_lawful : (form : Form) (said : Said) (network : Network) (nodes : ℕ) → IsSound form said → said.settings.network ≡ Some network → said.settings.nodes ≡ Some nodes
+finished_lawful : (form : Form) (said : Said) (network : Network) (nodes : ℕ) → IsSound form said → said.settings.network ≡ Some network →
+    said.settings.nodes ≡ Some nodes
     → IsGood form (finished said network nodes)
 finished_lawful form said network nodes h net at =
     let ends : List EndLine = ends_below said 256 in
@@ -284,7 +313,8 @@ finished_lawful form said network nodes h net at =
     let calls : All (IsLawfulScriptCall ends threads least) said.script =
     All-weaker (IsLawfulScriptCall said.ends said.threads least) (IsLawfulScriptCall ends threads least)
     (λ made l. script_below network nodes said.ends ends said.threads threads least made is all_ends ranked all_threads l) said.script h.script.each in
-    let events : All (λ step. IsLawfulEvent ends (node_count said.settings) (frame_count said.settings) (channel_count said.settings) least step.event) said.steps =
+    let events : All (λ step. IsLawfulEvent ends (node_count said.settings) (frame_count said.settings) (channel_count said.settings) least step.event)
+    said.steps =
     All-weaker (λ step. IsLawfulEvent said.ends (node_count said.settings) (frame_count said.settings) (channel_count said.settings) least step.event)
     (λ step. IsLawfulEvent ends (node_count said.settings) (frame_count said.settings) (channel_count said.settings) least step.event)
     (λ step l. event_below network nodes said.ends ends (node_count said.settings) (frame_count said.settings) (channel_count said.settings) least step.event
@@ -292,12 +322,15 @@ finished_lawful form said network nodes h net at =
     said.steps h.steps.each in (
       record {
         settings = settings_lawful form said network nodes h.settings at;
-        ends = subst (λ (l : List EndLine). All (IsLawfulEnd network nodes) l) (sym is) (all_below (IsLawfulEnd network nodes) (λ end. end.id.0) said.ends 256 all_ends);
+        ends = subst (λ (l : List EndLine). All (IsLawfulEnd network nodes) l) (sym is) (all_below (IsLawfulEnd network nodes) (λ end. end.id.0) said.ends 256
+            all_ends);
         ends_rise = subst (λ (l : List EndLine). AllPairs (λ a b. a.id.0 < b.id.0) l) (sym is) (rising (λ end. end.id.0) said.ends 256);
         ends_of_a_node = λ node. few_ends said (network_of said.settings) (node_count said.settings) node h.ends;
-        bundles = All-weaker (IsLawfulBundle said.ends) (IsLawfulBundle ends) (λ bundle l. bundle_below network nodes said.ends ends bundle is all_ends l) said.bundles h.bundles.each;
+        bundles = All-weaker (IsLawfulBundle said.ends) (IsLawfulBundle ends) (λ bundle l. bundle_below network nodes said.ends ends bundle is all_ends l)
+            said.bundles h.bundles.each;
         bundles_once = h.bundles.once;
-        threads = subst (λ (l : List ThreadLine). All (IsLawfulThread nodes) l) (sym ranked) (all_below (IsLawfulThread nodes) (λ thread. thread.id) said.threads 64 all_threads);
+        threads = subst (λ (l : List ThreadLine). All (IsLawfulThread nodes) l) (sym ranked)
+            (all_below (IsLawfulThread nodes) (λ thread. thread.id) said.threads 64 all_threads);
         threads_rise = subst (λ (l : List ThreadLine). AllPairs (λ a b. a.id < b.id) l) (sym ranked) (rising (λ thread. thread.id) said.threads 64);
         threads_of_a_node = λ node. few_threads said (node_count said.settings) node h.threads;
         plan = subst (λ (k : ℕ). All (IsLawfulPlanLine k) said.plan) is_nodes h.plan.each;
@@ -308,8 +341,10 @@ finished_lawful form said network nodes h net at =
         fault_lines = h.faults.lines;
         script = subst (λ (k : ℕ). All (IsLawfulScriptCall ends threads k) said.script) is_least calls;
         script_calls = h.script.calls;
-        steps = subst (λ (k : ℕ). All (λ step. IsLawfulEvent ends nodes (frame_count said.settings) (channel_count said.settings) k step.event) said.steps) is_least
-            (subst (λ (k : ℕ). All (λ step. IsLawfulEvent ends k (frame_count said.settings) (channel_count said.settings) least step.event) said.steps) is_nodes events);
+        steps = subst (λ (k : ℕ). All (λ step. IsLawfulEvent ends nodes (frame_count said.settings) (channel_count said.settings) k step.event) said.steps)
+            is_least
+            (subst (λ (k : ℕ). All (λ step. IsLawfulEvent ends k (frame_count said.settings) (channel_count said.settings) least step.event) said.steps)
+            is_nodes events);
         step_lines = h.steps.lines;
       },
       form_is form said (finished said network nodes) refl refl refl (network_is form said.settings network 0 0 0 net h.settings.network) h.of_form,
@@ -325,20 +360,24 @@ whole_good form said h =
 
 -- ---- line by line
 
-read_good_end : (form : Form) (number : ℕ) (read : Result ScenarioLists What) (scenario : ScenarioLists) → Meets (IsGood form) read → on_line number read (λ s. Ok s) ≡ Ok scenario → IsGood form scenario
+read_good_end : (form : Form) (number : ℕ) (read : Result ScenarioLists What) (scenario : ScenarioLists) → Meets (IsGood form) read →
+    on_line number read (λ s. Ok s) ≡ Ok scenario → IsGood form scenario
 read_good_end form number (Ok s) scenario h e = let same : s ≡ scenario = cc in subst (λ (x : ScenarioLists). IsGood form x) same (h.holds s refl)
 read_good_end form number (Err what) scenario h e = absurd (cc)
 
-read_good_line : (form : Form) (number : ℕ) (read : Result Said What) (f : Said → Result ScenarioLists ScenarioFault) (scenario : ScenarioLists) → Meets (IsSound form) read
+read_good_line : (form : Form) (number : ℕ) (read : Result Said What) (f : Said → Result ScenarioLists ScenarioFault) (scenario : ScenarioLists) →
+    Meets (IsSound form) read
     → ((next : Said) → IsSound form next → f next ≡ Ok scenario → IsGood form scenario) → on_line number read f ≡ Ok scenario → IsGood form scenario
 read_good_line form number (Ok next) f scenario h rest e = rest next (h.holds next refl) e
 read_good_line form number (Err what) f scenario h rest e = absurd (cc)
 
-read_good : (form : Form) (number : ℕ) (said : Said) (lines : List (List ℕ)) (scenario : ScenarioLists) → IsSound form said → read_from form number said lines ≡ Ok scenario → IsGood form scenario
+read_good : (form : Form) (number : ℕ) (said : Said) (lines : List (List ℕ)) (scenario : ScenarioLists) → IsSound form said →
+    read_from form number said lines ≡ Ok scenario → IsGood form scenario
 unfolding read_from
 read_good form number said [] scenario h e = read_good_end form number (whole said) scenario (whole_good form said h) e
 read_good form number said (line ∷ lines) scenario h e =
-    read_good_line form number (after_line form number said line) (λ next. read_from form (line_after number) next lines) scenario (line_sound form number said line h)
+    read_good_line form number (after_line form number said line) (λ next. read_from form (line_after number) next lines) scenario
+    (line_sound form number said line h)
     (λ next k r. read_good form (line_after number) next lines scenario k r) e
 
 pub spells_lawful : SpellsLawful

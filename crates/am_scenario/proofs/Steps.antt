@@ -7,12 +7,13 @@ use Rattle.am_lexer.specs.Text.{is_text_line}
 use Rattle.am_scenario_types.specs.declared.parts.Form.{Form}
 use Rattle.am_scenario_types.specs.declared.faults.ScenarioFault.{ScenarioFault}
 use Rattle.am_scenario_types.specs.Lists.{ScenarioLists}
-use Rattle.am_draft.specs.declared.line.LineFault.{LineFault}
-use Rattle.am_draft.specs.declared.line.LineFault.TheVariants as faults
-use Rattle.am_draft.specs.Said.{Said}
+use Rattle.am_scenario_draft.specs.declared.line.LineFault.{LineFault}
+use Rattle.am_scenario_draft.specs.declared.line.LineFault.TheVariants as faults
+use Rattle.am_scenario_draft.specs.Said.{Said}
 use Rattle.am_scenario.specs.Order.{after_line}
 use Rattle.am_scenario.specs.Grammar.{whole, read_from}
-use Rattle.am_scenario.specs.Answers.{Changes, Finishes, Answers, at_line}
+use Rattle.am_scenario.specs.Answers.{Changes, Finishes, Answers}
+use Rattle.am_scenario_draft.specs.Faults.{at_line}
 
 -- a line that was taken
 pub line_taken : (form : Form) (number : ℕ) (said next : Said) (line : List ℕ) (lines : List (List ℕ)) (all : Result ScenarioLists ScenarioFault)
@@ -21,7 +22,8 @@ unfolding read_from
 line_taken form number said next line lines all e so_far = rw e at so_far
 
 -- a line that was not
-pub line_refused : (form : Form) (number : ℕ) (said next : Said) (line : List ℕ) (lines : List (List ℕ)) (all : Result ScenarioLists ScenarioFault) (fault : LineFault)
+pub line_refused : (form : Form) (number : ℕ) (said next : Said) (line : List ℕ) (lines : List (List ℕ)) (all : Result ScenarioLists ScenarioFault)
+    (fault : LineFault)
     → Changes (Err fault) next (after_line form number said line) → read_from form number said (line ∷ lines) ≡ all → Answers (Err (at_line number fault)) all
 unfolding read_from
 line_refused form number said next line lines all (faults.What what) e so_far = sym so_far ∙ rw e refl
@@ -40,5 +42,6 @@ all_refused form number said (faults.What what) all e so_far = sym so_far ∙ rw
 all_refused form number said faults.NoMemory all e so_far = tt
 
 -- where all lines are printable, the first is, and so are those behind it
-pub printable_parts : (line : List ℕ) (lines : List (List ℕ)) → list_all is_text_line (line ∷ lines) ≡ true → (is_text_line line ≡ true) × (list_all is_text_line lines ≡ true)
+pub printable_parts : (line : List ℕ) (lines : List (List ℕ)) → list_all is_text_line (line ∷ lines) ≡ true →
+    (is_text_line line ≡ true) × (list_all is_text_line lines ≡ true)
 printable_parts line lines e = and_parts (is_text_line line) (list_all is_text_line lines) e

@@ -1,13 +1,13 @@
 -- What the code answers, against what the text says.
-use Rattle.std.specs.Prelude.{◌≡◌, ℕ, Result, Ok, Err}
+use Rattle.std.specs.Prelude.{◌≡◌, Result, Ok, Err}
 use Rattle.am_lexer.specs.declared.what.What.{What}
 use Rattle.am_scenario_types.specs.declared.faults.ScenarioFault.{ScenarioFault}
 use Rattle.am_scenario_types.specs.declared.faults.ReadFault.{ReadFault}
 use Rattle.am_scenario_types.specs.declared.faults.ReadFault.TheVariants.{Refused, NoMemory}
 use Rattle.am_scenario_types.specs.Lists.{ScenarioLists}
-use Rattle.am_draft.specs.declared.line.LineFault.{LineFault}
-use Rattle.am_draft.specs.declared.line.LineFault.TheVariants as faults
-use Rattle.am_draft.specs.Said.{Said}
+use Rattle.am_scenario_draft.specs.declared.line.LineFault.{LineFault}
+use Rattle.am_scenario_draft.specs.declared.line.LineFault.TheVariants as faults
+use Rattle.am_scenario_draft.specs.Said.{Said}
 
 -- what the code made of a line, unless memory ran out
 abbrev pub Changes : Result (Unit {0}) LineFault → Said → Result Said What → Type 0
@@ -26,8 +26,3 @@ abbrev pub Answers : Result ScenarioLists ReadFault → Result ScenarioLists Sce
 Answers (Ok scenario) read = read ≡ Ok scenario
 Answers (Err (Refused fault)) read = read ≡ Err fault
 Answers (Err NoMemory) read = Unit {0}
-
--- the fault of a line, by its number
-abbrev pub at_line : ℕ → LineFault → ReadFault
-at_line number (faults.What what) = Refused (record { line = number; what = what })
-at_line number faults.NoMemory = NoMemory

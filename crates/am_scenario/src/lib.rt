@@ -6,9 +6,9 @@ mod order;
 mod reader;
 
 pub use am_bundle::{Bundle, Readiness};
-pub use am_generator::generate;
 pub use am_lexer::What;
-pub use am_plan::{LinkFault, PlanLine, shape};
+pub use am_scenario_generator::generate;
+pub use am_scenario_plan::{LinkFault, PlanLine, shape};
 pub use am_scenario_types::{
     EndLine, FaultLine, Form, Network, ReadFault, Scenario, ScenarioFault, ScriptCall, StepLine,
     ThreadLine,

@@ -1,26 +1,17 @@
 //! The scenario that a text spells.
 
-ghost use Rattle.std.specs.Prelude.{◌≡◌, IfOk};
+ghost use Rattle.std.specs.Prelude.{IfOk};
 ghost use Rattle.am_scenario.specs.Grammar.{grammar};
-ghost use Rattle.am_scenario.specs.Answers.{Answers, at_line};
+ghost use Rattle.am_scenario.specs.Answers.{Answers};
 ghost use Rattle.am_scenario.specs.Laws.{ExactlyOne, SpellsLawful};
 ghost use Rattle.am_scenario_types.specs.Lawful.{IsLawful, IsOfForm};
 
 use crate::finish::finish;
 use crate::order::take_line;
-use am_draft::{Draft, LineFault};
 use am_lexer::{lines_are_text, next_line};
-use am_scenario_types::{Form, ReadFault, Scenario, ScenarioFault};
+use am_scenario_draft::Draft;
+use am_scenario_types::{Form, ReadFault, Scenario};
 use std::alloc::Global;
-
-fn refused(line: u32, fault: LineFault) -> ReadFault
-    ensures { result ≡ at_line line fault }
-{
-    match fault {
-        LineFault::What(what) => ReadFault::Refused(ScenarioFault { line, what }),
-        LineFault::NoMemory => ReadFault::NoMemory,
-    }
-}
 
 /// The scenario that the bytes spell, in the grammar of docs/MANUAL.md, or the line and the cause of their first
 /// fault. A line's number stands still at 2^32-1. Without memory the answer is `NoMemory`, and nothing is left of the scenario.
@@ -35,14 +26,14 @@ pub fn read(alloc: Global, form: Form, bytes: &[u8]) -> Result<Scenario, ReadFau
     let printable = lines_are_text(bytes);
     while let Some((line, after)) = next_line(rest) {
         if let Err(fault) = take_line(alloc, form, number, &mut draft, printable, line) {
-            return Err(refused(number, fault));
+            return Err(fault.at_line(number));
         }
         number = number.saturating_add(1);
         rest = after;
     }
     match finish(alloc, draft) {
         Ok(scenario) => Ok(scenario),
-        Err(fault) => Err(refused(number, fault)),
+        Err(fault) => Err(fault.at_line(number)),
     }
 }
 

@@ -14,9 +14,9 @@ use Rattle.am_office.specs.declared.Actor.TheVariants.{Outside}
 use Rattle.am_office.specs.declared.Event.{Event}
 use Rattle.am_office.specs.declared.Event.TheVariants as event
 use Rattle.am_bundle.specs.Lists.{BundleLists}
-use Rattle.am_plan.specs.declared.plan.LinkFault.{LinkFault}
-use Rattle.am_plan.specs.declared.plan.LinkFault.TheVariants.{Lose, Repeat, Late}
-use Rattle.am_plan.specs.declared.plan.PlanLine.{PlanLine}
+use Rattle.am_scenario_plan.specs.declared.plan.LinkFault.{LinkFault}
+use Rattle.am_scenario_plan.specs.declared.plan.LinkFault.TheVariants.{Lose, Repeat, Late}
+use Rattle.am_scenario_plan.specs.declared.plan.PlanLine.{PlanLine}
 use Rattle.am_scenario_types.specs.declared.parts.Form.{Form}
 use Rattle.am_scenario_types.specs.declared.parts.Form.TheVariants.{Step, Run}
 use Rattle.am_scenario_types.specs.declared.parts.Network.{Network}

@@ -4,7 +4,7 @@ use Rattle.am_bundle.specs.Lists.{BundleLists}
 use Rattle.am_scenario_types.specs.declared.parts.Network.{Network}
 use Rattle.am_scenario_types.specs.declared.parts.EndLine.{EndLine}
 use Rattle.am_scenario_types.specs.declared.parts.ThreadLine.{ThreadLine}
-use Rattle.am_plan.specs.declared.PlanLine.{PlanLine}
+use Rattle.am_scenario_plan.specs.declared.PlanLine.{PlanLine}
 use Rattle.am_scenario_types.specs.declared.parts.FaultLine.{FaultLine}
 use Rattle.am_scenario_types.specs.declared.parts.ScriptCall.{ScriptCall}
 use Rattle.am_scenario_types.specs.declared.parts.StepLine.{StepLine}

@@ -6,7 +6,7 @@ mod parts;
 
 pub use am_bundle::Bundle;
 pub use am_lexer::What;
-pub use am_plan::{LinkFault, PlanLine};
+pub use am_scenario_plan::{LinkFault, PlanLine};
 pub use faults::{ReadFault, ScenarioFault};
 pub use parts::{EndLine, FaultLine, Form, Network, ScriptCall, StepLine, ThreadLine};
 use std::marker::Model;

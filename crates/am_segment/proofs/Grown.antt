@@ -1,5 +1,6 @@
 -- Texts of one part more.
-use Rattle.std.proofs.Common.{◌≡◌, ℕ, true, ◌+◌, ◌*◌, List, [], ◌∷◌, ◌++◌, refl, sym, ap, ◌∙◌, length, take, drop, map, add-one, zero-add, replicate, arith, min, ◌-◌, ◌≤◌, ◌^◌}
+use Rattle.std.proofs.Common.{◌≡◌, ℕ, true, ◌+◌, ◌*◌, List, [], ◌∷◌, ◌++◌, refl, sym, ap, ◌∙◌, length, take, drop, map, add-one, zero-add, replicate, arith}
+use Rattle.std.proofs.Common.{min, ◌-◌, ◌≤◌, ◌^◌}
 use Rattle.std.specs.Prelude.{find, ◌==◌}
 use Rattle.std.specs.List.{flat_map, range_with_len}
 use Rattle.std.proofs.lemmas.List.{append_assoc, append-nil, length-drop, take_min}
@@ -7,12 +8,12 @@ use Rattle.std.proofs.lemmas.Grind.{flat_map-append}
 use Rattle.std.proofs.lemmas.List.FromFn.{map-range_with_len_more, length-map-range_with_len}
 use Rattle.am_office.specs.declared.Entry.{Entry}
 use Rattle.am_names.specs.declared.Words.{Words}
-use Rattle.am_pieces.specs.declared.parts.Piece.{Piece}
-use Rattle.am_pieces.specs.declared.segment.SegmentLine.{SegmentLine}
-use Rattle.am_pieces.specs.Pieces.{words_of}
-use Rattle.am_pieces.specs.Blocks.{piece_at, pieces_of, piece_count}
+use Rattle.am_segment_pieces.specs.declared.parts.Piece.{Piece}
+use Rattle.am_segment_pieces.specs.declared.segment.SegmentLine.{SegmentLine}
+use Rattle.am_segment_pieces.specs.Pieces.{words_of}
+use Rattle.am_segment_pieces.specs.Blocks.{piece_at, pieces_of, piece_count}
 use Rattle.am_segment.specs.declared.saying.Sent.{Sent}
-use Rattle.am_pieces.specs.Lists.{TransferLists}
+use Rattle.am_segment_pieces.specs.Lists.{TransferLists}
 use Rattle.am_segment.specs.Laid.{Laid, closed}
 use Rattle.am_segment.specs.Expansion.{with_transfer}
 use Rattle.am_segment.specs.Texts.{piece_lines, poll_line, request_line, transfer_lines}
@@ -34,7 +35,8 @@ pub parts_none : (journal : List Entry) (segments : List SegmentLine) → parts_
 unfolding parts_below
 parts_none journal segments = refl
 
-pub parts_more : (journal : List Entry) (segments : List SegmentLine) (n : ℕ) → parts_below journal segments (n + 1) ≡ parts_below journal segments n ++ part_of journal (find (λ (s : SegmentLine). s.end.0 == n) segments)
+pub parts_more : (journal : List Entry) (segments : List SegmentLine) (n : ℕ) →
+    parts_below journal segments (n + 1) ≡ parts_below journal segments n ++ part_of journal (find (λ (s : SegmentLine). s.end.0 == n) segments)
 unfolding parts_below
 parts_more journal segments n = rw add-one refl
 
@@ -42,7 +44,8 @@ parts_more journal segments n = rw add-one refl
 abbrev pub lines_of_pieces : ℕ → ℕ → Sent → ℕ → List ℕ
 lines_of_pieces number thread sent n = flat_map closed (flat_map (piece_lines thread sent) (map (piece_at number sent.transfer) (range_with_len 0 n)))
 
-pub lines_more : (number thread : ℕ) (sent : Sent) (n : ℕ) → lines_of_pieces number thread sent (n + 1) ≡ lines_of_pieces number thread sent n ++ (closed (request_line thread sent.end sent.index sent.handler (words_of (piece_at number sent.transfer n))) ++ (closed (poll_line thread sent.end) ++ []))
+pub lines_more : (number thread : ℕ) (sent : Sent) (n : ℕ) → lines_of_pieces number thread sent (n + 1) ≡ lines_of_pieces number thread sent n ++
+    (closed (request_line thread sent.end sent.index sent.handler (words_of (piece_at number sent.transfer n))) ++ (closed (poll_line thread sent.end) ++ []))
 lines_more number thread sent n =
     let f : Piece → List (List ℕ) = piece_lines thread sent in
     let front : List Piece = map (piece_at number sent.transfer) (range_with_len 0 n) in
@@ -55,7 +58,10 @@ four : (out0 out1 out2 out3 a r p : List ℕ) → out1 ≡ out0 ++ a → out2 �
 four out0 out1 out2 out3 a r p e f g = rw (g, f, e) (simp (append_assoc, append-nil))
 
 -- a request and a poll more
-pub piece_more : (number thread : ℕ) (sent : Sent) (n : ℕ) (piece : Piece) (words : Words) (out0 out1 out2 out3 : List ℕ) → piece ≡ piece_at number sent.transfer n → words ≡ words_of piece → out1 ≡ out0 ++ lines_of_pieces number thread sent n → out2 ≡ out1 ++ closed (request_line thread sent.end sent.index sent.handler words) → out3 ≡ out2 ++ closed (poll_line thread sent.end) → out3 ≡ out0 ++ lines_of_pieces number thread sent (n + 1)
+pub piece_more : (number thread : ℕ) (sent : Sent) (n : ℕ) (piece : Piece) (words : Words) (out0 out1 out2 out3 : List ℕ) →
+    piece ≡ piece_at number sent.transfer n → words ≡ words_of piece → out1 ≡ out0 ++ lines_of_pieces number thread sent n →
+    out2 ≡ out1 ++ closed (request_line thread sent.end sent.index sent.handler words) → out3 ≡ out2 ++ closed (poll_line thread sent.end) →
+    out3 ≡ out0 ++ lines_of_pieces number thread sent (n + 1)
 piece_more number thread sent n piece words out0 out1 out2 out3 at are e f g =
     let r : List ℕ = closed (request_line thread sent.end sent.index sent.handler (words_of (piece_at number sent.transfer n))) in
     let p : List ℕ = closed (poll_line thread sent.end) in
@@ -70,10 +76,12 @@ twice thread sent (piece ∷ pieces) = let rest : length (flat_map (piece_lines 
 
 pub transfer_lines_length : (number thread : ℕ) (sent : Sent) → length (transfer_lines number thread sent) ≡ 2 * piece_count sent.transfer
 transfer_lines_length number thread sent =
-    twice thread sent (pieces_of number sent.transfer) ∙ ap (λ (n : ℕ). 2 * n) (length-map-range_with_len (piece_at number sent.transfer) 0 (piece_count sent.transfer))
+    twice thread sent (pieces_of number sent.transfer) ∙ ap (λ (n : ℕ). 2 * n) (length-map-range_with_len (piece_at number sent.transfer) 0
+    (piece_count sent.transfer))
 
 -- the row of bytes from a place on
-pub row_taken : (xs : List ℕ) (start end : ℕ) → end ≡ min (start + 32) (length xs) → start ≤ length xs → take (end - start) (drop start xs) ≡ take 32 (drop start xs)
+pub row_taken : (xs : List ℕ) (start end : ℕ) → end ≡ min (start + 32) (length xs) → start ≤ length xs →
+    take (end - start) (drop start xs) ≡ take 32 (drop start xs)
 row_taken xs start end is within =
     let size : length (drop start xs) ≡ length xs - start = length-drop start xs in
     let count : end - start ≡ min 32 (length (drop start xs)) = omega arith in
@@ -86,12 +94,21 @@ pub sent_laid : (said : Laid) (number thread : ℕ) (sent : Sent) (transfers : L
     → transfers ≡ said.transfers ++ sent.transfer ∷ []
     → text ≡ said.text ++ flat_map closed (transfer_lines transfer thread sent)
     → origin ≡ said.origin ++ replicate (2 * pieces) number
-    → record said { scripted = true; transfers = transfers; calls = said.calls + 2 * pieces; text = text; origin = origin } ≡ with_transfer number thread said sent
+    → record said {
+      scripted = true;
+      transfers = transfers;
+      calls = said.calls + 2 * pieces;
+      text = text;
+      origin = origin;
+    } ≡ with_transfer number thread said sent
 sent_laid said number thread sent transfers text origin pieces transfer at counted pushed put from =
     let calls' : said.calls + 2 * pieces ≡ said.calls + 2 * piece_count sent.transfer = ap (λ (n : ℕ). said.calls + 2 * n) counted in
-    let text' : text ≡ said.text ++ flat_map closed (transfer_lines (length said.transfers + 1) thread sent) = put ∙ ap (λ (n : ℕ). said.text ++ flat_map closed (transfer_lines n thread sent)) at in
-    let lines : 2 * pieces ≡ length (transfer_lines (length said.transfers + 1) thread sent) = ap (λ (n : ℕ). 2 * n) counted ∙ sym (transfer_lines_length (length said.transfers + 1) thread sent) in
-    let origin' : origin ≡ said.origin ++ replicate (length (transfer_lines (length said.transfers + 1) thread sent)) number = from ∙ ap (λ (n : ℕ). said.origin ++ replicate n number) lines in
+    let text' : text ≡ said.text ++ flat_map closed (transfer_lines (length said.transfers + 1) thread sent) = put
+    ∙ ap (λ (n : ℕ). said.text ++ flat_map closed (transfer_lines n thread sent)) at in
+    let lines : 2 * pieces ≡ length (transfer_lines (length said.transfers + 1) thread sent) = ap (λ (n : ℕ). 2 * n) counted
+    ∙ sym (transfer_lines_length (length said.transfers + 1) thread sent) in
+    let origin' : origin ≡ said.origin ++ replicate (length (transfer_lines (length said.transfers + 1) thread sent)) number = from
+    ∙ ap (λ (n : ℕ). said.origin ++ replicate n number) lines in
     λ i. record { ends = said.ends; scripted = true; segments = said.segments; transfers = pushed i; calls = calls' i; text = text' i; origin = origin' i }
 
 -- the line behind the last

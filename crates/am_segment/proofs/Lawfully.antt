@@ -1,5 +1,6 @@
 -- Each transfer of an expanded text has its segment.
-use Rattle.std.proofs.Common.{◌≡◌, ℕ, ◌+◌, ◌-◌, ◌*◌, ◌<◌, ◌≤◌, Bool, true, false, List, [], ◌∷◌, ◌++◌, length, Option, Some, None, Result, Ok, Err, refl, sym, ap, ◌∙◌, subst, arith, inl, inr, ◌⊎◌, zero, suc, lit<, if◌then◌else◌}
+use Rattle.std.proofs.Common.{◌≡◌, ℕ, ◌+◌, ◌-◌, ◌*◌, ◌<◌, ◌≤◌, Bool, true, false, List, [], ◌∷◌, ◌++◌, length, Option, Some, None, Result, Ok, Err, refl, sym}
+use Rattle.std.proofs.Common.{ap, ◌∙◌, subst, arith, inl, inr, ◌⊎◌, zero, suc, lit<, if◌then◌else◌}
 use Rattle.std.specs.Prelude.{◌==◌, ◌&&◌, nat_lt, nat_le, find, is_some}
 use Rattle.std.specs.List.{All}
 use Rattle.std.proofs.lemmas.Bool.{leb-true, and_parts, eqb-true}
@@ -13,13 +14,13 @@ use Rattle.am_lexer.specs.Fields.{or_else, word_at, number_at, within, ended}
 use Rattle.am_lexer.specs.Lines.{line_after}
 use Rattle.am_scenario_types.specs.declared.faults.ScenarioFault.{ScenarioFault}
 use Rattle.am_scenario.specs.Grammar.{on_line}
-use Rattle.am_lines_laws.proofs.Meets.{Meets, refuses, gives, bind, test, anything, found}
-use Rattle.am_lines_laws.proofs.Words.{is_within}
+use Rattle.am_scenario_laws.proofs.Meets.{Meets, refuses, gives, bind, test, anything, found}
+use Rattle.am_scenario_laws.proofs.Words.{is_within}
 use Rattle.am_scenario.proofs.Below.{found_holds}
 use Rattle.am_names.specs.declared.EndpointId.{EndpointId}
-use Rattle.am_pieces.specs.declared.segment.SegmentLine.{SegmentLine}
-use Rattle.am_pieces.specs.Lists.{TransferLists}
-use Rattle.am_pieces.specs.Blocks.{piece_count}
+use Rattle.am_segment_pieces.specs.declared.segment.SegmentLine.{SegmentLine}
+use Rattle.am_segment_pieces.specs.Lists.{TransferLists}
+use Rattle.am_segment_pieces.specs.Blocks.{piece_count}
 use Rattle.am_segment.specs.declared.own.Own.{Own}
 use Rattle.am_segment.specs.declared.own.Own.TheVariants as own
 use Rattle.am_segment.specs.declared.saying.Sent.{Sent}
@@ -60,7 +61,8 @@ digit_small byte value e =
       | inr rest ↦ let both = if_some (nat_le 97 byte && nat_le byte 102) (byte - 87) value rest in small_letter byte value both.0 both.1
     ]
 
-joined_small : (high low : Option ℕ) (byte : ℕ) → ((v : ℕ) → high ≡ Some v → v < 16) → ((v : ℕ) → low ≡ Some v → v < 16) → joined high low ≡ Some byte → byte < 256
+joined_small : (high low : Option ℕ) (byte : ℕ) → ((v : ℕ) → high ≡ Some v → v < 16) → ((v : ℕ) → low ≡ Some v → v < 16) → joined high low ≡ Some byte →
+    byte < 256
 joined_small None low byte h l e = absurd (cc)
 joined_small (Some high) None byte h l e = absurd (cc)
 joined_small (Some high) (Some low) byte h l e =
@@ -73,7 +75,8 @@ cons_bytes : (byte : ℕ) (bytes : List ℕ) → byte < 256 → AreBytes bytes �
 cons_bytes byte bytes small rest zero = small
 cons_bytes byte bytes small rest (suc i) = rest i
 
-in_front_bytes : (b : Option ℕ) (o : Option (List ℕ)) (bytes : List ℕ) → ((v : ℕ) → b ≡ Some v → v < 256) → ((rest : List ℕ) → o ≡ Some rest → AreBytes rest) → in_front b o ≡ Some bytes → AreBytes bytes
+in_front_bytes : (b : Option ℕ) (o : Option (List ℕ)) (bytes : List ℕ) → ((v : ℕ) → b ≡ Some v → v < 256) → ((rest : List ℕ) → o ≡ Some rest → AreBytes rest) →
+    in_front b o ≡ Some bytes → AreBytes bytes
 in_front_bytes None o bytes h k e = absurd (cc)
 in_front_bytes (Some byte) None bytes h k e = absurd (cc)
 in_front_bytes (Some byte) (Some rest) bytes h k e =
@@ -85,7 +88,8 @@ unfolding bytes_of
 spelled_bytes [] bytes e = let is : [] ≡ bytes = cc in subst AreBytes is (λ (i : ℕ). lit< tt)
 spelled_bytes (high ∷ []) bytes e = absurd (cc)
 spelled_bytes (high ∷ low ∷ digits) bytes e =
-    in_front_bytes (pair_value high low) (bytes_of digits) bytes (λ (v : ℕ) (is : pair_value high low ≡ Some v). joined_small (digit_value high) (digit_value low) v (digit_small high) (digit_small low) is) (spelled_bytes digits) e
+    in_front_bytes (pair_value high low) (bytes_of digits) bytes (λ (v : ℕ) (is : pair_value high low ≡ Some v). joined_small (digit_value high)
+    (digit_value low) v (digit_small high) (digit_small low) is) (spelled_bytes digits) e
 
 if_block : (b : Bool) (o : Option (List ℕ)) (bytes : List ℕ) → (if b then o else None) ≡ Some bytes → o ≡ Some bytes
 if_block true o bytes e = e
@@ -102,14 +106,19 @@ record IsBlockOf (segment : SegmentLine) (t : TransferLists) : Type 0 where
   within' : t.offset + length t.bytes ≤ segment.size
   bytes : AreBytes t.bytes
 
-a_block : (segment : SegmentLine) (offset : ℕ) (words : List (List ℕ)) → Meets (λ (found : TransferLists × List (List ℕ)). IsBlockOf segment found.0) (block_at segment offset words)
+a_block : (segment : SegmentLine) (offset : ℕ) (words : List (List ℕ)) →
+    Meets (λ (found : TransferLists × List (List ℕ)). IsBlockOf segment found.0) (block_at segment offset words)
 unfolding block_at
 a_block segment offset words =
     let P : TransferLists × List (List ℕ) → Type 0 = λ found. IsBlockOf segment found.0 in
     bind (word_at words) _ (anything (word_at words)) (λ word _.
     bind (or_else BadNumber (block_of word.0)) _ (found BadNumber (block_of word.0)) (λ block e.
     test (nat_le (offset + length block) segment.size) _ _
-    (λ fits. gives P (record { dest = segment.end; offset = offset; bytes = block }, word.1) (record { dest = refl; within' = leb-true (offset + length block) segment.size fits; bytes = block_bytes word.0 block e }))
+    (λ fits. gives P (record { dest = segment.end; offset = offset; bytes = block }, word.1) (record {
+      dest = refl;
+      within' = leb-true (offset + length block) segment.size fits;
+      bytes = block_bytes word.0 block e;
+    }))
     (λ e2. refuses P OutOfRange)))
 
 record IsAmong (segments : List SegmentLine) (s : SegmentLine) : Type 0 where
@@ -120,13 +129,15 @@ a_segment : (said : Laid) (words : List (List ℕ)) → Meets (λ (found : Segme
 unfolding segment_at
 a_segment said words =
     bind (number_at words) _ (anything (number_at words)) (λ number _.
-    bind (or_else Undeclared (find (λ (s : SegmentLine). s.end.0 == number.0) said.segments)) _ (found Undeclared (find (λ (s : SegmentLine). s.end.0 == number.0) said.segments)) (λ segment e.
+    bind (or_else Undeclared (find (λ (s : SegmentLine). s.end.0 == number.0) said.segments)) _
+    (found Undeclared (find (λ (s : SegmentLine). s.end.0 == number.0) said.segments)) (λ segment e.
     gives (λ (found : SegmentLine × List (List ℕ)). IsAmong said.segments found.0) (segment, number.1) (record { number = number.0; is = e })))
 
 abbrev IsSized : SegmentLine → Type 0
 IsSized s = s.size ≤ 65_536
 
-has_segment : (segments : List SegmentLine) (s : SegmentLine) (t : TransferLists) → All IsSized segments → IsAmong segments s → IsBlockOf s t → HasSegment segments t
+has_segment : (segments : List SegmentLine) (s : SegmentLine) (t : TransferLists) → All IsSized segments → IsAmong segments s → IsBlockOf s t →
+    HasSegment segments t
 has_segment segments s t sized among block =
     let same : s.end.0 ≡ among.number = eqb-true s.end.0 among.number (find_passes (λ (u : SegmentLine). u.end.0 == among.number) segments s among.is) in
     let dest : among.number ≡ t.dest.0 = sym same ∙ ap (λ (end : EndpointId). end.0) (sym block.dest) in
@@ -138,7 +149,8 @@ has_segment segments s t sized among block =
       bytes = block.bytes;
     }
 
-a_transfer : (said : Laid) (words : List (List ℕ)) → All IsSized said.segments → Meets (λ (sent : Sent). HasSegment said.segments sent.transfer) (transfer_line said words)
+a_transfer : (said : Laid) (words : List (List ℕ)) → All IsSized said.segments →
+    Meets (λ (sent : Sent). HasSegment said.segments sent.transfer) (transfer_line said words)
 unfolding transfer_line
 a_transfer said words sized =
     let P : Sent → Type 0 = λ sent. HasSegment said.segments sent.transfer in
@@ -149,7 +161,12 @@ a_transfer said words sized =
     bind (block_at segment.0 offset.0 offset.1) _ (a_block segment.0 offset.0 offset.1) (λ block is.
     bind (ended block.1) _ (anything (ended block.1)) (λ e _.
     test (nat_le (said.calls + 2 * piece_count block.0) 16_384) _ _
-    (λ room. gives P (record { end = end.0; index = index.0; handler = segment.0.handler; transfer = block.0 }) (has_segment said.segments segment.0 block.0 sized among is))
+    (λ room. gives P (record {
+      end = end.0;
+      index = index.0;
+      handler = segment.0.handler;
+      transfer = block.0;
+    }) (has_segment said.segments segment.0 block.0 sized among is))
     (λ e2. refuses P TooMany)))))))
 
 fresh_sized : (said : Laid) (s : SegmentLine) → IsSized s → Meets IsSized (fresh said s)
@@ -174,7 +191,8 @@ record Good (said : Laid) : Type 0 where
   transfers' : All (HasSegment said.segments) said.transfers
   sizes : All IsSized said.segments
 
-kept_at : (p : SegmentLine → Bool) (x : SegmentLine) (y : SegmentLine) (b : Bool) (first second : Option SegmentLine) → (first ≡ Some y → second ≡ Some y) → (if b then Some x else first) ≡ Some y → (if b then Some x else second) ≡ Some y
+kept_at : (p : SegmentLine → Bool) (x : SegmentLine) (y : SegmentLine) (b : Bool) (first second : Option SegmentLine) → (first ≡ Some y → second ≡ Some y) →
+    (if b then Some x else first) ≡ Some y → (if b then Some x else second) ≡ Some y
 kept_at p x y true first second h e = e
 kept_at p x y false first second h e = h e
 
@@ -183,7 +201,13 @@ find_kept p [] zs y e = absurd (cc)
 find_kept p (x ∷ xs) zs y e = kept_at p x y (p x) (find p xs) (find p (xs ++ zs)) (find_kept p xs zs y) e
 
 still_has : (segments : List SegmentLine) (s : SegmentLine) (t : TransferLists) → HasSegment segments t → HasSegment (segments ++ s ∷ []) t
-still_has segments s t has = record { segment = has.segment; is = find_kept (λ (u : SegmentLine). u.end.0 == t.dest.0) segments (s ∷ []) has.segment has.is; within = has.within; size = has.size; bytes = has.bytes }
+still_has segments s t has = record {
+  segment = has.segment;
+  is = find_kept (λ (u : SegmentLine). u.end.0 == t.dest.0) segments (s ∷ []) has.segment has.is;
+  within = has.within;
+  size = has.size;
+  bytes = has.bytes;
+}
 
 own_good : (number : ℕ) (said : Laid) (kind : Own) (words : List (List ℕ)) → Good said → Meets Good (after_own number said kind words)
 unfolding after_own
@@ -195,7 +219,11 @@ own_good number said own.Segment words good =
     }))
 own_good number said (own.Transfer thread) words good =
     bind (transfer_line said words) _ (a_transfer said words good.sizes) (λ sent has.
-    gives Good (with_transfer number thread said sent) (record { transfers' = All-push (HasSegment said.segments) said.transfers sent.transfer good.transfers' has; sizes = good.sizes }))
+    gives Good (with_transfer number thread said sent) (record {
+      transfers' =
+          All-push (HasSegment said.segments) said.transfers sent.transfer good.transfers' has;
+      sizes = good.sizes;
+    }))
 own_good number said (own.Serve thread) words good =
     bind (serve_line said words) _ (anything (serve_line said words)) (λ served _.
     gives Good (with_serve number thread said served) (record { transfers' = good.transfers'; sizes = good.sizes }))
@@ -212,7 +240,8 @@ line_good number said line good = kind_good number said line (own_of (words_of l
 abbrev Ends : ExpandedLists → Type 0
 Ends e = All (HasSegment e.segments) e.transfers
 
-next_good : (number : ℕ) (r : Result Laid What) (f : Laid → Result ExpandedLists ScenarioFault) (e : ExpandedLists) → ((next : Laid) → r ≡ Ok next → f next ≡ Ok e → Ends e) → on_line number r f ≡ Ok e → Ends e
+next_good : (number : ℕ) (r : Result Laid What) (f : Laid → Result ExpandedLists ScenarioFault) (e : ExpandedLists) →
+    ((next : Laid) → r ≡ Ok next → f next ≡ Ok e → Ends e) → on_line number r f ≡ Ok e → Ends e
 next_good number (Ok next) f e h is = h next refl is
 next_good number (Err what) f e h is = absurd (cc)
 
@@ -222,7 +251,9 @@ from_good [] number said e good is =
     let same : expanded_of said ≡ e = cc in
     subst Ends same good.transfers'
 from_good (line ∷ lines) number said e good is =
-    next_good number (after_line number said line) (λ next. expand_from (line_after number) next lines) e (λ (next : Laid) (taken : after_line number said line ≡ Ok next) (rest : expand_from (line_after number) next lines ≡ Ok e). from_good lines (line_after number) next e ((line_good number said line good).holds next taken) rest) is
+    next_good number (after_line number said line) (λ next. expand_from (line_after number) next lines) e
+    (λ (next : Laid) (taken : after_line number said line ≡ Ok next) (rest : expand_from (line_after number) next lines ≡ Ok e). from_good lines
+    (line_after number) next e ((line_good number said line good).holds next taken) rest) is
 
 pub expansions_are_lawful : ExpansionsAreLawful
 expansions_are_lawful bytes e is = from_good (lines_of bytes) 1 nothing_laid e (record { transfers' = All-nil (HasSegment []); sizes = All-nil IsSized }) is

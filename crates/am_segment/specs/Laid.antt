@@ -1,8 +1,9 @@
 -- What the lines of a text with segments have said so far.
-use Rattle.std.specs.Prelude.{ℕ, ◌+◌, Bool, false, not, ◌&&◌, ◌||◌, ◌==◌, nat_le, List, [], ◌∷◌, ◌++◌, codes, length, replicate, if◌then◌else◌, Option, Some, None}
+use Rattle.std.specs.Prelude.{ℕ, ◌+◌, Bool, false, not, ◌&&◌, ◌||◌, ◌==◌, nat_le, List, [], ◌∷◌, ◌++◌, codes, length, replicate, if◌then◌else◌, Option, Some}
+use Rattle.std.specs.Prelude.{None}
 use Rattle.std.specs.List.{flat_map, list_any}
-use Rattle.am_pieces.specs.declared.segment.SegmentLine.{SegmentLine}
-use Rattle.am_pieces.specs.Lists.{TransferLists}
+use Rattle.am_segment_pieces.specs.declared.segment.SegmentLine.{SegmentLine}
+use Rattle.am_segment_pieces.specs.Lists.{TransferLists}
 use Rattle.am_segment.specs.Own.{declared_by, is_script}
 
 pub record Laid : Type 0 where
@@ -24,18 +25,10 @@ nothing_laid = record { ends = []; scripted = false; segments = []; transfers = 
 abbrev pub is_declared : List ℕ → ℕ → Bool
 is_declared ends number = list_any (λ end. end == number) ends
 
--- a number that isn't declared yet; no endpoint has one above 255
-abbrev pub new_end : List ℕ → ℕ → Option ℕ
-new_end ends number = if nat_le number 255 && not (is_declared ends number) then Some number else None
-
-abbrev pub with_new : List ℕ → Option ℕ → List ℕ
-with_new ends None = ends
-with_new ends (Some end) = ends ++ end ∷ []
-
--- one endpoint more
+-- one endpoint more, if it isn't declared yet; none has a number above 255
 abbrev pub with_end : List ℕ → Option ℕ → List ℕ
 with_end ends None = ends
-with_end ends (Some number) = with_new ends (new_end ends number)
+with_end ends (Some number) = if nat_le number 255 && not (is_declared ends number) then ends ++ number ∷ [] else ends
 
 -- a line and its end
 abbrev pub closed : List ℕ → List ℕ

@@ -1,9 +1,9 @@
 -- What an expanded text has.
 use Rattle.std.specs.Prelude.{◌≡◌, ℕ, ◌+◌, ◌<◌, ◌≤◌, List, length, slice_index, Some, Ok}
 use Rattle.std.specs.List.{All}
-use Rattle.am_pieces.specs.declared.segment.SegmentLine.{SegmentLine}
-use Rattle.am_pieces.specs.Lists.{TransferLists}
-use Rattle.am_pieces.specs.Segments.{segment_of}
+use Rattle.am_segment_pieces.specs.declared.segment.SegmentLine.{SegmentLine}
+use Rattle.am_segment_pieces.specs.Lists.{TransferLists}
+use Rattle.am_segment_pieces.specs.Segments.{segment_of}
 use Rattle.am_segment.specs.Lists.{ExpandedLists}
 use Rattle.am_segment.specs.Expansion.{expansion}
 

@@ -1,7 +1,7 @@
 -- An expanded text, with its parts as lists.
 use Rattle.std.specs.Prelude.{ℕ, List}
-use Rattle.am_pieces.specs.declared.segment.SegmentLine.{SegmentLine}
-use Rattle.am_pieces.specs.Lists.{TransferLists}
+use Rattle.am_segment_pieces.specs.declared.segment.SegmentLine.{SegmentLine}
+use Rattle.am_segment_pieces.specs.Lists.{TransferLists}
 
 pub record ExpandedLists : Type 0 where
   pub text : List ℕ

@@ -3,10 +3,10 @@ use Rattle.std.specs.Prelude.{ℕ, zero, suc, ◌+◌, ◌*◌, ◌/◌, List, [
 use Rattle.std.specs.Fmt.{decimal}
 use Rattle.std.specs.List.{flat_map}
 use Rattle.am_office.specs.declared.Entry.{Entry}
-use Rattle.am_text.specs.Words.{line}
-use Rattle.am_pieces.specs.declared.ran.TransferRan.{TransferRan}
-use Rattle.am_pieces.specs.declared.segment.SegmentLine.{SegmentLine}
-use Rattle.am_pieces.specs.Segments.{segment_bytes, ran_from}
+use Rattle.am_office_text.specs.Words.{line}
+use Rattle.am_segment_pieces.specs.declared.ran.TransferRan.{TransferRan}
+use Rattle.am_segment_pieces.specs.declared.segment.SegmentLine.{SegmentLine}
+use Rattle.am_segment_pieces.specs.Segments.{segment_bytes, ran_from}
 use Rattle.am_segment.specs.Hex.{digits_of}
 use Rattle.am_segment.specs.Lists.{ExpandedLists}
 

@@ -5,9 +5,9 @@ use Rattle.am_lexer.specs.declared.what.What.{What}
 use Rattle.am_lexer.specs.declared.what.What.TheVariants.{BadNumber, OutOfRange, Undeclared, Twice, TooMany, OutOfPlace}
 use Rattle.am_lexer.specs.Fields.{◌>>=◌, or_else, word_at, number_at, within, ended}
 use Rattle.am_names.specs.declared.EndpointId.{EndpointId}
-use Rattle.am_pieces.specs.declared.segment.SegmentLine.{SegmentLine}
-use Rattle.am_pieces.specs.Lists.{TransferLists}
-use Rattle.am_pieces.specs.Blocks.{piece_count}
+use Rattle.am_segment_pieces.specs.declared.segment.SegmentLine.{SegmentLine}
+use Rattle.am_segment_pieces.specs.Lists.{TransferLists}
+use Rattle.am_segment_pieces.specs.Blocks.{piece_count}
 use Rattle.am_segment.specs.declared.saying.Sent.{Sent}
 use Rattle.am_segment.specs.declared.saying.Served.{Served}
 use Rattle.am_segment.specs.Hex.{block_of}

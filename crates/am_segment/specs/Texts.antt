@@ -4,10 +4,10 @@ use Rattle.std.specs.Fmt.{decimal}
 use Rattle.std.specs.List.{flat_map}
 use Rattle.am_names.specs.declared.EndpointId.{EndpointId}
 use Rattle.am_names.specs.declared.Words.{Words}
-use Rattle.am_text.specs.Words.{spaced}
-use Rattle.am_pieces.specs.declared.parts.Piece.{Piece}
-use Rattle.am_pieces.specs.Pieces.{words_of}
-use Rattle.am_pieces.specs.Blocks.{pieces_of}
+use Rattle.am_office_text.specs.Words.{spaced}
+use Rattle.am_segment_pieces.specs.declared.parts.Piece.{Piece}
+use Rattle.am_segment_pieces.specs.Pieces.{words_of}
+use Rattle.am_segment_pieces.specs.Blocks.{pieces_of}
 use Rattle.am_segment.specs.declared.saying.Sent.{Sent}
 use Rattle.am_segment.specs.declared.saying.Served.{Served}
 

@@ -3,7 +3,7 @@
 ghost use Rattle.std.specs.Prelude.{◌≤◌, IsTrue, nat_le, length};
 ghost use Rattle.std.specs.List.{list_all};
 
-use am_pieces::{SegmentLine, Transfer};
+use am_segment_pieces::{SegmentLine, Transfer};
 use std::alloc::Global;
 use std::marker::Model;
 

@@ -12,7 +12,7 @@ mod saying;
 mod scenario;
 mod texts;
 
-pub use am_pieces::{
+pub use am_segment_pieces::{
     Piece, SegmentLine, Transfer, TransferRan, piece, segment_bytes, transfers_ran,
 };
 pub use expansion::Expanded;

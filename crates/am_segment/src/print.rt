@@ -4,14 +4,14 @@ ghost use Rattle.std.specs.Prelude.{◌≡◌, ◌≤◌, ◌<◌, ◌*◌, ◌=
 ghost use Rattle.std.specs.List.{flat_map};
 ghost use Rattle.am_segment.specs.Hex.{digits_of};
 ghost use Rattle.am_segment.specs.Printed.{bytes_part, part_of, parts_below, row_of, segment_part, segments_text, transfer_line};
-ghost use Rattle.am_pieces.specs.Segments.{segment_bytes};
+ghost use Rattle.am_segment_pieces.specs.Segments.{segment_bytes};
 
 use crate::expansion::Expanded;
 use crate::hex::put_byte;
 use am_office::{Journal, NoMemory};
-use am_pieces::{SegmentLine, TransferRan, segment_bytes, transfers_ran};
-use am_text::Piece::Text;
-use am_text::{count, put_end, put_line, small};
+use am_office_text::Piece::Text;
+use am_office_text::{count, put_end, put_line, small};
+use am_segment_pieces::{SegmentLine, TransferRan, segment_bytes, transfers_ran};
 use std::alloc::{AllocError, Global};
 
 fn put_bytes(out: &mut Vec<u8>, bytes: &[u8]) -> Result<(), AllocError>

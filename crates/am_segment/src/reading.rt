@@ -2,20 +2,19 @@
 
 ghost use Rattle.std.specs.Prelude.{◌≡◌, ◌≤◌, ◌+◌, ◌*◌, OnOk, IfOk, length};
 ghost use Rattle.am_lexer.specs.Text.{words_of};
-ghost use Rattle.am_scenario.specs.Answers.{at_line};
-ghost use Rattle.am_pieces.specs.Blocks.{piece_count};
+ghost use Rattle.am_segment_pieces.specs.Blocks.{piece_count};
 ghost use Rattle.am_segment.specs.Drafts.{laid};
-ghost use Rattle.am_segment.specs.Laid.{is_declared, new_end, with_end, with_ordinary, with_segment};
+ghost use Rattle.am_segment.specs.Laid.{is_declared, with_end, with_ordinary, with_segment};
 ghost use Rattle.am_segment.specs.Expansion.{Answers, Changes, after_line, after_own, expanded_of, expansion, with_serve, with_transfer};
 
 use crate::expansion::{Expanded, Expansion};
 use crate::own::{Own, declared_by, is_script, own_of};
 use crate::saying::{Sent, Served, segment_line, serve_line, transfer_line};
 use crate::texts::{put_ordinary, put_origins, put_serve, put_transfer};
-use am_draft::LineFault;
 use am_lexer::{What, is_text, next_line};
-use am_pieces::SegmentLine;
-use am_scenario_types::{ReadFault, ScenarioFault};
+use am_scenario_draft::LineFault;
+use am_scenario_types::ReadFault;
+use am_segment_pieces::SegmentLine;
 use std::alloc::{AllocError, Global};
 
 fn is_declared(ends: &[u8], number: u64) -> bool
@@ -24,28 +23,16 @@ fn is_declared(ends: &[u8], number: u64) -> bool
     ends.iter().any(|end| u64::from(*end) == number)
 }
 
-// A number that isn't declared yet, if an endpoint may have it.
-fn new_end(ends: &[u8], number: u64) -> Option<u8>
-    ensures { result ≡ new_end ends.now number }
-{
-    if number <= 255 && !is_declared(ends, number) {
-        Some(number as u8)
-    } else {
-        None
-    }
-}
-
-// One endpoint more is declared, if there is a new one.
+// One endpoint more is declared, if there is one that an endpoint may have and that isn't declared yet.
 fn add_end(ends: &mut Vec<u8>, number: Option<u64>) -> Result<(), AllocError>
     ensures { OnOk result (ends.new.items ≡ with_end ends.old.items number) }
 {
     let Some(number) = number else {
         return Ok(());
     };
-    let Some(end) = new_end(ends, number) else {
-        return Ok(());
-    };
-    ends.push(end)?;
+    if number <= 255 && !is_declared(ends, number) {
+        ends.push(number as u8)?;
+    }
     Ok(())
 }
 
@@ -148,15 +135,6 @@ fn take_line(alloc: Global, said: &mut Expansion, number: u32, line: &[u8]) -> R
     take_own(alloc, said, number, own, rest)
 }
 
-fn refused(line: u32, fault: LineFault) -> ReadFault
-    ensures { result ≡ at_line line fault }
-{
-    match fault {
-        LineFault::What(what) => ReadFault::Refused(ScenarioFault { line, what }),
-        LineFault::NoMemory => ReadFault::NoMemory,
-    }
-}
-
 // What all lines together have said.
 fn expanded(said: Expansion) -> Expanded
     ensures exact { result ≡ expanded_of (laid said) }
@@ -191,7 +169,7 @@ pub fn expand(alloc: Global, bytes: &[u8]) -> Result<Expanded, ReadFault>
     let mut rest = bytes;
     while let Some((line, after)) = next_line(rest) {
         if let Err(fault) = take_line(alloc, &mut said, number, line) {
-            return Err(refused(number, fault));
+            return Err(fault.at_line(number));
         }
         number = number.saturating_add(1);
         rest = after;

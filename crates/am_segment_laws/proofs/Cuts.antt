@@ -5,7 +5,7 @@ use Rattle.std.proofs.lemmas.List.{take_all, append-nil}
 use Rattle.std.proofs.lemmas.Grind.{flat_map-append}
 use Rattle.std.proofs.Math.Seq.{take-add}
 use Rattle.am_lemmas.proofs.Lists.{range_push}
-use Rattle.am_pieces.specs.Blocks.{bytes_at}
+use Rattle.am_segment_pieces.specs.Blocks.{bytes_at}
 use Rattle.am_segment_laws.specs.Laws.{PiecesAreBlock}
 
 -- the first pieces are the front of the block

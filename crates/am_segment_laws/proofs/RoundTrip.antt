@@ -1,10 +1,11 @@
 -- The words that carry a piece are that piece.
-use Rattle.std.proofs.Common.{◌≡◌, ℕ, zero, suc, ◌+◌, ◌*◌, ◌/◌, ◌%◌, ◌<◌, ◌≤◌, true, ◌&&◌, Some, None, List, [], ◌∷◌, refl, drop, get_or, nat_le, if◌then◌else◌, arith}
+use Rattle.std.proofs.Common.{◌≡◌, ℕ, zero, suc, ◌+◌, ◌*◌, ◌/◌, ◌%◌, ◌<◌, ◌≤◌, true, ◌&&◌, Some, None, List, [], ◌∷◌, refl, drop, get_or, nat_le, if◌then◌else◌}
+use Rattle.std.proofs.Common.{arith}
 use Rattle.std.proofs.lemmas.Bool.{le-leb}
 use Rattle.std.proofs.lemmas.List.{get_or-drop}
 use Rattle.am_lemmas.proofs.Bytes.{three_words_back}
-use Rattle.am_pieces.specs.declared.parts.Piece.{Piece}
-use Rattle.am_pieces.specs.Pieces.{piece_of, words_of, are_zero}
+use Rattle.am_segment_pieces.specs.declared.parts.Piece.{Piece}
+use Rattle.am_segment_pieces.specs.Pieces.{piece_of, words_of, are_zero}
 use Rattle.am_segment_laws.specs.Laws.{PiecesAreWords}
 
 -- ---- the first word
@@ -29,7 +30,8 @@ zeros_behind (b ∷ bytes) zeros =
 abbrev mk : ℕ → ℕ → ℕ → List ℕ → Piece
 mk transfer offset len bytes = record { transfer = transfer; offset = offset; len = len; bytes = bytes }
 
-made : (o l t o' l' t' : ℕ) (b b' : List ℕ) → o ≡ o' → l ≡ l' → t ≡ t' → b ≡ b' → nat_le 1 l' ≡ true → nat_le l' 24 ≡ true → are_zero (drop l' b') ≡ true → (if nat_le 1 l && nat_le l 24 && are_zero (drop l b) then Some (mk t o l b) else None) ≡ Some (mk t' o' l' b')
+made : (o l t o' l' t' : ℕ) (b b' : List ℕ) → o ≡ o' → l ≡ l' → t ≡ t' → b ≡ b' → nat_le 1 l' ≡ true → nat_le l' 24 ≡ true → are_zero (drop l' b') ≡ true →
+    (if nat_le 1 l && nat_le l 24 && are_zero (drop l b) then Some (mk t o l b) else None) ≡ Some (mk t' o' l' b')
 made o l t o' l' t' b b' eo el et eb some few zeros = rw (eo, el, et, eb, some, few, zeros) refl
 
 pub pieces_are_words : PiecesAreWords

@@ -2,12 +2,12 @@
 use Rattle.std.specs.Prelude.{◌≡◌, ℕ, ◌+◌, ◌/◌, ◌<◌, ◌≤◌, true, List, ◌∷◌, ◌++◌, length, slice_index, Some}
 use Rattle.std.specs.List.{flat_map, range_with_len}
 use Rattle.am_office.specs.declared.Entry.{Entry}
-use Rattle.am_pieces.specs.declared.parts.Piece.{Piece}
-use Rattle.am_pieces.specs.declared.segment.SegmentLine.{SegmentLine}
-use Rattle.am_pieces.specs.Lists.{TransferLists}
-use Rattle.am_pieces.specs.Pieces.{piece_of, words_of}
-use Rattle.am_pieces.specs.Blocks.{bytes_at, piece_at, piece_count}
-use Rattle.am_pieces.specs.Segments.{byte_at, covers, has_run, ran_count, written_by}
+use Rattle.am_segment_pieces.specs.declared.parts.Piece.{Piece}
+use Rattle.am_segment_pieces.specs.declared.segment.SegmentLine.{SegmentLine}
+use Rattle.am_segment_pieces.specs.Lists.{TransferLists}
+use Rattle.am_segment_pieces.specs.Pieces.{piece_of, words_of}
+use Rattle.am_segment_pieces.specs.Blocks.{bytes_at, piece_at, piece_count}
+use Rattle.am_segment_pieces.specs.Segments.{byte_at, covers, has_run, ran_count, written_by}
 
 -- a piece as it may be: 1 to 24 bytes, and zeros after them, at a place below 65,536
 pub record IsPiece (p : Piece) : Type 0 where

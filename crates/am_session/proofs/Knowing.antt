@@ -1,5 +1,6 @@
 -- What is known of a message after one entry more.
-use Rattle.std.proofs.Common.{◌≡◌, ℕ, ◌<◌, ◌+◌, Bool, true, false, ◌||◌, ◌==◌, cond, Option, Some, None, List, [], ◌∷◌, ◌++◌, refl, sym, ap, ◌∙◌, length, take, get_or, add-one}
+use Rattle.std.proofs.Common.{◌≡◌, ℕ, ◌<◌, ◌+◌, Bool, true, false, ◌||◌, ◌==◌, cond, Option, Some, None, List, [], ◌∷◌, ◌++◌, refl, sym, ap, ◌∙◌, length, take}
+use Rattle.std.proofs.Common.{get_or, add-one}
 use Rattle.std.specs.Ordering.{is_eq, nat_cmp}
 use Rattle.std.specs.BTreeMap.{BTreeMap, get, Updates}
 use Rattle.std.proofs.lemmas.Bool.{eqb-true}
@@ -16,11 +17,13 @@ use Rattle.am_session.specs.declared.fates.News.{News}
 use Rattle.am_session.specs.declared.fates.News.TheVariants as Latest
 use Rattle.am_session.specs.Tables.{news_in, unknown_news, known_with, known_in, known_of, known_after, AreKnown}
 
-learned_if : (b : Bool) (m n : BTreeMap ℕ Known) (k s : ℕ) (news : News) → b ≡ (s == k) → get nat_cmp n s ≡ cond b (Some (known_with (known_in m k) news)) (get nat_cmp m s) → known_in n s ≡ cond b (known_with (known_in m s) news) (known_in m s)
+learned_if : (b : Bool) (m n : BTreeMap ℕ Known) (k s : ℕ) (news : News) → b ≡ (s == k) →
+    get nat_cmp n s ≡ cond b (Some (known_with (known_in m k) news)) (get nat_cmp m s) → known_in n s ≡ cond b (known_with (known_in m s) news) (known_in m s)
 learned_if true m n k s news is got = rw (got, eqb-true s k (sym is)) refl
 learned_if false m n k s news is got = rw got refl
 
-pub learned : (m n : BTreeMap ℕ Known) (k : ℕ) (news : News) → Updates nat_cmp m n k (Some (known_with (known_in m k) news)) → (s : ℕ) → known_in n s ≡ known_after s (known_in m s) (Some (k, news))
+pub learned : (m n : BTreeMap ℕ Known) (k : ℕ) (news : News) → Updates nat_cmp m n k (Some (known_with (known_in m k) news)) → (s : ℕ) →
+    known_in n s ≡ known_after s (known_in m s) (Some (k, news))
 learned m n k news updates s =
     rw (← nat_cmp-is_eq k s) (learned_if (is_eq (nat_cmp k s)) m n k s news (nat_cmp-is_eq k s) (updates.0 s))
 
@@ -47,7 +50,8 @@ grown_peer : (s : ℕ) (k : Known) (unknown : Option ℕ) → grown k false fals
 grown_peer s k None = grown_none k
 grown_peer s k (Some m) = grown_unknown (s == m) k
 
-grown_by : (s : ℕ) (k : Known) (o : SessionOutcome) → grown k (is_of s (put_in o)) (is_of s (returned_in o)) (is_of s (unknown_in o)) ≡ known_after s k (news_in o)
+grown_by : (s : ℕ) (k : Known) (o : SessionOutcome) → grown k (is_of s (put_in o)) (is_of s (returned_in o)) (is_of s (unknown_in o)) ≡ known_after s k
+    (news_in o)
 grown_by s k (Out.Accepted m answer) = grown_put (s == m) k
 grown_by s k (Out.Returned m) = grown_returned (s == m) k
 grown_by s k (Out.Unknown m) = grown_unknown (s == m) k
@@ -61,7 +65,8 @@ known_append s past x =
     in
     all ∙ grown_by s (known_of past s) x.outcome
 
-pub known_next : (old new : BTreeMap ℕ Known) (xs : List SessionEntry) (i : ℕ) (d : SessionEntry) → i < length xs → AreKnown old (take i xs) → ((s : ℕ) → known_in new s ≡ known_after s (known_in old s) (news_in (get_or xs i d).outcome)) → AreKnown new (take (i + 1) xs)
+pub known_next : (old new : BTreeMap ℕ Known) (xs : List SessionEntry) (i : ℕ) (d : SessionEntry) → i < length xs → AreKnown old (take i xs) →
+    ((s : ℕ) → known_in new s ≡ known_after s (known_in old s) (news_in (get_or xs i d).outcome)) → AreKnown new (take (i + 1) xs)
 known_next old new xs i d below are step =
     let taken : take (i + 1) xs ≡ take i xs ++ get_or xs i d ∷ [] = rw add-one (take-suc xs i d below) in
     record {

@@ -3,4 +3,5 @@ mod Playable
 mod Knowing
 mod Walking
 mod Telling
+mod OneAnswer
 mod Fating

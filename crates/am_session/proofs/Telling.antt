@@ -21,7 +21,8 @@ use Rattle.am_session.specs.Plays.{Played, played, played_by, played_from}
 use Rattle.am_session.specs.Report.{report}
 use Rattle.am_session.specs.Scripts.{Script, events_of}
 
-each_push : (May : List SessionEntry → SessionEntry → Type 0) (past xs : List SessionEntry) (x : SessionEntry) → EachAfter May past xs → May (past ++ xs) x → EachAfter May past (xs ++ x ∷ [])
+each_push : (May : List SessionEntry → SessionEntry → Type 0) (past xs : List SessionEntry) (x : SessionEntry) → EachAfter May past xs → May (past ++ xs) x →
+    EachAfter May past (xs ++ x ∷ [])
 each_push May past [] x h more = (subst (λ (ys : List SessionEntry). May ys x) (append-nil past) more, tt)
 each_push May past (y ∷ xs) x h more =
     (h.0, each_push May (past ++ y ∷ []) xs x h.1 (subst (λ (ys : List SessionEntry). May ys x) (sym (append_assoc past (y ∷ []) xs)) more))
@@ -32,7 +33,8 @@ entry_same s x y h k e =
     let o : x.outcome ≡ y.outcome = h.outcome' ∙ ap (λ (event : SessionEvent). (move_of s event).outcome) e ∙ sym k.outcome' in
     λ i. record { event = e i; outcome = o i }
 
-agree : (tries : ℕ) (past xs ys : List SessionEntry) → EachAfter (λ past x. MayFollow (state_of tries past) x) past xs → EachAfter (λ past x. MayFollow (state_of tries past) x) past ys → map (λ (x : SessionEntry). x.event) xs ≡ map (λ (x : SessionEntry). x.event) ys → xs ≡ ys
+agree : (tries : ℕ) (past xs ys : List SessionEntry) → EachAfter (λ past x. MayFollow (state_of tries past) x) past xs →
+    EachAfter (λ past x. MayFollow (state_of tries past) x) past ys → map (λ (x : SessionEntry). x.event) xs ≡ map (λ (x : SessionEntry). x.event) ys → xs ≡ ys
 agree tries past [] [] h k e = refl
 agree tries past [] (y ∷ ys) h k e = absurd (cc)
 agree tries past (x ∷ xs) [] h k e = absurd (cc)
@@ -40,7 +42,8 @@ agree tries past (x ∷ xs) (y ∷ ys) h k e =
     let event : x.event ≡ y.event = cc in
     let events : map (λ (z : SessionEntry). z.event) xs ≡ map (λ (z : SessionEntry). z.event) ys = cc in
     let same : x ≡ y = entry_same (state_of tries past) x y h.0 k.0 event in
-    let h' : EachAfter (λ past x. MayFollow (state_of tries past) x) (past ++ y ∷ []) xs = subst (λ (z : SessionEntry). EachAfter (λ past x. MayFollow (state_of tries past) x) (past ++ z ∷ []) xs) same h.1 in
+    let h' : EachAfter (λ past x. MayFollow (state_of tries past) x) (past ++ y ∷ []) xs =
+    subst (λ (z : SessionEntry). EachAfter (λ past x. MayFollow (state_of tries past) x) (past ++ z ∷ []) xs) same h.1 in
     let rest : xs ≡ ys = agree tries (past ++ y ∷ []) xs ys h' k.1 events in
     ap (λ (z : SessionEntry). z ∷ xs) same ∙ ap (λ (zs : List SessionEntry). y ∷ zs) rest
 
@@ -72,7 +75,8 @@ got_next : (done : List SessionStep) (step : SessionStep) (rest : List SessionSt
 got_next [] step rest = refl
 got_next (x ∷ done) step rest = got_next done step rest
 
-made_from : (tries : ℕ) (done steps : List SessionStep) (past : List SessionEntry) → IsSession tries past → IsOfEvents (events_of done) past → IsMade tries (done ++ steps) (played_from (state_of tries past) past steps)
+made_from : (tries : ℕ) (done steps : List SessionStep) (past : List SessionEntry) → IsSession tries past → IsOfEvents (events_of done) past →
+    IsMade tries (done ++ steps) (played_from (state_of tries past) past steps)
 made_from tries done [] past h follows =
     record { history = h; ends = subst (λ (l : List SessionStep). IsOfEvents (events_of l) past) (sym (append-nil done)) follows }
 made_from tries done (step ∷ steps) past h follows =
@@ -81,7 +85,11 @@ made_from tries done (step ∷ steps) past h follows =
     many : length past ≡ length done
     many = as_many done past follows
 
-    by_failing : (o : Option SessionCondition) → failing (state_of tries past) step.event ≡ o → ((next : List SessionEntry) → IsSession tries next → IsOfEvents (events_of (done ++ step ∷ [])) next → IsMade tries ((done ++ step ∷ []) ++ steps) (played_from (state_of tries next) next steps)) → IsMade tries (done ++ step ∷ steps) (played_by o step.line past (played_from (after (state_of tries past) step.event) (past ++ entry_of (state_of tries past) step.event ∷ []) steps))
+    by_failing : (o : Option SessionCondition) → failing (state_of tries past) step.event ≡ o →
+        ((next : List SessionEntry) → IsSession tries next → IsOfEvents (events_of (done ++ step ∷ [])) next →
+        IsMade tries ((done ++ step ∷ []) ++ steps) (played_from (state_of tries next) next steps)) →
+        IsMade tries (done ++ step ∷ steps) (played_by o step.line past (played_from (after (state_of tries past) step.event)
+        (past ++ entry_of (state_of tries past) step.event ∷ []) steps))
     by_failing (Some condition) is go =
         record {
           history = h;
@@ -95,15 +103,23 @@ made_from tries done (step ∷ steps) past h follows =
         }
     by_failing None is go =
         let may : MayFollow (state_of tries past) (entry_of (state_of tries past) step.event) = record { enabled = is; outcome' = refl } in
-        let more : IsSession tries (past ++ entry_of (state_of tries past) step.event ∷ []) = each_push (λ past x. MayFollow (state_of tries past) x) [] past (entry_of (state_of tries past) step.event) h may in
+        let more : IsSession tries (past ++ entry_of (state_of tries past) step.event ∷ []) =
+        each_push (λ past x. MayFollow (state_of tries past) x) [] past (entry_of (state_of tries past) step.event) h may in
         let events : IsOfEvents (events_of (done ++ step ∷ [])) (past ++ entry_of (state_of tries past) step.event ∷ []) =
-        map-append (λ (y : SessionEntry). y.event) past (entry_of (state_of tries past) step.event ∷ []) ∙ ap (λ (l : List SessionEvent). l ++ step.event ∷ []) follows ∙ sym (map-append (λ (y : SessionStep). y.event) done (step ∷ []))
+        map-append (λ (y : SessionEntry). y.event) past (entry_of (state_of tries past) step.event ∷ [])
+        ∙ ap (λ (l : List SessionEvent). l ++ step.event ∷ []) follows ∙ sym (map-append (λ (y : SessionStep). y.event) done (step ∷ []))
         in
-        let rest : IsMade tries ((done ++ step ∷ []) ++ steps) (played_from (state_of tries (past ++ entry_of (state_of tries past) step.event ∷ [])) (past ++ entry_of (state_of tries past) step.event ∷ []) steps) = go (past ++ entry_of (state_of tries past) step.event ∷ []) more events in
-        let at : IsMade tries (done ++ step ∷ steps) (played_from (state_of tries (past ++ entry_of (state_of tries past) step.event ∷ [])) (past ++ entry_of (state_of tries past) step.event ∷ []) steps) = subst (λ (l : List SessionStep). IsMade tries l (played_from (state_of tries (past ++ entry_of (state_of tries past) step.event ∷ [])) (past ++ entry_of (state_of tries past) step.event ∷ []) steps)) (append_assoc done (step ∷ []) steps) rest in
-        subst (λ (s : SessionState). IsMade tries (done ++ step ∷ steps) (played_from s (past ++ entry_of (state_of tries past) step.event ∷ []) steps)) (replayed_push (opening tries) past (entry_of (state_of tries past) step.event)) at
+        let rest : IsMade tries ((done ++ step ∷ []) ++ steps) (played_from (state_of tries (past ++ entry_of (state_of tries past) step.event ∷ []))
+        (past ++ entry_of (state_of tries past) step.event ∷ []) steps) = go (past ++ entry_of (state_of tries past) step.event ∷ []) more events in
+        let at : IsMade tries (done ++ step ∷ steps) (played_from (state_of tries (past ++ entry_of (state_of tries past) step.event ∷ []))
+        (past ++ entry_of (state_of tries past) step.event ∷ []) steps) =
+        subst (λ (l : List SessionStep). IsMade tries l (played_from (state_of tries (past ++ entry_of (state_of tries past) step.event ∷ []))
+        (past ++ entry_of (state_of tries past) step.event ∷ []) steps)) (append_assoc done (step ∷ []) steps) rest in
+        subst (λ (s : SessionState). IsMade tries (done ++ step ∷ steps) (played_from s (past ++ entry_of (state_of tries past) step.event ∷ []) steps))
+        (replayed_push (opening tries) past (entry_of (state_of tries past) step.event)) at
 
-means_by : (script : Script) (entries : List SessionEntry) (stopped : Option Stop) → IsSession script.tries entries → Ends script.tries script.steps entries stopped → SessionMeans (Ok script) (answer_of_play (report entries) stopped)
+means_by : (script : Script) (entries : List SessionEntry) (stopped : Option Stop) → IsSession script.tries entries →
+    Ends script.tries script.steps entries stopped → SessionMeans (Ok script) (answer_of_play (report entries) stopped)
 means_by script entries None h follows =
     inl (
       refl,
@@ -139,6 +155,8 @@ script_means script answer is =
     subst (λ (a : Answer). SessionMeans (Ok script) a) (sym is) (means_by script (played script).entries (played script).stopped made.history made.ends)
 
 -- so with what the code gives to print
-pub output_means : (bytes : List ℕ) (script : Script) (result : Result SessionOutput NoMemory) → grammar bytes ≡ Ok script → IfOk result (λ output. answer_in output ≡ answer_of_played (played script)) → IfOk result (λ output. SessionMeans (grammar bytes) (answer_in output))
-output_means bytes script (Ok output) e is = subst (λ (read : Result Script SessionTextFault). SessionMeans read (answer_in output)) (sym e) (script_means script (answer_in output) is)
+pub output_means : (bytes : List ℕ) (script : Script) (result : Result SessionOutput NoMemory) → grammar bytes ≡ Ok script →
+    IfOk result (λ output. answer_in output ≡ answer_of_played (played script)) → IfOk result (λ output. SessionMeans (grammar bytes) (answer_in output))
+output_means bytes script (Ok output) e is = subst (λ (read : Result Script SessionTextFault). SessionMeans read (answer_in output)) (sym e)
+    (script_means script (answer_in output) is)
 output_means bytes script (Err fault) e is = tt

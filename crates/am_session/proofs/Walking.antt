@@ -30,7 +30,10 @@ pub record Walks (script : Script) (i : ℕ) (s : SessionState) (entries : List 
 pub walks_begin : (script : Script) → Walks script 0 (opening script.tries) []
 walks_begin script = record { events = refl; rest = refl }
 
-pub walks_on : (script : Script) (i : ℕ) (s next : SessionState) (entries more : List SessionEntry) (d : SessionStep) (x : SessionEntry) → Walks script i s entries → i < length script.steps → failing s (slice_index_or script.steps i d).event ≡ None → x ≡ entry_of s (slice_index_or script.steps i d).event → next ≡ after s (slice_index_or script.steps i d).event → more ≡ entries ++ x ∷ [] → Walks script (i + 1) next more
+pub walks_on : (script : Script) (i : ℕ) (s next : SessionState) (entries more : List SessionEntry) (d : SessionStep) (x : SessionEntry) →
+    Walks script i s entries → i < length script.steps → failing s (slice_index_or script.steps i d).event ≡ None →
+    x ≡ entry_of s (slice_index_or script.steps i d).event → next ≡ after s (slice_index_or script.steps i d).event → more ≡ entries ++ x ∷ [] →
+    Walks script (i + 1) next more
 walks_on script i s next entries more d x w below runs entry still longer =
     let step : SessionStep = slice_index_or script.steps i d in
     record {
@@ -38,33 +41,53 @@ walks_on script i s next entries more d x w below runs entry still longer =
       rest =
           ap (λ (l : List SessionEntry). played_from next l (drop (i + 1) script.steps)) (longer ∙ ap (λ (y : SessionEntry). entries ++ y ∷ []) entry)
           ∙ ap (λ (t : SessionState). played_from t (entries ++ entry_of s (slice_index_or script.steps i d).event ∷ []) (drop (i + 1) script.steps)) still
-          ∙ sym (ap (λ (o : Option SessionCondition). played_by o (slice_index_or script.steps i d).line entries (played_from (after s (slice_index_or script.steps i d).event) (entries ++ entry_of s (slice_index_or script.steps i d).event ∷ []) (drop (i + 1) script.steps))) runs)
+          ∙ sym (ap (λ (o : Option SessionCondition). played_by o (slice_index_or script.steps i d).line entries
+          (played_from (after s (slice_index_or script.steps i d).event) (entries ++ entry_of s (slice_index_or script.steps i d).event ∷ [])
+          (drop (i + 1) script.steps))) runs)
           ∙ sym (ap (λ (l : List SessionStep). played_from s entries l) (from_step script.steps i d below))
           ∙ w.rest;
     }
 
-pub walks_stop : (script : Script) (i : ℕ) (s : SessionState) (entries : List SessionEntry) (d : SessionStep) (condition : SessionCondition) → Walks script i s entries → i < length script.steps → failing s (slice_index_or script.steps i d).event ≡ Some condition → record { entries = entries; stopped = Some (record { line = (slice_index_or script.steps i d).line; condition = condition }) } ≡ played script
+pub walks_stop : (script : Script) (i : ℕ) (s : SessionState) (entries : List SessionEntry) (d : SessionStep) (condition : SessionCondition) →
+    Walks script i s entries → i < length script.steps → failing s (slice_index_or script.steps i d).event ≡ Some condition →
+    record { entries = entries; stopped = Some (record { line = (slice_index_or script.steps i d).line; condition = condition }) } ≡ played script
 walks_stop script i s entries d condition w below fails =
-    sym (ap (λ (o : Option SessionCondition). played_by o (slice_index_or script.steps i d).line entries (played_from (after s (slice_index_or script.steps i d).event) (entries ++ entry_of s (slice_index_or script.steps i d).event ∷ []) (drop (i + 1) script.steps))) fails)
+    sym (ap (λ (o : Option SessionCondition). played_by o (slice_index_or script.steps i d).line entries
+    (played_from (after s (slice_index_or script.steps i d).event) (entries ++ entry_of s (slice_index_or script.steps i d).event ∷ [])
+    (drop (i + 1) script.steps))) fails)
     ∙ sym (ap (λ (l : List SessionStep). played_from s entries l) (from_step script.steps i d below))
     ∙ w.rest
 
-pub walks_end : (script : Script) (i : ℕ) (s : SessionState) (entries : List SessionEntry) → Walks script i s entries → length script.steps ≤ i → record { entries = entries; stopped = None } ≡ played script
+pub walks_end : (script : Script) (i : ℕ) (s : SessionState) (entries : List SessionEntry) → Walks script i s entries → length script.steps ≤ i →
+    record { entries = entries; stopped = None } ≡ played script
 walks_end script i s entries w h = sym (ap (λ (l : List SessionStep). played_from s entries l) (drop_all i script.steps h)) ∙ w.rest
 
-stopped_by : (script : Script) (i : ℕ) (s : SessionState) (entries : List SessionEntry) (d : SessionStep) (fault : SessionFault) (made : Played) → Walks script i s entries → i < length script.steps → ((condition : SessionCondition) → fault ≡ Faults.NotEnabled condition → failing s (slice_index_or script.steps i d).event ≡ Some condition) → IsStoppedBy fault (slice_index_or script.steps i d).line entries made → made ≡ played script
-stopped_by script i s entries d (Faults.NotEnabled condition) made w below tells is = is ∙ walks_stop script i s entries d condition w below (tells condition refl)
+stopped_by : (script : Script) (i : ℕ) (s : SessionState) (entries : List SessionEntry) (d : SessionStep) (fault : SessionFault) (made : Played) →
+    Walks script i s entries → i < length script.steps → ((condition : SessionCondition) → fault ≡ Faults.NotEnabled condition →
+    failing s (slice_index_or script.steps i d).event ≡ Some condition) → IsStoppedBy fault (slice_index_or script.steps i d).line entries made →
+    made ≡ played script
+stopped_by script i s entries d (Faults.NotEnabled condition) made w below tells is = is
+    ∙ walks_stop script i s entries d condition w below (tells condition refl)
 stopped_by script i s entries d Faults.NoMemory made w below tells is = absurd is
 
 -- what a stopped loop returns
-pub stopped_play : (script : Script) (i : ℕ) (s : SessionState) (entries : List SessionEntry) (d : SessionStep) (fault : SessionFault) (result : Result Played NoMemory) → Walks script i s entries → i < length script.steps → ((condition : SessionCondition) → fault ≡ Faults.NotEnabled condition → failing s (slice_index_or script.steps i d).event ≡ Some condition) → IfOk result (IsStoppedBy fault (slice_index_or script.steps i d).line entries) → IfOk result (λ made. made ≡ played script)
+pub stopped_play : (script : Script) (i : ℕ) (s : SessionState) (entries : List SessionEntry) (d : SessionStep) (fault : SessionFault)
+    (result : Result Played NoMemory) → Walks script i s entries → i < length script.steps →
+    ((condition : SessionCondition) → fault ≡ Faults.NotEnabled condition → failing s (slice_index_or script.steps i d).event ≡ Some condition) →
+    IfOk result (IsStoppedBy fault (slice_index_or script.steps i d).line entries) → IfOk result (λ made. made ≡ played script)
 stopped_play script i s entries d fault (Ok made) w below tells is = stopped_by script i s entries d fault made w below tells is
 stopped_play script i s entries d fault (Err e) w below tells is = tt
 
 -- so where the loop goes over a list that is the script's
-pub stopped_over : (script : Script) (steps : List SessionStep) → steps ≡ script.steps → (i : ℕ) (s : SessionState) (entries : List SessionEntry) (d : SessionStep) (fault : SessionFault) (result : Result Played NoMemory) → Walks script i s entries → i < length steps → ((condition : SessionCondition) → fault ≡ Faults.NotEnabled condition → failing s (slice_index_or steps i d).event ≡ Some condition) → IfOk result (IsStoppedBy fault (slice_index_or steps i d).line entries) → IfOk result (λ made. made ≡ played script)
+pub stopped_over : (script : Script) (steps : List SessionStep) → steps ≡ script.steps →
+    (i : ℕ) (s : SessionState) (entries : List SessionEntry) (d : SessionStep) (fault : SessionFault) (result : Result Played NoMemory) →
+    Walks script i s entries → i < length steps → ((condition : SessionCondition) → fault ≡ Faults.NotEnabled condition →
+    failing s (slice_index_or steps i d).event ≡ Some condition) → IfOk result (IsStoppedBy fault (slice_index_or steps i d).line entries) →
+    IfOk result (λ made. made ≡ played script)
 stopped_over script steps e i s entries d fault result w =
     subst
-    (λ (l : List SessionStep). i < length l → ((condition : SessionCondition) → fault ≡ Faults.NotEnabled condition → failing s (slice_index_or l i d).event ≡ Some condition) → IfOk result (IsStoppedBy fault (slice_index_or l i d).line entries) → IfOk result (λ made. made ≡ played script))
+    (λ (l : List SessionStep). i < length l → ((condition : SessionCondition) → fault ≡ Faults.NotEnabled condition →
+    failing s (slice_index_or l i d).event ≡ Some condition) → IfOk result (IsStoppedBy fault (slice_index_or l i d).line entries) →
+    IfOk result (λ made. made ≡ played script))
     (sym e)
     (λ below tells is. stopped_play script i s entries d fault result w below tells is)

@@ -1,5 +1,6 @@
 -- The session that a text spells, or its first fault.
-use Rattle.std.specs.Prelude.{ℕ, ◌+◌, ◌-◌, ◌^◌, min, not, ◌&&◌, ◌==◌, nat_lt, nat_le, is_some, is_none, List, [], ◌∷◌, ◌++◌, length, codes, if◌then◌else◌, Option, Some, None, Result, Ok, Err}
+use Rattle.std.specs.Prelude.{ℕ, ◌+◌, ◌-◌, ◌^◌, min, not, ◌&&◌, ◌==◌, nat_lt, nat_le, is_some, is_none, List, [], ◌∷◌, ◌++◌, length, codes, if◌then◌else◌}
+use Rattle.std.specs.Prelude.{Option, Some, None, Result, Ok, Err}
 use Rattle.std.specs.List.{slice_index}
 use Rattle.std.specs.Str.{bytes_eq}
 use Rattle.am_lexer.specs.declared.what.What.{What}
@@ -97,25 +98,18 @@ receiver_event word words =
 unfoldable pub one_more : Said → SessionEvent → Result Line What
 one_more said event = if nat_le 65536 (length said.steps) then Err TooMany else Ok (Lines.Event event)
 
--- a EVENT
-unfoldable pub sender_line : Said → List (List ℕ) → Result Line What
-sender_line said words = do
+-- a EVENT, or b EVENT, by what an event of this side is read from
+unfoldable pub event_line : (List ℕ → List (List ℕ) → Result SessionEvent What) → Said → List (List ℕ) → Result Line What
+event_line event_of said words = do
   word ← word_at words
-  event ← sender_event word.0 word.1
-  one_more said event
-
--- b EVENT
-unfoldable pub receiver_line : Said → List (List ℕ) → Result Line What
-receiver_line said words = do
-  word ← word_at words
-  event ← receiver_event word.0 word.1
+  event ← event_of word.0 word.1
   one_more said event
 
 unfoldable pub words_say : Said → Head → List (List ℕ) → Result Line What
 words_say said Heads.Session words = session_line said words
 words_say said Heads.Tries words = tries_line said words
-words_say said Heads.Sender words = sender_line said words
-words_say said Heads.Receiver words = receiver_line said words
+words_say said Heads.Sender words = event_line sender_event said words
+words_say said Heads.Receiver words = event_line receiver_event said words
 
 -- ---- one line
 

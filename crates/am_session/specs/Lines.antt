@@ -1,7 +1,7 @@
 -- The line of an entry in a printed session: the interface, what happens there, `->`, and the outcome.
 use Rattle.std.specs.Prelude.{ℕ, List, [], ◌∷◌, ◌++◌, codes, Option, Some, None}
 use Rattle.std.specs.Fmt.{decimal}
-use Rattle.am_text.specs.Words.{Word, spaced}
+use Rattle.am_office_text.specs.Words.{Word, spaced}
 use Rattle.am_restart.specs.declared.events.Say.{Say}
 use Rattle.am_restart.specs.declared.events.Say.TheVariants as Says
 use Rattle.am_restart.specs.declared.events.SessionCondition.{SessionCondition}

@@ -1,5 +1,5 @@
 -- What the answer to a text of a session says.
-use Rattle.std.specs.Prelude.{◌≡◌, ◌⊎◌, ℕ, List, length, take, slice_get, Some, Result, Ok, Err}
+use Rattle.std.specs.Prelude.{◌≡◌, ◌⊎◌, ◌↔◌, ℕ, List, length, take, slice_get, Some, Result, Ok, Err}
 use Rattle.am_restart.specs.declared.events.SessionEntry.{SessionEntry}
 use Rattle.am_restart.specs.History.{IsSession, IsOfEvents, state_of}
 use Rattle.am_restart.specs.Moves.{failing}
@@ -8,7 +8,7 @@ use Rattle.am_session.specs.declared.output.SessionOutput.{SessionOutput}
 use Rattle.am_session.specs.declared.script.SessionStep.{SessionStep}
 use Rattle.am_session.specs.declared.script.SessionTextFault.{SessionTextFault}
 use Rattle.am_session.specs.declared.stops.Stop.{Stop}
-use Rattle.am_session.specs.Answer.{Answer, not_enabled_line, refused_line}
+use Rattle.am_session.specs.Answer.{Answer, answer_of, not_enabled_line, refused_line}
 use Rattle.am_session.specs.Report.{report}
 use Rattle.am_session.specs.Scripts.{Script, events_of}
 
@@ -37,6 +37,10 @@ pub record StopsSession (script : Script) (text : List ℕ) : Type 0 where
 abbrev pub SessionMeans : Result Script SessionTextFault → Answer → Type 0
 SessionMeans (Ok script) answer = ((answer.status ≡ 0) × PrintsSession script answer.text) ⊎ ((answer.status ≡ 3) × StopsSession script answer.text)
 SessionMeans (Err fault) answer = answer ≡ record { status = 3; text = refused_line fault }
+
+-- there is one answer, which the definition of answering computes
+abbrev pub SessionHasOneAnswer : Type 0
+SessionHasOneAnswer = (read : Result Script SessionTextFault) (answer : Answer) → SessionMeans read answer ↔ (answer ≡ answer_of read)
 
 -- what the code gives to print
 abbrev pub answer_in : SessionOutput → Answer

@@ -2,7 +2,7 @@
 use Rattle.std.specs.Prelude.{ℕ, List, [], ◌∷◌, ◌++◌, codes, length}
 use Rattle.std.specs.Fmt.{decimal}
 use Rattle.std.specs.List.{flat_map, range_with_len}
-use Rattle.am_text.specs.Words.{line}
+use Rattle.am_office_text.specs.Words.{line}
 use Rattle.am_restart.specs.declared.events.SessionEntry.{SessionEntry}
 use Rattle.am_restart.specs.Fates.{fate, messages}
 use Rattle.am_session.specs.Lines.{line_of, fate_word}

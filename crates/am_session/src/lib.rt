@@ -14,7 +14,7 @@ mod report;
 mod script;
 mod stops;
 
-pub use crate::output::{SessionOutput, session_output};
+pub use crate::output::{SessionOutput, session_has_one_answer, session_output};
 pub use crate::playing::{Played, play};
 pub use crate::reader::read_session;
 pub use crate::report::session_report;

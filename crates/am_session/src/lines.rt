@@ -122,18 +122,18 @@ fn one_more(draft: &Draft, event: SessionEvent) -> Result<Line, What>
     Ok(Line::Event(event))
 }
 
-#[tactic(auto, unfolding(crate::specs::Grammar::sender_line))]
+#[tactic(auto, unfolding(crate::specs::Grammar::event_line))]
 fn sender_line(draft: &Draft, rest: &[u8]) -> Result<Line, What>
-    ensures { Gives (λ line. line) result (grammar.sender_line draft.now (words_of rest.now)) }
+    ensures { Gives (λ line. line) result (grammar.event_line grammar.sender_event draft.now (words_of rest.now)) }
 {
     let (word, rest) = take_word(rest)?;
     let event = sender_event(word, rest)?;
     one_more(draft, event)
 }
 
-#[tactic(auto, unfolding(crate::specs::Grammar::receiver_line))]
+#[tactic(auto, unfolding(crate::specs::Grammar::event_line))]
 fn receiver_line(draft: &Draft, rest: &[u8]) -> Result<Line, What>
-    ensures { Gives (λ line. line) result (grammar.receiver_line draft.now (words_of rest.now)) }
+    ensures { Gives (λ line. line) result (grammar.event_line grammar.receiver_event draft.now (words_of rest.now)) }
 {
     let (word, rest) = take_word(rest)?;
     let event = receiver_event(word, rest)?;

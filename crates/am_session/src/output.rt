@@ -2,7 +2,7 @@
 
 ghost use Rattle.am_session.specs.Answer as answers;
 ghost use Rattle.am_session.specs.Grammar.{grammar};
-ghost use Rattle.am_session.specs.Meaning.{SessionMeans, answer_in};
+ghost use Rattle.am_session.specs.Meaning.{SessionHasOneAnswer, SessionMeans, answer_in};
 ghost use Rattle.am_session.specs.Plays.{played};
 ghost use Rattle.am_session.specs.Scripts.{IsPlayable};
 ghost use Rattle.std.specs.Prelude.{◌≡◌, ◌≢◌, IfOk};
@@ -112,3 +112,8 @@ pub fn session_output(alloc: Global, bytes: &[u8]) -> Result<SessionOutput, NoMe
         Err(ReadFault::NoMemory) => Err(NoMemory),
     }
 }
+
+/// There is one answer to a text, by what it spells or its first fault, and it is the one that the definition of answering computes.
+pub fn session_has_one_answer()
+    ensures { SessionHasOneAnswer }
+{}

@@ -1,13 +1,13 @@
 //! The line of an entry in a printed session.
 
 ghost use Rattle.am_session.specs.Lines as text;
-ghost use Rattle.am_text.specs.Pieces.{Extends};
-ghost use Rattle.am_text.specs.Words.{spaced};
+ghost use Rattle.am_office_text.specs.Pieces.{Extends};
+ghost use Rattle.am_office_text.specs.Words.{spaced};
 ghost use Rattle.std.specs.Prelude.{◌≡◌, ◌++◌, OnOk};
 
+use am_office_text::Piece::Text;
+use am_office_text::{count, put_end, put_spaced, put_word, small};
 use am_restart::{Say, SessionCondition, SessionEntry, SessionEvent, SessionFate, SessionOutcome};
-use am_text::Piece::Text;
-use am_text::{count, put_end, put_spaced, put_word, small};
 use std::alloc::AllocError;
 
 #[tactic(auto, unfolding(crate::specs::Lines::who))]

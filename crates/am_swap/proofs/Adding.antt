@@ -1,7 +1,7 @@
 -- A body to which messages were added.
 use Rattle.std.proofs.Common.{List, ◌++◌}
 use Rattle.am_names.specs.declared.Message.{Message}
-use Rattle.am_body.specs.Views.{View}
+use Rattle.am_endpoint_body.specs.Views.{View}
 use Rattle.am_model.specs.declared.Notice.{Notice}
 use Rattle.am_model.specs.declared.Queued.{Queued}
 

@@ -1,10 +1,10 @@
 -- What decoding finds.
 use Rattle.std.specs.Prelude.{◌≡◌, ◌≢◌, ℕ, Option, Some, List, [], IfSome}
 use Rattle.am_names.specs.declared.EndpointId.{EndpointId}
-use Rattle.am_body.specs.Views.{View}
+use Rattle.am_endpoint_body.specs.Views.{View}
 use Rattle.am_model.specs.Endpoint.{Body}
-use Rattle.am_image.specs.Image.{image}
-use Rattle.am_image.specs.Valid.{IsValid}
+use Rattle.am_swap_image.specs.Image.{image}
+use Rattle.am_swap_image.specs.Valid.{IsValid}
 
 -- a body that the endpoint e may have with this pool or none, and whose image the bytes are; no message of it is in flight
 pub record IsImagedBy (e : EndpointId) (pool : Option ℕ) (bytes : List ℕ) (v : View) : Type 0 where

@@ -2,7 +2,7 @@
 use Rattle.std.specs.Prelude.{◌≡◌, ℕ, ◌≤◌, Bool, true, Option, []}
 use Rattle.std.specs.List.{list_all}
 use Rattle.am_names.specs.Names.{is_reply, is_request}
-use Rattle.am_body.specs.Views.{slots_held}
+use Rattle.am_endpoint_body.specs.Views.{slots_held}
 use Rattle.am_handlers.specs.Handlers.{IsTable as IsHandlers}
 use Rattle.am_model.specs.Endpoint.{Body}
 use Rattle.am_model.specs.declared.Queued.{Queued}

@@ -2,9 +2,9 @@
 //! device that is handed in.
 #![tactic(auto)]
 
-ghost use Rattle.am_image.specs.Image.{image};
-ghost use Rattle.am_image.specs.Range.{IsInRange};
-ghost use Rattle.am_image.specs.Valid.{IsValid};
+ghost use Rattle.am_swap_image.specs.Image.{image};
+ghost use Rattle.am_swap_image.specs.Range.{IsInRange};
+ghost use Rattle.am_swap_image.specs.Valid.{IsValid};
 ghost use Rattle.am_model.specs.Endpoint.{Body as Held};
 ghost use Rattle.am_names.specs.declared.EndpointId.{EndpointId as Id};
 ghost use Rattle.am_swap.specs.Decoded.{FindsEach, IsImaged, NoBodyHas};
@@ -16,11 +16,11 @@ mod made;
 
 use crate::listed::lists_of;
 use crate::made::body_of;
-use am_body::Body;
-use am_codec::BodyLists;
-pub use am_device::{MemorySwap, Swap, SwapFault};
+use am_endpoint_body::Body;
 use am_names::EndpointId;
 use am_office::NoMemory;
+use am_swap_codec::BodyLists;
+pub use am_swap_device::{Look, MemorySwap, Swap, SwapFault};
 use std::alloc::Global;
 
 /// The image of a body with nothing in flight. No other body that the endpoint may have has it, and it has fewer than

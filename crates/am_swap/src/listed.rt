@@ -1,10 +1,10 @@
 // A body as lists.
-ghost use Rattle.am_codec.specs.Counts.{AreCounted};
+ghost use Rattle.am_swap_codec.specs.Counts.{AreCounted};
 ghost use Rattle.std.specs.Prelude.{◌≡◌, [], IfOk};
 
-use am_body::Body;
-use am_codec::BodyLists;
+use am_endpoint_body::Body;
 use am_office::NoMemory;
+use am_swap_codec::BodyLists;
 use std::alloc::Global;
 
 /// The body as lists, each from the front on.

@@ -1,15 +1,15 @@
 // A body made of its lists.
-ghost use Rattle.am_body.specs.Views.{slots_held};
+ghost use Rattle.am_endpoint_body.specs.Views.{slots_held};
 ghost use Rattle.am_swap.specs.Made.{CanBeMade, is_queued_answer, is_queued_request};
 ghost use Rattle.std.specs.List.{list_all};
 ghost use Rattle.std.specs.Prelude.{◌≡◌, ◌+◌, ◌≤◌, ◌++◌, [], true, IfOk, length};
 
-use am_body::Body;
-use am_codec::BodyLists;
+use am_endpoint_body::Body;
 use am_handlers::Handlers;
 use am_model::{Notice, Queued};
 use am_names::Message;
 use am_office::NoMemory;
+use am_swap_codec::BodyLists;
 use am_translate::Translate;
 use std::alloc::Global;
 

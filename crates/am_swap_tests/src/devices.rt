@@ -1,6 +1,7 @@
 // A disk whose listed calls fail.
-use am_device::{MemorySwap, Swap, SwapFault};
+use crate::page_log::PageLog;
 use am_names::EndpointId;
+use am_swap_device::{Look, MemorySwap, Swap, SwapFault};
 use std::alloc::Global;
 use std::test::Fail;
 
@@ -13,19 +14,19 @@ fn written<S: Swap>(swap: &mut S, key: EndpointId, bytes: &[u8]) -> Result<(), S
 }
 
 /// What a read of the key gives, where something is held for it.
-fn read_back(
+fn read_back<S: Look>(
     alloc: Global,
-    swap: &mut MemorySwap,
+    swap: &mut S,
     key: EndpointId,
 ) -> Option<Result<Vec<u8>, SwapFault>> {
-    match swap.held(key).is_some() {
+    match swap.look(key).is_some() {
         true => Some(swap.read(alloc, key)),
         false => None,
     }
 }
 
-fn holds(swap: &MemorySwap, key: EndpointId, bytes: &[u8]) -> bool {
-    match swap.held(key) {
+fn holds<S: Look>(swap: &S, key: EndpointId, bytes: &[u8]) -> bool {
+    match swap.look(key) {
         Some(held) => held == bytes,
         None => false,
     }
@@ -36,7 +37,7 @@ fn calls_one_and_three_fail(rt: HostRuntime) -> Result<(), Fail> {
     let alloc = rt.alloc();
     let mut swap = MemorySwap::new(alloc, vec![in alloc; 1, 3]?);
     assert!(rt; written(&mut swap, FIRST, b"one") == Err(SwapFault::Failed));
-    assert!(rt; swap.held(FIRST).is_none());
+    assert!(rt; swap.look(FIRST).is_none());
     assert!(rt; written(&mut swap, FIRST, b"two") == Ok(()));
     assert!(rt; holds(&swap, FIRST, b"two"));
     assert!(rt; written(&mut swap, FIRST, b"three") == Err(SwapFault::Failed));
@@ -63,5 +64,24 @@ fn reads_and_writes_are_counted_together(rt: HostRuntime) -> Result<(), Fail> {
     assert!(rt; holds(&swap, SECOND, b"other"));
     assert!(rt; read_back(alloc, &mut swap, EndpointId(5)).is_none());
     assert!(rt; swap.faults() == 1);
+    Ok(())
+}
+
+#[test]
+fn a_log_of_pages_is_a_device_too(rt: HostRuntime) -> Result<(), Fail> {
+    let alloc = rt.alloc();
+    let mut log = PageLog::new(alloc, 3);
+    assert!(rt; log.look(FIRST).is_none());
+    assert!(rt; written(&mut log, FIRST, b"one") == Ok(()));
+    assert!(rt; written(&mut log, SECOND, b"other") == Ok(()));
+    assert!(rt; written(&mut log, FIRST, b"two") == Ok(()));
+    assert!(rt; written(&mut log, FIRST, b"three") == Err(SwapFault::Failed));
+    assert!(rt; holds(&log, FIRST, b"two"));
+    assert!(rt; holds(&log, SECOND, b"other"));
+    match read_back(alloc, &mut log, FIRST) {
+        Some(Ok(bytes)) => assert!(rt; bytes.as_slice() == b"two".as_slice()),
+        _ => assert!(rt; false),
+    }
+    assert!(rt; log.faults() == 1);
     Ok(())
 }

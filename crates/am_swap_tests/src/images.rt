@@ -1,6 +1,6 @@
 //! The images of a fresh body and of one with an index and a request, by hand.
 
-use am_body::EndSettings;
+use am_endpoint_body::EndSettings;
 use am_model::{Awaited, Mapping, Queued};
 use am_names::{EndpointId, Message, MsgKind, NodeId, Serial, Tag, Words};
 use am_office::Place;

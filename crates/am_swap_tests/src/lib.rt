@@ -6,4 +6,6 @@ mod devices;
 #[cfg(test)]
 mod images;
 #[cfg(test)]
+mod page_log;
+#[cfg(test)]
 mod tests;

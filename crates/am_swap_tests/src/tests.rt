@@ -1,8 +1,8 @@
 use crate::images::{ASKING, FRESH, MAPPING, RECORD, REQUEST, SETTINGS, SOURCE};
-use am_body::Body;
-use am_codec::BodyLists;
+use am_endpoint_body::Body;
 use am_names::{EndpointId, Tag};
 use am_swap::{decode, encode};
+use am_swap_codec::BodyLists;
 use std::alloc::Global;
 use std::process::Abort;
 use std::test::Fail;

@@ -1,6 +1,7 @@
 -- What each change leaves of a table.
 use Rattle.std.specs.Prelude.{sum_by, nat_le, is_none}
-use Rattle.std.proofs.Common.{◌≡◌, ℕ, ◌+◌, ◌<◌, ◌≤◌, Bool, true, false, cond, ◌&&◌, List, [], ◌∷◌, length, map, Option, Some, None, refl, sym, ap, ◌∙◌, subst, arith, leb-false, length-append, ◌||◌}
+use Rattle.std.proofs.Common.{◌≡◌, ℕ, ◌+◌, ◌<◌, ◌≤◌, Bool, true, false, cond, ◌&&◌, List, [], ◌∷◌, length, map, Option, Some, None, refl, sym, ap, ◌∙◌, subst}
+use Rattle.std.proofs.Common.{arith, leb-false, length-append, ◌||◌}
 use Rattle.std.specs.List.{count_by, list_any}
 use Rattle.std.proofs.lemmas.List.{length-set, length-map}
 use Rattle.std.proofs.lemmas.List.Sums.{sum_by-cons, sum_by_push}
@@ -32,7 +33,8 @@ table_mapped t index x range ok =
       once = ok.once;
     }
 
-table_recorded : (t : Table) (index : ℕ) (serial : Serial) → length t.awaited < 32 → is_known t serial ≡ false → IsTable t → IsTable (with_record t index serial)
+table_recorded : (t : Table) (index : ℕ) (serial : Serial) → length t.awaited < 32 → is_known t serial ≡ false → IsTable t →
+    IsTable (with_record t index serial)
 table_recorded t index serial room new ok =
     record {
       indexes = ok.indexes;
@@ -46,13 +48,15 @@ table_recorded t index serial room new ok =
 
     by_test : (r : Serial) (b : Bool) → same_serial r serial ≡ b → count_by (is_of r) (with_record t index serial).awaited ≤ 1
     by_test r true is =
-        let none : count_by (is_of r) t.awaited ≡ 0 = ap (λ (w : Serial). count_by (is_of w) t.awaited) (same_serial-is r serial is) ∙ count_by-none (is_of serial) t.awaited new in
+        let none : count_by (is_of r) t.awaited ≡ 0 = ap (λ (w : Serial). count_by (is_of w) t.awaited) (same_serial-is r serial is)
+        ∙ count_by-none (is_of serial) t.awaited new in
         omega (arith, pushed r, none, ap {B = ℕ} (λ b. cond b 1 0) is)
     by_test r false is = omega (arith, pushed r, ok.once r, ap {B = ℕ} (λ b. cond b 1 0) is)
 
 -- a further record, where nothing keeps a request from being made
 room_left : (t : Table) (index : ℕ) → credit_fault t index ≡ None → length t.awaited < 32
-room_left t index h = leb-false 32 (length t.awaited) (last_fails CreditFaults.BadIndex CreditFaults.NotMapped CreditFaults.NoCredit CreditFaults.TableFull (nat_le 16 index) (is_none (entry_at t.mapped index)) (has_no_credit t.pool (body_with t) index (entry_at t.mapped index)) (nat_le 32 (length t.awaited)) h)
+room_left t index h = leb-false 32 (length t.awaited) (last_fails CreditFaults.BadIndex CreditFaults.NotMapped CreditFaults.NoCredit CreditFaults.TableFull
+    (nat_le 16 index) (is_none (entry_at t.mapped index)) (has_no_credit t.pool (body_with t) index (entry_at t.mapped index)) (nat_le 32 (length t.awaited)) h)
   where
     last_fails : {X : Type 0} (w x y z : X) (a b c d : Bool) → cond a (Some w) (cond b (Some x) (cond c (Some y) (cond d (Some z) None))) ≡ None → d ≡ false
     last_fails w x y z true b c d h = absurd (cc)
@@ -61,7 +65,8 @@ room_left t index h = leb-false 32 (length t.awaited) (last_fails CreditFaults.B
     last_fails w x y z false false false true h = absurd (cc)
     last_fails w x y z false false false false h = refl
 
-pub table_taken : (t v : Table) (index : ℕ) (serial : Serial) (xs : List Awaited) → t ≡ v → xs ≡ (with_record t index serial).awaited → credit_fault v index ≡ None → is_known v serial ≡ false → IsTable t → IsTable (with_awaited t xs)
+pub table_taken : (t v : Table) (index : ℕ) (serial : Serial) (xs : List Awaited) → t ≡ v → xs ≡ (with_record t index serial).awaited →
+    credit_fault v index ≡ None → is_known v serial ≡ false → IsTable t → IsTable (with_awaited t xs)
 table_taken t v index serial xs e is free new ok =
     subst (λ (ys : List Awaited). IsTable (with_awaited t ys)) (sym is)
     (table_recorded t index serial (room_left t index (ap (λ (w : Table). credit_fault w index) e ∙ free)) (ap (λ (w : Table). is_known w serial) e ∙ new) ok)
@@ -69,7 +74,12 @@ table_taken t v index serial xs e is free new ok =
 marked_counts : (q r : Serial) (xs : List Awaited) → count_by (is_of q) (map (arrived r) xs) ≡ count_by (is_of q) xs
 marked_counts q r [] = refl
 marked_counts q r (a ∷ xs) =
-    omega (arith, marked_counts q r xs, sum_by-cons (λ (y : Awaited). cond (is_of q y) 1 0) a xs, sum_by-cons (λ (y : Awaited). cond (is_of q y) 1 0) (arrived r a) (map (arrived r) xs))
+    omega (
+      arith,
+      marked_counts q r xs,
+      sum_by-cons (λ (y : Awaited). cond (is_of q y) 1 0) a xs,
+      sum_by-cons (λ (y : Awaited). cond (is_of q y) 1 0) (arrived r a) (map (arrived r) xs),
+    )
 
 table_marked : (t : Table) (r : Serial) → IsTable t → IsTable (with_awaited t (map (arrived r) t.awaited))
 table_marked t r ok =
@@ -93,11 +103,15 @@ table_without t p xs is ok =
     }
 
 -- where a request has one record, which has arrived, the first arrived one is the first
-pub taken_settled : (r : Serial) (xs : List Awaited) → count_by (is_of r) xs ≤ 1 → list_any (has_arrived r) xs ≡ true → without_first (has_arrived r) xs ≡ without_first (is_of r) xs
+pub taken_settled : (r : Serial) (xs : List Awaited) → count_by (is_of r) xs ≤ 1 → list_any (has_arrived r) xs ≡ true →
+    without_first (has_arrived r) xs ≡ without_first (is_of r) xs
 taken_settled r [] one there = refl
-taken_settled r (a ∷ xs) one there = by_test (same_serial r a.serial) a.arrived (omega (arith, one, sum_by-cons (λ (y : Awaited). cond (is_of r y) 1 0) a xs)) there (taken_settled r xs)
+taken_settled r (a ∷ xs) one there = by_test (same_serial r a.serial) a.arrived (omega (arith, one, sum_by-cons (λ (y : Awaited). cond (is_of r y) 1 0) a xs))
+    there (taken_settled r xs)
   where
-    by_test : (b c : Bool) → cond b 1 0 + count_by (is_of r) xs ≤ 1 → ((b && c) || list_any (has_arrived r) xs) ≡ true → (count_by (is_of r) xs ≤ 1 → list_any (has_arrived r) xs ≡ true → without_first (has_arrived r) xs ≡ without_first (is_of r) xs) → cond (b && c) xs (a ∷ without_first (has_arrived r) xs) ≡ cond b xs (a ∷ without_first (is_of r) xs)
+    by_test : (b c : Bool) → cond b 1 0 + count_by (is_of r) xs ≤ 1 → ((b && c) || list_any (has_arrived r) xs) ≡ true →
+        (count_by (is_of r) xs ≤ 1 → list_any (has_arrived r) xs ≡ true → without_first (has_arrived r) xs ≡ without_first (is_of r) xs) →
+        cond (b && c) xs (a ∷ without_first (has_arrived r) xs) ≡ cond b xs (a ∷ without_first (is_of r) xs)
     by_test true true le some more = refl
     by_test true false le some more =
         let least = list_any-counts (has_arrived r) xs some in absurd (omega (arith, le, least, arrives_or_waits r xs))

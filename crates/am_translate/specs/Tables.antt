@@ -1,5 +1,6 @@
 -- A translation table: where the requests of each index go, and the records of the requests whose replies are awaited.
-use Rattle.std.specs.Prelude.{◌≡◌, ℕ, ◌<◌, ◌≤◌, ◌==◌, Bool, true, false, not, nat_le, Option, None, is_none, is_some, IsSome, List, [], ◌∷◌, ◌++◌, length, replicate, slice_set, count_by}
+use Rattle.std.specs.Prelude.{◌≡◌, ℕ, ◌<◌, ◌≤◌, ◌==◌, Bool, true, false, not, nat_le, Option, None, is_none, is_some, IsSome, List, [], ◌∷◌, ◌++◌, length}
+use Rattle.std.specs.Prelude.{replicate, slice_set, count_by}
 use Rattle.std.specs.List.{list_all, list_any}
 use Rattle.std.specs.Option.{option_map}
 use Rattle.am_names.specs.declared.Serial.{Serial}

@@ -2,7 +2,7 @@
 //! the requests whose replies are awaited. Nothing here takes memory.
 #![tactic(auto)]
 
-ghost use Rattle.am_model.specs.Calls.{excess, excess_at, has_no_credit, is_over_share, share_of, shares};
+ghost use Rattle.am_model.specs.Calls.{excess, excess_at, has_no_credit, is_over_share, shares};
 ghost use Rattle.am_model.specs.Changes.{without_waiting, without_record, with_arrived};
 ghost use Rattle.am_model.specs.Endpoint.{entry_at};
 ghost use Rattle.am_model.specs.History.{are_credits_in_range};
@@ -30,7 +30,7 @@ ghost use Rattle.am_translate.specs.Tables.{
   with_mapping,
   with_record,
 };
-ghost use Rattle.std.specs.Prelude.{◌≡◌, ◌≤◌, ◌<◌, ◌↔◌, length, true, false, ℕ, None, Some, Err, IfOk, IsErr, OnErr, OnOk, slice_get, sum_by};
+ghost use Rattle.std.specs.Prelude.{◌≡◌, ◌≤◌, ◌<◌, ◌↔◌, length, true, false, ℕ, None, Some, Err, IfOk, IsErr, OnErr, OnOk, slice_get};
 ghost use Rattle.std.specs.Result.{result_err};
 
 mod parts;
@@ -38,7 +38,7 @@ mod records;
 
 use crate::records::{Records, answered_place, some_waits, waiting_place};
 pub use am_model::Awaited as Held;
-use am_model::{Awaited, Mapping};
+use am_model::{Awaited, Mapping, sum_of_shares};
 use am_names::{EndpointId, Serial, Tag};
 use std::marker::Model;
 use thiserror::Error;
@@ -432,21 +432,5 @@ fn target_of(mapping: Mapping) -> Target
     Target {
         name: mapping.name,
         tag: mapping.tag,
-    }
-}
-
-fn sum_of_shares(mapped: &[Option<Mapping>]) -> usize
-    requires { sum_by share_of mapped.now ≤ 128 }
-    ensures { result ≡ sum_by share_of mapped.now }
-{
-    mapped.iter().map(|mapping| share_of(*mapping)).sum()
-}
-
-fn share_of(mapping: Option<Mapping>) -> usize
-    ensures { result ≡ share_of mapping }
-{
-    match mapping {
-        None => 0,
-        Some(mapping) => mapping.credits as usize,
     }
 }

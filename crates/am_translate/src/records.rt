@@ -93,37 +93,32 @@ impl Records {
     }
 }
 
-pub(crate) fn same_serial(a: Serial, b: Serial) -> bool
-    ensures { result ≡ same_serial a b }
+/// Whether the record is of this request.
+fn is_of(request: Serial, held: &Awaited) -> bool
+    ensures { result ≡ same_serial request held.now.serial }
 {
-    a.source.0 == b.source.0 && a.count == b.count
+    request == held.serial
 }
 
 /// The place of the waiting record of a request.
 pub(crate) fn waiting_place(awaited: &[Awaited], request: Serial) -> Option<usize>
     ensures { result ≡ position (waits_for request) awaited.now }
 {
-    awaited
-        .iter()
-        .position(|a| same_serial(request, a.serial) && !a.arrived)
+    awaited.iter().position(|a| is_of(request, a) && !a.arrived)
 }
 
 /// Whether some record of a request waits.
 pub(crate) fn some_waits(awaited: &[Awaited], request: Serial) -> bool
     ensures { result ≡ list_any (waits_for request) awaited.now }
 {
-    awaited
-        .iter()
-        .any(|a| same_serial(request, a.serial) && !a.arrived)
+    awaited.iter().any(|a| is_of(request, a) && !a.arrived)
 }
 
 /// The place of the record of a request whose reply has arrived.
 pub(crate) fn answered_place(awaited: &[Awaited], request: Serial) -> Option<usize>
     ensures { result ≡ position (has_arrived request) awaited.now }
 {
-    awaited
-        .iter()
-        .position(|a| same_serial(request, a.serial) && a.arrived)
+    awaited.iter().position(|a| is_of(request, a) && a.arrived)
 }
 
 /// The record, as arrived where it is of this request.
@@ -131,7 +126,7 @@ fn as_arrived(request: Serial, a: Awaited) -> Awaited
     ensures { result ≡ arrived request a }
 {
     Awaited {
-        arrived: a.arrived || same_serial(request, a.serial),
+        arrived: a.arrived || request == a.serial,
         ..a
     }
 }

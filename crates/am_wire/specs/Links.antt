@@ -2,9 +2,9 @@
 use Rattle.std.specs.Prelude.{◌≡◌, ℕ, List}
 use Rattle.am_names.specs.declared.NodeId.{NodeId}
 use Rattle.am_names.specs.declared.Packet.{Packet}
-use Rattle.am_plan.specs.declared.plan.PlanLine.{PlanLine}
-use Rattle.am_plan.specs.Shape.{shape}
-use Rattle.am_relay.specs.Relays as relay
+use Rattle.am_scenario_plan.specs.declared.plan.PlanLine.{PlanLine}
+use Rattle.am_scenario_plan.specs.Shape.{shape}
+use Rattle.am_wire_relay.specs.Relays as relay
 use Rattle.am_wire.specs.declared.sending.LinkOut.{LinkOut}
 use Rattle.am_wire.specs.declared.receiving.LinkIn.{LinkIn}
 

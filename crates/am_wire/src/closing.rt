@@ -6,9 +6,9 @@ ghost use Rattle.am_wire.specs.Links.{IsLink, IsOf, emitted, free_places, pumped
 use crate::receiving::LinkIn;
 use crate::sending::LinkOut;
 use am_names::{NoMemory, NodeId, Packet};
-use am_plan::PlanLine;
-use am_relay::{RelayRecord, close_relay, make_relay};
-use am_release::LinkFaults;
+use am_scenario_plan::PlanLine;
+use am_wire_relay::{RelayRecord, close_relay, make_relay};
+use am_wire_release::LinkFaults;
 use std::alloc::Global;
 
 /// What went over a link.

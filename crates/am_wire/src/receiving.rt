@@ -2,7 +2,7 @@
 
 use crate::sending::LinkOut;
 use am_names::Packet;
-use am_relay::RelayIn;
+use am_wire_relay::RelayIn;
 
 /// The end of a link that receives.
 ///

@@ -1,13 +1,13 @@
 //! The end of a link that emits.
 
 ghost use Rattle.std.specs.Prelude.{◌≡◌, ℕ};
-ghost use Rattle.am_plan.specs.Shape.{fault_at};
-ghost use Rattle.am_relay.specs.Relays.{faults_of};
+ghost use Rattle.am_scenario_plan.specs.Shape.{fault_at};
+ghost use Rattle.am_wire_relay.specs.Relays.{faults_of};
 
 use crate::stamps::PacketStamps;
 use am_names::{NoMemory, NodeId, Packet};
-use am_plan::PlanLine;
-use am_relay::RelayOut;
+use am_scenario_plan::PlanLine;
+use am_wire_relay::RelayOut;
 
 /// The end of a link that emits. What it released, by its plan, is pumped into the ring to the other end.
 ///

@@ -1,9 +1,9 @@
 //! A packet leaves a link with the stamp of the emission that releases it.
 
-ghost use Rattle.am_plan.specs.Shape.{stamp_of, stamped};
+ghost use Rattle.am_scenario_plan.specs.Shape.{stamp_of, stamped};
 
 use am_names::Packet;
-use am_relay::Stamping;
+use am_wire_relay::Stamping;
 
 /// How packets bear their stamps.
 pub struct PacketStamps;

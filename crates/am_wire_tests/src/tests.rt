@@ -2,7 +2,7 @@ ghost use Rattle.std.specs.Prelude.{◌+◌, ◌*◌, ◌<◌};
 ghost use Rattle.am_wire.specs.Links.{SameEnd, SameLink};
 
 use am_names::{AnswerPacket, NoMemory, NodeId, Packet, Verdict};
-use am_plan::{LinkFault, PlanLine};
+use am_scenario_plan::{LinkFault, PlanLine};
 use am_wire::{LinkIn, LinkOut, close, make_link};
 use std::alloc::Global;
 use std::test::Fail;

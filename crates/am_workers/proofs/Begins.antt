@@ -1,6 +1,7 @@
 -- Each worker at a seat that was just made is at work, with no turn made.
 use Rattle.std.specs.Prelude.{replicate, slice_get, slice_index, slice_index_or}
-use Rattle.std.proofs.Common.{◌≡◌, ◌⊎◌, inl, inr, ⊎_elim, ℕ, zero, suc, ◌+◌, ◌<◌, Bool, true, false, cond, List, [], ◌∷◌, map, Option, Some, None, refl, sym, ap, ◌∙◌, subst, arith, eq-eqb}
+use Rattle.std.proofs.Common.{◌≡◌, ◌⊎◌, inl, inr, ⊎_elim, ℕ, zero, suc, ◌+◌, ◌<◌, Bool, true, false, cond, List, [], ◌∷◌, map, Option, Some, None, refl, sym}
+use Rattle.std.proofs.Common.{ap, ◌∙◌, subst, arith, eq-eqb}
 use Rattle.std.proofs.lemmas.List.{length-replicate}
 use lib.ListN.{get_elem?}
 use mathlib.Core.Option.{some}
@@ -11,14 +12,14 @@ use Rattle.am_names.specs.declared.NodeId.{NodeId}
 use Rattle.am_office.specs.declared.Entry.{Entry}
 use Rattle.am_office.specs.declared.Place.{Place}
 use Rattle.am_office.specs.declared.Place.TheVariants.{Host, Disk}
-use Rattle.am_body.specs.declared.settings.EndSettings.{EndSettings}
-use Rattle.am_books.specs.Books.{stands_at}
-use Rattle.am_books.specs.declared.EndBook.{EndBook}
-use Rattle.am_device.specs.Memory.{Store}
+use Rattle.am_endpoint_body.specs.declared.settings.EndSettings.{EndSettings}
+use Rattle.am_workers_books.specs.Books.{stands_at}
+use Rattle.am_workers_books.specs.declared.EndBook.{EndBook}
+use Rattle.am_swap_device.specs.Memory.{Store, device_of}
 use Rattle.am_driver.specs.Views.{line_of}
 use Rattle.am_driver.specs.declared.EndView.{EndView}
 use Rattle.am_endpoint.specs.View.{state_after, state_by}
-use Rattle.am_scripts.specs.Layout.{layout_of}
+use Rattle.am_model_scripts.specs.Layout.{layout_of}
 use Rattle.am_model.specs.Changes.{replay}
 use Rattle.am_model.specs.Endpoint.{State, fresh, is_direct}
 use Rattle.am_model.specs.History.{is_in_frame}
@@ -26,22 +27,23 @@ use Rattle.am_model.specs.Layout.{AllAre, EndSetting, Layout, has_id, opening, o
 use Rattle.std.specs.List.{find}
 use Rattle.am_lemmas.proofs.Numbers.{zero_eqb_suc}
 use Rattle.am_lemmas.proofs.Lists.{maps_as_long}
-use Rattle.am_phase.specs.Frames.{LiesAsMoved}
+use Rattle.am_workers_phase.specs.Frames.{LiesAsMoved}
 use Rattle.am_places.specs.Codes.{place_code}
 use Rattle.am_places.specs.Rule.{FrameFits, IsOutside, joined, known_at, nothing, tenure}
 use Rattle.am_places.specs.declared.board.Known.{Known}
 use Rattle.am_scenario_types.specs.Lists.{ScenarioLists}
 use Rattle.am_wire.specs.declared.receiving.LinkIn.{LinkIn}
 use Rattle.am_wire.specs.declared.sending.LinkOut.{LinkOut}
-use Rattle.am_works.specs.Begins.{ids_of, IsOpenIn}
-use Rattle.am_works.specs.Drives.{CanDrive, KnowsPlace, LiesSo, line_by}
-use Rattle.am_works.specs.Seats.{EndPass, IsBorn, IsIdle, KnowsNode}
-use Rattle.am_works.specs.Stands.{fresh_pass}
-use Rattle.am_works.specs.Works.{DriverWorks, InterfaceWorks, ThreadWorks}
-use Rattle.am_works.proofs.Begins.{interfaces_begin, threads_begin}
-use Rattle.am_works.proofs.Fresh.{fresh_know, known_of}
+use Rattle.am_workers_invariants.specs.Begins.{ids_of, IsOpenIn}
+use Rattle.am_workers_invariants.specs.Drives.{CanDrive, KnowsPlace, LiesSo, line_by}
+use Rattle.am_workers_invariants.specs.Seats.{EndPass, IsBorn, IsIdle, KnowsNode}
+use Rattle.am_workers_invariants.specs.Stands.{fresh_pass}
+use Rattle.am_workers_invariants.specs.Works.{DriverWorks, InterfaceWorks, ThreadWorks}
+use Rattle.am_workers_invariants.proofs.Begins.{interfaces_begin, threads_begin}
+use Rattle.am_workers_invariants.proofs.Fresh.{fresh_know, known_of}
 use Rattle.am_workers.specs.AtWork.{sent_by, sent_on, taken_by, taken_on}
-use Rattle.am_workers.specs.Begins.{AreOfNode, AreUnused, BooksAreHomely, DriversBegin, IsNewDisk, IsNewSeat, NewDriversAreAtWork, NewInterfacesAreAtWork, NewThreadsAreAtWork, view_of}
+use Rattle.am_workers.specs.Begins.{AreOfNode, AreUnused, BooksAreHomely, DriversBegin, IsNewDisk, IsNewSeat, NewDriversAreAtWork, NewInterfacesAreAtWork}
+use Rattle.am_workers.specs.Begins.{NewThreadsAreAtWork, view_of}
 
 -- ---- where an endpoint of the packet network begins
 
@@ -86,7 +88,10 @@ fits_nowhere : (frames k : ℕ) (place : Place) → IsHomely place → FrameFits
 fits_nowhere frames k place h =
     let low = low_code place h in (
       omega (arith, low),
-      λ f near. ((λ is. absurd (let none = no_claim frames f in let one : slice_index (replicate frames 0) f ≡ k + 1 = is in omega (arith, one, none))), (λ is. absurd (let code : place_code place ≡ 2 + f = is in omega (arith, code, low)))),
+      λ f near. (
+        (λ is. absurd (let none = no_claim frames f in let one : slice_index (replicate frames 0) f ≡ k + 1 = is in omega (arith, one, none))),
+        (λ is. absurd (let code : place_code place ≡ 2 + f = is in omega (arith, code, low))),
+      ),
     )
 
 -- ---- a fresh seat, book by book
@@ -101,16 +106,24 @@ record IsBookAt (Holds : EndBook → Type 0) (books : List EndBook) (k : ℕ) (s
   pub line : slice_get (map line_now books) k ≡ Some (line_now b)
   pub holds : Holds b
 
-book_at : (Holds : EndBook → Type 0) (books : List EndBook) (k : ℕ) (set : EndSettings) → AllAre Holds books → get_elem? (map (λ (b : EndBook). b.end.value.settings) books) k ≡ some set → IsBookAt Holds books k set
+book_at : (Holds : EndBook → Type 0) (books : List EndBook) (k : ℕ) (set : EndSettings) → AllAre Holds books →
+    get_elem? (map (λ (b : EndBook). b.end.value.settings) books) k ≡ some set → IsBookAt Holds books k set
 book_at Holds [] k set all at = absurd (cc)
 book_at Holds (b ∷ bs) zero set all at = let same : b.end.value.settings ≡ set = cc in record { b = b; is = same; known = refl; line = refl; holds = all.0 }
-book_at Holds (b ∷ bs) (suc k) set all at = let r = book_at Holds bs k set all.1 at in record { b = r.b; is = r.is; known = r.known; line = r.line; holds = r.holds }
+book_at Holds (b ∷ bs) (suc k) set all at = let r = book_at Holds bs k set all.1 at in record {
+  b = r.b;
+  is = r.is;
+  known = r.known;
+  line = r.line;
+  holds = r.holds;
+}
 
 all_of_both : {X : Type 0} (P Q : X → Type 0) (xs : List X) → AllAre P xs → AllAre Q xs → AllAre (λ (x : X). P x × Q x) xs
 all_of_both P Q [] p q = tt
 all_of_both P Q (x ∷ xs) p q = ((p.0, q.0), all_of_both P Q xs p.1 q.1)
 
-nothing_seen : (books : List EndBook) (k : ℕ) → AllAre (λ (b : EndBook). b.end.value.log ≡ []) books → joined (slice_index_or (map known_of books) k nothing).seen ≡ []
+nothing_seen : (books : List EndBook) (k : ℕ) → AllAre (λ (b : EndBook). b.end.value.log ≡ []) books →
+    joined (slice_index_or (map known_of books) k nothing).seen ≡ []
 nothing_seen [] k none = refl
 nothing_seen (b ∷ bs) zero none = ap (λ (xs : List Entry). joined (tenure 0 xs ∷ [])) none.0
 nothing_seen (b ∷ bs) (suc k) none = nothing_seen bs k none.1
@@ -121,7 +134,8 @@ nobody_inside (b ∷ bs) zero = refl
 nobody_inside (b ∷ bs) (suc k) = nobody_inside bs k
 
 -- a seat that was just made is between turns
-new_idle : (table : TableId) (books : List EndBook) (named : List EndpointId) (k seats frames : ℕ) (token : Seat (Option EndBook) EndPass) → IsNewSeat table books named k seats frames token → IsIdle table token
+new_idle : (table : TableId) (books : List EndBook) (named : List EndpointId) (k seats frames : ℕ) (token : Seat (Option EndBook) EndPass) →
+    IsNewSeat table books named k seats frames token → IsIdle table token
 new_idle table books named k seats frames token n =
     record { table = n.table_is; hand = ap (λ z. z.1) n.pass; outside = subst IsOutside (sym (ap (λ z. z.0) n.pass)) (λ j near. nobody_inside books j) }
 
@@ -133,20 +147,25 @@ module _ (s : ScenarioLists) (node : NodeId) (books : List EndBook) (swap : Stor
 
   all_open : AreOfNode s node books → IsNewDisk s node books swap → AllAre Opens books
   all_open a d =
-      all_of_both (λ (b : EndBook). b.end.value.log ≡ []) (λ (b : EndBook). IsBorn (layout_of s) b.end.value.settings × IsOpenIn swap b.end.value.settings) books a.fresh_books.none
-      (all_of_both (λ (b : EndBook). IsBorn (layout_of s) b.end.value.settings) (λ (b : EndBook). IsOpenIn swap b.end.value.settings) books a.fresh_books.born d.holds)
+      all_of_both (λ (b : EndBook). b.end.value.log ≡ []) (λ (b : EndBook). IsBorn (layout_of s) b.end.value.settings × IsOpenIn swap b.end.value.settings)
+      books a.fresh_books.none
+      (all_of_both (λ (b : EndBook). IsBorn (layout_of s) b.end.value.settings) (λ (b : EndBook). IsOpenIn swap b.end.value.settings) books a.fresh_books.born
+      d.holds)
 
-  lies_fresh : (set : EndSettings) (j : ℕ) → (layout_of s).direct ≡ false → IsBorn (layout_of s) set → IsOpenIn swap set → LiesSo (replicate frames 0) swap j set (fresh set.tag set.place)
+  lies_fresh : (set : EndSettings) (j : ℕ) → (layout_of s).direct ≡ false → IsBorn (layout_of s) set → IsOpenIn swap set →
+      LiesSo (replicate frames 0) (device_of swap) j set (fresh set.tag set.place)
   lies_fresh set j packet born held =
       let homely = born_homely (layout_of s) set packet born in
       record { fits = fits_nowhere frames j set.place homely; network = not_direct set.place homely; disk = held }
 
-  knows_fresh : (j : ℕ) (set : EndSettings) (line : EndView) (b : EndBook) (x : Known Entry) → (layout_of s).direct ≡ false → Opens b → b.end.value.settings ≡ set → x ≡ known_of b → line ≡ line_now b → KnowsPlace (replicate frames 0) swap (k + 1) j set line x
+  knows_fresh : (j : ℕ) (set : EndSettings) (line : EndView) (b : EndBook) (x : Known Entry) → (layout_of s).direct ≡ false → Opens b →
+      b.end.value.settings ≡ set → x ≡ known_of b → line ≡ line_now b → KnowsPlace (replicate frames 0) (device_of swap) (k + 1) j set line x
   knows_fresh j set line b x packet opens is known shown =
-      coe 0 1 (i. KnowsPlace (replicate frames 0) swap (k + 1) j (is i) (sym shown i) (sym known i))
+      coe 0 1 (i. KnowsPlace (replicate frames 0) (device_of swap) (k + 1) j (is i) (sym shown i) (sym known i))
       (record {
         shows = ap (line_by b.end.value.settings) (sym (whole));
-        lies = subst (λ (xs : List Entry). LiesSo (replicate frames 0) swap j b.end.value.settings (state_by b.end.value.settings xs)) (sym none) (lies_fresh b.end.value.settings j packet opens.1.0 opens.1.1);
+        lies = subst (λ (xs : List Entry). LiesSo (replicate frames 0) (device_of swap) j b.end.value.settings (state_by b.end.value.settings xs)) (sym none)
+            (lies_fresh b.end.value.settings j packet opens.1.0 opens.1.1);
         own = ap (λ (t : Bool). cond t (b.end.value.log ∷ []) []) (zero_eqb_suc k);
         once = refl;
       })
@@ -160,9 +179,12 @@ module _ (s : ScenarioLists) (node : NodeId) (books : List EndBook) (swap : Stor
 same_line : (a b : EndView) → Some a ≡ Some b → a ≡ b
 same_line a b h = cc
 
-can_begin : (s : ScenarioLists) (books : List EndBook) (named : List EndpointId) (node : NodeId) (k seats keep : ℕ) (swap : Store) → AreOfNode s node books → k + 1 ≡ seats → IsNewDisk s node books swap → CanDrive s.frames node (view_of books s.frames keep) swap (fresh_pass books named k seats s.frames)
+can_begin : (s : ScenarioLists) (books : List EndBook) (named : List EndpointId) (node : NodeId) (k seats keep : ℕ) (swap : Store) → AreOfNode s node books →
+    k + 1 ≡ seats → IsNewDisk s node books swap →
+    CanDrive s.frames node (view_of books s.frames keep) (device_of swap) (fresh_pass books named k seats s.frames)
 can_begin s books named node k seats keep swap a last disk =
-    let knows : KnowsNode (ids_of books) [] (fresh_pass books named k seats s.frames) = fresh_know books named k seats s.frames a.fresh_books.apart a.fresh_books.none in
+    let knows : KnowsNode (ids_of books) [] (fresh_pass books named k seats s.frames) =
+    fresh_know books named k seats s.frames a.fresh_books.apart a.fresh_books.none in
     record {
       last = last;
       marked = omega (arith);
@@ -172,11 +194,13 @@ can_begin s books named node k seats keep swap a last disk =
       framed = refl;
       sized = length-replicate s.frames 0;
       owned = λ frame near. (let none = no_claim s.frames frame in omega (arith, none));
-      homes = λ j set at. (let r = book_at (λ (b : EndBook). b.end.value.settings.node ≡ node) books j set a.homes at in ap (λ (z : EndSettings). z.node) (sym r.is) ∙ r.holds);
+      homes = λ j set at. (let r = book_at (λ (b : EndBook). b.end.value.settings.node ≡ node) books j set a.homes at in
+          ap (λ (z : EndSettings). z.node) (sym r.is) ∙ r.holds);
       apart = λ i j b c at_i at_j same. knows.apart i j c.id (knows.births i b at_i ∙ ap (λ (e : EndpointId). Some e) same) (knows.births j c at_j);
       each = λ j set line at shown. (
           let r = book_at (Opens s node books swap k s.frames) books j set (all_open s node books swap k s.frames a disk) at in
-          knows_fresh s node books swap k s.frames j set line r.b (known_at j (fresh_pass books named k seats s.frames)) a.packet r.holds r.is r.known (same_line line (line_now r.b) (sym shown ∙ r.line))
+          knows_fresh s node books swap k s.frames j set line r.b (known_at j (fresh_pass books named k seats s.frames)) a.packet r.holds r.is r.known
+          (same_line line (line_now r.b) (sym shown ∙ r.line))
           );
     }
 
@@ -184,7 +208,8 @@ pub drivers_begin : DriversBegin
 drivers_begin s books named node k seats keep swap a last disk =
     record {
       made = [];
-      born = λ j set at. (let r = book_at (λ (b : EndBook). IsBorn (layout_of s) b.end.value.settings) books j set a.fresh_books.born at in subst (IsBorn (layout_of s)) r.is r.holds);
+      born = λ j set at. (let r = book_at (λ (b : EndBook). IsBorn (layout_of s) b.end.value.settings) books j set a.fresh_books.born at in
+          subst (IsBorn (layout_of s)) r.is r.holds);
       knows = fresh_know books named k seats s.frames a.fresh_books.apart a.fresh_books.none;
       clocked = record { rising = tt; below = tt; low = tt };
       few = omega (arith);
@@ -198,15 +223,18 @@ drivers_begin s books named node k seats keep swap a last disk =
     }
   where
     lies : (j : ℕ) (e : EndpointId) → LiesAsMoved [] e (replay e (opening (layout_of s) e) (joined (slice_index_or (map known_of books) j nothing).seen))
-    lies j e = subst (λ (xs : List Entry). LiesAsMoved [] e (replay e (opening (layout_of s) e) xs)) (sym (nothing_seen books j a.fresh_books.none)) (λ frame. not_framed (opening (layout_of s) e).head.place frame (opens_homely (layout_of s) e a.packet))
+    lies j e = subst (λ (xs : List Entry). LiesAsMoved [] e (replay e (opening (layout_of s) e) xs)) (sym (nothing_seen books j a.fresh_books.none))
+        (λ frame. not_framed (opening (layout_of s) e).head.place frame (opens_homely (layout_of s) e a.packet))
 
 pub books_are_homely : BooksAreHomely
 books_are_homely s node books a = by_book books a.fresh_books.born a.fresh_books.none
   where
-    by_book : (bs : List EndBook) → AllAre (λ (b : EndBook). IsBorn (layout_of s) b.end.value.settings) bs → AllAre (λ (b : EndBook). b.end.value.log ≡ []) bs → AllAre (λ (b : EndBook). stands_at b.end.value < 2) bs
+    by_book : (bs : List EndBook) → AllAre (λ (b : EndBook). IsBorn (layout_of s) b.end.value.settings) bs → AllAre (λ (b : EndBook). b.end.value.log ≡ []) bs →
+        AllAre (λ (b : EndBook). stands_at b.end.value < 2) bs
     by_book [] born none = tt
     by_book (b ∷ bs) born none = (
-      subst (λ (xs : List Entry). place_code (state_by b.end.value.settings xs).head.place < 2) (sym none.0) (low_code b.end.value.settings.place (born_homely (layout_of s) b.end.value.settings a.packet born.0)),
+      subst (λ (xs : List Entry). place_code (state_by b.end.value.settings xs).head.place < 2) (sym none.0)
+          (low_code b.end.value.settings.place (born_homely (layout_of s) b.end.value.settings a.packet born.0)),
       by_book bs born.1 none.1,
     )
 
@@ -217,7 +245,8 @@ new_drivers_are_at_work s table books named k seats keep node w a n =
       is_node = n.is_node;
       so_far = 0;
       within = omega (arith);
-      works = coe 0 1 (i. DriverWorks s (ids_of books) node 0 (sym n.clock i) (sym n.view i) w.swap (sym n.seat.pass i).0) (drivers_begin s books named node k seats keep w.swap a n.last n.disk);
+      works = coe 0 1 (i. DriverWorks s (ids_of books) node 0 (sym n.clock i) (sym n.view i) (device_of w.swap) (sym n.seat.pass i).0)
+          (drivers_begin s books named node k seats keep w.swap a n.last n.disk);
     }
 
 -- ---- a thread, and an interface
@@ -231,7 +260,8 @@ new_threads_are_at_work s table books named k seats frames w fresh n =
       few = n.few;
       so_far = 0;
       within = omega (arith);
-      works = coe 0 1 (i. ThreadWorks s (ids_of books) w.thread 0 (sym n.next i) (sym n.clock i) (sym n.seat.pass i).0) (threads_begin s books named w.thread k seats frames fresh n.guest);
+      works = coe 0 1 (i. ThreadWorks s (ids_of books) w.thread 0 (sym n.next i) (sym n.clock i) (sym n.seat.pass i).0)
+          (threads_begin s books named w.thread k seats frames fresh n.guest);
     }
 
 none_sent : (outs : List LinkOut) (ins : List LinkIn) → AreUnused outs ins → (to : NodeId) → sent_by outs to ≡ []
@@ -263,7 +293,8 @@ new_interfaces_are_at_work s table books named k seats frames node w fresh n =
       within_from = n.within_from;
       so_far = 0;
       within = omega (arith);
-      works = coe 0 1 (i. InterfaceWorks s (ids_of books) node 0 (sym n.log i) (sent i) (taken i) (sym n.hand i) (sym n.seat.pass i).0) (interfaces_begin s books named node k seats frames fresh n.guest);
+      works = coe 0 1 (i. InterfaceWorks s (ids_of books) node 0 (sym n.log i) (sent i) (taken i) (sym n.hand i) (sym n.seat.pass i).0)
+          (interfaces_begin s books named node k seats frames fresh n.guest);
     }
   where
     sent : (λ (to : NodeId). []) ≡ sent_by w.outs.items

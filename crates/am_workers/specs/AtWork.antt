@@ -5,18 +5,19 @@ use Rattle.am_names.specs.declared.NodeId.{NodeId}
 use Rattle.am_names.specs.declared.Packet.{Packet}
 use Rattle.am_model.specs.Layout.{node_at}
 use Rattle.am_scenario_types.specs.Lists.{ScenarioLists}
-use Rattle.am_scripts.specs.Layout.{layout_of}
-use Rattle.am_scripts.specs.Follows.{is_thread}
-use Rattle.am_local.specs.Together.{IsSet}
+use Rattle.am_model_scripts.specs.Layout.{layout_of}
+use Rattle.am_model_scripts.specs.Follows.{is_thread}
+use Rattle.am_model_parts.specs.Together.{IsSet}
 use Rattle.am_iface.specs.Settings.{AreLawful}
 use Rattle.am_iface.specs.View.{own}
-use Rattle.am_plan.specs.Shape.{shape}
+use Rattle.am_scenario_plan.specs.Shape.{shape}
 use Rattle.am_wire.specs.Links.{SameEnd, SameLink, emitted, received, spare}
 use Rattle.am_wire.specs.declared.receiving.LinkIn.{LinkIn}
 use Rattle.am_wire.specs.declared.sending.LinkOut.{LinkOut}
-use Rattle.am_works.specs.Seats.{Ids, IsIdle}
-use Rattle.am_works.specs.Works.{DriverWorks, InterfaceWorks, ThreadWorks}
-use Rattle.am_turns.specs.Callers.{IsScript}
+use Rattle.am_swap_device.specs.Memory.{device_of}
+use Rattle.am_workers_invariants.specs.Seats.{Ids, IsIdle}
+use Rattle.am_workers_invariants.specs.Works.{DriverWorks, InterfaceWorks, ThreadWorks}
+use Rattle.am_workers_turns.specs.Callers.{IsScript}
 use Rattle.am_workers.specs.declared.workers.ThreadWorker.{ThreadWorker}
 use Rattle.am_workers.specs.declared.workers.InterfaceWorker.{InterfaceWorker}
 use Rattle.am_workers.specs.declared.workers.DriverWorker.{DriverWorker}
@@ -95,4 +96,4 @@ pub record IsDriverAtWork (s : ScenarioLists) (table : TableId) (ids : Ids) (nod
   pub is_node : w.node ≡ node
   pub so_far : ℕ
   pub within : so_far ≤ turns
-  pub works : DriverWorks s ids node so_far w.clock w.view w.swap w.seat.token.me.0
+  pub works : DriverWorks s ids node so_far w.clock w.view (device_of w.swap) w.seat.token.me.0

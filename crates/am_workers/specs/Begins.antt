@@ -4,27 +4,27 @@ use Rattle.atomic_table.specs.Seated.{TableId}
 use Rattle.atomic_table.specs.declared.shared.Seat.{Seat}
 use Rattle.am_names.specs.declared.EndpointId.{EndpointId}
 use Rattle.am_names.specs.declared.NodeId.{NodeId}
-use Rattle.am_books.specs.Books.{stands_at}
-use Rattle.am_books.specs.declared.EndBook.{EndBook}
-use Rattle.am_device.specs.Memory.{Store}
+use Rattle.am_workers_books.specs.Books.{stands_at}
+use Rattle.am_workers_books.specs.declared.EndBook.{EndBook}
+use Rattle.am_swap_device.specs.Memory.{Store, device_of}
 use Rattle.am_driver.specs.Lists.{ViewLists}
 use Rattle.am_driver.specs.Views.{line_of}
 use Rattle.am_endpoint.specs.View.{state_after}
-use Rattle.am_scripts.specs.Layout.{layout_of}
+use Rattle.am_model_scripts.specs.Layout.{layout_of}
 use Rattle.am_iface.specs.Settings.{AreLawful}
 use Rattle.am_iface.specs.View.{own}
-use Rattle.am_local.specs.Together.{IsSet, faults_of}
+use Rattle.am_model_parts.specs.Together.{IsSet, faults_of}
 use Rattle.am_model.specs.Layout.{AllAre}
 use Rattle.am_scenario_types.specs.Lists.{ScenarioLists}
-use Rattle.am_scripts.specs.Follows.{is_thread}
-use Rattle.am_turns.specs.Callers.{IsScript}
+use Rattle.am_model_scripts.specs.Follows.{is_thread}
+use Rattle.am_workers_turns.specs.Callers.{IsScript}
 use Rattle.am_wire.specs.Links.{emitted, received}
 use Rattle.am_wire.specs.declared.receiving.LinkIn.{LinkIn}
 use Rattle.am_wire.specs.declared.sending.LinkOut.{LinkOut}
-use Rattle.am_works.specs.Begins.{AreFresh, ids_of, IsOpenIn}
-use Rattle.am_works.specs.Seats.{EndPass}
-use Rattle.am_works.specs.Stands.{fresh_pass}
-use Rattle.am_works.specs.Works.{DriverWorks}
+use Rattle.am_workers_invariants.specs.Begins.{AreFresh, ids_of, IsOpenIn}
+use Rattle.am_workers_invariants.specs.Seats.{EndPass}
+use Rattle.am_workers_invariants.specs.Stands.{fresh_pass}
+use Rattle.am_workers_invariants.specs.Works.{DriverWorks}
 use Rattle.am_workers.specs.AtWork.{AreOuts, IsDriverAtWork, IsInterfaceAtWork, IsThreadAtWork}
 use Rattle.am_workers.specs.declared.workers.ThreadWorker.{ThreadWorker}
 use Rattle.am_workers.specs.declared.workers.InterfaceWorker.{InterfaceWorker}
@@ -60,7 +60,7 @@ pub record AreOfNode (s : ScenarioLists) (node : NodeId) (books : List EndBook) 
 abbrev pub DriversBegin : Type 0
 DriversBegin =
     (s : ScenarioLists) (books : List EndBook) (named : List EndpointId) (node : NodeId) (k seats keep : ℕ) (swap : Store) → AreOfNode s node books → k + 1 ≡ seats → IsNewDisk s node books swap
-    → DriverWorks s (ids_of books) node 0 0 (view_of books s.frames keep) swap (fresh_pass books named k seats s.frames)
+    → DriverWorks s (ids_of books) node 0 0 (view_of books s.frames keep) (device_of swap) (fresh_pass books named k seats s.frames)
 
 -- each of the books is on the host or on disk
 abbrev pub BooksAreHomely : Type 0

@@ -5,14 +5,14 @@ use lib.ListN.{get_elem?}
 use Rattle.atomic_table.specs.Seated.{TableId}
 use Rattle.am_names.specs.declared.NodeId.{NodeId}
 use Rattle.am_names.specs.declared.Packet.{Packet}
-use Rattle.am_body.specs.declared.settings.EndSettings.{EndSettings}
+use Rattle.am_endpoint_body.specs.declared.settings.EndSettings.{EndSettings}
 use Rattle.am_iface.specs.Settings.{AreLawful}
 use Rattle.am_scenario_types.specs.Lists.{ScenarioLists}
 use Rattle.am_wire.specs.Links.{spare}
 use Rattle.am_wire.specs.declared.sending.LinkOut.{LinkOut}
-use Rattle.am_works.specs.Seats.{Ids, IsIdle, SameSeat}
-use Rattle.am_works.specs.Works.{InterfaceWorks, held_from}
-use Rattle.am_turns.specs.Servers.{IsInterfaceOf}
+use Rattle.am_workers_invariants.specs.Seats.{Ids, IsIdle, SameSeat}
+use Rattle.am_workers_invariants.specs.Works.{InterfaceWorks, held_from}
+use Rattle.am_workers_turns.specs.Servers.{IsInterfaceOf}
 use Rattle.am_workers.specs.AtWork.{SameIns, SameOuts, sent_by, taken_by}
 use Rattle.am_workers.specs.declared.workers.InterfaceWorker.{InterfaceWorker}
 

@@ -1,20 +1,20 @@
 //! The turns of a node's driver.
-ghost use Rattle.am_scripts.specs.Layout.{layout_of};
-ghost use Rattle.am_local.specs.Together.{ends_of};
+ghost use Rattle.am_model_scripts.specs.Layout.{layout_of};
+ghost use Rattle.am_model_parts.specs.Together.{ends_of};
 ghost use Rattle.am_scenario_types.specs.Lawful.{IsLawful};
 ghost use Rattle.am_scenario_types.specs.declared.parts.Network.TheVariants.{Packet};
 ghost use Rattle.am_workers.specs.AtWork.{IsDriverAtWork};
 ghost use Rattle.am_workers.specs.Stops.{stop_after_move};
 ghost use Rattle.am_workers.specs.declared.workers.Stop.{Stop};
-ghost use Rattle.am_works.specs.Seats.{SameSeat};
+ghost use Rattle.am_workers_invariants.specs.Seats.{SameSeat};
 ghost use Rattle.std.specs.Prelude.{Some, ◌≡◌, ◌+◌, ◌<◌};
 
 use crate::gate::Gate;
 use crate::workers::{DriverWorker, Stop};
-use am_books::EndBook;
-use am_driver_turn::{DriverFault, DriverTurn, driver_turn};
 use am_places::Places;
 use am_scenario_types::Scenario;
+use am_workers_books::EndBook;
+use am_workers_driver::{DriverFault, DriverTurn, driver_turn};
 use std::alloc::Global;
 
 /// Why a driver makes no further turn after this one, if it makes none.
@@ -28,15 +28,14 @@ fn stop_after_move(turn: Result<DriverTurn, DriverFault>) -> Option<Stop>
     }
 }
 
-/// A turn of a driver: it passes the gate, and looks at its endpoints and makes a move unless it stopped.
-fn move_turn<G: Gate>(
+/// The turn of a node's driver with this number, from 0: it looks at the endpoints of its node, and makes at most one move. A full
+/// log stops it, and want of memory does; one that stopped makes no move.
+pub fn turn_as_driver(
     alloc: Global,
     worker: &mut DriverWorker,
     places: &Places<EndBook>,
     scenario: &Scenario,
-    number: u32,
     turn: u32,
-    gate: &G,
 )
     requires lawful { IsLawful scenario.now }
     requires packet { scenario.now.network ≡ Packet }
@@ -49,7 +48,6 @@ fn move_turn<G: Gate>(
     ensures node { worker.new.node ≡ worker.old.node }
     ensures stopped { (why : Stop) → worker.old.stop ≡ Some why → worker.new ≡ worker.old }
 {
-    gate.pass(number, turn);
     if worker.stop.is_some() {
         return;
     }
@@ -88,6 +86,7 @@ pub fn work_as_driver<G: Gate>(
     ensures stopped { (why : Stop) → worker.old.stop ≡ Some why → worker.new ≡ worker.old }
 {
     for turn in 0..scenario.turns {
-        move_turn(alloc, worker, places, scenario, number, turn, gate);
+        gate.pass(number, turn);
+        turn_as_driver(alloc, worker, places, scenario, turn);
     }
 }

@@ -1,23 +1,23 @@
 //! An interface between its links, from turn to turn.
 ghost use Rattle.am_scenario_types.specs.Lawful.{IsLawful};
 ghost use Rattle.am_scenario_types.specs.declared.parts.Network.TheVariants.{Packet as IsPacket};
-ghost use Rattle.am_turns.specs.Servers.{HandHolds, out_of};
+ghost use Rattle.am_workers_turns.specs.Servers.{HandHolds, out_of};
 ghost use Rattle.am_workers.specs.AtWork.{IsInterfaceAtWork, SameIns, SameOuts};
 ghost use Rattle.am_workers.specs.Ways.{CanServe, HaveRoom, HaveRoomBut, Prepares, Serves};
 ghost use Rattle.am_workers.specs.Stops.{stop_after_work};
 ghost use Rattle.am_workers.specs.declared.workers.Stop.{Stop};
-ghost use Rattle.am_works.specs.Seats.{SameSeat};
+ghost use Rattle.am_workers_invariants.specs.Seats.{SameSeat};
 ghost use Rattle.std.specs.Prelude.{◌≡◌, ◌+◌, ◌<◌, ◌≤◌, OnErr, OnOk, Some, length};
 
 use crate::gate::Gate;
 use crate::ways::{make_room, pump_all, send, take_in_hand};
 use crate::workers::{InterfaceWorker, Stop};
-use am_books::EndBook;
 use am_iface::Work;
 use am_names::{EndpointId, NoMemory, NodeId, Packet};
 use am_places::Places;
 use am_scenario_types::Scenario;
-use am_turns::{InterfaceTurn, next_work, serve};
+use am_workers_books::EndBook;
+use am_workers_turns::{InterfaceTurn, next_work, serve};
 
 /// Makes room on each link for a packet more, pumps the links, and takes the first packet that they have, if none is in hand.
 /// `NoMemory` comes only where there is no room: no packet is taken then, and the hand and the ends that receive stay as they were.
@@ -112,9 +112,9 @@ fn find_work(worker: &mut InterfaceWorker, places: &Places<EndBook>, ids: &[Endp
     }
 }
 
-/// One turn of the interface of a node, the one with this number from 0, unless it stopped. It looks at its links, and then does one
-/// work. Where there is no memory, or a log has as many entries as it may, it stops.
-fn take_turn(
+/// The turn of the interface of a node with this number, from 0: it looks at its links, and then does one work. A full log stops it,
+/// and want of memory does; one that stopped does nothing.
+pub fn turn_as_interface(
     worker: &mut InterfaceWorker,
     places: &Places<EndBook>,
     scenario: &Scenario,
@@ -160,6 +160,6 @@ pub fn work_as_interface<G: Gate>(
 {
     for turn in 0..scenario.turns {
         gate.pass(number, turn);
-        take_turn(worker, places, scenario, node, turn);
+        turn_as_interface(worker, places, scenario, node, turn);
     }
 }

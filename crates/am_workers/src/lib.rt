@@ -10,9 +10,9 @@ mod threads;
 mod ways;
 mod workers;
 
-pub use crate::drivers::work_as_driver;
+pub use crate::drivers::{turn_as_driver, work_as_driver};
 pub use crate::gate::{Gate, OpenGate};
-pub use crate::interfaces::work_as_interface;
+pub use crate::interfaces::{turn_as_interface, work_as_interface};
 pub use crate::starts::{drivers_begin, new_workers_are_at_work};
-pub use crate::threads::work_as_thread;
+pub use crate::threads::{turn_as_thread, work_as_thread};
 pub use crate::workers::{DriverWorker, InterfaceWorker, Stop, ThreadWorker};

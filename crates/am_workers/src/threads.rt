@@ -3,15 +3,15 @@ ghost use Rattle.am_scenario_types.specs.Lawful.{IsLawful};
 ghost use Rattle.am_workers.specs.AtWork.{IsThreadAtWork};
 ghost use Rattle.am_workers.specs.Stops.{stop_after_call};
 ghost use Rattle.am_workers.specs.declared.workers.Stop.{Stop};
-ghost use Rattle.am_works.specs.Seats.{SameSeat};
+ghost use Rattle.am_workers_invariants.specs.Seats.{SameSeat};
 ghost use Rattle.std.specs.Prelude.{Some, ◌≡◌, ◌+◌};
 
 use crate::gate::Gate;
 use crate::workers::{Stop, ThreadWorker};
-use am_books::EndBook;
 use am_places::Places;
 use am_scenario_types::Scenario;
-use am_turns::{ThreadTurn, call_turn};
+use am_workers_books::EndBook;
+use am_workers_turns::{ThreadTurn, call_turn};
 
 /// Why a thread makes no further turn after this one, if it makes none.
 fn stop_after_call(turn: Option<ThreadTurn>) -> Option<Stop>
@@ -24,14 +24,13 @@ fn stop_after_call(turn: Option<ThreadTurn>) -> Option<Stop>
     }
 }
 
-/// A turn of a thread: it passes the gate, and makes its next call unless it stopped.
-fn thread_turn<G: Gate>(
+/// The turn of a thread with this number, from 0: its next call, if one is left. A full log stops it, and want of memory does; one
+/// that stopped makes no call.
+pub fn turn_as_thread(
     worker: &mut ThreadWorker,
     places: &Places<EndBook>,
     scenario: &Scenario,
-    number: u32,
     turn: u32,
-    gate: &G,
 )
     requires at_work { IsThreadAtWork scenario.now places.now.board.shared.table_id places.now.ids.items turn worker.old }
     ensures at_work { IsThreadAtWork scenario.now places.now.board.shared.table_id places.now.ids.items (turn + 1) worker.new }
@@ -39,7 +38,6 @@ fn thread_turn<G: Gate>(
     ensures thread { worker.new.thread ≡ worker.old.thread }
     ensures stopped { (why : Stop) → worker.old.stop ≡ Some why → worker.new ≡ worker.old }
 {
-    gate.pass(number, turn);
     if worker.stop.is_some() {
         return;
     }
@@ -72,6 +70,7 @@ pub fn work_as_thread<G: Gate>(
     ensures stopped { (why : Stop) → worker.old.stop ≡ Some why → worker.new ≡ worker.old }
 {
     for turn in 0..scenario.turns {
-        thread_turn(worker, places, scenario, number, turn, gate);
+        gate.pass(number, turn);
+        turn_as_thread(worker, places, scenario, turn);
     }
 }

@@ -2,10 +2,10 @@
 ghost use Rattle.am_model.specs.Packets.{receiver_of};
 ghost use Rattle.am_names.specs.declared.NodeId.{NodeId};
 ghost use Rattle.am_names.specs.declared.Packet.{Packet};
-ghost use Rattle.am_turns.specs.Servers.{sent_to};
+ghost use Rattle.am_workers_turns.specs.Servers.{sent_to};
 ghost use Rattle.am_workers.specs.AtWork.{SameIns, SameOuts, sent_by, taken_by};
 ghost use Rattle.am_workers.specs.Ways.{AreKept, HaveRoom, HaveRoomBut};
-ghost use Rattle.am_works.specs.Works.{held_from};
+ghost use Rattle.am_workers_invariants.specs.Works.{held_from};
 ghost use Rattle.std.specs.Prelude.{◌≡◌, ◌<◌, ◌≤◌, ◌++◌, IfSome, List, OnOk, Some, length};
 
 use am_names::{NoMemory, NodeId, Packet};

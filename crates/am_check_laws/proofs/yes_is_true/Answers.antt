@@ -2,8 +2,8 @@ use Rattle.am_check.specs.Exact.{IsChecked}
 use Rattle.am_check_laws.proofs.Returning.{begun_by}
 use Rattle.am_check_laws.proofs.Walking.{history_of, is_history}
 use Rattle.am_check_laws.specs.Laws.{IsTrueReport}
-use Rattle.am_scripts.proofs.Lawful.{lawful_layout}
-use Rattle.am_scripts.specs.Layout.{layout_of}
+use Rattle.am_model_scripts.proofs.Lawful.{lawful_layout}
+use Rattle.am_model_scripts.specs.Layout.{layout_of}
 use Rattle.std.proofs.Common.{take}
 use Rattle.am_check_laws.proofs.yes_is_true.Goals as goal
 

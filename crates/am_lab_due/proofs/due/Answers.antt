@@ -9,11 +9,13 @@ due_behind-requires-clause-stopped c =
     let a = c.args in
     let text = a.text.now in
     let place = c.in-Some.place in
-    answers_behind a.form text place (take (length text - place) (drop place text)) (Err (Stops.Fault a.line a.what)) (sym c.in-Some.ensures.place) (cut_behind text place) c.requires.stopped
+    answers_behind a.form text place (take (length text - place) (drop place text)) (Err (Stops.Fault a.line a.what)) (sym c.in-Some.ensures.place)
+    (cut_behind text place) c.requires.stopped
 
 pub returns-in-Some : goal.returns-in-Some
 returns-in-Some c =
     let a = c.args in
     let text = a.text.now in
     let place = c.in-Some.place in
-    told_all a.form text a.line a.what place (take (length text - place) (drop place text)) c.due_behind.result (sym c.in-Some.ensures.place) (cut_behind text place) c.due_behind.ensures
+    told_all a.form text a.line a.what place (take (length text - place) (drop place text)) c.due_behind.result (sym c.in-Some.ensures.place)
+    (cut_behind text place) c.due_behind.ensures

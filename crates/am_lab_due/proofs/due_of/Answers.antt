@@ -24,7 +24,8 @@ might_come-requires-clause-place c =
     let a = c.args in
     let i = c.in-Follows.is in
     let e : a.what ≡ Whats.Follows = cc in
-    follows_place a.form a.scenario.now a.bytes.now a.line c.requires.few (stopped_for a.form a.scenario.now a.bytes.now a.line a.what Whats.Follows e c.requires.stopped)
+    follows_place a.form a.scenario.now a.bytes.now a.line c.requires.few (stopped_for a.form a.scenario.now a.bytes.now a.line a.what Whats.Follows e
+    c.requires.stopped)
 
 pub due_line-requires-clause-journal : goal.due_line-requires-clause-journal
 due_line-requires-clause-journal c =

@@ -6,5 +6,6 @@ pub returns-in-Ok : goal.returns-in-Ok
 returns-in-Ok c =
     let text = c.args.text.now in
     let place = c.in-Some.place in
-    tells_all c.args.form text c.args.serial c.requires.checked place (take (length text - place) (drop place text)) c.in-Ok.scenario (sym c.in-Some.ensures.place) (cut_behind text place) c.in-Ok.ensures.exact
+    tells_all c.args.form text c.args.serial c.requires.checked place (take (length text - place) (drop place text)) c.in-Ok.scenario
+    (sym c.in-Some.ensures.place) (cut_behind text place) c.in-Ok.ensures.exact
     c.reasons_of.result c.reasons_of.ensures

@@ -4,7 +4,8 @@ use Rattle.am_swap.proofs.decode.Goals as goal
 
 pub body_of-requires : goal.body_of-requires
 body_of-requires c =
-    can_be_made c.args.id c.args.pool c.in-Some.lists (found_lists c.args.id c.args.pool c.args.bytes.now c.in_ok-decoded.field-0 c.in-Some.lists c.in-Some.is c.in_ok-decoded.ensures).1
+    can_be_made c.args.id c.args.pool c.in-Some.lists (found_lists c.args.id c.args.pool c.args.bytes.now c.in_ok-decoded.field-0 c.in-Some.lists c.in-Some.is
+    c.in_ok-decoded.ensures).1
 
 pub returns-in_ok-body_of-in-Some-clause-each : goal.returns-in_ok-body_of-in-Some-clause-each
 returns-in_ok-body_of-in-Some-clause-each c =

@@ -24,8 +24,10 @@ returns-else-next-self-clause-slot c =
 
 pub returns-then-next-self-clause-none : goal.returns-then-next-self-clause-none
 returns-then-next-self-clause-none c =
-    behind_none (pools c.self.inside.nodes c.self.inside.size c.self.inside.lengths) c.args.self.now c.args.slot.0 _ c.self.invariant.block c.self.view_is c.requires (returns-then-next-self-clause-slot c)
+    behind_none (pools c.self.inside.nodes c.self.inside.size c.self.inside.lengths) c.args.self.now c.args.slot.0 _ c.self.invariant.block c.self.view_is
+    c.requires (returns-then-next-self-clause-slot c)
 
 pub returns-else-next-self-clause-none : goal.returns-else-next-self-clause-none
 returns-else-next-self-clause-none c =
-    behind_none (pools c.self.inside.nodes c.self.inside.size c.self.inside.lengths) c.args.self.now c.args.slot.0 _ c.self.invariant.block c.self.view_is c.requires (returns-else-next-self-clause-slot c)
+    behind_none (pools c.self.inside.nodes c.self.inside.size c.self.inside.lengths) c.args.self.now c.args.slot.0 _ c.self.invariant.block c.self.view_is
+    c.requires (returns-else-next-self-clause-slot c)

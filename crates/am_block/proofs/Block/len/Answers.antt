@@ -5,4 +5,5 @@ use Rattle.am_block.proofs.Block.len.Goals as goal
 
 pub returns-clause-value : goal.returns-clause-value
 returns-clause-value c =
-    c.of.ensures ∙ sym (length_slots c.self.inside.nodes c.self.inside.size c.self.inside.lengths c.args.list) ∙ ap (λ p. length (slots p c.args.list)) c.self.view_is
+    c.of.ensures ∙ sym (length_slots c.self.inside.nodes c.self.inside.size c.self.inside.lengths c.args.list)
+    ∙ ap (λ p. length (slots p c.args.list)) c.self.view_is

@@ -27,7 +27,8 @@ loop-slot-preserved c =
       tags = fill-tags k m c.args.size c.loop-slot.slot e (omega arith) i.lists i.tags;
     }
 
-done : (c : goal.After-loop-slot) → IsFresh (pools c.loop-slot.nodes c.args.size (lengths c.args.size)) c.args.size × IsSound c.loop-slot.nodes c.args.size (lengths c.args.size)
+done : (c : goal.After-loop-slot) → IsFresh (pools c.loop-slot.nodes c.args.size (lengths c.args.size)) c.args.size × IsSound c.loop-slot.nodes c.args.size
+    (lengths c.args.size)
 done c =
     let i = c.loop-slot.invariant in
     let last : c.loop-slot.slot ≡ c.args.size = omega arith in

@@ -1,5 +1,5 @@
 use Rattle.std.proofs.Common.{◌≡◌, ◌++◌, length, map}
-use Rattle.am_journal_lines.specs.Grammar.{printed}
+use Rattle.am_check_lines.specs.Grammar.{printed}
 use Rattle.am_lexer.specs.Text.{lines_of}
 use Rattle.am_check.specs.Follows.{IsBegun}
 use Rattle.am_check.proofs.lines.check_lines.Given as goal

@@ -1,5 +1,5 @@
 use Rattle.std.proofs.Common.{◌≡◌, Some, sym, ap, ◌∙◌}
-use Rattle.am_scripts.specs.Scripts.{call_left}
+use Rattle.am_model_scripts.specs.Scripts.{call_left}
 use Rattle.am_check.proofs.runs.is_next.Goals as goal
 
 pub returns-in-Some : goal.returns-in-Some

@@ -1,6 +1,6 @@
 use Rattle.std.proofs.Common.{◌≡◌, Some, sym, ap, ◌∙◌}
 use Rattle.std.specs.Prelude.{slice_get}
-use Rattle.am_scripts.specs.Layout.{events_of}
+use Rattle.am_model_scripts.specs.Layout.{events_of}
 use Rattle.am_check.proofs.step_cluster.is_step.Goals as goal
 
 pub returns-in-Some : goal.returns-in-Some

@@ -1,6 +1,6 @@
 use Rattle.std.proofs.Common.{◌≡◌, [], length, map, take}
 use Rattle.am_scenario_types.specs.declared.parts.ThreadLine.{ThreadLine}
-use Rattle.am_scripts.specs.Scripts.{calls_of}
+use Rattle.am_model_scripts.specs.Scripts.{calls_of}
 use Rattle.am_cluster_tests.proofs.workloads.no_calls.Given as goal
 
 abbrev pub invariant-loop : goal.invariant-loop

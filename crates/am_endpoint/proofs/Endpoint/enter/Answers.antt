@@ -21,5 +21,6 @@ invariant_of-self c =
     let items : c.push_reserved.new.self.items ≡ i.log.items ++ c.args.entry.now ∷ [] = grind (arith, common_steps) in
     let room : length i.log.items < i.settings.log = subst (λ (v : EndpointView). length v.log < v.settings.log) (sym c.self.view_is) c.requires.room in
     entered i (Here c.apply.new.self) c.push_reserved.new.self c.args.entry.now c.self.invariant items room
-    (here_after i c.in-Here.fields c.apply.new.self c.args.entry.now (flights_stay c.args.entry.now c.requires.stays) here c.apply.ensures.state c.apply.ensures.pool)
+    (here_after i c.in-Here.fields c.apply.new.self c.args.entry.now (flights_stay c.args.entry.now c.requires.stays) here c.apply.ensures.state
+    c.apply.ensures.pool)
     (order_next i c.args.self.now c.args.entry.now c.self.view_is c.self.invariant c.requires.keeps)

@@ -13,8 +13,10 @@ invariant_of-self c =
     let items : c.push_reserved.new.self.items ≡ i.log.items ++ x ∷ [] = grind (arith, common_steps) in
     let room : length i.log.items < i.settings.log = subst (λ (w : EndpointView). length w.log < w.settings.log) (sym c.self.view_is) c.requires.room in
     entered i c.replace.new.dest c.push_reserved.new.self x c.self.invariant items room
-    (gave i v x v.settings.node v.settings.id c.fields.result.now c.head_away-head.result c.replace.new.dest c.self.view_is c.requires.allowed.event c.requires.done c.fields.ensures.state c.head_away-head.ensures c.replace.ensures.after)
-    (order_next i v x c.self.view_is c.self.invariant (order_paged_out v.settings.bounces v.settings.pool v.settings.node v.settings.id (state_after v) x c.requires.allowed))
+    (gave i v x v.settings.node v.settings.id c.fields.result.now c.head_away-head.result c.replace.new.dest c.self.view_is c.requires.allowed.event
+    c.requires.done c.fields.ensures.state c.head_away-head.ensures c.replace.ensures.after)
+    (order_next i v x c.self.view_is c.self.invariant (order_paged_out v.settings.bounces v.settings.pool v.settings.node v.settings.id (state_after v) x
+    c.requires.allowed))
 
 pub returns-clause-same : goal.returns-clause-same
 returns-clause-same c =

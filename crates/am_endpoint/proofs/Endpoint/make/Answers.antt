@@ -18,13 +18,15 @@ pub call-outcome-requires-clause-order : goal.call-outcome-requires-clause-order
 call-outcome-requires-clause-order c =
     let i = c.self.inside in
     let here = here_of i.settings.pool (replayed i) i.held c.in-Here.fields c.self.invariant.held c.in-Here.is in
-    subst (λ (p : Option ℕ). IsInOrder p i.settings.id (state_in c.in-Here.fields)) (sym here.pooled) (subst (λ (s : State). IsInOrder i.settings.pool i.settings.id s) (sym here.state) c.self.invariant.order)
+    subst (λ (p : Option ℕ). IsInOrder p i.settings.id (state_in c.in-Here.fields)) (sym here.pooled)
+    (subst (λ (s : State). IsInOrder i.settings.pool i.settings.id s) (sym here.state) c.self.invariant.order)
 
 pub call-outcome-requires-clause-numbers : goal.call-outcome-requires-clause-numbers
 call-outcome-requires-clause-numbers c =
     let i = c.self.inside in
     let here = here_of i.settings.pool (replayed i) i.held c.in-Here.fields c.self.invariant.held c.in-Here.is in
-    subst (λ (p : Option ℕ). are_numbers_in_range p c.args.call ≡ true) (sym (here.pooled ∙ ap (λ (v : EndpointView). v.settings.pool) c.self.view_is)) c.requires.numbers
+    subst (λ (p : Option ℕ). are_numbers_in_range p c.args.call ≡ true) (sym (here.pooled
+    ∙ ap (λ (v : EndpointView). v.settings.pool) c.self.view_is)) c.requires.numbers
 
 pub returns-clause-outcome : goal.returns-clause-outcome
 returns-clause-outcome c =

@@ -8,7 +8,8 @@ use Rattle.am_endpoint.proofs.Endpoint.page_failed.Goals as goal
 
 pub note-requires-clause-keeps : goal.note-requires-clause-keeps
 note-requires-clause-keeps c =
-    order_paged_in c.args.self.now.settings.bounces c.args.self.now.settings.pool Out.Failed c.args.self.now.settings.node c.args.self.now.settings.id (state_after c.args.self.now) c.args.entry c.requires.allowed
+    order_paged_in c.args.self.now.settings.bounces c.args.self.now.settings.pool Out.Failed c.args.self.now.settings.node c.args.self.now.settings.id
+    (state_after c.args.self.now) c.args.entry c.requires.allowed
 
 pub note-requires-clause-change : goal.note-requires-clause-change
 note-requires-clause-change c =

@@ -16,5 +16,7 @@ invariant_of-self c =
     let items : c.push_reserved.new.self.items ≡ i.log.items ++ x ∷ [] = grind (arith, common_steps) in
     let room : length i.log.items < i.settings.log = subst (λ (w : EndpointView). length w.log < w.settings.log) (sym c.self.view_is) c.requires.room in
     entered i (Here (record { head = record c.head.result { place = Host }; body = c.args.body })) c.push_reserved.new.self x c.self.invariant items room
-    (came i v x v.settings.node v.settings.id c.head.result c.args.body c.self.view_is c.requires.allowed.event c.requires.allowed.is_outcome c.head.ensures c.requires.body)
-    (order_next i v x c.self.view_is c.self.invariant (order_paged_in v.settings.bounces v.settings.pool Out.Done v.settings.node v.settings.id (state_after v) x c.requires.allowed))
+    (came i v x v.settings.node v.settings.id c.head.result c.args.body c.self.view_is c.requires.allowed.event c.requires.allowed.is_outcome c.head.ensures
+    c.requires.body)
+    (order_next i v x c.self.view_is c.self.invariant (order_paged_in v.settings.bounces v.settings.pool Out.Done v.settings.node v.settings.id (state_after v)
+    x c.requires.allowed))

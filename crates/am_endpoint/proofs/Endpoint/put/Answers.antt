@@ -7,7 +7,8 @@ use Rattle.am_endpoint.proofs.Keeping.{arrival_keeps}
 use Rattle.am_endpoint.proofs.Endpoint.put.Goals as goal
 
 pub note-requires-clause-keeps : goal.note-requires-clause-keeps
-note-requires-clause-keeps c = order_arrived c.args.self.now.settings.bounces c.args.self.now.settings.pool c.args.self.now.settings.id (state_after c.args.self.now) c.args.entry c.requires.allowed
+note-requires-clause-keeps c = order_arrived c.args.self.now.settings.bounces c.args.self.now.settings.pool c.args.self.now.settings.id
+    (state_after c.args.self.now) c.args.entry c.requires.allowed
 
 pub note-requires-clause-change : goal.note-requires-clause-change
 note-requires-clause-change c =
@@ -16,7 +17,8 @@ note-requires-clause-change c =
     ∙ ap (λ (wanted : Bool). with_wanted s wanted) (sym c.wanted_after-wanted.ensures)
 
 pub enter-requires-clause-keeps : goal.enter-requires-clause-keeps
-enter-requires-clause-keeps c = order_arrived c.args.self.now.settings.bounces c.args.self.now.settings.pool c.args.self.now.settings.id (state_after c.args.self.now) c.args.entry c.requires.allowed
+enter-requires-clause-keeps c = order_arrived c.args.self.now.settings.bounces c.args.self.now.settings.pool c.args.self.now.settings.id
+    (state_after c.args.self.now) c.args.entry c.requires.allowed
 
 pub enter-requires-clause-stays : goal.enter-requires-clause-stays
 enter-requires-clause-stays c = arrival_keeps c.args.self.now.settings.id (state_after c.args.self.now) c.args.entry c.requires.allowed

@@ -13,7 +13,8 @@ pub fly_front-slot-requires : goal.fly_front-slot-requires
 fly_front-slot-requires c =
     let i = c.self.inside in
     let f = c.in-Here.fields in
-    (bound_here i c.args.self.now f c.args.entry c.self.view_is (here_of i.settings.pool (replayed i) i.held f c.self.invariant.held c.in-Here.is) c.requires.allowed).some
+    (bound_here i c.args.self.now f c.args.entry c.self.view_is (here_of i.settings.pool (replayed i) i.held f c.self.invariant.held c.in-Here.is)
+    c.requires.allowed).some
 
 pub invariant_of-self : goal.invariant_of-self
 invariant_of-self c =
@@ -22,7 +23,8 @@ invariant_of-self c =
     let x = c.args.entry in
     let f = c.in-Here.fields in
     let here = here_of i.settings.pool (replayed i) i.held f c.self.invariant.held c.in-Here.is in
-    let order = order_next i v x c.self.view_is c.self.invariant (order_bound v.settings.bounces v.settings.pool v.settings.node v.settings.id (state_after v) x c.requires.allowed) in
+    let order = order_next i v x c.self.view_is c.self.invariant (order_bound v.settings.bounces v.settings.pool v.settings.node v.settings.id (state_after v) x
+    c.requires.allowed) in
     let items : c.push_reserved.new.self.items ≡ i.log.items ++ x ∷ [] = grind (arith, common_steps) in
     let room : length i.log.items < i.settings.log = subst (λ (w : EndpointView). length w.log < w.settings.log) (sym c.self.view_is) c.requires.room in
     entered i (Here c.fly_front-slot.new.self) c.push_reserved.new.self x c.self.invariant items room

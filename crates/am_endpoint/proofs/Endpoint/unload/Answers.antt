@@ -11,7 +11,8 @@ enter-requires-clause-here c = framed_not_on_disk (state_after c.args.self.now).
 
 pub enter-requires-clause-keeps : goal.enter-requires-clause-keeps
 enter-requires-clause-keeps c =
-    order_unloaded c.args.self.now.settings.bounces c.args.self.now.settings.pool c.args.self.now.settings.node c.args.self.now.settings.id (state_after c.args.self.now) c.args.entry c.requires.allowed
+    order_unloaded c.args.self.now.settings.bounces c.args.self.now.settings.pool c.args.self.now.settings.node c.args.self.now.settings.id
+    (state_after c.args.self.now) c.args.entry c.requires.allowed
 
 pub enter-requires-clause-stays : goal.enter-requires-clause-stays
 enter-requires-clause-stays c = ap (λ (event : Event). keeps_flights event c.args.entry.outcome) c.requires.allowed.event

@@ -1,7 +1,7 @@
 use Rattle.std.specs.Option.{option_map}
 use Rattle.std.proofs.Common.{Option, ap, ◌∙◌}
 use Rattle.am_channel.specs.declared.sending.Bound.{Bound}
-use Rattle.am_local.specs.Interface.{channel_in}
+use Rattle.am_model_parts.specs.Interface.{channel_in}
 use Rattle.am_iface.specs.View.{own}
 use Rattle.am_iface.proofs.Untouched.{idle_is}
 use Rattle.am_iface.proofs.Interface.bound.Goals as goal

@@ -2,7 +2,7 @@ use Rattle.std.specs.Prelude.{Err}
 use Rattle.std.proofs.Common.{◌≡◌, ◌<◌, [], ◌∷◌, ◌++◌, length, get_or, sym, ap, ◌∙◌, subst, arith}
 use Rattle.std.proofs.lemmas.Grind.{common_steps}
 use Rattle.am_channel.specs.declared.ends.Ends.{Ends}
-use Rattle.am_local.specs.Interface.{channel_in}
+use Rattle.am_model_parts.specs.Interface.{channel_in}
 use Rattle.am_iface.specs.Made.{IsMade}
 use Rattle.am_iface.specs.View.{InterfaceView, own}
 use Rattle.am_model.specs.declared.EntryFault.TheVariants as Faults
@@ -19,15 +19,22 @@ returns-in-Err-clause-full c =
 pub write-requires-clause-count : goal.write-requires-clause-count
 write-requires-clause-count c =
     let counts = c.self.inside.emissions.items in
-    omega (arith, entering.count_within c.self.inside c.args.self.now c.args.peer (get_or counts c.args.peer.0 0) c.emits.result c.self.view_is c.self.invariant c.requires.peer (entering.read_same counts c.args.peer.0 0))
+    omega (
+      arith,
+      entering.count_within c.self.inside c.args.self.now c.args.peer (get_or counts c.args.peer.0 0) c.emits.result c.self.view_is c.self.invariant
+          c.requires.peer (entering.read_same counts c.args.peer.0 0),
+    )
 
 pub invariant_of-self-in-Ok : goal.invariant_of-self-in-Ok
 invariant_of-self-in-Ok c =
     let v = c.args.self.now in
     let items : c.push_reserved.new.self.items ≡ c.self.inside.log.items ++ c.args.entry.now ∷ [] = grind (arith, common_steps) in
-    let room : length c.self.inside.log.items < c.self.inside.limits.log = subst (λ (w : InterfaceView). length w.log < w.settings.log) (sym c.self.view_is) c.in_default.ensures.here in
-    let made = subst (λ (ends : Ends). IsMade (channel_in (own v) c.args.peer c.args.channel) v.log ends c.args.entry.now) (sym c.bind.ensures) (c.requires.made c.take.result) in
-    entering.entered_seen c.self.inside v c.args.peer c.args.channel c.bind.new.ends c.args.entry.now c.emits.result c.write.new.all.items c.write.new.emissions.items c.push_reserved.new.self.items c.self.view_is c.self.invariant c.requires.peer c.requires.channel room made
+    let room : length c.self.inside.log.items < c.self.inside.limits.log =
+    subst (λ (w : InterfaceView). length w.log < w.settings.log) (sym c.self.view_is) c.in_default.ensures.here in
+    let made = subst (λ (ends : Ends). IsMade (channel_in (own v) c.args.peer c.args.channel) v.log ends c.args.entry.now) (sym c.bind.ensures)
+    (c.requires.made c.take.result) in
+    entering.entered_seen c.self.inside v c.args.peer c.args.channel c.bind.new.ends c.args.entry.now c.emits.result c.write.new.all.items
+    c.write.new.emissions.items c.push_reserved.new.self.items c.self.view_is c.self.invariant c.requires.peer c.requires.channel room made
     (record { emits = c.emits.ensures; ends = c.write.ensures.ends; emissions = c.write.ensures.emissions; log = items })
 
 pub returns-in-Ok-clause-flights : goal.returns-in-Ok-clause-flights

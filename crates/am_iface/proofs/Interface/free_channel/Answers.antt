@@ -17,7 +17,8 @@ loop-channel-preserved c =
     let below : k < v.settings.channels = omega (arith, c.loop-channel-test.true, c.channels-channels.ensures) in
     let busy : is_some c.bound.result ≡ true = c.if-is_none.ensures in
     c.loop-channel.invariant
-    ∙ frees.busy_on v.settings.node c.args.peer v.log k v.settings.channels below (frees.bound_is (channel_to v.settings.node c.args.peer k) v.log c.bound.result c.bound.ensures.message ∙ busy)
+    ∙ frees.busy_on v.settings.node c.args.peer v.log k v.settings.channels below (frees.bound_is (channel_to v.settings.node c.args.peer k) v.log
+    c.bound.result c.bound.ensures.message ∙ busy)
 
 pub returns-then-is_none : goal.returns-then-is_none
 returns-then-is_none c =
@@ -26,7 +27,8 @@ returns-then-is_none c =
     let below : k < v.settings.channels = omega (arith, c.loop-channel-test.true, c.channels-channels.ensures) in
     let idle : is_some c.bound.result ≡ false = c.if-is_none.ensures in
     sym (c.loop-channel.invariant
-    ∙ frees.idle_at v.settings.node c.args.peer v.log k v.settings.channels below (frees.bound_is (channel_to v.settings.node c.args.peer k) v.log c.bound.result c.bound.ensures.message ∙ idle))
+    ∙ frees.idle_at v.settings.node c.args.peer v.log k v.settings.channels below (frees.bound_is (channel_to v.settings.node c.args.peer k) v.log
+    c.bound.result c.bound.ensures.message ∙ idle))
 
 pub returns : goal.returns
 returns c =

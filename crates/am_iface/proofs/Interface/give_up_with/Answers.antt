@@ -1,6 +1,6 @@
 use Rattle.std.specs.Prelude.{not}
 use Rattle.am_model.specs.Channels.{bound_message}
-use Rattle.am_local.specs.Interface.{channel_in, has_try_left}
+use Rattle.am_model_parts.specs.Interface.{channel_in, has_try_left}
 use Rattle.am_iface.specs.View.{own}
 use Rattle.am_iface.proofs.Touching as touching
 use Rattle.am_iface.proofs.Interface.give_up_with.Goals as goal

@@ -5,7 +5,8 @@ use Rattle.am_iface.proofs.Interface.make_with.Goals as goal
 
 pub returns : goal.returns
 returns c =
-    let turns = subst (λ (n : ℕ). TurnsWith c.args.self.now c.work_with.new.self c.args.endpoint.now c.work_with.new.endpoint n c.args.work.now c.work_with.result) c.stamp_with-stamp.ensures c.work_with.ensures in
+    let turns = subst (λ (n : ℕ). TurnsWith c.args.self.now c.work_with.new.self c.args.endpoint.now c.work_with.new.endpoint n c.args.work.now
+    c.work_with.result) c.stamp_with-stamp.ensures c.work_with.ensures in
     record {
       logged = turns.logged;
       logged_there = turns.there;

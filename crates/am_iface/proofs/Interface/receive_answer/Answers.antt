@@ -1,5 +1,5 @@
 use Rattle.am_model.specs.Channels.{bound_message}
-use Rattle.am_local.specs.Interface.{channel_in, settles}
+use Rattle.am_model_parts.specs.Interface.{channel_in, settles}
 use Rattle.am_iface.specs.View.{own}
 use Rattle.am_iface.proofs.Touching as touching
 use Rattle.am_iface.proofs.Interface.receive_answer.Goals as goal

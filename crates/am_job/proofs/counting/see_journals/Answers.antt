@@ -1,5 +1,5 @@
 use Rattle.std.proofs.Common.{ℕ, List, []}
-use Rattle.am_words.specs.Counts.{Tells}
+use Rattle.am_job_words.specs.Counts.{Tells}
 use Rattle.am_job.proofs.Sent.{all_seen, see_round}
 use Rattle.am_job.proofs.counting.see_journals.Goals as goal
 
@@ -8,7 +8,8 @@ loop-journal-init c = λ (asked : List (List ℕ)) (tells : Tells c.args.tally.n
 
 pub loop-journal-preserved : goal.loop-journal-preserved
 loop-journal-preserved c = λ (asked : List (List ℕ)) (tells : Tells c.args.tally.now asked []).
-    see_round asked c.args.journals.now c.loop-journal.journal-index c.journal-item.result c.loop-journal.tally c.see_journal.new.self c.loop-journal-test.true c.journal-item.is c.in_ok-see_journal.ensures (c.loop-journal.invariant asked tells)
+    see_round asked c.args.journals.now c.loop-journal.journal-index c.journal-item.result c.loop-journal.tally c.see_journal.new.self c.loop-journal-test.true
+    c.journal-item.is c.in_ok-see_journal.ensures (c.loop-journal.invariant asked tells)
 
 pub returns : goal.returns
 returns c = λ (asked : List (List ℕ)) (tells : Tells c.args.tally.now asked []).

@@ -1,5 +1,5 @@
 use Rattle.std.proofs.Common.{◌≡◌}
-use Rattle.am_job.specs.Rounds.{ends_below}
+use Rattle.am_job.proofs.Below.{ends_below}
 use Rattle.am_job.proofs.scenario.make_ends.Given as goal
 
 abbrev pub invariant-loop-id : goal.invariant-loop-id

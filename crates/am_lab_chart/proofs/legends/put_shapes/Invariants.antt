@@ -4,4 +4,5 @@ use Rattle.am_lab_chart.specs.Legends.{drawn_as, shape}
 use Rattle.am_lab_chart.proofs.legends.put_shapes.Given as goal
 
 abbrev pub invariant-loop-shape : goal.invariant-loop-shape
-invariant-loop-shape l = l.out.items ++ printed (each (shape l.scale) (map drawn_as (drop l.shape-index l.shapes))) ≡ l.fn.out.items ++ printed (each (shape l.scale) (map drawn_as l.shapes))
+invariant-loop-shape l = l.out.items ++ printed (each (shape l.scale) (map drawn_as (drop l.shape-index l.shapes))) ≡ l.fn.out.items ++ printed
+    (each (shape l.scale) (map drawn_as l.shapes))

@@ -7,5 +7,6 @@ abbrev pub invariant-loop-row : goal.invariant-loop-row
 invariant-loop-row l =
     record {
       line : l.line ≡ l.first + l.row-index;
-      out : l.out.items ++ printed (numbered (row_of l.picture l.left) l.line (drop l.row-index l.entries)) ≡ l.fn.out.items ++ printed (numbered (row_of l.picture l.left) l.first l.entries);
+      out : l.out.items ++ printed (numbered (row_of l.picture l.left) l.line (drop l.row-index l.entries)) ≡ l.fn.out.items ++ printed
+          (numbered (row_of l.picture l.left) l.first l.entries);
     }

@@ -4,4 +4,5 @@ use Rattle.am_lab_chart.specs.Ways.{cross}
 use Rattle.am_lab_chart.proofs.ways.put_crosses.Given as goal
 
 abbrev pub invariant-loop-cross : goal.invariant-loop-cross
-invariant-loop-cross l = l.out.items ++ printed (each (cross l.picture l.left) (drop l.cross-index l.crosses)) ≡ l.fn.out.items ++ printed (each (cross l.picture l.left) l.crosses)
+invariant-loop-cross l = l.out.items ++ printed (each (cross l.picture l.left) (drop l.cross-index l.crosses)) ≡ l.fn.out.items ++ printed
+    (each (cross l.picture l.left) l.crosses)

@@ -17,4 +17,6 @@ chart-requires c =
 
 pub returns-in-Err : goal.returns-in-Err
 returns-in-Err c =
-    refusal_shown c.in-Err.fault c.refused.result (Shows c.args.form c.args.bytes.now c.args.part) (λ (o : Output) (shown : Result PictureLists PictureFault). answer_in o ≡ drawing_of shown) c.in-Err.ensures c.refused.ensures.told c.refused.ensures.starved
+    refusal_shown c.in-Err.fault c.refused.result (Shows c.args.form c.args.bytes.now c.args.part)
+    (λ (o : Output) (shown : Result PictureLists PictureFault). answer_in o ≡ drawing_of shown) c.in-Err.ensures c.refused.ensures.told
+    c.refused.ensures.starved

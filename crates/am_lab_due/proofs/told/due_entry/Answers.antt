@@ -1,10 +1,10 @@
 use Rattle.std.proofs.Common.{◌≡◌, ◌∷◌, List, sym, ap, ◌∙◌}
-use Rattle.am_drain.specs.Made.{next_entry}
-use Rattle.am_journal_lines.specs.Reading.{event_of}
+use Rattle.am_model_drain.specs.Made.{next_entry}
+use Rattle.am_check_lines.specs.Reading.{event_of}
 use Rattle.am_model.specs.Layout.{Layout}
 use Rattle.am_office.specs.declared.Entry.{Entry}
 use Rattle.am_office.specs.declared.Event.{Event}
-use Rattle.am_scripts.specs.Layout.{layout_of}
+use Rattle.am_model_scripts.specs.Layout.{layout_of}
 use Rattle.am_lab_due.specs.Due.{DueEntry}
 use Rattle.am_lab_due.specs.Texts.{due_entry}
 use Rattle.am_lab_due.proofs.Stopped.{lines_at, one_event, place_at, range_at, text_told}
@@ -14,23 +14,29 @@ pub reach-requires-clause-place : goal.reach-requires-clause-place
 reach-requires-clause-place c =
     let h = c.requires.event.1 in
     let t = h.tells in
-    place_at c.requires.event.0 c.args.scenario.now c.requires.lawful c.args.bytes.now c.args.line h.journal (t.line ∷ t.left) t.at c.in_ok-cluster.cluster.layout c.in_ok-cluster.ensures.layout
+    place_at c.requires.event.0 c.args.scenario.now c.requires.lawful c.args.bytes.now c.args.line h.journal (t.line ∷ t.left) t.at
+    c.in_ok-cluster.cluster.layout c.in_ok-cluster.ensures.layout
 
 pub apply-requires : goal.apply-requires
 apply-requires c =
     let s = c.args.scenario.now in
     let h = c.requires.event.1 in
     let t = h.tells in
-    let are = lines_at c.requires.event.0 s c.requires.lawful c.args.bytes.now c.args.line h.journal (t.line ∷ t.left) t.at c.in_ok-cluster.cluster.layout c.in_ok-cluster.ensures.layout in
+    let are = lines_at c.requires.event.0 s c.requires.lawful c.args.bytes.now c.args.line h.journal (t.line ∷ t.left) t.at c.in_ok-cluster.cluster.layout
+    c.in_ok-cluster.ensures.layout in
     let got = c.in_ok-lines.ensures.reached h.journal (t.line ∷ t.left) are t.at.number' in
     let same = one_event c.in-Some.event h.event (event_of t.line) (c.in-Some.ensures t.line t.left got.1) t.told in
-    record { in_range = range_at c.reach.new.cluster.layout (layout_of s) c.in-Some.event h.event (c.in_ok-lines.ensures.layout ∙ c.in_ok-cluster.ensures.layout) same t.in_range }
+    record {
+      in_range = range_at c.reach.new.cluster.layout (layout_of s) c.in-Some.event h.event (c.in_ok-lines.ensures.layout
+          ∙ c.in_ok-cluster.ensures.layout) same t.in_range;
+    }
 
 pub returns-in-Ok : goal.returns-in-Ok
 returns-in-Ok c = λ form h.
     let s = c.args.scenario.now in
     let t = h.tells in
-    let are = lines_at form s c.requires.lawful c.args.bytes.now c.args.line h.journal (t.line ∷ t.left) t.at c.in_ok-cluster.cluster.layout c.in_ok-cluster.ensures.layout in
+    let are = lines_at form s c.requires.lawful c.args.bytes.now c.args.line h.journal (t.line ∷ t.left) t.at c.in_ok-cluster.cluster.layout
+    c.in_ok-cluster.ensures.layout in
     let got = c.in_ok-lines.ensures.reached h.journal (t.line ∷ t.left) are t.at.number' in
     let same = one_event c.in-Some.event h.event (event_of t.line) (c.in-Some.ensures t.line t.left got.1) t.told in
     let layout = c.in_ok-lines.ensures.layout ∙ c.in_ok-cluster.ensures.layout in

@@ -2,14 +2,15 @@ use Rattle.std.proofs.Common.{◌≡◌, ◌-◌, ℕ, List, ap, ◌∙◌}
 use Rattle.std.specs.Prelude.{slice_get}
 use Rattle.am_check.specs.Follows.{ids_of}
 use Rattle.am_lexer.specs.Text.{lines_of}
-use Rattle.am_report.specs.Report.{report}
+use Rattle.am_office_report.specs.Report.{report}
 use Rattle.am_lab_due.specs.Texts.{due_line}
 use Rattle.am_lab_due.proofs.Stopped.{end_at, has_end}
 use Rattle.am_lab_due.proofs.told.due_line.Goals as goal
 
 pub reach_end-requires-clause-end : goal.reach_end-requires-clause-end
 reach_end-requires-clause-end c =
-    has_end c.requires.journal.0 c.args.scenario.now c.requires.lawful c.args.bytes.now c.requires.journal.1 c.requires.journal.2 c.in_ok-cluster.cluster.layout c.in_ok-cluster.ensures.layout
+    has_end c.requires.journal.0 c.args.scenario.now c.requires.lawful c.args.bytes.now c.requires.journal.1 c.requires.journal.2 c.in_ok-cluster.cluster.layout
+    c.in_ok-cluster.ensures.layout
 
 pub returns-in-Ok : goal.returns-in-Ok
 returns-in-Ok c = λ form journal h.
@@ -20,5 +21,6 @@ returns-in-Ok c = λ form journal h.
       journal = journal;
       has = h;
       text = c.in-Ok.ensures
-          ∙ ap (λ (t : List ℕ). due_line (slice_get (lines_of t) (c.args.line - 1))) (c.deref.ensures.value ∙ c.in_ok-text.ensures ∙ ap (report (ids_of s)) got);
+          ∙ ap (λ (t : List ℕ). due_line (slice_get (lines_of t) (c.args.line - 1))) (c.deref.ensures.value ∙ c.in_ok-text.ensures
+          ∙ ap (report (ids_of s)) got);
     }

@@ -1,5 +1,5 @@
 use Rattle.std.proofs.Common.{◌≡◌}
-use Rattle.am_scripts.specs.Layout.{layout_of}
+use Rattle.am_model_scripts.specs.Layout.{layout_of}
 use Rattle.am_lab_due.proofs.Following.{IsHalfway}
 use Rattle.am_lab_due.proofs.told.follow.Given as goal
 

@@ -1,5 +1,5 @@
 use Rattle.std.proofs.Common.{◌≡◌, ◌<◌, ◌+◌, ◌++◌, ◌∷◌, [], List, true, sym, ap, ◌∙◌, subst}
-use Rattle.am_drain.specs.Made.{next_entry}
+use Rattle.am_model_drain.specs.Made.{next_entry}
 use Rattle.am_lexer.specs.Text.{lines_of}
 use Rattle.am_machine.specs.View.{ClusterView}
 use Rattle.am_model.specs.History.{is_in_range}
@@ -16,7 +16,8 @@ make-requires c =
     let event = c.in-Some-parse_line.told.event in
     let told = c.in-Some-parse_line.ensures.exact in
     let below : c.loop-place.place < c.args.count = c.loop-place-test.true in
-    let on = goes_on v.layout r.journal r.left c.args.count c.loop-place.place n.journal (lines_of c.loop-place.rest.now) c.in-Some.line.now (lines_of c.in-Some.after.now) event
+    let on = goes_on v.layout r.journal r.left c.args.count c.loop-place.place n.journal (lines_of c.loop-place.rest.now) c.in-Some.line.now
+    (lines_of c.in-Some.after.now) event
     (c.loop-place.invariant.left r.journal r.left r.are r.count') below c.in-Some.ensures.first told in
     record { in_range = subst (λ (l : Layout). is_in_range l event ≡ true) (sym c.loop-place.invariant.layout) on.in_range' }
 
@@ -29,7 +30,8 @@ loop-place-preserved c =
     let below : c.loop-place.place < c.args.count = c.loop-place-test.true in
     let after = lines_of c.in-Some.after.now in
     let made = c.in-Ok.ensures.1 in
-    let journal' = ap (λ (w : ClusterView). w.journal) made ∙ ap (λ (l : Layout). n.journal ++ next_entry l n.journal event ∷ []) c.loop-place.invariant.layout in
+    let journal' = ap (λ (w : ClusterView). w.journal) made ∙ ap (λ (l : Layout). n.journal ++ next_entry l n.journal event ∷ []) c.loop-place.invariant.layout
+    in
     record {
       layout = ap (λ (w : ClusterView). w.layout) made ∙ c.loop-place.invariant.layout;
       left = λ journal left are long.

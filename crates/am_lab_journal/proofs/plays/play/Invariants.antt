@@ -9,5 +9,6 @@ abbrev pub invariant-loop-place : goal.invariant-loop-place
 invariant-loop-place l =
     record {
       layout : l.cluster.layout ≡ l.fn.cluster.layout;
-      left : (journal : List Entry) (left : List (List ℕ)) → AreLines l.fn.cluster.layout (lines_of l.lines) journal left → length journal ≡ l.count → IsLeft l.fn.cluster.layout journal left l.count l.place l.cluster.journal (lines_of l.rest);
+      left : (journal : List Entry) (left : List (List ℕ)) → AreLines l.fn.cluster.layout (lines_of l.lines) journal left → length journal ≡ l.count →
+          IsLeft l.fn.cluster.layout journal left l.count l.place l.cluster.journal (lines_of l.rest);
     }

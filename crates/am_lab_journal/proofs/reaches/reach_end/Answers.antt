@@ -8,7 +8,8 @@ pub play-requires : goal.play-requires
 play-requires c =
     record {
       fresh = c.requires.fresh;
-      lines = end_lines c.args.cluster.now.layout c.args.bytes.now (lines_of c.in-Some.lines.now) c.in-Some.count c.requires.end c.in-Some.ensures.0 c.in-Some.ensures.1;
+      lines = end_lines c.args.cluster.now.layout c.args.bytes.now (lines_of c.in-Some.lines.now) c.in-Some.count c.requires.end c.in-Some.ensures.0
+          c.in-Some.ensures.1;
     }
 
 pub returns-in-Ok-clause-reached : goal.returns-in-Ok-clause-reached

@@ -1,6 +1,6 @@
 use Rattle.std.proofs.Common.{◌≡◌, ◌+◌, ◌++◌, drop}
 use Rattle.am_lab_picture.specs.Arrows.{cross}
-use Rattle.am_lab_picture.specs.Numbered.{numbered}
+use Rattle.am_lemmas.specs.Numbered.{numbered}
 use Rattle.am_lab_picture.proofs.packets.crosses.Given as goal
 
 abbrev pub invariant-loop-entry : goal.invariant-loop-entry

@@ -1,9 +1,9 @@
 use Rattle.std.proofs.Common.{◌≡◌, [], ◌∷◌, ◌++◌, OnOk, codes, subst}
 use Rattle.std.specs.Fmt.{decimal}
-use Rattle.am_text.specs.Pieces.{word_of}
-use Rattle.am_text.specs.Words.{spaced}
-use Rattle.am_text.specs.declared.pieces.Piece.{Piece}
-use Rattle.am_lab_reasons.proofs.Numbering.{both_put}
+use Rattle.am_office_text.specs.Pieces.{word_of}
+use Rattle.am_office_text.specs.Words.{spaced}
+use Rattle.am_office_text.specs.declared.pieces.Piece.{Piece}
+use Rattle.am_lab_reasons.proofs.Joined.{both_put}
 use Rattle.am_lab_reasons.proofs.packets.put_late.Goals as goal
 
 pub returns : goal.returns

@@ -1,5 +1,5 @@
 use Rattle.std.proofs.Common.{◌≡◌, ◌+◌, ◌++◌, drop}
-use Rattle.am_lab_reasons.specs.Numbered.{numbered}
+use Rattle.am_lemmas.specs.Numbered.{numbered}
 use Rattle.am_lab_reasons.specs.Reasons.{touching_lines}
 use Rattle.am_lab_reasons.proofs.told.put_touched.Given as goal
 
@@ -7,5 +7,6 @@ abbrev pub invariant-loop-entry : goal.invariant-loop-entry
 invariant-loop-entry l =
     record {
       line : l.line ≡ l.entry-index + 3;
-      out : l.out.items ++ numbered (touching_lines l.plan l.entries l.serial) l.line (drop l.entry-index l.entries) ≡ l.fn.out.items ++ numbered (touching_lines l.plan l.entries l.serial) 3 l.entries;
+      out : l.out.items ++ numbered (touching_lines l.plan l.entries l.serial) l.line (drop l.entry-index l.entries) ≡ l.fn.out.items ++ numbered
+          (touching_lines l.plan l.entries l.serial) 3 l.entries;
     }

@@ -1,5 +1,5 @@
 use Rattle.std.proofs.Common.{◌≡◌, ◌++◌, take}
-use Rattle.am_text.specs.Words.{spaced}
+use Rattle.am_office_text.specs.Words.{spaced}
 use Rattle.am_lab_scenario.specs.Texts.{member_words}
 use Rattle.am_lab_scenario.proofs.lines.put_members.Given as goal
 

@@ -7,9 +7,13 @@ use Rattle.am_lab_scenario.proofs.Replayed.{joined, text_is, replay_is_read}
 use Rattle.am_lab_scenario.proofs.replay.replay_text.Goals as goal
 
 pub returns-clause-exact : goal.returns-clause-exact
-returns-clause-exact c = joined _ _ _ _ _ _ _ c.new-out.ensures.items c.in_ok-put_settings.ensures c.in_ok-put_unplanned.ensures c.in_ok-put_journal.ensures ∙ text_is c.args.scenario.now c.args.journal.now
+returns-clause-exact c = joined _ _ _ _ _ _ _ c.new-out.ensures.items c.in_ok-put_settings.ensures c.in_ok-put_unplanned.ensures c.in_ok-put_journal.ensures
+    ∙ text_is c.args.scenario.now c.args.journal.now
 
 pub returns-clause-spells : goal.returns-clause-spells
 returns-clause-spells c lawful may =
-    let text : c.put_journal.new.out.items ≡ scenario_text (step_script c.args.scenario.now c.args.journal.now) = joined _ _ _ _ _ _ _ c.new-out.ensures.items c.in_ok-put_settings.ensures c.in_ok-put_unplanned.ensures c.in_ok-put_journal.ensures ∙ text_is c.args.scenario.now c.args.journal.now in
-    subst (λ (bytes : List ℕ). Spells Step bytes (replayed c.args.scenario.now c.args.journal.now)) (sym text) (replay_is_read c.args.scenario.now c.args.journal.now lawful may)
+    let text : c.put_journal.new.out.items ≡ scenario_text (step_script c.args.scenario.now c.args.journal.now) =
+    joined _ _ _ _ _ _ _ c.new-out.ensures.items c.in_ok-put_settings.ensures c.in_ok-put_unplanned.ensures c.in_ok-put_journal.ensures
+    ∙ text_is c.args.scenario.now c.args.journal.now in
+    subst (λ (bytes : List ℕ). Spells Step bytes (replayed c.args.scenario.now c.args.journal.now)) (sym text)
+    (replay_is_read c.args.scenario.now c.args.journal.now lawful may)

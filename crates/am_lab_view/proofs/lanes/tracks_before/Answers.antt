@@ -9,4 +9,6 @@ returns-clause-tracks c =
     let a = c.args.cluster.now in
     let last = length c.args.entries.now + 2 in
     restarted a.layout 2 last a.journal c.args.entries.now c.follow.new.tracks c.in_ok-begun.begun.items c.requires.fresh c.in_ok-follow.ensures.followed
-    (c.in_ok-begun.ensures ∙ ap (λ (ts : List LaneTracked). map (λ (t : LaneTracked). lane_begun (lane_value t) last) ts) (c.deref.ensures.value ∙ written_back c.in_ok-tracks.tracks.len c.follow.new.tracks (drop (length c.follow.new.tracks) c.in_ok-tracks.tracks.items) (c.follow.auto.tracks ∙ c.deref_mut.ensures.len)))
+    (c.in_ok-begun.ensures ∙ ap (λ (ts : List LaneTracked). map (λ (t : LaneTracked). lane_begun (lane_value t) last) ts) (c.deref.ensures.value
+    ∙ written_back c.in_ok-tracks.tracks.len c.follow.new.tracks (drop (length c.follow.new.tracks) c.in_ok-tracks.tracks.items) (c.follow.auto.tracks
+    ∙ c.deref_mut.ensures.len)))

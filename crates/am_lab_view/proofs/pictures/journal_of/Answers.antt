@@ -21,4 +21,4 @@ returns c = λ form r.
     let t = reported form c.args.scenario.now c.requires.lawful c.args.bytes.now c.requires.few r in
     let are = subst (λ (l : Layout). AreLines l (drop 2 (lines_of c.args.bytes.now)) r.journal t.left) (sym c.in_ok-cluster.ensures.layout) t.are in
     let is = c.in_ok-reach_end.ensures.reached r.journal t.left are t.count in
-    same_if c.journal.result c.reach_end.new.cluster.journal r.journal is c.journal.ensures.journal
+    same_if c.copied.result c.in_ok-logged.logged r.journal (c.in_ok-logged.ensures.journal ∙ is) c.copied.ensures

@@ -1,7 +1,7 @@
 use Rattle.std.proofs.Common.{◌≡◌, List, [], Err, length, inl, inr, ⊎_elim, sym, ap, ◌∙◌, subst, arith}
 use Rattle.am_model.specs.History.{EachAfter}
 use Rattle.am_office.specs.declared.Entry.{Entry}
-use Rattle.am_scripts.specs.Layout.{layout_of}
+use Rattle.am_model_scripts.specs.Layout.{layout_of}
 use Rattle.am_lab_journal.specs.Lines.{IsMadeAgain}
 use Rattle.am_lab_reasons.proofs.Reported.{reported}
 use Rattle.am_lab_view.specs.Parts.{lines_of}

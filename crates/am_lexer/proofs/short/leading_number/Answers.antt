@@ -6,7 +6,8 @@ use Rattle.am_lexer.proofs.short.leading_number.Goals as goal
 
 pub returns-then-i-gt0 : goal.returns-then-i-gt0
 returns-then-i-gt0 c =
-    rw rest_is (at_space c.args.text.now c.loop-i.i c.loop-i.number (omega arith) c.loop-i-test.true c.if-byte-eq32.true (omega arith) c.loop-i.invariant.spelled)
+    rw rest_is (at_space c.args.text.now c.loop-i.i c.loop-i.number (omega arith) c.loop-i-test.true c.if-byte-eq32.true (omega arith)
+    c.loop-i.invariant.spelled)
 
 pub loop-i-preserved : goal.loop-i-preserved
 loop-i-preserved c =

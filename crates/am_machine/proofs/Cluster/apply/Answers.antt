@@ -1,5 +1,5 @@
 use Rattle.std.proofs.Common.{refl, sym, ap}
-use Rattle.am_drain.specs.Made.{next_entry}
+use Rattle.am_model_drain.specs.Made.{next_entry}
 use Rattle.am_machine.specs.View.{ClusterView}
 use Rattle.am_machine.proofs.LastMade as lasts
 use Rattle.am_machine.proofs.Making.{applied_as}
@@ -10,7 +10,8 @@ returns-in-Some c =
     let v = c.args.self.now in
     let x = next_entry v.layout v.journal c.args.event.now in
     let read = c.last_of.ensures v.journal x (ap (λ (w : ClusterView). w.journal) c.in-Ok.ensures.1) refl in
-    applied_as v c.make.new.self c.args.event.now tt c.in-Some.entry.now c.in-Ok.ensures (sym (lasts.read_last c.last_of.result c.in-Some.entry x read c.in-Some.is))
+    applied_as v c.make.new.self c.args.event.now tt c.in-Some.entry.now c.in-Ok.ensures
+    (sym (lasts.read_last c.last_of.result c.in-Some.entry x read c.in-Some.is))
 
 pub unreachable-requires : goal.unreachable-requires
 unreachable-requires c =

@@ -1,6 +1,6 @@
 use Rattle.std.proofs.Common.{map, ap, ◌∙◌}
 use Rattle.am_model.specs.Channels.{emitted}
-use Rattle.am_moves.specs.Logs.{kept}
+use Rattle.am_driver_moves.specs.Logs.{kept}
 use Rattle.am_machine.specs.Kept.{journal_by}
 use Rattle.am_machine.specs.View.{ClusterView}
 use Rattle.am_machine.proofs.Cluster.emitted.Goals as goal

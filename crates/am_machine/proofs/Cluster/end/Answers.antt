@@ -1,7 +1,7 @@
 use Rattle.std.specs.List.{position}
 use Rattle.std.proofs.Common.{◌≡◌, false, map, None, Some, refl, sym, ap, ◌∙◌, subst}
 use Rattle.am_model.specs.Layout.{declared}
-use Rattle.am_moves.specs.Logs.{kept}
+use Rattle.am_driver_moves.specs.Logs.{kept}
 use Rattle.am_machine.specs.Ends.{is_of}
 use Rattle.am_machine.specs.Kept.{journal_by, layout_in}
 use Rattle.am_machine.specs.View.{ClusterView}

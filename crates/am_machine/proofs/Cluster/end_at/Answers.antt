@@ -1,5 +1,5 @@
 use Rattle.std.proofs.Common.{◌<◌, map, length, refl, ap, subst, arith}
-use Rattle.am_moves.specs.Logs.{kept}
+use Rattle.am_driver_moves.specs.Logs.{kept}
 use Rattle.am_machine.specs.Kept.{journal_by, layout_in}
 use Rattle.am_machine.specs.View.{ClusterView}
 use Rattle.am_machine.proofs.Placed.{IsPlaced, as_many, end_placed}
@@ -14,7 +14,8 @@ returns-clause-setting c =
     let same = ap (λ (w : ClusterView). length w.layout.ends) c.self.view_is in
     let all = as_many layout vs refl in
     let less : c.args.index < length vs = (let within = c.requires in omega (arith, same, all, within)) in
-    (subst (λ (w : ClusterView). IsPlaced w.layout w.journal c.args.index one) c.self.view_is (end_placed layout vs journal c.args.index one refl c.self.invariant.kept'.tied less c.index.ensures)).setting
+    (subst (λ (w : ClusterView). IsPlaced w.layout w.journal c.args.index one) c.self.view_is
+    (end_placed layout vs journal c.args.index one refl c.self.invariant.kept'.tied less c.index.ensures)).setting
 
 pub returns-clause-state : goal.returns-clause-state
 returns-clause-state c =
@@ -25,4 +26,5 @@ returns-clause-state c =
     let same = ap (λ (w : ClusterView). length w.layout.ends) c.self.view_is in
     let all = as_many layout vs refl in
     let less : c.args.index < length vs = (let within = c.requires in omega (arith, same, all, within)) in
-    (subst (λ (w : ClusterView). IsPlaced w.layout w.journal c.args.index one) c.self.view_is (end_placed layout vs journal c.args.index one refl c.self.invariant.kept'.tied less c.index.ensures)).state
+    (subst (λ (w : ClusterView). IsPlaced w.layout w.journal c.args.index one) c.self.view_is
+    (end_placed layout vs journal c.args.index one refl c.self.invariant.kept'.tied less c.index.ensures)).state

@@ -1,19 +1,18 @@
-use Rattle.std.specs.Prelude.{nat_le, slice_set, Ok}
+use Rattle.std.specs.Prelude.{slice_set, Ok}
 use Rattle.std.proofs.Common.{◌≡◌, ◌++◌, ◌∷◌, [], false, true, map, length, position, refl, sym, ap, ◌∙◌, arith, subst}
 use Rattle.am_office.specs.declared.Event.{Event}
 use Rattle.am_office.specs.declared.Event.TheVariants as Events
 use Rattle.am_office.specs.Entries.{emitted_in}
 use Rattle.am_model.specs.History.{is_in_range}
-use Rattle.am_model.specs.Steps.{stop}
-use Rattle.am_journal.specs.View.{AreNodes, greatest_stamp}
-use Rattle.am_moves.specs.Logs.{kept}
+use Rattle.am_machine_index.specs.View.{AreNodes, greatest_stamp}
+use Rattle.am_driver_moves.specs.Logs.{kept}
 use Rattle.am_machine.specs.Ends.{is_of}
 use Rattle.am_machine.specs.Kept.{journal_by, layout_in}
 use Rattle.am_machine.specs.View.{ClusterView}
 use Rattle.am_machine.proofs.Applied as applied
-use Rattle.am_machine.proofs.Events.{want_stopped, want_refused}
 use Rattle.am_machine.proofs.Indexed.{made_as, indexed, indexed_counts, indexed_stamp, indexed_still, seen_still}
 use Rattle.am_machine.proofs.Places.{not_found}
+use Rattle.am_machine.proofs.Refusing.{want_on_disk, refused, room_here, runs_of, single_room, unstopped}
 use Rattle.am_machine.proofs.Tied.{kept_same}
 use Rattle.am_machine.proofs.Apart.{apart_in}
 use Rattle.am_machine.proofs.Cluster.want.Goals as goal
@@ -30,54 +29,46 @@ unreachable-requires c =
     let vs = c.self.inside.ends.items in
     let journal = journal_by (map kept vs) c.self.inside.interfaces.items in
     let layout = layout_in c.self.inside.settings c.self.inside.faults.items (map kept vs) in
-    let range : is_in_range layout (Events.Want c.args.actor c.args.end) ≡ true = ap (λ (v : ClusterView). is_in_range v.layout (Events.Want c.args.actor c.args.end)) c.self.view_is ∙ c.requires in
-    not_found vs c.args.end (sym (c.place_of.ensures ∙ ap (position (is_of c.args.end)) c.deref.ensures.value) ∙ c.in_default.is) (applied.want_declared layout c.args.actor c.args.end range)
+    let range : is_in_range layout (Events.Want c.args.actor c.args.end) ≡ true =
+    ap (λ (v : ClusterView). is_in_range v.layout (Events.Want c.args.actor c.args.end)) c.self.view_is ∙ c.requires in
+    not_found vs c.args.end (sym (c.place_of.ensures ∙ ap (position (is_of c.args.end)) c.deref.ensures.value)
+    ∙ c.in_default-place_of.is) (applied.want_declared layout c.args.actor c.args.end range)
 
-pub returns-then-not-is_on_disk : goal.returns-then-not-is_on_disk
-returns-then-not-is_on_disk c =
-    let vs = c.self.inside.ends.items in
-    let journal = journal_by (map kept vs) c.self.inside.interfaces.items in
-    let layout = layout_in c.self.inside.settings c.self.inside.faults.items (map kept vs) in
-    let here = applied.found_here vs c.args.end c.in-Some.place c.index.result.now (sym (c.place_of.ensures ∙ ap (position (is_of c.args.end)) c.deref.ensures.value) ∙ c.in-Some.is) c.index.ensures in
-    let disk = applied.disk_here layout vs journal c.args.end c.in-Some.place c.index.result.now false c.self.invariant.kept'.tied here (sym c.is_on_disk.ensures ∙ c.if-not-is_on_disk.true) in
-    (ap (λ (v : ClusterView). stop v.layout v.journal (Events.Want c.args.actor c.args.end)) (sym c.self.view_is) ∙ want_refused layout journal c.args.actor c.args.end disk, refl)
-
-pub returns-then-is_full : goal.returns-then-is_full
-returns-then-is_full c =
-    let vs = c.self.inside.ends.items in
-    let journal = journal_by (map kept vs) c.self.inside.interfaces.items in
-    let layout = layout_in c.self.inside.settings c.self.inside.faults.items (map kept vs) in
-    let here = applied.found_here vs c.args.end c.in-Some.place c.index.result.now (sym (c.place_of.ensures ∙ ap (position (is_of c.args.end)) c.deref.ensures.value) ∙ c.in-Some.is) c.index.ensures in
-    let again = applied.found_here vs c.args.end c.in-Some.place c.index-2.result.now (sym (c.place_of.ensures ∙ ap (position (is_of c.args.end)) c.deref.ensures.value) ∙ c.in-Some.is) c.index-2.ensures in
-    let disk = applied.disk_here layout vs journal c.args.end c.in-Some.place c.index.result.now true c.self.invariant.kept'.tied here (sym c.is_on_disk.ensures ∙ c.if-not-is_on_disk.false) in
-    let full = applied.full_here layout vs journal c.args.end c.in-Some.place c.index-2.result.now true c.self.invariant.kept'.tied again (sym c.is_full.ensures ∙ c.if-is_full.true) in
-    (ap (λ (v : ClusterView). stop v.layout v.journal (Events.Want c.args.actor c.args.end)) (sym c.self.view_is) ∙ want_stopped layout journal c.args.actor c.args.end disk full, refl)
+pub returns-in-Some : goal.returns-in-Some
+returns-in-Some c = refused c.args.self.now (Events.Want c.args.actor c.args.end) c.in-Some.fault (sym c.refusal_of_want.ensures ∙ c.in-Some.is)
 
 pub want-requires-clause-floor : goal.want-requires-clause-floor
-want-requires-clause-floor c = let fits = indexed_stamp c.self.inside.settings c.self.inside.faults.items (map kept c.self.inside.ends.items) c.self.inside.interfaces.items c.self.inside.swaps.items c.self.inside.index.read c.self.invariant in omega (arith, fits, c.greatest_stamp.ensures)
+want-requires-clause-floor c = let fits = indexed_stamp c.self.inside.settings c.self.inside.faults.items (map kept c.self.inside.ends.items)
+    c.self.inside.interfaces.items c.self.inside.swaps.items c.self.inside.index.read c.self.invariant in
+    omega (arith, fits, c.greatest_stamp.ensures)
 
 pub log-requires-clause-counts : goal.log-requires-clause-counts
-log-requires-clause-counts c = indexed_counts c.self.inside.settings c.self.inside.faults.items (map kept c.self.inside.ends.items) c.self.inside.interfaces.items c.self.inside.swaps.items c.self.inside.index.read c.self.invariant
+log-requires-clause-counts c = indexed_counts c.self.inside.settings c.self.inside.faults.items (map kept c.self.inside.ends.items)
+    c.self.inside.interfaces.items c.self.inside.swaps.items c.self.inside.index.read c.self.invariant
 
 pub want-requires-clause-place : goal.want-requires-clause-place
 want-requires-clause-place c =
     let vs = c.self.inside.ends.items in
     let journal = journal_by (map kept vs) c.self.inside.interfaces.items in
     let layout = layout_in c.self.inside.settings c.self.inside.faults.items (map kept vs) in
-    let here = applied.found_here vs c.args.end c.in-Some.place c.index.result.now (sym (c.place_of.ensures ∙ ap (position (is_of c.args.end)) c.deref.ensures.value) ∙ c.in-Some.is) c.index.ensures in
-    let now = applied.found_here vs c.args.end c.in-Some.place c.index_mut.result.now (sym (c.place_of.ensures ∙ ap (position (is_of c.args.end)) c.deref.ensures.value) ∙ c.in-Some.is) c.index_mut.ensures.value in
-    let disk = applied.disk_here layout vs journal c.args.end c.in-Some.place c.index.result.now true c.self.invariant.kept'.tied here (sym c.is_on_disk.ensures ∙ c.if-not-is_on_disk.false) in
-    applied.disk_there layout vs journal c.args.end c.in-Some.place c.index_mut.result.now true c.self.invariant.kept'.tied now disk
+    let runs = runs_of layout journal c.args.self.now (Events.Want c.args.actor c.args.end) c.self.view_is
+    (sym c.refusal_of_want.ensures ∙ c.in_default.is) in
+    let now = applied.found_here vs c.args.end c.in-Some-place_of.place c.index_mut.result.now (sym (c.place_of.ensures
+    ∙ ap (position (is_of c.args.end)) c.deref.ensures.value) ∙ c.in-Some-place_of.is) c.index_mut.ensures.value in
+    let disk = want_on_disk layout journal c.args.actor c.args.end runs in
+    applied.disk_there layout vs journal c.args.end c.in-Some-place_of.place c.index_mut.result.now true c.self.invariant.kept'.tied now disk
 
 pub want-requires-clause-last : goal.want-requires-clause-last
 want-requires-clause-last c =
     let vs = c.self.inside.ends.items in
     let journal = journal_by (map kept vs) c.self.inside.interfaces.items in
     let layout = layout_in c.self.inside.settings c.self.inside.faults.items (map kept vs) in
-    let now = applied.found_here vs c.args.end c.in-Some.place c.index_mut.result.now (sym (c.place_of.ensures ∙ ap (position (is_of c.args.end)) c.deref.ensures.value) ∙ c.in-Some.is) c.index_mut.ensures.value in
-    let late = applied.last_here layout vs journal c.args.end c.in-Some.place c.index_mut.result.now c.self.invariant.kept'.tied now in
+    let now = applied.found_here vs c.args.end c.in-Some-place_of.place c.index_mut.result.now (sym (c.place_of.ensures
+    ∙ ap (position (is_of c.args.end)) c.deref.ensures.value) ∙ c.in-Some-place_of.is) c.index_mut.ensures.value in
+    let late = applied.last_here layout vs journal c.args.end c.in-Some-place_of.place c.index_mut.result.now c.self.invariant.kept'.tied now in
     let same : c.greatest_stamp.result ≡ greatest_stamp journal = c.greatest_stamp.ensures ∙ c.self.invariant.index'.greatest in
-    let fits = indexed_stamp c.self.inside.settings c.self.inside.faults.items (map kept vs) c.self.inside.interfaces.items c.self.inside.swaps.items c.self.inside.index.read c.self.invariant in
+    let fits = indexed_stamp c.self.inside.settings c.self.inside.faults.items (map kept vs) c.self.inside.interfaces.items c.self.inside.swaps.items
+    c.self.inside.index.read c.self.invariant in
     omega (arith, late, c.greatest_stamp.ensures, c.self.invariant.index'.greatest, fits)
 
 pub log-requires-clause-packet : goal.log-requires-clause-packet
@@ -91,17 +82,24 @@ invariant_of-self c =
     let vs = c.self.inside.ends.items in
     let journal = journal_by (map kept vs) c.self.inside.interfaces.items in
     let layout = layout_in c.self.inside.settings c.self.inside.faults.items (map kept vs) in
-    let range : is_in_range layout (Events.Want c.args.actor c.args.end) ≡ true = ap (λ (v : ClusterView). is_in_range v.layout (Events.Want c.args.actor c.args.end)) c.self.view_is ∙ c.requires in
-    let here = applied.found_here vs c.args.end c.in-Some.place c.index.result.now (sym (c.place_of.ensures ∙ ap (position (is_of c.args.end)) c.deref.ensures.value) ∙ c.in-Some.is) c.index.ensures in
-    let again = applied.found_here vs c.args.end c.in-Some.place c.index-2.result.now (sym (c.place_of.ensures ∙ ap (position (is_of c.args.end)) c.deref.ensures.value) ∙ c.in-Some.is) c.index-2.ensures in
-    let now = applied.found_here vs c.args.end c.in-Some.place c.index_mut.result.now (sym (c.place_of.ensures ∙ ap (position (is_of c.args.end)) c.deref.ensures.value) ∙ c.in-Some.is) c.index_mut.ensures.value in
-    let disk = applied.disk_here layout vs journal c.args.end c.in-Some.place c.index.result.now true c.self.invariant.kept'.tied here (sym c.is_on_disk.ensures ∙ c.if-not-is_on_disk.false) in
-    let room = ap (λ w. nat_le c.self.inside.settings.log (length w.log)) (applied.same_here vs c.args.end c.in-Some.place c.index-2.result.now c.index_mut.result.now again now) ∙ sym c.is_full.ensures ∙ c.if-is_full.false in
+    let runs = runs_of layout journal c.args.self.now (Events.Want c.args.actor c.args.end) c.self.view_is
+    (sym c.refusal_of_want.ensures ∙ c.in_default.is) in
+    let range : is_in_range layout (Events.Want c.args.actor c.args.end) ≡ true =
+    ap (λ (v : ClusterView). is_in_range v.layout (Events.Want c.args.actor c.args.end)) c.self.view_is ∙ c.requires in
+    let now = applied.found_here vs c.args.end c.in-Some-place_of.place c.index_mut.result.now (sym (c.place_of.ensures
+    ∙ ap (position (is_of c.args.end)) c.deref.ensures.value) ∙ c.in-Some-place_of.is) c.index_mut.ensures.value in
+    let disk = want_on_disk layout journal c.args.actor c.args.end runs in
+    let room = room_here layout vs journal c.args.end c.in-Some-place_of.place c.index_mut.result.now c.self.invariant.kept'.tied now
+    (single_room layout journal (Events.Want c.args.actor c.args.end) c.args.end refl runs) in
     let next =
-    applied.want_next c.self.inside.settings c.self.inside.faults.items vs journal c.args.actor c.args.end c.in-Some.place c.index_mut.result.now c.want.new.self c.in-Ok.entry (journal ++ c.in-Ok.entry ∷ []) c.greatest_stamp.result
-    c.self.invariant.kept'.tied range now disk room c.in-Ok.ensures.event c.in-Ok.ensures.outcome c.in-Ok.ensures.stamp (c.greatest_stamp.ensures ∙ c.self.invariant.index'.greatest) c.in-Ok.ensures.settings c.in-Ok.ensures.logged refl in
-    indexed c.self.inside.settings c.self.inside.faults.items (map kept (slice_set vs c.in-Some.place c.want.new.self)) (journal ++ c.in-Ok.entry ∷ []) c.self.inside.interfaces.items c.self.inside.swaps.items c.log.new.self.read
-    (applied.kept_unpaged c.self.inside.settings c.self.inside.faults.items (map kept vs) journal _ c.in-Ok.entry _ (journal ++ c.in-Ok.entry ∷ []) c.self.inside.interfaces.items c.self.inside.swaps.items next refl refl c.self.invariant.kept')
+    applied.want_next c.self.inside.settings c.self.inside.faults.items vs journal c.args.actor c.args.end c.in-Some-place_of.place c.index_mut.result.now
+    c.want.new.self c.in-Ok.entry (journal ++ c.in-Ok.entry ∷ []) c.greatest_stamp.result
+    c.self.invariant.kept'.tied range now disk room c.in-Ok.ensures.event c.in-Ok.ensures.outcome c.in-Ok.ensures.stamp (c.greatest_stamp.ensures
+    ∙ c.self.invariant.index'.greatest) c.in-Ok.ensures.settings c.in-Ok.ensures.logged refl in
+    indexed c.self.inside.settings c.self.inside.faults.items (map kept (slice_set vs c.in-Some-place_of.place c.want.new.self)) (journal ++ c.in-Ok.entry ∷ [])
+    c.self.inside.interfaces.items c.self.inside.swaps.items c.log.new.self.read
+    (applied.kept_unpaged c.self.inside.settings c.self.inside.faults.items (map kept vs) journal _ c.in-Ok.entry _ (journal ++ c.in-Ok.entry ∷ [])
+    c.self.inside.interfaces.items c.self.inside.swaps.items next refl refl c.self.invariant.kept')
     (c.log.ensures journal c.self.invariant.index')
 
 pub returns-in-Ok : goal.returns-in-Ok
@@ -109,33 +107,52 @@ returns-in-Ok c =
     let vs = c.self.inside.ends.items in
     let journal = journal_by (map kept vs) c.self.inside.interfaces.items in
     let layout = layout_in c.self.inside.settings c.self.inside.faults.items (map kept vs) in
-    let range : is_in_range layout (Events.Want c.args.actor c.args.end) ≡ true = ap (λ (v : ClusterView). is_in_range v.layout (Events.Want c.args.actor c.args.end)) c.self.view_is ∙ c.requires in
-    let here = applied.found_here vs c.args.end c.in-Some.place c.index.result.now (sym (c.place_of.ensures ∙ ap (position (is_of c.args.end)) c.deref.ensures.value) ∙ c.in-Some.is) c.index.ensures in
-    let again = applied.found_here vs c.args.end c.in-Some.place c.index-2.result.now (sym (c.place_of.ensures ∙ ap (position (is_of c.args.end)) c.deref.ensures.value) ∙ c.in-Some.is) c.index-2.ensures in
-    let now = applied.found_here vs c.args.end c.in-Some.place c.index_mut.result.now (sym (c.place_of.ensures ∙ ap (position (is_of c.args.end)) c.deref.ensures.value) ∙ c.in-Some.is) c.index_mut.ensures.value in
-    let disk = applied.disk_here layout vs journal c.args.end c.in-Some.place c.index.result.now true c.self.invariant.kept'.tied here (sym c.is_on_disk.ensures ∙ c.if-not-is_on_disk.false) in
-    let room = ap (λ w. nat_le c.self.inside.settings.log (length w.log)) (applied.same_here vs c.args.end c.in-Some.place c.index-2.result.now c.index_mut.result.now again now) ∙ sym c.is_full.ensures ∙ c.if-is_full.false in
+    let runs = runs_of layout journal c.args.self.now (Events.Want c.args.actor c.args.end) c.self.view_is
+    (sym c.refusal_of_want.ensures ∙ c.in_default.is) in
+    let range : is_in_range layout (Events.Want c.args.actor c.args.end) ≡ true =
+    ap (λ (v : ClusterView). is_in_range v.layout (Events.Want c.args.actor c.args.end)) c.self.view_is ∙ c.requires in
+    let now = applied.found_here vs c.args.end c.in-Some-place_of.place c.index_mut.result.now (sym (c.place_of.ensures
+    ∙ ap (position (is_of c.args.end)) c.deref.ensures.value) ∙ c.in-Some-place_of.is) c.index_mut.ensures.value in
+    let disk = want_on_disk layout journal c.args.actor c.args.end runs in
+    let room = room_here layout vs journal c.args.end c.in-Some-place_of.place c.index_mut.result.now c.self.invariant.kept'.tied now
+    (single_room layout journal (Events.Want c.args.actor c.args.end) c.args.end refl runs) in
     let next =
-    applied.want_next c.self.inside.settings c.self.inside.faults.items vs journal c.args.actor c.args.end c.in-Some.place c.index_mut.result.now c.want.new.self c.in-Ok.entry (journal ++ c.in-Ok.entry ∷ []) c.greatest_stamp.result
-    c.self.invariant.kept'.tied range now disk room c.in-Ok.ensures.event c.in-Ok.ensures.outcome c.in-Ok.ensures.stamp (c.greatest_stamp.ensures ∙ c.self.invariant.index'.greatest) c.in-Ok.ensures.settings c.in-Ok.ensures.logged refl in
-    made_as c.self.inside.settings c.self.inside.faults.items (map kept (slice_set vs c.in-Some.place c.want.new.self)) (journal ++ c.in-Ok.entry ∷ []) c.self.inside.interfaces.items c.self.inside.swaps.items c.args.self.now _ c.in-Ok.entry (Ok tt)
-    (applied.kept_unpaged c.self.inside.settings c.self.inside.faults.items (map kept vs) journal _ c.in-Ok.entry _ (journal ++ c.in-Ok.entry ∷ []) c.self.inside.interfaces.items c.self.inside.swaps.items next refl refl c.self.invariant.kept')
-    (applied.seen_next c.self.inside.settings c.self.inside.faults.items (map kept vs) journal _ c.in-Ok.entry _ (journal ++ c.in-Ok.entry ∷ []) c.args.self.now c.self.view_is next)
+    applied.want_next c.self.inside.settings c.self.inside.faults.items vs journal c.args.actor c.args.end c.in-Some-place_of.place c.index_mut.result.now
+    c.want.new.self c.in-Ok.entry (journal ++ c.in-Ok.entry ∷ []) c.greatest_stamp.result
+    c.self.invariant.kept'.tied range now disk room c.in-Ok.ensures.event c.in-Ok.ensures.outcome c.in-Ok.ensures.stamp (c.greatest_stamp.ensures
+    ∙ c.self.invariant.index'.greatest) c.in-Ok.ensures.settings c.in-Ok.ensures.logged refl in
+    made_as c.self.inside.settings c.self.inside.faults.items (map kept (slice_set vs c.in-Some-place_of.place c.want.new.self)) (journal ++ c.in-Ok.entry ∷ [])
+    c.self.inside.interfaces.items c.self.inside.swaps.items c.args.self.now _ c.in-Ok.entry (Ok tt)
+    (applied.kept_unpaged c.self.inside.settings c.self.inside.faults.items (map kept vs) journal _ c.in-Ok.entry _ (journal ++ c.in-Ok.entry ∷ [])
+    c.self.inside.interfaces.items c.self.inside.swaps.items next refl refl c.self.invariant.kept')
+    (applied.seen_next c.self.inside.settings c.self.inside.faults.items (map kept vs) journal _ c.in-Ok.entry _ (journal ++ c.in-Ok.entry ∷ []) c.args.self.now
+    c.self.view_is next)
 
 pub invariant_of-self-in-Err : goal.invariant_of-self-in-Err
 invariant_of-self-in-Err c =
     let vs = c.self.inside.ends.items in
     let journal = journal_by (map kept vs) c.self.inside.interfaces.items in
     let layout = layout_in c.self.inside.settings c.self.inside.faults.items (map kept vs) in
-    let now = applied.found_here vs c.args.end c.in-Some.place c.index_mut.result.now (sym (c.place_of.ensures ∙ ap (position (is_of c.args.end)) c.deref.ensures.value) ∙ c.in-Some.is) c.index_mut.ensures.value in
-    let same = kept_same vs c.in-Some.place c.index_mut.result.now c.want.new.self now.at (λ i. record { settings = c.in-Err.ensures.settings i; log = c.in-Err.ensures.err i }) in
-    indexed_still c.self.inside.settings c.self.inside.faults.items (map kept vs) _ c.self.inside.interfaces.items c.self.inside.swaps.items c.self.inside.index.read same c.self.invariant
+    let now = applied.found_here vs c.args.end c.in-Some-place_of.place c.index_mut.result.now (sym (c.place_of.ensures
+    ∙ ap (position (is_of c.args.end)) c.deref.ensures.value) ∙ c.in-Some-place_of.is) c.index_mut.ensures.value in
+    let same = kept_same vs c.in-Some-place_of.place c.index_mut.result.now c.want.new.self now.at (λ i. record {
+      settings = c.in-Err.ensures.settings i;
+      log = c.in-Err.ensures.err i;
+    }) in
+    indexed_still c.self.inside.settings c.self.inside.faults.items (map kept vs) _ c.self.inside.interfaces.items c.self.inside.swaps.items
+    c.self.inside.index.read same c.self.invariant
 
 pub returns-in-Err : goal.returns-in-Err
 returns-in-Err c =
     let vs = c.self.inside.ends.items in
     let journal = journal_by (map kept vs) c.self.inside.interfaces.items in
     let layout = layout_in c.self.inside.settings c.self.inside.faults.items (map kept vs) in
-    let now = applied.found_here vs c.args.end c.in-Some.place c.index_mut.result.now (sym (c.place_of.ensures ∙ ap (position (is_of c.args.end)) c.deref.ensures.value) ∙ c.in-Some.is) c.index_mut.ensures.value in
-    let same = kept_same vs c.in-Some.place c.index_mut.result.now c.want.new.self now.at (λ i. record { settings = c.in-Err.ensures.settings i; log = c.in-Err.ensures.err i }) in
-    seen_still c.self.inside.settings c.self.inside.faults.items (map kept vs) _ c.self.inside.interfaces.items c.args.self.now same c.self.view_is
+    let now = applied.found_here vs c.args.end c.in-Some-place_of.place c.index_mut.result.now (sym (c.place_of.ensures
+    ∙ ap (position (is_of c.args.end)) c.deref.ensures.value) ∙ c.in-Some-place_of.is) c.index_mut.ensures.value in
+    let same = kept_same vs c.in-Some-place_of.place c.index_mut.result.now c.want.new.self now.at (λ i. record {
+      settings = c.in-Err.ensures.settings i;
+      log = c.in-Err.ensures.err i;
+    }) in (
+      unstopped c.args.self.now (Events.Want c.args.actor c.args.end) (sym c.refusal_of_want.ensures ∙ c.in_default.is),
+      seen_still c.self.inside.settings c.self.inside.faults.items (map kept vs) _ c.self.inside.interfaces.items c.args.self.now same c.self.view_is,
+    )

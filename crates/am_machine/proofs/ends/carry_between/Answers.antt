@@ -6,20 +6,24 @@ use Rattle.am_machine.proofs.Places.{at_read, place_apart, set_other, still_at, 
 use Rattle.am_machine.proofs.ends.carry_between.Goals as goal
 
 pub carry_out-requires-clause-ready : goal.carry_out-requires-clause-ready
-carry_out-requires-clause-ready c = (at_read c.args.ends.now c.args.source (CarriesFrom c.args.entry) c.index-ends-source.result c.requires.source c.requires.carries).ready
+carry_out-requires-clause-ready c = (at_read c.args.ends.now c.args.source (CarriesFrom c.args.entry) c.index-ends-source.result c.requires.source
+    c.requires.carries).ready
 
 pub carry_out-requires-clause-room : goal.carry_out-requires-clause-room
-carry_out-requires-clause-room c = (at_read c.args.ends.now c.args.source (CarriesFrom c.args.entry) c.index-ends-source.result c.requires.source c.requires.carries).room
+carry_out-requires-clause-room c = (at_read c.args.ends.now c.args.source (CarriesFrom c.args.entry) c.index-ends-source.result c.requires.source
+    c.requires.carries).room
 
 pub carry_out-requires-clause-allowed : goal.carry_out-requires-clause-allowed
-carry_out-requires-clause-allowed c = (at_read c.args.ends.now c.args.source (CarriesFrom c.args.entry) c.index-ends-source.result c.requires.source c.requires.carries).carry
+carry_out-requires-clause-allowed c = (at_read c.args.ends.now c.args.source (CarriesFrom c.args.entry) c.index-ends-source.result c.requires.source
+    c.requires.carries).carry
 
 pub put-requires-clause-ready : goal.put-requires-clause-ready
 put-requires-clause-ready c =
     let apart : is_place c.args.source c.args.dest ≡ false = place_apart c.args.source c.args.dest (λ same. c.if-dest-source.true (sym same)) in
     let vs = slice_set c.args.ends.now c.args.source c.carry_out.new.self in
     let within : c.args.dest < length vs = omega (arith, length-set c.args.ends.now c.args.source c.carry_out.new.self, c.requires.dest) in
-    let at = still_at c.args.ends.now vs c.args.dest (ArrivesAt c.args.entry) (set_other c.args.ends.now c.args.source c.args.dest c.carry_out.new.self apart) (c.requires.arrives apart) in
+    let at = still_at c.args.ends.now vs c.args.dest (ArrivesAt c.args.entry) (set_other c.args.ends.now c.args.source c.args.dest c.carry_out.new.self apart)
+    (c.requires.arrives apart) in
     (at_read vs c.args.dest (ArrivesAt c.args.entry) c.index-ends-dest.result within at).ready
 
 pub put-requires-clause-room : goal.put-requires-clause-room
@@ -27,7 +31,8 @@ put-requires-clause-room c =
     let apart : is_place c.args.source c.args.dest ≡ false = place_apart c.args.source c.args.dest (λ same. c.if-dest-source.true (sym same)) in
     let vs = slice_set c.args.ends.now c.args.source c.carry_out.new.self in
     let within : c.args.dest < length vs = omega (arith, length-set c.args.ends.now c.args.source c.carry_out.new.self, c.requires.dest) in
-    let at = still_at c.args.ends.now vs c.args.dest (ArrivesAt c.args.entry) (set_other c.args.ends.now c.args.source c.args.dest c.carry_out.new.self apart) (c.requires.arrives apart) in
+    let at = still_at c.args.ends.now vs c.args.dest (ArrivesAt c.args.entry) (set_other c.args.ends.now c.args.source c.args.dest c.carry_out.new.self apart)
+    (c.requires.arrives apart) in
     (at_read vs c.args.dest (ArrivesAt c.args.entry) c.index-ends-dest.result within at).room
 
 pub put-requires-clause-allowed : goal.put-requires-clause-allowed
@@ -35,7 +40,8 @@ put-requires-clause-allowed c =
     let apart : is_place c.args.source c.args.dest ≡ false = place_apart c.args.source c.args.dest (λ same. c.if-dest-source.true (sym same)) in
     let vs = slice_set c.args.ends.now c.args.source c.carry_out.new.self in
     let within : c.args.dest < length vs = omega (arith, length-set c.args.ends.now c.args.source c.carry_out.new.self, c.requires.dest) in
-    let at = still_at c.args.ends.now vs c.args.dest (ArrivesAt c.args.entry) (set_other c.args.ends.now c.args.source c.args.dest c.carry_out.new.self apart) (c.requires.arrives apart) in
+    let at = still_at c.args.ends.now vs c.args.dest (ArrivesAt c.args.entry) (set_other c.args.ends.now c.args.source c.args.dest c.carry_out.new.self apart)
+    (c.requires.arrives apart) in
     (at_read vs c.args.dest (ArrivesAt c.args.entry) c.index-ends-dest.result within at).arrival
 
 pub returns-then-dest-source : goal.returns-then-dest-source
@@ -51,5 +57,7 @@ returns-then-dest-source c =
 
 pub returns-else-dest-source : goal.returns-else-dest-source
 returns-else-dest-source c =
-    carried_one c.args.ends.now c.args.source c.args.dest (slice_index_or c.args.ends.now c.args.source c.index-ends-source.result) c.carry_out.new.self c.args.entry
-    (sym c.if-dest-source.false) (slice_get-get_or c.args.ends.now c.args.source c.index-ends-source.result c.requires.source) c.carry_out.ensures.settings c.carry_out.ensures.log
+    carried_one c.args.ends.now c.args.source c.args.dest (slice_index_or c.args.ends.now c.args.source c.index-ends-source.result) c.carry_out.new.self
+    c.args.entry
+    (sym c.if-dest-source.false) (slice_get-get_or c.args.ends.now c.args.source c.index-ends-source.result c.requires.source) c.carry_out.ensures.settings
+    c.carry_out.ensures.log

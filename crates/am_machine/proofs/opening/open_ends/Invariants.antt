@@ -1,5 +1,5 @@
 use Rattle.std.proofs.Common.{◌≡◌, map, take}
-use Rattle.am_moves.specs.Logs.{kept}
+use Rattle.am_driver_moves.specs.Logs.{kept}
 use Rattle.am_machine.specs.Beginnings.{opened}
 use Rattle.am_machine.proofs.opening.open_ends.Given as goal
 

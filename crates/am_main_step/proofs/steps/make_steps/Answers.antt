@@ -1,7 +1,7 @@
 use Rattle.std.specs.Prelude.{slice_index_or, Result, Err}
-use Rattle.am_scripts.specs.Layout.{events_of}
+use Rattle.am_model_scripts.specs.Layout.{events_of}
 use Rattle.am_model.specs.declared.EntryFault.{EntryFault}
-use Rattle.am_drain.specs.Made.{next_entry}
+use Rattle.am_model_drain.specs.Made.{next_entry}
 use Rattle.am_machine.specs.View.{ClusterView, Makes as MakesEvent}
 use Rattle.am_main_step.specs.Answer.{Makes}
 use Rattle.am_main_step.specs.declared.faults.StepFault.{StepFault}
@@ -18,32 +18,61 @@ use Rattle.am_main_step.proofs.steps.make_steps.Goals as goal
 
 pub make-requires : goal.make-requires
 make-requires c =
-    let none : StepLine = record { line = 0; event = Events.Call (Actors.Thread 0) (record { 0 = 0 }) (Calls.Request 0 0 (record { a = 0; b = 0; c = 0; d = 0 })) } in
+    let none : StepLine = record {
+      line = 0;
+      event = Events.Call (Actors.Thread 0) (record { 0 = 0 }) (Calls.Request 0 0 (record {
+        a = 0;
+        b = 0;
+        c = 0;
+        d = 0;
+      }));
+    } in
     let step = slice_index_or c.args.steps.now c.loop-step.step-index none in
     let at = step_got c.args.steps.now c.loop-step.step-index none c.loop-step-test.true in
     let layout = c.args.cluster.now.layout in
     let now = c.loop-step.cluster.layout in
-    record { in_range = ap (λ (l : Layout). is_in_range l step.event) c.loop-step.invariant.same ∙ event_in_range layout c.args.steps.now c.loop-step.step-index step c.requires.in_range at }
+    record {
+      in_range = ap (λ (l : Layout). is_in_range l step.event) c.loop-step.invariant.same
+          ∙ event_in_range layout c.args.steps.now c.loop-step.step-index step c.requires.in_range at;
+    }
 
 pub loop-step-init : goal.loop-step-init
 loop-step-init c = walks_begin c.args.cluster.now.layout c.args.steps.now c.args.cluster.now.journal c.requires.fresh
 
 pub loop-step-preserved : goal.loop-step-preserved
 loop-step-preserved c =
-    let none : StepLine = record { line = 0; event = Events.Call (Actors.Thread 0) (record { 0 = 0 }) (Calls.Request 0 0 (record { a = 0; b = 0; c = 0; d = 0 })) } in
+    let none : StepLine = record {
+      line = 0;
+      event = Events.Call (Actors.Thread 0) (record { 0 = 0 }) (Calls.Request 0 0 (record {
+        a = 0;
+        b = 0;
+        c = 0;
+        d = 0;
+      }));
+    } in
     let steps = c.args.steps.now in
     let step = slice_index_or steps c.loop-step.step-index none in
     let at = step_got steps c.loop-step.step-index none c.loop-step-test.true in
     let layout = c.args.cluster.now.layout in
     let old = c.loop-step.cluster in
-    let range = ap (λ (l : Layout). is_in_range l step.event) c.loop-step.invariant.same ∙ event_in_range layout steps c.loop-step.step-index step c.requires.in_range at in
+    let range = ap (λ (l : Layout). is_in_range l step.event) c.loop-step.invariant.same
+    ∙ event_in_range layout steps c.loop-step.step-index step c.requires.in_range at in
     let told = subst (λ (r : Result (Unit {0}) EntryFault). MakesEvent old c.make.new.self step.event r) c.in-Ok.is c.make.ensures in
-    walks_on layout old.layout c.make.new.self.layout steps c.loop-step.step-index old.journal c.make.new.self.journal step (next_entry old.layout old.journal step.event) c.loop-step.invariant at range
+    walks_on layout old.layout c.make.new.self.layout steps c.loop-step.step-index old.journal c.make.new.self.journal step
+    (next_entry old.layout old.journal step.event) c.loop-step.invariant at range
     told.0 refl (ap (λ (v : ClusterView). v.journal) told.1) (ap (λ (v : ClusterView). v.layout) told.1)
 
 pub returns-in-Err-clause-makes : goal.returns-in-Err-clause-makes
 returns-in-Err-clause-makes c =
-    let none : StepLine = record { line = 0; event = Events.Call (Actors.Thread 0) (record { 0 = 0 }) (Calls.Request 0 0 (record { a = 0; b = 0; c = 0; d = 0 })) } in
+    let none : StepLine = record {
+      line = 0;
+      event = Events.Call (Actors.Thread 0) (record { 0 = 0 }) (Calls.Request 0 0 (record {
+        a = 0;
+        b = 0;
+        c = 0;
+        d = 0;
+      }));
+    } in
     let steps = c.args.steps.now in
     let step = slice_index_or steps c.loop-step.step-index none in
     let at = step_got steps c.loop-step.step-index none c.loop-step-test.true in
@@ -51,4 +80,5 @@ returns-in-Err-clause-makes c =
     let old = c.loop-step.cluster in
     let refused = subst (λ (r : Result (Unit {0}) EntryFault). MakesEvent old c.make.new.self step.event r) c.in-Err.is c.make.ensures in
     subst (λ (f : StepFault). Makes steps c.make.new.self.journal (made layout (events_of steps)) (Err f)) (sym c.fault_of.ensures)
-    (stops_make layout old.layout steps c.loop-step.step-index old.journal c.make.new.self.journal step old c.make.new.self c.in-Err.fault c.loop-step.invariant at refl refl refused)
+    (stops_make layout old.layout steps c.loop-step.step-index old.journal c.make.new.self.journal step old c.make.new.self c.in-Err.fault c.loop-step.invariant
+    at refl refl refused)

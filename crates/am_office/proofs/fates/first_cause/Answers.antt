@@ -6,8 +6,10 @@ use Rattle.am_office.proofs.fates.first_cause.Goals as goal
 
 pub returns-in-Some : goal.returns-in-Some
 returns-in-Some c =
-    sym (first_found (λ (x : Entry). cause_of c.args.serial x.event x.outcome) _ _ _ _ c.loop-entry-test.true c.loop-entry.invariant (sym c.cause_of.ensures ∙ c.in-Some.is))
+    sym (first_found (λ (x : Entry). cause_of c.args.serial x.event x.outcome) _ _ _ _ c.loop-entry-test.true c.loop-entry.invariant (sym c.cause_of.ensures
+    ∙ c.in-Some.is))
 
 pub loop-entry-preserved : goal.loop-entry-preserved
 loop-entry-preserved c =
-    rw add-one (none_so_far (λ (x : Entry). cause_of c.args.serial x.event x.outcome) _ _ _ c.loop-entry-test.true c.loop-entry.invariant (sym c.cause_of.ensures ∙ c.in_default.is))
+    rw add-one (none_so_far (λ (x : Entry). cause_of c.args.serial x.event x.outcome) _ _ _ c.loop-entry-test.true c.loop-entry.invariant
+    (sym c.cause_of.ensures ∙ c.in_default.is))

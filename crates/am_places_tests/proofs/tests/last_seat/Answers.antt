@@ -6,7 +6,8 @@ use Rattle.am_places_tests.proofs.Gathering.{at_last}
 use Rattle.am_places_tests.proofs.tests.last_seat.Goals as goal
 
 pub returns-clause-list : goal.returns-clause-list
-returns-clause-list c k s at = c.requires k s (ap (λ z. get_elem? z k) c.pop.ensures.items ∙ at_longer c.pop.new.self.items (option_to_list c.pop.result) k s at)
+returns-clause-list c k s at = c.requires k s (ap (λ z. get_elem? z k) c.pop.ensures.items
+    ∙ at_longer c.pop.new.self.items (option_to_list c.pop.result) k s at)
 
 pub returns-clause-seat : goal.returns-clause-seat
 returns-clause-seat c = let s = c.in_ok-seat.seat in let new = c.pop.new.self.items in

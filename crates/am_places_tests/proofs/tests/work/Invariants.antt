@@ -1,5 +1,5 @@
 use Rattle.std.proofs.Common.{◌≡◌}
-use Rattle.am_stays.specs.Stays.{IsWaiting}
+use Rattle.am_places_stays.specs.Stays.{IsWaiting}
 use Rattle.am_places_tests.proofs.tests.work.Given as goal
 
 abbrev pub invariant-loop-turn : goal.invariant-loop-turn

@@ -7,14 +7,16 @@ use Rattle.am_translate.proofs.Translate.reply_arrives.Goals as goal
 
 pub returns-in-None-clause-no_request : goal.returns-in-None-clause-no_request
 returns-in-None-clause-no_request c = (
-  λ _. unfound (waits_for c.args.request) _ _ _ c.args.self.now.awaited c.waiting_place.ensures c.in-None.is c.as_slice.ensures.items (ap (λ t. t.awaited) c.self.view_is),
+  λ _. unfound (waits_for c.args.request) _ _ _ c.args.self.now.awaited c.waiting_place.ensures c.in-None.is c.as_slice.ensures.items
+      (ap (λ t. t.awaited) c.self.view_is),
   λ _. refl,
 )
 
 pub returns-in-Some-clause-no_request : goal.returns-in-Some-clause-no_request
 returns-in-Some-clause-no_request c = (
   λ e. absurd (cc),
-  λ no. absurd (true≢false (sym (found (waits_for c.args.request) _ _ _ _ c.args.self.now.awaited c.waiting_place.ensures c.in-Some.is c.as_slice.ensures.items (ap (λ t. t.awaited) c.self.view_is)).0 ∙ no)),
+  λ no. absurd (true≢false (sym (found (waits_for c.args.request) _ _ _ _ c.args.self.now.awaited c.waiting_place.ensures c.in-Some.is c.as_slice.ensures.items
+      (ap (λ t. t.awaited) c.self.view_is)).0 ∙ no)),
 )
 
 pub invariant_of-self : goal.invariant_of-self

@@ -10,20 +10,23 @@ use Rattle.am_translate.proofs.Translate.reply_taken.Goals as goal
 
 pub returns-in-None-clause-no_request : goal.returns-in-None-clause-no_request
 returns-in-None-clause-no_request c = (
-  λ _. unfound (has_arrived c.args.request) _ _ _ c.args.self.now.awaited c.answered_place.ensures c.in-None.is c.as_slice.ensures.items (ap (λ t. t.awaited) c.self.view_is),
+  λ _. unfound (has_arrived c.args.request) _ _ _ c.args.self.now.awaited c.answered_place.ensures c.in-None.is c.as_slice.ensures.items
+      (ap (λ t. t.awaited) c.self.view_is),
   λ _. refl,
 )
 
 pub returns-in-Some-clause-no_request : goal.returns-in-Some-clause-no_request
 returns-in-Some-clause-no_request c = (
   λ e. absurd (cc),
-  λ no. absurd (true≢false (sym (found (has_arrived c.args.request) _ _ _ _ c.args.self.now.awaited c.answered_place.ensures c.in-Some.is c.as_slice.ensures.items (ap (λ t. t.awaited) c.self.view_is)).0 ∙ no)),
+  λ no. absurd (true≢false (sym (found (has_arrived c.args.request) _ _ _ _ c.args.self.now.awaited c.answered_place.ensures c.in-Some.is
+      c.as_slice.ensures.items (ap (λ t. t.awaited) c.self.view_is)).0 ∙ no)),
 )
 
 pub invariant_of-self : goal.invariant_of-self
 invariant_of-self c =
     table_without (table_in c.self.inside) (has_arrived c.args.request) c.remove.new.self
-    (c.remove.ensures ∙ sym (found (has_arrived c.args.request) _ _ _ _ c.self.inside.awaited c.answered_place.ensures c.in-Some.is c.as_slice.ensures.items refl).1) c.self.invariant
+    (c.remove.ensures ∙ sym (found (has_arrived c.args.request) _ _ _ _ c.self.inside.awaited c.answered_place.ensures c.in-Some.is c.as_slice.ensures.items
+    refl).1) c.self.invariant
 
 pub returns-in-Some-clause-ok : goal.returns-in-Some-clause-ok
 returns-in-Some-clause-ok c =

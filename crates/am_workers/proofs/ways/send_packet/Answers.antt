@@ -6,7 +6,8 @@ pub returns-clause-same : goal.returns-clause-same
 returns-clause-same c =
     let outs = c.args.outs.now.items in let at = c.way_of-at.result in let was = c.index_mut-link.result.now in
     outs_set outs at was c.offer_ready.new.self
-    (at_index outs at was (subst (λ (n : ℕ). n < length outs) (sym c.way_of-at.ensures) c.requires.to) c.index_mut-link.ensures.value) c.offer_ready.ensures.same
+    (at_index outs at was (subst (λ (n : ℕ). n < length outs) (sym c.way_of-at.ensures) c.requires.to) c.index_mut-link.ensures.value)
+    c.offer_ready.ensures.same
 
 pub returns-clause-room : goal.returns-clause-room
 returns-clause-room c = room_but c.args.outs.now.items c.way_of-at.result c.offer_ready.new.self c.requires.room
@@ -15,4 +16,5 @@ pub returns-clause-sent : goal.returns-clause-sent
 returns-clause-sent c =
     let outs = c.args.outs.now.items in let at = c.way_of-at.result in let was = c.index_mut-link.result.now in
     sent_more outs at was c.offer_ready.new.self c.args.packet c.way_of-at.ensures
-    (at_index outs at was (subst (λ (n : ℕ). n < length outs) (sym c.way_of-at.ensures) c.requires.to) c.index_mut-link.ensures.value) c.offer_ready.ensures.emitted
+    (at_index outs at was (subst (λ (n : ℕ). n < length outs) (sym c.way_of-at.ensures) c.requires.to) c.index_mut-link.ensures.value)
+    c.offer_ready.ensures.emitted

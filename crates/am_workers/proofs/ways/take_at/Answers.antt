@@ -15,4 +15,5 @@ returns-in-Some-clause-same c =
 pub returns-in-Some-clause-taken : goal.returns-in-Some-clause-taken
 returns-in-Some-clause-taken c =
     let ins = c.args.ins.now.items in let was = c.index_mut-link.result.now in
-    taken_one ins c.args.at was c.next.new.self (record { 0 = c.args.at }) c.in-Some.packet refl (at_index ins c.args.at was c.requires.at c.index_mut-link.ensures.value) c.in-Some.ensures.received
+    taken_one ins c.args.at was c.next.new.self (record { 0 = c.args.at }) c.in-Some.packet refl
+    (at_index ins c.args.at was c.requires.at c.index_mut-link.ensures.value) c.in-Some.ensures.received

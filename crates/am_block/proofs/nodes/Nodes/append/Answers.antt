@@ -41,8 +41,12 @@ get_mut-node-requires c =
     let here = c.requires in
     let ks : IsLink at n (record { node = c.pointer.result; slot = c.args.slot }) = record { points = c.pointer.ensures; within = omega arith } in
     let kh : IsLink at n (record { node = c.pointer-2.result; slot = c.args.head }) = record { points = c.pointer-2.ensures; within = omega arith } in
-    let g1 = good1 at n cs i.good c.args.slot c.args.head c.args.list c.pointer.result c.pointer-2.result ks kh c.get.result.now c.get.ensures c.follow_mut.result.now c.follow_mut.ensures.value in
-    (i.at, good_filled at n (cs1 at n cs i.good c.args.slot c.args.head c.args.list c.pointer.result c.pointer-2.result ks kh c.get.result.now c.get.ensures c.follow_mut.result.now c.follow_mut.ensures.value) g1 c.args.slot ks.within)
+    let g1 = good1 at n cs i.good c.args.slot c.args.head c.args.list c.pointer.result c.pointer-2.result ks kh c.get.result.now c.get.ensures
+    c.follow_mut.result.now c.follow_mut.ensures.value in (
+      i.at,
+      good_filled at n (cs1 at n cs i.good c.args.slot c.args.head c.args.list c.pointer.result c.pointer-2.result ks kh c.get.result.now c.get.ensures
+          c.follow_mut.result.now c.follow_mut.ensures.value) g1 c.args.slot ks.within,
+    )
 
 pub get_mut-requires : goal.get_mut-requires
 get_mut-requires c =
@@ -55,8 +59,12 @@ get_mut-requires c =
     let here = c.requires in
     let ks : IsLink at n (record { node = c.pointer.result; slot = c.args.slot }) = record { points = c.pointer.ensures; within = omega arith } in
     let kh : IsLink at n (record { node = c.pointer-2.result; slot = c.args.head }) = record { points = c.pointer-2.ensures; within = omega arith } in
-    let g2 = good2 at n cs i.good c.args.slot c.args.head c.args.list c.pointer.result c.pointer-2.result ks kh c.get.result.now c.get.ensures c.follow_mut.result.now c.follow_mut.ensures.value c.get_mut-node.result.now c.get_mut-node.ensures.value in
-    (i.at, good_filled at n (cs2 at n cs i.good c.args.slot c.args.head c.args.list c.pointer.result c.pointer-2.result ks kh c.get.result.now c.get.ensures c.follow_mut.result.now c.follow_mut.ensures.value c.get_mut-node.result.now c.get_mut-node.ensures.value) g2 c.args.head kh.within)
+    let g2 = good2 at n cs i.good c.args.slot c.args.head c.args.list c.pointer.result c.pointer-2.result ks kh c.get.result.now c.get.ensures
+    c.follow_mut.result.now c.follow_mut.ensures.value c.get_mut-node.result.now c.get_mut-node.ensures.value in (
+      i.at,
+      good_filled at n (cs2 at n cs i.good c.args.slot c.args.head c.args.list c.pointer.result c.pointer-2.result ks kh c.get.result.now c.get.ensures
+          c.follow_mut.result.now c.follow_mut.ensures.value c.get_mut-node.result.now c.get_mut-node.ensures.value) g2 c.args.head kh.within,
+    )
 
 pub invariant_of-self : goal.invariant_of-self
 invariant_of-self c =
@@ -71,7 +79,9 @@ invariant_of-self c =
     let kh : IsLink at n (record { node = c.pointer-2.result; slot = c.args.head }) = record { points = c.pointer-2.ensures; within = omega arith } in
     record {
       at = i.at;
-      good = good3 at n cs i.good c.args.slot c.args.head c.args.list c.pointer.result c.pointer-2.result ks kh c.get.result.now c.get.ensures c.follow_mut.result.now c.follow_mut.ensures.value c.get_mut-node.result.now c.get_mut-node.ensures.value c.get_mut.result.now c.get_mut.ensures.value;
+      good = good3 at n cs i.good c.args.slot c.args.head c.args.list c.pointer.result c.pointer-2.result ks kh c.get.result.now c.get.ensures
+          c.follow_mut.result.now c.follow_mut.ensures.value c.get_mut-node.result.now c.get_mut-node.ensures.value c.get_mut.result.now
+          c.get_mut.ensures.value;
       deed_at = i.deed_at;
       deed_len = i.deed_len;
       deed_alloc = i.deed_alloc;
@@ -89,5 +99,6 @@ returns c =
     let here = c.requires in
     let ks : IsLink at n (record { node = c.pointer.result; slot = c.args.slot }) = record { points = c.pointer.ensures; within = omega arith } in
     let kh : IsLink at n (record { node = c.pointer-2.result; slot = c.args.head }) = record { points = c.pointer-2.ensures; within = omega arith } in
-    appended3 at n cs i.good c.args.slot c.args.head c.args.list c.pointer.result c.pointer-2.result ks kh c.get.result.now c.get.ensures c.follow_mut.result.now c.follow_mut.ensures.value c.get_mut-node.result.now c.get_mut-node.ensures.value c.get_mut.result.now c.get_mut.ensures.value
+    appended3 at n cs i.good c.args.slot c.args.head c.args.list c.pointer.result c.pointer-2.result ks kh c.get.result.now c.get.ensures
+    c.follow_mut.result.now c.follow_mut.ensures.value c.get_mut-node.result.now c.get_mut-node.ensures.value c.get_mut.result.now c.get_mut.ensures.value
     ∙ ap (λ v. inserted v c.args.slot c.args.head c.args.list) c.self.view_is

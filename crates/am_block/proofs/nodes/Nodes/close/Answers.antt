@@ -27,7 +27,11 @@ invariant_of-self c =
     let kh : IsLink at n (record { node = c.pointer.result; slot = c.args.head }) = record { points = c.pointer.ensures; within = omega arith } in
     record {
       at = i.at;
-      good = good_set at n cs i.good c.args.head (record c.get_mut-node.result.now { prev = record { node = c.pointer.result; slot = c.args.head }; next = record { node = c.pointer.result; slot = c.args.head }; list = c.args.list }) kh kh;
+      good = good_set at n cs i.good c.args.head (record c.get_mut-node.result.now {
+        prev = record { node = c.pointer.result; slot = c.args.head };
+        next = record { node = c.pointer.result; slot = c.args.head };
+        list = c.args.list;
+      }) kh kh;
       deed_at = i.deed_at;
       deed_len = i.deed_len;
       deed_alloc = i.deed_alloc;
@@ -43,5 +47,8 @@ returns c =
     let w = ap (λ v. length v.next) c.self.view_is in
     let m = seen at n cs i.good in
     let here = c.requires in
-    all_written at n cs i.good c.args.head c.get_mut-node.result.now c.get_mut-node.ensures.value (record { node = c.pointer.result; slot = c.args.head }) (record { node = c.pointer.result; slot = c.args.head }) c.args.list
+    all_written at n cs i.good c.args.head c.get_mut-node.result.now c.get_mut-node.ensures.value (record {
+      node = c.pointer.result;
+      slot = c.args.head;
+    }) (record { node = c.pointer.result; slot = c.args.head }) c.args.list
     ∙ ap (λ v. closed v c.args.head c.args.list) c.self.view_is

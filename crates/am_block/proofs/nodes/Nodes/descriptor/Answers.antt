@@ -9,4 +9,5 @@ get-requires c =
     (c.self.invariant.at, good_filled c.self.inside.row.at c.self.inside.len c.self.inside.row.places c.self.invariant.good c.args.slot (omega arith))
 
 pub returns : goal.returns
-returns c = ap (λ v. slice_get v.descriptors c.args.slot) (sym c.self.view_is) ∙ descriptor_read c.self.inside.row.at c.self.inside.len c.self.inside.row.places c.self.invariant.good c.args.slot c.get.result.now c.get.ensures
+returns c = ap (λ v. slice_get v.descriptors c.args.slot) (sym c.self.view_is)
+    ∙ descriptor_read c.self.inside.row.at c.self.inside.len c.self.inside.row.places c.self.invariant.good c.args.slot c.get.result.now c.get.ensures

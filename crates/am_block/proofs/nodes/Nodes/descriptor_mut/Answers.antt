@@ -16,8 +16,10 @@ invariant_of-self-lent c = λ w.
       at = i.at;
       good =
           good_set c.self.inside.row.at c.self.inside.len c.self.inside.row.places i.good c.args.slot (record c.get_mut.result.now { descriptor = w })
-          (prev_linked c.self.inside.row.at c.self.inside.len c.self.inside.row.places c.self.invariant.good c.args.slot c.get_mut.result.now c.get_mut.ensures.value)
-          (next_linked c.self.inside.row.at c.self.inside.len c.self.inside.row.places c.self.invariant.good c.args.slot c.get_mut.result.now c.get_mut.ensures.value);
+          (prev_linked c.self.inside.row.at c.self.inside.len c.self.inside.row.places c.self.invariant.good c.args.slot c.get_mut.result.now
+          c.get_mut.ensures.value)
+          (next_linked c.self.inside.row.at c.self.inside.len c.self.inside.row.places c.self.invariant.good c.args.slot c.get_mut.result.now
+          c.get_mut.ensures.value);
       deed_at = i.deed_at;
       deed_len = i.deed_len;
       deed_alloc = i.deed_alloc;
@@ -26,9 +28,15 @@ invariant_of-self-lent c = λ w.
 
 pub returns : goal.returns
 returns c = (
-  (refl, λ w. descriptor_written c.self.inside.row.at c.self.inside.len c.self.inside.row.places c.self.invariant.good c.args.slot c.get_mut.result.now c.get_mut.ensures.value w ∙ ap (λ v. with_descriptor v c.args.slot w) c.self.view_is),
+  (
+    refl,
+    λ w. descriptor_written c.self.inside.row.at c.self.inside.len c.self.inside.row.places c.self.invariant.good c.args.slot c.get_mut.result.now
+        c.get_mut.ensures.value w ∙ ap (λ v. with_descriptor v c.args.slot w) c.self.view_is,
+  ),
   record {
     writes_back = tt;
-    value = ap (λ v. slice_get v.descriptors c.args.slot) (sym c.self.view_is) ∙ descriptor_read c.self.inside.row.at c.self.inside.len c.self.inside.row.places c.self.invariant.good c.args.slot c.get_mut.result.now c.get_mut.ensures.value;
+    value = ap (λ v. slice_get v.descriptors c.args.slot) (sym c.self.view_is)
+        ∙ descriptor_read c.self.inside.row.at c.self.inside.len c.self.inside.row.places c.self.invariant.good c.args.slot c.get_mut.result.now
+        c.get_mut.ensures.value;
   },
 )

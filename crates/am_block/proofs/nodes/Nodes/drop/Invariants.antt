@@ -1,5 +1,5 @@
 use Rattle.std.proofs.Common.{◌≡◌, ◌≤◌, ◌<◌, ℕ, length, get_or, None}
-use Rattle.am_row.specs.Places.{IsFilled}
+use Rattle.am_block_row.specs.Places.{IsFilled}
 use Rattle.am_block.proofs.nodes.Nodes.drop.Given as goal
 
 abbrev pub invariant-loop-slot : goal.invariant-loop-slot

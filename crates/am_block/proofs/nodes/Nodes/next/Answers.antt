@@ -9,7 +9,8 @@ get-requires c =
     (c.self.invariant.at, good_filled c.self.inside.row.at c.self.inside.len c.self.inside.row.places c.self.invariant.good c.args.slot (omega arith))
 
 pub returns : goal.returns
-returns c = sym (next_read c.self.inside.row.at c.self.inside.len c.self.inside.row.places c.self.invariant.good c.args.slot c.get.result.now c.get.ensures) ∙ ap (λ v. get_or v.next c.args.slot 0) c.self.view_is
+returns c = sym (next_read c.self.inside.row.at c.self.inside.len c.self.inside.row.places c.self.invariant.good c.args.slot c.get.result.now c.get.ensures)
+    ∙ ap (λ v. get_or v.next c.args.slot 0) c.self.view_is
 
 pub overflow_cast-result : goal.overflow_cast-result
 overflow_cast-result c =

@@ -1,8 +1,8 @@
 use Rattle.std.proofs.Common.{sym, subst}
-use Rattle.am_scripts.specs.Layout.{layout_of}
+use Rattle.am_model_scripts.specs.Layout.{layout_of}
 use Rattle.am_scenario_types.specs.declared.parts.Form.TheVariants.{Run}
 use Rattle.am_machine.proofs.Applied.{enabled_of}
-use Rattle.am_scripted.specs.Scripted.{cluster_of}
+use Rattle.am_cluster_scripted.specs.Scripted.{cluster_of}
 use Rattle.am_check.specs.declared.faults.LineStop.{LineStop}
 use Rattle.am_check.specs.Lines.{StopsEvent}
 use Rattle.am_check.proofs.Early.{early_stops}

@@ -1,7 +1,7 @@
 use Rattle.std.specs.Prelude.{slice_get}
 use Rattle.std.proofs.Common.{◌≡◌, Some, length, sym, subst, arith}
-use Rattle.am_scripts.specs.Layout.{events_of}
-use Rattle.am_scripted.specs.Scripted.{RunView}
+use Rattle.am_model_scripts.specs.Layout.{events_of}
+use Rattle.am_cluster_scripted.specs.Scripted.{RunView}
 use Rattle.am_check.proofs.Steps.{in_range_at, step_below}
 use Rattle.am_check.proofs.step_cluster.StepClusterFollower.make.Goals as goal
 

@@ -3,7 +3,7 @@ use Rattle.std.proofs.Common.{sym, subst}
 use Rattle.am_names.specs.Names.{same_end}
 use Rattle.am_model.specs.Endpoint.{State}
 use Rattle.am_model.specs.Changes.{left, reached}
-use Rattle.am_body.specs.Views.{Fits}
+use Rattle.am_endpoint_body.specs.Views.{Fits}
 use Rattle.am_endpoint.specs.Seen.{state_in}
 use Rattle.am_endpoint.proofs.Fitting.{fits_before}
 use Rattle.am_endpoint.proofs.fields.Fields.carry.Goals as goal

@@ -1,7 +1,7 @@
 use Rattle.std.proofs.Common.{ap, ◌∙◌}
 use Rattle.am_office.specs.declared.Call.TheVariants as Calls
 use Rattle.am_model.specs.Changes.{called}
-use Rattle.am_body.specs.Views.{View}
+use Rattle.am_endpoint_body.specs.Views.{View}
 use Rattle.am_endpoint.specs.Seen.{state_in}
 use Rattle.am_endpoint.proofs.Open.{poll_same, polled}
 use Rattle.am_endpoint.proofs.Told.{at_head}
@@ -16,7 +16,8 @@ returns-clause-state c =
     let b = c.args.self.now.body.body in
     let after = c.poll-outcome.new.self.body in
     let o = c.poll-outcome.result in
-    ap state_in c.want_for.ensures ∙ ap (λ (v : View). at_head (called (at_head h after) Calls.Poll o).head v.body) c.poll-outcome.ensures.state ∙ polled h b after o
+    ap state_in c.want_for.ensures ∙ ap (λ (v : View). at_head (called (at_head h after) Calls.Poll o).head v.body) c.poll-outcome.ensures.state
+    ∙ polled h b after o
 
 pub poll-outcome-requires-clause-within : goal.poll-outcome-requires-clause-within
 poll-outcome-requires-clause-within c = c.requires.order.within

@@ -1,5 +1,5 @@
 use Rattle.std.proofs.Common.{arith}
-use Rattle.am_body.proofs.Slots.{slots_put}
+use Rattle.am_endpoint_body.proofs.Slots.{slots_put}
 use Rattle.am_endpoint.specs.Seen.{state_in}
 use Rattle.am_endpoint.proofs.fields.Fields.put.Goals as goal
 

@@ -11,8 +11,10 @@ request-requires-clause-within c = c.requires.order.within
 
 pub returns-in-Ok-clause-outcome : goal.returns-in-Ok-clause-outcome
 returns-in-Ok-clause-outcome c =
-    request_made c.args.self.now.body.pool c.args.e (state_in c.args.self.now) c.args.index c.args.handler c.args.words c.in-Ok.message (sym c.is_closed.ensures ∙ c.if-is_closed.false) c.in-Ok.ensures.refusal c.in-Ok.ensures.message
+    request_made c.args.self.now.body.pool c.args.e (state_in c.args.self.now) c.args.index c.args.handler c.args.words c.in-Ok.message (sym c.is_closed.ensures
+    ∙ c.if-is_closed.false) c.in-Ok.ensures.refusal c.in-Ok.ensures.message
 
 pub returns-in-Err-clause-outcome : goal.returns-in-Err-clause-outcome
 returns-in-Err-clause-outcome c =
-    request_refused c.args.self.now.body.pool c.args.e (state_in c.args.self.now) c.args.index c.args.handler c.args.words c.in-Err.refusal (sym c.is_closed.ensures ∙ c.if-is_closed.false) c.in-Err.ensures.refusal
+    request_refused c.args.self.now.body.pool c.args.e (state_in c.args.self.now) c.args.index c.args.handler c.args.words c.in-Err.refusal
+    (sym c.is_closed.ensures ∙ c.if-is_closed.false) c.in-Err.ensures.refusal

@@ -1,7 +1,7 @@
 use Rattle.std.proofs.Common.{ap, arith}
 use Rattle.am_model.specs.Changes.{without_front}
-use Rattle.am_body.specs.Views.{View, slots_held}
-use Rattle.am_body.proofs.Slots.{slots_queued}
+use Rattle.am_endpoint_body.specs.Views.{View, slots_held}
+use Rattle.am_endpoint_body.proofs.Slots.{slots_queued}
 use Rattle.am_endpoint.proofs.fields.Fields.requeue_front.Goals as goal
 
 pub queue-requires : goal.queue-requires

@@ -11,5 +11,9 @@ returns-clause-bytes c =
     let to = c.copy_front.new.to in
     let copied = rw (c.deref-2.ensures.value, rest_is) at c.copy_front.ensures in
     let shorter = rw (c.deref-2.ensures.value, rest_is) at c.min.ensures in
-    let same = copied_length (drop at xs) c.args.buf.now to count (omega arith) (omega arith) copied in
-    (omega arith, sym (ap (λ s. s.left) c.self.view_is) ∙ read_front xs c.args.buf.now to at count (omega arith) copied, c.is_end-self-inside.ensures, λ zero room. at_end xs at count (omega arith))
+    let same = copied_length (drop at xs) c.args.buf.now to count (omega arith) (omega arith) copied in (
+      omega arith,
+      sym (ap (λ s. s.left) c.self.view_is) ∙ read_front xs c.args.buf.now to at count (omega arith) copied,
+      c.is_end-self-inside.ensures,
+      λ zero room. at_end xs at count (omega arith),
+    )

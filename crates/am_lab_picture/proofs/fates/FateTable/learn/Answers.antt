@@ -4,18 +4,27 @@ use Rattle.am_names.specs.declared.Cause.{Cause}
 use Rattle.am_names.specs.declared.Serial.{Serial}
 use Rattle.am_names.specs.Names.{has_serial}
 use Rattle.am_office.specs.Entries.{is_serial, passes}
-use Rattle.am_lab_picture.specs.Fates.{cause_for, cause_in, has}
+use Rattle.am_lab_picture.specs.Fates.{cause_in, has}
+use Rattle.am_office.specs.Fates.{cause_for}
 use Rattle.am_lab_picture.proofs.Fating.{learned}
 use Rattle.am_lab_picture.proofs.fates.FateTable.learn.Goals as goal
 
 pub returns : goal.returns
 returns c = λ past are.
     let t = c.args.self.now in
-    learned t (record { accepted = c.note.new.set; returned = c.note_return.new.causes; unknown = c.note-2.new.set; ran = c.note-3.new.set }) past c.args.entry.now
+    learned t (record {
+      accepted = c.note.new.set;
+      returned = c.note_return.new.causes;
+      unknown = c.note-2.new.set;
+      ran = c.note-3.new.set;
+    }) past c.args.entry.now
     (record {
-      accepted = λ (s : Serial). c.in_ok-note.ensures s ∙ ap (λ (b : Bool). has t.accepted s || b) (c.serial_of-accepted.ensures s ∙ ap (passes (has_serial s)) c.accepted_of.ensures);
-      returned = λ (s : Serial). c.in_ok-note_return.ensures s ∙ ap (λ (r : Option (Serial × Cause)). option_or (cause_in t.returned s) (cause_for s r)) c.return_of.ensures;
+      accepted = λ (s : Serial). c.in_ok-note.ensures s ∙ ap (λ (b : Bool). has t.accepted s || b) (c.serial_of-accepted.ensures s
+          ∙ ap (passes (has_serial s)) c.accepted_of.ensures);
+      returned = λ (s : Serial). c.in_ok-note_return.ensures s
+          ∙ ap (λ (r : Option (Serial × Cause)). option_or (cause_in t.returned s) (cause_for s r)) c.return_of.ensures;
       unknown = λ (s : Serial). c.in_ok-note-2.ensures s ∙ ap (λ (u : Option Serial). has t.unknown s || is_serial s u) c.unknown_of.ensures;
-      ran = λ (s : Serial). c.in_ok-note-3.ensures s ∙ ap (λ (b : Bool). has t.ran s || b) (c.serial_of-ran.ensures s ∙ ap (passes (has_serial s)) c.run_of.ensures);
+      ran = λ (s : Serial). c.in_ok-note-3.ensures s ∙ ap (λ (b : Bool). has t.ran s || b) (c.serial_of-ran.ensures s
+          ∙ ap (passes (has_serial s)) c.run_of.ensures);
     })
     are

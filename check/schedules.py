@@ -1,0 +1,76 @@
+#!/usr/bin/env python3
+"""schedules.py LAB [FIRST] [COUNT]: what `am2_lab schedule SEED..SEED2` tells, made again from the reports that `am2_lab schedule SEED` prints of each seed alone.
+
+The scenarios are the examples with turns, one without, and COUNT random ones with turns from FIRST on (20 from 1), each with a range of seeds of its own. A range that is
+empty, too long or no range is refused.
+"""
+import pathlib
+import random
+import subprocess
+import sys
+
+from randoms import threaded_script
+
+TOP = pathlib.Path(__file__).resolve().parent.parent
+REFUSED = ["5..5", "6..5", "0..100001", "..5", "5..", "5...7", "5..=7", "a..b", "0..18446744073709551616", "-1..3"]
+
+
+def told(lab, seeds, text):
+    """The status and the output."""
+    done = subprocess.run([lab, "schedule", seeds], input=text.encode(), capture_output=True, check=False)
+    return done.returncode, done.stdout.decode()
+
+
+class Report:
+    """What a report says, whose first line may tell a full log."""
+
+    def __init__(self, seed, printed):
+        lines = printed.splitlines()
+        self.seed, self.full = seed, lines.pop(0) if lines[0].startswith("log full ") else None
+        self.entries = lines[1]
+        self.journal = lines[2 : 2 + int(lines[1].split()[1])]
+        self.fates = [line for line in lines if line.startswith("fate ")]
+        self.totals = lines[-1]
+
+    def line(self, first):
+        """Its line beside the first report."""
+        here = {fate.split()[1] for fate in self.fates}
+        other = [fate for fate in self.fates if fate not in first.fates]
+        missed = [" ".join(fate.split()[:3] + ["not-accepted"]) for fate in first.fates if fate.split()[1] not in here]
+        return " ".join(["seed", str(self.seed), self.entries, self.totals, *other, *missed, *([self.full] if self.full else [])])
+
+
+def due(lab, seeds, text):
+    """What should be told of these seeds."""
+    alone = [(seed, *told(lab, str(seed), text)) for seed in seeds]
+    if alone[0][1] == 3:
+        return 3, alone[0][2]
+    reports = [Report(seed, printed) for seed, _, printed in alone]
+    lines = [report.line(reports[0]) for report in reports]
+    lines.append(f"distinct journals {len({tuple(report.journal) for report in reports})}")
+    return max(status for _, status, _ in alone), "".join(line + "\n" for line in lines)
+
+
+def main(lab, first=1, count=20):
+    wrong, asked, lines = [], 0, 0
+    examples = [(name, (TOP / "examples" / name).read_text()) for name in ("turns-clients.am2", "run-withheld.am2", "first.am2")]
+    scripts = examples + [(f"scenario {seed}", threaded_script(seed)) for seed in range(first, first + count)]
+    for name, text in scripts:
+        choice = random.Random(name)
+        begin = choice.choice([0, 1, 77, 2**64 - 12])
+        seeds = range(begin, begin + choice.randint(1, 11))
+        asked, lines = asked + 1, lines + len(seeds)
+        if told(lab, f"{seeds.start}..{seeds.stop}", text) != due(lab, seeds, text):
+            wrong.append(f"{name}, seeds {seeds.start}..{seeds.stop}")
+    for word in REFUSED:
+        asked += 1
+        if told(lab, word, examples[0][1]) != (2, ""):
+            wrong.append(f"{word} was taken")
+    print(f"{asked} ranges of seeds asked for, {lines} runs told; {len(wrong)} wrong")
+    for it in wrong:
+        print(it)
+    return 1 if wrong else 0
+
+
+if __name__ == "__main__":
+    sys.exit(main(sys.argv[1], *(int(it) for it in sys.argv[2:4])))

@@ -1,5 +1,0 @@
-use Rattle.am_body.proofs.Filed.{received_view}
-use Rattle.am_body.proofs.Body.receive_copy.Goals as goal
-
-pub returns : goal.returns
-returns c = received_view c.self.inside c.args.self.now c.file_free.new.block _ c.self.view_is c.self.invariant c.file_free.ensures.filed c.requires

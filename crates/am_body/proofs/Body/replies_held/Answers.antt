@@ -1,5 +1,0 @@
-use Rattle.am_body.proofs.Counted.{replies_counted}
-use Rattle.am_body.proofs.Body.replies_held.Goals as goal
-
-pub returns : goal.returns
-returns c = replies_counted c.self.inside c.args.self.now c.len-queued.result c.count-flying.result c.count-back.result c.self.view_is c.len-queued.ensures.value c.count-flying.ensures.value c.count-back.ensures.value

@@ -1,0 +1,5 @@
+use Rattle.am_machine_node.specs.Shells.{AreCounts}
+use Rattle.am_cluster_crew.proofs.parting.counts_of.Given as goal
+
+abbrev pub invariant-loop-from : goal.invariant-loop-from
+invariant-loop-from l = AreCounts l.interface.log l.node l.from l.counts.items

@@ -1,0 +1,79 @@
+//! The phase of a run: the workers of all nodes make their turns at the same time, and what they made is put together to a cluster
+//! that a drain may go on from.
+#![tactic(auto)]
+
+ghost use Rattle.am_cluster_opening.specs.Crews.{AreCrews, AreLinked};
+ghost use Rattle.am_model_drain.specs.Follows.{IsGoodPhase};
+ghost use Rattle.am_model_scripts.specs.Layout.{layout_of};
+ghost use Rattle.am_scenario_types.specs.Lawful.{IsLawful};
+ghost use Rattle.am_scenario_types.specs.declared.parts.Network.TheVariants as Networks;
+ghost use Rattle.std.specs.Prelude.{◌≡◌, [], IfOk};
+
+mod closing;
+mod ended;
+mod ending;
+mod parting;
+mod running;
+
+use crate::ending::end_crews;
+use crate::parting::parts_of;
+use crate::running::{found_no_memory, run_crews};
+use am_cluster_ends::crews_unite;
+use am_cluster_opening::{NodeCrew, open_crews};
+use am_cluster_unite::receipts_are_counted;
+use am_machine::Cluster;
+use am_office::NoMemory;
+use am_scenario_types::Scenario;
+pub use am_workers::{Gate, OpenGate};
+use std::alloc::Global;
+use std::thread::Threads;
+
+/// What the crews of all nodes made, put together to a cluster, wherever their workers stopped: its journal is a good phase of the
+/// scenario, and the empty one where there are no turns. `NoMemory` comes where a worker found none, or there is none for the cluster:
+/// what the crews made is dropped then.
+pub fn unite_crews(
+    alloc: Global,
+    scenario: &Scenario,
+    crews: Vec<NodeCrew>,
+) -> Result<Cluster, NoMemory>
+    requires lawful { IsLawful scenario.now }
+    requires packet { scenario.now.network ≡ Networks.Packet }
+    requires crews { AreCrews scenario.now scenario.now.turns crews.items }
+    requires linked { AreLinked crews.items }
+    ensures layout { IfOk result (λ cluster. cluster.layout ≡ layout_of scenario.now) }
+    ensures good { IfOk result (λ cluster. IsGoodPhase scenario.now cluster.journal) }
+    ensures none { IfOk result (λ cluster. scenario.now.turns ≡ 0 → cluster.journal ≡ []) }
+{
+    if found_no_memory(&crews) {
+        return Err(NoMemory);
+    }
+    receipts_are_counted();
+    crews_unite();
+    let ended = end_crews(alloc, scenario, crews)?;
+    let parts = parts_of(alloc, ended, scenario.nodes)?;
+    match Cluster::unite(alloc, scenario, parts) {
+        Ok(cluster) => Ok(cluster),
+        Err(_) => Err(NoMemory),
+    }
+}
+
+/// What the threads, interfaces and drivers of a scenario of the packet network make in its number of turns, all at the same time:
+/// a cluster whose journal is a good phase of the scenario, however they interleave, and the empty one where there are no turns. A
+/// worker that meets a full log makes no further turn. `NoMemory` comes where a worker, or what is done before and after, found
+/// none.
+pub fn make_phase<R: Threads + Sync, G: Gate + Sync>(
+    rt: &R,
+    alloc: Global,
+    scenario: &Scenario,
+    gate: &G,
+) -> Result<Cluster, NoMemory>
+    requires lawful { IsLawful scenario.now }
+    requires packet { scenario.now.network ≡ Networks.Packet }
+    ensures layout { IfOk result (λ cluster. cluster.layout ≡ layout_of scenario.now) }
+    ensures good { IfOk result (λ cluster. IsGoodPhase scenario.now cluster.journal) }
+    ensures none { IfOk result (λ cluster. scenario.now.turns ≡ 0 → cluster.journal ≡ []) }
+{
+    let mut crews = open_crews(alloc, scenario)?;
+    run_crews(rt, alloc, scenario, gate, &mut crews);
+    unite_crews(alloc, scenario, crews)
+}

@@ -1,0 +1,12 @@
+use Rattle.am_model_drain.specs.Made.{after_event}
+use Rattle.am_cluster_drainer.specs.Reads.{call_event}
+use Rattle.am_model_scripts.specs.Layout.{layout_of}
+use Rattle.am_cluster_drainer.proofs.Acting.{acts_then, acts_less, extends_one}
+use Rattle.am_cluster_drainer.proofs.turns.make.Goals as goal
+
+pub returns-in-Ok-clause-acts : goal.returns-in-Ok-clause-acts
+returns-in-Ok-clause-acts g c =
+    acts_then _ _ _ _ (λ s xs. after_event (layout_of s) (call_event c.args.call) xs) _ _ _ _ c.in-Ok.ensures.scenario c.in-Ok.ensures.acts c.apply.ensures.acts
+
+pub returns-in-Err-clause-acts : goal.returns-in-Err-clause-acts
+returns-in-Err-clause-acts g c = acts_less _ _ _ _ _ _ (extends_one _ _) c.in-Err.ensures.acts

@@ -1,0 +1,16 @@
+pub mod Applying
+pub mod Due
+pub mod Emitting
+pub mod Feeding
+pub mod Growing
+pub mod Looking
+pub mod Rooms
+pub mod Starting
+pub mod Stepping
+pub mod Indexing
+pub mod Nexts
+pub mod Lasting
+pub mod EndMarked
+pub mod PairMarked
+pub mod Marking
+pub mod Ways

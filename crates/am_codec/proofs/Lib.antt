@@ -1,6 +1,0 @@
-mod Turns
-mod Loop
-mod Shares
-mod Validity
-mod Decoding
-pub mod InParts

@@ -1,6 +1,0 @@
-pub mod Answers
-pub mod Counts
-pub mod Lists
-pub mod Tests
-pub mod Decodes
-pub mod Parts

@@ -1,5 +1,0 @@
-use Rattle.am_drain.proofs.CutOff as cut_off
-use Rattle.am_drain.proofs.cut_is_determined.Goals as goal
-
-pub returns : goal.returns
-returns c = cut_off.cut_is_determined

@@ -1,5 +1,0 @@
-use Rattle.am_drain.proofs.Stopped as stopped
-use Rattle.am_drain.proofs.cut_off_is_stopped.Goals as goal
-
-pub returns : goal.returns
-returns c = stopped.cut_off_is_stopped

@@ -1,5 +1,0 @@
-use Rattle.am_drain.proofs.Turns as turns
-use Rattle.am_drain.proofs.drain_adds.Goals as goal
-
-pub returns : goal.returns
-returns c = turns.drain_adds

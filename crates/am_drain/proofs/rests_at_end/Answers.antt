@@ -1,5 +1,0 @@
-use Rattle.am_drain.proofs.Rest as rest
-use Rattle.am_drain.proofs.rests_at_end.Goals as goal
-
-pub returns : goal.returns
-returns c = rest.rests_at_end

@@ -1,0 +1,4 @@
+pub mod Logs
+pub mod Pages
+pub mod Moves
+pub mod Devices

@@ -1,5 +1,0 @@
-use Rattle.am_image.proofs.Bodies as laws
-use Rattle.am_image.proofs.each_body_has_its_image.Goals as goal
-
-pub returns : goal.returns
-returns c = laws.each_body_has_its_image

@@ -1,5 +1,0 @@
-use Rattle.am_image.proofs.Sizes as laws
-use Rattle.am_image.proofs.sizes_add.Goals as goal
-
-pub returns : goal.returns
-returns c = laws.sizes_add

@@ -1,0 +1,43 @@
+//! What runs the scenario of a round over the cluster.
+
+ghost use Rattle.am_cluster.specs.Runs.{IsRunCutOff};
+ghost use Rattle.am_job_cluster.specs.Ends.{rounds_add_up};
+ghost use Rattle.am_job_cluster.specs.Rounds.{IsRoundRun};
+
+use am_cluster::{OpenGate, RunFault, run};
+use am_job_count::{RunStop, Runner};
+use am_office::Journal;
+use am_scenario_types::Scenario;
+use std::alloc::Global;
+use std::thread::Threads;
+
+/// Runs scenarios over a cluster whose threads, interfaces and drivers make their turns at the same time.
+#[derive(Drop)]
+pub(crate) struct ClusterRunner;
+
+impl Runner for ClusterRunner {
+    ghost is_run = { λ _. IsRoundRun };
+
+    ghost is_cut = { λ _. IsRunCutOff };
+
+    ghost adds_up = { λ _. rounds_add_up };
+
+    fn run<T: Threads + Sync>(
+        &self,
+        rt: &T,
+        alloc: Global,
+        scenario: &Scenario,
+    ) -> Result<Journal, RunStop> {
+        match run(rt, alloc, scenario, &OpenGate) {
+            Ok(finished) => match finished.journal.copied(alloc) {
+                Ok(journal) => Ok(journal),
+                Err(_) => Err(RunStop::NoMemory),
+            },
+            Err(RunFault::LogFull { part, journal }) => match journal.copied(alloc) {
+                Ok(journal) => Err(RunStop::LogFull { part, journal }),
+                Err(_) => Err(RunStop::NoMemory),
+            },
+            Err(RunFault::NoMemory) => Err(RunStop::NoMemory),
+        }
+    }
+}

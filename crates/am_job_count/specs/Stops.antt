@@ -1,0 +1,30 @@
+-- Why words were not counted.
+use Rattle.std.specs.Prelude.{◌≡◌, ℕ, ◌<◌, List, length}
+use Rattle.am_office.specs.declared.Entry.{Entry}
+use Rattle.am_office.specs.declared.Part.{Part}
+use Rattle.am_scenario_types.specs.Lists.{ScenarioLists}
+use Rattle.am_job_words.specs.declared.codes.CodedWord.{CodedWord}
+use Rattle.am_job.specs.Rounds.{round_at, round_count}
+use Rattle.am_job_count.specs.declared.runner.RunStop.{RunStop}
+use Rattle.am_job_count.specs.declared.runner.RunStop.TheVariants as Run
+use Rattle.am_job_count.specs.declared.counting.CountStop.{CountStop}
+use Rattle.am_job_count.specs.declared.counting.CountStop.TheVariants as Stop
+
+-- a run met a full log
+abbrev pub IsRunStop : (Part → List Entry → Type 0) → RunStop → Type 0
+IsRunStop is_cut (Run.LogFull part journal) = is_cut part journal
+IsRunStop is_cut Run.NoMemory = Unit {0}
+
+-- so of this round
+abbrev pub IsRoundStop : (ScenarioLists → Part → List Entry → Type 0) → ScenarioLists → CountStop → Type 0
+IsRoundStop is_cut round (Stop.LogFull scenario part journal) = (scenario ≡ round) × is_cut round part journal
+IsRoundStop is_cut round Stop.NoMemory = Unit {0}
+
+-- a scenario is that of a round of these words
+abbrev pub IsRoundOf : (w turns : ℕ) → List CodedWord → ScenarioLists → Type 0
+IsRoundOf w turns sent scenario = (number : ℕ) × (number < round_count w (length sent)) × (scenario ≡ round_at w turns sent number)
+
+-- the run of a round of these words met a full log
+abbrev pub IsCountStop : (ScenarioLists → Part → List Entry → Type 0) → (w turns : ℕ) → List CodedWord → CountStop → Type 0
+IsCountStop is_cut w turns sent (Stop.LogFull scenario part journal) = IsRoundOf w turns sent scenario × is_cut scenario part journal
+IsCountStop is_cut w turns sent Stop.NoMemory = Unit {0}

@@ -1,5 +1,0 @@
-use Rattle.am_journal_lines.proofs.Lines.{printed_lines}
-use Rattle.am_journal_lines.proofs.printed_lines_are_read.Goals as goal
-
-pub returns : goal.returns
-returns c = printed_lines

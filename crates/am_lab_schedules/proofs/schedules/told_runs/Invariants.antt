@@ -1,0 +1,5 @@
+use Rattle.am_lab_schedules.specs.Told.{AreTold}
+use Rattle.am_lab_schedules.proofs.schedules.told_runs.Given as goal
+
+abbrev pub invariant-loop-seed : goal.invariant-loop-seed
+invariant-loop-seed l = AreTold l.scenario l.from l.seed l.telling

@@ -1,0 +1,40 @@
+-- What is answered of the runs of many seeds.
+use Rattle.std.specs.Prelude.{◌≡◌, ℕ, ◌-◌, Option, Some, None, List, map, Result, Ok, Err, All}
+use Rattle.std.specs.List.{range_with_len}
+use Rattle.am_cluster.specs.Runs.{IsRunCutOff}
+use Rattle.am_lab_outcomes.specs.Outcomes.{outcomes}
+use Rattle.am_lab_outcomes.specs.declared.runs.SeedRun.{SeedRun}
+use Rattle.am_main_lines.specs.Lines.{Answer, refusal}
+use Rattle.am_main_run.specs.Runs.{IsRunOf}
+use Rattle.am_office.specs.declared.Entry.{Entry}
+use Rattle.am_office.specs.declared.Part.{Part}
+use Rattle.am_scenario_types.specs.declared.faults.ScenarioFault.{ScenarioFault}
+use Rattle.am_scenario_types.specs.Lists.{ScenarioLists}
+
+-- the journal is that of a run of the scenario, or what a run made before it met the full log of this part
+abbrev pub IsMadeBy : ScenarioLists → Option Part → List Entry → Type 0
+IsMadeBy s None journal = IsRunOf s journal
+IsMadeBy s (Some part) journal = IsRunCutOff s part journal
+
+-- a run that `run` may make of the scenario
+abbrev pub IsMade : ScenarioLists → SeedRun → Type 0
+IsMade s run = IsMadeBy s run.full run.journal
+
+abbrev pub seeds_of : List SeedRun → List ℕ
+seeds_of runs = map (λ (run : SeedRun). run.seed) runs
+
+-- one run of the scenario for each seed from one up to another, which isn't among them
+pub record AreRunsOf (s : ScenarioLists) (from to : ℕ) (runs : List SeedRun) : Type 0 where
+  pub seeds : seeds_of runs ≡ range_with_len from (to - from)
+  pub made : All (IsMade s) runs
+
+-- THE HEADLINE, for `schedule SEED..SEED2`: what is answered is told of one run for each seed
+pub record TellsRuns (s : ScenarioLists) (from to : ℕ) (answer : Answer) : Type 0 where
+  pub runs : List SeedRun
+  pub are : AreRunsOf s from to runs
+  pub answer' : answer ≡ outcomes runs
+
+-- the answer to what a text spells, or to its first fault
+abbrev pub SchedulesAnswers : Result ScenarioLists ScenarioFault → (from to : ℕ) → Answer → Type 0
+SchedulesAnswers (Ok s) from to answer = TellsRuns s from to answer
+SchedulesAnswers (Err fault) from to answer = answer ≡ refusal fault

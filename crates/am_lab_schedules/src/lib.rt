@@ -1,0 +1,6 @@
+//! What `am2_lab schedule SEED..SEED2` prints: a line for the run of each seed, and how many distinct journals there were.
+#![tactic(auto)]
+
+mod schedules;
+
+pub use crate::schedules::schedules_output;

@@ -1,5 +1,0 @@
-use Rattle.am_local.proofs.Numbering.{next_emitted}
-use Rattle.am_local.proofs.emission_is_next.Goals as goal
-
-pub returns : goal.returns
-returns c = next_emitted

@@ -1,8 +1,0 @@
-use Rattle.am_local.proofs.Granting.{move_granted, move_keeps}
-use Rattle.am_local.proofs.move_is_granted.Goals as goal
-
-pub returns-clause-granted : goal.returns-clause-granted
-returns-clause-granted c = move_granted
-
-pub returns-clause-order : goal.returns-clause-order
-returns-clause-order c = move_keeps

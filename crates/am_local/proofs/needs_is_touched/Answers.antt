@@ -1,5 +1,0 @@
-use Rattle.am_local.proofs.Touched.{needs_touched}
-use Rattle.am_local.proofs.needs_is_touched.Goals as goal
-
-pub returns : goal.returns
-returns c = needs_touched

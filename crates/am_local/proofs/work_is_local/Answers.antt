@@ -1,5 +1,0 @@
-use Rattle.am_local.proofs.Outcomes.{work_local}
-use Rattle.am_local.proofs.work_is_local.Goals as goal
-
-pub returns : goal.returns
-returns c = work_local

@@ -1,5 +1,0 @@
-use Rattle.am_merge.proofs.Inserting.{merges}
-use Rattle.am_merge.proofs.logs_merge.Goals as goal
-
-pub returns : goal.returns
-returns c = merges

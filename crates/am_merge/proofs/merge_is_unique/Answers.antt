@@ -1,5 +1,0 @@
-use Rattle.am_merge.proofs.Unique.{merge_unique}
-use Rattle.am_merge.proofs.merge_is_unique.Goals as goal
-
-pub returns : goal.returns
-returns c = merge_unique

@@ -1,5 +1,0 @@
-use Rattle.am_merge.proofs.Before.{before_it}
-use Rattle.am_merge.proofs.past_is_below.Goals as goal
-
-pub returns : goal.returns
-returns c = λ past more x. before_it past x more

@@ -1,0 +1,6 @@
+//! The line of an entry in a printed journal, and the words in it that other texts have too.
+#![tactic(auto)]
+
+mod lines;
+
+pub use lines::{entry_line, mask_word};

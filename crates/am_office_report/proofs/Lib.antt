@@ -1,0 +1,11 @@
+pub mod Knowing
+pub mod Sorting
+pub mod Ordered
+pub mod Placing
+pub mod Flat
+pub mod Tabled
+pub mod Telling
+pub mod Summed
+pub mod Totalled
+pub mod Printed
+pub mod Printing

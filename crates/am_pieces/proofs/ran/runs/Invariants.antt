@@ -1,6 +1,0 @@
-use Rattle.std.proofs.Common.{take}
-use Rattle.am_pieces.specs.Runs.{TellsRuns}
-use Rattle.am_pieces.proofs.ran.runs.Given as goal
-
-abbrev pub invariant-loop-entry : goal.invariant-loop-entry
-invariant-loop-entry l = TellsRuns l.set (take l.entry-index l.entries)

@@ -1,6 +1,0 @@
-use Rattle.std.proofs.Common.{take}
-use Rattle.am_pieces.proofs.Written.{Holds}
-use Rattle.am_pieces.proofs.segment.take_entries.Given as goal
-
-abbrev pub invariant-loop-entry : goal.invariant-loop-entry
-invariant-loop-entry l = Holds l.segment l.bytes (take l.entry-index l.entries)

@@ -1,0 +1,147 @@
+-- What two seats added, once both are done.
+use Rattle.std.proofs.Common.{◌≡◌, ◌≢◌, inl, inr, ℕ, zero, suc, ◌<◌, ◌≤◌, Bool, true, false, List, [], ◌∷◌, ◌++◌, length, get_or, sym, refl, ap, ◌∙◌, subst}
+use Rattle.std.proofs.Common.{arith, append-nil, eq-eqb, ne_eqb, true≢false}
+use Rattle.std.specs.Prelude.{Option, if◌then◌else◌}
+use Rattle.am_places.specs.Rule.{Begins, Comes, HasGathered, both_at, both_known, gathered, has, joined, known_at, nothing, of, tenure}
+use Rattle.am_places.specs.declared.board.Known.{Known}
+use Rattle.am_places.specs.declared.board.Pass.{Pass}
+use Rattle.am_places.specs.declared.board.Tenure.{Tenure}
+use Rattle.am_places.proofs.Ends.{begins_longer, of-append}
+use Rattle.am_places_stays.specs.Stays.{AllBy, BeganWith, IsMerge, added_at}
+
+flat : {I : Type 0} → List (List I) → List I
+flat [] = []
+flat (xs ∷ xss) = xs ++ flat xss
+
+-- ---- tenures of a mark
+
+module _ {I : Type 0} where
+  of_at : (m : ℕ) (t : Tenure I) (ts : List (Tenure I)) → t.by ≡ m → of m (t ∷ ts) ≡ t.items ∷ of m ts
+  of_at m t ts is = ap (λ (b : Bool). if b then t.items ∷ of m ts else of m ts) (eq-eqb t.by m is)
+
+  of_not : (m : ℕ) (t : Tenure I) (ts : List (Tenure I)) → t.by ≢ m → of m (t ∷ ts) ≡ of m ts
+  of_not m t ts ne = ap (λ (b : Bool). if b then t.items ∷ of m ts else of m ts) (ne_eqb t.by m ne)
+
+  not_at : (m : ℕ) (t : Tenure I) (ts : List (Tenure I)) → of m (t ∷ ts) ≡ [] → t.by ≢ m
+  not_at m t ts none is = absurd (let both : t.items ∷ of m ts ≡ [] = sym (of_at m t ts is) ∙ none in cc)
+
+  rest_none : (m : ℕ) (t : Tenure I) (ts : List (Tenure I)) → of m (t ∷ ts) ≡ [] → of m ts ≡ []
+  rest_none m t ts none = sym (of_not m t ts (not_at m t ts none)) ∙ none
+
+  all_own : (m : ℕ) (ts : List (Tenure I)) → AllBy m ts → flat (of m ts) ≡ joined ts
+  unfolding flat
+  all_own m [] h = refl
+  all_own m (t ∷ ts) h = ap flat (of_at m t ts h.0) ∙ ap (λ (l : List I). t.items ++ l) (all_own m ts h.1)
+
+  none_other : (m n : ℕ) (ts : List (Tenure I)) → AllBy n ts → m ≢ n → of m ts ≡ []
+  none_other m n [] h ne = refl
+  none_other m n (t ∷ ts) h ne = of_not m t ts (λ e. ne (sym e ∙ h.0)) ∙ none_other m n ts h.1 ne
+
+  -- ---- what two marks added
+
+  left_more : (ws xs ys zs : List I) → IsMerge xs ys zs → IsMerge (ws ++ xs) ys (ws ++ zs)
+  left_more [] xs ys zs h = h
+  left_more (a ∷ ws) xs ys zs h = inl (ws ++ xs, refl, left_more ws xs ys zs h)
+
+  right_more : (ws xs ys zs : List I) → IsMerge xs ys zs → IsMerge xs (ws ++ ys) (ws ++ zs)
+  right_more [] xs ys zs h = h
+  right_more (a ∷ ws) xs ys zs h = inr (ws ++ ys, refl, right_more ws xs ys zs h)
+
+  merged : (log : List (Tenure I)) → ((m : ℕ) → 2 < m → of m log ≡ []) → of 0 log ≡ [] → IsMerge (flat (of 1 log)) (flat (of 2 log)) (joined log)
+  unfolding flat
+  merged [] far none = (refl, refl)
+  merged (t ∷ ts) far none = by_mark t.by refl (merged ts (λ m lt. rest_none m t ts (far m lt)) (rest_none 0 t ts none))
+    where
+      by_mark : (n : ℕ) → t.by ≡ n → IsMerge (flat (of 1 ts)) (flat (of 2 ts)) (joined ts) →
+          IsMerge (flat (of 1 (t ∷ ts))) (flat (of 2 (t ∷ ts))) (t.items ++ joined ts)
+      by_mark zero is more = absurd (not_at 0 t ts none is)
+      by_mark (suc zero) is more =
+          coe 0 1 (i. IsMerge (flat (sym (of_at 1 t ts is) i)) (flat (sym (of_not 2 t ts (λ e. omega (arith, e, is))) i)) (t.items ++ joined ts))
+          (left_more t.items (flat (of 1 ts)) (flat (of 2 ts)) (joined ts) more)
+      by_mark (suc (suc zero)) is more =
+          coe 0 1 (i. IsMerge (flat (sym (of_not 1 t ts (λ e. omega (arith, e, is))) i)) (flat (sym (of_at 2 t ts is) i)) (t.items ++ joined ts))
+          (right_more t.items (flat (of 1 ts)) (flat (of 2 ts)) (joined ts) more)
+      by_mark (suc (suc (suc n))) is more = absurd (not_at (suc (suc (suc n))) t ts (far (suc (suc (suc n))) (omega arith)) is)
+
+no_length : {A : Type 0} (l : List A) → length l ≡ 0 → l ≡ []
+no_length [] e = refl
+no_length (x ∷ xs) e = absurd (omega (arith, e))
+
+known_both : {I : Type 0} (k : ℕ) (xs ys : List (Known I)) → length xs ≡ length ys → k < length xs →
+    get_or (both_known xs ys) k nothing ≡ both_at (get_or xs k nothing) (get_or ys k nothing)
+known_both k [] ys e near = absurd (omega (arith, near))
+known_both k (x ∷ xs) [] e near = absurd (omega (arith, e))
+known_both zero (x ∷ xs) (y ∷ ys) e near = refl
+known_both (suc k) (x ∷ xs) (y ∷ ys) e near = known_both k xs ys (omega (arith, e)) (omega (arith, near))
+
+one_or_two : (m : ℕ) → 0 < m → m ≤ 2 → has m (2 ∷ 1 ∷ []) ≡ true
+one_or_two zero pos few = absurd (omega (arith, pos))
+one_or_two (suc zero) pos few = refl
+one_or_two (suc (suc zero)) pos few = refl
+one_or_two (suc (suc (suc m))) pos few = absurd (omega (arith, few))
+
+module _ {I T : Type 0} (v w z : Pass I T) (is : z ≡ gathered v w) (two : v.keeps ≡ 2 ∷ []) (one : w.keeps ≡ 1 ∷ []) (seats : v.seats ≡ 2) where
+  marks : z.keeps ≡ 2 ∷ 1 ∷ []
+  marks = ap (λ (q : Pass I T). q.keeps) is ∙ (λ i. two i ++ one i)
+
+  all_seats : z.seats ≡ 2
+  all_seats = ap (λ (q : Pass I T). q.seats) is ∙ seats
+
+  pub both_gathered : HasGathered z
+  both_gathered m pos few = ap (has m) marks ∙ one_or_two m pos (subst (λ (n : ℕ). m ≤ n) all_seats few)
+
+  module _ (at : ℕ) (near : at < length v.known) (wide : length v.known ≡ length w.known) where
+    known_of_both : known_at at z ≡ both_at (known_at at v) (known_at at w)
+    known_of_both = ap (known_at at) is ∙ known_both at v.known w.known wide near
+
+    pub still_outside : (known_at at v).inside ≡ false → (known_at at z).inside ≡ true → ⊥
+    still_outside out inn = true≢false (sym inn ∙ ap (λ (x : Known I). x.inside) known_of_both ∙ out)
+
+    -- the tenures of a mark that one of the two has
+    theirs : (log : List (Tenure I)) (m : ℕ) → has m (2 ∷ 1 ∷ []) ≡ true → ((n : ℕ) → has n z.keeps ≡ true → of n log ≡ of n (known_at at z).made) →
+        of m log ≡ of m (known_at at v).made ++ of m (known_at at w).made
+    theirs log m kept own =
+        own m (ap (has m) marks ∙ kept) ∙ ap (λ (x : Known I). of m x.made) known_of_both ∙ of-append m (known_at at v).made (known_at at w).made
+
+    module _ {B : Type 0} (items : B → List I) (birth : B → T) (stands : B → ℕ) (moves : I → Bool) where
+      pub both_added : (hand : List (ℕ × Option B)) (log : List (Tenure I)) (b : B) → AllBy 2 (known_at at v).made → AllBy 1 (known_at at w).made →
+          Comes items birth stands moves at (z, hand) log b
+          → (xs : List I) → BeganWith at xs v → (ys : List I) × (items b ≡ xs ++ ys) × IsMerge (added_at at w) (added_at at v) ys
+      both_added hand log b mine others comes xs began = (
+        joined more,
+        sym comes.stands_for
+            ∙ ap joined whole,
+        coe 0 1 (i. IsMerge (first i) (second i) (joined more)) (merged more far none),
+      )
+        where
+          seen : Begins log (known_at at v).seen
+          seen = subst (λ (x : Known I). Begins log x.seen) known_of_both comes.begins
+
+          start : Begins log (tenure 0 xs ∷ [])
+          start = subst (λ (l : List (Tenure I)). Begins l (tenure 0 xs ∷ [])) (sym seen.1) (begins_longer (known_at at v).seen seen.0 (tenure 0 xs ∷ []) began)
+
+          more : List (Tenure I)
+          more = start.0
+
+          whole : log ≡ tenure 0 xs ∷ more
+          whole = start.1
+
+          none : of 0 more ≡ []
+          none = no_length (of 0 more) (let one_there : length (of 0 (tenure 0 xs ∷ more)) ≡ 1 = ap (λ (l : List (Tenure I)). length (of 0 l)) (sym whole)
+              ∙ comes.opening in omega (arith, one_there))
+
+          far : (m : ℕ) → 2 < m → of m more ≡ []
+          far m lt = rest_none m (tenure 0 xs) more (ap (of m) (sym whole) ∙ comes.far m (subst (λ (n : ℕ). n < m) (sym all_seats) lt))
+
+          first : flat (of 1 more) ≡ added_at at w
+          first =
+              ap flat (ap (of 1) (sym whole) ∙ theirs log 1 refl comes.own_tenures
+              ∙ ap (λ (l : List (List I)). l ++ of 1 (known_at at w).made) (none_other 1 2 (known_at at v).made mine (λ e. omega (arith, e))))
+              ∙ all_own 1 (known_at at w).made others
+
+          second : flat (of 2 more) ≡ added_at at v
+          second =
+              ap flat (ap (of 2) (sym whole) ∙ theirs log 2 refl comes.own_tenures
+              ∙ ap (λ (l : List (List I)). of 2 (known_at at v).made ++ l) (none_other 2 1 (known_at at w).made others (λ e. omega (arith, e)))
+              ∙ append-nil (of 2 (known_at at v).made))
+              ∙ all_own 2 (known_at at v).made mine

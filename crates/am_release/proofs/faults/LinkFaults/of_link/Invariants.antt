@@ -1,6 +1,0 @@
-use Rattle.std.proofs.Common.{◌-◌, drop}
-use Rattle.am_release.specs.Faults.{SaysOf}
-use Rattle.am_release.proofs.faults.LinkFaults.of_link.Given as goal
-
-abbrev pub invariant-loop-done : goal.invariant-loop-done
-invariant-loop-done l = record { says : SaysOf (drop (l.count - l.done) l.plan) l.from l.to l.faults }

@@ -1,5 +1,0 @@
-use Rattle.am_run_laws.proofs.Beginnings.{beginnings_are_histories}
-use Rattle.am_run_laws.proofs.beginnings_are_histories.Goals as goal
-
-pub returns : goal.returns
-returns c = beginnings_are_histories

@@ -1,5 +1,0 @@
-use Rattle.am_run_laws.proofs.Phases.{cut_off_phases_are_stopped}
-use Rattle.am_run_laws.proofs.cut_off_phases_are_stopped.Goals as goal
-
-pub returns : goal.returns
-returns c = cut_off_phases_are_stopped

@@ -1,5 +1,0 @@
-use Rattle.am_run_laws.proofs.Drained.{cut_off_runs_are_stopped}
-use Rattle.am_run_laws.proofs.cut_off_runs_are_stopped.Goals as goal
-
-pub returns : goal.returns
-returns c = cut_off_runs_are_stopped

@@ -1,5 +1,0 @@
-use Rattle.am_run_laws.proofs.Beginnings.{drains_are_not_refused}
-use Rattle.am_run_laws.proofs.drains_are_not_refused.Goals as goal
-
-pub returns : goal.returns
-returns c = drains_are_not_refused

@@ -1,5 +1,0 @@
-use Rattle.am_run_laws.proofs.Drained.{drains_are_short}
-use Rattle.am_run_laws.proofs.drains_are_short.Goals as goal
-
-pub returns : goal.returns
-returns c = drains_are_short

@@ -1,5 +1,0 @@
-use Rattle.am_run_laws.proofs.Left.{drains_leave_nothing}
-use Rattle.am_run_laws.proofs.drains_leave_nothing.Goals as goal
-
-pub returns : goal.returns
-returns c = drains_leave_nothing

@@ -1,5 +1,0 @@
-use Rattle.am_run_laws.proofs.Drained.{empty_is_good_phase}
-use Rattle.am_run_laws.proofs.empty_is_good_phase.Goals as goal
-
-pub returns : goal.returns
-returns c = empty_is_good_phase

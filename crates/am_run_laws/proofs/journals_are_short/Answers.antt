@@ -1,5 +1,0 @@
-use Rattle.am_run_laws.proofs.Short.{journals_are_short}
-use Rattle.am_run_laws.proofs.journals_are_short.Goals as goal
-
-pub returns : goal.returns
-returns c = journals_are_short

@@ -1,5 +1,0 @@
-use Rattle.am_run_laws.proofs.Phases.{phases_with_room_are_whole}
-use Rattle.am_run_laws.proofs.phases_with_room_are_whole.Goals as goal
-
-pub returns : goal.returns
-returns c = phases_with_room_are_whole

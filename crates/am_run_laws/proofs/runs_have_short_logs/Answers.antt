@@ -1,5 +1,0 @@
-use Rattle.am_run_laws.proofs.Known.{runs_have_short_logs}
-use Rattle.am_run_laws.proofs.runs_have_short_logs.Goals as goal
-
-pub returns : goal.returns
-returns c = runs_have_short_logs

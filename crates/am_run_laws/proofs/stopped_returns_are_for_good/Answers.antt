@@ -1,5 +1,0 @@
-use Rattle.am_run_laws.proofs.Stopped.{stopped_returns_are_for_good}
-use Rattle.am_run_laws.proofs.stopped_returns_are_for_good.Goals as goal
-
-pub returns : goal.returns
-returns c = stopped_returns_are_for_good

@@ -1,0 +1,4 @@
+pub mod Said
+pub mod Drafts
+pub mod Planned
+pub mod Faults

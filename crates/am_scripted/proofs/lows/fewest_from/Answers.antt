@@ -1,9 +1,0 @@
-use Rattle.std.proofs.Common.{Option, map, sym, subst}
-use Rattle.am_scripted.specs.Lows.{IsLow}
-use Rattle.am_scripted.specs.Threads.{scripted_in}
-use Rattle.am_scripted.specs.declared.lows.LowMark.{LowMark}
-use Rattle.am_scripted.proofs.Lowest.{nothing_left}
-use Rattle.am_scripted.proofs.lows.fewest_from.Goals as goal
-
-pub returns-in-None : goal.returns-in-None
-returns-in-None c = nothing_left (map scripted_in c.args.threads.now) (subst (λ (o : Option LowMark). IsLow (map scripted_in c.args.threads.now) o) c.in-None.is c.requires)

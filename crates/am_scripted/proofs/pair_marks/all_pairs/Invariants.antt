@@ -1,5 +1,0 @@
-use Rattle.am_scripted.proofs.PairMarked.{ArePairedTo}
-use Rattle.am_scripted.proofs.pair_marks.all_pairs.Given as goal
-
-abbrev pub invariant-loop-place : goal.invariant-loop-place
-invariant-loop-place l = ArePairedTo l.scenario l.cluster.journal l.place l.marks

@@ -1,6 +1,0 @@
-use Rattle.std.proofs.Common.{◌≡◌, map, take}
-use Rattle.am_scripted.specs.Threads.{scripted_in, scripted_of}
-use Rattle.am_scripted.proofs.threads.scripts_after.Given as goal
-
-abbrev pub invariant-loop-entry : goal.invariant-loop-entry
-invariant-loop-entry l = map scripted_in l.threads.items ≡ map (scripted_of l.scenario (take l.entry-index l.entries)) l.scenario.threads

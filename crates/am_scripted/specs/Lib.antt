@@ -1,9 +1,0 @@
-pub mod Links
-pub mod Threads
-pub mod Lows
-pub mod Scripted
-pub mod Plans
-pub mod Tries
-pub mod Touched
-pub mod EndMarks
-pub mod PairMarks

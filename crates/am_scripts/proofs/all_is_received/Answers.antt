@@ -1,5 +1,0 @@
-use Rattle.am_scripts.proofs.Links as links
-use Rattle.am_scripts.proofs.all_is_received.Goals as goal
-
-pub returns : goal.returns
-returns c = links.all_is_received

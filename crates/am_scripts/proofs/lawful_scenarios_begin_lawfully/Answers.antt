@@ -1,5 +1,0 @@
-use Rattle.am_scripts.proofs.Lawful.{lawful_layout}
-use Rattle.am_scripts.proofs.lawful_scenarios_begin_lawfully.Goals as goal
-
-pub returns : goal.returns
-returns c = lawful_layout

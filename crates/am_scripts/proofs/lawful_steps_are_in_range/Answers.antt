@@ -1,5 +1,0 @@
-use Rattle.am_scripts.proofs.Lawful.{steps_in_range}
-use Rattle.am_scripts.proofs.lawful_steps_are_in_range.Goals as goal
-
-pub returns : goal.returns
-returns c = steps_in_range

@@ -1,5 +1,0 @@
-use Rattle.am_scripts.proofs.Links as links
-use Rattle.am_scripts.proofs.receives_beginning.Goals as goal
-
-pub returns : goal.returns
-returns c = links.receives_beginning

@@ -1,5 +1,0 @@
-use Rattle.am_scripts.proofs.Done as done
-use Rattle.am_scripts.proofs.scripts_are_done.Goals as goal
-
-pub returns : goal.returns
-returns c = done.scripts_are_done

@@ -1,0 +1,15 @@
+use Rattle.std.proofs.Common.{arith}
+use Rattle.std.proofs.lemmas.List.{take_all}
+use Rattle.am_segment_pieces.proofs.Written.{holds_all, holds_next, holds_start}
+use Rattle.am_segment_pieces.proofs.segment.take_entries.Goals as goal
+
+pub loop-entry-init : goal.loop-entry-init
+loop-entry-init c = holds_start _ _ c.requires
+
+pub loop-entry-preserved : goal.loop-entry-preserved
+loop-entry-preserved c = holds_next _ c.loop-entry.bytes _ _ _ _ c.loop-entry-test.true (omega arith) c.take_entry.ensures c.loop-entry.invariant
+
+pub returns : goal.returns
+returns c =
+    let past = c.loop-entry-test.false in
+    holds_all _ _ _ (rw (take_all c.loop-entry.entry-index c.args.entries.now past) at c.loop-entry.invariant)

@@ -1,5 +1,0 @@
-use Rattle.am_relay.specs.Relays.{SameIn}
-use Rattle.am_sums.proofs.receive.Given as goal
-
-abbrev pub invariant-loop-look : goal.invariant-loop-look
-invariant-loop-look l = record { same : SameIn l.initial.inn l.inn }

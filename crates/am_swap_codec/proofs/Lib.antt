@@ -1,0 +1,4 @@
+mod Shares
+mod Validity
+mod Decoding
+pub mod InParts
