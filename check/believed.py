@@ -143,7 +143,7 @@ def page_of(files, types, reached):
     return f"""# What must be believed
 
 Made by `check/believed.py --write`, and compared by the gate's checks: the definitions that the contract of the top call `am2` rests on, found by following what each names. Whoever has read
-these {lines} lines in {len(rows)} files ({count} definitions; comments, imports and empty lines aside) knows what is proved of the program; no other definition, no lemma and no code is part of the claim.
+these {lines} lines in {len(rows)} files ({count} definitions; comments, imports and empty lines aside) knows what is proved of the program; no other definition of this repository, no lemma and no code is part of the claim.
 [READING.md](READING.md) says in which order they read best.
 
 | Crate | File | Lines | Definitions |
