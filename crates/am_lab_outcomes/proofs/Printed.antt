@@ -4,7 +4,8 @@ use Rattle.am_office_report.proofs.Printed.{more_words}
 use Rattle.am_office_text.specs.Words.{Word, spaced}
 
 -- words after words
-pub more_told : {T E : Type 0} (result : Result T E) (old mid new : List ℕ) (ws vs : List Word) → mid ≡ old ++ spaced ws → OnOk result (new ≡ mid ++ spaced vs) →
+pub more_told :
+    {T E : Type 0} (result : Result T E) (old mid new : List ℕ) (ws vs : List Word) → mid ≡ old ++ spaced ws → OnOk result (new ≡ mid ++ spaced vs) →
     OnOk result (new ≡ old ++ spaced (ws ++ vs))
 more_told (Ok x) old mid new ws vs first second = more_words old mid new ws vs first second
 more_told (Err e) old mid new ws vs first second = second

@@ -4,6 +4,8 @@
 #[cfg(test)]
 mod entries;
 #[cfg(test)]
+mod events;
+#[cfg(test)]
 mod journals;
 #[cfg(test)]
 mod patient;

@@ -1,4 +1,5 @@
-use crate::entries::{CALLS, OTHERS};
+use crate::entries::CALLS;
+use crate::events::OTHERS;
 use crate::journals::{FATES, REPORTS};
 use am_names::{EndpointId, NodeId, Serial};
 use am_office::{Entry, Event, Journal, fate};

@@ -1,7 +1,8 @@
+use crate::runs::RUNS;
 use crate::single_lines::{
     PLAN_HEAD, PLAN_LINES, POOL_HEAD, POOL_LINES, RUN_HEAD, RUN_LINES, STEP_HEAD, STEP_LINES,
 };
-use crate::tables::{DECLARATIONS, EVENTS, FIRST_LINES, RUNS, SETTINGS};
+use crate::tables::{DECLARATIONS, EVENTS, FIRST_LINES, SETTINGS};
 use am_lexer::What;
 use am_names::{AnswerPacket, EndpointId, NodeId, Packet, Tag, Verdict};
 use am_office::{Call, Mask};

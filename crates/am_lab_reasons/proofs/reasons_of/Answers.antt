@@ -17,7 +17,8 @@ text_of-requires c =
     let r = c.requires.report.1 in
     let t = reported c.requires.report.0 c.args.scenario.now c.requires.lawful c.args.bytes.now c.requires.few r in
     let are = subst (λ (l : Layout). AreLines l (drop 2 (lines_of c.args.bytes.now)) r.journal t.left) (sym c.in_ok-cluster.ensures.layout) t.are in
-    let is : c.in_ok-journal.journal ≡ r.journal = c.in_ok-journal.ensures ∙ c.in_ok-logged.ensures.journal ∙ c.in_ok-reach_end.ensures.reached r.journal t.left are t.count in
+    let is : c.in_ok-journal.journal ≡ r.journal =
+    c.in_ok-journal.ensures ∙ c.in_ok-logged.ensures.journal ∙ c.in_ok-reach_end.ensures.reached r.journal t.left are t.count in
     let long = ap length is in
     let low = t.low in
     let few = c.requires.few in
@@ -28,6 +29,7 @@ returns c = λ form r.
     let s = c.args.scenario.now in
     let t = reported form s c.requires.lawful c.args.bytes.now c.requires.few r in
     let are = subst (λ (l : Layout). AreLines l (drop 2 (lines_of c.args.bytes.now)) r.journal t.left) (sym c.in_ok-cluster.ensures.layout) t.are in
-    let is : c.in_ok-journal.journal ≡ r.journal = c.in_ok-journal.ensures ∙ c.in_ok-logged.ensures.journal ∙ c.in_ok-reach_end.ensures.reached r.journal t.left are t.count in
+    let is : c.in_ok-journal.journal ≡ r.journal =
+    c.in_ok-journal.ensures ∙ c.in_ok-logged.ensures.journal ∙ c.in_ok-reach_end.ensures.reached r.journal t.left are t.count in
     told_of form s c.args.bytes.now c.args.serial r c.deref.result.now c.in_ok-journal.journal c.text_of.result
     (c.deref.ensures.value ∙ ap (λ (l : ScenarioLists). l.plan) c.scenario.view_is) is c.text_of.ensures

@@ -23,7 +23,8 @@ follow-requires-clause-again c =
     c.in_ok-cluster.ensures.layout in
     let plain = lines_at Forms.Run s c.requires.lawful c.args.bytes.now c.args.line h.journal h.left h.at (layout_of s) refl in
     let got = c.in_ok-reach.ensures.reached h.journal h.left are h.at.number' in
-    let entries : c.deref.result.now ≡ h.journal = c.deref.ensures.value ∙ c.journal-2.view_is ∙ c.in_ok-journal.ensures ∙ c.in_ok-logged.ensures.journal ∙ got.0 in
+    let entries : c.deref.result.now ≡ h.journal =
+    c.deref.ensures.value ∙ c.journal-2.view_is ∙ c.in_ok-journal.ensures ∙ c.in_ok-logged.ensures.journal ∙ got.0 in
     subst (λ (t : ScenarioLists). EachAfter (IsMadeAgain (layout_of t)) [] c.deref.result.now) (sym c.in_ok-run.ensures.scenario)
     (subst (λ (js : List Entry). EachAfter (IsMadeAgain (layout_of s)) [] js) (sym entries) plain.each)
 
@@ -34,5 +35,6 @@ returns-clause-at c =
     let are = lines_at Forms.Run s c.requires.lawful c.args.bytes.now c.args.line h.journal h.left h.at c.in_ok-cluster.cluster.layout
     c.in_ok-cluster.ensures.layout in
     let got = c.in_ok-reach.ensures.reached h.journal h.left are h.at.number' in
-    let entries : c.deref.result.now ≡ h.journal = c.deref.ensures.value ∙ c.journal-2.view_is ∙ c.in_ok-journal.ensures ∙ c.in_ok-logged.ensures.journal ∙ got.0 in
+    let entries : c.deref.result.now ≡ h.journal =
+    c.deref.ensures.value ∙ c.journal-2.view_is ∙ c.in_ok-journal.ensures ∙ c.in_ok-logged.ensures.journal ∙ got.0 in
     (h.left, subst (λ (js : List Entry). StandsAt Forms.Run s c.args.bytes.now c.args.line js h.left) (sym (c.in_ok-follow.ensures.journal ∙ entries)) h.at)

@@ -25,7 +25,8 @@ told-requires-clause-run c =
     let r = checked_report s c.args.bytes.now c.requires.report.0 c.requires.report.1 in
     let t = reported Run s c.requires.lawful c.args.bytes.now c.requires.few r in
     let are = subst (λ (l : Layout). AreLines l (drop 2 (lines_of c.args.bytes.now)) r.journal t.left) (sym c.in_ok-cluster.ensures.layout) t.are in
-    let is : c.in_ok-journal.journal ≡ r.journal = c.in_ok-journal.ensures ∙ c.in_ok-logged.ensures.journal ∙ c.in_ok-reach_end.ensures.reached r.journal t.left are t.count in
+    let is : c.in_ok-journal.journal ≡ r.journal =
+    c.in_ok-journal.ensures ∙ c.in_ok-logged.ensures.journal ∙ c.in_ok-reach_end.ensures.reached r.journal t.left are t.count in
     subst (λ (j : List Entry). IsRunHistory s j) (sym is) c.requires.report.1.history
 
 pub returns : goal.returns
@@ -34,5 +35,6 @@ returns c = λ journal report.
     let r = checked_report s c.args.bytes.now journal report in
     let t = reported Run s c.requires.lawful c.args.bytes.now c.requires.few r in
     let are = subst (λ (l : Layout). AreLines l (drop 2 (lines_of c.args.bytes.now)) journal t.left) (sym c.in_ok-cluster.ensures.layout) t.are in
-    let is : c.in_ok-journal.journal ≡ journal = c.in_ok-journal.ensures ∙ c.in_ok-logged.ensures.journal ∙ c.in_ok-reach_end.ensures.reached journal t.left are t.count in
+    let is : c.in_ok-journal.journal ≡ journal =
+    c.in_ok-journal.ensures ∙ c.in_ok-logged.ensures.journal ∙ c.in_ok-reach_end.ensures.reached journal t.left are t.count in
     subst (λ (j : List Entry). IfOk c.told.result (λ (o : Output). TellsRun s j (answer_in o))) is c.told.ensures
