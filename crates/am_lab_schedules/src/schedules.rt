@@ -18,7 +18,6 @@ use am_scenario::{Form, ReadFault, Scenario, read};
 use std::alloc::Global;
 
 /// The run of this seed.
-#[tactic(auto, using(am_main_run::proofs::RunMeaning::is_run_of))]
 fn run_of(alloc: Global, scenario: &Scenario, seed: u64) -> Result<SeedRun, NoMemory>
     requires lawful { IsLawful scenario.now }
     requires packet { scenario.now.network ≡ Networks.Packet }

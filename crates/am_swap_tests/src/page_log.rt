@@ -1,7 +1,7 @@
 //! A disk of another make: a log of pages, the newest first. A call fails where it is full, and it tells of none beforehand.
 ghost use Rattle.am_swap_device.specs.Memory.{held_for, is_for};
 ghost use Rattle.std.specs.Option.{option_copied};
-ghost use Rattle.std.specs.Prelude.{◌≡◌, [], None, Unit, find};
+ghost use Rattle.std.specs.Prelude.{◌≡◌, [], None, find};
 
 use am_names::EndpointId;
 use am_swap_device::{Look, Swap, SwapFault};
