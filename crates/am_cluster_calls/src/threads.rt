@@ -8,7 +8,7 @@ ghost use Rattle.am_model_scripts.specs.Scripts.{call_made};
 ghost use Rattle.std.specs.Prelude.{◌≡◌, ◌==◌, ◌+◌, ◌*◌, ◌≤◌, ◌<◌, ◌^◌, [], IfOk, OnOk, length, map, option_map, vec_len};
 
 use am_cluster_drainer::LeftCall;
-use am_office::{Actor, Entry, Event, NoMemory};
+use am_office::{Actor, Entry, Event, NoMemory, growth};
 use am_scenario_types::{Scenario, ScriptCall};
 use std::alloc::Global;
 
@@ -39,8 +39,9 @@ fn bare_threads(alloc: Global, scenario: &Scenario) -> Result<Vec<ThreadScript>,
 fn add_on(thread: &mut ThreadScript, call: ScriptCall) -> Result<(), NoMemory>
     ensures { OnOk result (scripted_in thread.new ≡ with_line call (scripted_in thread.old)) }
 {
-    if thread.id == call.thread && thread.calls.push(call).is_err() {
-        return Err(NoMemory);
+    if thread.id == call.thread {
+        thread.calls.reserve(growth(&thread.calls))?;
+        thread.calls.push_reserved(call);
     }
     Ok(())
 }

@@ -43,22 +43,33 @@ fn make_steps(cluster: &mut Cluster, steps: &[StepLine]) -> Result<(), StepFault
     Ok(())
 }
 
-/// The report of what the steps of a scenario make.
-fn scenario_text(alloc: Global, scenario: &Scenario) -> Result<Vec<u8>, StepFault>
-    requires lawful { IsLawful scenario.now }
-    ensures { TellsText scenario.now (made (layout_of scenario.now) (events_of scenario.now.steps)) result }
+/// The scenario without its steps, whose memory is given back.
+fn without_steps(alloc: Global, scenario: Scenario) -> Scenario
+    ensures { result ≡ record scenario { steps = [] } }
 {
-    let Ok(mut cluster) = Cluster::new(alloc, scenario) else {
+    Scenario {
+        steps: Vec::new(alloc),
+        ..scenario
+    }
+}
+
+/// The report of what the steps of a scenario make. The steps are given back before it is written.
+fn scenario_text(alloc: Global, scenario: Scenario) -> Result<Vec<u8>, StepFault>
+    requires lawful { IsLawful scenario }
+    ensures { TellsText scenario (made (layout_of scenario) (events_of scenario.steps)) result }
+{
+    let Ok(mut cluster) = Cluster::new(alloc, &scenario) else {
         return Err(StepFault::NoMemory);
     };
     match make_steps(&mut cluster, &scenario.steps) {
         Ok(()) => {}
         Err(fault) => return Err(fault),
     }
+    let scenario = without_steps(alloc, scenario);
     let Ok(journal) = cluster.journal(alloc) else {
         return Err(StepFault::NoMemory);
     };
-    match report_of(alloc, scenario, &journal) {
+    match report_of(alloc, &scenario, &journal) {
         Ok(text) => Ok(text),
         Err(_) => Err(StepFault::NoMemory),
     }
@@ -73,7 +84,7 @@ pub fn step_text(alloc: Global, bytes: &[u8]) -> Result<Vec<u8>, StepFault>
     ensures meaning { TextMeans result (grammar Forms.Step bytes.now) }
 {
     match read(alloc, Form::Step, bytes) {
-        Ok(scenario) => scenario_text(alloc, &scenario),
+        Ok(scenario) => scenario_text(alloc, scenario),
         Err(ReadFault::Refused(fault)) => Err(StepFault::Scenario(fault)),
         Err(ReadFault::NoMemory) => Err(StepFault::NoMemory),
     }
