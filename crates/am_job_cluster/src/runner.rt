@@ -1,12 +1,15 @@
 //! What runs the scenario of a round over the cluster.
 
+ghost use Rattle.std.specs.Prelude.{◌≡◌, OnOk};
 ghost use Rattle.am_cluster.specs.Runs.{IsRunCutOff};
 ghost use Rattle.am_job_cluster.specs.Ends.{rounds_add_up};
 ghost use Rattle.am_job_cluster.specs.Rounds.{IsRoundRun};
+ghost use Rattle.am_job_words.specs.Counts.{see_journal};
 
-use am_cluster::{OpenGate, RunFault, run};
+use am_cluster::{OpenGate, RunFault, RunJournal, run};
 use am_job_count::{RunStop, Runner};
-use am_office::Journal;
+use am_job_words::Tally;
+use am_office::NoMemory;
 use am_scenario_types::Scenario;
 use std::alloc::Global;
 use std::thread::Threads;
@@ -14,6 +17,14 @@ use std::thread::Threads;
 /// Runs scenarios over a cluster whose threads, interfaces and drivers make their turns at the same time.
 #[derive(Drop)]
 pub(crate) struct ClusterRunner;
+
+// Counts the words that a run ran.
+fn see_run(alloc: Global, tally: &mut Tally, journal: &RunJournal) -> Result<(), NoMemory>
+    ensures { OnOk result (tally.new ≡ see_journal tally.old journal.now) }
+{
+    let logged = journal.logged(alloc)?;
+    tally.see_logged(alloc, &logged)
+}
 
 impl Runner for ClusterRunner {
     ghost is_run = { λ _. IsRoundRun };
@@ -27,10 +38,11 @@ impl Runner for ClusterRunner {
         rt: &T,
         alloc: Global,
         scenario: &Scenario,
-    ) -> Result<Journal, RunStop> {
+        tally: &mut Tally,
+    ) -> Result<(), RunStop> {
         match run(rt, alloc, scenario, &OpenGate) {
-            Ok(finished) => match finished.journal.copied(alloc) {
-                Ok(journal) => Ok(journal),
+            Ok(finished) => match see_run(alloc, tally, &finished.journal) {
+                Ok(()) => Ok(()),
                 Err(_) => Err(RunStop::NoMemory),
             },
             Err(RunFault::LogFull { part, journal }) => match journal.copied(alloc) {

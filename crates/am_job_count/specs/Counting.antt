@@ -29,6 +29,12 @@ pub record CountsText (text : List ℕ) (ran : List (List ℕ)) (rows : List Wor
   pub both : All (λ (row : WordCountLists). row.ran + row.left ≡ plain text row.word) rows
   pub every : (word : List ℕ) → is_short word ≡ true → 0 < plain text word → Contains (map (λ (row : WordCountLists). row.word) rows) word
 
+-- a run was made, and the words that it ran were counted
+pub record SeesRun (is_run : List Entry → Type 0) (old new : Counted) : Type 0 where
+  pub journal : List Entry
+  pub run : is_run journal
+  pub is : new ≡ see_journal old journal
+
 -- a round was run, and its words were counted
 pub record HasCounted (is_run : ScenarioLists → List Entry → Type 0) (round : ScenarioLists) (old new : Counted) : Type 0 where
   pub journal : List Entry

@@ -69,8 +69,8 @@ fn count_round<T: Threads + Sync, R: Runner>(
     ensures stop { IfErr result (IsRoundStop (R.is_cut runner.now) scenario) }
 {
     ask_script(alloc, tally, &scenario.script)?;
-    match runner.run(rt, alloc, &scenario) {
-        Ok(journal) => Ok(tally.see_journal(alloc, &journal)?),
+    match runner.run(rt, alloc, &scenario, tally) {
+        Ok(()) => Ok(()),
         Err(RunStop::LogFull { part, journal }) => Err(CountStop::LogFull {
             scenario,
             part,

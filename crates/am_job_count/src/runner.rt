@@ -1,6 +1,6 @@
 //! What runs the scenario of a round.
 
-ghost use Rattle.std.specs.Prelude.{ℕ, ◌<◌, ◌≤◌, List, IfErr, IfOk};
+ghost use Rattle.std.specs.Prelude.{ℕ, ◌<◌, ◌≤◌, List, IfErr, OnOk};
 ghost use Rattle.std.specs.Thread.{IsSync};
 ghost use Rattle.am_office.specs.declared.Entry.{Entry};
 ghost use Rattle.am_office.specs.declared.Part.{Part};
@@ -9,9 +9,11 @@ ghost use Rattle.am_scenario_types.specs.Lists.{ScenarioLists};
 ghost use Rattle.am_scenario_types.specs.declared.parts.Form.TheVariants.{Run};
 ghost use Rattle.am_job_words.specs.declared.codes.CodedWord.{CodedWord};
 ghost use Rattle.am_job.specs.Rounds.{scenario};
+ghost use Rattle.am_job_count.specs.Counting.{SeesRun};
 ghost use Rattle.am_job_count.specs.Left.{AddsUp};
 ghost use Rattle.am_job_count.specs.Stops.{IsRunStop};
 
+use am_job_words::Tally;
 use am_office::{Journal, Part};
 use am_scenario_types::Scenario;
 use std::alloc::Global;
@@ -26,7 +28,7 @@ pub enum RunStop {
     NoMemory,
 }
 
-/// Runs scenarios.
+/// Runs scenarios, and counts what they ran.
 pub trait Runner {
     /// The journal is that of a run of the scenario which came to its end.
     ghost is_run: { Self → ScenarioLists → List Entry → Type 0 };
@@ -34,17 +36,19 @@ pub trait Runner {
     /// The journal is that of a run of the scenario which met a full log of the part.
     ghost is_cut: { Self → ScenarioLists → Part → List Entry → Type 0 };
 
-    /// Runs a scenario of the packet network, with threads where it starts some: what starts them may be shared between threads.
+    /// Runs a scenario of the packet network, with threads where it starts some, and counts the words that it ran. What starts threads
+    /// may be shared between them. After an error the counts are of no more use.
     fn run<T: Threads + Sync>(
         &self,
         rt: &T,
         alloc: Global,
         scenario: &Scenario,
-    ) -> Result<Journal, RunStop>
+        tally: &mut Tally,
+    ) -> Result<(), RunStop>
         requires shared { IsSync T.row }
         requires lawful { IsLawful scenario.now }
         requires of_form { IsOfForm Run scenario.now }
-        ensures run { IfOk result (is_run self.now scenario.now) }
+        ensures run { OnOk result (SeesRun (is_run self.now scenario.now) tally.old tally.new) }
         ensures stop { IfErr result (IsRunStop (is_cut self.now scenario.now)) };
 
     /// In the run of a round each word that is sent runs, or its request is refused, or its message is returned.

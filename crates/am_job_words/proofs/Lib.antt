@@ -1,3 +1,4 @@
+pub mod Seen
 pub mod Parted
 pub mod Carried
 pub mod Tallied

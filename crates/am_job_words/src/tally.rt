@@ -9,6 +9,7 @@ use crate::rows::WordCount;
 use crate::spelled::{Spelled, word_in};
 use am_names::NoMemory;
 use am_office::{Call, Entry, Journal, run_of};
+use am_office_journal::LoggedJournal;
 use std::alloc::Global;
 use std::collections::BTreeMap;
 use std::marker::Model;
@@ -65,6 +66,7 @@ impl Tally {
     ghost use Rattle.std.specs.List.Sorted.{IsStrictlySortedBy};
     ghost use Rattle.std.specs.Map.{keys_of};
     ghost use Rattle.std.specs.Ordering.{nat_cmp};
+    ghost use Rattle.am_office_journal.specs.Behind.{entries_behind};
     ghost use Rattle.am_job_words.specs.Counts.{ask, count_at, rows_of, see, see_journal, with_count, word_asked, word_run};
 
     /// No word yet.
@@ -136,6 +138,23 @@ impl Tally {
         ensures { OnOk result (self.new ≡ see_journal self.old journal.now) }
     {
         self.see_all(alloc, &journal.entries)
+    }
+
+    // The words of entries behind references ran.
+    fn see_behind(&mut self, alloc: Global, entries: &[&Entry]) -> Result<(), NoMemory>
+        ensures { OnOk result (self.new ≡ see_journal self.old (entries_behind entries.now)) }
+    {
+        for entry in entries {
+            self.see(alloc, entry)?;
+        }
+        Ok(())
+    }
+
+    /// The same of a journal whose entries stay where they were logged.
+    pub fn see_logged(&mut self, alloc: Global, journal: &LoggedJournal) -> Result<(), NoMemory>
+        ensures { OnOk result (self.new ≡ see_journal self.old journal.now) }
+    {
+        self.see_behind(alloc, journal.entries())
     }
 
     /// The words that were sent, in ascending order of bytes, each with how often it ran and how often it was sent beyond that.
