@@ -9,12 +9,38 @@ use std::alloc::{AllocError, Global};
 use std::process::ExitCode;
 
 /// Two threads on two nodes send each other requests, and each hears its answers.
-const PAIR: &str =
-    "am2 1\nnetwork packet\nnodes 2\nturns 400\nendpoint 0 0 10\nendpoint 1 1 11\nthread 0 0\nthread 1 1\n\
-t0 handler 0 3 echo 4\nt0 handler 0 4 note\nt0 map 0 0 1 11 4\nt0 request 0 0 3 1 0 0 0\nt0 request 0 0 3 2 0 0 0\nt0 poll 0\n\
-t0 request 0 0 3 3 0 0 0\nt0 poll 0\nt0 request 0 0 3 4 0 0 0\nt0 poll 0\nt0 poll 0\nt0 poll 0\n\
-t1 handler 1 3 echo 4\nt1 handler 1 4 note\nt1 map 1 0 0 10 4\nt1 request 1 0 3 5 0 0 0\nt1 request 1 0 3 6 0 0 0\nt1 poll 1\n\
-t1 request 1 0 3 7 0 0 0\nt1 poll 1\nt1 request 1 0 3 8 0 0 0\nt1 poll 1\nt1 poll 1\nt1 poll 1\n";
+const PAIR: &str = "am2 1\n\
+    network packet\n\
+    nodes 2\n\
+    turns 400\n\
+    endpoint 0 0 10\n\
+    endpoint 1 1 11\n\
+    thread 0 0\n\
+    thread 1 1\n\
+    t0 handler 0 3 echo 4\n\
+    t0 handler 0 4 note\n\
+    t0 map 0 0 1 11 4\n\
+    t0 request 0 0 3 1 0 0 0\n\
+    t0 request 0 0 3 2 0 0 0\n\
+    t0 poll 0\n\
+    t0 request 0 0 3 3 0 0 0\n\
+    t0 poll 0\n\
+    t0 request 0 0 3 4 0 0 0\n\
+    t0 poll 0\n\
+    t0 poll 0\n\
+    t0 poll 0\n\
+    t1 handler 1 3 echo 4\n\
+    t1 handler 1 4 note\n\
+    t1 map 1 0 0 10 4\n\
+    t1 request 1 0 3 5 0 0 0\n\
+    t1 request 1 0 3 6 0 0 0\n\
+    t1 poll 1\n\
+    t1 request 1 0 3 7 0 0 0\n\
+    t1 poll 1\n\
+    t1 request 1 0 3 8 0 0 0\n\
+    t1 poll 1\n\
+    t1 poll 1\n\
+    t1 poll 1\n";
 
 /// What is known of the reports of the seeds that were tried.
 #[derive(Drop)]
@@ -88,7 +114,13 @@ fn main(rt: HostRuntime) -> ExitCode {
         "not again"
     };
     let differ = difference(tried.reports.len());
-    if println!(rt; "{right}\n{again}\n{differ}").is_err() {
+    if println!(rt;
+        "{right}\n\
+        {again}\n\
+        {differ}"
+    )
+    .is_err()
+    {
         return ExitCode::from(5);
     }
     ExitCode::from(0)

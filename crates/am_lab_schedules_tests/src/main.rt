@@ -13,22 +13,53 @@ use std::alloc::{AllocError, Global};
 use std::process::ExitCode;
 
 /// Two nodes without turns, and a plan that withholds packets: the scenario of an example, whose report is judged by itself.
-const WITHHELD: &str =
-    "am2 1\nnetwork packet\nnodes 2\ntries 2\nendpoint 0 0 5\nendpoint 1 1 7\nthread 0 0\nthread 1 1\nplan 0 1 1 lose\n\
-plan 0 1 2 lose\nplan 1 0 1 lose\nplan 1 0 2 lose\nplan 0 1 5 late 1\nt0 map 0 0 1 7 3\nt1 handler 1 1 note\n\
-t0 request 0 0 1 1 0 0 0\nt0 request 0 0 1 2 0 0 0\nt0 request 0 0 1 3 0 0 0\n";
+const WITHHELD: &str = "am2 1\n\
+    network packet\n\
+    nodes 2\n\
+    tries 2\n\
+    endpoint 0 0 5\n\
+    endpoint 1 1 7\n\
+    thread 0 0\n\
+    thread 1 1\n\
+    plan 0 1 1 lose\n\
+    plan 0 1 2 lose\n\
+    plan 1 0 1 lose\n\
+    plan 1 0 2 lose\n\
+    plan 0 1 5 late 1\n\
+    t0 map 0 0 1 7 3\n\
+    t1 handler 1 1 note\n\
+    t0 request 0 0 1 1 0 0 0\n\
+    t0 request 0 0 1 2 0 0 0\n\
+    t0 request 0 0 1 3 0 0 0\n";
 
 /// What is told of its seeds 3, 4 and 5.
 const TOLD: &str =
     "seed 3 entries 33 totals ran 2 returned 1 unknown 1 unknown-but-ran 1 pending 0\n\
-seed 4 entries 33 totals ran 2 returned 1 unknown 1 unknown-but-ran 1 pending 0\n\
-seed 5 entries 33 totals ran 2 returned 1 unknown 1 unknown-but-ran 1 pending 0\ndistinct journals 1\n";
+    seed 4 entries 33 totals ran 2 returned 1 unknown 1 unknown-but-ran 1 pending 0\n\
+    seed 5 entries 33 totals ran 2 returned 1 unknown 1 unknown-but-ran 1 pending 0\n\
+    distinct journals 1\n";
 
 /// Two threads on two nodes send each other requests, and each hears its answers.
-const PAIR: &str =
-    "am2 1\nnetwork packet\nnodes 2\nturns 400\nendpoint 0 0 10\nendpoint 1 1 11\nthread 0 0\nthread 1 1\n\
-t0 handler 0 3 echo 4\nt0 handler 0 4 note\nt0 map 0 0 1 11 4\nt0 request 0 0 3 1 0 0 0\nt0 request 0 0 3 2 0 0 0\nt0 poll 0\n\
-t1 handler 1 3 echo 4\nt1 handler 1 4 note\nt1 map 1 0 0 10 4\nt1 request 1 0 3 5 0 0 0\nt1 request 1 0 3 6 0 0 0\nt1 poll 1\n";
+const PAIR: &str = "am2 1\n\
+    network packet\n\
+    nodes 2\n\
+    turns 400\n\
+    endpoint 0 0 10\n\
+    endpoint 1 1 11\n\
+    thread 0 0\n\
+    thread 1 1\n\
+    t0 handler 0 3 echo 4\n\
+    t0 handler 0 4 note\n\
+    t0 map 0 0 1 11 4\n\
+    t0 request 0 0 3 1 0 0 0\n\
+    t0 request 0 0 3 2 0 0 0\n\
+    t0 poll 0\n\
+    t1 handler 1 3 echo 4\n\
+    t1 handler 1 4 note\n\
+    t1 map 1 0 0 10 4\n\
+    t1 request 1 0 3 5 0 0 0\n\
+    t1 request 1 0 3 6 0 0 0\n\
+    t1 poll 1\n";
 
 /// How many different reports the seeds below this one have, each made alone.
 fn count_alone(alloc: Global, seeds: u64) -> Result<usize, AllocError> {

@@ -1,15 +1,31 @@
 //! Texts with what is printed of them, and how sources and sinks fail.
 
 /// The way of one message, from its request to the run of its handler.
-pub const PATH: &str =
-    "am2 1\nnetwork direct\nnodes 1\nendpoint 0 0 5\nendpoint 1 0 7\nx handler 1 1 note\n\
-    x map 0 0 1 7 1\nx request 0 0 1 10 20 30 40\nx carry 0\nx poll 1\n";
+pub const PATH: &str = "am2 1\n\
+    network direct\n\
+    nodes 1\n\
+    endpoint 0 0 5\n\
+    endpoint 1 0 7\n\
+    x handler 1 1 note\n\
+    x map 0 0 1 7 1\n\
+    x request 0 0 1 10 20 30 40\n\
+    x carry 0\n\
+    x poll 1\n";
 
-pub const PATH_REPORT: &str =
-    "am2 report 1\nentries 5\nx handler 1 1 note -> ok\nx map 0 0 1 7 1 -> ok\n\
-    x request 0 0 1 10 20 30 40 -> ok 0.1\nx carry 0 -> accepted 0.1\nx poll 1 -> ran 0.1 1 sends 1.1\n\
-    endpoint 0 runs 0\nendpoint 1 runs 1\nrun 0.1 1 10 20 30 40\nmessages 2\nfate 0.1 request ran\n\
-    fate 1.1 empty pending\ntotals ran 1 returned 0 unknown 0 unknown-but-ran 0 pending 1\n";
+pub const PATH_REPORT: &str = "am2 report 1\n\
+    entries 5\n\
+    x handler 1 1 note -> ok\n\
+    x map 0 0 1 7 1 -> ok\n\
+    x request 0 0 1 10 20 30 40 -> ok 0.1\n\
+    x carry 0 -> accepted 0.1\n\
+    x poll 1 -> ran 0.1 1 sends 1.1\n\
+    endpoint 0 runs 0\n\
+    endpoint 1 runs 1\n\
+    run 0.1 1 10 20 30 40\n\
+    messages 2\n\
+    fate 0.1 request ran\n\
+    fate 1.1 empty pending\n\
+    totals ran 1 returned 0 unknown 0 unknown-but-ran 0 pending 1\n";
 
 /// How a source or a sink fails: how many bytes a call moves, and the call that fails, counted from 1. None fails where it is 0.
 #[derive(Clone, Copy)]
@@ -62,17 +78,31 @@ pub const COMMANDS: [(&str, &str, &str); 4] = [
     ("step", PATH, "am2 report 1\nent"),
     (
         "run",
-        "am2 1\nnetwork packet\nnodes 1\nturns 2\nendpoint 0 0 5\nthread 0 0\nt0 poll 0\n",
+        "am2 1\n\
+            network packet\n\
+            nodes 1\n\
+            turns 2\n\
+            endpoint 0 0 5\n\
+            thread 0 0\n\
+            t0 poll 0\n",
         "am2 report 1\nent",
     ),
     (
         "segments",
-        "am2 1\nnetwork packet\nnodes 1\nendpoint 0 0 5\nsegment 0 1 8\nthread 0 0\nt0 serve 0 2\n",
+        "am2 1\n\
+            network packet\n\
+            nodes 1\n\
+            endpoint 0 0 5\n\
+            segment 0 1 8\n\
+            thread 0 0\n\
+            t0 serve 0 2\n",
         "am2 report 1\nent",
     ),
     (
         "session",
-        "am2session 1\ntries 2\na offer\n",
+        "am2session 1\n\
+            tries 2\n\
+            a offer\n",
         "session report 1",
     ),
 ];

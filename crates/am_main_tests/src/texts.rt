@@ -6,24 +6,60 @@ use crate::{direct, packet, scripts};
 /// A scenario, what stands behind it, the status and what is printed.
 pub type Row = (&'static str, &'static str, u8, &'static str);
 
-const EMPTY: &str = "am2 1\nnetwork direct\nnodes 1\nendpoint 0 0 5\n";
+const EMPTY: &str = "am2 1\n\
+    network direct\n\
+    nodes 1\n\
+    endpoint 0 0 5\n";
 
-const EMPTY_REPORT: &str = "am2 report 1\nentries 0\nendpoint 0 runs 0\nmessages 0\n\
+const EMPTY_REPORT: &str = "am2 report 1\n\
+    entries 0\n\
+    endpoint 0 runs 0\n\
+    messages 0\n\
     totals ran 0 returned 0 unknown 0 unknown-but-ran 0 pending 0\n";
 
-const FULL: &str =
-    "am2 1\nnetwork direct\nnodes 1\nlog 3\nendpoint 0 0 5\nx poll 0\nx poll 0\nx poll 0\nx poll 0\n";
+const FULL: &str = "am2 1\n\
+    network direct\n\
+    nodes 1\n\
+    log 3\n\
+    endpoint 0 0 5\n\
+    x poll 0\n\
+    x poll 0\n\
+    x poll 0\n\
+    x poll 0\n";
 
-pub const IDLE: &str = "am2 1\nnetwork direct\nnodes 1\nendpoint 0 0 5\nx carry 0\n";
+pub const IDLE: &str = "am2 1\n\
+    network direct\n\
+    nodes 1\n\
+    endpoint 0 0 5\n\
+    x carry 0\n";
 
-const WANTED: &str = "am2 1\nnetwork direct\nnodes 1\nendpoint 0 0 5\nx want 0\n";
+const WANTED: &str = "am2 1\n\
+    network direct\n\
+    nodes 1\n\
+    endpoint 0 0 5\n\
+    x want 0\n";
 
-const BOUND: &str = "am2 1\nnetwork direct\nnodes 1\nendpoint 0 0 5\ni0 bind 0\n";
+const BOUND: &str = "am2 1\n\
+    network direct\n\
+    nodes 1\n\
+    endpoint 0 0 5\n\
+    i0 bind 0\n";
 
-const LOADED: &str = "am2 1\nnetwork direct\nnodes 1\nendpoint 0 0 5\nx poll 0\nd0 load 0 0\n";
+const LOADED: &str = "am2 1\n\
+    network direct\n\
+    nodes 1\n\
+    endpoint 0 0 5\n\
+    x poll 0\n\
+    d0 load 0 0\n";
 
-const THREADS: &str =
-    "am2 1\nnetwork packet\nnodes 1\nthread 0 0\nthread 1 0\nthread 2 0\nthread 3 0\nthread 4 0\n";
+const THREADS: &str = "am2 1\n\
+    network packet\n\
+    nodes 1\n\
+    thread 0 0\n\
+    thread 1 0\n\
+    thread 2 0\n\
+    thread 3 0\n\
+    thread 4 0\n";
 
 /// Under `step`, on the direct network.
 pub static DIRECT: [Row; 17] = [
@@ -60,7 +96,9 @@ pub static DIRECT: [Row; 17] = [
 pub static FAULTS: [Row; 11] = [
     ("", "", 3, "refused line 1 missing\n"),
     (
-        "am2 1\nnetwork direct\nnodes 17\n",
+        "am2 1\n\
+            network direct\n\
+            nodes 17\n",
         "",
         3,
         "refused line 3 out-of-range\n",
@@ -72,15 +110,27 @@ pub static FAULTS: [Row; 11] = [
         3,
         "refused line 2 bad-number\n",
     ),
-    ("am2 1\nnodes 1\nnodes 1\n", "", 3, "refused line 3 twice\n"),
     (
-        "am2 1\nnodes 1\nendpoint 0 0 5\n",
+        "am2 1\n\
+        nodes 1\n\
+        nodes 1\n",
+        "",
+        3,
+        "refused line 3 twice\n",
+    ),
+    (
+        "am2 1\n\
+            nodes 1\n\
+            endpoint 0 0 5\n",
         "",
         3,
         "refused line 3 missing\n",
     ),
     (
-        "am2 1\nnetwork direct\nnodes 1\nx poll 0\n",
+        "am2 1\n\
+            network direct\n\
+            nodes 1\n\
+            x poll 0\n",
         "",
         3,
         "refused line 4 undeclared\n",
@@ -88,7 +138,11 @@ pub static FAULTS: [Row; 11] = [
     ("am2 1\nspeed 3\n", "", 3, "refused line 2 unknown-word\n"),
     ("\t\n", "", 3, "refused line 1 not-text\n"),
     (
-        "am2 1\nnetwork direct\nnodes 1\nendpoint 0 0 5\nframes 2\n",
+        "am2 1\n\
+            network direct\n\
+            nodes 1\n\
+            endpoint 0 0 5\n\
+            frames 2\n",
         "",
         3,
         "refused line 5 out-of-place\n",
@@ -156,8 +210,12 @@ pub static PACKET: [Row; 20] = [
 ];
 
 /// Two nodes; the third endpoint begins on disk.
-const TWO_NODES: &str =
-    "am2 1\nnetwork packet\nnodes 2\nendpoint 0 0 5\nendpoint 1 1 7\nendpoint 2 0 9 disk\n";
+const TWO_NODES: &str = "am2 1\n\
+    network packet\n\
+    nodes 2\n\
+    endpoint 0 0 5\n\
+    endpoint 1 1 7\n\
+    endpoint 2 0 9 disk\n";
 
 /// Steps of two nodes under `step`: the first condition that fails is named.
 pub static CONDITIONS: [Row; 15] = [
@@ -193,7 +251,9 @@ pub static CONDITIONS: [Row; 15] = [
     ),
     (
         TWO_NODES,
-        "d0 load 0 0\nd0 drain 0\ni0 bind 0\n",
+        "d0 load 0 0\n\
+            d0 drain 0\n\
+            i0 bind 0\n",
         3,
         "refused line 9 not-enabled draining\n",
     ),
@@ -205,8 +265,12 @@ pub static CONDITIONS: [Row; 15] = [
     ),
     (
         TWO_NODES,
-        "x map 0 0 1 7 4\nd0 load 0 0\nx request 0 0 1 0 0 0 0\nx request 0 0 1 0 0 0 0\n\
-        i0 bind 0\ni0 bind 0\n",
+        "x map 0 0 1 7 4\n\
+            d0 load 0 0\n\
+            x request 0 0 1 0 0 0 0\n\
+            x request 0 0 1 0 0 0 0\n\
+            i0 bind 0\n\
+            i0 bind 0\n",
         3,
         "refused line 12 not-enabled no-channel\n",
     ),
@@ -270,7 +334,9 @@ pub static RUNS: [Row; 10] = [
     (scripts::LOST, "", 0, scripts::LOST_REPORT),
     (scripts::FULL, "", 6, scripts::FULL_REPORT),
     (
-        "am2 1\nnetwork direct\nnodes 1\n",
+        "am2 1\n\
+            network direct\n\
+            nodes 1\n",
         "",
         3,
         "refused line 2 out-of-range\n",
@@ -279,16 +345,34 @@ pub static RUNS: [Row; 10] = [
 ];
 
 /// A report of `PATH` whose last entry came out otherwise.
-const OTHER_OUTCOME: &str =
-    "am2 report 1\nentries 5\nx handler 1 1 note -> ok\nx map 0 0 1 7 1 -> ok\n\
-    x request 0 0 1 10 20 30 40 -> ok 0.1\nx carry 0 -> accepted 0.1\nx poll 1 -> empty\n\
-    endpoint 0 runs 0\nendpoint 1 runs 1\nrun 0.1 1 10 20 30 40\nmessages 2\nfate 0.1 request ran\n\
-    fate 1.1 empty pending\ntotals ran 1 returned 0 unknown 0 unknown-but-ran 0 pending 1\n";
+const OTHER_OUTCOME: &str = "am2 report 1\n\
+    entries 5\n\
+    x handler 1 1 note -> ok\n\
+    x map 0 0 1 7 1 -> ok\n\
+    x request 0 0 1 10 20 30 40 -> ok 0.1\n\
+    x carry 0 -> accepted 0.1\n\
+    x poll 1 -> empty\n\
+    endpoint 0 runs 0\n\
+    endpoint 1 runs 1\n\
+    run 0.1 1 10 20 30 40\n\
+    messages 2\n\
+    fate 0.1 request ran\n\
+    fate 1.1 empty pending\n\
+    totals ran 1 returned 0 unknown 0 unknown-but-ran 0 pending 1\n";
 
 /// One without its last line.
-const NO_TOTALS: &str = "am2 report 1\nentries 5\nx handler 1 1 note -> ok\nx map 0 0 1 7 1 -> ok\n\
-    x request 0 0 1 10 20 30 40 -> ok 0.1\nx carry 0 -> accepted 0.1\nx poll 1 -> ran 0.1 1 sends 1.1\n\
-    endpoint 0 runs 0\nendpoint 1 runs 1\nrun 0.1 1 10 20 30 40\nmessages 2\nfate 0.1 request ran\n\
+const NO_TOTALS: &str = "am2 report 1\n\
+    entries 5\n\
+    x handler 1 1 note -> ok\n\
+    x map 0 0 1 7 1 -> ok\n\
+    x request 0 0 1 10 20 30 40 -> ok 0.1\n\
+    x carry 0 -> accepted 0.1\n\
+    x poll 1 -> ran 0.1 1 sends 1.1\n\
+    endpoint 0 runs 0\n\
+    endpoint 1 runs 1\n\
+    run 0.1 1 10 20 30 40\n\
+    messages 2\n\
+    fate 0.1 request ran\n\
     fate 1.1 empty pending\n";
 
 /// Step scripts with what stands for their reports, under `check step`.
@@ -299,19 +383,28 @@ pub static CHECKS: [Row; 8] = [
     (PATH, "", 10, "check line 1 form\n"),
     (
         PATH,
-        "am2 report 1\nentries 1\nx poll 1 -> empty\n",
+        "am2 report 1\n\
+            entries 1\n\
+            x poll 1 -> empty\n",
         10,
         "check line 3 follows\n",
     ),
     (
         IDLE,
-        "am2 report 1\nentries 1\nx carry 0 -> accepted 0.1\n",
+        "am2 report 1\n\
+            entries 1\n\
+            x carry 0 -> accepted 0.1\n",
         10,
         "check line 3 not-enabled no-message\n",
     ),
     (
         FULL,
-        "am2 report 1\nentries 4\nx poll 0 -> empty\nx poll 0 -> empty\nx poll 0 -> empty\nx poll 0 -> empty\n",
+        "am2 report 1\n\
+            entries 4\n\
+            x poll 0 -> empty\n\
+            x poll 0 -> empty\n\
+            x poll 0 -> empty\n\
+            x poll 0 -> empty\n",
         6,
         "log full e0\n",
     ),
@@ -329,49 +422,95 @@ pub static COUNTS: [(&str, &[u8], u8, &[u8]); 8] = [
         "count 2 0",
         b"b a b\n",
         0,
-        b"am2 count 2 0\nword 1 0 a\nword 2 0 b\nwords 3\nlong 0\nleft 0\n",
+        b"am2 count 2 0\n\
+            word 1 0 a\n\
+            word 2 0 b\n\
+            words 3\n\
+            long 0\n\
+            left 0\n",
     ),
     (
         "count 1 0",
         b"zzzzzzzzzzzzzzzzzzzzzzzzz",
         0,
-        b"am2 count 1 0\nwords 1\nlong 1\nleft 0\n",
+        b"am2 count 1 0\n\
+            words 1\n\
+            long 1\n\
+            left 0\n",
     ),
     (
         "count 1 0",
         b"",
         0,
-        b"am2 count 1 0\nwords 0\nlong 0\nleft 0\n",
+        b"am2 count 1 0\n\
+            words 0\n\
+            long 0\n\
+            left 0\n",
     ),
     (
         "count 1 0",
         b"zzzzzzzzzzzzzzzzzzzzzzzz",
         0,
-        b"am2 count 1 0\nword 1 0 zzzzzzzzzzzzzzzzzzzzzzzz\nwords 1\nlong 0\nleft 0\n",
+        b"am2 count 1 0\n\
+            word 1 0 zzzzzzzzzzzzzzzzzzzzzzzz\n\
+            words 1\n\
+            long 0\n\
+            left 0\n",
     ),
     (
         "count 8 0",
         b" \t\r\n",
         0,
-        b"am2 count 8 0\nwords 0\nlong 0\nleft 0\n",
+        b"am2 count 8 0\n\
+            words 0\n\
+            long 0\n\
+            left 0\n",
     ),
     (
         "count 3 0",
         b"a\tb\rc\nd e\x00\xff \xff\x00",
         0,
-        b"am2 count 3 0\nword 1 0 a\nword 1 0 b\nword 1 0 c\nword 1 0 d\nword 1 0 e\x00\xff\nword 1 0 \xff\x00\nwords 6\nlong 0\nleft 0\n",
+        b"am2 count 3 0\n\
+            word 1 0 a\n\
+            word 1 0 b\n\
+            word 1 0 c\n\
+            word 1 0 d\n\
+            word 1 0 e\x00\xff\n\
+            word 1 0 \xff\x00\n\
+            words 6\n\
+            long 0\n\
+            left 0\n",
     ),
     (
         "count 2 0",
         b"ab ba ab abc",
         0,
-        b"am2 count 2 0\nword 2 0 ab\nword 1 0 abc\nword 1 0 ba\nwords 4\nlong 0\nleft 0\n",
+        b"am2 count 2 0\n\
+            word 2 0 ab\n\
+            word 1 0 abc\n\
+            word 1 0 ba\n\
+            words 4\n\
+            long 0\n\
+            left 0\n",
     ),
     (
         "count 4 0",
-        b"x\nx\nx\nx\nx\nx\nx\nx\nx\nx\n",
+        b"x\n\
+            x\n\
+            x\n\
+            x\n\
+            x\n\
+            x\n\
+            x\n\
+            x\n\
+            x\n\
+            x\n",
         0,
-        b"am2 count 4 0\nword 10 0 x\nwords 10\nlong 0\nleft 0\n",
+        b"am2 count 4 0\n\
+            word 10 0 x\n\
+            words 10\n\
+            long 0\n\
+            left 0\n",
     ),
 ];
 

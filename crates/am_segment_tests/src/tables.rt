@@ -3,8 +3,12 @@
 use am_lexer::What;
 
 /// Two endpoints and a thread, in six lines.
-pub static HEAD: &str =
-    "am2 1\nnetwork packet\nnodes 1\nendpoint 0 0 5\nendpoint 1 0 7\nthread 0 0\n";
+pub static HEAD: &str = "am2 1\n\
+    network packet\n\
+    nodes 1\n\
+    endpoint 0 0 5\n\
+    endpoint 1 0 7\n\
+    thread 0 0\n";
 
 /// Lines behind the head, with faults of own lines.
 pub static OWN_FAULTS: [(&str, u32, What); 54] = [
@@ -77,7 +81,10 @@ pub static OTHER_FAULTS: [(&str, u32, What); 9] = [
     ("segment 1 1 4\nbogus", 8, What::UnknownWord),
     ("t0 serve 1 3\nbogus\n", 8, What::UnknownWord),
     (
-        "segment 1 1 4\nt0 xfer 0 0 1 0 68\n\nt0 poll 2",
+        "segment 1 1 4\n\
+            t0 xfer 0 0 1 0 68\n\
+            \n\
+            t0 poll 2",
         10,
         What::Undeclared,
     ),

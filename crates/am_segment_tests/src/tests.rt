@@ -94,7 +94,12 @@ fn faults_of_other_lines(rt: HostRuntime) -> Result<(), Fail> {
 #[test]
 fn too_many(rt: HostRuntime) -> Result<(), Fail> {
     let alloc = rt.alloc();
-    let mut text = String::from_str(alloc, "am2 1\nnetwork packet\nnodes 1\n")?;
+    let mut text = String::from_str(
+        alloc,
+        "am2 1\n\
+        network packet\n\
+        nodes 1\n",
+    )?;
     put_numbered(&mut text, "endpoint", "0 5", 17)?;
     put_numbered(&mut text, "segment", "1 4", 16)?;
     assert!(rt; own_fault(alloc, text.as_str()) == None);
@@ -248,13 +253,15 @@ fn all_run(alloc: Global, scenario: &Scenario) -> Result<Journal, Fail> {
     Ok(Journal { entries })
 }
 
-const FRONT: &str =
-    "segment 1 3 600\n0000000000000000000000000000000000000000000000000000000000000000\n00000000000000005aa55aa55aa55aa55aa55aa55aa55aa55aa55aa55aa55aa5\n";
+const FRONT: &str = "segment 1 3 600\n\
+    0000000000000000000000000000000000000000000000000000000000000000\n\
+    00000000000000005aa55aa55aa55aa55aa55aa55aa55aa55aa55aa55aa55aa5\n";
 
 const ROW: &str = "5aa55aa55aa55aa55aa55aa55aa55aa55aa55aa55aa55aa55aa55aa55aa55aa5\n";
 
-const BACK: &str =
-    "5aa55aa55aa55aa5000000000000000000000000000000000000000000000000\n000000000000000000000000000000000000000000000000\ntransfer 1 ran 22 of 22\n";
+const BACK: &str = "5aa55aa55aa55aa5000000000000000000000000000000000000000000000000\n\
+    000000000000000000000000000000000000000000000000\n\
+    transfer 1 ran 22 of 22\n";
 
 // A text, read.
 fn read_of(alloc: Global, text: &str) -> Result<SegmentScenario, Fail>

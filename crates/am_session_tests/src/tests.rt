@@ -72,7 +72,12 @@ fn at_most_65536_events(rt: HostRuntime) {
 
 #[test]
 fn a_script_is_played(rt: HostRuntime) {
-    let text = b"am2session 1\ntries 2\na offer\na expire\na offer\n".as_slice();
+    let text = b"am2session 1\n\
+        tries 2\n\
+        a offer\n\
+        a expire\n\
+        a offer\n"
+        .as_slice();
     let script = read_session(rt.alloc(), text).expect(&rt, "a session");
     let played = play(rt.alloc(), &script).expect(&rt, "ample memory");
     assert!(rt; played.entries.len() == 1);
@@ -82,7 +87,12 @@ fn a_script_is_played(rt: HostRuntime) {
     let report = session_report(rt.alloc(), &played.entries).expect(&rt, "ample memory");
     assert!(rt;
         report.as_slice()
-            == b"session report 1\nentries 1\na offer -> ok 1\nmessages 1\nfate 1 pending\n".as_slice()
+            == b"session report 1\n\
+                entries 1\n\
+                a offer -> ok 1\n\
+                messages 1\n\
+                fate 1 pending\n"
+                .as_slice()
     );
 }
 
@@ -110,12 +120,20 @@ fn an_event_is_refused(rt: HostRuntime) {
 fn deliveries(alloc: Global, count: u32) -> Result<Vec<u8>, std::alloc::AllocError> {
     let mut text = Vec::from_slice(
         alloc,
-        b"am2session 1\ntries 2\na hello\nb receive 1 accept\na receive 1\na offer\n",
+        b"am2session 1\n\
+            tries 2\n\
+            a hello\n\
+            b receive 1 accept\n\
+            a receive 1\n\
+            a offer\n",
     )?;
     for before in 0..count {
         let number = u64::from(before) + 2;
         let lines = format!(in alloc;
-            "a bind\nb receive {number} accept\na receive {number}\na offer\n"
+            "a bind\n\
+                b receive {number} accept\n\
+                a receive {number}\n\
+                a offer\n"
         )?;
         text.extend_from_slice(lines.as_bytes())?;
     }
