@@ -1,3 +1,7 @@
 #!/usr/bin/env bash
-# docs/CRATES.md has the crates of crates.txt in its order, and the diagram of docs/ARCHITECTURE.md the arrows between their layers.
-exec python3 -B check/crates.py
+# docs/CRATES.md has the crates of crates.txt in its order, and docs/ARCHITECTURE.md the picture of them and the table of the parts.
+set -u
+failed=0
+python3 -B check/crates.py || failed=1
+python3 -B check/map.py || failed=1
+exit "$failed"
