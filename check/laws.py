@@ -1,10 +1,11 @@
 #!/usr/bin/env python3
 """The laws, public functions with an empty body, that stand on no page for readers: laws.py [--write]
 
-A law for readers stands in docs/LAWS.md, DEFINITIONS.md, PLACES.md or PARTS.md by its name. Each other one has a row in docs/SERVICES.md: what its comment says, and which crates
-stand on it. This script makes that page, and tells where the page isn't as it would be made."""
+A law for readers stands in docs/LAWS.md, DEFINITIONS.md, PLACES.md or PARTS.md by its name. Each other one stands in docs/SERVICES.md: with what its comment says and the crates
+that cite it, or where none does with its file. This script makes that page, and tells where the page isn't as it would be made."""
 import re
 import sys
+import textwrap
 from pathlib import Path
 
 PAGES = ("LAWS.md", "DEFINITIONS.md", "PLACES.md", "PARTS.md")
@@ -13,19 +14,25 @@ HEAD = """# Laws that serve other crates
 
 A public function with an empty body is a law: its contract says it, and the function is its proof. The laws that a
 reader of the system looks for stand in [LAWS.md](LAWS.md) and [DEFINITIONS.md](DEFINITIONS.md). Here are the others, so
-that none is without a place: what each says, and which crates stand on it, where others do; the rest are what a crate
-shows of itself. `check/laws.py --write` makes this page of the sources, and `.ci/checks` compares it.
+that none is without a place. `check/laws.py --write` makes this page of the sources, and `.ci/checks` compares it.
 
-| Crate | Law | What it says | Who stands on it |
-|---|---|---|---|
+## Cited by other crates
+
+What each law says, with the crates that cite it. Where a sentence goes on from another law's, that one stands in front
+of it, also where no crate cites it.
+"""
+OWN = """
+## What a crate shows of itself
+
+These laws no other crate cites. The comment above each, in the file that is linked, says it in a sentence.
+
 """
 
 
 def laws():
-    """Crate, name and comment of each law, in the order of the files."""
+    """File, name and comment of each law, in the order of the files."""
     for path in sorted(Path("crates").glob("*/src/**/*.rt")):
-        crate = path.parts[1]
-        if crate.endswith("_tests"):
+        if path.parts[1].endswith("_tests"):
             continue
         lines = path.read_text(encoding="utf-8").splitlines()
         for at, line in enumerate(lines):
@@ -34,7 +41,7 @@ def laws():
             top = next((k for k in range(at, -1, -1) if re.match(r"\s*(pub(\([^)]*\))? )?(const |ghost )?fn ", lines[k])), None)
             name = top is not None and SIGNATURE.match(lines[top])
             if name:
-                yield crate, name[1], comment(lines, top)
+                yield path, name[1], comment(lines, top)
 
 
 def comment(lines, top):
@@ -44,8 +51,7 @@ def comment(lines, top):
         top -= 1
         if lines[top].strip().startswith("///"):
             said.append(lines[top].strip()[3:].strip())
-    text = " ".join(reversed(said)).split("```")[0].strip()
-    return text.replace("|", "\\|")
+    return " ".join(reversed(said)).split("```")[0].strip()
 
 
 def users():
@@ -66,15 +72,45 @@ def users():
     return found
 
 
-def page():
-    pages = "".join(Path("docs", it).read_text(encoding="utf-8") for it in PAGES)
-    known, rows = users(), []
+def rows_of(pages):
+    """File, name, comment and the crates that cite it, of each law that isn't on one of the pages, in the order of crates.txt."""
+    known = users()
     order = list(known)
-    for crate, name, says in sorted(laws(), key=lambda it: order.index(it[0])):
+    for path, name, says in sorted(laws(), key=lambda it: order.index(it[0].parts[1])):
+        crate = path.parts[1]
         if f"`{name}`" not in pages:
-            on = [it for it in order if crate in known[it][0] and (name in known[it][1] or name in known[it][2].get(crate, ()))]
-            rows.append(f"| {crate} | `{name}` | {says} | {', '.join(on)} |")
-    return HEAD + "\n".join(rows) + "\n", rows
+            yield path, name, says, [it for it in order if crate in known[it][0] and (name in known[it][1] or name in known[it][2].get(crate, ()))]
+
+
+def told_above(rows):
+    """The places of the rows that others cite, and of those from which their sentences go on."""
+    found = set()
+    for at, (path, _, _, on) in enumerate(rows):
+        while on and at not in found:
+            found.add(at)
+            if re.match(r"(So|And|Where moreover) ", rows[at][2]) and at > 0 and rows[at - 1][0].parts[1] == path.parts[1]:
+                at -= 1
+    return found
+
+
+def wrapped(text):
+    return "\n".join(textwrap.wrap(text, 120, subsequent_indent="  ", break_on_hyphens=False, break_long_words=False))
+
+
+def page():
+    rows = list(rows_of("".join(Path("docs", it).read_text(encoding="utf-8") for it in PAGES)))
+    above, crate, text, own = told_above(rows), None, HEAD, {}
+    for at, (path, name, says, on) in enumerate(rows):
+        if at not in above:
+            own.setdefault(path, []).append(f"`{name}`")
+            continue
+        if path.parts[1] != crate:
+            crate = path.parts[1]
+            text += f"\n**{crate}**\n\n"
+        cited = f" ({', '.join(on)})" if on else ""
+        text += wrapped(f"- `{name}`{cited}: {says}") + "\n"
+    lines = [wrapped(f"- [{Path(*path.parts[1:])}](../{path}): {', '.join(names)}") for path, names in own.items()]
+    return text + OWN + "\n".join(lines) + "\n", rows
 
 
 def main():
@@ -83,7 +119,7 @@ def main():
     if "--write" in sys.argv:
         where.write_text(text, encoding="utf-8")
     told = [] if where.exists() and where.read_text(encoding="utf-8") == text else ["docs/SERVICES.md isn't as check/laws.py --write makes it"]
-    told += [f"{row.split('|')[1].strip()}: {row.split('|')[2].strip()} has no comment" for row in rows if not row.split("|")[3].strip()]
+    told += [f"{path}: {name} has no comment" for path, name, says, _ in rows if not says]
     print(*told, f"laws: {len(rows)} beside those of the pages", sep="\n")
     return 1 if told else 0
 

@@ -5,7 +5,7 @@ The k-th allocation that the program's own code asks for is refused, for k from 
 The answer has to be that of the run with nothing refused, or status 8 with `no memory`, or status 8 with nothing where the words of the command found no memory, and
 nothing goes to standard error. A run with turns may print another report each time: one with status 0 is judged by check/judge.py, and made again entry by entry by
 check/replay.py. Where a run with turns starts its threads, the C library asks for memory too: these allocations are refused in turn in lines of their own.
-NAME.. are the inputs to try (of INPUTS), all by default. Prints the table of docs/MEMORY.md, and each bad answer. The status is 1 where one was bad.
+NAME.. are the inputs to try (of INPUTS), all by default. Prints a table, of which docs/MEMORY.md has the columns that differ, and each bad answer. The status is 1 where one was bad.
 """
 import os
 import struct
