@@ -1,5 +1,6 @@
-# For bin/am2 and bin/am2_lab, which read this file: builds a program where it isn't built or a source is newer than it, by the gate's own way: `rt ci` over a copy of the
-# crates that it stands on, without their must-fail edits. What that proves is kept on this machine, for the gate and for every other checkout, and what these proved is taken over.
+# For bin/asking.sh and bin/install, which read this file: builds a program where it isn't built or a source is newer than it, by the gate's own way: `rt ci` over a copy of the
+# crates that it stands on, without their must-fail edits. What that proves is kept on this machine crate by crate, for the gate and for every other checkout, and what these proved
+# is taken over; so a build that was stopped goes on where it was. Two builds at once share their work in the same way, and wait for each other no longer than a crate takes.
 # `name` and `top` are set by who reads it: the program's crate, and the top of the repository.
 program=$top/crates/$name/out/$name
 
@@ -25,52 +26,67 @@ is_stale() {
             [ -d "$top/crates/$crate/$part" ] && folders+=("$top/crates/$crate/$part")
         done
     done
-    [ -n "$(find "$top/crates.txt" "${folders[@]}" -type f -newer "$program" -print -quit)" ]
+    [ -n "$(find "$top/crates.txt" ${folders+"${folders[@]}"} -type f -newer "$program" -print -quit)" ]
 }
 
-# Proves and builds the crates in a copy, and tells each that is done, with how many are left.
-build_in() {
-    local room=$1 crates=$2 total number=0 crate
-    total=$(wc -w <<<"$crates")
-    mkdir "$room/crates" || return
-    cp "$top/HANDLES" "$room" || return
-    for crate in $crates; do
+# Puts the crates into a folder of their own.
+copy_crates() {
+    local room=$1 crate
+    mkdir "$room/crates" && cp "$top/HANDLES" "$room" || return
+    for crate in $2; do
         grep -E "^$crate:" "$top/crates.txt" >>"$room/crates.txt"
         (cd "$top/crates" && tar cf - --exclude "$crate/out" --exclude "$crate/must-fail" "$crate") | tar xf - -C "$room/crates" || return
     done
-    (cd "$room" && exec rt ci </dev/null) 2>&1 | tee "$room/log" | while read -r mark crate word _; do
-        [ "$mark" = "rt:" ] || continue
-        case $word in
-            proved) number=$((number + 1)); echo "$crate proved, $((total - number)) of $total crates left" >&2 ;;
-            is) number=$((number + 1)); echo "$crate was proved before, $((total - number)) of $total crates left" >&2 ;;
-            NOT | NOT*) echo "$crate: NOT PROVED" >&2 ;;
-        esac
-    done
-    [ -x "$room/crates/$name/out/$name" ] && tail -n 1 "$room/log" | grep -q ', 0 failed$' || return
-    cp "$room/crates/$name/out/$name" "$program.new" && mv "$program.new" "$program"
+}
+
+# What a build has started and made, so that it ends and goes with the build, however that ends.
+build_room= build_rt= build_telling=
+end_build() {
+    kill $build_rt $build_telling 2>/dev/null
+    [ -z "$build_room" ] || rm -rf "$build_room"
+    build_room= build_rt= build_telling=
+}
+
+# Proves and builds the crates in a copy, while bin/progress.py tells how far it is. The program gets the time at which its sources were read.
+build_in() {
+    local room=$1 status tell=("$top/bin/progress.py" "$name" "$1" "$top/bench/gate.txt")
+    touch "$room/begun"
+    copy_crates "$room" "$2" || return
+    : >"$room/log"
+    python3 -B "${tell[@]}" >&2
+    python3 -B "${tell[@]}" $$ >&2 &
+    build_telling=$!
+    # (in a process of its own, so that a signal finds this script waiting and not busy)
+    (cd "$room" && exec rt ci </dev/null) >"$room/log" 2>&1 &
+    build_rt=$!
+    wait $build_rt
+    status=$?
+    build_rt=
+    [ $status -eq 0 ] && [ -x "$room/crates/$name/out/$name" ] && tail -n 1 "$room/log" | grep -q ', 0 failed$' || return 1
+    cp "$room/crates/$name/out/$name" "$program.$$" && touch -r "$room/begun" "$program.$$" && mv "$program.$$" "$program"
 }
 
 # Builds the program where that is due; ends with 1 where it can't be built.
 build_if_due() {
-    local crates room
+    local crates
     crates=$(crates_below)
     is_stale "$crates" || return 0
-    mkdir -p "$top/crates/$name/out" || exit 1
-    # (a second call waits for the first one's build, and then finds it done)
-    exec 9>"$top/crates/$name/out/build.lock" && flock 9
-    if is_stale "$crates"; then
-        echo "building $name: every crate below it is proved first, unless that was done on this machine before; from nothing am2 took 23 minutes on four processors" >&2
-        room=$(mktemp -d) || exit 1
-        # (the room is known to the trap by its value)
-        trap "rm -rf '$room'" EXIT
-        if ! build_in "$room" "$crates" 9>&-; then
-            grep -E 'NOT PROVED|FAILED|: error' "$room/log" 2>/dev/null | head -n 12 >&2
-            cp "$room/log" "$top/crates/$name/out/build.log" 2>/dev/null
-            echo "$name could not be built; crates/$name/out/build.log has what rt ci said" >&2
-            exit 1
-        fi
-        rm -rf "$room"
-        trap - EXIT
+    if ! command -v rt >/dev/null; then
+        echo "$name isn't built, or a source is newer than it, and the Rattle kit, which builds it, is missing: its command rt is not on PATH." >&2
+        # (what does the same, where the words are known)
+        [ "$(type -t meanwhile)" != function ] || meanwhile >&2
+        exit 1
     fi
-    exec 9>&-
+    trap end_build EXIT
+    trap 'echo "$name: the build was stopped; the next call goes on behind the last crate that was done" >&2; exit 130' INT TERM HUP
+    mkdir -p "$top/crates/$name/out" && build_room=$(mktemp -d) || exit 1
+    if ! build_in "$build_room" "$crates"; then
+        grep -E 'NOT PROVED|FAILED|: error' "$build_room/log" 2>/dev/null | head -n 12 >&2
+        cp "$build_room/log" "$top/crates/$name/out/build.log" 2>/dev/null
+        echo "$name could not be built; crates/$name/out/build.log has what rt ci said" >&2
+        exit 1
+    fi
+    end_build
+    trap - EXIT INT TERM HUP
+    echo "$name is built" >&2
 }

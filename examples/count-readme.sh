@@ -3,4 +3,5 @@
 #     examples/count-readme.sh
 # A line `word RAN LEFT TEXT` says that RAN messages with the word TEXT ran at the node that owns it. Without turns none is left.
 cd "$(dirname "$0")/.." || exit 1
-bin/am2 count 4 0 < README.md | awk '$1 == "word" { print $2, $4 }' | LC_ALL=C sort -k1,1nr -k2 | head -n 10
+counts=$(bin/am2 count 4 0 < README.md) || { echo "examples/count-readme.sh: the words could not be counted" >&2; exit 1; }
+awk '$1 == "word" { print $2, $4 }' <<< "$counts" | LC_ALL=C sort -k1,1nr -k2 | sed -n 1,10p

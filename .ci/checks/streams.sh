@@ -16,14 +16,14 @@ bin/am2 step < examples/first.am2 >/dev/null 2>&1 || { echo "the first example f
 # a command that reads, its input, its answer; status and text without the newline at the end, and without the last four bytes
 tried() {
     local words=$1 input=$2 answer=$3
-    text=$(bin/am2 $words < . 2>"$errors"); expect "$words, a folder as input" 4 'read fault' $? "$text"
-    text=$(bin/am2 $words <&- 2>"$errors"); expect "$words, a closed input" 4 'read fault' $? "$text"
-    bin/am2 $words < . 2>"$errors" >/dev/full; expect "$words, a folder as input and a full device" 5 '' $? ''
-    bin/am2 $words < "$input" 2>"$errors" >/dev/full; expect "$words, a full device" 5 '' $? ''
-    bin/am2 $words < "$input" 2>"$errors" >&-; expect "$words, a closed output" 5 '' $? ''
-    text=$(bin/am2 $words < "$input" 2>"$errors"); expect "$words" 0 "$answer" $? "$text"
-    text=$(head -c -1 "$input" | bin/am2 $words 2>"$errors"); expect "$words, no newline at the end" "$4" "$5" $? "$text"
-    text=$(head -c -4 "$input" | bin/am2 $words 2>"$errors"); expect "$words, an end in the middle of a line" "$6" "$7" $? "$text"
+    text=$($am2 $words < . 2>"$errors"); expect "$words, a folder as input" 4 'read fault' $? "$text"
+    text=$($am2 $words <&- 2>"$errors"); expect "$words, a closed input" 4 'read fault' $? "$text"
+    $am2 $words < . 2>"$errors" >/dev/full; expect "$words, a folder as input and a full device" 5 '' $? ''
+    $am2 $words < "$input" 2>"$errors" >/dev/full; expect "$words, a full device" 5 '' $? ''
+    $am2 $words < "$input" 2>"$errors" >&-; expect "$words, a closed output" 5 '' $? ''
+    text=$($am2 $words < "$input" 2>"$errors"); expect "$words" 0 "$answer" $? "$text"
+    text=$(head -c -1 "$input" | $am2 $words 2>"$errors"); expect "$words, no newline at the end" "$4" "$5" $? "$text"
+    text=$(head -c -4 "$input" | $am2 $words 2>"$errors"); expect "$words, an end in the middle of a line" "$6" "$7" $? "$text"
 }
 whole() { cat "examples/$1.out"; }
 last() { echo "refused line $(wc -l < "examples/$1.am2")"; }
@@ -44,14 +44,14 @@ done
 
 # what reads nothing
 for words in 'make 1' stop; do
-    bin/am2 $words 2>"$errors" >/dev/full; expect "$words, a full device" 5 '' $? ''
-    bin/am2 $words 2>"$errors" >&-; expect "$words, a closed output" 5 '' $? ''
+    $am2 $words 2>"$errors" >/dev/full; expect "$words, a full device" 5 '' $? ''
+    $am2 $words 2>"$errors" >&-; expect "$words, a closed output" 5 '' $? ''
 done
 
 # a reader that has gone
 exec 3> >(true)
 wait $!
-bin/am2 make 1 2>"$errors" >&3; expect 'a reader that has gone' 5 '' $? ''
+$am2 make 1 2>"$errors" >&3; expect 'a reader that has gone' 5 '' $? ''
 exec 3>&-
 [ "$failed" = 0 ] && echo "streams: as they should be"
 exit "$failed"

@@ -1,0 +1,60 @@
+# For bin/asking.sh and bin/install, which read this file: the words of both programs. A row is the program, the words, what is read (a scenario, a session, a text, `both` for a
+# scenario and its report, or nothing), what is done, and the words of an example. Capitals stand for a word of one's own; `asked_range` says which.
+word_rows=(
+    am2 'step' scenario 'makes the steps that a scenario lists, and prints the report' 'step examples/first.am2'
+    am2 'run' scenario 'runs the scripts of its threads, and prints the report' 'run examples/run-plan.am2'
+    am2 'make N' nothing 'makes a scenario from a number, runs it and sums it up' 'make 7'
+    am2 'segments' scenario 'runs threads that send blocks of bytes to segments' 'segments examples/segments.am2'
+    am2 'session' session 'plays two interfaces that restart' 'session examples/session.am2'
+    am2 'count W U' text 'has W nodes count the words of a text, in runs with U turns' 'count 4 0 README.md'
+    am2 'check step|run' both 'judges a report of such a scenario' 'check run examples/run-plan.am2 examples/run-plan.out'
+    am2_lab 'explain step|run' both 'tells what is wrong, and what was due there' 'explain step examples/first.am2 examples/first.out'
+    am2_lab 'why step|run E.K' both 'tells what became of a message, and why' 'why run 0.2 examples/run-withheld.am2 examples/run-withheld.out'
+    am2_lab 'chart step|run [FROM TO]' both 'draws the journal, or some lines of it, as SVG' 'chart run -o plan.svg examples/run-plan.am2 examples/run-plan.out'
+    am2_lab 'replay run' both 'prints the journal of a run as a step script' 'replay run examples/run-plan.am2 examples/run-plan.out'
+    am2_lab 'scenario step|run' scenario 'prints a scenario in one form' 'scenario step examples/first.am2'
+    am2_lab 'scenario make N' nothing 'prints the scenario that am2 make N runs' 'scenario make 7'
+    am2_lab 'scenario segments' scenario 'prints the scenario that am2 segments runs' 'scenario segments examples/segments.am2'
+    am2_lab 'scenario count W U ROUND' text 'prints the scenario of a round of am2 count W U' 'scenario count 4 0 1 README.md'
+    am2_lab 'schedule SEED[..SEED2]' scenario 'runs threads in an order that a seed draws' 'schedule 0..100 examples/turns-clients.am2'
+)
+
+# The range of what stands for a word of one's own.
+asked_range() {
+    case $1 in
+        N) echo 'N is a number from 0 to 18446744073709551615, in digits and without a leading zero' ;;
+        W) echo 'W, how many nodes count, is 1 to 8' ;;
+        U) echo 'U, the turns of each worker, is 0 to 10000' ;;
+        ROUND) echo 'ROUND, the number of a round, is 1 to 18446744073709551615' ;;
+        E.K) echo 'E.K is a message as the report prints it: an endpoint from 0 to 255, a point, and a count from 1 to 4294967295' ;;
+        '[FROM TO]') echo 'FROM and TO are lines of the report, 0 to 4294967295, and come together; its journal begins in line 3' ;;
+        'SEED[..SEED2]') echo 'SEED is a number from 0 to 18446744073709551615; SEED..SEED2 are the seeds from SEED up to SEED2, which is not among them, 1 to 100000 in all' ;;
+    esac
+}
+
+# What a command reads, in words.
+asked_input() {
+    case $1 in
+        nothing) echo 'It reads nothing.' ;;
+        both) echo 'It reads a scenario and behind it its report: two files, or one that has both, or standard input.' ;;
+        scenario | session | text) echo "It reads a $1 from a file or from standard input." ;;
+    esac
+}
+
+# What a status other than 0 means.
+status_meaning() {
+    case $1 in
+        1) echo "it could not be built" ;;
+        2) echo "the words are none of its commands" ;;
+        3) echo "refused: the text is no scenario of this form, or a step of it can't happen; the output names the line" ;;
+        4) echo "a read failed" ;;
+        5) echo "a write failed: the output has a front of the text, or nothing" ;;
+        6) echo "a log is full: the output names it" ;;
+        7) echo "the input has more than 16777216 bytes" ;;
+        8) echo "there is no memory" ;;
+        10) echo "the report isn't that of a history which follows the scenario; the output names its first line with a fault" ;;
+        11) echo "what was read is too long for this command; the output says what there was too much of" ;;
+        12) echo "what was asked for isn't there; the output says what lacks" ;;
+        *) echo "the program was ended from outside" ;;
+    esac
+}
