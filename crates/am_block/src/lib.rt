@@ -12,8 +12,7 @@ ghost use Rattle.am_block.specs.Lengths.{head, length_of, shifted, one_less, one
 mod lengths;
 mod nodes;
 
-use am_names::{EndpointId, Message, MsgKind, Serial, Tag, Why, Words};
-use am_office::NoMemory;
+use am_names::{EndpointId, Message, MsgKind, NoMemory, Serial, Tag, Why, Words};
 use lengths::Lengths;
 use nodes::Nodes;
 use std::alloc::{AllocError, Global};

@@ -167,7 +167,7 @@ accepted_past m a is h = by_test (a.seq == m.seq) refl
         inr (at, subst (λ (v : Verdict). Agrees v a.attempt m) is (h.agrees at))
     by_test false e = let apart : a.seq ≡ m.seq → ⊥ = eqb-false a.seq m.seq e in inl (omega (arith, h.seq, apart))
 
--- the receiving end has_put a message in the sequence of the answer, on some attempt
+-- the receiving end put a message in the sequence of the answer, on some attempt
 abbrev pub TookOnSome : List Entry → AnswerPacket → Type 0
 TookOnSome past a = (most : ℕ) × (has_put (answer_channel a) a.seq most past ≡ true)
 

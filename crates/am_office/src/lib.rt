@@ -352,6 +352,8 @@ pub struct Entry {
     pub outcome: Outcome,
 }
 
+const _: () = prove!(size_of::<Entry>() <= 256);
+
 /// Entries in order. Contracts see the list of the entries.
 #[derive(Drop, Debug)]
 pub struct Journal {

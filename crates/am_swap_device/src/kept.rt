@@ -3,8 +3,7 @@ ghost use Rattle.am_swap_device.specs.Memory.{Held, held_for, held_instead, is_f
 ghost use Rattle.std.specs.Prelude.{◌≡◌, [], ◌∷◌, ◌++◌, find, if◌then◌else◌, is_ok, position};
 ghost use Rattle.std.specs.Option.{option_copied};
 
-use am_names::EndpointId;
-use am_office::NoMemory;
+use am_names::{EndpointId, NoMemory};
 use std::alloc::Global;
 use std::marker::Model;
 

@@ -1,11 +1,11 @@
 ghost use Rattle.am_swap_device.specs.Causes.{fails_after};
-ghost use Rattle.am_swap_device.specs.Memory.{CallsSo, counted, device_of, faulted, with_held};
-ghost use Rattle.std.specs.Prelude.{◌≡◌, ◌≤◌, [], OnErr, OnOk};
+ghost use Rattle.am_swap_device.specs.Memory.{CallsSo, counted, device_of, faulted, held_for, with_held};
+ghost use Rattle.std.specs.Option.{option_copied};
+ghost use Rattle.std.specs.Prelude.{◌≡◌, ◌≤◌, ◌↔◌, [], None, OnErr, OnOk};
 
 use crate::kept::{Kept, held_for, hold};
 use crate::swap::{Look, Swap, SwapFault};
-use am_names::EndpointId;
-use am_office::NoMemory;
+use am_names::{EndpointId, NoMemory};
 use std::alloc::Global;
 use std::marker::Model;
 
@@ -50,6 +50,14 @@ impl MemorySwap {
         ensures no_memory { OnErr result (self.new ≡ self.old) }
     {
         hold(self.alloc, &mut self.kept, key, bytes)
+    }
+
+    /// What it holds for the key, and None exactly where the key wasn't written. It isn't counted, and takes no memory.
+    pub fn held(&self, key: EndpointId) -> Option<&[u8]>
+        ensures bytes { option_copied result ≡ held_for self.now.held key }
+        ensures none { (result ≡ None) ↔ (held_for self.now.held key ≡ None) }
+    {
+        held_for(&self.kept, key)
     }
 
     /// Counts a call that is done.
@@ -121,6 +129,6 @@ impl Swap for MemorySwap {
 
 impl Look for MemorySwap {
     fn look(&self, key: EndpointId) -> Option<&[u8]> {
-        held_for(&self.kept, key)
+        self.held(key)
     }
 }
