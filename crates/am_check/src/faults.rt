@@ -1,5 +1,6 @@
 use am_office::{Condition, Part};
 use am_scenario::ScenarioFault;
+use thiserror::Error;
 
 /// What is wrong with a line of a report.
 #[derive(Clone, Copy, PartialEq, Eq, Debug)]
@@ -18,16 +19,20 @@ pub enum CheckWhat {
 
 /// Why a report isn't one of a journal that follows its scenario. Lines of the report are counted from 1; a number stands
 /// still at 2^32-1.
-#[derive(Clone, Copy, PartialEq, Eq, Debug)]
+#[derive(Clone, Copy, PartialEq, Eq, Debug, Error)]
 pub enum CheckStop {
     /// The text in front of the report spells no scenario: its first fault.
+    #[error("the text in front of the report spells no scenario")]
     Scenario(ScenarioFault),
     /// The first line of the report that has a fault.
+    #[error("a line of the report has a fault")]
     Fault { line: u32, what: CheckWhat },
     /// The event of the next line is enabled, and the log of this part, which its entry would go into, has as many entries
     /// as it may.
+    #[error("the log of a part is full")]
     LogFull(Part),
     /// There is no memory for the check.
+    #[error("there is no memory for the check")]
     NoMemory,
 }
 

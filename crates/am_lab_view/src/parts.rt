@@ -4,6 +4,7 @@ ghost use Rattle.am_lab_view.specs.Parts as parts;
 ghost use Rattle.std.specs.Prelude.{◌≡◌, ◌+◌, ◌<◌, ◌^◌};
 
 use am_lab_picture::Lines;
+use thiserror::Error;
 
 /// A part of a report's journal: the lines from one to another, both shown.
 #[derive(Clone, Copy, PartialEq, Eq, Debug)]
@@ -13,13 +14,16 @@ pub struct Part {
 }
 
 /// Why there is no picture.
-#[derive(Clone, Copy, PartialEq, Eq, Debug)]
+#[derive(Clone, Copy, PartialEq, Eq, Debug, Error)]
 pub enum PictureFault {
     /// The part has no line, or one that isn't a line of the journal.
+    #[error("the journal has no such lines")]
     NoSuchLines,
     /// There are more than 20,000 lines.
+    #[error("the lines are too many for a picture")]
     TooManyRows,
     /// There was no memory.
+    #[error("there is no memory for the picture")]
     NoMemory,
 }
 

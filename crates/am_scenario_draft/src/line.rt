@@ -10,6 +10,7 @@ use am_scenario_types::{
 };
 use std::alloc::{AllocError, AllocFailed};
 use std::marker::Model;
+use thiserror::Error;
 
 /// Calls on endpoints, in order.
 #[derive(Drop)]
@@ -45,9 +46,11 @@ pub enum Line {
 }
 
 /// Why a line was not taken.
-#[derive(Clone, Copy)]
+#[derive(Clone, Copy, Debug, Error)]
 pub enum LineFault {
+    #[error("the line spells nothing of a scenario")]
     What(What),
+    #[error("there is no memory for the line")]
     NoMemory,
 }
 

@@ -3,9 +3,11 @@ ghost use Rattle.am_scenario_types.specs.declared.faults.ReadFault.TheVariants.{
 
 use am_lexer::What;
 use std::alloc::{AllocError, AllocFailed};
+use thiserror::Error;
 
 /// Where a text spells no scenario, and why.
-#[derive(Clone, Copy, PartialEq, Eq, Debug)]
+#[derive(Clone, Copy, PartialEq, Eq, Debug, Error)]
+#[error("the text spells no scenario: line {line}")]
 pub struct ScenarioFault {
     /// The line, from 1; one more than there are lines where something is missing after the last.
     pub line: u32,
@@ -13,11 +15,13 @@ pub struct ScenarioFault {
 }
 
 /// Why no scenario was read.
-#[derive(Clone, Copy, PartialEq, Eq, Debug)]
+#[derive(Clone, Copy, PartialEq, Eq, Debug, Error)]
 pub enum ReadFault {
     /// The text spells none.
+    #[error("the text spells no scenario")]
     Refused(ScenarioFault),
     /// There was no memory.
+    #[error("there is no memory for the scenario")]
     NoMemory,
 }
 
