@@ -316,10 +316,10 @@ joined() {
 
 # The command that does the same without the program, if one does.
 meanwhile() {
-    local reading=$top/check/reading.py folder=$top/ given='< FILE' asked=${words[*]:0:taken} form
+    local reading=$top/check/reading.py folder=$top/ given='FILE' asked=${words[*]:0:taken} form
     [ "$top" = "$PWD" ] && reading=check/reading.py folder=
     [ -e "$top/check/reading.py" ] || return
-    [ ${#files[@]} -ge 1 ] && given="< ${files[0]}"
+    [ ${#files[@]} -eq 0 ] || given=${files[*]}
     [ "$kind" = nothing ] && given=
     case $name:$asked in
         am2:count*) echo "Nothing else counts words meanwhile." ; return ;;
@@ -327,7 +327,6 @@ meanwhile() {
         am2_lab:explain*) form=${words[1]} asked="check $form" ;;
         am2_lab:*) return ;;
     esac
-    [ ${#files[@]} -eq 2 ] && given="< <(cat ${files[0]}; echo; cat ${files[1]})"
     echo "Meanwhile a second reading of the rules, in Python and with nothing to build, $([ "$name" = am2 ] && echo 'does the same' || echo 'judges the report'): python3 $reading $asked${given:+ $given}"
 }
 

@@ -1,5 +1,6 @@
 #!/usr/bin/env python3
-"""A second reading of the rules: `reading.py step`, `run`, `make N`, `segments`, `session`, `check step` and `check run` print what am2 should print.
+"""A second reading of the rules: `reading.py step`, `run`, `make N`, `segments`, `session`, `check step` and `check run` print what am2 should print of standard input, or of the files behind
+these words, as bin/am2 takes them.
 
 It is written from docs/MANUAL.md and not from the code, and shares nothing with it. It answers with the same statuses: 0, 2, 3, 6 and 10.
 """
@@ -61,13 +62,26 @@ def answer(words, text):
 COMMANDS = ("step", "run", "segments", "session", "check step", "check run")
 
 
+def text_of(files, source):
+    """What is read: the files, each but the last with its newline at the end, or else standard input."""
+    if not files:
+        return source.read()
+    parts = []
+    for path in files:
+        with open(path, "rb") as file:
+            parts.append(file.read())
+    return b"".join(it if it.endswith(b"\n") or not it else it + b"\n" for it in parts[:-1]) + parts[-1]
+
+
 def main(words, source):
     """Prints the answer, and gives the status."""
     is_make = len(words) == 2 and words[0] == "make" and words[1].isdigit()
-    if not is_make and " ".join(words) not in COMMANDS:
+    count = 2 if words[:1] in (["check"], ["make"]) else 1
+    files, words = words[count:], words[:count]
+    if not is_make and (" ".join(words) not in COMMANDS or len(files) > count):
         print(f"usage: reading.py {' | '.join(COMMANDS)} < TEXT, reading.py make N", file=sys.stderr)
         return 2
-    status, printed = answer(words, "" if is_make else source.read().decode("latin-1"))
+    status, printed = answer(words, "" if is_make else text_of(files, source).decode("latin-1"))
     sys.stdout.write(printed)
     return status
 
