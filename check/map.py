@@ -97,7 +97,9 @@ class Drawing:
         self.order()
 
     def word(self, box):
-        """The name of a box, with its layer where another box has that name."""
+        """What a box is called: its crate where it has but one, else its family, with its layer where another box has that name."""
+        if len(self.crates[box]) == 1:
+            return self.crates[box][0]
         same = [it for it in self.crates if it[1] == box[1]]
         return box[1] if len(same) == 1 else f"{box[1]} ({box[0]})"
 
@@ -229,8 +231,13 @@ def table_of(page, heading):
 
 
 def stands_on(parts, below):
-    """What each part stands on among the parts, without what it reaches by another."""
-    return reduced({part: [it for it in parts if it in reached(below, part)] for part in parts})
+    """The parts of which each part needs a crate, without those whose needed crates are all needed by the needed crates of another."""
+    on = {}
+    for part in parts:
+        met = {other: {it for it in reached(below, part) if family(it) == other} for other in parts if other != part}
+        far = {other: set().union(*(reached(below, it) for it in its)) for other, its in met.items()}
+        on[part] = [it for it in parts if met.get(it) and not any(met[it] <= far[other] for other in met if other != it)]
+    return on
 
 
 def main():
