@@ -1,5 +1,5 @@
 #!/usr/bin/env python3
-"""progress.py NAME ROOM GATE PARENT: tells how far a build of bin/building.sh is, every ten seconds, until it is ended or PARENT is gone.
+"""progress.py NAME ROOM GATE PARENT: tells how far a build of bin/building.sh is, every eight seconds, until it is ended or PARENT is gone.
 progress.py NAME ROOM GATE: what is said when it begins.
 
 ROOM has the crates that are built, their crates.txt, and the log that rt ci writes. GATE has what each crate took elsewhere, in seconds of processor
@@ -9,7 +9,7 @@ import re
 import sys
 import time
 
-EVERY = 10
+EVERY = 8
 # What a crate takes of which GATE says nothing, in seconds.
 USUAL = 30
 DONE = re.compile(r"^rt: ([a-z0-9_]+) (proved|is kept)\b", re.M)

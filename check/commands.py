@@ -9,7 +9,7 @@ the beginning of a line. Where no such line stands the stream is empty. The room
     built     programs that print their words and what they read are built; STATUS is the status that they end with
     failing   nothing is built, and an `rt` that proves nothing is there
     building  nothing is built, and an `rt` that builds these programs at once is there
-    real      this repository itself; its rows are left out where its programs aren't built
+    real      this repository itself; its rows are left out where its programs aren't built, and those of terminals where there are none
 """
 import os
 import pty
@@ -53,9 +53,10 @@ def make_room(top, name):
     for crate in ("am_names", "am2", "am2_lab"):
         write(f"{room}/crates/{crate}/src/main.rt", "")
     write(f"{room}/program", PROGRAM, 0o755)
+    os.mkdir(f"{room}/tools")
     for tool in TOOLS:
-        os.makedirs(f"{room}/tools", exist_ok=True)
-        os.symlink(shutil.which(tool), f"{room}/tools/{tool}")
+        if found := shutil.which(tool):
+            os.symlink(found, f"{room}/tools/{tool}")
     os.symlink(sys.executable, f"{room}/tools/python3")
     if name in RT:
         write(f"{room}/tools/rt", f'#!/usr/bin/env bash\n[ "$1" = version ] && echo "rattle-kit-0" && exit\n{RT[name]}', 0o755)
@@ -133,19 +134,33 @@ def wrong_with(rooms, row):
     return f"{name}{how} {command}: {'; '.join(found)}" if found else None
 
 
+def has_terminals():
+    try:
+        for it in pty.openpty():
+            os.close(it)
+    except OSError:
+        return False
+    return True
+
+
+def can_be_tried(rows):
+    """The rows that can be tried here: those of terminals where the system has some, and those of this repository where its programs are built."""
+    without = "" if has_terminals() else "%@"
+    is_built = all(os.access(f"crates/{it}/out/{it}", os.X_OK) for it in ("am2", "am2_lab"))
+    return [it for it in rows if it[1] not in without and (is_built or it[0] != "real")]
+
+
 def main(table):
-    rows, left_out = rows_of(table), []
+    rows = rows_of(table)
     with tempfile.TemporaryDirectory() as top:
         top = os.path.realpath(top)
         os.mkdir(f"{top}/tmp")
         rooms = {name: make_room(top, name) for name in ("fresh", "built", "failing", "building")}
         rooms["real"] = os.getcwd(), dict(os.environ)
-        if not all(os.access(f"crates/{it}/out/{it}", os.X_OK) for it in ("am2", "am2_lab")):
-            left_out = [it for it in rows if it[0] == "real"]
-            rows = [it for it in rows if it[0] != "real"]
+        tried = can_be_tried(rows)
         with ThreadPoolExecutor(4) as pool:
-            wrong = [it for it in pool.map(lambda row: wrong_with(rooms, row), rows) if it]
-    print(*wrong, f"commands: {len(rows)} tried, {len(left_out)} left out, {len(wrong)} answered otherwise", sep="\n")
+            wrong = [it for it in pool.map(lambda row: wrong_with(rooms, row), tried) if it]
+    print(*wrong, f"commands: {len(tried)} tried, {len(rows) - len(tried)} left out, {len(wrong)} answered otherwise", sep="\n")
     return 1 if wrong or len(rows) < 80 else 0
 
 
