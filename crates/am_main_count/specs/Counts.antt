@@ -34,3 +34,7 @@ IsCountAnswer nodes turns bytes answer =
 abbrev pub CountAnswers : (nodes turns : ℕ) → List ℕ → Answer → Type 0
 CountAnswers nodes turns bytes answer =
     ((1_048_576 < length bytes) × (answer ≡ text_too_long)) ⊎ ((length bytes ≤ 1_048_576) × IsCountAnswer nodes turns bytes answer)
+
+-- `count` without turns has at most one answer to a text
+abbrev pub CountsHaveOneAnswer : Type 0
+CountsHaveOneAnswer = (nodes : ℕ) (bytes : List ℕ) (one other : Answer) → CountAnswers nodes 0 bytes one → CountAnswers nodes 0 bytes other → one ≡ other
