@@ -15,6 +15,7 @@ use Rattle.std.proofs.lemmas.List.Sums.{sum_by-append, sum_by-cons}
 use Rattle.std.proofs.lemmas.Slice.Zip.{all_zipped_more}
 use Rattle.am_lemmas.specs.Bytes.{AreBytes}
 use Rattle.am_office.specs.declared.Entry.{Entry}
+use Rattle.am_office.specs.declared.Part.{Part}
 use Rattle.am_scenario_types.specs.Lists.{ScenarioLists}
 use Rattle.am_job_words.specs.declared.codes.CodedWord.{CodedWord}
 use Rattle.am_job_words.specs.Codes.{coded, sent_words}
@@ -29,6 +30,9 @@ use Rattle.am_job.proofs.Sent.{asked_more, rounds_send, short_few, tells_script,
 use Rattle.am_job_count.specs.Counting.{CountsAll, CountsText, EndIn, HasCounted, IsRound, LeftIn, PrintsCount, plain}
 use Rattle.am_job_count.specs.Left.{AddsUp, words_refused, words_returned}
 use Rattle.am_job_count.specs.Printed.{count_text}
+use Rattle.am_job_count.specs.Stops.{IsCountStop, IsRoundStop}
+use Rattle.am_job_count.specs.declared.counting.CountStop.{CountStop}
+use Rattle.am_job_count.specs.declared.counting.CountStop.TheVariants as Stop
 
 -- ---- round after round
 
@@ -210,3 +214,13 @@ text_counted is_run w turns text sent counted rows all long printed some nodes i
     }
 
 -- ---- a round that stopped
+
+pub stopped_next : (is_run : ScenarioLists → List Entry → Type 0) (is_cut : ScenarioLists → Part → List Entry → Type 0) (w turns : ℕ) (sent : List CodedWord)
+    (number : ℕ) (round : ScenarioLists) (counted : Counted) (stop : CountStop)
+    → number < round_count w (length sent) → round ≡ round_at w turns sent number → CountsAll is_run w turns sent number counted →
+    IsRoundStop is_cut round stop → IsCountStop is_run is_cut w turns sent stop
+stopped_next is_run is_cut w turns sent number round counted (Stop.LogFull scenario part journal) below is counts (same, cut) = (
+  record { number = number; below = below; is_round = same ∙ is; journals = counts.journals; before = counts.rounds },
+  subst (λ (s : ScenarioLists). is_cut s part journal) (sym same) cut,
+)
+stopped_next is_run is_cut w turns sent number round counted Stop.NoMemory below is counts stop = tt

@@ -81,6 +81,7 @@ fn count_round<T: Threads + Sync, R: Runner>(
 }
 
 // Runs all rounds.
+#[tactic(auto, using(crate::proofs::Counted::stopped_next))]
 fn count_rounds<T: Threads + Sync, R: Runner>(
     rt: &T,
     runner: &R,
@@ -94,7 +95,7 @@ fn count_rounds<T: Threads + Sync, R: Runner>(
     requires turns { turns ≤ 10000 }
     requires fit { All Fits sent.now }
     ensures counted { IfOk result (CountsAll (R.is_run runner.now) w turns sent.now (round_count w (length sent.now))) }
-    ensures stop { IfErr result (IsCountStop (R.is_cut runner.now) w turns sent.now) }
+    ensures stop { IfErr result (IsCountStop (R.is_run runner.now) (R.is_cut runner.now) w turns sent.now) }
 {
     let mut tally = Tally::new(alloc);
     for number in 0..round_count(w, sent.len()) {
@@ -105,8 +106,8 @@ fn count_rounds<T: Threads + Sync, R: Runner>(
 }
 
 /// What is printed of the words of a text, which 1 to 8 nodes count in rounds of 0 to 10,000 turns. The text has at most 1,048,576
-/// bytes. LogFull: a log is full in the run of a round. NoMemory: there is none for a round or for what is printed; the text is as it
-/// was, what was counted is let go, and the runner made the runs of some rounds.
+/// bytes. LogFull: a log is full in the run of a round, and each round before it was run to its end. NoMemory: there is none for a round
+/// or for what is printed; the text is as it was, what was counted is let go, and the runner made the runs of some rounds.
 pub fn count<T: Threads + Sync, R: Runner>(
     rt: &T,
     runner: &R,
@@ -120,7 +121,7 @@ pub fn count<T: Threads + Sync, R: Runner>(
     requires turns { turns ≤ 10000 }
     requires size { length text.now ≤ 1048576 }
     ensures prints { IfOk result (λ printed. PrintsCount (R.is_run runner.now) w turns text.now printed.items) }
-    ensures stop { IfErr result (IsCountStop (R.is_cut runner.now) w turns (sent_words text.now)) }
+    ensures stop { IfErr result (IsCountStop (R.is_run runner.now) (R.is_cut runner.now) w turns (sent_words text.now)) }
 {
     let words = split(alloc, text)?;
     let tally = count_rounds(rt, runner, alloc, w, turns, &words.sent)?;

@@ -126,15 +126,15 @@ counts_are_run nodes turns number bytes text counts round printed is prints =
 
 cut_counts_are_run : (nodes turns : ℕ) (bytes text : List ℕ) → CutsCount nodes turns bytes text → IsCutRun nodes turns bytes text
 cut_counts_are_run nodes turns bytes text cut =
-    let k = cut.round.0 in
+    let k = cut.round.number in
     let round = round_at nodes turns (sent_words bytes) k in
-    let same : PrintsCutRun round cut.part text = subst (λ (s : ScenarioLists). PrintsCutRun s cut.part text) cut.round.2 cut.prints in
+    let same : PrintsCutRun round cut.part text = subst (λ (s : ScenarioLists). PrintsCutRun s cut.part text) cut.round.is_round cut.prints in
     let answer : Answer = record { status = 6; text = text } in
     let told : IsRunAnswer round answer = inr (refl, (cut.part, same)) in
     record {
       number = suc k;
       round = round;
-      is = round_is nodes turns (sent_words bytes) k cut.round.1;
+      is = round_is nodes turns (sent_words bytes) k cut.round.below;
       runs = λ (printed : Answer) (prints : PrintsScenario round printed). may_tell round printed answer prints told;
     }
 

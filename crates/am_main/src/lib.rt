@@ -12,5 +12,7 @@ pub use crate::commands::{Command, command_of};
 pub use crate::laws::answers_say;
 pub use crate::offers::Status;
 pub use crate::top::{am2, answer_no_memory};
+pub use am_main_count::counts_have_one_answer;
 pub use am_main_run::have_one_answer;
+pub use am_main_segments::segments_have_one_answer;
 pub use am_main_step::{StepFault, step_has_one_answer, step_text};

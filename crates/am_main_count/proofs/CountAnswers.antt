@@ -19,7 +19,7 @@ pub words_counted : (nodes turns : ℕ) (bytes text : List ℕ) → PrintsCount 
 words_counted nodes turns bytes text counts = inl (refl, counts)
 
 pub count_cut : (nodes turns : ℕ) (bytes : List ℕ) (scenario : ScenarioLists) (part : Part) (journal : List Entry) (text : List ℕ) →
-    IsCountStop IsRunCutOff nodes turns (sent_words bytes) (Stop.LogFull scenario part journal) →
+    IsCountStop IsRoundRun IsRunCutOff nodes turns (sent_words bytes) (Stop.LogFull scenario part journal) →
     text ≡ full_line part ++ report (ids_of scenario.ends) journal → IsCountAnswer nodes turns bytes (record { status = 6; text = text })
 count_cut nodes turns bytes scenario part journal text (round, cut) printed =
     inr (refl, record { scenario = scenario; round = round; part = part; prints = record { journal = journal; cut = cut; text' = printed } })

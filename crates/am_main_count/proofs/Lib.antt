@@ -1,1 +1,3 @@
 mod CountAnswers
+mod Ascending
+mod OneAnswer

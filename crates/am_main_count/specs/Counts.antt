@@ -4,7 +4,7 @@ use Rattle.am_office.specs.declared.Part.{Part}
 use Rattle.am_scenario_types.specs.Lists.{ScenarioLists}
 use Rattle.am_job_words.specs.Codes.{sent_words}
 use Rattle.am_job_count.specs.Counting.{PrintsCount}
-use Rattle.am_job_count.specs.Stops.{IsRoundOf}
+use Rattle.am_job_count.specs.Stops.{IsNextRound}
 use Rattle.am_job_cluster.specs.Rounds.{IsRoundRun}
 use Rattle.am_main_lines.specs.Lines.{Answer}
 use Rattle.am_main_lines.specs.Offers.{text_too_long}
@@ -17,10 +17,11 @@ use Rattle.am_main_run.specs.Runs.{PrintsCutRun}
 abbrev pub CountsWords : (nodes turns : ℕ) → (bytes text : List ℕ) → Type 0
 CountsWords nodes turns bytes text = PrintsCount IsRoundRun nodes turns bytes text
 
--- the run of a round meets a full log: the text is the line that tells it, and the report of what that run made before
+-- The run of a round meets a full log, the first to do so: the text is the line that tells it, and the report of what that run made
+-- before.
 pub record CutsCount (nodes turns : ℕ) (bytes text : List ℕ) : Type 0 where
   pub scenario : ScenarioLists
-  pub round : IsRoundOf nodes turns (sent_words bytes) scenario
+  pub round : IsNextRound IsRoundRun nodes turns (sent_words bytes) scenario
   pub part : Part
   pub prints : PrintsCutRun scenario part text
 
@@ -33,3 +34,7 @@ IsCountAnswer nodes turns bytes answer =
 abbrev pub CountAnswers : (nodes turns : ℕ) → List ℕ → Answer → Type 0
 CountAnswers nodes turns bytes answer =
     ((1_048_576 < length bytes) × (answer ≡ text_too_long)) ⊎ ((length bytes ≤ 1_048_576) × IsCountAnswer nodes turns bytes answer)
+
+-- `count` without turns has at most one answer to a text
+abbrev pub CountsHaveOneAnswer : Type 0
+CountsHaveOneAnswer = (nodes : ℕ) (bytes : List ℕ) (one other : Answer) → CountAnswers nodes 0 bytes one → CountAnswers nodes 0 bytes other → one ≡ other

@@ -2,5 +2,7 @@
 #![tactic(auto)]
 
 mod counts;
+mod laws;
 
 pub use crate::counts::count_output;
+pub use crate::laws::counts_have_one_answer;

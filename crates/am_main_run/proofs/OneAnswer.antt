@@ -10,11 +10,11 @@ use Rattle.am_model_drain.specs.Cut.{IsDrainCutOff}
 use Rattle.am_model_drain.proofs.CutOff.{cut_is_determined}
 use Rattle.am_cluster.specs.Runs.{IsRunCutOff}
 use Rattle.am_main_lines.specs.Lines.{Answer, full_line, ids_of}
-use Rattle.am_main_run.specs.Runs.{HasNoTurns, HaveOneAnswer, IsDrainedAlone, IsRunAnswer, MakeAnswers, PrintsCutRun, PrintsRun, RunAnswers, Summarizes}
+use Rattle.am_main_run.specs.Runs.{HasNoTurns, HaveOneAnswer, IsDrainedAlone, IsRunAnswer, IsRunOf, MakeAnswers, PrintsCutRun, PrintsRun, RunAnswers, Summarizes}
 use Rattle.am_main_run.specs.Runs.{TellsCutRun, make_text}
 use Rattle.am_scenario_generator.specs.Scenarios.{generated}
 
-same_answer : (a b : Answer) (n : ℕ) → a.status ≡ n → b.status ≡ n → a.text ≡ b.text → a ≡ b
+pub same_answer : (a b : Answer) (n : ℕ) → a.status ≡ n → b.status ≡ n → a.text ≡ b.text → a ≡ b
 same_answer a b n one other text =
     let status = one ∙ sym other in
     λ i. record { status = status i; text = text i }
@@ -27,14 +27,20 @@ never_both s one other part a b = absurd (cut_is_determined.or s [] other one pa
 
 -- ---- run, where there are no turns
 
-cut_alone : (s : ScenarioLists) (part : Part) (journal : List Entry) → s.turns ≡ 0 → IsRunCutOff s part journal → IsDrainCutOff s [] part journal
+pub cut_alone : (s : ScenarioLists) (part : Part) (journal : List Entry) → s.turns ≡ 0 → IsRunCutOff s part journal → IsDrainCutOff s [] part journal
 cut_alone s part journal none c = subst (λ (phase : List Entry). IsDrainCutOff s phase part journal) (c.made.none none) c.cut
+
+pub one_run : (s : ScenarioLists) (one other : List Entry) → s.turns ≡ 0 → IsRunOf s one → IsRunOf s other → one ≡ other
+one_run s one other none a b = one_journal s one other (a.alone none) (b.alone none)
+
+pub run_or_cut : {X : Type 0} (s : ScenarioLists) (one other : List Entry) (part : Part) → s.turns ≡ 0 → IsRunOf s one → IsRunCutOff s part other → X
+run_or_cut s one other part none a b = never_both s one other part (a.alone none) (cut_alone s part other none b)
 
 one_report : (s : ScenarioLists) (one other : List ℕ) → s.turns ≡ 0 → PrintsRun s one → PrintsRun s other → one ≡ other
 one_report s one other none a b =
-    a.text' ∙ ap (λ (j : List Entry). report (ids_of s.ends) j) (one_journal s a.journal b.journal (a.run.alone none) (b.run.alone none)) ∙ sym b.text'
+    a.text' ∙ ap (λ (j : List Entry). report (ids_of s.ends) j) (one_run s a.journal b.journal none a.run b.run) ∙ sym b.text'
 
-one_cut_report : (s : ScenarioLists) (part here : Part) (one other : List ℕ) → s.turns ≡ 0 → PrintsCutRun s part one → PrintsCutRun s here other → one ≡ other
+pub one_cut_report : (s : ScenarioLists) (part here : Part) (one other : List ℕ) → s.turns ≡ 0 → PrintsCutRun s part one → PrintsCutRun s here other → one ≡ other
 one_cut_report s part here one other none a b =
     let same = cut_is_determined.one s [] a.journal b.journal part here (cut_alone s part a.journal none a.cut) (cut_alone s here b.journal none b.cut) in
     a.text'
@@ -43,7 +49,7 @@ one_cut_report s part here one other none a b =
     ∙ sym b.text'
 
 report_or_cut : {X : Type 0} (s : ScenarioLists) (here : Part) (one other : List ℕ) → s.turns ≡ 0 → PrintsRun s one → PrintsCutRun s here other → X
-report_or_cut s here one other none a b = never_both s a.journal b.journal here (a.run.alone none) (cut_alone s here b.journal none b.cut)
+report_or_cut s here one other none a b = run_or_cut s a.journal b.journal here none a.run b.cut
 
 one_of_scenario : (s : ScenarioLists) (a b : Answer) → s.turns ≡ 0 → IsRunAnswer s a → IsRunAnswer s b → a ≡ b
 one_of_scenario s a b none (inl (one, prints)) (inl (other, tells)) = same_answer a b 0 one other (one_report s a.text b.text none prints tells)

@@ -1,1 +1,2 @@
 mod SegmentMeaning
+mod OneAnswer

@@ -51,3 +51,13 @@ IsSegmentsAnswer s answer =
 abbrev pub SegmentsAnswers : Result SegmentScenario ScenarioFault → Answer → Type 0
 SegmentsAnswers (Ok s) answer = IsSegmentsAnswer s answer
 SegmentsAnswers (Err fault) answer = answer ≡ refusal fault
+
+-- a text spells no scenario with segments, or one without turns
+abbrev pub HasNoTurns : Result SegmentScenario ScenarioFault → Type 0
+HasNoTurns (Ok s) = s.scenario.turns ≡ 0
+HasNoTurns (Err fault) = Unit {0}
+
+-- `segments` has at most one answer to what a text without turns spells
+abbrev pub SegmentsHaveOneAnswer : Type 0
+SegmentsHaveOneAnswer =
+    (read : Result SegmentScenario ScenarioFault) (one other : Answer) → HasNoTurns read → SegmentsAnswers read one → SegmentsAnswers read other → one ≡ other
