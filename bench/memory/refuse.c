@@ -6,7 +6,8 @@
  *     REFUSE_LATER=1  and so is each later one
  *     REFUSE_OF=WHO   whose allocations count and are refused: `program`, those that its own code asks for, which is the rule; `library`, those that the C
  *                     library makes for itself, as for a thread; `both`
- *     REFUSE_TO=FILE  two numbers of eight bytes in FILE, which is made anew: how many counted so far, and how many of these were refused
+ *     REFUSE_TO=FILE  three numbers of eight bytes in FILE, which is made anew: how many counted so far, how many of these were refused, and how many blocks
+ *                     were taken and not yet given back, by whose allocations count
  */
 #define _GNU_SOURCE
 #include <elf.h>
@@ -25,6 +26,7 @@ extern void *__libc_malloc(size_t);
 extern void *__libc_calloc(size_t, size_t);
 extern void *__libc_realloc(void *, size_t);
 extern void *__libc_memalign(size_t, size_t);
+extern void __libc_free(void *);
 
 enum { PROGRAM = 1, LIBRARY = 2 };
 
@@ -36,6 +38,7 @@ static unsigned long refuse_at;
 
 struct counts {
     atomic_ulong counted, refused;
+    atomic_long held;
 };
 
 /* those of a run that tells nobody, or in the file */
@@ -75,11 +78,16 @@ __attribute__((constructor)) static void begin(void) {
     find_code();
 }
 
-/* whether the call that returns to this place is refused */
-static int is_refused(const void *caller) {
+/* whether the call that returns to this place counts */
+static int is_counted(const void *caller) {
     uintptr_t from = (uintptr_t)caller;
     int who = code_start <= from && from < code_end ? PROGRAM : LIBRARY;
-    if (!code_end || !(who & whose)) return 0;
+    return code_end && (who & whose);
+}
+
+/* whether the call that returns to this place is refused */
+static int is_refused(const void *caller) {
+    if (!is_counted(caller)) return 0;
     unsigned long number = atomic_fetch_add(&counts->counted, 1) + 1;
     if (!refuse_at || (later ? number < refuse_at : number != refuse_at)) return 0;
     atomic_fetch_add(&counts->refused, 1);
@@ -87,21 +95,37 @@ static int is_refused(const void *caller) {
     return 1;
 }
 
-#define REFUSED is_refused(__builtin_return_address(0))
+/* the block that the call that returns to this place took */
+static void *taken(void *block, const void *caller) {
+    if (block && is_counted(caller)) atomic_fetch_add(&counts->held, 1);
+    return block;
+}
 
-void *malloc(size_t size) { return REFUSED ? NULL : __libc_malloc(size); }
+#define CALLER __builtin_return_address(0)
+#define REFUSED is_refused(CALLER)
 
-void *calloc(size_t count, size_t size) { return REFUSED ? NULL : __libc_calloc(count, size); }
+void *malloc(size_t size) { return REFUSED ? NULL : taken(__libc_malloc(size), CALLER); }
 
-void *realloc(void *old, size_t size) { return REFUSED ? NULL : __libc_realloc(old, size); }
+void *calloc(size_t count, size_t size) { return REFUSED ? NULL : taken(__libc_calloc(count, size), CALLER); }
 
-void *memalign(size_t alignment, size_t size) { return REFUSED ? NULL : __libc_memalign(alignment, size); }
+void *realloc(void *old, size_t size) {
+    if (REFUSED) return NULL;
+    void *found = __libc_realloc(old, size);
+    return old ? found : taken(found, CALLER);
+}
 
-void *aligned_alloc(size_t alignment, size_t size) { return REFUSED ? NULL : __libc_memalign(alignment, size); }
+void *memalign(size_t alignment, size_t size) { return REFUSED ? NULL : taken(__libc_memalign(alignment, size), CALLER); }
+
+void *aligned_alloc(size_t alignment, size_t size) { return REFUSED ? NULL : taken(__libc_memalign(alignment, size), CALLER); }
 
 int posix_memalign(void **result, size_t alignment, size_t size) {
-    void *found = REFUSED ? NULL : __libc_memalign(alignment, size);
+    void *found = REFUSED ? NULL : taken(__libc_memalign(alignment, size), CALLER);
     if (!found) return ENOMEM;
     *result = found;
     return 0;
+}
+
+void free(void *block) {
+    if (block && is_counted(CALLER)) atomic_fetch_sub(&counts->held, 1);
+    __libc_free(block);
 }

@@ -93,7 +93,7 @@ class Sweep:
         except subprocess.TimeoutExpired:
             answer = "hangs", b"", b""
         with open(path, "rb") as file:
-            counts = struct.unpack("QQ", file.read())
+            counts = struct.unpack("QQ", file.read()[:16])
         os.remove(path)
         return *answer, *counts
 
