@@ -9,7 +9,7 @@ import sys
 from pathlib import Path
 
 PAGE, LEAST_ROWS = Path("docs/DEFINITIONS.md"), 100
-LINK = re.compile(r"\[([^\]]*)\]\(\.\./(crates/[^)]+)\)(?: by ((?:`[^`]+`(?:, )?)+))?")
+LINK = re.compile(r"\[([^\]]*)\]\(\.\./(crates/[^)]+)\)(?: by ((?:`[^`]+`(?:, )?)+))?(?: ((?:\*\w+\*(?:, )?)+))?")
 HEAD = re.compile(r"^(?P<indent> *)(?:(?:pub|abbrev|unfoldable|opaque|record|data) )+(?P<name>[^\s:(){}]+)")
 IMPORT = re.compile(r"^\s*(?:ghost |pub )*use ([\w.']+?)(?:\.\{([^}]*)\}| as (\w+))?;?\s*$", re.M)
 WORD = re.compile(r"[^\s(){}\[\],;.:λ]+")
@@ -106,16 +106,29 @@ def contracts(path, name):
 
 
 def links(cell):
-    """Each link of a cell: its names, its file, the words behind "by", and what stands in front of it."""
-    return [(re.findall(r"`([^`]+)`", names), Path(path), re.findall(r"`([^`]+)`", by or ""), cell[:at]) for names, path, by, at in
-            ((*it.groups(), it.start()) for it in LINK.finditer(cell))]
+    """Each link of a cell: its names, its file, the words behind "by", what stands in front of it, and the clauses in italics behind it."""
+    return [(re.findall(r"`([^`]+)`", names), Path(path), re.findall(r"`([^`]+)`", by or ""), cell[:at], re.findall(r"\w+", clauses or ""))
+            for names, path, by, clauses, at in ((*it.groups(), it.start()) for it in LINK.finditer(cell))]
+
+
+def fault_of_clauses(clauses, names, path, known):
+    """Which of the clauses neither the contracts of these functions nor the definitions that they cite have."""
+    brought, texts = {}, []
+    for name in names:
+        brought, found = contracts(path, name)
+        texts += found
+    cited = set().union(*(known.cited(brought, it) for it in texts))
+    whole = "\n".join([*texts, *(known.file(it[0])[1][it[1]] for it in cited)])
+    for clause in clauses:
+        if not re.search(rf"(?:requires|ensures|pub) {clause}\b", whole):
+            yield f"no clause {clause} of {', '.join(names)} in {path}"
 
 
 def fault_of_row(cells, known):
     """What is wrong with a row, given as its cells by the heads of their columns."""
     said = cells.get("Definition", cells.get("Said by", ""))
-    there = {known.find(path, name) for names, path, _, _ in links(said) if path.exists() for name in names}
-    for names, path, _, _ in links(said):
+    there = {known.find(path, name) for names, path, *_ in links(said) if path.exists() for name in names}
+    for names, path, *_ in links(said):
         for name in names:
             if not path.exists() or not known.find(path, name):
                 yield f"{name} doesn't stand in {path}"
@@ -123,7 +136,9 @@ def fault_of_row(cells, known):
         if not cell:
             yield f"the cell of {column} is empty"
     for column in ("Code", "Calls", "Law"):
-        for names, path, by, before in links(cells.get(column, "")):
+        for names, path, by, before, clauses in links(cells.get(column, "")):
+            if clauses:
+                yield from fault_of_clauses(clauses, names, path, known)
             if path.suffix == ".edit" and not path.exists():
                 yield f"there is no {path}"
             for name in (it.rpartition("::")[2] for it in names if path.suffix == ".rt"):
