@@ -1,3 +1,3 @@
 #!/usr/bin/env bash
-# docs/BELIEVED.md lists the definitions that the contract of the top call rests on.
+# docs/BELIEVED.md lists, in slices, the definitions that the contracts of the two top calls rest on.
 exec python3 -B check/believed.py
