@@ -17,8 +17,8 @@ use Rattle.am_job_words.specs.Counts.{times}
 use Rattle.am_job_words.specs.Lists.{WordCountLists}
 use Rattle.am_job_words.specs.Texts.{is_short, long_count, words_of}
 use Rattle.am_job.specs.Asked.{run_in_all}
-use Rattle.am_job.specs.Rounds.{round_at, round_count, rounds_of, scenario}
-use Rattle.am_job_count.specs.Counting.{CountsText, IsRound, PrintsCount, plain}
+use Rattle.am_job.specs.Rounds.{round_at, round_count, scenario}
+use Rattle.am_job_count.specs.Counting.{CountsText, IsRound, plain}
 use Rattle.am_job_count.specs.Printed.{count_text}
 use Rattle.am_job_cluster.specs.Rounds.{IsRoundRun}
 use Rattle.am_main_lines.specs.Lines.{Answer}
