@@ -10,7 +10,6 @@ use Rattle.am_scenario_types.specs.declared.parts.Form.{Form}
 use Rattle.am_scenario_types.specs.declared.parts.Form.TheVariants as Forms
 use Rattle.am_lab_words.specs.declared.Asked.{Asked}
 use Rattle.am_lab_words.specs.declared.Asked.TheVariants as Commands
-use Rattle.am_lab_words.specs.declared.Lines.{Lines}
 use Rattle.am_lab_words.specs.declared.mistakes.Wrong.{Wrong}
 use Rattle.am_lab_words.specs.declared.mistakes.Wrong.TheVariants as Wrongs
 
