@@ -41,7 +41,7 @@ def clauses_of(text, at):
 
 def lines_of(path):
     text = re.sub(r"//[^\n]*", "", path.read_text(encoding="utf-8"))
-    text = re.sub(r'b?"(?:\\.|[^"\\])*"|b?\'(?:\\.|[^\'\\])\'', '""', text)
+    text = re.sub(r'b?"(?:\\.|[^"\\])*"|b?\'(?:\\.|[^\'\\])\'', '""', text, flags=re.S)
     crate, module = path.parts[1], "::".join(path.with_suffix("").parts[3:])
     blocks = [(it.start(), end_of_group(text, it.end() - 1), it) for it in BLOCK.finditer(text)]
     for head in HEAD.finditer(text):

@@ -1,9 +1,12 @@
 //! The program: the words after its name, standard input to standard output, and the status.
 #![tactic(auto)]
 
+ghost use Rattle.am_lab_words.specs.Ranges.{IsInRange};
+ghost use Rattle.std.specs.Prelude.{IfOk};
+
 use am_io::{StdSink, StdSource};
 use am_lab::{answer, answer_no_memory};
-use am_lab_words::read_words;
+use am_lab_words::{Asked, read_words, words_are_no_text};
 use clap::Error;
 use clap::error::ErrorKind;
 use std::alloc::{AllocError, Global};
@@ -12,20 +15,30 @@ use std::io::ErrorKind as IoKind;
 use std::process::ExitCode;
 use std::{env, io};
 
-// The words of the command line, with the program's name. There is just the name where some argument is no text, and it fails where
-// there was no memory to read them.
-fn words_of(alloc: Global, read: io::Result<Args>) -> Result<Vec<String>, AllocError> {
+// The words of the command line, with the program's name: none where some argument is no text. It fails where there was no memory to
+// read them.
+fn words_of(alloc: Global, read: io::Result<Args>) -> Result<Option<Vec<String>>, AllocError> {
     let mut words = Vec::new(alloc);
     match read {
         Ok(args) => {
             for word in args {
                 words.push(word)?;
             }
+            Ok(Some(words))
         }
-        Err(error) if error.kind() == IoKind::OutOfMemory => return Err(AllocError),
-        Err(_) => words.push(String::from_str(alloc, "am2_lab")?)?,
+        Err(error) if error.kind() == IoKind::OutOfMemory => Err(AllocError),
+        Err(_) => Ok(None),
     }
-    Ok(words)
+}
+
+// What the words ask for, or clap's text about them.
+fn asked_by(alloc: Global, words: Option<Vec<String>>) -> Result<Asked, Error>
+    ensures { IfOk result IsInRange }
+{
+    match words {
+        Some(words) => read_words(alloc, &words),
+        None => Err(words_are_no_text(alloc)),
+    }
 }
 
 // Prints what clap says of the words: help and the version to standard output, and what is wrong with them to standard error.
@@ -43,7 +56,7 @@ fn main(rt: HostRuntime) -> ExitCode {
     let Ok(words) = words_of(alloc, env::args(&rt)) else {
         return ExitCode::from(answer_no_memory(&mut sink));
     };
-    match read_words(alloc, &words) {
+    match asked_by(alloc, words) {
         Ok(asked) => {
             let mut source = StdSource::new(rt.stdin());
             ExitCode::from(answer(alloc, asked, &mut source, &mut sink))

@@ -182,7 +182,7 @@ pub const MADE: &str =
     endpoint 0 0 100\n";
 
 /// Words that ask for nothing.
-pub const NO_WORDS: [&str; 16] = [
+pub const NO_WORDS: [&str; 27] = [
     "am2_lab",
     "am2_lab tell step",
     "am2_lab explain",
@@ -199,4 +199,15 @@ pub const NO_WORDS: [&str; 16] = [
     "am2_lab scenario count 0 0 1",
     "am2_lab scenario count 1 10001 1",
     "am2_lab scenario count 1 0 0",
+    "am2_lab scenario make 01",
+    "am2_lab why step 00.01",
+    "am2_lab chart step 3",
+    "am2_lab chart step 03 4",
+    "am2_lab schedule 01",
+    "am2_lab schedule 0..=5",
+    "am2_lab schedule a..b",
+    "am2_lab schedule ..5",
+    "am2_lab schedule 1..",
+    "am2_lab schedule 5..1",
+    "am2_lab schedule 0..100001",
 ];

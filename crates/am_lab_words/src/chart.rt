@@ -1,63 +1,31 @@
 //! The words of `chart`.
 
-ghost use Rattle.am_lab_words.specs.Ranges.{IsInRange};
-ghost use Rattle.std.specs.Prelude.{IfOk};
-
-use crate::forms::{form_in, form_word};
-use crate::{Asked, Lines};
-use am_lexer::parse_number;
-use clap::{Arg, ArgMatches, Command};
+use crate::forms::form_word;
+use clap::{Arg, Command};
 use std::alloc::{AllocError, Global};
 
+/// A line that asks for a picture of a part.
+pub(crate) const CHART_EXAMPLE: &str =
+    "cat examples/run-withheld.am2 examples/run-withheld.out | bin/am2_lab chart run 8 16 > tries.svg";
+
+const CHART_INPUT: &str =
+    "Standard input is a scenario of this form and, behind it, its report:\n\n  \
+    cat examples/first.am2 examples/first.out | bin/am2_lab chart step > first.svg\n  \
+    cat examples/run-withheld.am2 examples/run-withheld.out | bin/am2_lab chart run 8 16 > tries.svg";
+
+/// The words of `chart`.
 pub(crate) fn chart_words<'a>(alloc: Global) -> Result<Command<'a>, AllocError> {
-    let command = Command::new(alloc, "chart").about(
-        "Draws a report as a space-time picture, in SVG: its whole journal, or the lines from FROM to TO",
-    );
+    let command = Command::new(alloc, "chart")
+        .about(
+            "Draws a report as a space-time picture, in SVG: its whole journal, or the lines from FROM to TO",
+        )
+        .override_usage("am2_lab chart <form> [FROM TO]")
+        .after_help(CHART_INPUT);
     let command = command.arg(form_word(alloc))?;
-    let from = Arg::new(alloc, "FROM").help("the first line to draw; the journal begins in line 3");
+    let from = Arg::new(alloc, "FROM").help(
+        "the first line to draw, with TO; the journal begins in line 3",
+    );
     let command = command.arg(from)?;
-    let to = Arg::new(alloc, "TO").help("the last line to draw");
+    let to = Arg::new(alloc, "TO").help("the last line to draw, with FROM");
     command.arg(to)
-}
-
-// The line that a word names.
-fn line_in(word: &str) -> Option<u32> {
-    let line = parse_number(word.as_bytes())?;
-    if line < 1 << 32 {
-        Some(line as u32)
-    } else {
-        None
-    }
-}
-
-// The lines that two words name.
-fn lines_in(from: &str, to: &str) -> Option<Lines> {
-    Some(Lines {
-        from: line_in(from)?,
-        to: line_in(to)?,
-    })
-}
-
-// The lines that are asked for, if some are; it fails where the words are none.
-fn part_in(matches: &ArgMatches) -> Result<Option<Lines>, &'static str> {
-    let Some(from) = matches.get_str("FROM") else {
-        return Ok(None);
-    };
-    let Some(to) = matches.get_str("TO") else {
-        return Err("chart takes two lines or none: FROM TO");
-    };
-    match lines_in(from, to) {
-        Some(lines) => Ok(Some(lines)),
-        None => Err("FROM and TO are numbers of lines, from 0 to 4294967295"),
-    }
-}
-
-pub(crate) fn asked_to_chart(matches: &ArgMatches) -> Result<Asked, &'static str>
-    ensures { IfOk result IsInRange }
-{
-    let part = part_in(matches)?;
-    match form_in(matches) {
-        Some(form) => Ok(Asked::Chart { form, part }),
-        None => Err("a form is step or run"),
-    }
 }

@@ -1,25 +1,18 @@
 //! The words of `explain`.
 
-ghost use Rattle.am_lab_words.specs.Ranges.{IsInRange};
-ghost use Rattle.std.specs.Prelude.{IfOk};
-
-use crate::Asked;
-use crate::forms::{form_in, form_word};
-use clap::{ArgMatches, Command};
+use crate::forms::form_word;
+use clap::Command;
 use std::alloc::{AllocError, Global};
 
-pub(crate) fn explain_words<'a>(alloc: Global) -> Result<Command<'a>, AllocError> {
-    let command = Command::new(alloc, "explain").about(
-        "Tells the first line of a report that has a fault, and what was due there",
-    );
-    command.arg(form_word(alloc))
-}
+const EXPLAIN_INPUT: &str = "Standard input is a scenario of this form and, behind it, its report; \
+    or a scenario alone, of which am2 refuses a line:\n\n  \
+    cat examples/first.am2 examples/first.out | bin/am2_lab explain step\n  \
+    bin/am2_lab explain step < examples/first.am2";
 
-pub(crate) fn asked_to_explain(matches: &ArgMatches) -> Result<Asked, &'static str>
-    ensures { IfOk result IsInRange }
-{
-    match form_in(matches) {
-        Some(form) => Ok(Asked::Explain(form)),
-        None => Err("a form is step or run"),
-    }
+/// The words of `explain`.
+pub(crate) fn explain_words<'a>(alloc: Global) -> Result<Command<'a>, AllocError> {
+    let command = Command::new(alloc, "explain")
+        .about("Tells what is wrong with a scenario or with its report, and what was due there")
+        .after_help(EXPLAIN_INPUT);
+    command.arg(form_word(alloc))
 }

@@ -1,29 +1,37 @@
-//! The words of the program `am2_lab`, read by clap. Each command has a file of its own: the words that it takes, and
-//! what they ask for.
+//! The words of the program `am2_lab`. What they ask for is read here, by a definition; clap tells the help, the version, and
+//! what is wrong with words that ask for nothing. Each command has a file of its own with the words that it takes.
 #![tactic(auto)]
 
 ghost use Rattle.am_lab_words.specs.Ranges.{IsInRange};
-ghost use Rattle.std.specs.Prelude.{IfOk};
+ghost use Rattle.am_lab_words.specs.Words as texts;
+ghost use Rattle.am_lab_words.specs.declared.mistakes.Wrong.{Wrong as Mistake};
+ghost use Rattle.std.specs.Prelude.{◌≡◌, Err, IfErr, IfOk, Ok, drop, map, string_bytes};
 
 mod chart;
 mod derived;
 mod explain;
 mod forms;
+mod mistakes;
+mod numbers;
+mod ranges;
+mod reading;
 mod replay;
 mod scenario;
 mod schedule;
 mod why;
 
-use crate::chart::{asked_to_chart, chart_words};
-use crate::explain::{asked_to_explain, explain_words};
-use crate::replay::{asked_to_replay, replay_words};
-use crate::scenario::{asked_for_scenario, scenario_words};
-use crate::schedule::{asked_to_schedule, schedule_words};
-use crate::why::{asked_why, why_words};
+use crate::chart::chart_words;
+use crate::explain::explain_words;
+pub use crate::mistakes::Wrong;
+pub use crate::reading::asked_for;
+use crate::replay::replay_words;
+use crate::scenario::scenario_words;
+use crate::schedule::schedule_words;
+use crate::why::why_words;
 use am_names::Serial;
 use am_scenario_types::Form;
 use clap::error::ErrorKind;
-use clap::{ArgMatches, Command, Error};
+use clap::{Command, Error};
 use std::alloc::{AllocError, Global};
 
 /// Lines of a report from one to another, both among them, as the words have them.
@@ -44,7 +52,7 @@ pub struct Seeds {
 /// What the words ask for.
 #[derive(Clone, Copy, PartialEq, Eq, Debug)]
 pub enum Asked {
-    /// `explain step`, `explain run`: what is wrong with a report of a scenario of this form, and what was due there.
+    /// `explain step`, `explain run`: what is wrong with a scenario of this form or with its report, and what was due there.
     Explain(Form),
     /// `why step E.K`, `why run E.K`: what became of the K-th message of endpoint E in a report of a scenario of this
     /// form.
@@ -81,10 +89,19 @@ pub enum Asked {
     Schedules(Seeds),
 }
 
+const ABOUT_INPUT: &str = "cat examples/first.am2 examples/first.out | bin/am2_lab why step 0.1";
+
+const INPUT: &str =
+    "explain, why, chart and replay read a scenario and, behind it, its report from standard input; \
+    scenario and schedule read a scenario alone:\n\n  \
+    cat examples/first.am2 examples/first.out | bin/am2_lab why step 0.1\n  \
+    bin/am2_lab scenario run < examples/run-withheld.am2";
+
 /// The words that the program takes.
 fn all_words<'a>(alloc: Global) -> Result<Command<'a>, AllocError> {
     let command = Command::new(alloc, "am2_lab")
         .about("Reads a scenario, alone or with its report behind it, and shows what is in it")
+        .after_help(INPUT)
         .version("1")
         .subcommand_required(true);
     let command = command.subcommand(explain_words(alloc)?)?;
@@ -95,47 +112,67 @@ fn all_words<'a>(alloc: Global) -> Result<Command<'a>, AllocError> {
     command.subcommand(schedule_words(alloc)?)
 }
 
-// What the command with this name and these words asks for; else what is wrong with the words.
-fn asked_by(name: &str, matches: &ArgMatches) -> Result<Asked, &'static str>
-    ensures { IfOk result IsInRange }
-{
-    match name {
-        "explain" => asked_to_explain(matches),
-        "why" => asked_why(matches),
-        "chart" => asked_to_chart(matches),
-        "scenario" => asked_for_scenario(matches),
-        "replay" => asked_to_replay(matches),
-        "schedule" => asked_to_schedule(matches),
-        _ => Err("there is no such command"),
-    }
+// A sentence, and behind it a line that asks for something.
+fn told(alloc: Global, sentence: &str, example: &str) -> Result<String, AllocError> {
+    let mut text = String::from_str(alloc, sentence)?;
+    text.push_str("\n\n  as in: ")?;
+    text.push_str(example)?;
+    Ok(text)
 }
 
-fn asked_in(matches: &ArgMatches) -> Result<Asked, &'static str>
-    ensures { IfOk result IsInRange }
-{
-    match matches.subcommand() {
-        Some((name, found)) => asked_by(name, found),
-        None => Err("a command is wanted"),
-    }
+// What is wrong with words that clap lets pass, with the usage of their command.
+fn told_wrong(alloc: Global, wrong: Wrong) -> Result<Error, AllocError> {
+    let text = told(alloc, wrong.sentence(), wrong.example())?;
+    let mut command = wrong.words(alloc)?;
+    command.error(ErrorKind::ValueValidation, text.as_str())
 }
 
-// The words, which clap lets pass and the program doesn't take, with what is wrong with them.
-fn refused(alloc: Global, wrong: &'static str) -> Result<Asked, Error>
-    ensures { IfOk result IsInRange }
-{
-    let mut command = all_words(alloc)?;
-    Err(command.error(ErrorKind::ValueValidation, wrong)?)
-}
-
-/// What the words ask for, of which the first is the program's name; else clap's text about them, which may be the help
-/// or the version that they ask for. The numbers of a command are ones that it takes.
-pub fn read_words(alloc: Global, words: &[String]) -> Result<Asked, Error>
-    ensures { IfOk result IsInRange }
-{
+// The words, which ask for nothing, as clap has them: the help or the version, or what is wrong with their shape; else what is
+// wrong with them.
+fn told_by_clap(alloc: Global, words: &[String], wrong: Wrong) -> Result<Error, AllocError> {
     let command = all_words(alloc)?;
-    let matches = command.try_get_matches_from(words)?;
-    match asked_in(&matches) {
+    match command.try_get_matches_from(words) {
+        Ok(_) => told_wrong(alloc, wrong),
+        Err(error) => Ok(error),
+    }
+}
+
+// The same, where there may be no memory to tell it.
+fn error_of(alloc: Global, words: &[String], wrong: Wrong) -> Error {
+    match told_by_clap(alloc, words, wrong) {
+        Ok(error) => error,
+        Err(starved) => Error::from(starved),
+    }
+}
+
+/// What the words ask for, of which the first is the program's name, by the definition of the words. Words that ask for
+/// nothing are told in clap's text, which may be the help or the version that they ask for; where there is no memory for it
+/// the error's kind is `OutOfMemory`.
+pub fn read_words(alloc: Global, words: &[String]) -> Result<Asked, Error>
+    ensures asked { IfOk result (λ asked. texts.asked_for (drop 1 (map string_bytes words.now)) ≡ Ok asked) }
+    ensures wrong { IfErr result (λ error. (wrong : Mistake) × (texts.asked_for (drop 1 (map string_bytes words.now)) ≡ Err wrong)) }
+    ensures in_range { IfOk result IsInRange }
+{
+    let rest = match words {
+        [_, rest @ ..] => rest,
+        [] => words,
+    };
+    match asked_for(rest) {
         Ok(asked) => Ok(asked),
-        Err(wrong) => refused(alloc, wrong),
+        Err(wrong) => Err(error_of(alloc, words, wrong)),
+    }
+}
+
+fn no_text(alloc: Global) -> Result<Error, AllocError> {
+    let text = told(alloc, "a word is no text in UTF-8", ABOUT_INPUT)?;
+    let mut command = all_words(alloc)?;
+    command.error(ErrorKind::ValueValidation, text.as_str())
+}
+
+/// What is told of words that are no text in UTF-8.
+pub fn words_are_no_text(alloc: Global) -> Error {
+    match no_text(alloc) {
+        Ok(error) => error,
+        Err(starved) => Error::from(starved),
     }
 }

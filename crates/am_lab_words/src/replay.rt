@@ -1,24 +1,20 @@
 //! The words of `replay`.
 
-ghost use Rattle.am_lab_words.specs.Ranges.{IsInRange};
-ghost use Rattle.std.specs.Prelude.{IfOk};
-
-use crate::Asked;
-use clap::{ArgMatches, Command};
+use clap::Command;
 use std::alloc::{AllocError, Global};
 
+const REPLAY_INPUT: &str =
+    "Standard input is the scenario of a run and, behind it, its report:\n\n  \
+    cat examples/run-withheld.am2 examples/run-withheld.out | bin/am2_lab replay run";
+
+/// The words of `replay`.
 pub(crate) fn replay_words<'a>(alloc: Global) -> Result<Command<'a>, AllocError> {
     let command = Command::new(alloc, "replay")
         .about("Prints the journal of a run's report as a step script")
+        .after_help(REPLAY_INPUT)
         .subcommand_required(true);
-    command.subcommand(Command::new(alloc, "run").about("Reads the scripts of threads"))
-}
-
-pub(crate) fn asked_to_replay(matches: &ArgMatches) -> Result<Asked, &'static str>
-    ensures { IfOk result IsInRange }
-{
-    match matches.subcommand_name() {
-        Some("run") => Ok(Asked::Replay),
-        _ => Err("there are replays of runs alone"),
-    }
+    let run = Command::new(alloc, "run")
+        .about("Reads the scripts of threads, and the report of a run of them")
+        .after_help(REPLAY_INPUT);
+    command.subcommand(run)
 }

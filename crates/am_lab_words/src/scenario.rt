@@ -1,47 +1,35 @@
 //! The words of `scenario`.
 
-ghost use Rattle.am_lab_words.specs.Ranges.{IsInRange};
-ghost use Rattle.std.specs.Prelude.{IfOk};
-
-use crate::Asked;
-use crate::derived::{asked_for_made, asked_for_round, count_words, make_words, segments_words};
-use crate::forms::form_named;
-use clap::{ArgMatches, Command};
+use crate::derived::{count_words, make_words, segments_words};
+use clap::Command;
 use std::alloc::{AllocError, Global};
 
+const SCENARIO_INPUT: &str =
+    "Standard input is the scenario or the text alone, with no report behind it; make reads nothing:\n\n  \
+    bin/am2_lab scenario run < examples/run-withheld.am2\n  \
+    bin/am2_lab scenario make 7";
+
+const STEP_INPUT: &str =
+    "Standard input is the scenario alone:\n\n  bin/am2_lab scenario step < examples/first.am2";
+
+const RUN_INPUT: &str =
+    "Standard input is the scenario alone:\n\n  bin/am2_lab scenario run < examples/run-withheld.am2";
+
+/// The words of `scenario`.
 pub(crate) fn scenario_words<'a>(alloc: Global) -> Result<Command<'a>, AllocError> {
     let command = Command::new(alloc, "scenario")
         .about("Prints a scenario in one form, without comments")
+        .after_help(SCENARIO_INPUT)
         .subcommand_required(true);
-    let command = command.subcommand(Command::new(alloc, "step").about("Reads a list of steps"))?;
-    let command = command.subcommand(Command::new(alloc, "run").about(
-        "Reads the scripts of threads",
-    ))?;
+    let step = Command::new(alloc, "step")
+        .about("Reads a list of steps")
+        .after_help(STEP_INPUT);
+    let command = command.subcommand(step)?;
+    let run = Command::new(alloc, "run")
+        .about("Reads the scripts of threads")
+        .after_help(RUN_INPUT);
+    let command = command.subcommand(run)?;
     let command = command.subcommand(make_words(alloc)?)?;
     let command = command.subcommand(segments_words(alloc))?;
     command.subcommand(count_words(alloc)?)
-}
-
-// What the word behind `scenario`, and those behind it, ask for.
-fn asked_by(word: &str, matches: &ArgMatches) -> Result<Asked, &'static str>
-    ensures { IfOk result IsInRange }
-{
-    match word {
-        "make" => asked_for_made(matches),
-        "segments" => Ok(Asked::Expanded),
-        "count" => asked_for_round(matches),
-        _ => match form_named(word) {
-            Some(form) => Ok(Asked::Scenario(form)),
-            None => Err("a form is step or run"),
-        },
-    }
-}
-
-pub(crate) fn asked_for_scenario(matches: &ArgMatches) -> Result<Asked, &'static str>
-    ensures { IfOk result IsInRange }
-{
-    match matches.subcommand() {
-        Some((word, found)) => asked_by(word, found),
-        None => Err("a form is step or run"),
-    }
 }

@@ -1,0 +1,113 @@
+//! What is wrong with words that ask for nothing.
+
+use crate::chart::{CHART_EXAMPLE, chart_words};
+use crate::derived::{COUNT_EXAMPLE, MAKE_EXAMPLE, count_words, make_words};
+use crate::schedule::{SCHEDULE_EXAMPLE, schedule_words};
+use crate::why::{WHY_EXAMPLE, why_words};
+use crate::{ABOUT_INPUT, all_words};
+use clap::Command;
+use std::alloc::{AllocError, Global};
+
+/// What is wrong with words that ask for nothing.
+#[derive(Clone, Copy, PartialEq, Eq, Debug)]
+pub enum Wrong {
+    /// They have none of the forms.
+    Form,
+    /// `why`: the last word is no serial of a message.
+    Serial,
+    /// `chart`: one line stands there, and not two.
+    HalfPart,
+    /// `chart`: a word is no number of a line.
+    Line,
+    /// `scenario make`: the word is no number.
+    Number,
+    /// `scenario count`: a word is no number that the command takes there.
+    Round,
+    /// `schedule`: the word is neither a seed nor a range of seeds.
+    Seed,
+    /// `schedule`: a range with an equals sign, which would end with its second seed.
+    ClosedRange,
+    /// `schedule`: a range from or to what is no number.
+    RangeOfWords,
+    /// `schedule`: a range without its first seed.
+    RangeWithoutStart,
+    /// `schedule`: a range without its end.
+    RangeWithoutEnd,
+    /// `schedule`: a range with no seed in it.
+    EmptyRange,
+    /// `schedule`: a range of more than 100,000 seeds.
+    LongRange,
+}
+
+impl Wrong {
+    /// The sentence that tells it.
+    pub(crate) fn sentence(self) -> &'static str {
+        match self {
+            Wrong::Form => "the words have none of the forms that --help shows",
+            Wrong::Serial => {
+                "a message is E.K as the report prints it: 0.1 is the first that endpoint 0 accepted"
+            }
+            Wrong::HalfPart => "FROM and TO come together: chart takes two lines or none",
+            Wrong::Line => {
+                "FROM and TO are lines of the report: numbers up to 4294967295, with no zero in front"
+            }
+            Wrong::Number => {
+                "N is a number from 0 to 18446744073709551615, with no zero in front"
+            }
+            Wrong::Round => {
+                "W is 1 to 8, U 0 to 10000 and ROUND a number from 1, each with no zero in front"
+            }
+            Wrong::Seed => {
+                "a seed is a number from 0 to 18446744073709551615, with no zero in front, and a range is SEED..SEED2"
+            }
+            Wrong::ClosedRange => {
+                "a range ends before its second seed, and no = stands in it: 0..6 has the seeds 0 to 5"
+            }
+            Wrong::RangeOfWords => {
+                "a range begins and ends with a number from 0 to 18446744073709551615, with no zero in front"
+            }
+            Wrong::RangeWithoutStart => "a range begins with a seed: 0..5 has the seeds 0 to 4",
+            Wrong::RangeWithoutEnd => "a range has an end: 1..6 has the seeds 1 to 5",
+            Wrong::EmptyRange => {
+                "a range ends above the seed that it begins with: 1..5 has the seeds 1 to 4"
+            }
+            Wrong::LongRange => "a range has at most 100000 seeds",
+        }
+    }
+
+    /// A line that asks for something in its place.
+    pub(crate) fn example(self) -> &'static str {
+        match self {
+            Wrong::Form => ABOUT_INPUT,
+            Wrong::Serial => WHY_EXAMPLE,
+            Wrong::HalfPart | Wrong::Line => CHART_EXAMPLE,
+            Wrong::Number => MAKE_EXAMPLE,
+            Wrong::Round => COUNT_EXAMPLE,
+            Wrong::Seed
+            | Wrong::ClosedRange
+            | Wrong::RangeOfWords
+            | Wrong::RangeWithoutStart
+            | Wrong::RangeWithoutEnd
+            | Wrong::EmptyRange
+            | Wrong::LongRange => SCHEDULE_EXAMPLE,
+        }
+    }
+
+    /// The words of the command that they are for, which shows its usage.
+    pub(crate) fn words<'a>(self, alloc: Global) -> Result<Command<'a>, AllocError> {
+        match self {
+            Wrong::Form => all_words(alloc),
+            Wrong::Serial => why_words(alloc)?.bin_name("am2_lab why"),
+            Wrong::HalfPart | Wrong::Line => chart_words(alloc)?.bin_name("am2_lab chart"),
+            Wrong::Number => make_words(alloc)?.bin_name("am2_lab scenario make"),
+            Wrong::Round => count_words(alloc)?.bin_name("am2_lab scenario count"),
+            Wrong::Seed
+            | Wrong::ClosedRange
+            | Wrong::RangeOfWords
+            | Wrong::RangeWithoutStart
+            | Wrong::RangeWithoutEnd
+            | Wrong::EmptyRange
+            | Wrong::LongRange => schedule_words(alloc)?.bin_name("am2_lab schedule"),
+        }
+    }
+}

@@ -1,0 +1,336 @@
+//! What the words ask for, read by how many there are.
+
+ghost use Rattle.am_lab_words.specs.Ranges.{IsInRange};
+ghost use Rattle.am_lab_words.specs.Words.{asked_for, chart_half, chart_lines, chart_part, chart_whole, count_of, explain_in, form_of, lines_by, made_of, make_of, of_five_words, of_four_words, of_three_words, of_two_words, replay_of, round_of, rounds_in, scenario_in, scenario_of, serial_by, serial_in, serial_of, why_in, why_message};
+ghost use Rattle.std.specs.Prelude.{◌≡◌, IfOk, map, string_bytes};
+
+use crate::numbers::printed_number;
+use crate::ranges::schedule_of;
+use crate::{Asked, Lines, Wrong};
+use am_lexer::first_dot;
+use am_names::{EndpointId, Serial};
+use am_scenario_types::Form;
+
+// The form that a word names.
+#[tactic(auto, unfolding(crate::specs::Words::form_of))]
+fn form_of(word: &str) -> Option<Form>
+    ensures { result ≡ form_of word.now }
+{
+    match word {
+        "step" => Some(Form::Step),
+        "run" => Some(Form::Run),
+        _ => None,
+    }
+}
+
+fn explain_in(form: Option<Form>) -> Result<Asked, Wrong>
+    ensures exact { result ≡ explain_in form }
+    ensures in_range { IfOk result IsInRange }
+{
+    match form {
+        Some(form) => Ok(Asked::Explain(form)),
+        None => Err(Wrong::Form),
+    }
+}
+
+#[tactic(auto, unfolding(crate::specs::Words::serial_by))]
+fn serial_by(source: u64, count: u64) -> Option<Serial>
+    ensures { result ≡ serial_by source count }
+{
+    if source <= 255 && 1 <= count && count <= 0xffff_ffff {
+        Some(Serial {
+            source: EndpointId(source as u8),
+            count: count as u32,
+        })
+    } else {
+        None
+    }
+}
+
+fn serial_in(source: Option<u64>, count: Option<u64>) -> Option<Serial>
+    ensures { result ≡ serial_in source count }
+{
+    match (source, count) {
+        (Some(source), Some(count)) => serial_by(source, count),
+        _ => None,
+    }
+}
+
+// The serial that a word spells.
+#[tactic(auto, unfolding(crate::specs::Words::serial_of))]
+fn serial_of(word: &[u8]) -> Option<Serial>
+    ensures { result ≡ serial_of word.now }
+{
+    match first_dot(word) {
+        Some(dot) => serial_in(
+            printed_number(&word[..dot]),
+            printed_number(&word[dot + 1..]),
+        ),
+        None => None,
+    }
+}
+
+fn why_message(form: Form, serial: Option<Serial>) -> Result<Asked, Wrong>
+    ensures exact { result ≡ why_message form serial }
+    ensures in_range { IfOk result IsInRange }
+{
+    match serial {
+        Some(serial) => Ok(Asked::Why { form, serial }),
+        None => Err(Wrong::Serial),
+    }
+}
+
+fn why_in(form: Option<Form>, word: &str) -> Result<Asked, Wrong>
+    ensures exact { result ≡ why_in form word.now }
+    ensures in_range { IfOk result IsInRange }
+{
+    match form {
+        Some(form) => why_message(form, serial_of(word.as_bytes())),
+        None => Err(Wrong::Form),
+    }
+}
+
+fn chart_whole(form: Option<Form>) -> Result<Asked, Wrong>
+    ensures exact { result ≡ chart_whole form }
+    ensures in_range { IfOk result IsInRange }
+{
+    match form {
+        Some(form) => Ok(Asked::Chart { form, part: None }),
+        None => Err(Wrong::Form),
+    }
+}
+
+fn chart_half(form: Option<Form>) -> Result<Asked, Wrong>
+    ensures exact { result ≡ chart_half form }
+    ensures in_range { IfOk result IsInRange }
+{
+    match form {
+        Some(_) => Err(Wrong::HalfPart),
+        None => Err(Wrong::Form),
+    }
+}
+
+#[tactic(auto, unfolding(crate::specs::Words::lines_by))]
+fn lines_by(form: Form, from: u64, to: u64) -> Result<Asked, Wrong>
+    ensures exact { result ≡ lines_by form from to }
+    ensures in_range { IfOk result IsInRange }
+{
+    if from <= 0xffff_ffff && to <= 0xffff_ffff {
+        Ok(Asked::Chart {
+            form,
+            part: Some(Lines {
+                from: from as u32,
+                to: to as u32,
+            }),
+        })
+    } else {
+        Err(Wrong::Line)
+    }
+}
+
+fn chart_lines(form: Form, from: Option<u64>, to: Option<u64>) -> Result<Asked, Wrong>
+    ensures exact { result ≡ chart_lines form from to }
+    ensures in_range { IfOk result IsInRange }
+{
+    match (from, to) {
+        (Some(from), Some(to)) => lines_by(form, from, to),
+        _ => Err(Wrong::Line),
+    }
+}
+
+fn chart_part(form: Option<Form>, from: &str, to: &str) -> Result<Asked, Wrong>
+    ensures exact { result ≡ chart_part form from.now to.now }
+    ensures in_range { IfOk result IsInRange }
+{
+    match form {
+        Some(form) => chart_lines(
+            form,
+            printed_number(from.as_bytes()),
+            printed_number(to.as_bytes()),
+        ),
+        None => Err(Wrong::Form),
+    }
+}
+
+fn scenario_in(form: Option<Form>) -> Result<Asked, Wrong>
+    ensures exact { result ≡ scenario_in form }
+    ensures in_range { IfOk result IsInRange }
+{
+    match form {
+        Some(form) => Ok(Asked::Scenario(form)),
+        None => Err(Wrong::Form),
+    }
+}
+
+#[tactic(auto, unfolding(crate::specs::Words::scenario_of))]
+fn scenario_of(word: &str) -> Result<Asked, Wrong>
+    ensures exact { result ≡ scenario_of word.now }
+    ensures in_range { IfOk result IsInRange }
+{
+    if word == "segments" {
+        Ok(Asked::Expanded)
+    } else {
+        scenario_in(form_of(word))
+    }
+}
+
+fn made_of(number: Option<u64>) -> Result<Asked, Wrong>
+    ensures exact { result ≡ made_of number }
+    ensures in_range { IfOk result IsInRange }
+{
+    match number {
+        Some(n) => Ok(Asked::Made(n)),
+        None => Err(Wrong::Number),
+    }
+}
+
+#[tactic(auto, unfolding(crate::specs::Words::make_of))]
+fn make_of(word: &str, n: &str) -> Result<Asked, Wrong>
+    ensures exact { result ≡ make_of word.now n.now }
+    ensures in_range { IfOk result IsInRange }
+{
+    if word == "make" {
+        made_of(printed_number(n.as_bytes()))
+    } else {
+        Err(Wrong::Form)
+    }
+}
+
+#[tactic(auto, unfolding(crate::specs::Words::round_of))]
+fn round_of(nodes: u64, turns: u64, number: u64) -> Result<Asked, Wrong>
+    ensures exact { result ≡ round_of nodes turns number }
+    ensures in_range { IfOk result IsInRange }
+{
+    if 1 <= nodes && nodes <= 8 && turns <= 10_000 && 1 <= number {
+        Ok(Asked::Round {
+            nodes: nodes as u8,
+            turns: turns as u32,
+            number,
+        })
+    } else {
+        Err(Wrong::Round)
+    }
+}
+
+fn rounds_in(nodes: Option<u64>, turns: Option<u64>, number: Option<u64>) -> Result<Asked, Wrong>
+    ensures exact { result ≡ rounds_in nodes turns number }
+    ensures in_range { IfOk result IsInRange }
+{
+    match (nodes, turns, number) {
+        (Some(nodes), Some(turns), Some(number)) => round_of(nodes, turns, number),
+        _ => Err(Wrong::Round),
+    }
+}
+
+#[tactic(auto, unfolding(crate::specs::Words::count_of))]
+fn count_of(word: &str, nodes: &str, turns: &str, number: &str) -> Result<Asked, Wrong>
+    ensures exact { result ≡ count_of word.now nodes.now turns.now number.now }
+    ensures in_range { IfOk result IsInRange }
+{
+    if word == "count" {
+        rounds_in(
+            printed_number(nodes.as_bytes()),
+            printed_number(turns.as_bytes()),
+            printed_number(number.as_bytes()),
+        )
+    } else {
+        Err(Wrong::Form)
+    }
+}
+
+#[tactic(auto, unfolding(crate::specs::Words::replay_of))]
+fn replay_of(word: &str) -> Result<Asked, Wrong>
+    ensures exact { result ≡ replay_of word.now }
+    ensures in_range { IfOk result IsInRange }
+{
+    if word == "run" {
+        Ok(Asked::Replay)
+    } else {
+        Err(Wrong::Form)
+    }
+}
+
+#[tactic(auto, unfolding(crate::specs::Words::of_two_words))]
+fn of_two_words(command: &str, word: &str) -> Result<Asked, Wrong>
+    ensures exact { result ≡ of_two_words command.now word.now }
+    ensures in_range { IfOk result IsInRange }
+{
+    match command {
+        "explain" => explain_in(form_of(word)),
+        "chart" => chart_whole(form_of(word)),
+        "scenario" => scenario_of(word),
+        "replay" => replay_of(word),
+        "schedule" => schedule_of(word.as_bytes()),
+        _ => Err(Wrong::Form),
+    }
+}
+
+#[tactic(auto, unfolding(crate::specs::Words::of_three_words))]
+fn of_three_words(command: &str, word: &str, other: &str) -> Result<Asked, Wrong>
+    ensures exact { result ≡ of_three_words command.now word.now other.now }
+    ensures in_range { IfOk result IsInRange }
+{
+    match command {
+        "why" => why_in(form_of(word), other),
+        "chart" => chart_half(form_of(word)),
+        "scenario" => make_of(word, other),
+        _ => Err(Wrong::Form),
+    }
+}
+
+#[tactic(auto, unfolding(crate::specs::Words::of_four_words))]
+fn of_four_words(command: &str, word: &str, from: &str, to: &str) -> Result<Asked, Wrong>
+    ensures exact { result ≡ of_four_words command.now word.now from.now to.now }
+    ensures in_range { IfOk result IsInRange }
+{
+    if command == "chart" {
+        chart_part(form_of(word), from, to)
+    } else {
+        Err(Wrong::Form)
+    }
+}
+
+#[tactic(auto, unfolding(crate::specs::Words::of_five_words))]
+fn of_five_words(
+    command: &str,
+    word: &str,
+    nodes: &str,
+    turns: &str,
+    number: &str,
+) -> Result<Asked, Wrong>
+    ensures exact { result ≡ of_five_words command.now word.now nodes.now turns.now number.now }
+    ensures in_range { IfOk result IsInRange }
+{
+    if command == "scenario" {
+        count_of(word, nodes, turns, number)
+    } else {
+        Err(Wrong::Form)
+    }
+}
+
+/// What the words after the program's name ask for; else what is wrong with them. Numbers are in decimal digits without a
+/// sign or a leading zero, and are ones that the command takes.
+#[tactic(auto, unfolding(crate::specs::Words::asked_for))]
+pub fn asked_for(words: &[String]) -> Result<Asked, Wrong>
+    ensures exact { result ≡ asked_for (map string_bytes words.now) }
+    ensures in_range { IfOk result IsInRange }
+{
+    match words {
+        [command, word] => of_two_words(command.as_str(), word.as_str()),
+        [command, word, other] => of_three_words(command.as_str(), word.as_str(), other.as_str()),
+        [command, word, from, to] => of_four_words(
+            command.as_str(),
+            word.as_str(),
+            from.as_str(),
+            to.as_str(),
+        ),
+        [command, word, nodes, turns, number] => of_five_words(
+            command.as_str(),
+            word.as_str(),
+            nodes.as_str(),
+            turns.as_str(),
+            number.as_str(),
+        ),
+        _ => Err(Wrong::Form),
+    }
+}
