@@ -330,13 +330,13 @@ meanwhile() {
     echo "Meanwhile a second reading of the rules, in Python and with nothing to build, $([ "$name" = am2 ] && echo 'does the same' || echo 'judges the report'): python3 $reading $asked${given:+ $given}"
 }
 
-# What a status other than 0 means, and what tells more of a refusal.
+# What a status other than 0 means, and what tells more of a report that is refused.
 tell_status() {
     local asked=${words[*]:0:taken} form
     [ "$1" -ne 0 ] || return
     { [ -t 1 ] && [ -z "$out" ]; } || say "$called: status $1: $(status_meaning "$1")"
     case $1:$asked in
-        3:step | 3:run | 3:check* | 10:check*) form=${asked#check } ;;
+        10:check*) form=${asked#check } ;;
         10:why* | 10:chart* | 10:replay*) form=${words[1]} ;;
         *) return ;;
     esac
