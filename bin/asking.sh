@@ -82,15 +82,11 @@ version() {
     printf '%s, %s\n' "$name" "$(identity)"
 }
 
-# Whether a word is a number from one to another, in digits alone. (Those of the program am2 have no leading zero.)
+# Whether a word is a number from one to another, in digits alone, without a zero in front.
 is_number() {
     local word=$1 least=$2 most=$3
     case $word in '' | *[!0-9]*) return 1 ;; esac
-    if [ "$name" = am2 ]; then
-        case $word in 0?*) return 1 ;; esac
-    else
-        while [ "${#word}" -gt 1 ] && [ "${word#0}" != "$word" ]; do word=${word#0}; done
-    fi
+    case $word in 0?*) return 1 ;; esac
     [ ${#word} -gt ${#most} ] && return 1
     [ ${#word} -eq ${#most} ] && [[ $word > $most ]] && return 1
     [ "$least" = 0 ] || [ "$word" != 0 ]
